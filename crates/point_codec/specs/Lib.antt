@@ -1,0 +1,5 @@
+pub mod Points
+pub mod Keys
+pub mod Names
+pub mod Cells
+pub mod Seen
