@@ -1,1 +1,3 @@
 pub mod Distances
+pub mod KeyOrder
+pub mod Ordered

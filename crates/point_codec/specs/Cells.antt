@@ -1,5 +1,6 @@
--- Cells, the closed boxes of a tree's nodes, beside the points in them.
-use Rattle.std.specs.Prelude.{ℕ, ◌≡◌, Bool, true, ◌&&◌, List, All, ℤ}
+-- Cells, the closed boxes of a tree's nodes, and the points in them.
+use Rattle.std.specs.Prelude.{ℕ, ◌≡◌, Bool, true, ◌&&◌, List, [], ◌∷◌, All, ℤ, slice_set}
+use Rattle.std.specs.Int.{int_max, int_min}
 use Rattle.point_codec.specs.Points.{Region, all_le, in_box}
 
 -- the first cell lies within the second
@@ -10,3 +11,21 @@ within inner outer = all_le outer.lo inner.lo && all_le inner.hi outer.hi
 pub record IsLeastCell (points : List (List ℤ)) (r : Region) : Type 0 where
   pub holds : All (λ p. in_box r p ≡ true) points
   pub least : (s : Region) → All (λ p. in_box s p ≡ true) points → within r s ≡ true
+
+-- a cell cut at a value in a dimension: both halves keep the value
+abbrev pub left_of : Region → ℕ → ℤ → Region
+left_of r dim at = record { lo = r.lo; hi = slice_set r.hi dim at }
+
+abbrev pub right_of : Region → ℕ → ℤ → Region
+right_of r dim at = record { lo = slice_set r.lo dim at; hi = r.hi }
+
+-- the coordinates of p, each moved between the ends
+abbrev pub moved_between : List ℤ → List ℤ → List ℤ → List ℤ
+moved_between (l ∷ ls) (h ∷ hs) (x ∷ xs) = int_max l (int_min x h) ∷ moved_between ls hs xs
+moved_between [] hs xs = []
+moved_between (l ∷ ls) [] xs = []
+moved_between (l ∷ ls) (h ∷ hs) [] = []
+
+-- the point of the cell that is nearest to p
+abbrev pub nearest_in : Region → List ℤ → List ℤ
+nearest_in r p = moved_between r.lo r.hi p

@@ -1,8 +1,7 @@
 -- Points, boxes and distances on plain lists of whole numbers: a point is the list of its coordinates.
-use Rattle.std.specs.Prelude.{ℕ, ◌+◌, ◌*◌, ◌≡◌, ◌≤◌, length, Bool, true, false, ◌&&◌, List, [], ◌∷◌, ℤ, ◌-ℤ◌, int_le, unsigned_abs}
-use Rattle.std.specs.declared.cmp.Ordering.TheVariants.{Less, Equal, Greater}
-use Rattle.std.specs.declared.cmp.Ordering.{Ordering}
+use Rattle.std.specs.Prelude.{ℕ, ◌+◌, ◌*◌, ◌≡◌, ◌≤◌, length, Bool, true, false, ◌&&◌, List, [], ◌∷◌, map, ℤ, ◌-ℤ◌, int_le, unsigned_abs}
 use Rattle.std.specs.List.Sorted.{IsStrictlySortedBy}
+use Rattle.std.specs.FinMap.{keys, from_entries}
 use Rattle.std.specs.Ordering.{int_cmp}
 use Rattle.std.specs.Cmp.Lexicographic.{slice_cmp}
 
@@ -36,20 +35,9 @@ dist2 (x ∷ xs) (y ∷ ys) = square (x -ℤ y) + dist2 xs ys
 dist2 [] ys = 0
 dist2 (x ∷ xs) [] = 0
 
-abbrev by_order : {A : Type 0} → Ordering → A → A → A → A
-by_order Less x y z = x
-by_order Equal x y z = y
-by_order Greater x y z = z
-
--- points with one more in its place by their coordinates in order; one that is there already changes nothing
-abbrev pub placed : List ℤ → List (List ℤ) → List (List ℤ)
-placed p [] = p ∷ []
-placed p (q ∷ qs) = by_order (slice_cmp int_cmp p q) (p ∷ q ∷ qs) (q ∷ qs) (q ∷ placed p qs)
-
--- the different ones among the points, ascending by their coordinates in order
+-- the different ones among the points, ascending by their coordinates in order: the keys of a finite map with an entry for each
 abbrev pub ordered : List (List ℤ) → List (List ℤ)
-ordered [] = []
-ordered (p ∷ ps) = placed p (ordered ps)
+ordered points = keys (from_entries {R = slice_cmp int_cmp} (map {B = List ℤ × Unit {0}} (λ p. (p, tt)) points))
 
 -- the points of a document: 1 to 16 different ones, ascending (Lucene's several values of one field; this project's limit)
 pub record ArePoints (points : List (List ℤ)) : Type 0 where

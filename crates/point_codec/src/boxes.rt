@@ -12,3 +12,55 @@ pub struct Cell<const D: usize> {
     pub hi: Point<D>,
     pub ghost ordered: { IsTrue (all_le lo.c hi.c) },
 }
+
+impl<const D: usize> Cell<D> {
+    ghost use Rattle.point_codec.specs.Points.{all_le, in_box, dist2, Region};
+    ghost use Rattle.point_codec.specs.Cells.{left_of, right_of, nearest_in, IsLeastCell};
+    ghost use Rattle.point_codec.specs.Seen.{region_of, items_of};
+
+    /// The cell from `lo` to `hi`. None where some coordinate of `lo` is greater than that of `hi`.
+    pub fn new(lo: Point<D>, hi: Point<D>) -> Option<Cell<D>>
+        ensures { MatchOption result (all_le lo.entry.c hi.entry.c ≡ false) (λ cell. region_of cell ≡ record { lo = lo.entry.c; hi = hi.entry.c }) }
+    {
+        if all_at_most(&lo.c, &hi.c) {
+            Some(Cell { lo, hi })
+        } else {
+            None
+        }
+    }
+
+    /// The least coordinates of the cell.
+    pub fn lo(&self) -> &Point<D>
+        ensures { result.now.c ≡ self.now.lo.c }
+    {
+        &self.lo
+    }
+
+    /// The greatest coordinates of the cell.
+    pub fn hi(&self) -> &Point<D>
+        ensures { result.now.c ≡ self.now.hi.c }
+    {
+        &self.hi
+    }
+
+    /// Whether the point lies in the cell.
+    pub fn has(&self, p: &Point<D>) -> bool
+        ensures { result ≡ in_box (region_of self.now) p.now.c }
+    {
+        all_at_most(&self.lo.c, &p.c) && all_at_most(&p.c, &self.hi.c)
+    }
+}
+
+#[tactic(auto, using(crate::proofs::Distances::all_le_dropped))]
+/// Whether no element is greater than the other slice's at its place. The slices have one length.
+fn all_at_most(a: &[i32], b: &[i32]) -> bool
+    requires { length a.now ≡ length b.now }
+    ensures { result ≡ all_le a.now b.now }
+{
+    for i in 0..a.len() {
+        if a[i] > b[i] {
+            return false;
+        }
+    }
+    true
+}

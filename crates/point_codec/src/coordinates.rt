@@ -54,3 +54,28 @@ impl<const D: usize> Model for Points<D> {
 
     ghost invariant = { λ a. ArePoints (map (λ p. p.c) a.list.items) };
 }
+
+impl<const D: usize> Points<D> {
+    ghost use Rattle.point_codec.specs.Points.{ArePoints, ordered};
+    ghost use Rattle.point_codec.specs.Seen.{coordinates_of};
+
+    /// The different ones among 1 to 16 points, in ascending order of their coordinates.
+    pub fn of(list: Vec<Point<D>>) -> Points<D>
+        requires some { 1 ≤ length list.items }
+        requires few { length list.items ≤ 16 }
+        ensures { result ≡ ordered (coordinates_of list.entry.items) }
+    {
+        let mut list = list;
+        list.sort_unstable();
+        list.dedup();
+        Points { list }
+    }
+
+    /// The points, in ascending order.
+    pub fn as_slice(&self) -> &[Point<D>]
+        ensures value { coordinates_of result.now ≡ self.now }
+        ensures points { ArePoints self.now }
+    {
+        self.list.as_slice()
+    }
+}

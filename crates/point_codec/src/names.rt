@@ -1,6 +1,7 @@
 //! The names of snapshots, and what a query looks at.
 
-ghost use Rattle.std.specs.Prelude.{◌≡◌, ℕ, IsTrue, IsFalse, MatchOption, true, false};
+ghost use Rattle.std.specs.Prelude.{◌≡◌, ℕ, ◌-◌, ◌≤◌, ◌++◌, ◌&&◌, length, replicate, nat_le, MatchOption, true, false};
+ghost use Rattle.std.specs.List.{list_all};
 ghost use Rattle.point_codec.specs.Names.{is_name, is_name_byte};
 
 use std::marker::Model;
@@ -37,11 +38,9 @@ impl Name {
         if !is_name(b) {
             return None;
         }
-        let mut bytes = [0; 32];
-        bytes[..b.len()].copy_from_slice(b);
         Some(Name {
             len: b.len() as u8,
-            bytes,
+            bytes: padded(b),
         })
     }
 
@@ -54,16 +53,38 @@ impl Name {
     }
 }
 
-fn is_name_byte(b: u8) -> bool
-    ensures { result ≡ is_name_byte b }
+/// The bytes, and zeros behind them.
+fn padded(b: &[u8]) -> [u8; 32]
+    requires { length b.now ≤ 32 }
+    ensures { result ≡ b.now ++ replicate (32 - length b.now) 0 }
 {
-    b.is_ascii_alphanumeric() || b == b'_' || b == b'-'
+    let mut bytes = [0; 32];
+    bytes[..b.len()].copy_from_slice(b);
+    bytes
 }
 
 fn is_name(b: &[u8]) -> bool
     ensures { result ≡ is_name b.now }
 {
-    1 <= b.len() && b.len() <= 32 && b.iter().all(|x| is_name_byte(*x))
+    has_name_length(b) && are_name_bytes(b)
+}
+
+fn are_name_bytes(b: &[u8]) -> bool
+    ensures { result ≡ list_all is_name_byte b.now }
+{
+    b.iter().all(|x| is_name_byte(*x))
+}
+
+fn has_name_length(b: &[u8]) -> bool
+    ensures { result ≡ (nat_le 1 (length b.now) && nat_le (length b.now) 32) }
+{
+    !b.is_empty() && b.len() <= 32
+}
+
+fn is_name_byte(b: u8) -> bool
+    ensures { result ≡ is_name_byte b }
+{
+    b.is_ascii_alphanumeric() || b == b'_' || b == b'-'
 }
 
 /// What a query looks at: the live documents, or a snapshot.
