@@ -1,3 +1,4 @@
+pub mod Order
 pub mod Points
 pub mod Keys
 pub mod Names

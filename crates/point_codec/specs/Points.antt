@@ -1,7 +1,7 @@
 -- Points, boxes and distances on plain lists of whole numbers: a point is the list of its coordinates.
-use Rattle.std.specs.Prelude.{ℕ, ◌+◌, ◌*◌, ◌≡◌, ◌≤◌, length, Bool, true, false, ◌&&◌, List, [], ◌∷◌, map, ℤ, ◌-ℤ◌, int_le, unsigned_abs}
+use Rattle.std.specs.Prelude.{ℕ, ◌+◌, ◌*◌, ◌≡◌, ◌≤◌, length, Bool, true, false, ◌&&◌, List, [], ◌∷◌, ℤ, ◌-ℤ◌, int_le, unsigned_abs}
 use Rattle.std.specs.List.Sorted.{IsStrictlySortedBy}
-use Rattle.std.specs.FinMap.{keys, from_entries}
+use Rattle.point_codec.specs.Order.{in_order}
 use Rattle.std.specs.Ordering.{int_cmp}
 use Rattle.std.specs.Cmp.Lexicographic.{slice_cmp}
 
@@ -35,9 +35,9 @@ dist2 (x ∷ xs) (y ∷ ys) = square (x -ℤ y) + dist2 xs ys
 dist2 [] ys = 0
 dist2 (x ∷ xs) [] = 0
 
--- the different ones among the points, ascending by their coordinates in order: the keys of a finite map with an entry for each
+-- the different ones among the points, ascending by their coordinates in order
 abbrev pub ordered : List (List ℤ) → List (List ℤ)
-ordered points = keys (from_entries {R = slice_cmp int_cmp} (map {B = List ℤ × Unit {0}} (λ p. (p, tt)) points))
+ordered points = in_order (slice_cmp int_cmp) points
 
 -- the points of a document: 1 to 16 different ones, ascending (Lucene's several values of one field; this project's limit)
 pub record ArePoints (points : List (List ℤ)) : Type 0 where
