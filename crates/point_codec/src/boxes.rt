@@ -22,7 +22,7 @@ impl<const D: usize> Cell<D> {
     pub fn new(lo: Point<D>, hi: Point<D>) -> Option<Cell<D>>
         ensures { MatchOption result (all_le lo.entry.c hi.entry.c ≡ false) (λ cell. region_of cell ≡ record { lo = lo.entry.c; hi = hi.entry.c }) }
     {
-        if all_at_most(&lo.c, &hi.c) {
+        if all_le(&lo.c, &hi.c) {
             Some(Cell { lo, hi })
         } else {
             None
@@ -47,13 +47,13 @@ impl<const D: usize> Cell<D> {
     pub fn has(&self, p: &Point<D>) -> bool
         ensures { result ≡ in_box (region_of self.now) p.now.c }
     {
-        all_at_most(&self.lo.c, &p.c) && all_at_most(&p.c, &self.hi.c)
+        all_le(&self.lo.c, &p.c) && all_le(&p.c, &self.hi.c)
     }
 }
 
 #[tactic(auto, using(crate::proofs::Distances::all_le_dropped))]
-/// Whether no element is greater than the other slice's at its place. The slices have one length.
-fn all_at_most(a: &[i32], b: &[i32]) -> bool
+/// Whether no coordinate of `a` is greater than that of `b` in the same dimension.
+pub fn all_le(a: &[i32], b: &[i32]) -> bool
     requires { length a.now ≡ length b.now }
     ensures { result ≡ all_le a.now b.now }
 {

@@ -8,7 +8,7 @@ pub mod entries;
 pub mod keys;
 pub mod names;
 
-pub use boxes::Cell;
+pub use boxes::{Cell, all_le};
 pub use coordinates::{Point, Points};
 pub use entries::{Entry, Near};
 pub use keys::{from_sortable, key_order, sortable};

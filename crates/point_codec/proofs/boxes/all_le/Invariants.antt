@@ -1,6 +1,6 @@
 use Rattle.std.proofs.Common.{◌≡◌, drop}
 use Rattle.point_codec.specs.Points.{all_le}
-use Rattle.point_codec.proofs.boxes.all_at_most.Given as goal
+use Rattle.point_codec.proofs.boxes.all_le.Given as goal
 
 -- what is left decides
 abbrev pub invariant-loop-i : goal.invariant-loop-i
