@@ -1,0 +1,21 @@
+-- How a cell lies to a shape (Apache Lucene's points: PointValues.Relation). A shape is the test of which points it has,
+-- beside the test of which cells it crosses.
+use Rattle.std.specs.Prelude.{◌≡◌, Bool, true, false, not, ◌&&◌, List, ℤ}
+use Rattle.point_codec.specs.Points.{Region, in_box}
+use Rattle.cell_relate.specs.declared.shape.Relation.{Relation}
+use Rattle.cell_relate.specs.declared.shape.Relation.TheVariants.{Inside, Outside, Crosses}
+
+-- the test gives this answer at every point of the cell
+abbrev pub AllAnswer : (List ℤ → Bool) → Bool → Region → Type 0
+AllAnswer has answer cell = (p : List ℤ) → in_box cell p ≡ true → has p ≡ answer
+
+-- a crossed cell is told as that; each other one has all its points in the shape, or none
+abbrev pub RelatesTo : (List ℤ → Bool) → (Region → Bool) → Region → Relation → Type 0
+RelatesTo has crosses cell Inside = (crosses cell ≡ false) × AllAnswer has true cell
+RelatesTo has crosses cell Outside = (crosses cell ≡ false) × AllAnswer has false cell
+RelatesTo has crosses cell Crosses = crosses cell ≡ true
+
+-- the cell is not crossed and has no point of the shape: an uncrossed cell has all its points in the shape or none, so
+-- its least corner tells which
+abbrev pub is_outside : (List ℤ → Bool) → (Region → Bool) → Region → Bool
+is_outside has crosses cell = not (crosses cell) && not (has cell.lo)
