@@ -9,9 +9,10 @@ pub struct Entry<const D: usize> {
     pub point: Point<D>,
 }
 
-/// A found document, with the least squared distance of its points.
-#[derive(Clone, Copy, PartialEq, Eq, Debug)]
+/// A found document, with the least squared distance of its points. They are in order of distance, and where that is
+/// equal of number.
+#[derive(Clone, Copy, PartialEq, Eq, PartialOrd, Ord, Debug)]
 pub struct Near {
-    pub doc: u32,
     pub dist2: u128,
+    pub doc: u32,
 }
