@@ -1,0 +1,5 @@
+pub mod Parts
+pub mod Names
+mod Copies
+mod Finds
+mod FileLists

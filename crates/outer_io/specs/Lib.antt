@@ -1,0 +1,14 @@
+pub mod Counts
+pub mod Faults
+pub mod Names
+pub mod Files
+pub mod Parts
+pub mod Plan
+pub mod Calls
+pub mod FileMap
+pub mod MemSource
+pub mod MemSink
+pub mod MemFolder
+pub mod Flushed
+pub mod StdStreams
+pub mod DirFolder

@@ -1,0 +1,34 @@
+//! The outside of the index: where its bytes come from, where they go, and where its files lie.
+//!
+//! Each object counts the calls on it that failed, and a failure is answered only by a call in
+//! which that count rose. Objects in memory tell their bytes, so that clauses can speak of them;
+//! those over the system tell none, and are the edge that is trusted.
+#![tactic(auto)]
+
+mod calls;
+mod copy;
+mod dir_folder;
+mod faults;
+mod file_map;
+mod file_name;
+mod folder;
+mod mem_folder;
+mod mem_sink;
+mod mem_source;
+mod sink;
+mod source;
+mod std_streams;
+
+pub use dir_folder::DirFolder;
+pub use faults::{Failed, ReadAll, WriteFault};
+pub use file_name::FileName;
+pub use folder::{Folder, Pages};
+pub use mem_folder::MemFolder;
+pub use mem_sink::MemSink;
+pub use mem_source::MemSource;
+pub use sink::{Sink, write_all};
+pub use source::{Source, read_all};
+pub use std_streams::{StdSink, StdSource};
+
+#[cfg(test)]
+mod tests;
