@@ -1,0 +1,5 @@
+pub mod Answers
+pub mod Progress
+pub mod Runs
+pub mod Texts
+pub mod Words

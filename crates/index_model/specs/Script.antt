@@ -1,0 +1,44 @@
+-- What a script answers and leaves: its lines are read and done one after the other.
+use Rattle.std.specs.Prelude.{ℕ, ◌+◌, Bool, true, false, List, [], ◌∷◌, ◌++◌, Option}
+use Rattle.std.specs.Option.{option_map}
+use Rattle.script_lang.specs.Reading.{Reading, Says, Fails, read}
+use Rattle.script_lang.specs.Replies.{line_fault_text, why_text}
+use Rattle.index_model.specs.State.{State, Index, at_rest}
+use Rattle.index_model.specs.Step.{Outcome, Done, Refused, step}
+
+-- what a line answers and leaves, and 1 where it is refused
+pub record Answer : Type 0 where
+  pub state : State
+  pub text : List ℕ
+  pub refused : ℕ
+
+abbrev pub answer_to : ℕ → State → Outcome → Answer
+answer_to line state (Done after text) = record { state = after; text = text; refused = 0 }
+answer_to line state (Refused cause) = record { state = state; text = why_text line cause; refused = 1 }
+
+abbrev pub answer_of : ℕ → State → Reading → Answer
+answer_of line state (Says request) = answer_to line state (step state request)
+answer_of line state (Fails fault) = record { state = state; text = line_fault_text line fault; refused = 1 }
+
+-- the answer to a line, given its number, the state and its bytes: a line that cannot be read is refused, and leaves the state
+unfoldable pub answer : ℕ → State → List ℕ → Answer
+answer line state bytes = answer_of line state (read (option_map (λ i. i.dims) state) bytes)
+
+-- the state after lines, of which the first has this number
+abbrev pub state_after : ℕ → State → List (List ℕ) → State
+state_after line state [] = state
+state_after line state (l ∷ ls) = state_after (line + 1) (answer line state l).state ls
+
+-- the answers to lines, one after the other
+abbrev pub text_of : ℕ → State → List (List ℕ) → List ℕ
+text_of line state [] = []
+text_of line state (l ∷ ls) = (answer line state l).text ++ text_of (line + 1) (answer line state l).state ls
+
+-- how many of the lines are refused
+abbrev pub refused_in : ℕ → State → List (List ℕ) → ℕ
+refused_in line state [] = 0
+refused_in line state (l ∷ ls) = (answer line state l).refused + refused_in (line + 1) (answer line state l).state ls
+
+-- what a session leaves
+abbrev pub final : State → State
+final state = option_map at_rest state

@@ -1,0 +1,77 @@
+-- What one request answers and leaves, over one list of documents: each answer is that list filtered or ordered.
+use Rattle.std.specs.Prelude.{ℕ, ◌+◌, ◌^◌, Bool, true, false, not, if◌then◌else◌, nat_lt, nat_le, List, [], ◌∷◌, ◌++◌, map, filter, length, Option, None, Some, is_some, ℤ}
+use Rattle.std.specs.Str.{bytes_eq}
+use Rattle.point_codec.specs.Points.{in_box}
+use Rattle.ring_parity.specs.Rings.{in_polygon}
+use Rattle.documents.specs.Documents.{Document, hits, without, is_live, deleted}
+use Rattle.documents.specs.Nearest.{nearest}
+use Rattle.script_lang.specs.Requests.{Request}
+use Rattle.script_lang.specs.Requests as asks
+use Rattle.script_lang.specs.Replies.{ok_text, doc_text, deleted_text, hits_text, near_text}
+use Rattle.script_lang.specs.declared.faults.Why.{Why}
+use Rattle.script_lang.specs.declared.faults.Why.TheVariants as why
+use Rattle.index_model.specs.State.{Index, State, Snapshot, new_index, snapshot_of, viewed_docs, at_rest}
+
+-- a request is done, with the state after it and the text of its answer, or refused, which leaves the state
+pub data Outcome : Type 0 where
+  Done : (state : State) (text : List ℕ) → Outcome
+  Refused : (cause : Why) → Outcome
+
+-- the index goes on like this, and the answer is `ok`
+abbrev pub fine : Index → Outcome
+fine i = Done (Some i) ok_text
+
+-- a query is answered from the documents that it looks at
+abbrev pub answered : Index → Option (List Document) → (List Document → List ℕ) → Outcome
+answered i None text = Refused why.UnknownSnapshot
+answered i (Some docs) text = Done (Some i) (text docs)
+
+-- a document of the next number is added, where no more than 16,777,216 points are given with it
+abbrev pub added : List (List ℤ) → Index → Outcome
+added points i =
+    if nat_lt (2 ^ 24) (i.given + length points) then Refused why.Full
+    else Done
+      (Some (record i { next = i.next + 1; given = i.given + length points; docs = i.docs ++ record { number = i.next; points = points } ∷ [] }))
+      (doc_text i.next)
+
+-- the live documents are kept under a name that no snapshot has, where fewer than 16 are there
+abbrev pub snapped : List ℕ → Index → Outcome
+snapped name i =
+    if is_some (snapshot_of name i.snapshots) then Refused why.NameTaken
+    else if nat_le 16 (length i.snapshots) then Refused why.TooManySnapshots
+    else fine (record i { snapshots = i.snapshots ++ record { name = name; docs = i.docs } ∷ [] })
+
+-- the snapshot of this name goes
+abbrev pub released : List ℕ → Index → Outcome
+released name i =
+    if is_some (snapshot_of name i.snapshots)
+    then fine (record i { snapshots = filter (λ s. not (bytes_eq s.name name)) i.snapshots })
+    else Refused why.UnknownSnapshot
+
+-- what a request does on an index
+unfoldable pub step_on : Index → Request → Outcome
+step_on i asks.Blank = Done (Some i) []
+step_on i (asks.Create dims leaf) = Refused why.Exists
+step_on i (asks.Add points) = added points i
+step_on i (asks.Delete doc) = Done (Some (record i { docs = deleted doc i.docs })) (deleted_text (if is_live doc i.docs then 1 else 0))
+step_on i (asks.DeleteBox lo hi) =
+    let test = in_box (record { lo = lo; hi = hi }) in
+    Done (Some (record i { docs = without test i.docs })) (deleted_text (length (hits test i.docs)))
+step_on i (asks.InBox view lo hi) = answered i (viewed_docs view i) (λ docs. hits_text (hits (in_box (record { lo = lo; hi = hi })) docs))
+step_on i (asks.InPolygon view rings) = answered i (viewed_docs view i) (λ docs. hits_text (hits (in_polygon rings) docs))
+step_on i (asks.Nearest view k target) =
+    answered i (viewed_docs view i) (λ docs. near_text (map (λ found. (found.1, found.0)) (nearest k target docs)))
+step_on i asks.Flush = fine i
+step_on i asks.Merge = fine i
+step_on i (asks.MergeBegin positions) = if i.begun then Refused why.Begun else fine (record i { begun = true })
+step_on i asks.MergeEnd = if i.begun then fine (record i { begun = false }) else Refused why.NotBegun
+step_on i (asks.Snapshot name) = snapped name i
+step_on i (asks.Release name) = released name i
+step_on i asks.Commit = fine i
+step_on i asks.Reopen = fine (at_rest i)
+
+-- what a request does. Without an index a line asks for nothing, or for a new one
+abbrev pub step : State → Request → Outcome
+step None (asks.Create dims leaf) = fine (new_index dims leaf)
+step None request = Done None []
+step (Some i) request = step_on i request

@@ -1,0 +1,242 @@
+//! A session over a list in memory.
+
+ghost use Rattle.std.specs.Prelude.{◌≡◌, ◌≤◌, ◌<◌, ◌+◌, ◌^◌, length, nat_lt, Some, None, List, ℕ, MatchOption};
+ghost use Rattle.documents.specs.Documents.{hits};
+ghost use Rattle.script_lang.specs.Replies.{hits_text};
+ghost use Rattle.script_lang.specs.Requests as asks;
+ghost use Rattle.script_lang.specs.Seen.{request_of, viewed};
+ghost use Rattle.index_model.specs.State.{Index, new_index, viewed_docs};
+ghost use Rattle.index_model.specs.Step.{Outcome, Done, step_on, added, snapped, released, fine, answered};
+
+use std::alloc::Global;
+use std::marker::Model;
+
+use documents::{HeldDocument, Memory, scan_hits, scan_nearest};
+use cell_relate::{BoxShape, Shape};
+use point_codec::{Name, Point, Points, View};
+use script_lang::{Command, Why, put_deleted, put_doc, put_hits, put_near, put_ok};
+
+use crate::held::{HeldSnapshot, delete, delete_in, is_live, release, snapshot_of};
+
+/// What became of a command.
+#[derive(Clone, Copy, PartialEq, Eq, Debug)]
+pub enum Applied {
+    Done,
+    Refused(Why),
+}
+
+/// The greatest number of points that are ever given, and so of documents.
+pub const MAX_POINTS: u32 = 1 << 24;
+
+/// An index of `D` dimensions, kept as a list of documents in memory. A query scans the list.
+#[derive(Drop)]
+pub struct ListSession<const D: usize> {
+    leaf: u16,
+    next: u32,
+    given: u32,
+    docs: Vec<HeldDocument<D>>,
+    snapshots: Vec<HeldSnapshot<D>>,
+    begun: bool,
+}
+
+impl<const D: usize> Model for ListSession<D> {
+    ghost use Rattle.index_model.specs.State.{Index};
+    ghost use Rattle.index_model.specs.Sessions.{AreGiven};
+
+    ghost Value = { Index };
+
+    ghost view = { λ s. record { dims = D; leaf = s.leaf; next = s.next; given = s.given; docs = s.docs.items; snapshots = s.snapshots.items; begun = s.begun } };
+
+    ghost invariant = { λ s. AreGiven s.next s.given s.docs.items };
+}
+
+#[tactic(auto, unfolding(crate::specs::Step::step_on))]
+impl<const D: usize> ListSession<D> {
+    ghost use Rattle.index_model.specs.Sessions.{Does};
+
+    /// A new index without documents.
+    pub fn new(alloc: Global, leaf: u16) -> ListSession<D>
+        ensures { result ≡ new_index D leaf }
+    {
+        ListSession {
+            leaf,
+            next: 0,
+            given: 0,
+            docs: Vec::new(alloc),
+            snapshots: Vec::new(alloc),
+            begun: false,
+        }
+    }
+
+    /// How many dimensions the points have.
+    pub fn dims(&self) -> usize
+        ensures dims { result ≡ D }
+        ensures seen { self.now.dims ≡ D }
+    {
+        let _ = &self.leaf;
+        D
+    }
+
+    /// Does what a command asks, and appends the answer to `out`. A refused command changes neither the session nor `out`.
+    /// For want of memory the session is as before, and what was appended is not to be used.
+    pub fn apply(&mut self, alloc: Global, c: &Command<D>, out: &mut Vec<u8>) -> Result<Applied, Memory>
+        requires { D ≤ 8 }
+        ensures { Does (step_on self.old (request_of c.now)) self.old self.new out.old.items out.new.items result }
+    {
+        match c {
+            Command::Blank => Ok(Applied::Done),
+            Command::Create { dims: _, leaf: _ } => Ok(Applied::Refused(Why::Exists)),
+            Command::Add(points) => self.add(alloc, points, out),
+            Command::Delete(doc) => self.delete(*doc, out),
+            Command::DeleteBox { lo, hi } => self.delete_in(alloc, lo, hi, out),
+            Command::InBox { view, lo, hi } => self.find(alloc, view, &mut BoxShape::new(*lo, *hi), out),
+            Command::Nearest { view, k, at } => self.nearest(alloc, view, *k, at, out),
+            Command::Flush => fine(out),
+            Command::Merge => fine(out),
+            Command::MergeBegin(_) => self.merge_begin(out),
+            Command::MergeEnd => self.merge_end(out),
+            Command::Snapshot(name) => self.snapshot(alloc, name, out),
+            Command::Release(name) => self.release(name, out),
+            Command::Commit => fine(out),
+            Command::Reopen => self.reopen(out),
+        }
+    }
+
+    fn add(&mut self, alloc: Global, points: &Points<D>, out: &mut Vec<u8>) -> Result<Applied, Memory>
+        requires { D ≤ 8 }
+        ensures { Does (added points.now self.old) self.old self.new out.old.items out.new.items result }
+    {
+        let count = points.as_slice().len() as u32;
+        if self.given + count > MAX_POINTS {
+            return Ok(Applied::Refused(Why::Full));
+        }
+        put_doc(out, self.next)?;
+        self.docs.push(HeldDocument::new(alloc, self.next, points)?)?;
+        self.next += 1;
+        self.given += count;
+        Ok(Applied::Done)
+    }
+
+    fn delete(&mut self, doc: u32, out: &mut Vec<u8>) -> Result<Applied, Memory>
+        requires { D ≤ 8 }
+        ensures { Does (step_on self.old (asks.Delete doc)) self.old self.new out.old.items out.new.items result }
+    {
+        put_deleted(out, u32::from(is_live(self.docs.as_slice(), doc)))?;
+        delete(&mut self.docs, doc);
+        Ok(Applied::Done)
+    }
+
+    fn delete_in(&mut self, alloc: Global, lo: &Point<D>, hi: &Point<D>, out: &mut Vec<u8>) -> Result<Applied, Memory>
+        requires { D ≤ 8 }
+        ensures { Does (step_on self.old (asks.DeleteBox lo.now.c hi.now.c)) self.old self.new out.old.items out.new.items result }
+    {
+        let hits = scan_hits(alloc, self.docs.as_slice(), &mut BoxShape::new(*lo, *hi))?;
+        put_deleted(out, hits.as_slice().len() as u32)?;
+        delete_in(&mut self.docs, lo, hi);
+        Ok(Applied::Done)
+    }
+
+    /// The documents that a query looks at, or None where no snapshot has the name.
+    fn viewed(&self, view: &View) -> Option<&[HeldDocument<D>]>
+        requires { D ≤ 8 }
+        ensures { MatchOption result (viewed_docs (viewed view.now) self.now ≡ None) (λ docs. viewed_docs (viewed view.now) self.now ≡ Some docs.now) }
+    {
+        match view {
+            View::Now => Some(self.docs.as_slice()),
+            View::Named(name) => match snapshot_of(self.snapshots.as_slice(), name) {
+                Some(snapshot) => Some(snapshot.docs()),
+                None => None,
+            },
+        }
+    }
+
+    fn find<S: Shape<D>>(&self, alloc: Global, view: &View, shape: &mut S, out: &mut Vec<u8>) -> Result<Applied, Memory>
+        requires { D ≤ 8 }
+        ensures { Does (answered self.now (viewed_docs (viewed view.now) self.now) (λ docs. hits_text (hits (S.has shape.old) docs)))
+            self.now self.now out.old.items out.new.items result }
+    {
+        let Some(docs) = self.viewed(view) else {
+            return Ok(Applied::Refused(Why::UnknownSnapshot));
+        };
+        put_hits(out, scan_hits(alloc, docs, shape)?.as_slice())?;
+        Ok(Applied::Done)
+    }
+
+    fn nearest(&self, alloc: Global, view: &View, k: u16, at: &Point<D>, out: &mut Vec<u8>) -> Result<Applied, Memory>
+        requires { D ≤ 8 }
+        ensures { Does (step_on self.now (asks.Nearest (viewed view.now) k at.now.c)) self.now self.now out.old.items out.new.items result }
+    {
+        let Some(docs) = self.viewed(view) else {
+            return Ok(Applied::Refused(Why::UnknownSnapshot));
+        };
+        put_near(out, scan_nearest(alloc, docs, at, k)?.as_slice())?;
+        Ok(Applied::Done)
+    }
+
+    fn merge_begin(&mut self, out: &mut Vec<u8>) -> Result<Applied, Memory>
+        ensures { (positions : List ℕ) → Does (step_on self.old (asks.MergeBegin positions)) self.old self.new out.old.items out.new.items result }
+    {
+        if self.begun {
+            return Ok(Applied::Refused(Why::Begun));
+        }
+        put_ok(out)?;
+        self.begun = true;
+        Ok(Applied::Done)
+    }
+
+    fn merge_end(&mut self, out: &mut Vec<u8>) -> Result<Applied, Memory>
+        ensures { Does (step_on self.old asks.MergeEnd) self.old self.new out.old.items out.new.items result }
+    {
+        if !self.begun {
+            return Ok(Applied::Refused(Why::NotBegun));
+        }
+        put_ok(out)?;
+        self.begun = false;
+        Ok(Applied::Done)
+    }
+
+    fn snapshot(&mut self, alloc: Global, name: &Name, out: &mut Vec<u8>) -> Result<Applied, Memory>
+        requires { D ≤ 8 }
+        ensures { Does (snapped name.now self.old) self.old self.new out.old.items out.new.items result }
+    {
+        if snapshot_of(self.snapshots.as_slice(), name).is_some() {
+            return Ok(Applied::Refused(Why::NameTaken));
+        }
+        if self.snapshots.len() >= 16 {
+            return Ok(Applied::Refused(Why::TooManySnapshots));
+        }
+        put_ok(out)?;
+        self.snapshots.push(HeldSnapshot::of(alloc, *name, self.docs.as_slice())?)?;
+        Ok(Applied::Done)
+    }
+
+    fn release(&mut self, name: &Name, out: &mut Vec<u8>) -> Result<Applied, Memory>
+        ensures { Does (released name.now self.old) self.old self.new out.old.items out.new.items result }
+    {
+        if snapshot_of(self.snapshots.as_slice(), name).is_none() {
+            return Ok(Applied::Refused(Why::UnknownSnapshot));
+        }
+        put_ok(out)?;
+        release(&mut self.snapshots, name);
+        Ok(Applied::Done)
+    }
+
+    fn reopen(&mut self, out: &mut Vec<u8>) -> Result<Applied, Memory>
+        ensures { Does (step_on self.old asks.Reopen) self.old self.new out.old.items out.new.items result }
+    {
+        put_ok(out)?;
+        self.snapshots.clear();
+        self.begun = false;
+        Ok(Applied::Done)
+    }
+}
+
+ghost use Rattle.index_model.specs.Sessions.{Does};
+
+/// Answers `ok`, where nothing changes.
+fn fine(out: &mut Vec<u8>) -> Result<Applied, Memory>
+    ensures { (i : Index) → Does (fine i) i i out.old.items out.new.items result }
+{
+    put_ok(out)?;
+    Ok(Applied::Done)
+}
