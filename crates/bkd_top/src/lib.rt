@@ -8,3 +8,6 @@ pub mod status;
 
 pub use program::{MAX_INPUT, run, run_script};
 pub use status::{Memory, Status, code, status_line};
+
+#[cfg(test)]
+mod tests;

@@ -1,8 +1,7 @@
 -- The corners of cells, dimension by dimension.
-use Rattle.std.proofs.Common.{◌≡◌, ℕ, ◌+◌, ◌<◌, Bool, true, false, ◌&&◌, List, [], ◌∷◌, length, drop, get_or, ℤ, pos, int_le, refl, arith, add-one}
-use Rattle.std.proofs.Math.Seq.{drop-cons}
+use Rattle.std.proofs.Common.{◌≡◌, Bool, true, false, ◌&&◌, List, [], ◌∷◌, ℤ, int_le, refl, arith}
 use Rattle.std.proofs.lemmas.Int.{ints}
-use Rattle.point_codec.specs.Points.{Region, all_le, in_box}
+use Rattle.point_codec.specs.Points.{all_le}
 
 pub both_true : (a b : Bool) → (a && b) ≡ true → (a ≡ true) × (b ≡ true)
 both_true true b h = (refl, h)
@@ -24,8 +23,3 @@ all_le-trans (x ∷ xs) (y ∷ ys) (z ∷ zs) h k =
     let xy : int_le x y ≡ true = first.0 in
     let yz : int_le y z ≡ true = next.0 in
     rw rest (grind (arith, ints))
-
--- the dimensions from i on: dimension i, and those after it
-pub all_le_dropped : (p q : List ℤ) (i : ℕ) → i < length p → i < length q
-  → all_le (drop i p) (drop i q) ≡ (int_le (get_or p i (pos 0)) (get_or q i (pos 0)) && all_le (drop (i + 1) p) (drop (i + 1) q))
-all_le_dropped p q i h k = rw (drop-cons p i (pos 0), drop-cons q i (pos 0), add-one) refl

@@ -1,10 +1,8 @@
--- What an answer on a cell says of the cell's least corner and of the cells within it: for walks over trees of cells.
-use Rattle.std.proofs.Common.{◌≡◌, Bool, true, false, not, ◌&&◌, List, ℤ, refl, arith}
+-- Cells within cells, and their least corners: for walks over trees of cells.
+use Rattle.std.proofs.Common.{◌≡◌, Bool, true, false, List, ℤ, refl, arith}
 use Rattle.point_codec.specs.Points.{Region, all_le, in_box}
 use Rattle.point_codec.specs.Cells.{within}
-use Rattle.cell_relate.specs.declared.shape.Relation.{Relation}
-use Rattle.cell_relate.specs.declared.shape.Relation.TheVariants.{Inside, Outside, Crosses}
-use Rattle.cell_relate.specs.Relations.{AllAnswer, RelatesTo, is_outside}
+use Rattle.cell_relate.specs.Relations.{AllAnswer, is_outside}
 use Rattle.cell_relate.proofs.Corners.{both_true, all_le-refl, all_le-trans}
 
 -- the least corner is a point of its cell
@@ -22,20 +20,6 @@ in_box-within inner outer p h k =
 pub AllAnswer-within : (has : List ℤ → Bool) (answer : Bool) (inner outer : Region) → within inner outer ≡ true → AllAnswer has answer outer → AllAnswer has answer inner
 AllAnswer-within has answer inner outer h all p k = all p (in_box-within inner outer p h k)
 
--- the least corner tells whether a cell that all answer alike is outside
+-- a cell of which the shape has all points is not outside, crossed or not
 pub is_outside-all : (has : List ℤ → Bool) (crosses : Region → Bool) (cell : Region) → all_le cell.lo cell.hi ≡ true → AllAnswer has true cell → is_outside has crosses cell ≡ false
 is_outside-all has crosses cell ordered all = rw (all cell.lo (in_box-lo cell ordered)) (grind arith)
-
-pub is_outside-none : (has : List ℤ → Bool) (crosses : Region → Bool) (cell : Region) → all_le cell.lo cell.hi ≡ true → crosses cell ≡ false → AllAnswer has false cell → is_outside has crosses cell ≡ true
-is_outside-none has crosses cell ordered uncrossed none = rw (uncrossed, none cell.lo (in_box-lo cell ordered)) refl
-
-abbrev is_outside_answer : Relation → Bool
-is_outside_answer Inside = false
-is_outside_answer Outside = true
-is_outside_answer Crosses = false
-
--- a cell is outside exactly where a shape answers so
-pub is_outside-answer : (has : List ℤ → Bool) (crosses : Region → Bool) (cell : Region) (answer : Relation) → all_le cell.lo cell.hi ≡ true → RelatesTo has crosses cell answer → is_outside has crosses cell ≡ is_outside_answer answer
-is_outside-answer has crosses cell Inside ordered told = is_outside-all has crosses cell ordered told.1
-is_outside-answer has crosses cell Outside ordered told = is_outside-none has crosses cell ordered told.0 told.1
-is_outside-answer has crosses cell Crosses ordered told = rw told refl

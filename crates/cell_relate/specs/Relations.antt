@@ -9,13 +9,19 @@ use Rattle.cell_relate.specs.declared.shape.Relation.TheVariants.{Inside, Outsid
 abbrev pub AllAnswer : (List ℤ → Bool) → Bool → Region → Type 0
 AllAnswer has answer cell = (p : List ℤ) → in_box cell p ≡ true → has p ≡ answer
 
--- a crossed cell is told as that; each other one has all its points in the shape, or none
+-- the shape does not cross the cell, and has all its points or none; the least corner is one of them
+pub record IsUncrossed (has : List ℤ → Bool) (crosses : Region → Bool) (cell : Region) (answer : Bool) : Type 0 where
+  pub uncrossed : crosses cell ≡ false
+  pub all : AllAnswer has answer cell
+  pub corner : has cell.lo ≡ answer
+
+-- the answer on a cell: exactly a crossed cell is told as that
 abbrev pub RelatesTo : (List ℤ → Bool) → (Region → Bool) → Region → Relation → Type 0
-RelatesTo has crosses cell Inside = (crosses cell ≡ false) × AllAnswer has true cell
-RelatesTo has crosses cell Outside = (crosses cell ≡ false) × AllAnswer has false cell
+RelatesTo has crosses cell Inside = IsUncrossed has crosses cell true
+RelatesTo has crosses cell Outside = IsUncrossed has crosses cell false
 RelatesTo has crosses cell Crosses = crosses cell ≡ true
 
--- the cell is not crossed and has no point of the shape: an uncrossed cell has all its points in the shape or none, so
--- its least corner tells which
+-- the cell is not crossed and has no point of the shape: as it has all its points in the shape or none, the least corner
+-- tells which
 abbrev pub is_outside : (List ℤ → Bool) → (Region → Bool) → Region → Bool
 is_outside has crosses cell = not (crosses cell) && not (has cell.lo)

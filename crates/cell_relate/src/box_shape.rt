@@ -1,17 +1,15 @@
 //! A box as a shape.
 
-ghost use Rattle.std.specs.Prelude.{◌≡◌, ℕ, ◌+◌, ◌-◌, ◌^◌, min, List, ℤ, Bool, length};
+ghost use Rattle.std.specs.Prelude.{◌≡◌, ℕ, ◌+◌, ◌-◌, ◌^◌, min, List, ℤ, Bool};
 ghost use Rattle.point_codec.specs.Points.{Region, all_le, in_box};
 ghost use Rattle.point_codec.specs.Seen.{region_of};
 ghost use Rattle.point_codec.specs.Cells.{within};
 ghost use Rattle.cell_relate.specs.Boxes.{meets, crosses};
 ghost use Rattle.cell_relate.specs.Relations.{RelatesTo};
 
-use std::marker::Model;
-
-use point_codec::{Cell, Point};
-
 use crate::shape::{Relation, Shape};
+use point_codec::{Cell, Point, all_le};
+use std::marker::Model;
 
 /// The points from one corner to another, both counted, with the number of questions that were asked of it. Where some
 /// coordinate of the first corner is above that of the second the box has no point.
@@ -105,18 +103,4 @@ fn has_whole<const D: usize>(lo: &Point<D>, hi: &Point<D>, c: &Cell<D>) -> bool
     ensures { result ≡ within (region_of c.now) (record { lo = lo.now.c; hi = hi.now.c }) }
 {
     all_le(&lo.c, &c.lo.c) && all_le(&c.hi.c, &hi.c)
-}
-
-/// Whether no coordinate of `a` is greater than that of `b` in the same dimension.
-#[tactic(auto, using(crate::proofs::Corners::all_le_dropped))]
-fn all_le(a: &[i32], b: &[i32]) -> bool
-    requires { length a.now ≡ length b.now }
-    ensures { result ≡ all_le a.now b.now }
-{
-    for i in 0..a.len() {
-        if a[i] > b[i] {
-            return false;
-        }
-    }
-    true
 }

@@ -9,3 +9,6 @@ pub mod shape;
 
 pub use box_shape::BoxShape;
 pub use shape::{Relation, Shape};
+
+#[cfg(test)]
+mod tests;

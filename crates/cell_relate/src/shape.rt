@@ -25,8 +25,11 @@ pub enum Relation {
 /// still at the greatest number of 64 bits. No call changes which points the shape has or which cells it crosses.
 pub trait Shape<const D: usize> {
     ghost has: { Self → List ℤ → Bool };
+
     ghost crosses: { Self → Region → Bool };
+
     ghost tests: { Self → ℕ };
+
     ghost compares: { Self → ℕ };
 
     /// Whether the shape has the point.

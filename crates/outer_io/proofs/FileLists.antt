@@ -1,5 +1,5 @@
 -- The files of a list of entries after each change of the list.
-use Rattle.std.proofs.Common.{◌≡◌, ◌≢◌, Bool, true, false, not, cond, ℕ, ◌<◌, ◌≤◌, List, [], ◌∷◌, ◌++◌, length, Option, None, Some, Result, Ok, Err, OnErr, find, filter, map, position, set, get_or, refl, sym, ap, ◌∙◌}
+use Rattle.std.proofs.Common.{◌≡◌, ◌≢◌, Bool, true, false, not, cond, ℕ, ◌<◌, ◌≤◌, List, [], ◌∷◌, ◌++◌, length, Option, None, Some, find, filter, map, position, set, get_or, refl, sym, ap, ◌∙◌}
 use Rattle.std.specs.Option.{option_map, option_or}
 use Rattle.std.specs.List.{position_or_len}
 use Rattle.std.proofs.lemmas.Bool.{ltb-true, ltb-false}
@@ -169,8 +169,3 @@ files_in-renamed_other from to other (e ∷ es) h k =
         ]
       ] refl
     ] refl
-
--- what holds anyway holds on an error
-pub on_err : {T E P : Type 0} → (r : Result T E) → P → OnErr r P
-on_err (Ok x) p = tt
-on_err (Err e) p = p

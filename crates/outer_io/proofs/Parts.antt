@@ -1,5 +1,5 @@
 -- Torn writes, one after another.
-use Rattle.std.proofs.Common.{◌≡◌, ℕ, ◌+◌, ◌-◌, List, ◌++◌, length, take, drop, append_assoc, sym, ◌∙◌}
+use Rattle.std.proofs.Common.{Result, Ok, Err, OnErr, ◌≡◌, ℕ, ◌+◌, ◌-◌, List, ◌++◌, length, take, drop, append_assoc, sym, ◌∙◌}
 use Rattle.std.proofs.lemmas.List.{take_rest}
 use Rattle.std.proofs.Math.Seq.{take-add}
 use Rattle.outer_io.specs.Parts.{WritesPart, ReadsPart}
@@ -36,3 +36,8 @@ taken_twice old mid new first second all part =
       taken = first ++ second;
       whole = rw (all, part) (sym (append_assoc first second new));
     }
+
+-- what holds anyway holds on an error
+pub on_err : {T E P : Type 0} → (r : Result T E) → P → OnErr r P
+on_err (Ok x) p = tt
+on_err (Err e) p = p

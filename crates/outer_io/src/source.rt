@@ -1,5 +1,5 @@
 //! Where bytes come from.
-ghost use Rattle.std.specs.Prelude.{◌≡◌, ℕ, ◌≤◌, ◌<◌, Bool, List, [], ◌++◌, length, take, vec_len, IsTrue, IfOk, OnOk, OnErr, IsErrOf};
+ghost use Rattle.std.specs.Prelude.{◌≡◌, ℕ, ◌≤◌, ◌<◌, Bool, List, [], ◌++◌, length, take, vec_len, IsTrue, IfOk, OnOk, OnErr, IsErr, IsErrOf};
 ghost use Rattle.outer_io.specs.Faults.{HasCause, HasReadAllCause};
 ghost use Rattle.outer_io.specs.Parts.{ReadsPart};
 
@@ -28,6 +28,7 @@ pub trait Source {
         ensures cause { HasCause (faults self.old) (faults self.new) result };
 }
 
+/// How many bytes a call on a source is asked for: what a pipe holds.
 const PIECE: usize = 65_536;
 
 /// Reads a source to its end. `TooLarge` is answered just where more than `limit` bytes are left
@@ -37,6 +38,7 @@ pub fn read_all<S: Source>(alloc: Global, s: &mut S, limit: u64) -> Result<Vec<u
     ensures end { IsTrue S.told → OnOk result (S.left s.new ≡ []) }
     ensures fits { IfOk result (λ v. vec_len v ≤ limit) }
     ensures too_large { IsTrue S.told → IsErrOf result ReadAll.TooLarge → limit < length (S.left s.old) }
+    ensures limited { IsTrue S.told → limit < length (S.left s.old) → IsErr result }
     ensures taken { IsTrue S.told → ReadsPart (S.left s.old) (S.left s.new) }
     ensures cause { HasReadAllCause (S.faults s.old) (S.faults s.new) result }
 {

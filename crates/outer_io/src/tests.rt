@@ -109,6 +109,11 @@ fn goes_through<F: Folder>(rt: &impl Abort, folder: &mut F) {
     assert_eq!(rt; folder.rename(&live, &FileName::Segment(255)), Ok(()));
     assert_eq!(rt; folder.read_at(&live, 0, &mut buf), Ok(0));
     assert_eq!(rt; folder.size(&FileName::Segment(255)), Ok(Some(2)));
+    assert_eq!(rt; folder.write_file(&FileName::Commit, b"xyz"), Ok(()));
+    assert_eq!(rt; folder.read_at(&FileName::Segment(255), 0, &mut buf), Ok(2));
+    assert_eq!(rt; folder.read_at(&FileName::Commit, 0, &mut buf), Ok(3));
+    assert_eq!(rt; buf, *b"xyze");
+    assert_eq!(rt; folder.remove(&FileName::Commit), Ok(()));
 }
 
 #[test]

@@ -1,6 +1,5 @@
 -- The order of keys by their bytes is the order of their numbers.
-use Rattle.std.proofs.Common.{◌≡◌, ℕ, ◌+◌, ◌*◌, ◌/◌, ◌%◌, ◌^◌, ◌<◌, ℤ, pos, negsuc, FitsSigned, refl, sym, ap, ◌∙◌, arith, true, false, Bool, cond, nat_lt, ◌==◌, List, [], ◌∷◌}
-use Rattle.std.proofs.lemmas.Int.{ints}
+use Rattle.std.proofs.Common.{◌≡◌, ℕ, ◌+◌, ◌*◌, ◌/◌, ◌%◌, ◌^◌, ◌<◌, ℤ, pos, negsuc, FitsSigned, refl, sym, ap, ◌∙◌, arith, [], ◌∷◌}
 use Rattle.std.proofs.lemmas.Bool.Decides.{nat_tests}
 use Rattle.std.proofs.Math.Nat.{div-div-eq-div-mul}
 use Rattle.std.specs.declared.cmp.Ordering.{Ordering}
@@ -34,13 +33,13 @@ div_cmp m n =
 
 -- four digits in turn
 joined : (t a b c3 c2 c1 c0 : Ordering) → t ≡ ordering_then a c0 → a ≡ ordering_then b c1 → b ≡ ordering_then c3 c2
-  → ordering_then c3 (ordering_then c2 (ordering_then c1 (ordering_then c0 Equal))) ≡ t
+    → ordering_then c3 (ordering_then c2 (ordering_then c1 (ordering_then c0 Equal))) ≡ t
 joined t a b c3 c2 c1 c0 e f g =
     ap (λ x. ordering_then c3 (ordering_then c2 (ordering_then c1 x))) (sym (then_equal c0))
     ∙ sym (e ∙ ap (λ x. ordering_then x c0) (f ∙ ap (λ x. ordering_then x c1) g) ∙ then_assoc (ordering_then c3 c2) c1 c0 ∙ then_assoc c3 c2 (ordering_then c1 c0))
 
 pub bytes_cmp : (m n : ℕ) → m < 2 ^ 32 → n < 2 ^ 32
-  → slice_cmp nat_cmp (m / 16777216 % 256 ∷ m / 65536 % 256 ∷ m / 256 % 256 ∷ m % 256 ∷ []) (n / 16777216 % 256 ∷ n / 65536 % 256 ∷ n / 256 % 256 ∷ n % 256 ∷ []) ≡ nat_cmp m n
+    → slice_cmp nat_cmp (m / 16777216 % 256 ∷ m / 65536 % 256 ∷ m / 256 % 256 ∷ m % 256 ∷ []) (n / 16777216 % 256 ∷ n / 65536 % 256 ∷ n / 256 % 256 ∷ n % 256 ∷ []) ≡ nat_cmp m n
 bytes_cmp m n h k =
     let m2 : m / 256 / 256 ≡ m / 65536 = div-div-eq-div-mul m 256 256 in
     let n2 : n / 256 / 256 ≡ n / 65536 = div-div-eq-div-mul n 256 256 in
@@ -51,9 +50,9 @@ bytes_cmp m n h k =
     let tm : m / 65536 / 256 ≡ m / 16777216 % 256 = m3 ∙ sym mt in
     let tn : n / 65536 / 256 ≡ n / 16777216 % 256 = n3 ∙ sym nt in
     joined _ _ _ _ _ _ _
-      (div_cmp m n)
-      (div_cmp (m / 256) (n / 256) ∙ (λ i. ordering_then (nat_cmp (m2 i) (n2 i)) (nat_cmp (m / 256 % 256) (n / 256 % 256))))
-      (div_cmp (m / 65536) (n / 65536) ∙ (λ i. ordering_then (nat_cmp (tm i) (tn i)) (nat_cmp (m / 65536 % 256) (n / 65536 % 256))))
+    (div_cmp m n)
+    (div_cmp (m / 256) (n / 256) ∙ (λ i. ordering_then (nat_cmp (m2 i) (n2 i)) (nat_cmp (m / 256 % 256) (n / 256 % 256))))
+    (div_cmp (m / 65536) (n / 65536) ∙ (λ i. ordering_then (nat_cmp (tm i) (tn i)) (nat_cmp (m / 65536 % 256) (n / 65536 % 256))))
 
 rank_cmp : (x y : ℤ) → FitsSigned w32 x → FitsSigned w32 y → nat_cmp (rank x) (rank y) ≡ int_cmp x y
 rank_cmp (pos a) (pos b) f g = grind (arith, nat_tests)

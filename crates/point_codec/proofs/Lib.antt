@@ -1,3 +1,5 @@
+pub mod Corners
 pub mod Distances
 pub mod KeyOrder
+pub mod LeastCells
 pub mod Ordered

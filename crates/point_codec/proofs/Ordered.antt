@@ -1,5 +1,5 @@
 -- A sorted list without repetitions is the list of its elements in order.
-use Rattle.std.proofs.Common.{◌≡◌, ℕ, suc, ◌+◌, ◌≤◌, Bool, true, false, cond, ◌||◌, ◌&&◌, T, List, [], ◌∷◌, length, map, ℤ, Option, Some, None, is_some, arith, refl, sym, ap, ◌∙◌, subst}
+use Rattle.std.proofs.Common.{◌≡◌, suc, ◌+◌, ◌≤◌, Bool, true, false, cond, ◌||◌, ◌&&◌, T, List, [], ◌∷◌, length, map, ℤ, Option, Some, None, is_some, arith, refl, sym, ap, ◌∙◌, subst}
 use Rattle.std.proofs.lemmas.List.{length-map}
 use Rattle.std.proofs.lemmas.List.Kept.{IsStrictlySortedBy-dedup}
 use Rattle.std.proofs.lemmas.List.Sorted.{list_any-IsPermutation, length_permutation}
@@ -10,10 +10,9 @@ use Rattle.std.specs.declared.cmp.Ordering.TheVariants.{Less, Equal, Greater}
 use Rattle.std.specs.Ordering.{eq_by_cmp, is_eq, int_cmp, int_eq}
 use Rattle.std.specs.Cmp.{IsTotalOrder, int_cmp_total, on_total}
 use Rattle.std.specs.Cmp.Lexicographic.{slice_cmp, lists_total, lists_ties, pointwise}
-use Rattle.std.specs.Cmp.Rules.{signed_items}
 use Rattle.std.specs.FinSet.{IsAntisymmetric, slice_cmp-IsAntisymmetric, int_cmp-IsAntisymmetric}
 use Rattle.std.specs.FinMap as finite
-use Rattle.std.specs.FinMap.Entries.{is_sorted, below_all, find, is_some-find, same_entries}
+use Rattle.std.specs.FinMap.Entries.{is_sorted, below_all, is_some-find, same_entries}
 use Rattle.point_codec.specs.Order.{in_order}
 
 pub points_total : IsTotalOrder (slice_cmp int_cmp)
@@ -67,8 +66,8 @@ module _ {K : Type 0} (R : K → K → Ordering) (o : IsTotalOrder R) (exact : I
   same_members ps qs g h is =
       sym (unmarked ps)
       ∙ ap (map (λ e. e.0)) (same_entries R o exact (marked ps) (marked qs) (sorted_marked ps g) h
-          (λ q. found _ _ (is_some-find R q (marked ps) ∙ ap (list_any (eq_by_cmp R q)) (unmarked ps) ∙ is q
-              ∙ sym (is_some-find R q (marked qs) ∙ ap (list_any (eq_by_cmp R q)) (unmarked qs)))))
+      (λ q. found _ _ (is_some-find R q (marked ps) ∙ ap (list_any (eq_by_cmp R q)) (unmarked ps) ∙ is q
+      ∙ sym (is_some-find R q (marked qs) ∙ ap (list_any (eq_by_cmp R q)) (unmarked qs)))))
       ∙ unmarked qs
 
   in_order_sorted : (ps : List K) → T (is_sorted R (marked (in_order R ps)))
@@ -80,10 +79,10 @@ module _ {K : Type 0} (R : K → K → Ordering) (o : IsTotalOrder R) (exact : I
       let m = finite.from_entries {R = R} (marked ps) in
       same_members qs (in_order R ps) g (in_order_sorted ps)
       (λ q. is q
-        ∙ sym (ap (list_any (eq_by_cmp R q)) (unmarked ps))
-        ∙ sym (is_some-find R q (marked ps))
-        ∙ ap is_some (sym (finite.get-from_entries o (marked ps) q) ∙ finite.get-entries m q)
-        ∙ is_some-find R q (finite.entries m))
+      ∙ sym (ap (list_any (eq_by_cmp R q)) (unmarked ps))
+      ∙ sym (is_some-find R q (marked ps))
+      ∙ ap is_some (sym (finite.get-from_entries o (marked ps) q) ∙ finite.get-entries m q)
+      ∙ is_some-find R q (finite.entries m))
 
 any_map : {X K : Type 0} (f : X → K) (t : K → Bool) (xs : List X) → list_any t (map f xs) ≡ list_any (λ x. t (f x)) xs
 any_map f t [] = refl
@@ -125,14 +124,16 @@ module _ {X K : Type 0} (f : X → K) (R : K → K → Ordering) (o : IsTotalOrd
   passes_alike q x y h = ap (eq_by_cmp R q) (exact (f x) (f y) (equal_keys _ (sym (ties x y) ∙ h)))
 
   pub sorted_and_dedup : (xs ys : List X) → IsPermutation xs ys → IsSorted by_key ys
-    → IsStrictlySortedBy R (map f (dedup E ys)) × (map f (dedup E ys) ≡ in_order R (map f xs))
+      → IsStrictlySortedBy R (map f (dedup E ys)) × (map f (dedup E ys) ≡ in_order R (map f xs))
   sorted_and_dedup xs ys moved sorted =
-      let rising = sorted_map (dedup E ys) (IsStrictlySortedBy-dedup (on_total f o) ties ys sorted) in
-      (rising, in_order_is R o exact (map f xs) _ rising (λ q.
-        any_map f (eq_by_cmp R q) (dedup E ys)
-        ∙ any_dedup E (λ x. eq_by_cmp R q (f x)) (passes_alike q) ys
-        ∙ sym (list_any-IsPermutation (λ x. eq_by_cmp R q (f x)) xs ys moved)
-        ∙ sym (any_map f (eq_by_cmp R q) xs)))
+      let rising = sorted_map (dedup E ys) (IsStrictlySortedBy-dedup (on_total f o) ties ys sorted) in (
+        rising,
+        in_order_is R o exact (map f xs) _ rising (λ q.
+            any_map f (eq_by_cmp R q) (dedup E ys)
+            ∙ any_dedup E (λ x. eq_by_cmp R q (f x)) (passes_alike q) ys
+            ∙ sym (list_any-IsPermutation (λ x. eq_by_cmp R q (f x)) xs ys moved)
+            ∙ sym (any_map f (eq_by_cmp R q) xs)),
+      )
 
 some_from : {X : Type 0} (E : X → X → Bool) (k : X) (xs : List X) → 1 ≤ length (dedup_from E k xs)
 some_from E k [] = omega arith
@@ -157,7 +158,7 @@ dedup_few E (x ∷ xs) = omega (arith, few_from E x xs)
 
 -- of 1 to 16 elements, moved and rid of repetitions, 1 to 16 are left
 pub still_few : {X Y : Type 0} (f : X → Y) (E : X → X → Bool) (xs ys : List X) → IsPermutation xs ys → 1 ≤ length xs → length xs ≤ 16
-  → (1 ≤ length (map f (dedup E ys))) × (length (map f (dedup E ys)) ≤ 16)
+    → (1 ≤ length (map f (dedup E ys))) × (length (map f (dedup E ys)) ≤ 16)
 still_few f E xs ys moved some few =
     let same : length ys ≡ length xs = length_permutation xs ys moved in
     let some' : 1 ≤ length ys = omega arith in

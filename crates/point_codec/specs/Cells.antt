@@ -29,3 +29,9 @@ moved_between (l ∷ ls) (h ∷ hs) [] = []
 -- the point of the cell that is nearest to p
 abbrev pub nearest_in : Region → List ℤ → List ℤ
 nearest_in r p = moved_between r.lo r.hi p
+
+-- the answers of f in each dimension
+abbrev pub by_dimension : (ℤ → ℤ → ℤ) → List ℤ → List ℤ → List ℤ
+by_dimension f (x ∷ xs) (y ∷ ys) = f x y ∷ by_dimension f xs ys
+by_dimension f [] ys = []
+by_dimension f (x ∷ xs) [] = []

@@ -1,5 +1,5 @@
 -- Points, boxes and distances on plain lists of whole numbers: a point is the list of its coordinates.
-use Rattle.std.specs.Prelude.{ℕ, ◌+◌, ◌*◌, ◌≡◌, ◌≤◌, length, Bool, true, false, ◌&&◌, List, [], ◌∷◌, ℤ, ◌-ℤ◌, int_le, unsigned_abs}
+use Rattle.std.specs.Prelude.{ℕ, ◌+◌, ◌*◌, ◌≤◌, length, Bool, true, false, ◌&&◌, List, [], ◌∷◌, ℤ, ◌-ℤ◌, int_le, unsigned_abs}
 use Rattle.std.specs.List.Sorted.{IsStrictlySortedBy}
 use Rattle.point_codec.specs.Order.{in_order}
 use Rattle.std.specs.Ordering.{int_cmp}

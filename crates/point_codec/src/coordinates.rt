@@ -31,7 +31,7 @@ impl<const D: usize> Point<D> {
 }
 
 /// The square of the difference of two coordinates.
-fn squared_gap(a: &i32, b: &i32) -> u64
+pub(crate) fn squared_gap(a: &i32, b: &i32) -> u64
     ensures { result ≡ square (a.now -ℤ b.now) }
 {
     let apart = u64::from(a.abs_diff(*b));

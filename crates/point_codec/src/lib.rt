@@ -13,3 +13,6 @@ pub use coordinates::{Point, Points};
 pub use entries::{Entry, Near};
 pub use keys::{from_sortable, key_order, sortable};
 pub use names::{Name, View};
+
+#[cfg(test)]
+mod tests;

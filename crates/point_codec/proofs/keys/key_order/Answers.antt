@@ -1,5 +1,5 @@
 -- The order of the bytes is that of the numbers.
-use Rattle.std.proofs.Common.{sym, ◌∙◌}
+use Rattle.std.proofs.Common.{◌∙◌}
 use Rattle.std.specs.Ordering.{nat_cmp}
 use Rattle.std.specs.Cmp.Lexicographic.{slice_cmp}
 use Rattle.point_codec.proofs.KeyOrder.{keys_cmp}

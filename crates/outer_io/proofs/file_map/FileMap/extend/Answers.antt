@@ -1,6 +1,7 @@
 use Rattle.std.proofs.Common.{◌≡◌, Some, None, position, sym, refl, rules}
 use Rattle.outer_io.specs.FileMap.{is_named}
-use Rattle.outer_io.proofs.FileLists.{files_in-set_same, files_in-set_more, files_in-set_other, files_in-absent, on_err}
+use Rattle.outer_io.proofs.FileLists.{files_in-set_same, files_in-set_more, files_in-set_other, files_in-absent}
+use Rattle.outer_io.proofs.Parts.{on_err}
 use Rattle.outer_io.proofs.file_map.FileMap.extend.Goals as goal
 use Rattle.outer_io.proofs.file_map.FileMap.extend.Goals.{In-Some}
 

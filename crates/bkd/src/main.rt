@@ -1,0 +1,47 @@
+//! The program `bkd`: an index of integer points in a folder.
+#![tactic(auto)]
+
+use std::io::{Lock, Read};
+use std::process::ExitCode;
+use std::{env, io};
+
+use bkd_top::{Status, code, run, status_line};
+use outer_io::{DirFolder, StdSink, StdSource, write_all};
+
+fn main(rt: HostRuntime) -> ExitCode {
+    let status = status_of(&rt);
+    let mut line = Vec::new(rt.alloc());
+    if status_line(&status, &mut line).is_ok() {
+        // the exit status says the same, so nothing is lost where standard error takes no more
+        let _ = write_all(&mut StdSink::new(rt.stderr().lock()), line.as_slice());
+    }
+    ExitCode::from(code(&status))
+}
+
+/// Runs the program over its arguments, its streams and its directory.
+fn status_of(rt: &HostRuntime) -> Status {
+    let alloc = rt.alloc();
+    let mut words = Vec::new(alloc);
+    match env::args(rt) {
+        Ok(args) => {
+            for word in args.skip(1) {
+                if words.push(word).is_err() {
+                    return Status::Memory;
+                }
+            }
+        }
+        Err(e) if e.kind() == io::ErrorKind::OutOfMemory => return Status::Memory,
+        // a word that is not UTF-8
+        Err(_) => return Status::Usage,
+    }
+    let dir = match words.as_slice() {
+        [dir, ..] => dir.as_str(),
+        [] => ".",
+    };
+    let Ok(mut folder) = DirFolder::new(rt, alloc, dir) else {
+        return Status::Memory;
+    };
+    let mut input = StdSource::new(rt.stdin().lock());
+    let mut output = StdSink::new(rt.stdout().lock());
+    run(alloc, words.as_slice(), &mut input, &mut folder, &mut output)
+}

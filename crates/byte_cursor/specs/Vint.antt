@@ -1,0 +1,34 @@
+-- A vint: a number in groups of seven bits, the least group first, each but the last marked by the high bit.
+use Rattle.std.specs.Prelude.{◌≡◌, ◌<◌, ◌≤◌, ℕ, ◌+◌, ◌/◌, ◌%◌, ◌^◌, List, [], ◌∷◌, ◌++◌, length, All}
+
+-- The bytes are the canonical vint of the number (this project's form of LEB128): a byte below 128 is
+-- the last one and stands for itself; a byte from 128 on holds the low seven bits, and the bytes after it
+-- are the vint of what is left, which isn't zero. So no number has a longer form with zero groups.
+unfoldable pub IsVint : List ℕ → ℕ → Type 0
+IsVint [] n = ⊥
+IsVint (b ∷ []) n = (n < 128) × (b ≡ n)
+IsVint (b ∷ c ∷ bytes) n = (128 ≤ n) × (b ≡ 128 + n % 128) × IsVint (c ∷ bytes) (n / 128)
+
+-- the bytes begin with the vint of the number, and the rest follows
+pub record BeginsWithVint (bytes : List ℕ) (n : ℕ) (rest : List ℕ) : Type 0 where
+  pub front : List ℕ
+  pub is_vint : IsVint front n
+  pub parts : bytes ≡ front ++ rest
+
+-- the bytes begin with the vint of a number of 32 bits
+pub record HasVint (bytes : List ℕ) : Type 0 where
+  pub number : ℕ
+  pub fits : number < 2 ^ 32
+  pub rest : List ℕ
+  pub begins : BeginsWithVint bytes number rest
+
+-- the bytes end inside a vint: there are fewer than the five that a number of 32 bits may take, and each says
+-- that another one follows
+abbrev pub IsCutVint : List ℕ → Type 0
+IsCutVint bytes = (length bytes < 5) × All (λ b. 128 ≤ b) bytes
+
+-- new is old with the vint of the number at its end
+pub record AppendsVint (old new : List ℕ) (n : ℕ) : Type 0 where
+  pub spelling : List ℕ
+  pub is_vint : IsVint spelling n
+  pub joined : new ≡ old ++ spelling

@@ -1,0 +1,6 @@
+mod Steps
+mod Reading
+mod Blanks
+mod Places
+mod Each
+mod Header

@@ -1,0 +1,7 @@
+use Rattle.std.proofs.Common.{◌≡◌, ℕ, ◌<◌, [], false, get_or}
+use Rattle.std.specs.Str.{bytes_eq}
+use Rattle.csv.specs.Records.{fields_of}
+use Rattle.csv_load.proofs.fields.place_of.Given as goal
+
+abbrev pub invariant-loop-i : goal.invariant-loop-i
+invariant-loop-i l = (k : ℕ) → k < l.i → bytes_eq (get_or (fields_of l.header) k []) l.name ≡ false

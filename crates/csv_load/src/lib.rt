@@ -1,0 +1,72 @@
+//! Points from the columns of a CSV file.
+#![tactic(auto)]
+
+mod fields;
+mod records;
+#[cfg(test)]
+mod tests;
+
+ghost use Rattle.std.specs.Prelude.{◌≡◌, ◌≢◌, ◌≤◌, Ok, Err, IfOk, IfErr, length};
+ghost use Rattle.point_codec.specs.Seen.{coordinates_of};
+ghost use Rattle.csv.specs.Records.{fields_of};
+ghost use Rattle.csv_load.specs.Loading.{points_of, records_of};
+
+use byte_cursor::Bytes;
+use csv::ByteRecord;
+use fields::{columns_of, point_of};
+use point_codec::Point;
+use records::{next_record, open};
+use std::alloc::{AllocFailed, Global};
+
+/// Why a CSV file gives no points.
+#[derive(Clone, Copy, PartialEq, Eq, Debug)]
+pub enum CsvFault {
+    /// No field of the header is the name at this place among those asked for, from 0.
+    NoColumn { column: u32 },
+    /// This record, counted from 1 after the header, has not as many fields as the header.
+    Length { row: u64 },
+    /// What this record has in a column is not a coordinate. Columns count from 0 as they were asked for.
+    Value { row: u64, column: u32 },
+    /// There was not enough memory.
+    Memory,
+}
+
+impl<T: Drop> From<AllocFailed<T>> for CsvFault {
+    ghost use Rattle.csv_load.specs.declared.CsvFault.TheVariants as fault;
+
+    ghost from_gives = { λ _ e. e ≡ fault.Memory };
+
+    fn from(_failed: AllocFailed<T>) -> CsvFault {
+        CsvFault::Memory
+    }
+}
+
+/// The points of a file, one a record, with their coordinates in the columns that are named, or the
+/// first fault: of the names in the order given, then of the records in turn, where a length comes
+/// before a value.
+pub fn read_points<const D: usize>(
+    alloc: Global,
+    b: &[u8],
+    columns: &[Bytes],
+) -> Result<Vec<Point<D>>, CsvFault>
+    requires some { 1 ≤ D }
+    requires few { D ≤ 8 }
+    requires named { length columns.now ≡ D }
+    ensures points { IfOk result (λ points. points_of columns.now (records_of b.now) ≡ Ok (coordinates_of points.items)) }
+    ensures fault { IfErr result (λ fault. fault ≢ CsvFault.Memory → points_of columns.now (records_of b.now) ≡ Err fault) }
+{
+    let mut reader = open(alloc, b);
+    let mut fields = ByteRecord::new(alloc);
+    if !next_record(&mut reader, &mut fields)? {
+        return Err(CsvFault::NoColumn { column: 0 });
+    }
+    let width = fields.len();
+    let places = columns_of::<D>(&fields, columns)?;
+    let mut points = Vec::new(alloc);
+    let mut row: u64 = 0;
+    while next_record(&mut reader, &mut fields)? {
+        row += 1;
+        points.push(point_of(&fields, width, &places, row)?)?;
+    }
+    Ok(points)
+}

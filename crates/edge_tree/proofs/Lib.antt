@@ -1,0 +1,5 @@
+pub mod Boxes
+pub mod Passing
+pub mod Runs
+pub mod Sound
+pub mod Walk

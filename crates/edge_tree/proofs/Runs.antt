@@ -1,0 +1,54 @@
+-- Runs of edges, as the code holds them and as the definitions see them.
+use Rattle.std.proofs.Common.{◌≡◌, ℕ, ◌+◌, ◌-◌, ◌<◌, ◌≤◌, true, false, not, ◌||◌, List, [], ◌∷◌, ◌++◌, length, map, take, drop, get_or, refl, sym, ap, ◌∙◌, subst, arith}
+use Rattle.std.proofs.lemmas.Bool.{or_from}
+use Rattle.std.proofs.lemmas.List.Folds.{list_any-append, list_any_at}
+use Rattle.std.specs.Prelude.{slice_range}
+use Rattle.std.proofs.lemmas.List.{map_more, take-map, drop-map, length-map, get_or-map, take-take, drop-drop, drop-take, take-append-drop}
+use Rattle.point_codec.specs.Points.{Region}
+use Rattle.ring_parity.specs.Edges.{Ends, misses}
+use Rattle.ring_parity.specs.Rings.{any_meets}
+use Rattle.ring_parity.specs.Seen.{ends_of}
+use Rattle.ring_parity.specs.declared.edges.Edge.{Edge}
+use Rattle.edge_tree.specs.declared.outline.Outline.{Outline}
+use Rattle.edge_tree.specs.Outlines.{Outlines}
+
+-- a run of edges, seen
+pub run_seen : (edges : List Edge) (first end : ℕ) → slice_range (map ends_of edges) first end ≡ map ends_of (take (end - first) (drop first edges))
+run_seen edges first end = ap (take (end - first)) (drop-map ends_of first edges) ∙ take-map ends_of (end - first) (drop first edges)
+
+pub outlines_more : (edges : List Edge) (i : ℕ) (e : Edge) (o : Outline) → i < length edges → e ≡ get_or edges i e
+    → Outlines (map ends_of (take i edges) ++ ends_of e ∷ []) o → Outlines (map ends_of (take (i + 1) edges)) o
+outlines_more edges i e o there is h =
+    let more : map ends_of (take (i + 1) edges) ≡ map ends_of (take i edges) ++ ends_of e ∷ [] =
+    map_more ends_of edges i e there ∙ ap (λ (d : Edge). map ends_of (take i edges) ++ ends_of d ∷ []) (sym is) in
+    subst (λ (run : List Ends). Outlines run o) (sym more) h
+
+-- an edge that meets the cell settles the answer, and one that does not leaves it
+pub met : (edges : List Edge) (i : ℕ) (e : Edge) (cell : Region) → i < length edges → e ≡ get_or edges i e → misses (ends_of e) cell ≡ false
+    → any_meets (map ends_of edges) cell ≡ true
+met edges i e cell there is h =
+    let long : length (map ends_of edges) ≡ length edges = length-map edges ends_of in
+    list_any_at (λ d. not (misses d cell)) (map ends_of edges) i (ends_of e) (omega (arith, long))
+    (ap (λ d. not (misses d cell)) (get_or-map ends_of edges i e (ends_of e) there ∙ ap ends_of (sym is)) ∙ ap not h)
+
+pub none_met_more : (edges : List Edge) (i : ℕ) (e : Edge) (cell : Region) → i < length edges → e ≡ get_or edges i e → misses (ends_of e) cell ≡ true
+    → any_meets (map ends_of (take i edges)) cell ≡ false → any_meets (map ends_of (take (i + 1) edges)) cell ≡ false
+none_met_more edges i e cell there is h none =
+    ap (λ run. any_meets run cell) (map_more ends_of edges i e there ∙ ap (λ (d : Edge). map ends_of (take i edges) ++ ends_of d ∷ []) (sym is))
+    ∙ list_any-append (λ d. not (misses d cell)) (map ends_of (take i edges)) (ends_of e ∷ [])
+    ∙ or_from (any_meets (map ends_of (take i edges)) cell) (not (misses (ends_of e) cell) || false) none
+    (or_from (not (misses (ends_of e) cell)) false (ap not h) refl)
+
+-- two runs that follow each other are one
+pub run_join : {X : Type 0} (xs : List X) (first middle end : ℕ) → first ≤ middle → middle ≤ end
+    → slice_range xs first middle ++ slice_range xs middle end ≡ slice_range xs first end
+run_join {X} xs first middle end p q =
+    let rest : List X = drop first xs in
+    let start : take (middle - first) (take (end - first) rest) ≡ take (middle - first) rest = take-take (middle - first) (end - first) rest (omega arith) in
+    let span : (middle - first) + (end - middle) ≡ end - first = omega arith in
+    let there : drop (middle - first) rest ≡ drop middle xs = drop-drop (middle - first) first xs ∙ ap (λ n. drop n xs) (omega arith) in
+    let tail : drop (middle - first) (take (end - first) rest) ≡ take (end - middle) (drop middle xs) =
+    ap (λ n. drop (middle - first) (take n rest)) (sym span) ∙ drop-take (middle - first) (end - middle) rest ∙ ap (take (end - middle)) there in
+    ap (λ (run : List X). run ++ take (end - middle) (drop middle xs)) (sym start)
+    ∙ ap (λ (run : List X). take (middle - first) (take (end - first) rest) ++ run) (sym tail)
+    ∙ take-append-drop (middle - first) (take (end - first) rest)

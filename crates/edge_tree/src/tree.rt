@@ -1,0 +1,128 @@
+//! The tree of a polygon's edges and its queries.
+
+ghost use Rattle.std.specs.Prelude.{◌≡◌, ◌++◌, true, List, ℤ, IsFalse, IfOk, map};
+ghost use Rattle.point_codec.specs.Points.{in_box};
+ghost use Rattle.point_codec.specs.Seen.{coordinates_of, region_of};
+ghost use Rattle.ring_parity.specs.Rings.{edges_of, all_edges, is_on_any, is_odd, any_meets, is_within};
+ghost use Rattle.ring_parity.specs.Seen.{ends_of};
+ghost use Rattle.edge_tree.specs.Outlines.{IsPlace};
+
+use crate::nodes::{Node, Place, meets_run, nodes_over};
+use point_codec::{Cell, Point};
+use ring_parity::{Edge, Rings};
+use std::alloc::{AllocError, Global};
+use std::marker::Model;
+
+/// The edges of a polygon in ring order, and the nodes of a tree over them.
+#[derive(Drop)]
+pub struct EdgeTree {
+    edges: Vec<Edge>,
+    nodes: Vec<Node>,
+}
+
+impl Model for EdgeTree {
+    ghost use Rattle.std.specs.Prelude.{List, map};
+    ghost use Rattle.ring_parity.specs.Edges.{Ends};
+    ghost use Rattle.ring_parity.specs.Seen.{ends_of};
+    ghost use Rattle.edge_tree.specs.Trees.{IsTree};
+
+    ghost Value = { List Ends };
+
+    ghost view = { λ t. map ends_of t.edges.items };
+
+    ghost invariant = { λ t. IsTree (map ends_of t.edges.items) t.nodes.items };
+}
+
+impl EdgeTree {
+    /// The tree over the edges of these rings.
+    pub fn new(alloc: Global, r: &Rings) -> Result<EdgeTree, AllocError>
+        ensures { IfOk result (λ tree. tree ≡ all_edges r.now) }
+    {
+        let mut edges = Vec::new(alloc);
+        for ring in r.as_slice() {
+            push_edges(&mut edges, ring.as_slice())?;
+        }
+        let nodes = nodes_over(alloc, edges.as_slice())?;
+        Ok(EdgeTree { edges, nodes })
+    }
+
+    /// The point is on an edge, an end counted.
+    pub fn on_any(&self, p: &Point<2>) -> bool
+        ensures { result ≡ is_on_any self.now p.now.c }
+    {
+        self.place(p).on
+    }
+
+    /// An odd number of the edges counts for the point.
+    pub fn odd(&self, p: &Point<2>) -> bool
+        ensures { result ≡ is_odd self.now p.now.c }
+    {
+        self.place(p).odd
+    }
+
+    /// The point is in the polygon: on an edge, or counted by an odd number of them.
+    pub fn contains(&self, p: &Point<2>) -> bool
+        ensures { result ≡ is_within self.now p.now.c }
+    {
+        let place = self.place(p);
+        place.on || place.odd
+    }
+
+    /// Where the point lies beside all the edges. A node that tells it of its run is taken whole.
+    fn place(&self, p: &Point<2>) -> Place
+        ensures { IsPlace self.now p.now.c result.on result.odd }
+    {
+        let mut place = Place {
+            on: false,
+            odd: false,
+        };
+        let mut at = self.nodes.len();
+        while at > 0 {
+            let node = &self.nodes[at - 1];
+            let is_leaf = node.before + 1 == at;
+            match node.place(self.edges.as_slice(), is_leaf, p) {
+                Some(beside) => {
+                    place = beside.join(&place);
+                    at = node.before;
+                }
+                None => at -= 1,
+            }
+        }
+        place
+    }
+
+    /// Some edge does not miss the cell. Where none meets it, the polygon has all points of the cell or none of them, so
+    /// that one point tells of all.
+    pub fn any_meets(&self, c: &Cell<2>) -> bool
+        ensures told { result ≡ any_meets self.now (region_of c.now) }
+        ensures one_answer { IsFalse result → (p q : List ℤ) → in_box (region_of c.now) p ≡ true → in_box (region_of c.now) q ≡ true
+            → is_within self.now p ≡ is_within self.now q }
+    {
+        let mut at = self.nodes.len();
+        while at > 0 {
+            let node = &self.nodes[at - 1];
+            if node.outline.bounds.is_apart(&c.lo, &c.hi) {
+                at = node.before;
+            } else {
+                if node.before + 1 == at && meets_run(&self.edges[node.first..node.end], c) {
+                    return true;
+                }
+                at -= 1;
+            }
+        }
+        false
+    }
+}
+
+/// Appends the edges of a ring.
+fn push_edges(edges: &mut Vec<Edge>, at: &[Point<2>]) -> Result<(), AllocError>
+    ensures { IfOk result (λ _. map ends_of edges.new.items ≡ map ends_of edges.old.items ++ edges_of (coordinates_of at.now)) }
+{
+    for i in 1..at.len() {
+        edges.push(Edge {
+            a: at[i - 1],
+            b: at[i],
+        })?;
+    }
+    Ok(())
+}

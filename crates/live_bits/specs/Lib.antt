@@ -1,0 +1,3 @@
+pub mod LiveSet
+pub mod LiveBody
+pub mod Refusal

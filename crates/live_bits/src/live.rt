@@ -1,0 +1,154 @@
+//! The set of live numbers.
+
+ghost use Rattle.std.specs.Prelude.{◌≡◌, ◌<◌, All, IfOk, IfErr, length, nat_eq};
+ghost use Rattle.std.specs.List.{list_any};
+ghost use Rattle.live_bits.specs.LiveSet.{is_live, without, IsLiveSet, Spans};
+ghost use Rattle.live_bits.specs.LiveBody.{IsLiveBody};
+ghost use Rattle.live_bits.specs.Refusal.{Refuses};
+
+use crate::bits::{bit_at, clear_bit, count_set};
+use crate::body::{Sizes, parse, spell};
+use crate::docs::{reach, set_docs};
+use crate::fault::{BitsFault, Memory};
+use byte_cursor::Bytes;
+use std::alloc::Global;
+use std::marker::Model;
+
+/// The live documents of a segment. Contracts see the base, the span and the ascending list of the live
+/// numbers, each of which is from the base to below base plus span, and that at most 16,777,216.
+#[derive(Debug, Drop)]
+pub struct LiveBits {
+    base: u32,
+    span: u32,
+    /// How many bits are set.
+    count: u32,
+    /// The bits as they stand in a file.
+    bits: Vec<u8>,
+}
+
+impl Model for LiveBits {
+    ghost use Rattle.live_bits.specs.LiveSet.{LiveSet};
+
+    ghost Value = { LiveSet };
+
+    ghost use Rattle.live_bits.specs.LiveBody.{IsStored, live_set};
+
+    ghost view = { λ b. live_set b.base b.span b.bits.items };
+
+    ghost invariant = { λ b. IsStored b.base b.span b.count b.bits.items };
+}
+
+impl LiveBits {
+    /// The set of these numbers, each below 16,777,216, in any order and with repetitions.
+    pub fn of_docs(alloc: Global, docs: &[u32]) -> Result<LiveBits, Memory>
+        requires { All (λ d. d < 16777216) docs.now }
+        ensures live { IfOk result (λ b. is_live b ≡ (λ n. list_any (λ d. nat_eq d n) docs.now)) }
+        ensures spans { IfOk result (λ b. Spans b.base b.span docs.now) }
+        ensures set { IfOk result IsLiveSet }
+    {
+        let (base, span) = reach(docs);
+        let mut bits = vec![in alloc; 0u8; ((span + 7) / 8) as usize]?;
+        set_docs(bits.as_mut_slice(), base, docs);
+        let count = count_set(bits.as_slice());
+        Ok(LiveBits {
+            base,
+            span,
+            count,
+            bits,
+        })
+    }
+
+    /// The set whose body for this segment and generation the bytes are.
+    pub fn read(
+        alloc: Global,
+        segment: u64,
+        generation: u64,
+        b: Bytes,
+    ) -> Result<LiveBits, BitsFault>
+        ensures ok { IfOk result (λ s. IsLiveBody segment generation s b) }
+        ensures err { IfErr result (Refuses segment generation b) }
+    {
+        let Some((sizes, bits)) = parse(segment, generation, b.as_slice()) else {
+            return Err(BitsFault::NotBits { b });
+        };
+        Ok(LiveBits {
+            base: sizes.base,
+            span: sizes.span,
+            count: sizes.count,
+            bits: Vec::from_slice(alloc, bits)?,
+        })
+    }
+
+    /// The one body of the set for this segment and generation.
+    pub fn write(&self, alloc: Global, segment: u64, generation: u64) -> Result<Bytes, Memory>
+        ensures { IfOk result (IsLiveBody segment generation self.now) }
+    {
+        let sizes = Sizes {
+            base: self.base,
+            span: self.span,
+            count: self.count,
+        };
+        spell(alloc, segment, generation, sizes, self.bits.as_slice())
+    }
+
+    /// A copy of the set.
+    pub fn copy(&self, alloc: Global) -> Result<LiveBits, Memory>
+        ensures { IfOk result (λ b. b ≡ self.now) }
+    {
+        let bits = Vec::from_slice(alloc, self.bits.as_slice())?;
+        Ok(LiveBits {
+            base: self.base,
+            span: self.span,
+            count: self.count,
+            bits,
+        })
+    }
+
+    /// The number of the first bit.
+    pub fn base(&self) -> u32
+        ensures value { result ≡ self.now.base }
+        ensures set { IsLiveSet self.now }
+    {
+        self.base
+    }
+
+    /// How many numbers have a bit.
+    pub fn span(&self) -> u32
+        ensures value { result ≡ self.now.span }
+        ensures set { IsLiveSet self.now }
+    {
+        self.span
+    }
+
+    /// How many numbers are live.
+    pub fn live_count(&self) -> u32
+        ensures value { result ≡ length self.now.live }
+        ensures set { IsLiveSet self.now }
+    {
+        self.count
+    }
+
+    /// Whether the number is live.
+    pub fn is_live(&self, doc: u32) -> bool
+        ensures { result ≡ is_live self.now doc }
+    {
+        match doc.checked_sub(self.base) {
+            None => false,
+            Some(i) if i >= self.span => false,
+            Some(i) => bit_at(self.bits.as_slice(), i),
+        }
+    }
+
+    /// Takes the number out, and answers whether it was live.
+    pub fn clear(&mut self, doc: u32) -> bool
+        ensures answer { result ≡ is_live self.old doc }
+        ensures after { self.new ≡ without doc self.old }
+    {
+        if !self.is_live(doc) {
+            return false;
+        }
+        clear_bit(self.bits.as_mut_slice(), doc - self.base);
+        self.count -= 1;
+        true
+    }
+}

@@ -1,0 +1,3 @@
+pub mod Arrays
+pub mod Reading
+pub mod PolygonRelation

@@ -1,0 +1,14 @@
+use Rattle.std.proofs.Common.{sym, ◌∙◌, true, false}
+use Rattle.point_codec.specs.Seen.{region_of}
+use Rattle.polygon_query.proofs.PolygonRelation.{one_point}
+use Rattle.polygon_query.proofs.polygon_shape.relation_of.Goals as goal
+
+pub returns-then-is_within : goal.returns-then-is_within
+returns-then-is_within c =
+    one_point c.args.edges.now (region_of c.args.c.now) true c.args.c.now.ordered (sym c.any_meets.ensures.told ∙ c.if-any_meets.false)
+    (c.any_meets.ensures.one_answer c.if-any_meets.false) (sym c.is_within.ensures ∙ c.if-is_within.true)
+
+pub returns-else-is_within : goal.returns-else-is_within
+returns-else-is_within c =
+    one_point c.args.edges.now (region_of c.args.c.now) false c.args.c.now.ordered (sym c.any_meets.ensures.told ∙ c.if-any_meets.false)
+    (c.any_meets.ensures.one_answer c.if-any_meets.false) (sym c.is_within.ensures ∙ c.if-is_within.false)

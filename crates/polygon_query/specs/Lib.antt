@@ -1,0 +1,3 @@
+pub mod GeoJson
+pub mod Refusals
+pub mod Shape

@@ -1,0 +1,132 @@
+//! A polygon as a shape.
+
+ghost use Rattle.std.specs.Prelude.{◌≡◌, ◌==◌, IfOk, length};
+ghost use Rattle.point_codec.specs.Seen.{region_of};
+ghost use Rattle.ring_parity.specs.Rings.{all_edges, is_within};
+ghost use Rattle.cell_relate.specs.Relations.{RelatesTo};
+ghost use Rattle.polygon_query.specs.Shape.{has, crosses};
+
+use cell_relate::{Relation, Shape};
+use edge_tree::EdgeTree;
+use point_codec::{Cell, Point};
+use ring_parity::Rings;
+use std::alloc::{AllocError, Global};
+use std::marker::Model;
+
+/// Want of memory.
+pub type Memory = AllocError;
+
+/// A polygon with the number of questions that were asked of it. It has the points on its edges and those that the
+/// even-odd rule counts as inside, all its rings alike.
+#[derive(Drop)]
+pub struct PolygonShape {
+    edges: EdgeTree,
+    tests: u64,
+    compares: u64,
+}
+
+impl Model for PolygonShape {
+    ghost use Rattle.polygon_query.specs.Shape.{Asked};
+
+    ghost Value = { Asked };
+
+    ghost view = { λ s. record { edges = s.edges; tests = s.tests; compares = s.compares } };
+}
+
+impl PolygonShape {
+    /// The polygon of these rings, of which nothing was asked yet. It keeps their edges in memory of its own, and takes
+    /// none after that.
+    pub fn new(alloc: Global, r: &Rings) -> Result<PolygonShape, Memory>
+        ensures { IfOk result (λ s. s ≡ record { edges = all_edges r.now; tests = 0; compares = 0 }) }
+    {
+        Ok(PolygonShape {
+            edges: EdgeTree::new(alloc, r)?,
+            tests: 0,
+            compares: 0,
+        })
+    }
+
+    /// How many points were asked for.
+    pub fn tests(&self) -> u64
+        ensures { result ≡ self.now.tests }
+    {
+        self.tests
+    }
+
+    /// How many cells were asked for.
+    pub fn compares(&self) -> u64
+        ensures { result ≡ self.now.compares }
+    {
+        self.compares
+    }
+}
+
+impl<const D: usize> Shape<D> for PolygonShape {
+    ghost has = { λ s p. has D s.edges p };
+
+    ghost crosses = { λ s cell. crosses D s.edges cell };
+
+    ghost tests = { λ s. s.tests };
+
+    ghost compares = { λ s. s.compares };
+
+    fn contains(&mut self, p: &Point<D>) -> bool {
+        self.tests = self.tests.saturating_add(1);
+        D == 2 && is_within(&self.edges, &in_plane(p))
+    }
+
+    fn compare(&mut self, c: &Cell<D>) -> Relation {
+        self.compares = self.compares.saturating_add(1);
+        if D != 2 {
+            return Relation::Outside;
+        }
+        relation_of(&self.edges, &cell_in_plane(c))
+    }
+}
+
+/// How the cell lies to the polygon of these edges. A cell that no edge meets has all its points in the polygon or none,
+/// so that its least corner tells which.
+fn relation_of(edges: &EdgeTree, c: &Cell<2>) -> Relation
+    ensures { RelatesTo (has 2 edges.now) (crosses 2 edges.now) (region_of c.now) result }
+{
+    if edges.any_meets(c) {
+        Relation::Crosses
+    } else if is_within(edges, &c.lo) {
+        Relation::Inside
+    } else {
+        Relation::Outside
+    }
+}
+
+/// Whether the point is on one of the edges, or an odd number of them counts for it.
+fn is_within(edges: &EdgeTree, p: &Point<2>) -> bool
+    ensures { result ≡ is_within edges.now p.now.c }
+{
+    edges.on_any(p) || edges.odd(p)
+}
+
+/// A cell of two dimensions as one of the plane.
+fn cell_in_plane<const D: usize>(c: &Cell<D>) -> Cell<2>
+    requires { D ≡ 2 }
+    ensures { region_of result ≡ region_of c.now }
+{
+    Cell {
+        lo: in_plane(&c.lo),
+        hi: in_plane(&c.hi),
+    }
+}
+
+/// A point of two dimensions as one of the plane.
+fn in_plane<const D: usize>(p: &Point<D>) -> Point<2>
+    requires { D ≡ 2 }
+    ensures { result.c ≡ p.now.c }
+{
+    Point { c: two(&p.c) }
+}
+
+fn two(c: &[i32]) -> [i32; 2]
+    requires { length c.now ≡ 2 }
+    ensures { result ≡ c.now }
+{
+    [c[0], c[1]]
+}

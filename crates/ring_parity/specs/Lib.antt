@@ -1,0 +1,4 @@
+pub mod Edges
+pub mod Rings
+pub mod Faults
+pub mod Seen

@@ -1,0 +1,12 @@
+use Rattle.std.proofs.Common.{arith}
+use Rattle.std.proofs.lemmas.Bool.Decides.{nat_tests}
+use Rattle.script_lang.proofs.WordsOf.{none_taken, word_taken}
+use Rattle.script_lang.proofs.words.first_word.Goals as goal
+
+pub returns-then-is_empty : goal.returns-then-is_empty
+returns-then-is_empty c = none_taken _ _ _ c.blanks.ensures.value c.split_at.ensures.back (grind (arith, nat_tests))
+
+pub returns : goal.returns
+returns c =
+    word_taken _ _ _ _ _ _ c.blanks.ensures.value c.split_at.ensures.back (grind (arith, nat_tests))
+      c.word_len.ensures.value c.split_at-2.ensures.front c.split_at-2.ensures.back

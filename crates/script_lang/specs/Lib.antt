@@ -1,0 +1,6 @@
+pub mod Lines
+pub mod Requests
+pub mod Reading
+pub mod Parts
+pub mod Seen
+pub mod Replies

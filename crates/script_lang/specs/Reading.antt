@@ -1,0 +1,185 @@
+-- How a line of a script is read. Its faults come in one order, whichever command it is: too long, not UTF-8, no index,
+-- an unknown command, a bad name, a polygon on other than two dimensions, the wrong number of words, a word that is no
+-- number, and then the values: dimensions, leaf size, k, polygon.
+use Rattle.std.specs.Prelude.{ℕ, zero, suc, ◌+◌, ◌*◌, ◌/◌, ◌%◌, ◌==◌, ◌&&◌, not, Bool, nat_lt, nat_le, if◌then◌else◌, List, [], ◌∷◌, length, take, drop, slice_index, Option, None, Some, Result, Ok, Err, ok_or, ℤ, codes}
+use Rattle.std.specs.Str.{is_utf8, bytes_eq}
+use Rattle.std.specs.Str.Lines.{strip_carriage_return}
+use Rattle.number_text.specs.Number.{number, coordinate}
+use Rattle.point_codec.specs.Points.{ordered}
+use Rattle.point_codec.specs.Names.{is_name}
+use Rattle.script_lang.specs.Lines.{words_of}
+use Rattle.script_lang.specs.Requests.{Viewed, Request}
+use Rattle.script_lang.specs.Requests as asks
+use Rattle.script_lang.specs.declared.faults.LineFault.{LineFault}
+use Rattle.script_lang.specs.declared.faults.LineFault.TheVariants as fault
+
+-- what a line says: a request, or the first of its faults
+pub data Reading : Type 0 where
+  Says : (request : Request) → Reading
+  Fails : (fault : LineFault) → Reading
+
+-- the greatest leaf size of an index: as many points with their document's number, 4 bytes each, as fit into 4,000 bytes
+abbrev pub greatest_leaf : ℕ → ℕ
+greatest_leaf dims = 4000 / (4 + 4 * dims)
+
+abbrev pub is_from_to : ℕ → ℕ → ℕ → Bool
+is_from_to low high n = nat_le low n && nat_le n high
+
+-- what is read from a part of a line, or that part's fault
+abbrev pub given : {X : Type 0} → Result X LineFault → (X → Reading) → Reading
+given (Ok x) next = next x
+given (Err f) next = Fails f
+
+-- a word's value. The word has this place in its line, counted from 1
+abbrev pub value_of : {X : Type 0} → (List ℕ → Option X) → ℕ → List ℕ → Result X LineFault
+value_of value place word = ok_or (value word) (fault.Number place)
+
+abbrev pub onto_values : {X : Type 0} → Result X LineFault → Result (List X) LineFault → Result (List X) LineFault
+onto_values (Err f) others = Err f
+onto_values (Ok x) (Err f) = Err f
+onto_values (Ok x) (Ok xs) = Ok (x ∷ xs)
+
+-- the values of words that stand from this place on, or the fault of the first that has none
+abbrev pub values_of : {X : Type 0} → (List ℕ → Option X) → ℕ → List (List ℕ) → Result (List X) LineFault
+values_of value place [] = Ok []
+values_of value place (w ∷ ws) = onto_values (value_of value place w) (values_of value (place + 1) ws)
+
+-- a list as so many pieces of this length
+abbrev pub pieces : ℕ → ℕ → List ℤ → List (List ℤ)
+pieces zero size xs = []
+pieces (suc n) size xs = take size xs ∷ pieces n size (drop size xs)
+
+-- so many points: the coordinates of each stand before those of the next
+abbrev pub points_of : ℕ → ℕ → Result (List ℤ) LineFault → Result (List (List ℤ)) LineFault
+points_of count dims (Ok cs) = Ok (pieces count dims cs)
+points_of count dims (Err f) = Err f
+
+-- two points: all coordinates of the first stand before those of the second
+abbrev pub corners_of : ℕ → Result (List ℤ) LineFault → Result (List ℤ × List ℤ) LineFault
+corners_of dims (Ok cs) = Ok (take dims cs, drop dims cs)
+corners_of dims (Err f) = Err f
+
+-- `LO HI`, the ends of a box, from this place on
+unfoldable pub box_of : ℕ → ℕ → List (List ℕ) → Result (List ℤ × List ℤ) LineFault
+box_of dims place words =
+    if length words == 2 * dims then corners_of dims (values_of coordinate place words) else Err fault.Words
+
+-- what a query looks at, and the words behind that, with the place of their first
+pub record Query : Type 0 where
+  pub view : Viewed
+  pub place : ℕ
+  pub words : List (List ℕ)
+
+-- `@NAME`, or the documents live now where no such word stands behind the command
+unfoldable pub query_of : List (List ℕ) → Result Query LineFault
+query_of [] = Ok (record { view = None; place = 2; words = [] })
+query_of (w ∷ ws) =
+    if slice_index w 0 == 64
+    then (if is_name (drop 1 w) then Ok (record { view = Some (drop 1 w); place = 3; words = ws }) else Err fault.BadName)
+    else Ok (record { view = None; place = 2; words = w ∷ ws })
+
+-- `NAME`, alone
+unfoldable pub name_of : List (List ℕ) → Result (List ℕ) LineFault
+name_of [] = Err fault.Words
+name_of (w ∷ ws) = if is_name w then (if length ws == 0 then Ok w else Err fault.Words) else Err fault.BadName
+
+-- no words are left
+abbrev pub alone : List (List ℕ) → Request → Reading
+alone [] request = Says request
+alone (w ∷ ws) request = Fails fault.Words
+
+abbrev pub created : ℕ → ℕ → Reading
+created dims leaf =
+    if not (is_from_to 1 8 dims) then Fails fault.Dims
+    else if not (is_from_to 2 (greatest_leaf dims) leaf) then Fails fault.LeafSize
+    else Says (asks.Create dims leaf)
+
+-- `create DIMS` or `create DIMS leaf SIZE`
+unfoldable pub read_create : List (List ℕ) → Reading
+read_create [] = Fails fault.Words
+read_create (d ∷ []) = given (value_of number 2 d) (λ dims. created dims (greatest_leaf dims))
+read_create (d ∷ word ∷ []) = Fails fault.Words
+read_create (d ∷ word ∷ s ∷ []) =
+    if bytes_eq word (codes "leaf")
+    then given (value_of number 2 d) (λ dims. given (value_of number 4 s) (λ leaf. created dims leaf))
+    else Fails fault.Words
+read_create (d ∷ word ∷ s ∷ w ∷ ws) = Fails fault.Words
+
+-- `add` with the coordinates of 1 to 16 points, point after point
+unfoldable pub read_add : ℕ → List (List ℕ) → Reading
+read_add dims words =
+    if length words % dims == 0 && is_from_to 1 16 (length words / dims)
+    then given (points_of (length words / dims) dims (values_of coordinate 2 words)) (λ points. Says (asks.Add (ordered points)))
+    else Fails fault.Words
+
+-- `delete NUMBER` or `delete box LO HI`: the word `box` is never a number
+unfoldable pub read_delete : ℕ → List (List ℕ) → Reading
+read_delete dims [] = Fails fault.Words
+read_delete dims (w ∷ ws) =
+    if bytes_eq w (codes "box") then given (box_of dims 3 ws) (λ box. Says (asks.DeleteBox box.0 box.1))
+    else if length ws == 0 then given (value_of number 2 w) (λ doc. Says (asks.Delete doc))
+    else Fails fault.Words
+
+-- `box [@NAME] LO HI`
+unfoldable pub read_box : ℕ → List (List ℕ) → Reading
+read_box dims words =
+    given (query_of words) (λ query. given (box_of dims query.place query.words) (λ box. Says (asks.InBox query.view box.0 box.1)))
+
+-- `K C1 .. CD`
+abbrev pub nearest_of : ℕ → Viewed → ℕ → List (List ℕ) → Reading
+nearest_of dims view place [] = Fails fault.Words
+nearest_of dims view place (w ∷ ws) =
+    if length ws == dims then
+        given (value_of number place w) (λ k. given (values_of coordinate (place + 1) ws) (λ cs.
+            if is_from_to 1 10000 k then Says (asks.Nearest view k cs) else Fails fault.BadK))
+    else Fails fault.Words
+
+-- `nearest [@NAME] K C1 .. CD`
+unfoldable pub read_nearest : ℕ → List (List ℕ) → Reading
+read_nearest dims words = given (query_of words) (λ query. nearest_of dims query.view query.place query.words)
+
+-- `merge`, `merge begin` with any positions, or `merge end`
+unfoldable pub read_merge : List (List ℕ) → Reading
+read_merge [] = Says asks.Merge
+read_merge (w ∷ ws) =
+    if bytes_eq w (codes "begin") then given (values_of number 3 ws) (λ positions. Says (asks.MergeBegin positions))
+    else if bytes_eq w (codes "end") then alone ws asks.MergeEnd
+    else Fails fault.Words
+
+-- a line on an index of so many dimensions, by its first word and the others
+unfoldable pub read_command : ℕ → List ℕ → List (List ℕ) → Reading
+read_command dims verb words =
+    if bytes_eq verb (codes "create") then read_create words
+    else if bytes_eq verb (codes "add") then read_add dims words
+    else if bytes_eq verb (codes "delete") then read_delete dims words
+    else if bytes_eq verb (codes "box") then read_box dims words
+    else if bytes_eq verb (codes "nearest") then read_nearest dims words
+    else if bytes_eq verb (codes "flush") then alone words asks.Flush
+    else if bytes_eq verb (codes "merge") then read_merge words
+    else if bytes_eq verb (codes "snapshot") then given (name_of words) (λ name. Says (asks.Snapshot name))
+    else if bytes_eq verb (codes "release") then given (name_of words) (λ name. Says (asks.Release name))
+    else if bytes_eq verb (codes "commit") then alone words asks.Commit
+    else if bytes_eq verb (codes "reopen") then alone words asks.Reopen
+    else Fails fault.Unknown
+
+-- where no index is there (None), only `create` can be asked
+abbrev pub read_verb : Option ℕ → List ℕ → List (List ℕ) → Reading
+read_verb None verb words = if bytes_eq verb (codes "create") then read_create words else Fails fault.NoIndex
+read_verb (Some dims) verb words = read_command dims verb words
+
+-- a line without words asks nothing, nor does one whose first word begins with '#'
+abbrev pub read_words : Option ℕ → List (List ℕ) → Reading
+read_words dims [] = Says asks.Blank
+read_words dims (verb ∷ words) = if slice_index verb 0 == 35 then Says asks.Blank else read_verb dims verb words
+
+-- a line's text: one byte 13 at its end is no part of it
+unfoldable pub text_of : List ℕ → Result (List ℕ) LineFault
+text_of line =
+    let text = strip_carriage_return line in
+    if nat_lt 4194304 (length text) then Err fault.TooLong
+    else if not (is_utf8 text) then Err fault.NotUtf8
+    else Ok text
+
+-- a line of a script, read where an index of so many dimensions is there, or none
+unfoldable pub read : Option ℕ → List ℕ → Reading
+read dims line = given (text_of line) (λ text. read_words dims (words_of text))

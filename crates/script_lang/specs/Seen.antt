@@ -1,0 +1,53 @@
+-- What the definitions see of the types of this crate.
+use Rattle.std.specs.Prelude.{ℕ, List, Option, None, Some, Result, Ok, Err, ◌≡◌, ◌≤◌}
+use Rattle.point_codec.specs.declared.names.View.{View}
+use Rattle.point_codec.specs.declared.names.View.TheVariants.{Now, Named}
+use Rattle.script_lang.specs.Requests.{Viewed, Request}
+use Rattle.script_lang.specs.Requests as asks
+use Rattle.script_lang.specs.Reading.{Reading, Says, Fails, greatest_leaf}
+use Rattle.script_lang.specs.declared.faults.LineFault.{LineFault}
+use Rattle.script_lang.specs.declared.faults.LineFault.TheVariants as fault
+use Rattle.script_lang.specs.declared.commands.Command.{Command}
+use Rattle.script_lang.specs.declared.commands.Command.TheVariants as command
+use Rattle.script_lang.specs.declared.commands.First.{First}
+use Rattle.script_lang.specs.declared.commands.First.TheVariants as first
+
+abbrev pub viewed : View → Viewed
+viewed Now = None
+viewed (Named name) = Some name
+
+-- what a command asks
+abbrev pub request_of : {D : ℕ} → Command D → Request
+request_of command.Blank = asks.Blank
+request_of (command.Create dims leaf) = asks.Create dims leaf
+request_of (command.Add points) = asks.Add points
+request_of (command.Delete doc) = asks.Delete doc
+request_of (command.DeleteBox lo hi) = asks.DeleteBox lo.c hi.c
+request_of (command.InBox view lo hi) = asks.InBox (viewed view) lo.c hi.c
+request_of (command.Nearest view k target) = asks.Nearest (viewed view) k target.c
+request_of command.Flush = asks.Flush
+request_of command.Merge = asks.Merge
+request_of (command.MergeBegin positions) = asks.MergeBegin positions
+request_of command.MergeEnd = asks.MergeEnd
+request_of (command.Snapshot name) = asks.Snapshot name
+request_of (command.Release name) = asks.Release name
+request_of command.Commit = asks.Commit
+request_of command.Reopen = asks.Reopen
+
+-- what a line asks where no index is there
+abbrev pub first_request_of : First → Request
+first_request_of first.Blank = asks.Blank
+first_request_of (first.Create dims leaf) = asks.Create dims leaf
+
+-- a command is what was read, and a fault is the one that was read, but for want of memory, which says nothing
+abbrev pub Agrees : {C : Type 0} → (C → Request) → Result C LineFault → Reading → Type 0
+Agrees request (Ok c) reading = reading ≡ Says (request c)
+Agrees request (Err fault.Memory) reading = Unit {0}
+Agrees request (Err f) reading = reading ≡ Fails f
+
+-- the limits of what a line may ask: an index of 1 to 8 dimensions and leaves of 2 points up to the greatest leaf, and the
+-- 1 to 10,000 nearest
+abbrev pub IsWithinLimits : Request → Type 0
+IsWithinLimits (asks.Create dims leaf) = (1 ≤ dims) × (dims ≤ 8) × (2 ≤ leaf) × (leaf ≤ greatest_leaf dims)
+IsWithinLimits (asks.Nearest view k target) = (1 ≤ k) × (k ≤ 10000)
+IsWithinLimits request = Unit {0}

@@ -1,0 +1,172 @@
+//! The lines that change what is there.
+
+ghost use Rattle.std.specs.Prelude.{◌≡◌, ◌≤◌, ◌<◌, ◌+◌, ◌*◌, ◌%◌, ◌/◌, length, List, ℤ, Ok, Err, MatchResult, IfOk};
+ghost use Rattle.number_text.specs.Number.{number, coordinate};
+ghost use Rattle.point_codec.specs.Seen.{coordinates_of};
+ghost use Rattle.script_lang.specs.Parts.{left, IsRead, first_reading_of};
+ghost use Rattle.script_lang.specs.Reading.{read_create, created, read_add, read_delete, read_merge, name_of, alone, greatest_leaf, values_of, points_of};
+ghost use Rattle.script_lang.specs.Seen.{request_of, Agrees};
+
+use crate::commands::{Command, First, Positions};
+use crate::faults::LineFault;
+use crate::numbers::{box_at, number_at, point_at};
+use crate::words::Words;
+use point_codec::{Name, Point, Points};
+use std::alloc::Global;
+
+#[tactic(auto, unfolding(crate::specs::Reading::read_create))]
+/// `DIMS` or `DIMS leaf SIZE`
+pub(crate) fn create(mut words: Words<'_>) -> Result<First, LineFault>
+    requires { words.place ≡ 2 }
+    ensures { first_reading_of result ≡ read_create (left words.entry) }
+{
+    let Some(dims) = words.next() else {
+        return Err(LineFault::Words);
+    };
+    let Some(leaf) = words.next() else {
+        let dims = number_at(dims, 2)?;
+        return created(dims, greatest_leaf(dims));
+    };
+    let Some(size) = words.next() else {
+        return Err(LineFault::Words);
+    };
+    if leaf != b"leaf".as_slice() {
+        return Err(LineFault::Words);
+    }
+    if words.next().is_some() {
+        return Err(LineFault::Words);
+    }
+    let dims = number_at(dims, 2)?;
+    let leaf = number_at(size, 4)?;
+    created(dims, leaf)
+}
+
+/// The greatest leaf size.
+fn greatest_leaf(dims: u32) -> u32
+    ensures { result ≡ greatest_leaf dims }
+{
+    (4_000 / (4 + 4 * u64::from(dims))) as u32
+}
+
+fn created(dims: u32, leaf: u32) -> Result<First, LineFault>
+    ensures { first_reading_of result ≡ created dims leaf }
+{
+    if !(1..=8).contains(&dims) {
+        return Err(LineFault::Dims);
+    }
+    if !(2..=greatest_leaf(dims)).contains(&leaf) {
+        return Err(LineFault::LeafSize);
+    }
+    Ok(First::Create {
+        dims: dims as u8,
+        leaf: leaf as u16,
+    })
+}
+
+#[tactic(auto, unfolding(crate::specs::Reading::read_add))]
+/// The coordinates of 1 to 16 points, point after point.
+pub(crate) fn add<const D: usize>(alloc: Global, words: Words<'_>) -> Result<Command<D>, LineFault>
+    requires some { 1 ≤ D }
+    requires few { D ≤ 8 }
+    requires second { words.place ≡ 2 }
+    ensures { Agrees request_of result (read_add D (left words.entry)) }
+{
+    let count = words.count();
+    if count % D != 0 || count / D < 1 || count / D > 16 {
+        return Err(LineFault::Words);
+    }
+    let points = points_at(alloc, words, count / D)?;
+    Ok(Command::Add(Points::of(points)))
+}
+
+/// So many points, which all words that are left write.
+fn points_at<const D: usize>(alloc: Global, mut words: Words<'_>, count: usize) -> Result<Vec<Point<D>>, LineFault>
+    requires some { 1 ≤ D }
+    requires few { D ≤ 8 }
+    requires all { length (left words) ≡ count * D }
+    ensures points { IsRead (λ points. coordinates_of points.items) result (points_of count D (values_of coordinate words.entry.place (left words.entry))) }
+    ensures count { IfOk result (λ points. length points.items ≡ count) }
+{
+    let mut points = Vec::with_capacity(alloc, count)?;
+    while points.len() < count {
+        points.push(point_at(&mut words)?)?;
+    }
+    Ok(points)
+}
+
+#[tactic(auto, unfolding(crate::specs::Reading::read_delete))]
+/// `NUMBER` or `box LO HI`
+pub(crate) fn delete<const D: usize>(mut words: Words<'_>) -> Result<Command<D>, LineFault>
+    requires some { 1 ≤ D }
+    requires few { D ≤ 8 }
+    requires second { words.place ≡ 2 }
+    ensures { Agrees request_of result (read_delete D (left words.entry)) }
+{
+    let Some(word) = words.next() else {
+        return Err(LineFault::Words);
+    };
+    if word == b"box".as_slice() {
+        let (lo, hi) = box_at(words)?;
+        return Ok(Command::DeleteBox { lo, hi });
+    }
+    if words.next().is_some() {
+        return Err(LineFault::Words);
+    }
+    let doc = number_at(word, 2)?;
+    Ok(Command::Delete(doc))
+}
+
+#[tactic(auto, unfolding(crate::specs::Reading::read_merge))]
+/// Nothing, `begin` with any positions, or `end`
+pub(crate) fn merge<const D: usize>(alloc: Global, mut words: Words<'_>) -> Result<Command<D>, LineFault>
+    requires { words.place ≡ 2 }
+    ensures { Agrees request_of result (read_merge (left words.entry)) }
+{
+    match words.next() {
+        None => Ok(Command::Merge),
+        Some(b"begin") => {
+            let positions = positions_at(alloc, words)?;
+            Ok(Command::MergeBegin(Positions::new(positions)))
+        }
+        Some(b"end") => alone(words, Command::MergeEnd),
+        Some(_) => Err(LineFault::Words),
+    }
+}
+
+/// The numbers that all words that are left write.
+fn positions_at(alloc: Global, mut words: Words<'_>) -> Result<Vec<u32>, LineFault>
+    ensures { IsRead (λ positions. positions.items) result (values_of number words.entry.place (left words.entry)) }
+{
+    let mut positions = Vec::new(alloc);
+    let mut place = words.place;
+    while let Some(word) = words.next() {
+        positions.push(number_at(word, place)?)?;
+        place = words.place;
+    }
+    Ok(positions)
+}
+
+#[tactic(auto, unfolding(crate::specs::Reading::name_of))]
+/// `NAME`, alone
+pub(crate) fn name_at(mut words: Words<'_>) -> Result<Name, LineFault>
+    ensures { MatchResult result (λ name. name_of (left words.entry) ≡ Ok name) (λ f. name_of (left words.entry) ≡ Err f) }
+{
+    let Some(word) = words.next() else {
+        return Err(LineFault::Words);
+    };
+    let name = Name::new(word).ok_or(LineFault::BadName)?;
+    if words.next().is_some() {
+        return Err(LineFault::Words);
+    }
+    Ok(name)
+}
+
+/// A command, where no words are left.
+pub(crate) fn alone<const D: usize>(mut words: Words<'_>, command: Command<D>) -> Result<Command<D>, LineFault>
+    ensures { Agrees request_of result (alone (left words.entry) (request_of command.entry)) }
+{
+    if words.next().is_some() {
+        return Err(LineFault::Words);
+    }
+    Ok(command)
+}

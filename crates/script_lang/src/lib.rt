@@ -1,0 +1,18 @@
+//! The script of the index: what its lines ask, and the texts that answer them.
+#![tactic(auto)]
+
+mod changes;
+pub mod commands;
+pub mod faults;
+mod lines;
+mod numbers;
+mod queries;
+mod reading;
+mod replies;
+mod words;
+
+pub use commands::{Command, First, Positions};
+pub use faults::{LineFault, Memory, Why};
+pub use lines::first_line;
+pub use reading::{read_first, read_line};
+pub use replies::{put_deleted, put_doc, put_hits, put_line_fault, put_near, put_ok, put_why};

@@ -1,0 +1,70 @@
+//! The lines that ask what is there.
+
+ghost use Rattle.std.specs.Prelude.{◌≡◌, ◌≤◌, length, MatchResult, Ok, Err};
+ghost use Rattle.script_lang.specs.Parts.{left};
+ghost use Rattle.script_lang.specs.Reading.{query_of, read_box, read_nearest};
+ghost use Rattle.script_lang.specs.Seen.{viewed, request_of, Agrees};
+
+use crate::commands::Command;
+use crate::faults::LineFault;
+use crate::numbers::{box_at, number_at, point_at};
+use crate::words::Words;
+use point_codec::{Name, View};
+
+#[tactic(auto, unfolding(crate::specs::Reading::query_of))]
+/// `[@NAME]`: what a query looks at.
+fn view_at(words: &mut Words<'_>) -> Result<View, LineFault>
+    requires { words.old.place ≡ 2 }
+    ensures { MatchResult result (λ view. query_of (left words.old) ≡ Ok (record { view = viewed view; place = words.new.place; words = left words.new })) (λ f. query_of (left words.old) ≡ Err f) }
+{
+    let mut behind = *words;
+    match behind.next() {
+        Some([b'@', name @ ..]) => {
+            *words = behind;
+            let name = Name::new(name).ok_or(LineFault::BadName)?;
+            Ok(View::Named(name))
+        }
+        _ => Ok(View::Now),
+    }
+}
+
+#[tactic(auto, unfolding(crate::specs::Reading::read_box))]
+/// `[@NAME] LO HI`
+pub(crate) fn in_box<const D: usize>(mut words: Words<'_>) -> Result<Command<D>, LineFault>
+    requires some { 1 ≤ D }
+    requires few { D ≤ 8 }
+    requires second { words.place ≡ 2 }
+    ensures { Agrees request_of result (read_box D (left words.entry)) }
+{
+    let view = view_at(&mut words)?;
+    let (lo, hi) = box_at(words)?;
+    Ok(Command::InBox { view, lo, hi })
+}
+
+#[tactic(auto, unfolding(crate::specs::Reading::read_nearest))]
+/// `[@NAME] K C1 .. CD`
+pub(crate) fn nearest<const D: usize>(mut words: Words<'_>) -> Result<Command<D>, LineFault>
+    requires some { 1 ≤ D }
+    requires few { D ≤ 8 }
+    requires second { words.place ≡ 2 }
+    ensures { Agrees request_of result (read_nearest D (left words.entry)) }
+{
+    let view = view_at(&mut words)?;
+    let place = words.place;
+    let Some(word) = words.next() else {
+        return Err(LineFault::Words);
+    };
+    if words.count() != D {
+        return Err(LineFault::Words);
+    }
+    let k = number_at(word, place)?;
+    let at = point_at(&mut words)?;
+    if !(1..=10_000).contains(&k) {
+        return Err(LineFault::BadK);
+    }
+    Ok(Command::Nearest {
+        view,
+        k: k as u16,
+        at,
+    })
+}

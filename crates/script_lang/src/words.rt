@@ -1,0 +1,77 @@
+//! A line cut into words, one after the other.
+
+ghost use Rattle.std.specs.Prelude.{◌≡◌, ◌+◌, ◌<◌, ◌≤◌, ◌^◌, ◌∷◌, [], length, MatchOption};
+ghost use Rattle.std.specs.List.{prefix_len, position_or_len};
+ghost use Rattle.script_lang.specs.Lines.{words_of, after_word, is_blank};
+
+/// The first word of a text, and what stands behind it.
+fn first_word(text: &[u8]) -> Option<(&[u8], &[u8])>
+    ensures { MatchOption result (words_of text.now ≡ []) (λ w. (words_of text.now ≡ w.0.now ∷ words_of w.1.now) × (w.1.now ≡ after_word text.now)) }
+{
+    let (_, text) = text.split_at(blanks(text));
+    if text.is_empty() {
+        return None;
+    }
+    Some(text.split_at(word_len(text)))
+}
+
+/// How many blanks stand at the front of a text.
+fn blanks(text: &[u8]) -> usize
+    ensures value { result ≡ prefix_len is_blank text.now }
+    ensures bound { result ≤ length text.now }
+{
+    text.iter().position(|b| !is_blank(*b)).unwrap_or(text.len())
+}
+
+/// How many bytes stand before the first blank of a text.
+fn word_len(text: &[u8]) -> usize
+    ensures value { result ≡ position_or_len is_blank text.now }
+    ensures bound { result ≤ length text.now }
+{
+    text.iter().position(|b| is_blank(*b)).unwrap_or(text.len())
+}
+
+fn is_blank(b: u8) -> bool
+    ensures { result ≡ is_blank b }
+{
+    b == b' ' || b == b'\t'
+}
+
+/// The words of a line that are not read yet.
+#[derive(Clone, Copy)]
+pub(crate) struct Words<'a> {
+    /// The rest of the line.
+    pub(crate) text: &'a [u8],
+    /// The place of the first of the words in the line, counted from 1.
+    pub(crate) place: u32,
+    ghost fits: { place + length (words_of text.now) < 2 ^ 32 },
+}
+
+impl<'a> Words<'a> {
+    ghost use Rattle.script_lang.specs.Parts.{left, Takes};
+
+    /// The next word.
+    pub(crate) fn next(&mut self) -> Option<&'a [u8]>
+        ensures { MatchOption result (left self.old ≡ []) (λ word. Takes word.now self.old self.new) }
+    {
+        let (word, text) = first_word(self.text)?;
+        *self = Words {
+            text,
+            place: self.place + 1,
+        };
+        Some(word)
+    }
+
+    /// How many words there are.
+    pub(crate) fn count(&self) -> usize
+        ensures { result ≡ length (left self.now) }
+    {
+        let mut count = 0;
+        let mut text = self.text;
+        while let Some((_, rest)) = first_word(text) {
+            count += 1;
+            text = rest;
+        }
+        count
+    }
+}
