@@ -11,3 +11,6 @@ pub mod outline;
 pub mod tree;
 
 pub use tree::EdgeTree;
+
+#[cfg(test)]
+mod tests;
