@@ -1,5 +1,5 @@
 -- A body has one set, and a set one body.
-use Rattle.std.proofs.Common.{◌≡◌, ◌<◌, ◌≤◌, ◌+◌, ◌-◌, ℕ, Bool, true, false, List, ◌++◌, length, refl, sym, ap, subst, ◌∙◌, arith, inl, inr, All}
+use Rattle.std.proofs.Common.{◌≡◌, ◌≤◌, ◌+◌, ◌-◌, ℕ, List, ◌++◌, length, sym, ap, ◌∙◌, arith, inl, inr}
 use Rattle.std.proofs.lemmas.Bool.{cases_lt}
 use Rattle.live_bits.specs.LiveSet.{LiveSet, is_live}
 use Rattle.live_bits.specs.LiveBody.{head, is_set, live_in, live_set, AreBits, IsLiveBody}

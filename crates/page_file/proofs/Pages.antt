@@ -1,5 +1,5 @@
 -- Pages as lists: their payload's length, one page a payload, and the page that a payload was written into.
-use Rattle.std.proofs.Common.{◌≡◌, ◌≤◌, ◌+◌, ◌-◌, ℕ, List, [], ◌++◌, length, take, drop, replicate, refl, sym, ap, ◌∙◌, arith, length-append, append_assoc, append-nil}
+use Rattle.std.proofs.Common.{◌≡◌, ◌≤◌, ◌+◌, ◌-◌, ℕ, List, [], ◌++◌, length, take, drop, replicate, sym, ap, ◌∙◌, arith, length-append, append_assoc, append-nil}
 use Rattle.std.proofs.lemmas.List.{length-take, take-append-drop, take_at, drop_at, drop-replicate, take-replicate}
 use Rattle.std.proofs.Math.ListN.{drop_of_length-le}
 use Rattle.std.proofs.Math.Seq.{take-append-add}
@@ -32,6 +32,7 @@ pub sealed_payload : (payload filled new digest : List ℕ) → length payload �
 sealed_payload payload filled new digest fits len e f =
     let front : length (take 4064 filled) ≡ 4064 = omega (arith, length-take 4064 filled) in
     let left : length payload + (4064 - length payload) ≡ 4064 = omega arith in
+    let shorter : 4064 - length payload ≤ 4096 - length payload = omega arith in
     let past : length payload ≡ 0 + length payload = omega arith in
     let zeros : drop (0 + length payload) (replicate 4096 0) ≡ replicate (4096 - length payload) 0 = rw (← past) (drop-replicate (length payload) 4096 0) in
     ap (λ (x : List ℕ). take 4064 x) (f ∙ append_assoc (take 4064 filled) digest (drop (4064 + length digest) filled))
@@ -39,4 +40,4 @@ sealed_payload payload filled new digest fits len e f =
     ∙ ap (λ (x : List ℕ). take 4064 x) (e ∙ ap (λ (x : List ℕ). payload ++ x) zeros)
     ∙ ap (λ (n : ℕ). take n (payload ++ replicate (4096 - length payload) 0)) (sym left)
     ∙ take-append-add payload (replicate (4096 - length payload) 0) (4064 - length payload)
-    ∙ ap (λ (x : List ℕ). payload ++ x) (take-replicate (4064 - length payload) (4096 - length payload) 0 (omega arith))
+    ∙ ap (λ (x : List ℕ). payload ++ x) (take-replicate (4064 - length payload) (4096 - length payload) 0 shorter)

@@ -1,4 +1,4 @@
-use Rattle.std.proofs.Common.{◌≡◌, ◌++◌, ℕ, List, length, arith, sym, ap, ◌∙◌, append_assoc, length-append}
+use Rattle.std.proofs.Common.{◌≡◌, ◌++◌, ℕ, List, length, arith, sym, ap, ◌∙◌}
 use Rattle.byte_cursor.specs.Cursor.{cursor_rest}
 use Rattle.std.proofs.lemmas.List.{append_cancel_left}
 use Rattle.live_bits.proofs.Heads.{name, sizes, head-parts}

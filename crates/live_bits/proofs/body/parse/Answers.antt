@@ -1,4 +1,4 @@
-use Rattle.std.proofs.Common.{arith, refl, sym, ap, ◌∙◌, ◌≡◌, length}
+use Rattle.std.proofs.Common.{arith, refl, sym, ap, ◌∙◌, length}
 use Rattle.live_bits.specs.LiveBody.{head, AreBits}
 use Rattle.live_bits.proofs.Heads.{spelt, bytes_behind, body_of}
 use Rattle.live_bits.proofs.Tally.{sum_ones}

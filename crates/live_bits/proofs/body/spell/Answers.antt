@@ -1,4 +1,4 @@
-use Rattle.std.proofs.Common.{refl, arith, get_or, ◌≡◌, ◌++◌, ℕ, ◌<◌, All}
+use Rattle.std.proofs.Common.{refl, arith, ◌≡◌, ◌++◌, ℕ, ◌<◌, All}
 use Rattle.std.proofs.lemmas.List.Elements.{All-from_get_or}
 use Rattle.live_bits.specs.LiveBody.{head}
 use Rattle.live_bits.proofs.Heads.{body_of}

@@ -1,5 +1,5 @@
-use Rattle.std.proofs.Common.{arith, length, get_or, min, max}
-use Rattle.live_bits.proofs.Reach.{IsReached, reached_more, reached_all}
+use Rattle.std.proofs.Common.{arith}
+use Rattle.live_bits.proofs.Reach.{reached_more, reached_all}
 use Rattle.live_bits.proofs.docs.reach.Goals as goal
 
 pub loop-doc-preserved : goal.loop-doc-preserved

@@ -1,4 +1,4 @@
-use Rattle.std.proofs.Common.{◌≡◌, ap, sym, ◌∙◌, arith, length, take, drop, List, ℕ}
+use Rattle.std.proofs.Common.{ap, ◌∙◌, take, List, ℕ}
 use Rattle.page_file.specs.Page.{page_digest}
 use Rattle.page_file.proofs.Pages.{sealed_page, sealed_payload}
 use Rattle.page_file.proofs.page.seal.Goals as goal

@@ -1,4 +1,4 @@
-use Rattle.std.proofs.Common.{◌≡◌, ◌-◌, ◌≤◌, ◌<◌, ◌+◌, ℕ, List, Bool, true, not, ◌&&◌, nat_eq, sym, ap, subst, ◌∙◌, arith, length}
+use Rattle.std.proofs.Common.{◌-◌, ℕ, List, not, ◌&&◌, nat_eq, sym, ap, subst, ◌∙◌, arith, length}
 use Rattle.std.proofs.lemmas.List.{with_items_is}
 use Rattle.live_bits.specs.LiveSet.{LiveSet, is_live, without}
 use Rattle.live_bits.specs.LiveBody.{is_set, live_set, IsStored}

@@ -1,4 +1,4 @@
-use Rattle.std.proofs.Common.{◌≡◌, ◌-◌, ◌≤◌, ◌<◌, ◌+◌, ℕ, List, sym, ap, ◌∙◌, arith, inl, inr}
+use Rattle.std.proofs.Common.{ℕ, List, sym, ap, ◌∙◌, arith, inl, inr}
 use Rattle.live_bits.specs.LiveSet.{LiveSet, is_live}
 use Rattle.live_bits.specs.LiveBody.{is_set}
 use Rattle.live_bits.proofs.LiveNumbers.{live_inside, live_outside}

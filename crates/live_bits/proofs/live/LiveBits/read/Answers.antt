@@ -1,4 +1,4 @@
-use Rattle.std.proofs.Common.{ap, subst, sym, ◌∙◌, refl}
+use Rattle.std.proofs.Common.{subst, refl}
 use Rattle.live_bits.specs.LiveBody.{HasNoSet}
 use Rattle.live_bits.proofs.live.LiveBits.read.Goals as goal
 
