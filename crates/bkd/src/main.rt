@@ -1,12 +1,11 @@
 //! The program `bkd`: an index of integer points in a folder.
 #![tactic(auto)]
 
+use bkd_top::{Status, code, run, status_line};
+use outer_io::{DirFolder, StdSink, StdSource, write_all};
 use std::io::{Lock, Read};
 use std::process::ExitCode;
 use std::{env, io};
-
-use bkd_top::{Status, code, run, status_line};
-use outer_io::{DirFolder, StdSink, StdSource, write_all};
 
 fn main(rt: HostRuntime) -> ExitCode {
     let status = status_of(&rt);
@@ -43,5 +42,11 @@ fn status_of(rt: &HostRuntime) -> Status {
     };
     let mut input = StdSource::new(rt.stdin().lock());
     let mut output = StdSink::new(rt.stdout().lock());
-    run(alloc, words.as_slice(), &mut input, &mut folder, &mut output)
+    run(
+        alloc,
+        words.as_slice(),
+        &mut input,
+        &mut folder,
+        &mut output,
+    )
 }

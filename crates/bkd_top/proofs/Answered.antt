@@ -16,7 +16,7 @@ use Rattle.bkd_top.specs.Answers.{IsAnswer}
 
 -- a line is answered by what was read of it
 pub answer_is : (line : ℕ) (i : Index) (dims : ℕ) (bytes : List ℕ) (reading : Reading) → i.dims ≡ dims → read (Some dims) bytes ≡ reading
-  → answer line (Some i) bytes ≡ answer_of line (Some i) reading
+    → answer line (Some i) bytes ≡ answer_of line (Some i) reading
 unfolding answer
 answer_is line i dims bytes reading d r = ap (λ n. answer_of line (Some i) (read (Some n) bytes)) d ∙ ap (answer_of line (Some i)) r
 
@@ -36,18 +36,18 @@ by_done line (Done state text) i j old new h = record { answer = record { state 
 by_done line (Refused cause) i j old new h = absurd h
 
 by_refused : (line : ℕ) (o : Outcome) (i j : Index) (old new : List ℕ) (why : Why) → Does o i j old new (Ok (applied.Refused why))
-  → IsRefused (answer_to line (Some i) o) (Some j) old new (why_text line why)
+    → IsRefused (answer_to line (Some i) o) (Some j) old new (why_text line why)
 by_refused line (Done state text) i j old new why h = absurd h
 by_refused line (Refused cause) i j old new why h =
     record { answer = record { state = ap Some (sym h.1); refused = refl }; text = ap (why_text line) (sym h.0); same = h.2 }
 
 pub done_is : (line : ℕ) (i j : Index) (dims : ℕ) (bytes : List ℕ) (request : Request) (old new : List ℕ) → i.dims ≡ dims → read (Some dims) bytes ≡ Says request
-  → Does (step_on i request) i j old new (Ok applied.Done) → IsDone (answer line (Some i) bytes) (Some j) old new
+    → Does (step_on i request) i j old new (Ok applied.Done) → IsDone (answer line (Some i) bytes) (Some j) old new
 done_is line i j dims bytes request old new d r h =
     subst (λ a. IsDone a (Some j) old new) (sym (answer_is line i dims bytes (Says request) d r)) (by_done line (step_on i request) i j old new h)
 
 pub refused_is : (line : ℕ) (i j : Index) (dims : ℕ) (bytes : List ℕ) (request : Request) (old new : List ℕ) (why : Why) → i.dims ≡ dims → read (Some dims) bytes ≡ Says request
-  → Does (step_on i request) i j old new (Ok (applied.Refused why)) → IsRefused (answer line (Some i) bytes) (Some j) old new (why_text line why)
+    → Does (step_on i request) i j old new (Ok (applied.Refused why)) → IsRefused (answer line (Some i) bytes) (Some j) old new (why_text line why)
 refused_is line i j dims bytes request old new why d r h =
     subst (λ a. IsRefused a (Some j) old new (why_text line why)) (sym (answer_is line i dims bytes (Says request) d r)) (by_refused line (step_on i request) i j old new why h)
 
@@ -65,6 +65,7 @@ fault_read request (fault.Number word) reading no' h = h
 fault_read request fault.Dims reading no' h = h
 fault_read request fault.LeafSize reading no' h = h
 fault_read request fault.BadK reading no' h = h
+fault_read request (fault.Geo geo) reading no' h = h
 
 -- a line where no index is there is answered by what was read of it
 pub first_is : (line : ℕ) (bytes : List ℕ) (reading : Reading) → read None bytes ≡ reading → answer line None bytes ≡ answer_of line None reading

@@ -25,16 +25,16 @@ text_append : (line : ℕ) (state : State) (xs ys : List (List ℕ)) → text_of
 text_append line state [] ys = ap (λ n. text_of n state ys) (sym (add-zero line))
 text_append line state (x ∷ xs) ys =
     ap (λ t. (answer line state x).text ++ t)
-      (text_append (line + 1) (answer line state x).state xs ys
-      ∙ ap (λ n. text_of (line + 1) (answer line state x).state xs ++ text_of n (state_after (line + 1) (answer line state x).state xs) ys) (step_length line xs))
+    (text_append (line + 1) (answer line state x).state xs ys
+    ∙ ap (λ n. text_of (line + 1) (answer line state x).state xs ++ text_of n (state_after (line + 1) (answer line state x).state xs) ys) (step_length line xs))
     ∙ sym (append_assoc (answer line state x).text (text_of (line + 1) (answer line state x).state xs) _)
 
 refused_append : (line : ℕ) (state : State) (xs ys : List (List ℕ)) → refused_in line state (xs ++ ys) ≡ refused_in line state xs + refused_in (line + length xs) (state_after line state xs) ys
 refused_append line state [] ys = ap (λ n. refused_in n state ys) (sym (add-zero line)) ∙ sym (zero-add _)
 refused_append line state (x ∷ xs) ys =
     ap (λ r. (answer line state x).refused + r)
-      (refused_append (line + 1) (answer line state x).state xs ys
-      ∙ ap (λ n. refused_in (line + 1) (answer line state x).state xs + refused_in n (state_after (line + 1) (answer line state x).state xs) ys) (step_length line xs))
+    (refused_append (line + 1) (answer line state x).state xs ys
+    ∙ ap (λ n. refused_in (line + 1) (answer line state x).state xs + refused_in n (state_after (line + 1) (answer line state x).state xs) ys) (step_length line xs))
     ∙ sym (add_assoc (answer line state x).refused (refused_in (line + 1) (answer line state x).state xs) _)
 
 module _ {told : Type 0} (a b : Place) (p : Progress told a b) where
@@ -60,13 +60,13 @@ module _ {told : Type 0} (a b : Place) (p : Progress told a b) where
 
   lines_from : (new : List ℕ) → told → WritesLines b new → WritesLines a new
   lines_from new t w = record {
-      done = p.done ++ w.done;
-      rest = w.rest;
-      whole = p.whole ∙ ap (λ ls. p.done ++ ls) w.whole ∙ sym (append_assoc p.done w.done w.rest);
-      grew = w.grew ∙ (λ i. p.text t i ++ text_of (p.line i) (p.state i) w.done)
+    done = p.done ++ w.done;
+    rest = w.rest;
+    whole = p.whole ∙ ap (λ ls. p.done ++ ls) w.whole ∙ sym (append_assoc p.done w.done w.rest);
+    grew = w.grew ∙ (λ i. p.text t i ++ text_of (p.line i) (p.state i) w.done)
         ∙ append_assoc a.written (text_of a.line a.state p.done) (text_of (a.line + length p.done) (state_after a.line a.state p.done) w.done)
         ∙ ap (λ x. a.written ++ x) (sym (text_append a.line a.state p.done w.done));
-    }
+  }
 
   -- what holds at the end from a later place on holds from an earlier one on
   pub ends_text : (end : Status) (new : List ℕ) → EndsLines end → told → Writes b new end → Writes a new end
@@ -93,18 +93,18 @@ module _ {told : Type 0} (a b : Place) (p : Progress told a b) where
 -- no line is done yet
 pub start : {told : Type 0} (a : Place) → Progress told a a
 start a = record {
-    done = [];
-    whole = refl;
-    line = sym (add-zero a.line);
-    state = refl;
-    refused = sym (add-zero a.refused);
-    text = λ t. sym (append-nil a.written);
-  }
+  done = [];
+  whole = refl;
+  line = sym (add-zero a.line);
+  state = refl;
+  refused = sym (add-zero a.refused);
+  text = λ t. sym (append-nil a.written);
+}
 
 -- one more line is done
 pub one_more : {told : Type 0} (a b c : Place) (line : List ℕ) → Progress told a b → b.rest ≡ line ∷ c.rest → c.line ≡ b.line + 1
-  → (answer b.line b.state line).state ≡ c.state → c.refused ≡ b.refused + (answer b.line b.state line).refused
-  → (told → c.written ≡ b.written ++ (answer b.line b.state line).text) → Progress told a c
+    → (answer b.line b.state line).state ≡ c.state → c.refused ≡ b.refused + (answer b.line b.state line).refused
+    → (told → c.written ≡ b.written ++ (answer b.line b.state line).text) → Progress told a c
 one_more a b c line p next number state count text =
     let long : length (p.done ++ line ∷ []) ≡ length p.done + 1 = length-append p.done (line ∷ []) in
     let at : answer (a.line + length p.done) (state_after a.line a.state p.done) line ≡ answer b.line b.state line = (λ i. answer (sym p.line i) (sym p.state i) line) in
@@ -114,11 +114,11 @@ one_more a b c line p next number state count text =
       line = omega (arith, number, p.line, long);
       state = sym state ∙ sym (state_append a.line a.state p.done (line ∷ []) ∙ ap (λ x. x.state) at);
       refused = count ∙ ap (λ r. r + (answer b.line b.state line).refused) p.refused
-        ∙ add_assoc a.refused (refused_in a.line a.state p.done) (answer b.line b.state line).refused
-        ∙ ap (λ r. a.refused + r) (sym (refused_append a.line a.state p.done (line ∷ []) ∙ ap (λ x. refused_in a.line a.state p.done + (x.refused + 0)) at ∙ ap (λ r. refused_in a.line a.state p.done + r) (add-zero _)));
+          ∙ add_assoc a.refused (refused_in a.line a.state p.done) (answer b.line b.state line).refused
+          ∙ ap (λ r. a.refused + r) (sym (refused_append a.line a.state p.done (line ∷ []) ∙ ap (λ x. refused_in a.line a.state p.done + (x.refused + 0)) at ∙ ap (λ r. refused_in a.line a.state p.done + r) (add-zero _)));
       text = λ t. text t ∙ ap (λ w. w ++ (answer b.line b.state line).text) (p.text t)
-        ∙ append_assoc a.written (text_of a.line a.state p.done) (answer b.line b.state line).text
-        ∙ ap (λ w. a.written ++ w) (sym (text_append a.line a.state p.done (line ∷ []) ∙ ap (λ x. text_of a.line a.state p.done ++ (x.text ++ [])) at ∙ ap (λ w. text_of a.line a.state p.done ++ w) (append-nil _)));
+          ∙ append_assoc a.written (text_of a.line a.state p.done) (answer b.line b.state line).text
+          ∙ ap (λ w. a.written ++ w) (sym (text_append a.line a.state p.done (line ∷ []) ∙ ap (λ x. text_of a.line a.state p.done ++ (x.text ++ [])) at ∙ ap (λ w. text_of a.line a.state p.done ++ w) (append-nil _)));
     }
 
 stops_at : (a : Place) (line : List ℕ) (ls : List (List ℕ)) (new : List ℕ) → a.rest ≡ line ∷ ls → WritesPart a.written new (answer a.line a.state line).text → Writes a new status.SinkFault
@@ -138,25 +138,27 @@ ends_refused a none = sym (add-zero a.refused) ∙ ap (λ ls. a.refused + refuse
 
 -- all lines are done
 all_done : {told : Type 0} (a b : Place) → Progress told a b → b.rest ≡ [] → (t : Bool) → (b.refused == 0) ≡ t → (end : Status)
-  → end ≡ cond t status.Done (status.SomeRefused b.refused) → (told → Writes a b.written end) × Counts a end
+    → end ≡ cond t status.Done (status.SomeRefused b.refused) → (told → Writes a b.written end) × Counts a end
 all_done {told} a b p none true zero' end is =
     let zero_is : b.refused ≡ 0 = grind (arith, nat_tests) in
-    subst (λ e. (told → Writes a b.written e) × Counts a e) (sym is)
-      ((λ t. ends_text a b p status.Done b.written tt t (ends_whole b none)),
-        ends_count a b p status.Done tt (sym (ends_refused b none) ∙ zero_is))
+    subst (λ e. (told → Writes a b.written e) × Counts a e) (sym is) (
+      (λ t. ends_text a b p status.Done b.written tt t (ends_whole b none)),
+      ends_count a b p status.Done tt (sym (ends_refused b none) ∙ zero_is),
+    )
 all_done {told} a b p none false some end is =
     let some_is : 0 < b.refused = grind (arith, nat_tests) in
-    subst (λ e. (told → Writes a b.written e) × Counts a e) (sym is)
-      ((λ t. ends_text a b p (status.SomeRefused b.refused) b.written tt t (ends_whole b none)),
-        ends_count a b p (status.SomeRefused b.refused) tt (some_is, ends_refused b none))
+    subst (λ e. (told → Writes a b.written e) × Counts a e) (sym is) (
+      (λ t. ends_text a b p (status.SomeRefused b.refused) b.written tt t (ends_whole b none)),
+      ends_count a b p (status.SomeRefused b.refused) tt (some_is, ends_refused b none),
+    )
 
 pub finished : {told : Type 0} (a b : Place) → Progress told a b → b.rest ≡ [] → (end : Status)
-  → end ≡ (if b.refused == 0 then status.Done else status.SomeRefused b.refused) → (told → Writes a b.written end) × Counts a end
+    → end ≡ (if b.refused == 0 then status.Done else status.SomeRefused b.refused) → (told → Writes a b.written end) × Counts a end
 finished a b p none end is = all_done a b p none (b.refused == 0) refl end is
 
 -- the sink failed in the answer to the next line
 pub sink_stops : {told : Type 0} (a b : Place) → Progress told a b → (line : List ℕ) (ls : List (List ℕ)) (new : List ℕ) → b.rest ≡ line ∷ ls → told
-  → WritesPart b.written new (answer b.line b.state line).text → Writes a new status.SinkFault
+    → WritesPart b.written new (answer b.line b.state line).text → Writes a new status.SinkFault
 sink_stops a b p line ls new next t part = ends_text a b p status.SinkFault new tt t (stops_at b line ls new next part)
 
 -- 1 for a line that is refused

@@ -2,17 +2,14 @@
 
 ghost use Rattle.std.specs.Prelude.{◌≡◌, ◌≤◌, ◌++◌, Some, None, IfOk, IsErrOf, OnErr, IsTrue};
 ghost use Rattle.outer_io.specs.Faults.{Rose};
-
 ghost use Rattle.index_model.specs.Script.{answer};
 ghost use Rattle.bkd_top.specs.Answers.{IsAnswer, IsOpening, IsSent, IsWithin};
 
-use std::alloc::{AllocError, Global};
-
+use crate::status::Memory;
 use index_model::{Applied, ListSession};
 use outer_io::{Sink, write_all};
 use script_lang::{First, LineFault, put_line_fault, put_ok, put_why, read_first, read_line};
-
-use crate::status::Memory;
+use std::alloc::{AllocError, Global};
 
 /// Why a line was not answered.
 #[derive(Clone, Copy, PartialEq, Eq, Debug)]
@@ -79,7 +76,13 @@ fn send<K: Sink>(out: &mut K, reply: &[u8]) -> Result<(), Stop>
 }
 
 /// Reads a line, does what it asks, and appends the answer. True where the line is refused.
-fn reply_to<const D: usize>(alloc: Global, session: &mut ListSession<D>, number: u64, line: &[u8], reply: &mut Vec<u8>) -> Result<bool, Memory>
+fn reply_to<const D: usize>(
+    alloc: Global,
+    session: &mut ListSession<D>,
+    number: u64,
+    line: &[u8],
+    reply: &mut Vec<u8>,
+) -> Result<bool, Memory>
     requires some { 1 ≤ D }
     requires few { D ≤ 8 }
     ensures session { IfOk result (λ refused. IsAnswer (answer number (Some session.old) line.now) (Some session.new) refused) }
@@ -103,7 +106,12 @@ fn reply_to<const D: usize>(alloc: Global, session: &mut ListSession<D>, number:
 }
 
 /// Answers a line where no index is there, and sends the answer.
-pub fn answer_first<K: Sink>(number: u64, line: &[u8], reply: &mut Vec<u8>, out: &mut K) -> Result<Opening, Stop>
+pub fn answer_first<K: Sink>(
+    number: u64,
+    line: &[u8],
+    reply: &mut Vec<u8>,
+    out: &mut K,
+) -> Result<Opening, Stop>
     ensures opening { IfOk result (λ opening. IsOpening (answer number None line.now) opening) }
     ensures limits { IfOk result IsWithin }
     ensures text { IsTrue K.told → IsSent (answer number None line.now).text (K.written out.old) (K.written out.new) result }

@@ -7,14 +7,12 @@ ghost use Rattle.index_model.specs.State.{new_index};
 ghost use Rattle.bkd_top.specs.Progress.{Place};
 ghost use Rattle.bkd_top.specs.Runs.{Writes, Counts, EndsLines};
 
-use std::alloc::Global;
-
+use crate::answers::{Opening, Stop, answer_first, answer_line};
+use crate::status::Status;
 use index_model::ListSession;
 use outer_io::Sink;
 use script_lang::first_line;
-
-use crate::answers::{Opening, Stop, answer_first, answer_line};
-use crate::status::Status;
+use std::alloc::Global;
 
 /// Where a run stands: what is left of the script, the number of the next line, and how many lines were refused.
 #[derive(Clone, Copy)]
@@ -41,8 +39,22 @@ pub fn run_first<K: Sink>(alloc: Global, script: &[u8], out: &mut K) -> Status
         let (text, behind) = first_line(rest);
         rest = behind;
         match answer_first(line, text, &mut reply, out) {
-            Ok(Opening::Nothing { refused: is_refused }) => refused += u64::from(is_refused),
-            Ok(Opening::Made { dims, leaf }) => return run_dims(alloc, dims, leaf, Script { rest, line: line + 1, refused }, out),
+            Ok(
+                Opening::Nothing {
+                    refused: is_refused,
+                },
+            ) => refused += u64::from(is_refused),
+            Ok(Opening::Made { dims, leaf }) => return run_dims(
+                alloc,
+                dims,
+                leaf,
+                Script {
+                    rest,
+                    line: line + 1,
+                    refused,
+                },
+                out,
+            ),
             Err(Stop::SinkFault) => return Status::SinkFault,
             Err(Stop::Memory) => return Status::Memory,
         }
@@ -76,7 +88,12 @@ fn run_dims<K: Sink>(alloc: Global, dims: u8, leaf: u16, script: Script<'_>, out
 }
 
 /// Does the lines that are left on an index.
-fn run_made<const D: usize, K: Sink>(alloc: Global, session: ListSession<D>, script: Script<'_>, out: &mut K) -> Status
+fn run_made<const D: usize, K: Sink>(
+    alloc: Global,
+    session: ListSession<D>,
+    script: Script<'_>,
+    out: &mut K,
+) -> Status
     requires some { 1 ≤ D }
     requires few { D ≤ 8 }
     requires lines { script.line + length script.rest.now < 2 ^ 64 }

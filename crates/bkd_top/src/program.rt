@@ -8,12 +8,10 @@ ghost use Rattle.bkd_top.specs.Progress.{Place};
 ghost use Rattle.bkd_top.specs.Runs.{Writes, Counts, GoesOn, IsFinished, LeavesFolder};
 ghost use Rattle.bkd_top.specs.Words.{is_run};
 
-use std::alloc::Global;
-
-use outer_io::{FileName, Folder, ReadAll, Sink, Source, read_all};
-
 use crate::lines::run_first;
 use crate::status::Status;
+use outer_io::{FileName, Folder, ReadAll, Sink, Source, read_all};
+use std::alloc::Global;
 
 /// The greatest input, in bytes.
 pub const MAX_INPUT: u64 = 536_870_912;
@@ -24,7 +22,13 @@ pub const MAX_INPUT: u64 = 536_870_912;
 /// **The headline.** Where no index is in the folder, what is written is, line for line, what a scan of the live documents
 /// answers to the script's adds, deletes and queries, and the status is Done, or SomeRefused with the number of the refused
 /// lines, whichever call failed.
-pub fn run<S: Source, F: Folder, K: Sink>(alloc: Global, words: &[String], input: &mut S, folder: &mut F, out: &mut K) -> Status
+pub fn run<S: Source, F: Folder, K: Sink>(
+    alloc: Global,
+    words: &[String],
+    input: &mut S,
+    folder: &mut F,
+    out: &mut K,
+) -> Status
     // the words are none of a command, or an index is there: it cannot be opened yet
     ensures usage { is_run words.now ≡ false → result ≡ Status.Usage }
     ensures only_usage { IsTrue F.told → result ≡ Status.Usage → (is_run words.now ≡ false) ⊎ (F.files folder.old Commit ≢ None) }
@@ -50,7 +54,12 @@ pub fn run<S: Source, F: Folder, K: Sink>(alloc: Global, words: &[String], input
 }
 
 /// The command `run`, which is `run` without its words.
-pub fn run_script<S: Source, F: Folder, K: Sink>(alloc: Global, input: &mut S, folder: &mut F, out: &mut K) -> Status
+pub fn run_script<S: Source, F: Folder, K: Sink>(
+    alloc: Global,
+    input: &mut S,
+    folder: &mut F,
+    out: &mut K,
+) -> Status
     ensures only_usage { IsTrue F.told → result ≡ Status.Usage → F.files folder.old Commit ≢ None }
     ensures there { IsTrue F.told → F.files folder.old Commit ≢ None → GoesOn result → ⊥ }
     ensures text { IsTrue S.told → IsTrue K.told → Writes (record { line = 1; refused = 0; state = None; rest = lines_of (S.left input.old); written = K.written out.old }) (K.written out.new) result }

@@ -3,9 +3,8 @@
 ghost use Rattle.std.specs.Prelude.{◌≡◌, ◌++◌, OnOk, OnErr, take, length, codes, decimal};
 ghost use Rattle.bkd_top.specs.Texts.{line_of, number_of};
 
-use std::alloc::AllocError;
-
 use itoa::Buffer;
+use std::alloc::AllocError;
 
 /// Want of memory.
 pub type Memory = AllocError;

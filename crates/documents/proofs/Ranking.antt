@@ -29,7 +29,7 @@ same_ties m n = both_tied _ _ _ _ (unsigned_ties m.dist2 n.dist2) (unsigned_ties
 
 -- sorted, rid of repetitions and cut, they are the first in order
 pub ranked : (k : ℕ) (xs ys : List Near) → IsPermutation xs ys → IsSorted (λ m n. nearer (pair_of m) (pair_of n)) ys
-  → found_of (take k (dedup same_near ys)) ≡ take k (in_order nearer (found_of xs))
+    → found_of (take k (dedup same_near ys)) ≡ take k (in_order nearer (found_of xs))
 ranked k xs ys moved sorted =
     sym (take-map pair_of k (dedup same_near ys))
     ∙ ap (take k) (sorted_and_dedup pair_of nearer nearer_total nearer_exact same_near same_ties xs ys moved sorted).1

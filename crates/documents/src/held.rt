@@ -4,10 +4,9 @@ ghost use Rattle.std.specs.Prelude.{◌≡◌, ◌≤◌, IfOk};
 ghost use Rattle.point_codec.specs.Points.{ArePoints};
 ghost use Rattle.point_codec.specs.Seen.{coordinates_of};
 
+use point_codec::{Point, Points};
 use std::alloc::{AllocError, Global};
 use std::marker::Model;
-
-use point_codec::{Point, Points};
 
 /// Want of memory.
 pub type Memory = AllocError;

@@ -6,15 +6,17 @@ ghost use Rattle.point_codec.specs.Seen.{coordinates_of};
 ghost use Rattle.documents.specs.Documents.{hits};
 ghost use Rattle.documents.specs.Nearest.{distance, distances, nearest, found_of};
 
-use std::alloc::Global;
-
+use crate::held::{HeldDocument, Memory};
 use cell_relate::Shape;
 use point_codec::{Near, Point};
-
-use crate::held::{HeldDocument, Memory};
+use std::alloc::Global;
 
 /// The numbers of the documents of which the shape has a point, in the list's order.
-pub fn scan_hits<const D: usize, S: Shape<D>>(alloc: Global, docs: &[HeldDocument<D>], shape: &mut S) -> Result<Vec<u32>, Memory>
+pub fn scan_hits<const D: usize, S: Shape<D>>(
+    alloc: Global,
+    docs: &[HeldDocument<D>],
+    shape: &mut S,
+) -> Result<Vec<u32>, Memory>
     requires { D ≤ 8 }
     ensures hits { IfOk result (λ v. v.items ≡ hits (S.has shape.old) docs.now) }
     ensures has { S.has shape.new ≡ S.has shape.old }
@@ -42,7 +44,12 @@ pub fn has_some<const D: usize, S: Shape<D>>(shape: &mut S, points: &[Point<D>])
 }
 
 /// The `k` documents that are nearest to a point, by the least squared distance of their points and then by number.
-pub fn scan_nearest<const D: usize>(alloc: Global, docs: &[HeldDocument<D>], at: &Point<D>, k: u16) -> Result<Vec<Near>, Memory>
+pub fn scan_nearest<const D: usize>(
+    alloc: Global,
+    docs: &[HeldDocument<D>],
+    at: &Point<D>,
+    k: u16,
+) -> Result<Vec<Near>, Memory>
     requires { D ≤ 8 }
     ensures { IfOk result (λ v. found_of v.items ≡ nearest k at.now.c docs.now) }
 {
@@ -55,7 +62,11 @@ pub fn scan_nearest<const D: usize>(alloc: Global, docs: &[HeldDocument<D>], at:
 }
 
 /// Each document with its distance from a point.
-fn distances<const D: usize>(alloc: Global, docs: &[HeldDocument<D>], at: &Point<D>) -> Result<Vec<Near>, Memory>
+fn distances<const D: usize>(
+    alloc: Global,
+    docs: &[HeldDocument<D>],
+    at: &Point<D>,
+) -> Result<Vec<Near>, Memory>
     requires { D ≤ 8 }
     ensures { IfOk result (λ v. found_of v.items ≡ distances at.now.c docs.now) }
 {

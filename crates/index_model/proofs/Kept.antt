@@ -10,9 +10,9 @@ use Rattle.index_model.specs.Sessions.{AreGiven}
 kept_fewer : {X : Type 0} (test : X → Bool) (xs : List X) → length (filter test xs) ≤ length xs
 kept_fewer test [] = omega arith
 kept_fewer test (x ∷ xs) = elim (test x) as (λ b. length (cond b (x ∷ filter test xs) (filter test xs)) ≤ suc (length xs)) [
-    | true ↦ omega (arith, kept_fewer test xs)
-    | false ↦ omega (arith, kept_fewer test xs)
-  ]
+  | true ↦ omega (arith, kept_fewer test xs)
+  | false ↦ omega (arith, kept_fewer test xs)
+]
 
 pub still_given : (next given : ℕ) (docs : List Document) (test : Document → Bool) → AreGiven next given docs → AreGiven next given (filter test docs)
 still_given next given docs test h = record { fewer = h.fewer; limit = h.limit; docs = omega (arith, h.docs, kept_fewer test docs) }

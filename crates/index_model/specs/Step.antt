@@ -1,5 +1,5 @@
 -- What one request answers and leaves, over one list of documents: each answer is that list filtered or ordered.
-use Rattle.std.specs.Prelude.{ℕ, ◌+◌, ◌^◌, Bool, true, false, not, if◌then◌else◌, nat_lt, nat_le, List, [], ◌∷◌, ◌++◌, map, filter, length, Option, None, Some, is_some, ℤ}
+use Rattle.std.specs.Prelude.{ℕ, ◌+◌, ◌^◌, Bool, true, false, not, ◌&&◌, ◌==◌, if◌then◌else◌, nat_lt, nat_le, List, [], ◌∷◌, ◌++◌, map, filter, length, Option, None, Some, is_some, ℤ}
 use Rattle.std.specs.Str.{bytes_eq}
 use Rattle.point_codec.specs.Points.{in_box}
 use Rattle.ring_parity.specs.Rings.{in_polygon}
@@ -31,8 +31,8 @@ abbrev pub added : List (List ℤ) → Index → Outcome
 added points i =
     if nat_lt (2 ^ 24) (i.given + length points) then Refused why.Full
     else Done
-      (Some (record i { next = i.next + 1; given = i.given + length points; docs = i.docs ++ record { number = i.next; points = points } ∷ [] }))
-      (doc_text i.next)
+    (Some (record i { next = i.next + 1; given = i.given + length points; docs = i.docs ++ record { number = i.next; points = points } ∷ [] }))
+    (doc_text i.next)
 
 -- the live documents are kept under a name that no snapshot has, where fewer than 16 are there
 abbrev pub snapped : List ℕ → Index → Outcome
@@ -48,6 +48,10 @@ released name i =
     then fine (record i { snapshots = filter (λ s. not (bytes_eq s.name name)) i.snapshots })
     else Refused why.UnknownSnapshot
 
+-- p is in the polygon of these rings; in other than two dimensions no point is
+abbrev pub in_plane_polygon : ℕ → List (List (List ℤ)) → List ℤ → Bool
+in_plane_polygon dims rings p = dims == 2 && in_polygon rings p
+
 -- what a request does on an index
 unfoldable pub step_on : Index → Request → Outcome
 step_on i asks.Blank = Done (Some i) []
@@ -58,7 +62,7 @@ step_on i (asks.DeleteBox lo hi) =
     let test = in_box (record { lo = lo; hi = hi }) in
     Done (Some (record i { docs = without test i.docs })) (deleted_text (length (hits test i.docs)))
 step_on i (asks.InBox view lo hi) = answered i (viewed_docs view i) (λ docs. hits_text (hits (in_box (record { lo = lo; hi = hi })) docs))
-step_on i (asks.InPolygon view rings) = answered i (viewed_docs view i) (λ docs. hits_text (hits (in_polygon rings) docs))
+step_on i (asks.InPolygon view rings) = answered i (viewed_docs view i) (λ docs. hits_text (hits (in_plane_polygon i.dims rings) docs))
 step_on i (asks.Nearest view k target) =
     answered i (viewed_docs view i) (λ docs. near_text (map (λ found. (found.1, found.0)) (nearest k target docs)))
 step_on i asks.Flush = fine i

@@ -8,11 +8,10 @@ ghost use Rattle.point_codec.specs.Seen.{coordinates_of};
 ghost use Rattle.documents.specs.Documents.{Document, hits, passes, without, is_live, deleted};
 ghost use Rattle.index_model.specs.State.{Snapshot, snapshot_of};
 
-use std::alloc::Global;
-use std::marker::Model;
-
 use documents::{HeldDocument, Memory};
 use point_codec::{Name, Point, all_le};
+use std::alloc::Global;
+use std::marker::Model;
 
 /// A snapshot in memory. It owns what it shows.
 #[derive(Drop)]
@@ -31,7 +30,11 @@ impl<const D: usize> Model for HeldSnapshot<D> {
 
 impl<const D: usize> HeldSnapshot<D> {
     /// A snapshot of these documents.
-    pub fn of(alloc: Global, name: Name, docs: &[HeldDocument<D>]) -> Result<HeldSnapshot<D>, Memory>
+    pub fn of(
+        alloc: Global,
+        name: Name,
+        docs: &[HeldDocument<D>],
+    ) -> Result<HeldSnapshot<D>, Memory>
         requires { D ≤ 8 }
         ensures { IfOk result (λ s. s ≡ record { name = name; docs = docs.now }) }
     {
@@ -58,7 +61,10 @@ impl<const D: usize> HeldSnapshot<D> {
 }
 
 /// The same documents once more.
-fn copy_all<const D: usize>(alloc: Global, docs: &[HeldDocument<D>]) -> Result<Vec<HeldDocument<D>>, Memory>
+fn copy_all<const D: usize>(
+    alloc: Global,
+    docs: &[HeldDocument<D>],
+) -> Result<Vec<HeldDocument<D>>, Memory>
     requires { D ≤ 8 }
     ensures { IfOk result (λ v. v.items ≡ docs.now) }
 {
@@ -70,7 +76,10 @@ fn copy_all<const D: usize>(alloc: Global, docs: &[HeldDocument<D>]) -> Result<V
 }
 
 /// The snapshot of this name.
-pub fn snapshot_of<'a, const D: usize>(snapshots: &'a [HeldSnapshot<D>], name: &Name) -> Option<&'a HeldSnapshot<D>>
+pub fn snapshot_of<'a, const D: usize>(
+    snapshots: &'a [HeldSnapshot<D>],
+    name: &Name,
+) -> Option<&'a HeldSnapshot<D>>
     ensures { MatchOption result (snapshot_of name.now snapshots.now ≡ None) (λ s. snapshot_of name.now snapshots.now ≡ Some s.now) }
 {
     for snapshot in snapshots {
@@ -85,9 +94,11 @@ pub fn snapshot_of<'a, const D: usize>(snapshots: &'a [HeldSnapshot<D>], name: &
 pub fn release<const D: usize>(snapshots: &mut Vec<HeldSnapshot<D>>, name: &Name)
     ensures { snapshots.new.items ≡ filter (λ s. not (bytes_eq s.name name.now)) snapshots.old.items }
 {
-    snapshots.retain(|snapshot| -> bool
-        ensures { result ≡ not (bytes_eq snapshot.now.name name.entry.now) }
-    { !snapshot.is_named(name) });
+    snapshots.retain(
+        |snapshot| -> bool
+            ensures { result ≡ not (bytes_eq snapshot.now.name name.entry.now) }
+        { !snapshot.is_named(name) },
+    );
 }
 
 /// Whether a document has this number.
@@ -106,9 +117,11 @@ pub fn is_live<const D: usize>(docs: &[HeldDocument<D>], number: u32) -> bool
 pub fn delete<const D: usize>(docs: &mut Vec<HeldDocument<D>>, number: u32)
     ensures { docs.new.items ≡ deleted number docs.old.items }
 {
-    docs.retain(|doc| -> bool
-        ensures { result ≡ not (nat_eq doc.now.number number) }
-    { doc.number() != number });
+    docs.retain(
+        |doc| -> bool
+            ensures { result ≡ not (nat_eq doc.now.number number) }
+        { doc.number() != number },
+    );
 }
 
 /// Takes the documents with a point in the box out.
@@ -116,9 +129,11 @@ pub fn delete_in<const D: usize>(docs: &mut Vec<HeldDocument<D>>, lo: &Point<D>,
     requires { D ≤ 8 }
     ensures { docs.new.items ≡ without (in_box (record { lo = lo.now.c; hi = hi.now.c })) docs.old.items }
 {
-    docs.retain(|doc| -> bool
-        ensures { result ≡ not (passes (in_box (record { lo = lo.entry.now.c; hi = hi.entry.now.c })) doc.now) }
-    { !has_point_in(doc.points(), lo, hi) });
+    docs.retain(
+        |doc| -> bool
+            ensures { result ≡ not (passes (in_box (record { lo = lo.entry.now.c; hi = hi.entry.now.c })) doc.now) }
+        { !has_point_in(doc.points(), lo, hi) },
+    );
 }
 
 /// Whether one of the points lies in the box.

@@ -8,15 +8,15 @@ ghost use Rattle.script_lang.specs.Seen.{request_of, viewed};
 ghost use Rattle.index_model.specs.State.{Index, new_index, viewed_docs};
 ghost use Rattle.index_model.specs.Step.{Outcome, Done, step_on, added, snapped, released, fine, answered};
 
+use crate::held::{HeldSnapshot, delete, delete_in, is_live, release, snapshot_of};
+use cell_relate::{BoxShape, Shape};
+use documents::{HeldDocument, Memory, scan_hits, scan_nearest};
+use point_codec::{Name, Point, Points, View};
+use polygon_query::PolygonShape;
+use ring_parity::Rings;
+use script_lang::{Command, Why, put_deleted, put_doc, put_hits, put_near, put_ok};
 use std::alloc::Global;
 use std::marker::Model;
-
-use documents::{HeldDocument, Memory, scan_hits, scan_nearest};
-use cell_relate::{BoxShape, Shape};
-use point_codec::{Name, Point, Points, View};
-use script_lang::{Command, Why, put_deleted, put_doc, put_hits, put_near, put_ok};
-
-use crate::held::{HeldSnapshot, delete, delete_in, is_live, release, snapshot_of};
 
 /// What became of a command.
 #[derive(Clone, Copy, PartialEq, Eq, Debug)]
@@ -79,7 +79,12 @@ impl<const D: usize> ListSession<D> {
 
     /// Does what a command asks, and appends the answer to `out`. A refused command changes neither the session nor `out`.
     /// For want of memory the session is as before, and what was appended is not to be used.
-    pub fn apply(&mut self, alloc: Global, c: &Command<D>, out: &mut Vec<u8>) -> Result<Applied, Memory>
+    pub fn apply(
+        &mut self,
+        alloc: Global,
+        c: &Command<D>,
+        out: &mut Vec<u8>,
+    ) -> Result<Applied, Memory>
         requires { D ≤ 8 }
         ensures { Does (step_on self.old (request_of c.now)) self.old self.new out.old.items out.new.items result }
     {
@@ -89,7 +94,13 @@ impl<const D: usize> ListSession<D> {
             Command::Add(points) => self.add(alloc, points, out),
             Command::Delete(doc) => self.delete(*doc, out),
             Command::DeleteBox { lo, hi } => self.delete_in(alloc, lo, hi, out),
-            Command::InBox { view, lo, hi } => self.find(alloc, view, &mut BoxShape::new(*lo, *hi), out),
+            Command::InBox { view, lo, hi } => self.find(
+                alloc,
+                view,
+                &mut BoxShape::new(*lo, *hi),
+                out,
+            ),
+            Command::Polygon { view, rings } => self.find_in(alloc, view, rings, out),
             Command::Nearest { view, k, at } => self.nearest(alloc, view, *k, at, out),
             Command::Flush => fine(out),
             Command::Merge => fine(out),
@@ -102,7 +113,12 @@ impl<const D: usize> ListSession<D> {
         }
     }
 
-    fn add(&mut self, alloc: Global, points: &Points<D>, out: &mut Vec<u8>) -> Result<Applied, Memory>
+    fn add(
+        &mut self,
+        alloc: Global,
+        points: &Points<D>,
+        out: &mut Vec<u8>,
+    ) -> Result<Applied, Memory>
         requires { D ≤ 8 }
         ensures { Does (added points.now self.old) self.old self.new out.old.items out.new.items result }
     {
@@ -111,7 +127,8 @@ impl<const D: usize> ListSession<D> {
             return Ok(Applied::Refused(Why::Full));
         }
         put_doc(out, self.next)?;
-        self.docs.push(HeldDocument::new(alloc, self.next, points)?)?;
+        self.docs
+            .push(HeldDocument::new(alloc, self.next, points)?)?;
         self.next += 1;
         self.given += count;
         Ok(Applied::Done)
@@ -126,7 +143,13 @@ impl<const D: usize> ListSession<D> {
         Ok(Applied::Done)
     }
 
-    fn delete_in(&mut self, alloc: Global, lo: &Point<D>, hi: &Point<D>, out: &mut Vec<u8>) -> Result<Applied, Memory>
+    fn delete_in(
+        &mut self,
+        alloc: Global,
+        lo: &Point<D>,
+        hi: &Point<D>,
+        out: &mut Vec<u8>,
+    ) -> Result<Applied, Memory>
         requires { D ≤ 8 }
         ensures { Does (step_on self.old (asks.DeleteBox lo.now.c hi.now.c)) self.old self.new out.old.items out.new.items result }
     {
@@ -150,7 +173,13 @@ impl<const D: usize> ListSession<D> {
         }
     }
 
-    fn find<S: Shape<D>>(&self, alloc: Global, view: &View, shape: &mut S, out: &mut Vec<u8>) -> Result<Applied, Memory>
+    fn find<S: Shape<D>>(
+        &self,
+        alloc: Global,
+        view: &View,
+        shape: &mut S,
+        out: &mut Vec<u8>,
+    ) -> Result<Applied, Memory>
         requires { D ≤ 8 }
         ensures { Does (answered self.now (viewed_docs (viewed view.now) self.now) (λ docs. hits_text (hits (S.has shape.old) docs)))
             self.now self.now out.old.items out.new.items result }
@@ -162,7 +191,29 @@ impl<const D: usize> ListSession<D> {
         Ok(Applied::Done)
     }
 
-    fn nearest(&self, alloc: Global, view: &View, k: u16, at: &Point<D>, out: &mut Vec<u8>) -> Result<Applied, Memory>
+    fn find_in(
+        &self,
+        alloc: Global,
+        view: &View,
+        rings: &Rings,
+        out: &mut Vec<u8>,
+    ) -> Result<Applied, Memory>
+        requires { D ≤ 8 }
+        ensures { Does (step_on self.now (asks.InPolygon (viewed view.now) rings.now)) self.now self.now out.old.items out.new.items result }
+    {
+        let _ = &self.leaf;
+        let mut shape = PolygonShape::new(alloc, rings)?;
+        self.find(alloc, view, &mut shape, out)
+    }
+
+    fn nearest(
+        &self,
+        alloc: Global,
+        view: &View,
+        k: u16,
+        at: &Point<D>,
+        out: &mut Vec<u8>,
+    ) -> Result<Applied, Memory>
         requires { D ≤ 8 }
         ensures { Does (step_on self.now (asks.Nearest (viewed view.now) k at.now.c)) self.now self.now out.old.items out.new.items result }
     {
@@ -206,7 +257,8 @@ impl<const D: usize> ListSession<D> {
             return Ok(Applied::Refused(Why::TooManySnapshots));
         }
         put_ok(out)?;
-        self.snapshots.push(HeldSnapshot::of(alloc, *name, self.docs.as_slice())?)?;
+        self.snapshots
+            .push(HeldSnapshot::of(alloc, *name, self.docs.as_slice())?)?;
         Ok(Applied::Done)
     }
 

@@ -215,4 +215,3 @@ pub polygon_answer : (rings : List (List (List ℤ))) (cell : Region) → ArePol
     → (p q : List ℤ) → in_box cell p ≡ true → in_box cell q ≡ true → in_polygon rings p ≡ in_polygon rings q
 polygon_answer rings cell polygon none =
     one_answer (all_edges rings) cell (AreClosed-all_edges rings (All-weaker IsLinearRing IsClosed (λ ring h. h.closed) rings polygon.linear)) none
-

@@ -5,3 +5,4 @@ pub mod Values
 pub mod ReadPoints
 pub mod Limits
 pub mod Said
+pub mod Boundaries

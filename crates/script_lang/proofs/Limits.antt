@@ -3,9 +3,11 @@ use Rattle.std.proofs.Common.{◌≡◌, ℕ, ◌+◌, ◌*◌, ◌/◌, ◌<◌
 use Rattle.std.specs.Prelude.{◌≢◌, not, ok_or, nat_le, ◌&&◌, IfOk}
 use Rattle.std.proofs.lemmas.Bool.Decides.{nat_tests}
 use Rattle.number_text.specs.Number.{number, coordinate}
+use Rattle.polygon_query.specs.GeoJson.{polygon_of}
+use Rattle.polygon_query.specs.declared.geo_json.GeoFault.{GeoFault}
 use Rattle.script_lang.specs.Requests.{Request}
 use Rattle.script_lang.specs.Requests as asks
-use Rattle.script_lang.specs.Reading.{Reading, Says, Fails, greatest_leaf, is_from_to, given, value_of, values_of, onto_values, points_of, corners_of, box_of, Query, query_of, name_of, alone, created, read_create, read_add, read_delete, read_box, nearest_of, read_nearest, read_merge, read_command, text_of}
+use Rattle.script_lang.specs.Reading.{Reading, Says, Fails, greatest_leaf, is_from_to, given, value_of, values_of, onto_values, points_of, corners_of, box_of, Query, query_of, name_of, alone, created, read_create, read_add, read_delete, read_box, nearest_of, read_nearest, behind_view, polygon_fault, rings_of, read_polygon, read_merge, read_command, text_of}
 use Rattle.script_lang.specs.Seen.{IsWithinLimits, Agrees, request_of, first_request_of}
 use Rattle.script_lang.specs.Parts.{first_reading_of}
 use Rattle.script_lang.specs.declared.commands.Command.{Command}
@@ -105,10 +107,12 @@ created_if d l dims leaf = cond (not d) (Fails fault.Dims) (cond (not l) (Fails 
 created_fine : (dims leaf : ℕ) → IsFine (created dims leaf)
 created_fine dims leaf =
     elim (is_from_to 1 8 dims) as (λ t. is_from_to 1 8 dims ≡ t → IsFine (created_if t (is_from_to 2 (greatest_leaf dims) leaf) dims leaf)) [
-        true ↦ λ d. elim (is_from_to 2 (greatest_leaf dims) leaf) as (λ t. is_from_to 2 (greatest_leaf dims) leaf ≡ t → IsFine (created_if true t dims leaf)) [
-            true ↦ λ l. says (asks.Create dims leaf) (grind (arith, nat_tests), grind (arith, nat_tests), grind (arith, nat_tests), grind (arith, nat_tests))
-          | false ↦ λ l. fails fault.LeafSize (λ e. cc) ] refl
-      | false ↦ λ d. fails fault.Dims (λ e. cc) ] refl
+      | true ↦ λ d. elim (is_from_to 2 (greatest_leaf dims) leaf) as (λ t. is_from_to 2 (greatest_leaf dims) leaf ≡ t → IsFine (created_if true t dims leaf)) [
+        | true ↦ λ l. says (asks.Create dims leaf) (grind (arith, nat_tests), grind (arith, nat_tests), grind (arith, nat_tests), grind (arith, nat_tests))
+        | false ↦ λ l. fails fault.LeafSize (λ e. cc)
+      ] refl
+      | false ↦ λ d. fails fault.Dims (λ e. cc)
+    ] refl
 
 create_fine : (words : List (List ℕ)) → IsFine (read_create words)
 unfolding read_create
@@ -136,8 +140,9 @@ box_fine dims words = given_fine (query_part words) (λ q. given_fine (box_part 
 k_fine : (view : asks.Viewed) (k : ℕ) (cs : List ℤ) → IsFine (cond (is_from_to 1 10000 k) (Says (asks.Nearest view k cs)) (Fails fault.BadK))
 k_fine view k cs =
     elim (is_from_to 1 10000 k) as (λ t. is_from_to 1 10000 k ≡ t → IsFine (cond t (Says (asks.Nearest view k cs)) (Fails fault.BadK))) [
-        true ↦ λ t. says (asks.Nearest view k cs) (grind (arith, nat_tests), grind (arith, nat_tests))
-      | false ↦ λ t. fails fault.BadK (λ e. cc) ] refl
+      | true ↦ λ t. says (asks.Nearest view k cs) (grind (arith, nat_tests), grind (arith, nat_tests))
+      | false ↦ λ t. fails fault.BadK (λ e. cc)
+    ] refl
 
 nearest_of_fine : (dims : ℕ) (view : asks.Viewed) (place : ℕ) (words : List (List ℕ)) → IsFine (nearest_of dims view place words)
 nearest_of_fine dims view place [] = wrong
@@ -148,32 +153,46 @@ nearest_fine : (dims : ℕ) (words : List (List ℕ)) → IsFine (read_nearest d
 unfolding read_nearest
 nearest_fine dims words = given_fine (query_part words) (λ q. nearest_of_fine dims q.view q.place q.words)
 
+fault_part : {X : Type 0} (read : Result X GeoFault) → IsPart (polygon_fault read)
+fault_part (Ok x) = there x
+fault_part (Err f) = not_there (fault.Geo f) (λ e. cc)
+
+rings_part : (words : List (List ℕ)) (text : List ℕ) → IsPart (rings_of words text)
+rings_part [] text = not_there fault.Words (λ e. cc)
+rings_part (w ∷ ws) text = fault_part (polygon_of text)
+
+polygon_fine : (dims : ℕ) (words : List (List ℕ)) (text : List ℕ) → IsFine (read_polygon dims words text)
+unfolding read_polygon
+polygon_fine dims words text =
+    given_fine (query_part words) (λ q.
+    if_fine _ (given_fine (rings_part q.words (behind_view q.view text)) (λ rings. says (asks.InPolygon q.view rings) tt)) (fails fault.NotTwo (λ e. cc)))
+
 merge_fine : (words : List (List ℕ)) → IsFine (read_merge words)
 unfolding read_merge
 merge_fine [] = says _ tt
 merge_fine (w ∷ ws) = if_fine _ (given_fine (values_part number 3 ws) (λ ps. says _ tt)) (if_fine _ (alone_fine ws asks.MergeEnd tt) wrong)
 
-command_fine : (dims : ℕ) (verb : List ℕ) (words : List (List ℕ)) → IsFine (read_command dims verb words)
+command_fine : (dims : ℕ) (verb : List ℕ) (words : List (List ℕ)) (rest : List ℕ) → IsFine (read_command dims verb words rest)
 unfolding read_command
-command_fine dims verb words =
+command_fine dims verb words rest =
     if_fine _ (create_fine words) (if_fine _ (add_fine dims words) (if_fine _ (delete_fine dims words) (if_fine _ (box_fine dims words)
-    (if_fine _ (nearest_fine dims words) (if_fine _ (alone_fine words asks.Flush tt) (if_fine _ (merge_fine words)
+    (if_fine _ (polygon_fine dims words rest) (if_fine _ (nearest_fine dims words) (if_fine _ (alone_fine words asks.Flush tt) (if_fine _ (merge_fine words)
     (if_fine _ (given_fine (name_part words) (λ n. says (asks.Snapshot n) tt)) (if_fine _ (given_fine (name_part words) (λ n. says (asks.Release n) tt))
-    (if_fine _ (alone_fine words asks.Commit tt) (if_fine _ (alone_fine words asks.Reopen tt) (fails fault.Unknown (λ e. cc))))))))))))
+    (if_fine _ (alone_fine words asks.Commit tt) (if_fine _ (alone_fine words asks.Reopen tt) (fails fault.Unknown (λ e. cc)))))))))))))
 
 -- what a command that was read asks is within the limits
-pub command_within : {D : ℕ} (result : Result (Command D) LineFault) (dims : ℕ) (verb : List ℕ) (words : List (List ℕ))
-  → Agrees request_of result (read_command dims verb words) → IfOk result (λ command. IsWithinLimits (request_of command))
-command_within (Ok command) dims verb words e = (subst IsFine e (command_fine dims verb words)).within
-command_within (Err f) dims verb words e = tt
+pub command_within : {D : ℕ} (result : Result (Command D) LineFault) (dims : ℕ) (verb : List ℕ) (words : List (List ℕ)) (rest : List ℕ)
+    → Agrees request_of result (read_command dims verb words rest) → IfOk result (λ command. IsWithinLimits (request_of command))
+command_within (Ok command) dims verb words rest e = (subst IsFine e (command_fine dims verb words rest)).within
+command_within (Err f) dims verb words rest e = tt
 
 pub create_within : (result : Result First LineFault) (words : List (List ℕ)) → first_reading_of result ≡ read_create words
-  → IfOk result (λ first. IsWithinLimits (first_request_of first))
+    → IfOk result (λ first. IsWithinLimits (first_request_of first))
 create_within (Ok first) words e = (subst IsFine (sym e) (create_fine words)).within
 create_within (Err f) words e = tt
 
 pub create_remembers : (result : Result First LineFault) (words : List (List ℕ)) → first_reading_of result ≡ read_create words
-  → result ≢ Err fault.Memory
+    → result ≢ Err fault.Memory
 create_remembers (Ok first) words e m = cc
 create_remembers (Err f) words e m = (subst IsFine (sym e) (create_fine words)).within cc
 

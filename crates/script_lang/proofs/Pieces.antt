@@ -31,7 +31,7 @@ passing_at_front : (p : ℕ → Bool) (x : ℕ) (xs : List ℕ) → p x ≡ true
 passing_at_front p x xs t e = let none = rw t at e in omega (arith, none)
 
 failing_at_front : (p : ℕ → Bool) (x : ℕ) (xs : List ℕ) → p x ≡ false → position_or_len p (x ∷ xs) ≡ length (x ∷ xs)
-  → position_or_len p xs ≡ length xs
+    → position_or_len p xs ≡ length xs
 failing_at_front p x xs t e = let more = rw t at e in omega (arith, more)
 
 -- where no element passes, a list is one piece
@@ -39,5 +39,6 @@ pub one_piece : (p : ℕ → Bool) (xs : List ℕ) → position_or_len p xs ≡ 
 one_piece p [] e = refl
 one_piece p (x ∷ xs) e =
     elim (p x) as (λ t. p x ≡ t → slice_split p (x ∷ xs) ≡ (x ∷ xs) ∷ []) [
-        true ↦ λ t. absurd (passing_at_front p x xs t e)
-      | false ↦ λ t. rw (slice_split-cons_no p x xs t, one_piece p xs (failing_at_front p x xs t e)) refl ] refl
+      | true ↦ λ t. absurd (passing_at_front p x xs t e)
+      | false ↦ λ t. rw (slice_split-cons_no p x xs t, one_piece p xs (failing_at_front p x xs t e)) refl
+    ] refl

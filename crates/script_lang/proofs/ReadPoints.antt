@@ -30,10 +30,10 @@ pieces-more (suc n) size cs p long whole =
     rw (take-append-le size cs p enough, drop-append-le size cs p enough, pieces-more n size (drop size cs) p rest whole) refl
 
 pub reads_more : {D : ℕ} (ps qs : List (Point D)) (p : Point D) (a b d : Words) → ReadsPoints D ps a b → Writes coordinate p.c b d
-  → length p.c ≡ D → qs ≡ ps ++ p ∷ [] → ReadsPoints D qs a d
+    → length p.c ≡ D → qs ≡ ps ++ p ∷ [] → ReadsPoints D qs a d
 reads_more {D} ps qs p a b d r w whole is = rw is (record {
-    writes = rw (joined-append ps p) (writes_both r.writes w);
-    cut = rw (joined-append ps p, coordinates-append ps p, length-append ps (p ∷ []), add-one, ← r.cut)
-        (pieces-more (length ps) D (joined ps) p.c r.long whole);
-    long = rw (joined-append ps p, length-append (joined ps) p.c, length-append ps (p ∷ []), add-one, suc-mul (length ps) D) (omega (arith, r.long))
+  writes = rw (joined-append ps p) (writes_both r.writes w);
+  cut = rw (joined-append ps p, coordinates-append ps p, length-append ps (p ∷ []), add-one, ← r.cut)
+      (pieces-more (length ps) D (joined ps) p.c r.long whole);
+  long = rw (joined-append ps p, length-append (joined ps) p.c, length-append ps (p ∷ []), add-one, suc-mul (length ps) D) (omega (arith, r.long));
 })

@@ -31,34 +31,34 @@ writes_none value w = record { values = sym (before-nil (values_of value w.place
 
 -- what is read, and then what is read behind it
 pub writes_both : {X : Type 0} {value : List ℕ → Option X} {xs ys : List X} {a b c : Words}
-  → Writes value xs a b → Writes value ys b c → Writes value (xs ++ ys) a c
+    → Writes value xs a b → Writes value ys b c → Writes value (xs ++ ys) a c
 writes_both {xs = xs} {ys = ys} w v = record {
-    values = w.values ∙ ap (λ r. before xs r) v.values ∙ before-before xs ys _;
-    count = omega (arith, w.count, v.count, length-append xs ys)
+  values = w.values ∙ ap (λ r. before xs r) v.values ∙ before-before xs ys _;
+  count = omega (arith, w.count, v.count, length-append xs ys);
 }
 
 -- one word is read
 pub writes_one : {X : Type 0} (value : List ℕ → Option X) (word : List ℕ) (x : X) (a b : Words)
-  → Takes word a b → Ok x ≡ value_of value a.place word → Writes value (x ∷ []) a b
+    → Takes word a b → Ok x ≡ value_of value a.place word → Writes value (x ∷ []) a b
 writes_one value word x a b t is = record {
-    values = rw (t.words, ← is, ← t.place) (before-one x _);
-    count = omega (arith, ap length t.words)
+  values = rw (t.words, ← is, ← t.place) (before-one x _);
+  count = omega (arith, ap length t.words);
 }
 
 -- a fault behind what is read is the fault of all
 pub fails_later : {X : Type 0} {value : List ℕ → Option X} {xs : List X} {a b : Words} (f : LineFault)
-  → Writes value xs a b → values_of value b.place (left b) ≡ Err f → values_of value a.place (left a) ≡ Err f
+    → Writes value xs a b → values_of value b.place (left b) ≡ Err f → values_of value a.place (left a) ≡ Err f
 fails_later {xs = xs} f w e = w.values ∙ ap (λ r. before xs r) e
 
 -- a word's fault is the fault of all from it on
 pub fails_here : {X : Type 0} (value : List ℕ → Option X) (word : List ℕ) (f : LineFault) (a b : Words)
-  → Takes word a b → Err f ≡ value_of value a.place word → values_of value a.place (left a) ≡ Err f
+    → Takes word a b → Err f ≡ value_of value a.place word → values_of value a.place (left a) ≡ Err f
 fails_here value word f a b t is = rw (t.words, ← is) refl
 
 -- one more coordinate, in its place
 pub writes_more : (value : List ℕ → Option ℤ) (c : List ℤ) (i : ℕ) (x y : ℤ) (word : List ℕ) (a b d : Words) → i < length c → y ≡ x
-  → Writes value (take i c) a b → Takes word b d → Ok x ≡ value_of value b.place word
-  → Writes value (take (i + 1) (set c i y)) a d
+    → Writes value (take i c) a b → Takes word b d → Ok x ≡ value_of value b.place word
+    → Writes value (take (i + 1) (set c i y)) a d
 writes_more value c i x y word a b d inside same before taken is =
     rw (same, add-one, take-suc-set c i x inside) (writes_both before (writes_one value word x b d taken is))
 
@@ -71,7 +71,7 @@ unfolding box_of
 box_words dims place words other = grind (arith, nat_tests)
 
 pub box_fault : (dims place : ℕ) (words : List (List ℕ)) (f : LineFault) → length words ≡ 2 * dims → values_of coordinate place words ≡ Err f
-  → box_of dims place words ≡ Err f
+    → box_of dims place words ≡ Err f
 unfolding box_of
 box_fault dims place words f two e = rw e (grind (arith, nat_tests))
 
@@ -81,11 +81,11 @@ none_read value place (w ∷ ws) none = absurd (omega arith)
 
 -- the values of all words that are left
 pub all_values : {X : Type 0} (value : List ℕ → Option X) (xs : List X) (a b : Words) → Writes value xs a b → length (left b) < 1
-  → values_of value a.place (left a) ≡ Ok xs
+    → values_of value a.place (left a) ≡ Ok xs
 all_values value xs a b w none = w.values ∙ ap (λ r. before xs r) (none_read value b.place (left b) none) ∙ ap Ok (append-nil xs)
 
 pub box_whole : (dims : ℕ) (lo hi : List ℤ) (a b d : Words) → length (left a) ≡ 2 * dims → length lo ≡ dims → length hi ≡ dims
-  → Writes coordinate lo a b → Writes coordinate hi b d → box_of dims a.place (left a) ≡ Ok (lo, hi)
+    → Writes coordinate lo a b → Writes coordinate hi b d → box_of dims a.place (left a) ≡ Ok (lo, hi)
 unfolding box_of
 box_whole dims lo hi a b d two long high w v =
     let all : values_of coordinate a.place (left a) ≡ Ok (lo ++ hi) = all_values coordinate (lo ++ hi) a d (writes_both w v) (omega arith) in

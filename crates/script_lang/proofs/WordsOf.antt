@@ -28,8 +28,9 @@ words_from : (text : List ℕ) → words_of (from_word text) ≡ words_of text
 words_from [] = refl
 words_from (b ∷ bs) =
     elim (is_blank b) as (λ t. is_blank b ≡ t → words_of (from_word (b ∷ bs)) ≡ words_of (b ∷ bs)) [
-        true ↦ λ e. rw (prefix-yes b bs e, words-blank b bs e) (words_from bs)
-      | false ↦ λ e. rw (prefix-no b bs e) refl ] refl
+      | true ↦ λ e. rw (prefix-yes b bs e, words-blank b bs e) (words_from bs)
+      | false ↦ λ e. rw (prefix-no b bs e) refl
+    ] refl
 
 words_none : (text : List ℕ) → from_word text ≡ [] → words_of text ≡ []
 unfolding words_of
@@ -37,18 +38,18 @@ words_none text e = sym (words_from text) ∙ ap words_of e
 
 -- a piece that is not empty is a word
 kept : (piece : List ℕ) (others : List (List ℕ)) → 0 < length piece
-  → filter (λ p. nat_lt 0 (length p)) (piece ∷ others) ≡ piece ∷ filter (λ p. nat_lt 0 (length p)) others
+    → filter (λ p. nat_lt 0 (length p)) (piece ∷ others) ≡ piece ∷ filter (λ p. nat_lt 0 (length p)) others
 kept piece others some = grind (arith, common_steps)
 
 -- behind the word comes the blank that ends it
 behind-blank : (w : List ℕ) → position_or_len is_blank w < length w
-  → words_of (drop (position_or_len is_blank w) w) ≡ words_of (after_first is_blank w)
+    → words_of (drop (position_or_len is_blank w) w) ≡ words_of (after_first is_blank w)
 behind-blank w more =
     rw (drop-cons w (position_or_len is_blank w) 0 more)
-      (words-blank _ _ (passes_at_first is_blank w 0 more) ∙ ap (λ n. words_of (drop n w)) (sym (add-one (position_or_len is_blank w))))
+    (words-blank _ _ (passes_at_first is_blank w 0 more) ∙ ap (λ n. words_of (drop n w)) (sym (add-one (position_or_len is_blank w))))
 
 words-two : (w : List ℕ) → 0 < position_or_len is_blank w → position_or_len is_blank w < length w
-  → words_of w ≡ take (position_or_len is_blank w) w ∷ words_of (after_first is_blank w)
+    → words_of w ≡ take (position_or_len is_blank w) w ∷ words_of (after_first is_blank w)
 unfolding words_of
 words-two w some more =
     rw (slice_split_first is_blank w 0 more) (kept (before_first is_blank w) (slice_split is_blank (after_first is_blank w)) (omega (arith, length-take-le (position_or_len is_blank w) w)))
@@ -59,35 +60,37 @@ words-one w some all = rw (one_piece is_blank w all) (kept w [] some)
 
 -- the first word of a text that begins with one ends before a blank, or is all there is
 first_at : (w : List ℕ) → 0 < position_or_len is_blank w
-  → words_of w ≡ take (position_or_len is_blank w) w ∷ words_of (drop (position_or_len is_blank w) w)
+    → words_of w ≡ take (position_or_len is_blank w) w ∷ words_of (drop (position_or_len is_blank w) w)
 unfolding words_of
 first_at w some =
     elim (nat_lt (position_or_len is_blank w) (length w)) as (λ t. nat_lt (position_or_len is_blank w) (length w) ≡ t
-      → words_of w ≡ take (position_or_len is_blank w) w ∷ words_of (drop (position_or_len is_blank w) w)) [
-        true ↦ λ t. let more : position_or_len is_blank w < length w = grind (arith, nat_tests) in
-            words-two w some more ∙ ap (λ ws. take (position_or_len is_blank w) w ∷ ws) (sym (behind-blank w more))
+    → words_of w ≡ take (position_or_len is_blank w) w ∷ words_of (drop (position_or_len is_blank w) w)) [
+      | true ↦ λ t. let more : position_or_len is_blank w < length w = grind (arith, nat_tests) in
+          words-two w some more ∙ ap (λ ws. take (position_or_len is_blank w) w ∷ ws) (sym (behind-blank w more))
       | false ↦ λ t.
-            let bound : position_or_len is_blank w ≤ length w = prefix_len-le-length _ w in
-            let all : position_or_len is_blank w ≡ length w = grind (arith, nat_tests) in
-            rw (all, take-length w, drop_all (length w) w (omega arith)) (words-one w (omega arith) all) ] refl
+          let bound : position_or_len is_blank w ≤ length w = prefix_len-le-length _ w in
+          let all : position_or_len is_blank w ≡ length w = grind (arith, nat_tests) in
+          rw (all, take-length w, drop_all (length w) w (omega arith)) (words-one w (omega arith) all)
+    ] refl
 
 -- what is left behind the blanks begins with a word
 begins : (text : List ℕ) → 0 < length (from_word text) → 0 < position_or_len is_blank (from_word text)
 begins [] some = absurd (omega arith)
 begins (b ∷ bs) some =
     elim (is_blank b) as (λ t. is_blank b ≡ t → 0 < position_or_len is_blank (from_word (b ∷ bs))) [
-        true ↦ λ t. rw (prefix-yes b bs t) (begins bs (rw (prefix-yes b bs t) at some))
-      | false ↦ λ t. rw (prefix-no b bs t, t) (omega arith) ] refl
+      | true ↦ λ t. rw (prefix-yes b bs t) (begins bs (rw (prefix-yes b bs t) at some))
+      | false ↦ λ t. rw (prefix-no b bs t, t) (omega arith)
+    ] refl
 
 -- the first word of a text
 words_first : (text : List ℕ) → 0 < length (from_word text)
-  → words_of text ≡ take (position_or_len is_blank (from_word text)) (from_word text)
+    → words_of text ≡ take (position_or_len is_blank (from_word text)) (from_word text)
     ∷ words_of (drop (position_or_len is_blank (from_word text)) (from_word text))
 words_first text some = sym (words_from text) ∙ first_at (from_word text) (begins text some)
 
 -- a word is taken off a text: w is the text from its first word on
 pub word_taken : (text w front back : List ℕ) (n m : ℕ) → n ≡ prefix_len is_blank text → w ≡ drop n text → 0 < length w
-  → m ≡ position_or_len is_blank w → front ≡ take m w → back ≡ drop m w → (words_of text ≡ front ∷ words_of back) × (back ≡ after_word text)
+    → m ≡ position_or_len is_blank w → front ≡ take m w → back ≡ drop m w → (words_of text ≡ front ∷ words_of back) × (back ≡ after_word text)
 unfolding after_word
 word_taken text w front back n m n-is w-is some m-is front-is back-is =
     let from : w ≡ from_word text = w-is ∙ ap (λ k. drop k text) n-is in

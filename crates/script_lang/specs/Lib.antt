@@ -1,5 +1,6 @@
 pub mod Lines
 pub mod Requests
+pub mod Refusals
 pub mod Reading
 pub mod Parts
 pub mod Seen

@@ -7,7 +7,9 @@ use Rattle.std.specs.Str.Lines.{strip_carriage_return}
 use Rattle.number_text.specs.Number.{number, coordinate}
 use Rattle.point_codec.specs.Points.{ordered}
 use Rattle.point_codec.specs.Names.{is_name}
-use Rattle.script_lang.specs.Lines.{words_of}
+use Rattle.polygon_query.specs.GeoJson.{polygon_of}
+use Rattle.polygon_query.specs.declared.geo_json.GeoFault.{GeoFault}
+use Rattle.script_lang.specs.Lines.{words_of, after_word}
 use Rattle.script_lang.specs.Requests.{Viewed, Request}
 use Rattle.script_lang.specs.Requests as asks
 use Rattle.script_lang.specs.declared.faults.LineFault.{LineFault}
@@ -130,13 +132,35 @@ abbrev pub nearest_of : ℕ → Viewed → ℕ → List (List ℕ) → Reading
 nearest_of dims view place [] = Fails fault.Words
 nearest_of dims view place (w ∷ ws) =
     if length ws == dims then
-        given (value_of number place w) (λ k. given (values_of coordinate (place + 1) ws) (λ cs.
-            if is_from_to 1 10000 k then Says (asks.Nearest view k cs) else Fails fault.BadK))
+    given (value_of number place w) (λ k. given (values_of coordinate (place + 1) ws) (λ cs.
+    if is_from_to 1 10000 k then Says (asks.Nearest view k cs) else Fails fault.BadK))
     else Fails fault.Words
 
 -- `nearest [@NAME] K C1 .. CD`
 unfoldable pub read_nearest : ℕ → List (List ℕ) → Reading
 read_nearest dims words = given (query_of words) (λ query. nearest_of dims query.view query.place query.words)
+
+-- what stands behind what a query looks at
+abbrev pub behind_view : Viewed → List ℕ → List ℕ
+behind_view None text = text
+behind_view (Some name) text = after_word text
+
+abbrev pub polygon_fault : {X : Type 0} → Result X GeoFault → Result X LineFault
+polygon_fault (Ok x) = Ok x
+polygon_fault (Err f) = Err (fault.Geo f)
+
+-- the rings of a text that has a word
+abbrev pub rings_of : List (List ℕ) → List ℕ → Result (List (List (List ℤ))) LineFault
+rings_of [] text = Err fault.Words
+rings_of (w ∷ ws) text = polygon_fault (polygon_of text)
+
+-- `polygon [@NAME] JSON`, by its words and by what stands behind `polygon`: the JSON is the rest of the line
+unfoldable pub read_polygon : ℕ → List (List ℕ) → List ℕ → Reading
+read_polygon dims words text =
+    given (query_of words) (λ query.
+    if dims == 2
+    then given (rings_of query.words (behind_view query.view text)) (λ rings. Says (asks.InPolygon query.view rings))
+    else Fails fault.NotTwo)
 
 -- `merge`, `merge begin` with any positions, or `merge end`
 unfoldable pub read_merge : List (List ℕ) → Reading
@@ -146,13 +170,14 @@ read_merge (w ∷ ws) =
     else if bytes_eq w (codes "end") then alone ws asks.MergeEnd
     else Fails fault.Words
 
--- a line on an index of so many dimensions, by its first word and the others
-unfoldable pub read_command : ℕ → List ℕ → List (List ℕ) → Reading
-read_command dims verb words =
+-- a line on an index of so many dimensions, by its first word, the other words, and what stands behind the first
+unfoldable pub read_command : ℕ → List ℕ → List (List ℕ) → List ℕ → Reading
+read_command dims verb words rest =
     if bytes_eq verb (codes "create") then read_create words
     else if bytes_eq verb (codes "add") then read_add dims words
     else if bytes_eq verb (codes "delete") then read_delete dims words
     else if bytes_eq verb (codes "box") then read_box dims words
+    else if bytes_eq verb (codes "polygon") then read_polygon dims words rest
     else if bytes_eq verb (codes "nearest") then read_nearest dims words
     else if bytes_eq verb (codes "flush") then alone words asks.Flush
     else if bytes_eq verb (codes "merge") then read_merge words
@@ -163,14 +188,14 @@ read_command dims verb words =
     else Fails fault.Unknown
 
 -- where no index is there (None), only `create` can be asked
-abbrev pub read_verb : Option ℕ → List ℕ → List (List ℕ) → Reading
-read_verb None verb words = if bytes_eq verb (codes "create") then read_create words else Fails fault.NoIndex
-read_verb (Some dims) verb words = read_command dims verb words
+abbrev pub read_verb : Option ℕ → List ℕ → List (List ℕ) → List ℕ → Reading
+read_verb None verb words rest = if bytes_eq verb (codes "create") then read_create words else Fails fault.NoIndex
+read_verb (Some dims) verb words rest = read_command dims verb words rest
 
 -- a line without words asks nothing, nor does one whose first word begins with '#'
-abbrev pub read_words : Option ℕ → List (List ℕ) → Reading
-read_words dims [] = Says asks.Blank
-read_words dims (verb ∷ words) = if slice_index verb 0 == 35 then Says asks.Blank else read_verb dims verb words
+abbrev pub read_words : Option ℕ → List (List ℕ) → List ℕ → Reading
+read_words dims [] text = Says asks.Blank
+read_words dims (verb ∷ words) text = if slice_index verb 0 == 35 then Says asks.Blank else read_verb dims verb words (after_word text)
 
 -- a line's text: one byte 13 at its end is no part of it
 unfoldable pub text_of : List ℕ → Result (List ℕ) LineFault
@@ -182,4 +207,4 @@ text_of line =
 
 -- a line of a script, read where an index of so many dimensions is there, or none
 unfoldable pub read : Option ℕ → List ℕ → Reading
-read dims line = given (text_of line) (λ text. read_words dims (words_of text))
+read dims line = given (text_of line) (λ text. read_words dims (words_of text) text)

@@ -2,6 +2,8 @@
 use Rattle.std.specs.Prelude.{ℕ, List, [], ◌++◌, length, codes, decimal, map}
 use Rattle.std.specs.List.{flat_map}
 use Rattle.point_codec.specs.declared.entries.Near.{Near}
+use Rattle.polygon_query.specs.declared.geo_json.GeoFault.{GeoFault}
+use Rattle.polygon_query.specs.declared.geo_json.GeoFault.TheVariants as geo
 use Rattle.script_lang.specs.declared.faults.LineFault.{LineFault}
 use Rattle.script_lang.specs.declared.faults.LineFault.TheVariants as fault
 use Rattle.script_lang.specs.declared.faults.Why.{Why}
@@ -38,6 +40,15 @@ near_text found =
 abbrev pub refusal_text : ℕ → List ℕ → List ℕ
 refusal_text line cause = ended (codes "line " ++ decimal line ++ codes ": " ++ cause)
 
+abbrev pub polygon_text : GeoFault → List ℕ
+polygon_text geo.NotJson = codes "polygon is not json"
+polygon_text geo.NotPolygon = codes "not a polygon"
+polygon_text geo.TooMany = codes "polygon has too many positions"
+polygon_text (geo.NotWhole ring position) =
+    codes "polygon ring " ++ decimal ring ++ codes " position " ++ decimal position ++ codes " is not whole"
+polygon_text (geo.TooFew ring) = codes "polygon ring " ++ decimal ring ++ codes " has too few positions"
+polygon_text (geo.NotClosed ring) = codes "polygon ring " ++ decimal ring ++ codes " is not closed"
+
 abbrev pub fault_text : LineFault → List ℕ
 fault_text fault.TooLong = codes "too long"
 fault_text fault.NotUtf8 = codes "not utf-8"
@@ -50,6 +61,7 @@ fault_text (fault.Number word) = codes "bad number in word " ++ decimal word
 fault_text fault.Dims = codes "dims"
 fault_text fault.LeafSize = codes "leaf size"
 fault_text fault.BadK = codes "bad k"
+fault_text (fault.Geo f) = polygon_text f
 -- no line answers this: want of memory ends a script
 fault_text fault.Memory = []
 

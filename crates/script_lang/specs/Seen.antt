@@ -24,6 +24,7 @@ request_of (command.Add points) = asks.Add points
 request_of (command.Delete doc) = asks.Delete doc
 request_of (command.DeleteBox lo hi) = asks.DeleteBox lo.c hi.c
 request_of (command.InBox view lo hi) = asks.InBox (viewed view) lo.c hi.c
+request_of (command.Polygon view rings) = asks.InPolygon (viewed view) rings
 request_of (command.Nearest view k target) = asks.Nearest (viewed view) k target.c
 request_of command.Flush = asks.Flush
 request_of command.Merge = asks.Merge

@@ -14,8 +14,8 @@ use crate::words::Words;
 use point_codec::{Name, Point, Points};
 use std::alloc::Global;
 
-#[tactic(auto, unfolding(crate::specs::Reading::read_create))]
 /// `DIMS` or `DIMS leaf SIZE`
+#[tactic(auto, unfolding(crate::specs::Reading::read_create))]
 pub(crate) fn create(mut words: Words<'_>) -> Result<First, LineFault>
     requires { words.place ≡ 2 }
     ensures { first_reading_of result ≡ read_create (left words.entry) }
@@ -30,7 +30,7 @@ pub(crate) fn create(mut words: Words<'_>) -> Result<First, LineFault>
     let Some(size) = words.next() else {
         return Err(LineFault::Words);
     };
-    if leaf != b"leaf".as_slice() {
+    if leaf != "leaf" {
         return Err(LineFault::Words);
     }
     if words.next().is_some() {
@@ -63,8 +63,8 @@ fn created(dims: u32, leaf: u32) -> Result<First, LineFault>
     })
 }
 
-#[tactic(auto, unfolding(crate::specs::Reading::read_add))]
 /// The coordinates of 1 to 16 points, point after point.
+#[tactic(auto, unfolding(crate::specs::Reading::read_add))]
 pub(crate) fn add<const D: usize>(alloc: Global, words: Words<'_>) -> Result<Command<D>, LineFault>
     requires some { 1 ≤ D }
     requires few { D ≤ 8 }
@@ -80,7 +80,11 @@ pub(crate) fn add<const D: usize>(alloc: Global, words: Words<'_>) -> Result<Com
 }
 
 /// So many points, which all words that are left write.
-fn points_at<const D: usize>(alloc: Global, mut words: Words<'_>, count: usize) -> Result<Vec<Point<D>>, LineFault>
+fn points_at<const D: usize>(
+    alloc: Global,
+    mut words: Words<'_>,
+    count: usize,
+) -> Result<Vec<Point<D>>, LineFault>
     requires some { 1 ≤ D }
     requires few { D ≤ 8 }
     requires all { length (left words) ≡ count * D }
@@ -94,8 +98,8 @@ fn points_at<const D: usize>(alloc: Global, mut words: Words<'_>, count: usize) 
     Ok(points)
 }
 
-#[tactic(auto, unfolding(crate::specs::Reading::read_delete))]
 /// `NUMBER` or `box LO HI`
+#[tactic(auto, unfolding(crate::specs::Reading::read_delete))]
 pub(crate) fn delete<const D: usize>(mut words: Words<'_>) -> Result<Command<D>, LineFault>
     requires some { 1 ≤ D }
     requires few { D ≤ 8 }
@@ -105,7 +109,7 @@ pub(crate) fn delete<const D: usize>(mut words: Words<'_>) -> Result<Command<D>,
     let Some(word) = words.next() else {
         return Err(LineFault::Words);
     };
-    if word == b"box".as_slice() {
+    if word == "box" {
         let (lo, hi) = box_at(words)?;
         return Ok(Command::DeleteBox { lo, hi });
     }
@@ -116,21 +120,26 @@ pub(crate) fn delete<const D: usize>(mut words: Words<'_>) -> Result<Command<D>,
     Ok(Command::Delete(doc))
 }
 
-#[tactic(auto, unfolding(crate::specs::Reading::read_merge))]
 /// Nothing, `begin` with any positions, or `end`
-pub(crate) fn merge<const D: usize>(alloc: Global, mut words: Words<'_>) -> Result<Command<D>, LineFault>
+#[tactic(auto, unfolding(crate::specs::Reading::read_merge))]
+pub(crate) fn merge<const D: usize>(
+    alloc: Global,
+    mut words: Words<'_>,
+) -> Result<Command<D>, LineFault>
     requires { words.place ≡ 2 }
     ensures { Agrees request_of result (read_merge (left words.entry)) }
 {
-    match words.next() {
-        None => Ok(Command::Merge),
-        Some(b"begin") => {
-            let positions = positions_at(alloc, words)?;
-            Ok(Command::MergeBegin(Positions::new(positions)))
-        }
-        Some(b"end") => alone(words, Command::MergeEnd),
-        Some(_) => Err(LineFault::Words),
+    let Some(word) = words.next() else {
+        return Ok(Command::Merge);
+    };
+    if word == "begin" {
+        let positions = positions_at(alloc, words)?;
+        return Ok(Command::MergeBegin(Positions::new(positions)));
     }
+    if word == "end" {
+        return alone(words, Command::MergeEnd);
+    }
+    Err(LineFault::Words)
 }
 
 /// The numbers that all words that are left write.
@@ -146,15 +155,15 @@ fn positions_at(alloc: Global, mut words: Words<'_>) -> Result<Vec<u32>, LineFau
     Ok(positions)
 }
 
-#[tactic(auto, unfolding(crate::specs::Reading::name_of))]
 /// `NAME`, alone
+#[tactic(auto, unfolding(crate::specs::Reading::name_of))]
 pub(crate) fn name_at(mut words: Words<'_>) -> Result<Name, LineFault>
     ensures { MatchResult result (λ name. name_of (left words.entry) ≡ Ok name) (λ f. name_of (left words.entry) ≡ Err f) }
 {
     let Some(word) = words.next() else {
         return Err(LineFault::Words);
     };
-    let name = Name::new(word).ok_or(LineFault::BadName)?;
+    let name = Name::new(word.as_bytes()).ok_or(LineFault::BadName)?;
     if words.next().is_some() {
         return Err(LineFault::Words);
     }
@@ -162,7 +171,10 @@ pub(crate) fn name_at(mut words: Words<'_>) -> Result<Name, LineFault>
 }
 
 /// A command, where no words are left.
-pub(crate) fn alone<const D: usize>(mut words: Words<'_>, command: Command<D>) -> Result<Command<D>, LineFault>
+pub(crate) fn alone<const D: usize>(
+    mut words: Words<'_>,
+    command: Command<D>,
+) -> Result<Command<D>, LineFault>
     ensures { Agrees request_of result (alone (left words.entry) (request_of command.entry)) }
 {
     if words.next().is_some() {

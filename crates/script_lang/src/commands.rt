@@ -4,6 +4,7 @@ ghost use Rattle.std.specs.Prelude.{◌≡◌};
 ghost use Rattle.script_lang.specs.Seen.{request_of, first_request_of};
 
 use point_codec::{Name, Point, Points, View};
+use ring_parity::Rings;
 use std::marker::Model;
 
 /// Positions of segments, as a script tells them.
@@ -41,17 +42,36 @@ pub enum Command<const D: usize> {
     /// A line without words, or a note.
     Blank,
     /// An index of `dims` dimensions, 1 to 8, with at most `leaf` points in a leaf.
-    Create { dims: u8, leaf: u16 },
+    Create {
+        dims: u8,
+        leaf: u16,
+    },
     /// A document with these points.
     Add(Points<D>),
     /// The document of this number goes.
     Delete(u32),
     /// The documents with a point in the box go.
-    DeleteBox { lo: Point<D>, hi: Point<D> },
+    DeleteBox {
+        lo: Point<D>,
+        hi: Point<D>,
+    },
     /// Which documents have a point in the box.
-    InBox { view: View, lo: Point<D>, hi: Point<D> },
+    InBox {
+        view: View,
+        lo: Point<D>,
+        hi: Point<D>,
+    },
+    /// Which documents have a point in the polygon.
+    Polygon {
+        view: View,
+        rings: Rings,
+    },
     /// Which `k` documents, 1 to 10,000, are nearest to `at`.
-    Nearest { view: View, k: u16, at: Point<D> },
+    Nearest {
+        view: View,
+        k: u16,
+        at: Point<D>,
+    },
     Flush,
     Merge,
     /// A merge of the segments at these positions begins.

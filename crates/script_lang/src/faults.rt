@@ -2,7 +2,9 @@
 
 ghost use Rattle.std.specs.Prelude.{◌≡◌};
 ghost use Rattle.script_lang.specs.declared.faults.LineFault.TheVariants as fault;
+ghost use Rattle.script_lang.specs.Refusals.{fault_of};
 
+use polygon_query::{GeoFault, GeoRefused};
 use std::alloc::{AllocError, AllocFailed};
 
 /// Want of memory, where it is the only fault.
@@ -32,6 +34,8 @@ pub enum LineFault {
     LeafSize,
     /// A query for the nearest asks for 1 to 10,000 documents.
     BadK,
+    /// The polygon's text has this fault.
+    Geo(GeoFault),
     Memory,
 }
 
@@ -48,6 +52,17 @@ impl<T: Drop> From<AllocFailed<T>> for LineFault {
 
     fn from(_: AllocFailed<T>) -> LineFault {
         LineFault::Memory
+    }
+}
+
+impl From<GeoRefused> for LineFault {
+    ghost from_gives = { λ refused f. f ≡ fault_of refused };
+
+    fn from(refused: GeoRefused) -> LineFault {
+        match refused {
+            GeoRefused::Fault(fault) => LineFault::Geo(fault),
+            GeoRefused::Memory => LineFault::Memory,
+        }
     }
 }
 

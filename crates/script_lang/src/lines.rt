@@ -1,6 +1,6 @@
 //! A text cut into lines.
 
-ghost use Rattle.std.specs.Prelude.{◌≡◌, ◌==◌, ◌<◌, ◌≤◌, ◌∷◌, length, MatchResult, Ok, Err};
+ghost use Rattle.std.specs.Prelude.{◌≡◌, ◌==◌, ◌<◌, ◌≤◌, ◌∷◌, length, MatchResult, MatchOption, Ok, Err, true, false};
 ghost use Rattle.std.specs.List.{position_or_len};
 ghost use Rattle.std.specs.Str.{is_utf8};
 ghost use Rattle.std.specs.Str.Lines.{strip_carriage_return};
@@ -35,18 +35,18 @@ fn line_len(bytes: &[u8]) -> usize
         .unwrap_or(bytes.len())
 }
 
-#[tactic(auto, using(crate::proofs::WordsOf::words_fit), unfolding(crate::specs::Reading::text_of))]
 /// All words of a line, if it is a text that is not too long.
+#[tactic(auto, using(crate::proofs::WordsOf::words_fit), unfolding(crate::specs::Reading::text_of))]
 pub(crate) fn words_of(line: &[u8]) -> Result<Words<'_>, LineFault>
     ensures { MatchResult result (λ words. (words.place ≡ 1) × (text_of line.now ≡ Ok words.text.now)) (λ f. text_of line.now ≡ Err f) }
 {
-    let text = without_return(line);
-    if text.len() > 4_194_304 {
+    let line = without_return(line);
+    if line.len() > 4_194_304 {
         return Err(LineFault::TooLong);
     }
-    if !is_text(text) {
+    let Some(text) = text_in(line) else {
         return Err(LineFault::NotUtf8);
-    }
+    };
     Ok(Words { text, place: 1 })
 }
 
@@ -60,11 +60,12 @@ fn without_return(line: &[u8]) -> &[u8]
     }
 }
 
-fn is_text(line: &[u8]) -> bool
-    ensures { result ≡ is_utf8 line.now }
+/// The text of UTF-8 bytes.
+fn text_in(bytes: &[u8]) -> Option<&str>
+    ensures { MatchOption result (is_utf8 bytes.now ≡ false) (λ text. (is_utf8 bytes.now ≡ true) × (text.now ≡ bytes.now)) }
 {
-    match std::str::from_utf8(line) {
-        Ok(_) => true,
-        Err(_) => false,
+    match std::str::from_utf8(bytes) {
+        Ok(text) => Some(text),
+        Err(_) => None,
     }
 }

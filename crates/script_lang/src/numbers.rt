@@ -10,10 +10,10 @@ use crate::words::Words;
 use point_codec::Point;
 
 /// The number that a word writes. The word has this place in its line.
-pub(crate) fn number_at(word: &[u8], place: u32) -> Result<u32, LineFault>
+pub(crate) fn number_at(word: &str, place: u32) -> Result<u32, LineFault>
     ensures { result ≡ value_of number place word.now }
 {
-    number_text::number(word).ok_or(LineFault::Number { word: place })
+    number_text::number(word.as_bytes()).ok_or(LineFault::Number { word: place })
 }
 
 /// The point that the next `D` words write.
@@ -35,14 +35,16 @@ pub(crate) fn point_at<const D: usize>(words: &mut Words<'_>) -> Result<Point<D>
     Ok(Point { c })
 }
 
-fn coordinate_at(word: &[u8], place: u32) -> Result<i32, LineFault>
+fn coordinate_at(word: &str, place: u32) -> Result<i32, LineFault>
     ensures { result ≡ value_of coordinate place word.now }
 {
-    number_text::coordinate(word).ok_or(LineFault::Number { word: place })
+    number_text::coordinate(word.as_bytes()).ok_or(LineFault::Number { word: place })
 }
 
 /// The ends of a box, which all words that are left write.
-pub(crate) fn box_at<const D: usize>(mut words: Words<'_>) -> Result<(Point<D>, Point<D>), LineFault>
+pub(crate) fn box_at<const D: usize>(
+    mut words: Words<'_>,
+) -> Result<(Point<D>, Point<D>), LineFault>
     requires some { 1 ≤ D }
     requires few { D ≤ 8 }
     ensures { MatchResult result (λ ends. box_of D words.entry.place (left words.entry) ≡ Ok (ends.0.c, ends.1.c)) (λ f. box_of D words.entry.place (left words.entry) ≡ Err f) }

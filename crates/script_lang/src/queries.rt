@@ -1,8 +1,8 @@
 //! The lines that ask what is there.
 
-ghost use Rattle.std.specs.Prelude.{◌≡◌, ◌≤◌, length, MatchResult, Ok, Err};
+ghost use Rattle.std.specs.Prelude.{◌≡◌, ◌≤◌, length, MatchResult, IfOk, Ok, Err};
 ghost use Rattle.script_lang.specs.Parts.{left};
-ghost use Rattle.script_lang.specs.Reading.{query_of, read_box, read_nearest};
+ghost use Rattle.script_lang.specs.Reading.{query_of, behind_view, read_box, read_polygon, read_nearest};
 ghost use Rattle.script_lang.specs.Seen.{viewed, request_of, Agrees};
 
 use crate::commands::Command;
@@ -10,26 +10,30 @@ use crate::faults::LineFault;
 use crate::numbers::{box_at, number_at, point_at};
 use crate::words::Words;
 use point_codec::{Name, View};
+use polygon_query::read_polygon;
+use std::alloc::Global;
 
-#[tactic(auto, unfolding(crate::specs::Reading::query_of))]
 /// `[@NAME]`: what a query looks at.
+#[tactic(auto, unfolding(crate::specs::Reading::query_of))]
 fn view_at(words: &mut Words<'_>) -> Result<View, LineFault>
     requires { words.old.place ≡ 2 }
-    ensures { MatchResult result (λ view. query_of (left words.old) ≡ Ok (record { view = viewed view; place = words.new.place; words = left words.new })) (λ f. query_of (left words.old) ≡ Err f) }
+    ensures query { MatchResult result (λ view. query_of (left words.old) ≡ Ok (record { view = viewed view; place = words.new.place; words = left words.new })) (λ f. query_of (left words.old) ≡ Err f) }
+    ensures behind { IfOk result (λ view. words.new.text.now ≡ behind_view (viewed view) words.old.text.now) }
 {
     let mut behind = *words;
-    match behind.next() {
-        Some([b'@', name @ ..]) => {
-            *words = behind;
-            let name = Name::new(name).ok_or(LineFault::BadName)?;
-            Ok(View::Named(name))
-        }
-        _ => Ok(View::Now),
-    }
+    let Some(word) = behind.next() else {
+        return Ok(View::Now);
+    };
+    let [b'@', name @ ..] = word.as_bytes() else {
+        return Ok(View::Now);
+    };
+    *words = behind;
+    let name = Name::new(name).ok_or(LineFault::BadName)?;
+    Ok(View::Named(name))
 }
 
-#[tactic(auto, unfolding(crate::specs::Reading::read_box))]
 /// `[@NAME] LO HI`
+#[tactic(auto, unfolding(crate::specs::Reading::read_box))]
 pub(crate) fn in_box<const D: usize>(mut words: Words<'_>) -> Result<Command<D>, LineFault>
     requires some { 1 ≤ D }
     requires few { D ≤ 8 }
@@ -41,8 +45,29 @@ pub(crate) fn in_box<const D: usize>(mut words: Words<'_>) -> Result<Command<D>,
     Ok(Command::InBox { view, lo, hi })
 }
 
-#[tactic(auto, unfolding(crate::specs::Reading::read_nearest))]
+/// `[@NAME] JSON`
+#[tactic(auto, unfolding(crate::specs::Reading::read_polygon))]
+pub(crate) fn polygon<const D: usize>(
+    alloc: Global,
+    mut words: Words<'_>,
+) -> Result<Command<D>, LineFault>
+    requires { words.place ≡ 2 }
+    ensures { Agrees request_of result (read_polygon D (left words.entry) words.entry.text.now) }
+{
+    let view = view_at(&mut words)?;
+    if D != 2 {
+        return Err(LineFault::NotTwo);
+    }
+    let text = words.text;
+    if words.next().is_none() {
+        return Err(LineFault::Words);
+    }
+    let rings = read_polygon(alloc, text)?;
+    Ok(Command::Polygon { view, rings })
+}
+
 /// `[@NAME] K C1 .. CD`
+#[tactic(auto, unfolding(crate::specs::Reading::read_nearest))]
 pub(crate) fn nearest<const D: usize>(mut words: Words<'_>) -> Result<Command<D>, LineFault>
     requires some { 1 ≤ D }
     requires few { D ≤ 8 }

@@ -2,14 +2,15 @@
 
 ghost use Rattle.std.specs.Prelude.{◌≡◌, ◌++◌, ◌≢◌, OnOk, OnErr, length, take};
 ghost use Rattle.std.specs.List.{flat_map};
-ghost use Rattle.script_lang.specs.Replies.{ok_text, doc_text, deleted_text, hits_text, near_text, line_fault_text, why_text, refusal_text, found_of};
+ghost use Rattle.script_lang.specs.Replies.{ok_text, doc_text, deleted_text, hits_text, near_text, line_fault_text, why_text, refusal_text, polygon_text, found_of};
 
 use crate::faults::{LineFault, Memory, Why};
 use itoa::{Buffer, write_digits};
 use point_codec::Near;
+use polygon_query::GeoFault;
 
-#[tactic(auto, unfolding(crate::specs::Replies::ok_text))]
 /// Appends `ok`, the answer to a command that gives nothing back.
+#[tactic(auto, unfolding(crate::specs::Replies::ok_text))]
 pub fn put_ok(out: &mut Vec<u8>) -> Result<(), Memory>
     ensures ok { OnOk result (out.new.items ≡ out.old.items ++ ok_text) }
     ensures memory { OnErr result (out.new.items ≡ out.old.items) }
@@ -17,8 +18,8 @@ pub fn put_ok(out: &mut Vec<u8>) -> Result<(), Memory>
     append(out, &[b"ok\n"])
 }
 
-#[tactic(auto, unfolding(crate::specs::Replies::doc_text))]
 /// Appends the number that a new document has.
+#[tactic(auto, unfolding(crate::specs::Replies::doc_text))]
 pub fn put_doc(out: &mut Vec<u8>, doc: u32) -> Result<(), Memory>
     ensures ok { OnOk result (out.new.items ≡ out.old.items ++ doc_text doc) }
     ensures memory { OnErr result (out.new.items ≡ out.old.items) }
@@ -27,8 +28,8 @@ pub fn put_doc(out: &mut Vec<u8>, doc: u32) -> Result<(), Memory>
     append(out, &[b"doc ", digits.format(doc).as_bytes(), b"\n"])
 }
 
-#[tactic(auto, unfolding(crate::specs::Replies::deleted_text))]
 /// Appends how many documents were deleted.
+#[tactic(auto, unfolding(crate::specs::Replies::deleted_text))]
 pub fn put_deleted(out: &mut Vec<u8>, n: u32) -> Result<(), Memory>
     ensures ok { OnOk result (out.new.items ≡ out.old.items ++ deleted_text n) }
     ensures memory { OnErr result (out.new.items ≡ out.old.items) }
@@ -50,14 +51,17 @@ pub fn put_hits(out: &mut Vec<u8>, docs: &[u32]) -> Result<(), Memory>
     done
 }
 
-#[tactic(auto, unfolding(crate::specs::Replies::hits_text))]
 /// As `put_hits`, but what went before want of memory stays.
+#[tactic(auto, unfolding(crate::specs::Replies::hits_text))]
 fn append_hits(out: &mut Vec<u8>, docs: &[u32]) -> Result<(), Memory>
     ensures ok { OnOk result (out.new.items ≡ out.old.items ++ hits_text docs.now) }
     ensures memory { OnErr result (take (length out.old.items) out.new.items ≡ out.old.items) }
 {
     let mut digits = Buffer::new();
-    append(out, &[b"hits ", digits.format(docs.len()).as_bytes(), b"\n"])?;
+    append(
+        out,
+        &[b"hits ", digits.format(docs.len()).as_bytes(), b"\n"],
+    )?;
     // each number is written before the byte 10 that stays at the end
     let mut line = [b'\n'; 11];
     for doc in docs {
@@ -80,8 +84,8 @@ pub fn put_near(out: &mut Vec<u8>, near: &[Near]) -> Result<(), Memory>
     done
 }
 
-#[tactic(auto, unfolding(crate::specs::Replies::near_text))]
 /// As `put_near`, but what went before want of memory stays.
+#[tactic(auto, unfolding(crate::specs::Replies::near_text))]
 fn append_near(out: &mut Vec<u8>, near: &[Near]) -> Result<(), Memory>
     ensures ok { OnOk result (out.new.items ≡ out.old.items ++ near_text (found_of near.now)) }
     ensures memory { OnErr result (take (length out.old.items) out.new.items ≡ out.old.items) }
@@ -103,33 +107,76 @@ fn append_near(out: &mut Vec<u8>, near: &[Near]) -> Result<(), Memory>
     Ok(())
 }
 
-#[tactic(auto, unfolding(crate::specs::Replies::line_fault_text))]
 /// Appends why a line cannot be read.
+#[tactic(auto, unfolding(crate::specs::Replies::line_fault_text))]
 pub fn put_line_fault(out: &mut Vec<u8>, line: u64, f: &LineFault) -> Result<(), Memory>
     requires { f.now ≢ LineFault.Memory }
     ensures ok { OnOk result (out.new.items ≡ out.old.items ++ line_fault_text line f.now) }
     ensures memory { OnErr result (out.new.items ≡ out.old.items) }
 {
-    let mut word = Buffer::new();
-    let (cause, place): (&[u8], &[u8]) = match f {
-        LineFault::TooLong => (b"too long", b""),
-        LineFault::NotUtf8 => (b"not utf-8", b""),
-        LineFault::NoIndex => (b"no index", b""),
-        LineFault::Unknown => (b"unknown command", b""),
-        LineFault::BadName => (b"bad name", b""),
-        LineFault::NotTwo => (b"not two dimensions", b""),
-        LineFault::Words => (b"wrong words", b""),
-        LineFault::Number { word: place } => (b"bad number in word ", word.format(*place).as_bytes()),
-        LineFault::Dims => (b"dims", b""),
-        LineFault::LeafSize => (b"leaf size", b""),
-        LineFault::BadK => (b"bad k", b""),
+    let mut digits = Buffer::new();
+    match f {
+        LineFault::TooLong => refuse(out, line, &[b"too long"]),
+        LineFault::NotUtf8 => refuse(out, line, &[b"not utf-8"]),
+        LineFault::NoIndex => refuse(out, line, &[b"no index"]),
+        LineFault::Unknown => refuse(out, line, &[b"unknown command"]),
+        LineFault::BadName => refuse(out, line, &[b"bad name"]),
+        LineFault::NotTwo => refuse(out, line, &[b"not two dimensions"]),
+        LineFault::Words => refuse(out, line, &[b"wrong words"]),
+        LineFault::Number { word } => {
+            let word = digits.format(*word).as_bytes();
+            refuse(out, line, &[b"bad number in word ", word])
+        }
+        LineFault::Dims => refuse(out, line, &[b"dims"]),
+        LineFault::LeafSize => refuse(out, line, &[b"leaf size"]),
+        LineFault::BadK => refuse(out, line, &[b"bad k"]),
+        LineFault::Geo(fault) => put_polygon_fault(out, line, *fault),
         LineFault::Memory => unreachable!(),
-    };
-    refuse(out, line, cause, place)
+    }
 }
 
-#[tactic(auto, unfolding(crate::specs::Replies::why_text))]
+fn put_polygon_fault(out: &mut Vec<u8>, line: u64, f: GeoFault) -> Result<(), Memory>
+    ensures ok { OnOk result (out.new.items ≡ out.old.items ++ refusal_text line (polygon_text f)) }
+    ensures memory { OnErr result (out.new.items ≡ out.old.items) }
+{
+    let mut first = Buffer::new();
+    let mut second = Buffer::new();
+    match f {
+        GeoFault::NotJson => refuse(out, line, &[b"polygon is not json"]),
+        GeoFault::NotPolygon => refuse(out, line, &[b"not a polygon"]),
+        GeoFault::TooMany => refuse(out, line, &[b"polygon has too many positions"]),
+        GeoFault::NotWhole { ring, position } => {
+            let ring = first.format(ring).as_bytes();
+            let position = second.format(position).as_bytes();
+            refuse(
+                out,
+                line,
+                &[
+                    b"polygon ring ",
+                    ring,
+                    b" position ",
+                    position,
+                    b" is not whole",
+                ],
+            )
+        }
+        GeoFault::TooFew { ring } => {
+            let ring = first.format(ring).as_bytes();
+            refuse(
+                out,
+                line,
+                &[b"polygon ring ", ring, b" has too few positions"],
+            )
+        }
+        GeoFault::NotClosed { ring } => {
+            let ring = first.format(ring).as_bytes();
+            refuse(out, line, &[b"polygon ring ", ring, b" is not closed"])
+        }
+    }
+}
+
 /// Appends why a line that can be read is refused.
+#[tactic(auto, unfolding(crate::specs::Replies::why_text))]
 pub fn put_why(out: &mut Vec<u8>, line: u64, w: Why) -> Result<(), Memory>
     ensures ok { OnOk result (out.new.items ≡ out.old.items ++ why_text line w) }
     ensures memory { OnErr result (out.new.items ≡ out.old.items) }
@@ -144,19 +191,31 @@ pub fn put_why(out: &mut Vec<u8>, line: u64, w: Why) -> Result<(), Memory>
         Why::TooManySnapshots => b"too many snapshots",
         Why::NotQuery => b"not a query",
     };
-    refuse(out, line, cause, b"")
+    refuse(out, line, &[cause])
 }
 
-/// Appends a line's number and why it is refused, in two parts.
-fn refuse(out: &mut Vec<u8>, line: u64, cause: &[u8], more: &[u8]) -> Result<(), Memory>
-    ensures ok { OnOk result (out.new.items ≡ out.old.items ++ refusal_text line (cause.now ++ more.now)) }
+/// Appends a line's number and why it is refused, told in pieces.
+fn refuse(out: &mut Vec<u8>, line: u64, cause: &[&[u8]]) -> Result<(), Memory>
+    ensures ok { OnOk result (out.new.items ≡ out.old.items ++ refusal_text line (flat_map (λ piece. piece.now) cause.now)) }
     ensures memory { OnErr result (out.new.items ≡ out.old.items) }
 {
+    let before = out.len();
+    let done = append_refusal(out, line, cause);
+    if done.is_err() {
+        out.truncate(before);
+    }
+    done
+}
+
+/// As `refuse`, but what went before want of memory stays.
+fn append_refusal(out: &mut Vec<u8>, line: u64, cause: &[&[u8]]) -> Result<(), Memory>
+    ensures ok { OnOk result (out.new.items ≡ out.old.items ++ refusal_text line (flat_map (λ piece. piece.now) cause.now)) }
+    ensures memory { OnErr result (take (length out.old.items) out.new.items ≡ out.old.items) }
+{
     let mut digits = Buffer::new();
-    append(
-        out,
-        &[b"line ", digits.format(line).as_bytes(), b": ", cause, more, b"\n"],
-    )
+    append(out, &[b"line ", digits.format(line).as_bytes(), b": "])?;
+    append(out, cause)?;
+    append(out, &[b"\n"])
 }
 
 /// Appends these pieces, one after the other.

@@ -5,7 +5,7 @@ ghost use Rattle.std.specs.List.{prefix_len, position_or_len};
 ghost use Rattle.script_lang.specs.Lines.{words_of, after_word, is_blank};
 
 /// The first word of a text, and what stands behind it.
-fn first_word(text: &[u8]) -> Option<(&[u8], &[u8])>
+fn first_word(text: &str) -> Option<(&str, &str)>
     ensures { MatchOption result (words_of text.now ≡ []) (λ w. (words_of text.now ≡ w.0.now ∷ words_of w.1.now) × (w.1.now ≡ after_word text.now)) }
 {
     let (_, text) = text.split_at(blanks(text));
@@ -16,19 +16,21 @@ fn first_word(text: &[u8]) -> Option<(&[u8], &[u8])>
 }
 
 /// How many blanks stand at the front of a text.
-fn blanks(text: &[u8]) -> usize
+fn blanks(text: &str) -> usize
     ensures value { result ≡ prefix_len is_blank text.now }
     ensures bound { result ≤ length text.now }
 {
-    text.iter().position(|b| !is_blank(*b)).unwrap_or(text.len())
+    text.bytes()
+        .position(|b| !is_blank(b))
+        .unwrap_or(text.len())
 }
 
 /// How many bytes stand before the first blank of a text.
-fn word_len(text: &[u8]) -> usize
+fn word_len(text: &str) -> usize
     ensures value { result ≡ position_or_len is_blank text.now }
     ensures bound { result ≤ length text.now }
 {
-    text.iter().position(|b| is_blank(*b)).unwrap_or(text.len())
+    text.bytes().position(is_blank).unwrap_or(text.len())
 }
 
 fn is_blank(b: u8) -> bool
@@ -41,7 +43,7 @@ fn is_blank(b: u8) -> bool
 #[derive(Clone, Copy)]
 pub(crate) struct Words<'a> {
     /// The rest of the line.
-    pub(crate) text: &'a [u8],
+    pub(crate) text: &'a str,
     /// The place of the first of the words in the line, counted from 1.
     pub(crate) place: u32,
     ghost fits: { place + length (words_of text.now) < 2 ^ 32 },
@@ -51,7 +53,7 @@ impl<'a> Words<'a> {
     ghost use Rattle.script_lang.specs.Parts.{left, Takes};
 
     /// The next word.
-    pub(crate) fn next(&mut self) -> Option<&'a [u8]>
+    pub(crate) fn next(&mut self) -> Option<&'a str>
         ensures { MatchOption result (left self.old ≡ []) (λ word. Takes word.now self.old self.new) }
     {
         let (word, text) = first_word(self.text)?;
@@ -67,10 +69,9 @@ impl<'a> Words<'a> {
         ensures { result ≡ length (left self.now) }
     {
         let mut count = 0;
-        let mut text = self.text;
-        while let Some((_, rest)) = first_word(text) {
+        let mut rest = *self;
+        while rest.next().is_some() {
             count += 1;
-            text = rest;
         }
         count
     }

@@ -8,13 +8,13 @@ pub returns-in-Ok-Made-clause-text : goal.returns-in-Ok-Made-clause-text
 returns-in-Ok-Made-clause-text g c = λ told.
     let made = rw c.in-Ok-Made.field-0-is at c.in-Ok-Made.ensures.opening in
     ends_text _ _ (one_more _ _ _ _ c.lines.invariant.going c.first_line.ensures.line refl made.0 (sym (ap (λ r. c.lines.refused + r) made.1 ∙ add-zero c.lines.refused)) c.in-Ok-Made.ensures.text)
-      c.run_dims.result _ c.run_dims.ensures.ends told (c.run_dims.ensures.text told)
+    c.run_dims.result _ c.run_dims.ensures.ends told (c.run_dims.ensures.text told)
 
 pub returns-in-Ok-Made-clause-count : goal.returns-in-Ok-Made-clause-count
 returns-in-Ok-Made-clause-count g c =
     let made = rw c.in-Ok-Made.field-0-is at c.in-Ok-Made.ensures.opening in
     ends_count _ _ (one_more _ _ _ _ c.lines.invariant.going c.first_line.ensures.line refl made.0 (sym (ap (λ r. c.lines.refused + r) made.1 ∙ add-zero c.lines.refused)) c.in-Ok-Made.ensures.text)
-      c.run_dims.result c.run_dims.ensures.ends c.run_dims.ensures.count
+    c.run_dims.result c.run_dims.ensures.ends c.run_dims.ensures.count
 
 pub returns-in-Err-SinkFault-clause-text : goal.returns-in-Err-SinkFault-clause-text
 returns-in-Err-SinkFault-clause-text g c = λ told.
@@ -25,7 +25,7 @@ lines-preserved g c =
     let same = rw c.in-Ok-Nothing.field-0-is at c.in-Ok-Nothing.ensures.opening in
     record {
       going = one_more _ _ _ _ c.lines.invariant.going c.first_line.ensures.line refl same.state
-        (refused_more c.lines.refused _ _ _ same.refused c.from-refused.ensures) c.in-Ok-Nothing.ensures.text;
+          (refused_more c.lines.refused _ _ _ same.refused c.from-refused.ensures) c.in-Ok-Nothing.ensures.text;
       room = omega (arith, c.lines.invariant.room, c.first_line.ensures.shorter);
       counted = omega (arith, c.lines.invariant.counted, at_most_one _ _ c.from-refused.ensures);
       later = omega (arith, c.lines.invariant.later, c.answer_first.ensures.later);

@@ -10,12 +10,12 @@ returns-in-Err-SinkFault-clause-text g c = λ told.
 
 pub lines-preserved : goal.lines-preserved
 lines-preserved g c = record {
-    going = one_more _ _ _ _ c.lines.invariant.going c.first_line.ensures.line refl c.in-Ok.ensures.session.state
+  going = one_more _ _ _ _ c.lines.invariant.going c.first_line.ensures.line refl c.in-Ok.ensures.session.state
       (refused_more c.lines.refused _ _ _ c.in-Ok.ensures.session.refused c.from-refused.ensures) c.in-Ok.ensures.text;
-    room = omega (arith, c.lines.invariant.room, c.first_line.ensures.shorter);
-    counted = omega (arith, c.lines.invariant.counted, at_most_one _ _ c.from-refused.ensures);
-    later = omega (arith, c.lines.invariant.later, c.answer_line.ensures.later);
-  }
+  room = omega (arith, c.lines.invariant.room, c.first_line.ensures.shorter);
+  counted = omega (arith, c.lines.invariant.counted, at_most_one _ _ c.from-refused.ensures);
+  later = omega (arith, c.lines.invariant.later, c.answer_line.ensures.later);
+}
 
 pub returns-clause-text : goal.returns-clause-text
 returns-clause-text g c =

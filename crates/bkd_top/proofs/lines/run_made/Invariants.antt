@@ -7,8 +7,8 @@ use Rattle.bkd_top.proofs.lines.run_made.Given as goal
 abbrev pub invariant-lines : goal.invariant-lines
 invariant-lines g l = record {
   going : Progress (IsTrue g.K.Sink.told)
-    (record { line = l.initial.line; refused = l.initial.refused; state = Some l.initial.session; rest = lines_of l.initial.rest; written = g.K.Sink.written l.initial.out })
-    (record { line = l.line; refused = l.refused; state = Some l.session; rest = lines_of l.rest; written = g.K.Sink.written l.out });
+      (record { line = l.initial.line; refused = l.initial.refused; state = Some l.initial.session; rest = lines_of l.initial.rest; written = g.K.Sink.written l.initial.out })
+      (record { line = l.line; refused = l.refused; state = Some l.session; rest = lines_of l.rest; written = g.K.Sink.written l.out });
   room : l.line + length l.rest < 2 ^ 64;
   counted : l.refused ≤ l.line;
   later : g.K.Sink.faults l.initial.out ≤ g.K.Sink.faults l.out;

@@ -7,8 +7,8 @@ returns-in_err-words-clause-no_memory c =
     let p = err_from_is_err_and c.from_residual.result c.from_residual.ensures.1 in
     rw (p.1, p.2) (λ m. text_remembers _ _ c.in_err-words.ensures cc)
 
-pub returns-else-ne-clause-limits : goal.returns-else-ne-clause-limits
-returns-else-ne-clause-limits c = create_within c.create.result _ c.create.ensures
+pub returns-clause-limits : goal.returns-clause-limits
+returns-clause-limits c = create_within c.create.result _ c.create.ensures
 
-pub returns-else-ne-clause-no_memory : goal.returns-else-ne-clause-no_memory
-returns-else-ne-clause-no_memory c = create_remembers c.create.result _ c.create.ensures
+pub returns-clause-no_memory : goal.returns-clause-no_memory
+returns-clause-no_memory c = create_remembers c.create.result _ c.create.ensures

@@ -7,4 +7,4 @@ use Rattle.script_lang.proofs.replies.append_near.Given as goal
 abbrev pub invariant-loop-found : goal.invariant-loop-found
 invariant-loop-found l =
     l.out.items ≡ (l.fn.out.items ++ ended (codes "near " ++ decimal (length l.near)))
-      ++ flat_map found_text (take l.found-index (found_of l.near))
+    ++ flat_map found_text (take l.found-index (found_of l.near))

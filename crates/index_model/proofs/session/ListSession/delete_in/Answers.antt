@@ -10,7 +10,7 @@ overflow_cast-as_slice g c =
     let items = c.as_slice.ensures.value in
     let few = few_hits _ _ _ (in_box c.new.result.bounds) c.self.invariant in
     let same : length c.as_slice-2.result.now ≡ length (hits (in_box c.new.result.bounds) c.self.inside.docs.items) =
-      ap length (c.as_slice-2.ensures.value ∙ c.in_ok-hits.ensures.hits ∙ ap (hits (in_box c.new.result.bounds)) items) in
+    ap length (c.as_slice-2.ensures.value ∙ c.in_ok-hits.ensures.hits ∙ ap (hits (in_box c.new.result.bounds)) items) in
     omega (arith, few)
 
 pub invariant_of-self : goal.invariant_of-self

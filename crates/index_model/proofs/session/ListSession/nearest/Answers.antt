@@ -7,6 +7,9 @@ use Rattle.index_model.proofs.session.ListSession.nearest.Goals as goal
 
 pub returns : goal.returns
 unfolding step_on
-returns g c = rw c.in-Some.ensures (refl, c.in_ok-put_near.ensures.ok
-    ∙ ap (λ found. c.args.out.now.items ++ near_text found)
-      (ap found_of c.as_slice.ensures.value ∙ sym (numbers_first _) ∙ ap (map (λ found. (found.1, found.0))) c.in_ok-scan_nearest.ensures))
+returns g c = rw c.in-Some.ensures (
+  refl,
+  c.in_ok-put_near.ensures.ok
+      ∙ ap (λ found. c.args.out.now.items ++ near_text found)
+      (ap found_of c.as_slice.ensures.value ∙ sym (numbers_first _) ∙ ap (map (λ found. (found.1, found.0))) c.in_ok-scan_nearest.ensures),
+)
