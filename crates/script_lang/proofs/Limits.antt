@@ -1,13 +1,13 @@
 -- What a line asks is within the limits, and no line fails for want of memory.
-use Rattle.std.proofs.Common.{◌≡◌, ℕ, ◌+◌, ◌*◌, ◌/◌, ◌<◌, ◌≤◌, Bool, true, false, cond, List, [], ◌∷◌, length, Option, Some, None, Result, Ok, Err, arith, refl, sym, subst, ℤ}
-use Rattle.std.specs.Prelude.{◌≢◌, not, ok_or, nat_le, ◌&&◌, IfOk}
+use Rattle.std.proofs.Common.{◌≡◌, ℕ, ◌+◌, Bool, true, false, cond, List, [], ◌∷◌, Option, Some, None, Result, Ok, Err, arith, refl, sym, subst, ℤ}
+use Rattle.std.specs.Prelude.{◌≢◌, not, ok_or, IfOk}
 use Rattle.std.proofs.lemmas.Bool.Decides.{nat_tests}
 use Rattle.number_text.specs.Number.{number, coordinate}
 use Rattle.polygon_query.specs.GeoJson.{polygon_of}
 use Rattle.polygon_query.specs.declared.geo_json.GeoFault.{GeoFault}
 use Rattle.script_lang.specs.Requests.{Request}
 use Rattle.script_lang.specs.Requests as asks
-use Rattle.script_lang.specs.Reading.{Reading, Says, Fails, greatest_leaf, is_from_to, given, value_of, values_of, onto_values, points_of, corners_of, box_of, Query, query_of, name_of, alone, created, read_create, read_add, read_delete, read_box, nearest_of, read_nearest, behind_view, polygon_fault, rings_of, read_polygon, read_merge, read_command, text_of}
+use Rattle.script_lang.specs.Reading.{Reading, Says, Fails, greatest_leaf, is_from_to, given, value_of, values_of, onto_values, points_of, corners_of, box_of, query_of, name_of, alone, created, read_create, read_add, read_delete, read_box, nearest_of, read_nearest, behind_view, polygon_fault, rings_of, read_polygon, read_merge, read_command, text_of}
 use Rattle.script_lang.specs.Seen.{IsWithinLimits, Agrees, request_of, first_request_of}
 use Rattle.script_lang.specs.Parts.{first_reading_of}
 use Rattle.script_lang.specs.declared.commands.Command.{Command}

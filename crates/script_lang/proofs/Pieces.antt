@@ -1,6 +1,6 @@
 -- Where a text is cut.
-use Rattle.std.proofs.Common.{◌≡◌, ℕ, ◌<◌, ◌≤◌, Bool, true, false, List, [], ◌∷◌, length, cond, Option, Some, None, arith, rules, refl, ap, ◌∙◌}
-use Rattle.std.specs.Prelude.{unwrap_or, position, nat_lt, not}
+use Rattle.std.proofs.Common.{◌≡◌, ℕ, ◌<◌, ◌≤◌, Bool, true, false, List, [], ◌∷◌, length, arith, refl, ◌∙◌}
+use Rattle.std.specs.Prelude.{unwrap_or, position, not}
 use Rattle.std.specs.List.{position_or_len, prefix_len, slice_split}
 use Rattle.std.proofs.lemmas.List.Sums.{prefix_len-le-length}
 use Rattle.std.proofs.lemmas.List.Splits.{slice_split-cons_no}

@@ -1,5 +1,5 @@
 -- A text that grows by the text of one element after the other.
-use Rattle.std.proofs.Common.{◌≡◌, ℕ, ◌+◌, ◌<◌, ◌≤◌, List, [], ◌∷◌, ◌++◌, length, take, drop, ◌-◌, get_or, arith, refl, ap, sym, ◌∙◌, append_assoc, subst}
+use Rattle.std.proofs.Common.{◌≡◌, ℕ, ◌+◌, ◌<◌, List, [], ◌∷◌, ◌++◌, length, take, drop, ◌-◌, get_or, refl, ap, sym, ◌∙◌, append_assoc, subst}
 use Rattle.std.specs.List.{flat_map}
 use Rattle.std.specs.Prelude.{codes, decimal, OnOk, Result}
 use Rattle.std.proofs.Math.Seq.{drop-append_seam}

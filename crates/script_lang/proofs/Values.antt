@@ -1,13 +1,11 @@
 -- The values of words, read one by one.
-use Rattle.std.proofs.Common.{◌≡◌, ℕ, ◌+◌, ◌-◌, ◌*◌, ◌<◌, ◌≤◌, List, [], ◌∷◌, ◌++◌, length, Option, Some, None, Result, Ok, Err, arith, rules, refl, ap, sym, ◌∙◌, append_assoc, length-append, ℤ, take, drop, take_all, add-one}
+use Rattle.std.proofs.Common.{◌≡◌, ℕ, ◌+◌, ◌*◌, ◌<◌, ◌≤◌, List, [], ◌∷◌, ◌++◌, length, Option, Result, Ok, Err, arith, refl, ap, sym, ◌∙◌, append_assoc, length-append, ℤ, take, drop, take_all, add-one}
 use Rattle.std.proofs.Math.ListN.{set}
 use Rattle.std.proofs.Math.Seq.{take-suc-set, take-append_seam, drop-append_seam}
 use Rattle.std.proofs.lemmas.List.{append-nil}
-use Rattle.std.proofs.lemmas.Grind.{common_steps}
-use Rattle.script_lang.specs.Lines.{words_of}
 use Rattle.std.proofs.lemmas.Bool.Decides.{nat_tests}
 use Rattle.number_text.specs.Number.{coordinate}
-use Rattle.script_lang.specs.Reading.{value_of, values_of, onto_values, box_of, corners_of}
+use Rattle.script_lang.specs.Reading.{value_of, values_of, onto_values, box_of}
 use Rattle.script_lang.specs.Parts.{left, before, Takes, Writes}
 use Rattle.script_lang.specs.declared.faults.LineFault.{LineFault}
 use Rattle.script_lang.specs.declared.faults.LineFault.TheVariants as fault

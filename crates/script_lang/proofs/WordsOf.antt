@@ -1,8 +1,8 @@
 -- The words of a text, taken off one by one.
-use Rattle.std.proofs.Common.{◌≡◌, ℕ, ◌+◌, ◌-◌, ◌<◌, ◌≤◌, Bool, true, false, List, [], ◌∷◌, ◌++◌, length, cond, take, drop, get_or, arith, rules, refl, ap, sym, ◌∙◌, add-one, add-zero, length-take-le, eqb, ◌⊎◌, inl, inr}
-use Rattle.std.specs.Prelude.{nat_lt, not, filter}
-use Rattle.std.specs.List.{position_or_len, prefix_len, slice_split, before_first, after_first, onto_first}
-use Rattle.std.proofs.lemmas.List.Splits.{slice_split-cons_yes, slice_split-cons_no, slice_split_first, length-slice_split}
+use Rattle.std.proofs.Common.{◌≡◌, ℕ, ◌+◌, ◌<◌, ◌≤◌, Bool, true, false, List, [], ◌∷◌, length, take, drop, arith, refl, ap, sym, ◌∙◌, add-one, length-take-le}
+use Rattle.std.specs.Prelude.{nat_lt, filter}
+use Rattle.std.specs.List.{position_or_len, prefix_len, slice_split, before_first, after_first}
+use Rattle.std.proofs.lemmas.List.Splits.{slice_split-cons_yes, slice_split_first, length-slice_split}
 use Rattle.std.proofs.lemmas.List.Sums.{prefix_len-le-length, passes_at_first, length-filter, count_by-le-length}
 use Rattle.std.proofs.lemmas.Bool.Decides.{nat_tests}
 use Rattle.std.proofs.lemmas.Grind.{common_steps}

@@ -1,5 +1,5 @@
 -- The lines of a script, their words, and what stands behind a word.
-use Rattle.std.specs.Prelude.{ℕ, ◌≡◌, ◌==◌, ◌||◌, Bool, nat_lt, if◌then◌else◌, List, [], ◌∷◌, length, drop, filter}
+use Rattle.std.specs.Prelude.{ℕ, ◌==◌, ◌||◌, Bool, nat_lt, if◌then◌else◌, List, [], ◌∷◌, length, drop, filter}
 use Rattle.std.specs.List.{slice_split, prefix_len, position_or_len}
 
 abbrev pub without_empty_end : List (List ℕ) → List (List ℕ)

@@ -1,5 +1,5 @@
 -- What the definitions see of the types of this crate.
-use Rattle.std.specs.Prelude.{ℕ, List, Option, None, Some, Result, Ok, Err, ◌≡◌, ◌≤◌}
+use Rattle.std.specs.Prelude.{ℕ, None, Some, Result, Ok, Err, ◌≡◌, ◌≤◌}
 use Rattle.point_codec.specs.declared.names.View.{View}
 use Rattle.point_codec.specs.declared.names.View.TheVariants.{Now, Named}
 use Rattle.script_lang.specs.Requests.{Viewed, Request}

@@ -1,4 +1,4 @@
-use Rattle.std.proofs.Common.{◌≡◌, rules, arith, length}
+use Rattle.std.proofs.Common.{◌≡◌, rules, length}
 use Rattle.script_lang.proofs.ReadPoints.{reads_more}
 use Rattle.script_lang.proofs.changes.points_at.Goals as goal
 

@@ -1,4 +1,4 @@
-use Rattle.std.proofs.Common.{◌≡◌, ◌≤◌, ◌-◌, vec_len, length}
+use Rattle.std.proofs.Common.{◌≤◌, ◌-◌, vec_len}
 use Rattle.script_lang.specs.Parts.{ReadsPoints}
 use Rattle.script_lang.proofs.changes.points_at.Given as goal
 

@@ -1,8 +1,7 @@
 use Rattle.std.proofs.Common.{rules, tests}
-use Rattle.std.specs.Prelude.{◌==◌, not}
+use Rattle.std.specs.Prelude.{◌==◌}
 use Rattle.std.proofs.lemmas.Iterator.{YieldsList-from_slice}
 use Rattle.std.proofs.lemmas.Iterator.Search.{position_from_yields_List}
-use Rattle.script_lang.specs.Lines.{is_blank}
 use Rattle.script_lang.proofs.Pieces.{position_or_length, position_or_length}
 use Rattle.script_lang.proofs.lines.line_len.Goals as goal
 

@@ -1,4 +1,4 @@
-use Rattle.std.proofs.Common.{◌≡◌, ◌∙◌, rules, arith}
+use Rattle.std.proofs.Common.{◌∙◌, rules, arith}
 use Rattle.std.proofs.lemmas.Result.{err_from_is_err_and}
 use Rattle.script_lang.proofs.Values.{box_words, box_fault, box_whole, fails_later}
 use Rattle.script_lang.proofs.numbers.box_at.Goals as goal

@@ -1,4 +1,4 @@
-use Rattle.std.proofs.Common.{◌≡◌, rules, arith, sym}
+use Rattle.std.proofs.Common.{◌≡◌, rules, arith}
 use Rattle.number_text.specs.Number.{coordinate}
 use mir.Val.{to_z, of_z}
 use mir.Syntax.{w32}

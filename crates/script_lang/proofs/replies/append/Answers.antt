@@ -1,4 +1,3 @@
-use Rattle.std.proofs.Common.{rules}
 use Rattle.script_lang.proofs.Said.{said_more}
 use Rattle.script_lang.proofs.replies.append.Goals as goal
 

@@ -1,9 +1,9 @@
 use Rattle.std.proofs.Common.{rules, tests}
-use Rattle.std.specs.Prelude.{◌==◌, not}
+use Rattle.std.specs.Prelude.{not}
 use Rattle.std.proofs.lemmas.Iterator.Adapters.{YieldsList-from_bytes}
 use Rattle.std.proofs.lemmas.Iterator.Search.{position_from_yields_List}
 use Rattle.script_lang.specs.Lines.{is_blank}
-use Rattle.script_lang.proofs.Pieces.{position_or_length, first_failing}
+use Rattle.script_lang.proofs.Pieces.{first_failing}
 use Rattle.script_lang.proofs.words.blanks.Goals as goal
 
 pub returns-clause-value : goal.returns-clause-value

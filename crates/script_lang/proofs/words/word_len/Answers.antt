@@ -1,5 +1,4 @@
 use Rattle.std.proofs.Common.{rules, tests}
-use Rattle.std.specs.Prelude.{◌==◌, not}
 use Rattle.std.proofs.lemmas.Iterator.Adapters.{YieldsList-from_bytes}
 use Rattle.std.proofs.lemmas.Iterator.Search.{position_from_yields_List}
 use Rattle.script_lang.specs.Lines.{is_blank}
