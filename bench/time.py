@@ -1,0 +1,103 @@
+#!/usr/bin/env python3
+"""Times the program crates/bench, which has to be built (rt run in its folder), and prints ratios of one run.
+
+usage: bench/time.py csv | rings
+"""
+import os
+import random
+import subprocess
+import sys
+import tempfile
+import time
+
+HERE = os.path.dirname(os.path.abspath(__file__))
+PROGRAM = os.path.join(HERE, "..", "crates", "bench", "out", "bench")
+
+LOOP = r"""
+#include <stdio.h>
+#include <stdlib.h>
+/* the plainest loop: commas and line ends, no quotes; the second and third column of each line */
+int main(void) {
+    size_t room = 1 << 26, size = 0, n;
+    char *text = malloc(room);
+    while ((n = fread(text + size, 1, room - size, stdin)) > 0) {
+        size += n;
+        if (size == room) text = realloc(text, room *= 2);
+    }
+    long points = -1, sum = 0;
+    int *kept = malloc(size * sizeof(int) / 4 + 64);
+    size_t filled = 0, at = 0;
+    while (at < size) {
+        int column = 0;
+        while (at < size && text[at] != '\n') {
+            long value = 0;
+            int minus = text[at] == '-';
+            if (minus) at++;
+            while (at < size && text[at] != ',' && text[at] != '\n') value = value * 10 + (text[at++] - '0');
+            if (column > 0 && points >= 0) kept[filled++] = (int)(minus ? -value : value);
+            if (at < size && text[at] == ',') at++;
+            column++;
+        }
+        at++;
+        points++;
+    }
+    for (size_t i = 0; i < filled; i++) sum += kept[i];
+    printf("points %ld sum %ld\n", points, sum);
+    return 0;
+}
+"""
+
+
+def best(words, text=None, times=5):
+    """The least wall time of some runs, in seconds, and what the last one printed."""
+    least, said = None, ""
+    for _ in range(times):
+        begun = time.perf_counter()
+        run = subprocess.run(words, input=text, capture_output=True, check=True)
+        spent = time.perf_counter() - begun
+        least = spent if least is None else min(least, spent)
+        said = run.stdout.decode().strip()
+    return least, said
+
+
+def csv():
+    draw = random.Random(1)
+    lines = ["id,x,y"]
+    for i in range(1_000_000):
+        lines.append("%d,%d,%d" % (i, draw.randint(-10**8, 10**8), draw.randint(-10**8, 10**8)))
+    text = ("\n".join(lines) + "\n").encode()
+    with tempfile.TemporaryDirectory() as folder:
+        source = os.path.join(folder, "loop.c")
+        with open(source, "w") as file:
+            file.write(LOOP)
+        plain = os.path.join(folder, "loop")
+        subprocess.run(["cc", "-O2", "-o", plain, source], check=True)
+        ours, said = best([PROGRAM, "csv", "x", "y"], text)
+        theirs, told = best([plain], text)
+    print("csv: a million records of three columns, %d bytes" % len(text))
+    print("  read_points %6.0f ms  %s" % (ours * 1000, said))
+    print("  a C loop    %6.0f ms  %s" % (theirs * 1000, told))
+    print("  ratio       %6.2f" % (ours / theirs))
+
+
+def rings():
+    print("rings: a star-shaped ring, points and cells of a hundredth of its width; building taken off")
+    for positions, queries in ((1000, 100_000), (60_000, 4_000)):
+        size = str(positions)
+        empty, _ = best([PROGRAM, "rings", "tree", size, "0"], times=7)
+        tree, said = best([PROGRAM, "rings", "tree", size, str(queries)])
+        plain, told = best([PROGRAM, "rings", "plain", size, str(queries)], times=3)
+        if said != told:
+            sys.exit("the answers differ: %s, %s" % (said, told))
+        tree, plain = max(tree - empty, 1e-6), max(plain - empty, 1e-6)
+        print("  %6d positions, %6d queries: %s" % (positions, queries, said))
+        print("    plain list %9.2f us a query" % (plain / queries * 1e6))
+        print("    edge tree  %9.2f us a query" % (tree / queries * 1e6))
+        print("    ratio      %9.1f" % (plain / tree))
+
+
+if __name__ == "__main__":
+    kinds = {"csv": csv, "rings": rings}
+    if len(sys.argv) != 2 or sys.argv[1] not in kinds:
+        sys.exit(__doc__)
+    kinds[sys.argv[1]]()

@@ -1,0 +1,58 @@
+//! What the scripts in `bench/` time: a part of the index and the plain form of it on the same work, with a printed answer.
+#![tactic(auto)]
+
+mod rings;
+
+use byte_cursor::Bytes;
+use csv_load::read_points;
+use number_text::number;
+use outer_io::{StdSource, read_all};
+use std::alloc::Global;
+use std::io::Lock;
+use std::{env, io};
+
+/// The words of a run, and what it prints:
+/// `csv A B` reads CSV from the standard input, and says how many points these two columns give;
+/// `rings plain|tree POSITIONS QUERIES` asks points and small cells of a star-shaped ring by the plain list of edges or by
+/// the edge tree, and says how many are in and how many are met.
+fn main(rt: HostRuntime) -> io::Result<()> {
+    let alloc = rt.alloc();
+    let mut words = Vec::new(alloc);
+    for word in env::args(&rt)?.skip(1) {
+        words.push(word)?;
+    }
+    match words.as_slice() {
+        [command, first, second] if command.as_str() == "csv" => {
+            let mut source = StdSource::new(rt.stdin().lock());
+            let Ok(input) = read_all(alloc, &mut source, 1 << 30) else {
+                return println!(rt; "no input");
+            };
+            let points = loaded(alloc, input.as_slice(), first.as_str(), second.as_str());
+            println!(rt; "points {points}")
+        }
+        [command, kind, positions, queries] if command.as_str() == "rings" => {
+            let positions = number(positions.as_bytes()).unwrap_or(1000).min(65_535);
+            let queries = number(queries.as_bytes()).unwrap_or(1000);
+            match rings::asked(alloc, kind.as_str() == "tree", positions, queries) {
+                Some((inside, met)) => println!(rt; "inside {inside} met {met}"),
+                None => println!(rt; "no ring"),
+            }
+        }
+        _ => println!(rt; "csv A B | rings plain|tree POSITIONS QUERIES"),
+    }
+}
+
+/// How many points the two columns of a CSV file give, or 0 where there is a fault.
+fn loaded(alloc: Global, input: &[u8], first: &str, second: &str) -> usize {
+    let (Ok(first), Ok(second)) = (
+        first.as_bytes().to_vec(alloc),
+        second.as_bytes().to_vec(alloc),
+    ) else {
+        return 0;
+    };
+    let columns = [Bytes::new(first), Bytes::new(second)];
+    match read_points::<2>(alloc, input, &columns) {
+        Ok(points) => points.len(),
+        Err(_) => 0,
+    }
+}
