@@ -59,52 +59,52 @@ fn check(rt: &impl Abort, alloc: Global, rows: &[Row]) -> Result<(), Fail> {
 }
 
 const BOXES_AND_DELETES: &[Row] = &[
-            Row {
-                script: "",
-                answers: "",
-                refused: 0,
-            },
-            Row {
-                script: "create 2\nadd 1 2\nbox 0 0 5 5\n",
-                answers: "ok\ndoc 0\nhits 1\n0\n",
-                refused: 0,
-            },
-            Row {
-                script: "box 0 0 5 5\n",
-                answers: "line 1: no index\n",
-                refused: 1,
-            },
-            Row {
-                script: "create 2\nadd 1 2\nbox 0 0 5 5\nbox 5 0 0 5",
-                answers: "ok\ndoc 0\nhits 1\n0\nhits 0\n",
-                refused: 0,
-            },
-            Row {
-                script: "create 2\nadd -2147483648 2147483647\nbox -2147483648 -2147483648 2147483647 2147483647\n",
-                answers: "ok\ndoc 0\nhits 1\n0\n",
-                refused: 0,
-            },
-            Row {
-                script: "create 1 leaf 2\nadd 5\nadd 7\nadd 7\nadd 7\nadd 7\nflush\nbox 7 8\n",
-                answers: "ok\ndoc 0\ndoc 1\ndoc 2\ndoc 3\ndoc 4\nok\nhits 4\n1\n2\n3\n4\n",
-                refused: 0,
-            },
-            Row {
-                script: "create 2\nadd 1 2\nbox 0 0 5 5\ndelete 0\ndelete 0\ndelete 99\n",
-                answers: "ok\ndoc 0\nhits 1\n0\ndeleted 1\ndeleted 0\ndeleted 0\n",
-                refused: 0,
-            },
-            Row {
-                script: "create 9\ncreate 2 leaf 334\nadd 1 2\ncreate 2\nadd 1\nadd 1 x\nadd 1 2147483648\nnear 1 0 0\nnearest 0 0 0\ncreate 2\nsnapshot a.b\n",
-                answers: "line 1: dims\nline 2: leaf size\nline 3: no index\nok\nline 5: wrong words\nline 6: bad number in word 3\nline 7: bad number in word 3\nline 8: unknown command\nline 9: bad k\nline 10: index exists\nline 11: bad name\n",
-                refused: 10,
-            },
-            Row {
-                script: "# a note\r\n\ncreate 1\r\n",
-                answers: "ok\n",
-                refused: 0,
-            },
-        ];
+    Row {
+        script: "",
+        answers: "",
+        refused: 0,
+    },
+    Row {
+        script: "create 2\nadd 1 2\nbox 0 0 5 5\n",
+        answers: "ok\ndoc 0\nhits 1\n0\n",
+        refused: 0,
+    },
+    Row {
+        script: "box 0 0 5 5\n",
+        answers: "line 1: no index\n",
+        refused: 1,
+    },
+    Row {
+        script: "create 2\nadd 1 2\nbox 0 0 5 5\nbox 5 0 0 5",
+        answers: "ok\ndoc 0\nhits 1\n0\nhits 0\n",
+        refused: 0,
+    },
+    Row {
+        script: "create 2\nadd -2147483648 2147483647\nbox -2147483648 -2147483648 2147483647 2147483647\n",
+        answers: "ok\ndoc 0\nhits 1\n0\n",
+        refused: 0,
+    },
+    Row {
+        script: "create 1 leaf 2\nadd 5\nadd 7\nadd 7\nadd 7\nadd 7\nflush\nbox 7 8\n",
+        answers: "ok\ndoc 0\ndoc 1\ndoc 2\ndoc 3\ndoc 4\nok\nhits 4\n1\n2\n3\n4\n",
+        refused: 0,
+    },
+    Row {
+        script: "create 2\nadd 1 2\nbox 0 0 5 5\ndelete 0\ndelete 0\ndelete 99\n",
+        answers: "ok\ndoc 0\nhits 1\n0\ndeleted 1\ndeleted 0\ndeleted 0\n",
+        refused: 0,
+    },
+    Row {
+        script: "create 9\ncreate 2 leaf 334\nadd 1 2\ncreate 2\nadd 1\nadd 1 x\nadd 1 2147483648\nnear 1 0 0\nnearest 0 0 0\ncreate 2\nsnapshot a.b\n",
+        answers: "line 1: dims\nline 2: leaf size\nline 3: no index\nok\nline 5: wrong words\nline 6: bad number in word 3\nline 7: bad number in word 3\nline 8: unknown command\nline 9: bad k\nline 10: index exists\nline 11: bad name\n",
+        refused: 10,
+    },
+    Row {
+        script: "# a note\r\n\ncreate 1\r\n",
+        answers: "ok\n",
+        refused: 0,
+    },
+];
 
 #[test]
 fn boxes_and_deletes(rt: HostRuntime) -> Result<(), Fail> {
@@ -112,42 +112,42 @@ fn boxes_and_deletes(rt: HostRuntime) -> Result<(), Fail> {
 }
 
 const MERGES_AND_SNAPSHOTS: &[Row] = &[
-            Row {
-                script: "create 1\nadd 1\nadd 2\nflush\nadd 3\nflush\nmerge begin 0 1\ndelete 1\nmerge end\nreopen\nbox 0 9\n",
-                answers: "ok\ndoc 0\ndoc 1\nok\ndoc 2\nok\nok\ndeleted 1\nok\nok\nhits 2\n0\n2\n",
-                refused: 0,
-            },
-            Row {
-                script: "create 1\nadd 1\nadd 2\nsnapshot a\ndelete 0\nflush\nmerge\nbox @a 0 9\nbox 0 9\nreopen\nbox @a 0 9\n",
-                answers: "ok\ndoc 0\ndoc 1\nok\ndeleted 1\nok\nok\nhits 2\n0\n1\nhits 1\n1\nok\nline 11: unknown snapshot\n",
-                refused: 1,
-            },
-            Row {
-                script: "create 1\nadd 5\nadd 6\nadd 9\nmerge end\nmerge begin\nmerge begin 7\nmerge end\ndelete box 5 6\nbox 0 9\n",
-                answers: "ok\ndoc 0\ndoc 1\ndoc 2\nline 5: no merge begun\nok\nline 7: merge begun\nok\ndeleted 2\nhits 1\n2\n",
-                refused: 2,
-            },
-            Row {
-                script: "create 1\nsnapshot a\nsnapshot a\nrelease b\nrelease a\nbox @a 0 9\n",
-                answers: "ok\nok\nline 3: name taken\nline 4: unknown snapshot\nok\nline 6: unknown snapshot\n",
-                refused: 3,
-            },
-            Row {
-                script: "create 1\nsnapshot s1\nsnapshot s2\nsnapshot s3\nsnapshot s4\nsnapshot s5\nsnapshot s6\nsnapshot s7\nsnapshot s8\nsnapshot s9\nsnapshot s10\nsnapshot s11\nsnapshot s12\nsnapshot s13\nsnapshot s14\nsnapshot s15\nsnapshot s16\nsnapshot s17\n",
-                answers: "ok\nok\nok\nok\nok\nok\nok\nok\nok\nok\nok\nok\nok\nok\nok\nok\nok\nline 18: too many snapshots\n",
-                refused: 1,
-            },
-            Row {
-                script: "create 1\nadd 1\nflush\nmerge begin 0 0 9\ndelete 0\nmerge end\nadd 2\nbox 0 9\n",
-                answers: "ok\ndoc 0\nok\nok\ndeleted 1\nok\ndoc 1\nhits 1\n1\n",
-                refused: 0,
-            },
-            Row {
-                script: "create 1\nadd 1\nflush\nsnapshot a\ndelete 0\nbox @a 0 9\n",
-                answers: "ok\ndoc 0\nok\nok\ndeleted 1\nhits 1\n0\n",
-                refused: 0,
-            },
-        ];
+    Row {
+        script: "create 1\nadd 1\nadd 2\nflush\nadd 3\nflush\nmerge begin 0 1\ndelete 1\nmerge end\nreopen\nbox 0 9\n",
+        answers: "ok\ndoc 0\ndoc 1\nok\ndoc 2\nok\nok\ndeleted 1\nok\nok\nhits 2\n0\n2\n",
+        refused: 0,
+    },
+    Row {
+        script: "create 1\nadd 1\nadd 2\nsnapshot a\ndelete 0\nflush\nmerge\nbox @a 0 9\nbox 0 9\nreopen\nbox @a 0 9\n",
+        answers: "ok\ndoc 0\ndoc 1\nok\ndeleted 1\nok\nok\nhits 2\n0\n1\nhits 1\n1\nok\nline 11: unknown snapshot\n",
+        refused: 1,
+    },
+    Row {
+        script: "create 1\nadd 5\nadd 6\nadd 9\nmerge end\nmerge begin\nmerge begin 7\nmerge end\ndelete box 5 6\nbox 0 9\n",
+        answers: "ok\ndoc 0\ndoc 1\ndoc 2\nline 5: no merge begun\nok\nline 7: merge begun\nok\ndeleted 2\nhits 1\n2\n",
+        refused: 2,
+    },
+    Row {
+        script: "create 1\nsnapshot a\nsnapshot a\nrelease b\nrelease a\nbox @a 0 9\n",
+        answers: "ok\nok\nline 3: name taken\nline 4: unknown snapshot\nok\nline 6: unknown snapshot\n",
+        refused: 3,
+    },
+    Row {
+        script: "create 1\nsnapshot s1\nsnapshot s2\nsnapshot s3\nsnapshot s4\nsnapshot s5\nsnapshot s6\nsnapshot s7\nsnapshot s8\nsnapshot s9\nsnapshot s10\nsnapshot s11\nsnapshot s12\nsnapshot s13\nsnapshot s14\nsnapshot s15\nsnapshot s16\nsnapshot s17\n",
+        answers: "ok\nok\nok\nok\nok\nok\nok\nok\nok\nok\nok\nok\nok\nok\nok\nok\nok\nline 18: too many snapshots\n",
+        refused: 1,
+    },
+    Row {
+        script: "create 1\nadd 1\nflush\nmerge begin 0 0 9\ndelete 0\nmerge end\nadd 2\nbox 0 9\n",
+        answers: "ok\ndoc 0\nok\nok\ndeleted 1\nok\ndoc 1\nhits 1\n1\n",
+        refused: 0,
+    },
+    Row {
+        script: "create 1\nadd 1\nflush\nsnapshot a\ndelete 0\nbox @a 0 9\n",
+        answers: "ok\ndoc 0\nok\nok\ndeleted 1\nhits 1\n0\n",
+        refused: 0,
+    },
+];
 
 #[test]
 fn merges_and_snapshots(rt: HostRuntime) -> Result<(), Fail> {
@@ -155,32 +155,32 @@ fn merges_and_snapshots(rt: HostRuntime) -> Result<(), Fail> {
 }
 
 const NEAREST_AND_MANY_POINTS: &[Row] = &[
-            Row {
-                script: "create 1\nadd 10\nflush\nadd -10\nadd 10\nflush\nnearest 2 0\n",
-                answers: "ok\ndoc 0\nok\ndoc 1\ndoc 2\nok\nnear 2\n0 100\n1 100\n",
-                refused: 0,
-            },
-            Row {
-                script: "create 8\nadd 2147483647 2147483647 2147483647 2147483647 2147483647 2147483647 2147483647 2147483647\nnearest 1 -2147483648 -2147483648 -2147483648 -2147483648 -2147483648 -2147483648 -2147483648 -2147483648\nnearest 10001 -2147483648 -2147483648 -2147483648 -2147483648 -2147483648 -2147483648 -2147483648 -2147483648\nnearest 10000 -2147483648 -2147483648 -2147483648 -2147483648 -2147483648 -2147483648 -2147483648 -2147483648\n",
-                answers: "ok\ndoc 0\nnear 1\n0 147573952520956936200\nline 4: bad k\nnear 1\n0 147573952520956936200\n",
-                refused: 1,
-            },
-            Row {
-                script: "create 2\nnearest 3 0 0\nadd 3 4\nadd 0 5\nnearest 1 0 0\n",
-                answers: "ok\nnear 0\ndoc 0\ndoc 1\nnear 1\n0 25\n",
-                refused: 0,
-            },
-            Row {
-                script: "create 2\nadd 0 0 10 10\nbox 9 9 11 11\nbox 0 0 10 10\nnearest 1 1 1\nadd 1 2 3\n",
-                answers: "ok\ndoc 0\nhits 1\n0\nhits 1\n0\nnear 1\n0 2\nline 6: wrong words\n",
-                refused: 1,
-            },
-            Row {
-                script: "create 1\nadd 1 9\nflush\nadd 2\nnearest 2 9\ndelete box 8 9\nbox 0 9\n",
-                answers: "ok\ndoc 0\nok\ndoc 1\nnear 2\n0 0\n1 49\ndeleted 1\nhits 1\n1\n",
-                refused: 0,
-            },
-        ];
+    Row {
+        script: "create 1\nadd 10\nflush\nadd -10\nadd 10\nflush\nnearest 2 0\n",
+        answers: "ok\ndoc 0\nok\ndoc 1\ndoc 2\nok\nnear 2\n0 100\n1 100\n",
+        refused: 0,
+    },
+    Row {
+        script: "create 8\nadd 2147483647 2147483647 2147483647 2147483647 2147483647 2147483647 2147483647 2147483647\nnearest 1 -2147483648 -2147483648 -2147483648 -2147483648 -2147483648 -2147483648 -2147483648 -2147483648\nnearest 10001 -2147483648 -2147483648 -2147483648 -2147483648 -2147483648 -2147483648 -2147483648 -2147483648\nnearest 10000 -2147483648 -2147483648 -2147483648 -2147483648 -2147483648 -2147483648 -2147483648 -2147483648\n",
+        answers: "ok\ndoc 0\nnear 1\n0 147573952520956936200\nline 4: bad k\nnear 1\n0 147573952520956936200\n",
+        refused: 1,
+    },
+    Row {
+        script: "create 2\nnearest 3 0 0\nadd 3 4\nadd 0 5\nnearest 1 0 0\n",
+        answers: "ok\nnear 0\ndoc 0\ndoc 1\nnear 1\n0 25\n",
+        refused: 0,
+    },
+    Row {
+        script: "create 2\nadd 0 0 10 10\nbox 9 9 11 11\nbox 0 0 10 10\nnearest 1 1 1\nadd 1 2 3\n",
+        answers: "ok\ndoc 0\nhits 1\n0\nhits 1\n0\nnear 1\n0 2\nline 6: wrong words\n",
+        refused: 1,
+    },
+    Row {
+        script: "create 1\nadd 1 9\nflush\nadd 2\nnearest 2 9\ndelete box 8 9\nbox 0 9\n",
+        answers: "ok\ndoc 0\nok\ndoc 1\nnear 2\n0 0\n1 49\ndeleted 1\nhits 1\n1\n",
+        refused: 0,
+    },
+];
 
 #[test]
 fn nearest_and_many_points(rt: HostRuntime) -> Result<(), Fail> {
@@ -243,6 +243,30 @@ fn faults(rt: HostRuntime) -> Result<(), Fail> {
         let (status, output) = outcome(alloc, script, &[], &[], &[call])?;
         assert_eq!(rt; status, Status::SinkFault);
         assert_eq!(rt; std::str::from_utf8(output.bytes()), Ok(answers));
+    }
+    Ok(())
+}
+
+/// Where the output has no more room, what went out is a prefix of the answers.
+#[test]
+fn an_output_without_room(rt: HostRuntime) -> Result<(), Fail> {
+    let alloc = rt.alloc();
+    let answers = b"ok\ndoc 0\nhits 1\n0\n".as_slice();
+    for room in 0..=answers.len() {
+        let mut input = MemSource::new(
+            b"create 2\nadd 1 2\nbox 0 0 5 5\n".to_vec(alloc)?,
+            Vec::new(alloc),
+        );
+        let mut folder = MemFolder::new(alloc, Vec::new(alloc));
+        let mut output = MemSink::new(alloc, room, Vec::new(alloc))?;
+        let status = run_script(alloc, &mut input, &mut folder, &mut output);
+        let want = if room < answers.len() {
+            Status::SinkFault
+        } else {
+            Status::Done
+        };
+        assert_eq!(rt; status, want);
+        assert_eq!(rt; output.bytes(), &answers[..room]);
     }
     Ok(())
 }
