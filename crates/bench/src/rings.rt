@@ -65,7 +65,12 @@ fn scaled(x: i64, distance: i64) -> i32 {
 }
 
 /// How many drawn points are in the ring, and how many cells of a hundredth of its width its edges meet.
-pub(crate) fn asked(alloc: Global, by_tree: bool, positions: u32, queries: u32) -> Option<(u32, u32)> {
+pub(crate) fn asked(
+    alloc: Global,
+    by_tree: bool,
+    positions: u32,
+    queries: u32,
+) -> Option<(u32, u32)> {
     let mut list = Vec::new(alloc);
     list.push(Ring::new(star(alloc, positions).ok()?)).ok()?;
     let rings = Rings::new(list).ok()?;
