@@ -1,0 +1,296 @@
+-- Reading numbers from words.
+use Rattle.std.proofs.Common.{◌≡◌, ◌≢◌, ◌<◌, ◌≤◌, ◌+◌, ◌-◌, ◌*◌, ◌^◌, ℕ, zero, suc, min, max, Bool, true≢false, below_more, ◌⊎◌, true, false, List, [], ◌∷◌, ◌++◌, length, get_or, take, drop, refl, sym, ap, ◌∙◌, arith, cond, eqb, inl, inr, length-take, length-drop, length-append, mul-le-mul_right, drop-drop, drop_at}
+use Rattle.std.specs.Prelude.{bit_and, All}
+use Rattle.std.specs.List.{fold}
+use Rattle.std.proofs.lemmas.Bool.{cases_eq, cases_lt, eq-eqb, ne_eqb, false≢true}
+use Rattle.std.proofs.lemmas.List.Elements.{All-take, All-drop, All-from_get_or}
+use Rattle.std.proofs.lemmas.List.FromFn.{get_or-map-range_with_len, length-map-range_with_len}
+use Rattle.leaf_codec.specs.Spelling.{least, greatest, is_row, form, width}
+use Rattle.leaf_codec.specs.Words.{number_of, AreBytes}
+use Rattle.leaf_codec.specs.Raw.{RawNumbers, AreRawNumbers, offset_at, raw_docs}
+use Rattle.leaf_codec.specs.Views.{IsSpan, AreCanonical}
+use Rattle.leaf_codec.proofs.Bytes.{word_masked, number_of-lt}
+use Rattle.leaf_codec.proofs.NumbersLemmas.{least-le, le-greatest, row_true, row_false, form_row, form_other}
+use Rattle.std.proofs.lemmas.List.{get_or_default, drop-take}
+use Rattle.std.proofs.Common.{take-append-drop}
+
+-- what the fields of a number read from words are
+pub record ReadsWords (count : ℕ) (r : RawNumbers) (words : List ℕ) (step mask : ℕ) : Type 0 where
+  pub raw : AreRawNumbers count r
+  pub long : 4 ≤ length words
+  pub bytes : AreBytes words
+  pub is : r.offsets ≡ drop 4 words
+  pub steps : step ≡ cond (eqb r.width 0) 1 0
+  pub masks : mask ≡ 256 ^ r.width - 1
+
+-- a word before its end
+pub word_within : (count w i : ℕ) (words : List ℕ) → length (drop 4 words) ≡ count * w → 4 ≤ length words → i < count → w * (i + 1) + 4 ≤ length words
+word_within count w i words sized long lt = omega (arith, length-drop 4 words, sized, mul-le-mul_right w (next i count lt))
+  where
+    next : (i count : ℕ) → i < count → i + 1 ≤ count
+    next i count lt = omega arith
+
+stepped : (b : Bool) (i : ℕ) → i * cond b 1 0 ≡ cond b i 0
+stepped true i = omega arith
+stepped false i = omega arith
+
+pub offset_read : (count : ℕ) (r : RawNumbers) (words : List ℕ) (step mask i : ℕ) → ReadsWords count r words step mask → i < count
+    → i * step + bit_and (number_of (take 4 (drop (r.width * (i + 1)) words))) mask ≡ offset_at r i
+offset_read count r words step mask i h lt =
+    let narrow = h.raw.narrow in
+    let sized : length (drop 4 words) ≡ count * r.width = ap length (sym h.is) ∙ h.raw.sized in
+    let at : r.width * (i + 1) + (4 - r.width) ≡ 4 + i * r.width = omega arith in
+    let chunk : drop (r.width * (i + 1) + (4 - r.width)) words ≡ drop (i * r.width) r.offsets =
+    ap (λ n. drop n words) at ∙ sym (drop-drop (i * r.width) 4 words) ∙ ap (drop (i * r.width)) (sym h.is) in
+    (λ j. i * h.steps j + bit_and (number_of (take 4 (drop (r.width * (i + 1)) words))) (h.masks j))
+    ∙ (λ j. stepped (eqb r.width 0) i j + word_masked words (r.width * (i + 1)) r.width (omega arith) (word_within count r.width i words sized h.long lt) h.bytes j)
+    ∙ ap (λ (t : List ℕ). cond (eqb r.width 0) i 0 + number_of (take r.width t)) chunk
+
+pub offset_at-lt : (count : ℕ) (r : RawNumbers) (i : ℕ) → AreRawNumbers count r → count ≤ 500 → i < count → offset_at r i < 2 ^ 24
+offset_at-lt count r i h few lt =
+    let chunk = take r.width (drop (i * r.width) r.offsets) in
+    let small : AreBytes chunk = All-take (λ (x : ℕ). x < 256) r.width (drop (i * r.width) r.offsets) (All-drop (λ (x : ℕ). x < 256) (i * r.width) r.offsets h.bytes) in
+    elim (cases_eq r.width 0) [
+      | inl none ↦ (
+          let row : cond (eqb r.width 0) i 0 ≡ i = ap (λ (b : Bool). cond b i 0) (eq-eqb r.width 0 none) in
+          let empty : number_of chunk ≡ 0 = ap (λ w. number_of (take w (drop (i * r.width) r.offsets))) none in
+          omega (arith, row, empty))
+      | inr some ↦ (
+          let row : cond (eqb r.width 0) i 0 ≡ 0 = ap (λ (b : Bool). cond b i 0) (ne_eqb r.width 0 some) in
+          omega (arith, row, number_of-lt chunk small, short (length chunk) r.width h.narrow (omega (arith, length-take r.width (drop (i * r.width) r.offsets)))))
+    ]
+  where
+    short : (k w : ℕ) → w ≤ 3 → k ≤ w → 256 ^ k ≤ 2 ^ 24
+    short zero w le under = omega arith
+    short (suc zero) w le under = omega arith
+    short (suc (suc zero)) w le under = omega arith
+    short (suc (suc (suc zero))) w le under = omega arith
+    short (suc (suc (suc (suc k)))) w le under = absurd (omega arith)
+
+-- ---- a span, number by number
+
+pub span_none : (r : RawNumbers) → IsSpan 0 r 0 false true
+span_none r = record {
+  above = λ i lt. absurd (omega arith);
+  reached = inl refl;
+  some_zero = λ e. absurd (false≢true e);
+  no_zero = λ e i lt. absurd (omega arith);
+  in_row = λ e i lt. absurd (omega arith);
+  out_of_row = λ e. absurd (true≢false e);
+}
+
+-- a fact of one more number
+one_more : (P : ℕ → Type 0) (n : ℕ) → ((i : ℕ) → i < n → P i) → P n → (i : ℕ) → i < n + 1 → P i
+one_more P n below here i lt = below_more P n below here i lt
+
+pub span_more : (n : ℕ) (r : RawNumbers) (top m new : ℕ) (z w z' w' : Bool) → IsSpan n r top z w → offset_at r n ≡ m → new ≡ max top m
+    → ((m ≡ 0) × (z' ≡ true)) ⊎ ((m ≢ 0) × (z' ≡ z)) → ((m ≢ n) × (w' ≡ false)) ⊎ ((m ≡ n) × (w' ≡ w)) → IsSpan (n + 1) r new z' w'
+span_more n r top m new z w z' w' s is top_is nought row = record {
+  above = one_more (λ i. offset_at r i ≤ new) n (λ i lt. omega (arith, s.above i lt)) (omega arith);
+  reached = elim (cases_lt top m) [
+    | inl less ↦ inr (n, omega arith, omega arith)
+    | inr more ↦ elim s.reached [
+      | inl nothing ↦ inl (omega arith)
+      | inr before ↦ inr (before.0, omega (arith, before.1), omega (arith, before.2))
+    ]
+  ];
+  some_zero = λ e. elim nought [
+    | inl now ↦ (n, omega arith, is ∙ now.0)
+    | inr later ↦ (let a = s.some_zero (sym later.1 ∙ e) in (a.0, omega (arith, a.1), a.2))
+  ];
+  no_zero = λ e. elim nought [
+    | inl now ↦ absurd (true≢false (sym now.1 ∙ e))
+    | inr later ↦ one_more (λ i. offset_at r i ≢ 0) n (s.no_zero (sym later.1 ∙ e)) (λ z. later.0 (sym is ∙ z))
+  ];
+  in_row = λ e. elim row [
+    | inl now ↦ absurd (false≢true (sym now.1 ∙ e))
+    | inr later ↦ one_more (λ i. offset_at r i ≡ i) n (s.in_row (sym later.1 ∙ e)) (is ∙ later.0)
+  ];
+  out_of_row = λ e. elim row [
+    | inl now ↦ (n, omega arith, λ z. now.0 (sym is ∙ z))
+    | inr later ↦ (let a = s.out_of_row (sym later.1 ∙ e) in (a.0, omega (arith, a.1), a.2))
+  ];
+}
+
+-- ---- what the span says of the numbers
+
+pub length-raw_docs : (count : ℕ) (r : RawNumbers) → length (raw_docs count r) ≡ count
+unfolding raw_docs
+length-raw_docs count r = length-map-range_with_len (λ i. r.least + offset_at r i) 0 count
+
+pub get_or-raw_docs : (count : ℕ) (r : RawNumbers) (i d : ℕ) → i < count → get_or (raw_docs count r) i d ≡ r.least + offset_at r i
+unfolding raw_docs
+get_or-raw_docs count r i d lt = get_or-map-range_with_len (λ k. r.least + offset_at r k) 0 count i i d lt (omega arith)
+
+fold_min-attained : (m : ℕ) (ns : List ℕ) → (fold min m ns ≡ m) ⊎ ((i : ℕ) × (i < length ns) × (get_or ns i 0 ≡ fold min m ns))
+fold_min-attained m [] = inl refl
+fold_min-attained m (n ∷ ns) = elim (fold_min-attained (min m n) ns) [
+  | inl start ↦ elim (cases_lt n m) [
+    | inl less ↦ inr (0, omega arith, omega (arith, start))
+    | inr more ↦ inl (omega (arith, start))
+  ]
+  | inr later ↦ inr (suc later.0, omega (arith, later.1), later.2)
+]
+
+least-attained : (ns : List ℕ) → 0 < length ns → (i : ℕ) × (i < length ns) × (get_or ns i 0 ≡ least ns)
+least-attained [] some = absurd (omega arith)
+least-attained (n ∷ ns) some = elim (fold_min-attained n ns) [
+  | inl start ↦ (0, some, sym start)
+  | inr later ↦ (suc later.0, omega (arith, later.1), later.2)
+]
+
+fold_max-under : (k m : ℕ) (ns : List ℕ) → k ≤ m → ((i : ℕ) → i < length ns → get_or ns i 0 ≤ m) → fold max k ns ≤ m
+fold_max-under k m [] low h = low
+fold_max-under k m (n ∷ ns) low h = fold_max-under (max k n) m ns (omega (arith, h 0 (omega arith))) (λ i lt. h (suc i) (omega arith))
+
+-- the least number is the field exactly where some number is no greater
+pub least_from : (count : ℕ) (r : RawNumbers) (i : ℕ) → i < count → offset_at r i ≡ 0 → least (raw_docs count r) ≡ r.least
+least_from count r i lt nought =
+    let ns = raw_docs count r in
+    let long = length-raw_docs count r in
+    let some = least-attained ns (omega (arith, long)) in
+    let low : r.least ≤ least ns = omega (arith, some.2, get_or-raw_docs count r some.0 0 (omega (arith, some.1, long))) in
+    omega (arith, low, least-le ns i (omega (arith, long)), get_or-raw_docs count r i 0 lt, nought)
+
+pub least_not : (count : ℕ) (r : RawNumbers) → 0 < count → ((i : ℕ) → i < count → offset_at r i ≢ 0) → least (raw_docs count r) ≢ r.least
+least_not count r pos none is =
+    let ns = raw_docs count r in
+    let long = length-raw_docs count r in
+    let some = least-attained ns (omega (arith, long)) in
+    let under : some.0 < count = omega (arith, some.1, long) in
+    none some.0 under (omega (arith, some.2, get_or-raw_docs count r some.0 0 under, is))
+
+pub greatest_is : (count : ℕ) (r : RawNumbers) (top : ℕ) (z w : Bool) → 0 < count → IsSpan count r top z w → greatest (raw_docs count r) ≡ r.least + top
+greatest_is count r top z w pos s =
+    let ns = raw_docs count r in
+    let long = length-raw_docs count r in
+    let high : greatest ns ≤ r.least + top = fold_max-under 0 (r.least + top) ns (omega arith) (λ i lt.
+    let under : i < count = omega (arith, lt, long) in
+    omega (arith, get_or-raw_docs count r i 0 under, s.above i under)) in
+    elim s.reached [
+      | inl nothing ↦ omega (arith, high, at_least count r 0 pos, nothing)
+      | inr some ↦ omega (arith, high, at_least count r some.0 some.1, some.2)
+    ]
+  where
+    at_least : (count : ℕ) (r : RawNumbers) (i : ℕ) → i < count → r.least + offset_at r i ≤ greatest (raw_docs count r)
+    at_least count r i lt = omega (arith, le-greatest (raw_docs count r) i (omega (arith, length-raw_docs count r)), get_or-raw_docs count r i 0 lt)
+
+-- the numbers are small exactly where the greatest one is
+pub small_from : (ns : List ℕ) (m : ℕ) → greatest ns < m → All (λ n. n < m) ns
+small_from ns m h = λ i d lt. omega (arith, get_or_default ns i d 0 lt, le-greatest ns i lt)
+
+pub greatest_small : (ns : List ℕ) (m : ℕ) → 0 < m → All (λ n. n < m) ns → greatest ns < m
+greatest_small ns m pos h =
+    let under : greatest ns ≤ m - 1 = fold_max-under 0 (m - 1) ns (omega arith) (λ i lt. omega (arith, h i 0 lt)) in
+    omega arith
+
+-- numbers that are in a row
+pub row_from : (count : ℕ) (r : RawNumbers) → 0 < count → ((i : ℕ) → i < count → offset_at r i ≡ i) → (is_row (raw_docs count r) ≡ true) × (least (raw_docs count r) ≡ r.least)
+row_from count r pos each =
+    let ns = raw_docs count r in
+    let long = length-raw_docs count r in
+    let low = least_from count r 0 pos (each 0 pos) in (
+      row_true r.least ns (sym low) (λ k lt.
+          let under : k < count = omega (arith, lt, long) in
+          get_or-raw_docs count r k 0 under ∙ ap (λ n. r.least + n) (each k under)),
+      low,
+    )
+
+pub row_not : (count : ℕ) (r : RawNumbers) (i : ℕ) → i < count → offset_at r i ≢ i → least (raw_docs count r) ≡ r.least → is_row (raw_docs count r) ≡ false
+row_not count r i lt apart low =
+    row_false (raw_docs count r) i (omega (arith, length-raw_docs count r)) (λ e. apart (omega (arith, e, low, get_or-raw_docs count r i 0 lt)))
+
+-- a row's offsets
+pub row_offsets : (r : RawNumbers) → r.width ≡ 0 → (i : ℕ) → offset_at r i ≡ i
+row_offsets r none i =
+    (λ j. cond (eqb (none j) 0) i 0 + number_of (take (none j) (drop (i * none j) r.offsets))) ∙ omega arith
+
+-- ---- whether the fields are canonical
+
+pub row_canonical : (count : ℕ) (r : RawNumbers) → r.width ≡ 0 → 0 < count → r.least + offset_at r (count - 1) < 2 ^ 24 → AreCanonical count r
+row_canonical count r none pos low =
+    let row = row_from count r pos (λ i lt. row_offsets r none i) in
+    record {
+      form_is = form_row (raw_docs count r) row.0 ∙ sym none;
+      least_is = row.1;
+      small = λ i d lt.
+          let under : i < count = omega (arith, lt, length-raw_docs count r) in
+          omega (arith, get_or-raw_docs count r i d under, row_offsets r none i, row_offsets r none (count - 1));
+    }
+
+pub canonical_last : (count : ℕ) (r : RawNumbers) → 0 < count → AreCanonical count r → r.least + offset_at r (count - 1) < 2 ^ 24
+canonical_last count r pos h =
+    let last : count - 1 < count = omega arith in
+    omega (arith, h.small (count - 1) 0 (omega (arith, length-raw_docs count r)), get_or-raw_docs count r (count - 1) 0 last)
+
+-- where a form of 1 to 3 bytes isn't due
+pub refuses_row : (count : ℕ) (r : RawNumbers) (top : ℕ) (z w : Bool) → 0 < count → IsSpan count r top z w → r.width ≢ 0 → w ≡ true → AreCanonical count r → ⊥
+refuses_row count r top z w pos s some row h =
+    some (sym h.form_is ∙ form_row (raw_docs count r) (row_from count r pos (s.in_row row)).0)
+
+pub refuses_least : (count : ℕ) (r : RawNumbers) (top : ℕ) (z w : Bool) → 0 < count → IsSpan count r top z w → z ≡ false → AreCanonical count r → ⊥
+refuses_least count r top z w pos s none h = least_not count r pos (s.no_zero none) h.least_is
+
+pub refuses_high : (count : ℕ) (r : RawNumbers) (top : ℕ) (z w : Bool) → 0 < count → IsSpan count r top z w → 2 ^ 24 ≤ r.least + top → AreCanonical count r → ⊥
+refuses_high count r top z w pos s high h =
+    absurd (omega (arith, high, greatest_is count r top z w pos s, greatest_small (raw_docs count r) (2 ^ 24) (omega arith) h.small))
+
+-- the form of numbers that are no row
+form_is : (count : ℕ) (r : RawNumbers) (top : ℕ) (z w : Bool) → 0 < count → IsSpan count r top z w → z ≡ true → w ≡ false → form (raw_docs count r) ≡ width top
+form_is count r top z w pos s found other =
+    let a = s.some_zero found in
+    let low = least_from count r a.0 a.1 a.2 in
+    let b = s.out_of_row other in
+    let span : greatest (raw_docs count r) - least (raw_docs count r) ≡ top = omega (arith, low, greatest_is count r top z w pos s) in
+    form_other (raw_docs count r) (row_not count r b.0 b.1 b.2 low) ∙ ap width span
+
+pub takes_width : (count : ℕ) (r : RawNumbers) (top : ℕ) (z w : Bool) → 0 < count → IsSpan count r top z w → z ≡ true → w ≡ false → r.least + top < 2 ^ 24 → r.width ≡ width top → AreCanonical count r
+takes_width count r top z w pos s found other low is =
+    let a = s.some_zero found in
+    record {
+      form_is = form_is count r top z w pos s found other ∙ sym is;
+      least_is = least_from count r a.0 a.1 a.2;
+      small = small_from (raw_docs count r) (2 ^ 24) (omega (arith, low, greatest_is count r top z w pos s));
+    }
+
+pub width_of : (count : ℕ) (r : RawNumbers) (top : ℕ) (z w : Bool) → 0 < count → IsSpan count r top z w → z ≡ true → w ≡ false → AreCanonical count r → r.width ≡ width top
+width_of count r top z w pos s found other h = sym h.form_is ∙ form_is count r top z w pos s found other
+
+-- the greatest is no greater than the offsets
+pub span-lt : (count : ℕ) (r : RawNumbers) (top : ℕ) (z w : Bool) → AreRawNumbers count r → count ≤ 500 → IsSpan count r top z w → top < 2 ^ 24
+span-lt count r top z w h few s = elim s.reached [
+  | inl nothing ↦ omega (arith, nothing)
+  | inr some ↦ omega (arith, some.2, offset_at-lt count r some.0 h few some.1)
+]
+
+-- ---- the words in the leaf
+
+-- what follows a front begins at s; the words begin four bytes before and have m bytes more
+pub record HasWords (leaf head rest : List ℕ) (m s : ℕ) : Type 0 where
+  pub four : 4 ≤ s
+  pub long : length (take (s + m - (s - 4)) (drop (s - 4) leaf)) ≡ 4 + m
+  pub words : drop 4 (take (s + m - (s - 4)) (drop (s - 4) leaf)) ≡ take m rest
+  pub within : s + m ≤ length leaf
+  pub parts : leaf ≡ head ++ (take m rest ++ drop (s + m) leaf)
+
+pub has_words : (leaf head rest : List ℕ) (m : ℕ) → leaf ≡ head ++ rest → 4 ≤ length head → m ≤ length rest → HasWords leaf head rest m (length leaf - length rest)
+has_words leaf head rest m is four fits =
+    let s = length leaf - length rest in
+    let all : length leaf ≡ length head + length rest = ap length is ∙ length-append head rest in
+    let start : s ≡ length head = omega (arith, all) in
+    let many : s + m - (s - 4) ≡ 4 + m = omega (arith, start) in
+    let back : drop s leaf ≡ rest = (λ i. drop (start i) (is i)) ∙ drop_at head rest (length head) refl in
+    let four_more : (s - 4) + 4 ≡ s = omega (arith, start) in
+    let behind : drop (s + m) leaf ≡ drop m rest = sym (drop-drop m s leaf) ∙ ap (drop m) back in
+    record {
+      four = omega (arith, start);
+      long = omega (arith, length-take (s + m - (s - 4)) (drop (s - 4) leaf), length-drop (s - 4) leaf, all, start);
+      words = ap (λ n. drop 4 (take n (drop (s - 4) leaf))) many
+          ∙ drop-take 4 m (drop (s - 4) leaf)
+          ∙ ap (take m) (drop-drop 4 (s - 4) leaf ∙ ap (λ n. drop n leaf) four_more ∙ back);
+      within = omega (arith, all, start);
+      parts = is ∙ ap (λ (t : List ℕ). head ++ t) (sym (take-append-drop m rest) ∙ ap (λ (t : List ℕ). take m rest ++ t) (sym behind));
+    }
+
+pub AreBytes-from : (bs : List ℕ) → ((i : ℕ) → get_or bs i 0 < 256) → AreBytes bs
+AreBytes-from bs h = All-from_get_or (λ (b : ℕ). b < 256) bs 0 (λ i lt. h i)

@@ -1,0 +1,8 @@
+use Rattle.std.proofs.Common.{◌≡◌, take, length}
+use Rattle.leaf_codec.proofs.read_sorted.table_of.Given as goal
+
+abbrev pub invariant-loop-i : goal.invariant-loop-i
+invariant-loop-i l = record {
+  long : length l.table ≡ 500;
+  filled : take l.i l.table ≡ take l.i l.bytes;
+}

@@ -1,0 +1,47 @@
+//! Writing a leaf.
+
+ghost use Rattle.std.specs.Prelude.{◌≡◌, ◌≤◌, ◌<◌, ◌^◌, ℕ, length, All, IfOk};
+ghost use Rattle.std.specs.List.Sorted.{IsStrictlySortedBy};
+ghost use Rattle.point_codec.specs.Seen.{items_of};
+ghost use Rattle.leaf_codec.specs.LeafOrder.{leaf_order};
+ghost use Rattle.leaf_codec.specs.Leaves.{SpellsLeaf, leaf_limit};
+
+use crate::dimensions::Dimensions;
+use crate::write_keys::{put_prefixes, put_rests, put_sorted};
+use crate::write_numbers::put_numbers;
+use byte_cursor::{Bytes, Memory, put_u16};
+use point_codec::Entry;
+use std::alloc::Global;
+
+/// The one spelling of a leaf of these entries.
+pub fn encode_leaf<const D: usize>(alloc: Global, entries: &[Entry<D>]) -> Result<Bytes, Memory>
+    requires dims { (1 ≤ D) × (D ≤ 8) }
+    requires some { 1 ≤ length entries.now }
+    requires few { length entries.now ≤ leaf_limit D }
+    requires numbers { All (λ e. e.doc < 2 ^ 24) entries.now }
+    requires ascending { IsStrictlySortedBy (leaf_order D (items_of entries.now)) (items_of entries.now) }
+    ensures spelled { IfOk result (λ b. SpellsLeaf D b (items_of entries.now)) }
+    // it fits into the payload of a page
+    ensures length { IfOk result (λ b. (1 ≤ length b) × (length b ≤ 4064)) }
+{
+    let dimensions = Dimensions::of(entries);
+    let mut out = Vec::with_capacity(alloc, room(entries.len(), &dimensions))?;
+    put_u16(&mut out, entries.len() as u16)?;
+    put_numbers(&mut out, entries)?;
+    put_prefixes(&mut out, entries, &dimensions)?;
+    put_sorted(&mut out, entries, &dimensions)?;
+    put_rests(&mut out, entries, &dimensions)?;
+    Ok(Bytes::new(out))
+}
+
+/// As many bytes as a leaf of `count` entries takes at most.
+fn room<const D: usize>(count: usize, dimensions: &Dimensions<D>) -> usize
+    requires dims { D ≤ 8 }
+    requires few { count ≤ 500 }
+{
+    let mut left = 4;
+    for d in 0..D {
+        left += 4 - dimensions.lengths[d] as usize;
+    }
+    12 + 5 * D + count * left
+}

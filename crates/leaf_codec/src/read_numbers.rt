@@ -1,0 +1,164 @@
+//! Reading the numbers of a leaf.
+
+ghost use Rattle.std.specs.Prelude.{◌≡◌, ◌≤◌, ◌<◌, ◌^◌, ◌*◌, ◌+◌, ◌++◌, ◌∷◌, ◌↔◌, ℕ, List, length, IfSome, IsSome, IsTrue};
+ghost use Rattle.std.specs.Int.{w16, to_be_bytes};
+ghost use Rattle.leaf_codec.specs.Spelling.{vint};
+ghost use Rattle.leaf_codec.specs.Raw.{RawNumbers, AreRawNumbers, numbers_bytes, offset_at};
+ghost use Rattle.leaf_codec.specs.Views.{raw_numbers_of, IsNumbers, AreCanonical, BeginsWithNumbers, IsSpan};
+
+use crate::words::{mask, word};
+use crate::write_numbers::width;
+use byte_cursor::Cursor;
+
+/// The numbers of a leaf in their bytes.
+#[derive(Clone, Copy)]
+pub struct Numbers<'a> {
+    /// How many numbers.
+    pub count: usize,
+    /// The least number.
+    pub least: u32,
+    /// How many bytes each number takes, less the least. 0: the numbers are a row.
+    pub width: usize,
+    /// Four bytes, and these bytes.
+    pub words: &'a [u8],
+    /// How much is added from place to place: 1 in a row, else 0.
+    pub step: u32,
+    /// The bits of a word that are the number's.
+    pub mask: u32,
+}
+
+/// Numbers less the least.
+#[derive(Drop)]
+struct Span {
+    /// The greatest of them.
+    greatest: u32,
+    /// Whether 0 is among them.
+    from_least: bool,
+    /// Whether each is its place.
+    row: bool,
+}
+
+impl<'a> Numbers<'a> {
+    /// Number `i` less the least.
+    fn offset(&self, i: usize) -> u32
+        requires numbers { IsNumbers self.now }
+        requires within { i < self.now.count }
+        ensures value { result ≡ offset_at (raw_numbers_of self.now) i }
+        ensures fits { result < 2 ^ 24 }
+    {
+        i as u32 * self.step + (word(self.words, self.width * (i + 1)) & self.mask)
+    }
+
+    /// Number `i`.
+    pub fn number(&self, i: usize) -> u32
+        requires numbers { IsNumbers self.now }
+        requires within { i < self.now.count }
+        ensures value { result ≡ self.now.least + offset_at (raw_numbers_of self.now) i }
+    {
+        self.least + self.offset(i)
+    }
+
+    /// Whether the numbers have no other spelling and are below 2^24.
+    pub fn are_canonical(&self) -> bool
+        requires numbers { IsNumbers self.now }
+        requires some { 1 ≤ self.now.count }
+        ensures { IsTrue result ↔ AreCanonical self.now.count (raw_numbers_of self.now) }
+    {
+        if self.width == 0 {
+            return self.number(self.count - 1) < 1 << 24;
+        }
+        let span = self.span();
+        if span.row || !span.from_least {
+            return false;
+        }
+        self.least + span.greatest < 1 << 24 && self.width == width(span.greatest) as usize
+    }
+
+    /// Which numbers there are, less the least.
+    fn span(&self) -> Span
+        requires numbers { IsNumbers self.now }
+        requires some { 1 ≤ self.now.count }
+        ensures { IsSpan self.now.count (raw_numbers_of self.now) result.greatest result.from_least result.row }
+    {
+        let mut span = Span {
+            greatest: 0,
+            from_least: false,
+            row: true,
+        };
+        for i in 0..self.count {
+            let offset = self.offset(i);
+            span.greatest = span.greatest.max(offset);
+            if offset == 0 {
+                span.from_least = true;
+            }
+            if offset != i as u32 {
+                span.row = false;
+            }
+        }
+        span
+    }
+
+    /// The numbers with which the leaf begins, `count` of them, and where the bytes behind them begin.
+    pub fn take(leaf: &'a [u8], count: u16) -> Option<(Numbers<'a>, usize)>
+        requires { count ≤ 500 }
+        ensures found { IfSome result (λ x. BeginsWithNumbers leaf.now count x.0 x.1) }
+        ensures only { (r : RawNumbers) (tail : List ℕ) → AreRawNumbers count r
+            → leaf.now ≡ to_be_bytes w16 count ++ (numbers_bytes r ++ tail) → IsSome result }
+    {
+        let rest = after_count(leaf, count)?;
+        let (width, least, rest) = form_and_least(rest)?;
+        let count = count as usize;
+        if rest.len() < count * width {
+            return None;
+        }
+        let start = leaf.len() - rest.len();
+        let end = start + count * width;
+        let numbers = Numbers {
+            count,
+            least,
+            width,
+            words: &leaf[start - 4..end],
+            step: u32::from(width == 0),
+            mask: mask(width),
+        };
+        Some((numbers, end))
+    }
+}
+
+/// What follows the number of entries, where it is `count`.
+fn after_count(leaf: &[u8], count: u16) -> Option<&[u8]>
+    ensures found { IfSome result (λ rest. leaf.now ≡ to_be_bytes w16 count ++ rest.now) }
+    ensures only { (rest : List ℕ) → leaf.now ≡ to_be_bytes w16 count ++ rest → IsSome result }
+{
+    let mut cursor = Cursor::new(leaf);
+    let Ok(n) = cursor.take_u16() else {
+        return None;
+    };
+    if n != count {
+        return None;
+    }
+    Some(cursor.rest())
+}
+
+/// The form and the least number, and what follows them.
+fn form_and_least(bytes: &[u8]) -> Option<(usize, u32, &[u8])>
+    ensures form { IfSome result (λ x. x.0 ≤ 3) }
+    ensures least { IfSome result (λ x. x.1 < 2 ^ 24) }
+    ensures found { IfSome result (λ x. bytes.now ≡ x.0 ∷ vint x.1 ++ x.2.now) }
+    ensures only { (form least : ℕ) (rest : List ℕ) → form ≤ 3 → least < 2 ^ 24 → bytes.now ≡ form ∷ vint least ++ rest → IsSome result }
+{
+    let mut cursor = Cursor::new(bytes);
+    let Ok(form) = cursor.take_u8() else {
+        return None;
+    };
+    if form > 3 {
+        return None;
+    }
+    let Ok(least) = cursor.take_vint() else {
+        return None;
+    };
+    if least >= 1 << 24 {
+        return None;
+    }
+    Some((form as usize, least, cursor.rest()))
+}

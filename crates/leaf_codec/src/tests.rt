@@ -1,0 +1,138 @@
+//! Leaves against bytes that were computed by hand.
+
+ghost use Rattle.std.specs.Prelude.{◌≡◌, ◌≤◌, ◌<◌, ◌^◌, length, All};
+ghost use Rattle.point_codec.specs.Seen.{items_of};
+ghost use Rattle.leaf_codec.specs.LeafOrder.{NoneTwice};
+ghost use Rattle.leaf_codec.specs.Leaves.{leaf_limit};
+
+use super::*;
+use byte_cursor::Bytes;
+use point_codec::{Cell, Entry, Point};
+use std::test::Fail;
+
+/// The leaf of the entries.
+fn leaf<const D: usize>(rt: HostRuntime, entries: &mut [Entry<D>]) -> Result<Bytes, Fail>
+    requires dims { (1 ≤ D) × (D ≤ 8) }
+    requires some { 1 ≤ length entries.now }
+    requires few { length entries.now ≤ leaf_limit D }
+    requires numbers { All (λ e. e.doc < 2 ^ 24) entries.now }
+    requires once { NoneTwice (items_of entries.now) }
+{
+    arrange(entries);
+    Ok(encode_leaf(rt.alloc(), entries)?)
+}
+
+fn entry<const D: usize>(doc: u32, c: [i32; D]) -> Entry<D>
+    requires { (1 ≤ D) × (D ≤ 8) }
+    ensures { result.doc ≡ doc }
+{
+    Entry {
+        doc,
+        point: Point { c },
+    }
+}
+
+#[test]
+#[tactic(auto, using(crate::proofs::Apart::none_twice))]
+fn spelled(rt: HostRuntime) -> Result<(), Fail> {
+    let bytes = leaf(rt, &mut [entry(1, [7]), entry(0, [5])])?;
+    let expected = [0u8, 2, 0, 0, 3, 0x80, 0, 0, 0, 0, 5, 7];
+    assert_eq!(rt; bytes.as_slice(), expected.as_slice());
+    let bytes = leaf(rt, &mut [entry(2, [7]), entry(3, [7])])?;
+    let expected = [0u8, 2, 0, 2, 4, 0x80, 0, 0, 7];
+    assert_eq!(rt; bytes.as_slice(), expected.as_slice());
+    let bytes = leaf(rt, &mut [entry(4, [7])])?;
+    let expected = [0u8, 1, 0, 4, 4, 0x80, 0, 0, 7];
+    assert_eq!(rt; bytes.as_slice(), expected.as_slice());
+    let bytes = leaf(
+        rt,
+        &mut [
+            entry(9, [1, 10]),
+            entry(3, [1, 20]),
+            entry(4, [1, 30]),
+            entry(8, [2, 40]),
+            entry(5, [2, 50]),
+        ],
+    )?;
+    let expected = [
+        0u8, 5, 1, 3, 0, 1, 6, 2, 5, 3, 3, 0x80, 0, 0, 0x80, 0, 0, 0, 1, 2, 1, 2, 2, 1, 0x14, 0x1e,
+        0x0a, 0x32, 0x28,
+    ];
+    assert_eq!(rt; bytes.as_slice(), expected.as_slice());
+    Ok(())
+}
+
+#[test]
+fn limits(rt: HostRuntime) -> Result<(), Fail> {
+    for (dims, limit) in [
+        (1, 500),
+        (2, 333),
+        (3, 250),
+        (4, 200),
+        (5, 166),
+        (6, 142),
+        (7, 125),
+        (8, 111),
+    ] {
+        assert_eq!(rt; greatest_leaf(dims), limit);
+    }
+    Ok(())
+}
+
+/// How many entries the bytes spell in the cell, with the sum of their numbers; none is (0, 0).
+fn shown<const D: usize>(bytes: &[u8], lo: [i32; D], hi: [i32; D], count: u16) -> (u16, u64)
+    requires { (1 ≤ D) × (D ≤ 8) }
+{
+    let Some(cell) = Cell::new(Point { c: lo }, Point { c: hi }) else {
+        return (0, 0);
+    };
+    let Some(view) = LeafView::read(bytes, &cell, count) else {
+        return (0, 0);
+    };
+    let mut sum = 0u64;
+    for i in 0..view.count() {
+        sum = sum.wrapping_add(u64::from(view.doc(i)));
+        for x in view.point(i).c {
+            sum = sum
+                .wrapping_mul(31)
+                .wrapping_add(u64::from(x.cast_unsigned()));
+        }
+    }
+    (view.count(), sum)
+}
+
+#[test]
+fn read(rt: HostRuntime) -> Result<(), Fail> {
+    let leaf = [0u8, 2, 0, 0, 3, 0x80, 0, 0, 0, 0, 5, 7];
+    assert_eq!(rt; shown(&leaf, [0], [9], 2), (2, (5 + 1) * 31 + 7));
+    assert_eq!(rt; shown(&leaf, [0], [9], 1), (0, 0));
+    assert_eq!(rt; shown(&leaf, [0], [9], 0), (0, 0));
+    assert_eq!(rt; shown(&leaf, [0], [9], 501), (0, 0));
+    assert_eq!(rt; shown(&leaf, [5], [6], 2), (0, 0));
+    for n in 0..leaf.len() {
+        assert_eq!(rt; shown(&leaf[..n], [0], [9], 2), (0, 0));
+    }
+    let refused = [
+        [0u8, 2, 1, 0, 3, 0x80, 0, 0, 0, 0, 5, 7].as_slice(),
+        [0u8, 2, 1, 0, 0, 1, 3, 0x80, 0, 0, 0, 0, 5, 7].as_slice(),
+        [0u8, 2, 0, 0, 3, 0x80, 0, 0, 0, 0, 7, 5].as_slice(),
+        [0u8, 2, 0, 0, 3, 0x80, 0, 0, 0, 0, 5, 7, 0].as_slice(),
+        [0u8, 2, 0, 0x80, 0, 3, 0x80, 0, 0, 0, 0, 5, 7].as_slice(),
+        [0u8, 2, 0, 0xff, 0xff, 0xff, 7, 3, 0x80, 0, 0, 0, 0, 5, 7].as_slice(),
+        [0u8, 2, 0, 0, 2, 0x80, 0, 0, 0, 0, 0, 5, 7].as_slice(),
+    ];
+    for bytes in refused {
+        assert_eq!(rt; shown(bytes, [0], [9], 2), (0, 0));
+    }
+    let pieces = [
+        0u8, 5, 1, 3, 0, 1, 6, 2, 5, 3, 3, 0x80, 0, 0, 0x80, 0, 0, 0, 1, 2, 1, 2, 2, 1, 0x14, 0x1e,
+        0x0a, 0x32, 0x28,
+    ];
+    assert_eq!(rt; shown(&pieces, [0, 0], [9, 90], 5).0, 5);
+    let plain = [
+        0u8, 5, 1, 3, 0, 1, 6, 2, 5, 3, 3, 0x80, 0, 0, 0x80, 0, 0, 0, 0, 1, 1, 1, 2, 2, 0x14, 0x1e,
+        0x0a, 0x32, 0x28,
+    ];
+    assert_eq!(rt; shown(&plain, [0, 0], [9, 90], 5), (0, 0));
+    Ok(())
+}

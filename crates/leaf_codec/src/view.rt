@@ -1,0 +1,192 @@
+//! Reading a leaf in place.
+
+ghost use Rattle.std.specs.Prelude.{◌≡◌, ◌≤◌, ◌<◌, ◌^◌, ◌+◌, ◌*◌, ◌↔◌, ℕ, List, length, All, IfSome, IfNone, IsSomeAnd, IsTrue, slice_get, slice_index, nat_lt, if◌then◌else◌, ◌==◌};
+ghost use Rattle.std.specs.List.{list_any, range_with_len};
+ghost use Rattle.point_codec.specs.Points.{Item};
+ghost use Rattle.point_codec.specs.Seen.{region_of};
+ghost use Rattle.leaf_codec.specs.Dimensions.{count_values, different};
+ghost use Rattle.leaf_codec.specs.LeafOrder.{item_of};
+ghost use Rattle.leaf_codec.specs.Leaves.{SpellsLeafIn};
+ghost use Rattle.leaf_codec.specs.Raw.{RawNumbers, place_of, raw_item, raw_items};
+ghost use Rattle.leaf_codec.specs.Views.{IsParts, IsReadable, AreDimensionsOf, AscendInside, items_said, raw_numbers_of, raw_keys_of};
+
+use crate::byte_set::ByteSet;
+use crate::dimensions::narrowest;
+use crate::order::by_leaf_order;
+use crate::read_numbers::Numbers;
+use crate::read_parts::{Parts, Slots};
+use crate::size::greatest_leaf;
+use point_codec::{Cell, Entry, Point};
+use std::marker::Model;
+
+/// The entries of a leaf, read in its bytes. Contracts see the list of them.
+#[derive(Drop)]
+pub struct LeafView<'a, const D: usize> {
+    numbers: Numbers<'a>,
+    parts: Parts<'a>,
+    slots: Slots<D>,
+    ghost readable: { IsReadable D numbers parts slots },
+}
+
+impl<'a, const D: usize> Model for LeafView<'a, D> {
+    ghost use Rattle.std.specs.Prelude.{List};
+    ghost use Rattle.point_codec.specs.Points.{Item};
+    ghost use Rattle.leaf_codec.specs.Views.{items_said};
+
+    ghost Value = { List Item };
+
+    ghost view = { λ v. items_said D v.numbers v.parts };
+}
+
+impl<'a, const D: usize> LeafView<'a, D> {
+    /// The `count` entries that the bytes spell, all inside the cell. None exactly where the bytes spell no such list.
+    pub fn read(b: &'a [u8], cell: &Cell<D>, count: u16) -> Option<LeafView<'a, D>>
+        ensures some { IfSome result (λ view. SpellsLeafIn D b.now count (region_of cell.now) view) }
+        ensures none { IfNone result ((items : List Item) → SpellsLeafIn D b.now count (region_of cell.now) items → ⊥) }
+    {
+        if count == 0 || count > greatest_leaf(D as u8) {
+            return None;
+        }
+        let (numbers, at) = Numbers::take(b, count)?;
+        let parts = Parts::take(b, at, D, count as usize)?;
+        let slots = Slots::of(&parts);
+        if !numbers.are_canonical() {
+            return None;
+        }
+        if !has_these_dimensions::<D>(&parts) {
+            return None;
+        }
+        if !are_in_order(&numbers, &parts, &slots, cell) {
+            return None;
+        }
+        Some(LeafView {
+            numbers,
+            parts,
+            slots,
+        })
+    }
+
+    /// The number of entries.
+    pub fn count(&self) -> u16
+        ensures { result ≡ length self.now }
+    {
+        self.numbers.count as u16
+    }
+
+    /// The document's number of entry `i`.
+    pub fn doc(&self, i: u16) -> u32
+        requires { i < length self.now }
+        ensures { IsSomeAnd (slice_get self.now i) (λ x. result ≡ x.doc) }
+    {
+        self.numbers.number(i as usize)
+    }
+
+    /// The point of entry `i`.
+    pub fn point(&self, i: u16) -> Point<D>
+        requires { i < length self.now }
+        ensures { IsSomeAnd (slice_get self.now i) (λ x. result.c ≡ x.at) }
+    {
+        self.slots.point(&self.parts, i as usize)
+    }
+}
+
+/// Whether the prefixes are as long as they can be, and the sorted dimension is the narrowest.
+fn has_these_dimensions<const D: usize>(parts: &Parts) -> bool
+    requires dims { (1 ≤ D) × (D ≤ 8) }
+    requires parts { IsParts D parts.now }
+    requires some { 1 ≤ parts.now.count }
+    ensures { (n : RawNumbers) → IsTrue result ↔ AreDimensionsOf D (raw_items D parts.now.count n (raw_keys_of parts.now)) parts.now.lengths.now parts.now.sorted }
+{
+    let mut spreads = [0; D];
+    let mut place = 4;
+    for d in 0..D {
+        if parts.lengths[d] < 4 {
+            let spread = spread::<D>(parts, d, place);
+            if spread < 2 {
+                return false;
+            }
+            spreads[d] = spread;
+        }
+        place += parts.gap(d);
+    }
+    narrowest(parts.lengths, &spreads) == parts.sorted
+}
+
+/// How many different values the first byte behind the shared prefix takes in dimension `d`, whose rests begin at `place`.
+fn spread<const D: usize>(parts: &Parts, d: usize, place: usize) -> usize
+    requires parts { IsParts D parts.now }
+    requires within { d < D }
+    requires moves { slice_index parts.now.lengths.now d < 4 }
+    requires place { place ≡ 4 + place_of parts.now.lengths.now parts.now.sorted d }
+    ensures value { (n : RawNumbers) → result ≡ different d (slice_index parts.now.lengths.now d) (raw_items D parts.now.count n (raw_keys_of parts.now)) }
+    ensures few { result ≤ 256 }
+{
+    if d == parts.sorted {
+        different(&parts.table, 0, 1, parts.count)
+    } else {
+        different(parts.words, place, parts.stride, parts.count)
+    }
+}
+
+/// How many different values the bytes at `start`, `start + stride` and so on take, `count` of them.
+fn different(bytes: &[u8], start: usize, stride: usize, count: usize) -> usize
+    requires within { (i : ℕ) → i < count → start + i * stride < length bytes.now }
+    ensures value { result ≡ count_values (λ b. list_any (λ i. slice_index bytes.now (start + i * stride) == b) (range_with_len 0 count)) }
+    ensures few { result ≤ 256 }
+{
+    let mut seen = ByteSet::new();
+    for i in 0..count {
+        seen.insert(bytes[start + i * stride]);
+    }
+    seen.count()
+}
+
+/// Entry `i`.
+fn entry<const D: usize>(numbers: &Numbers, parts: &Parts, slots: &Slots<D>, i: usize) -> Entry<D>
+    requires readable { IsReadable D numbers.now parts.now slots.now }
+    requires within { i < numbers.now.count }
+    ensures { item_of result ≡ raw_item D (raw_numbers_of numbers.now) (raw_keys_of parts.now) i }
+{
+    Entry {
+        doc: numbers.number(i),
+        point: slots.point(parts, i),
+    }
+}
+
+/// The dimension that leads in leaf order.
+fn leading<const D: usize>(parts: &Parts) -> usize
+    requires { 1 ≤ D }
+    ensures value { result ≡ if nat_lt parts.now.sorted D then parts.now.sorted else 0 }
+    ensures within { result < D }
+{
+    if parts.sorted < D { parts.sorted } else { 0 }
+}
+
+/// Whether the entries ascend strictly in leaf order and lie inside the cell.
+fn are_in_order<const D: usize>(
+    numbers: &Numbers,
+    parts: &Parts,
+    slots: &Slots<D>,
+    cell: &Cell<D>,
+) -> bool
+    requires readable { IsReadable D numbers.now parts.now slots.now }
+    requires some { 1 ≤ numbers.now.count }
+    ensures { IsTrue result ↔ AscendInside (if nat_lt parts.now.sorted D then parts.now.sorted else 0) (region_of cell.now) (items_said D numbers.now parts.now) }
+{
+    let d = leading::<D>(parts);
+    let mut last = entry(numbers, parts, slots, 0);
+    if !cell.has(&last.point) {
+        return false;
+    }
+    for i in 1..numbers.count {
+        let next = entry(numbers, parts, slots, i);
+        if !cell.has(&next.point) {
+            return false;
+        }
+        if !by_leaf_order(d, &last, &next).is_lt() {
+            return false;
+        }
+        last = next;
+    }
+    true
+}
