@@ -1,8 +1,8 @@
 -- The answer to one line, from what was read and what was done.
-use Rattle.std.proofs.Common.{◌≡◌, ◌≢◌, ℕ, Bool, true, false, List, ◌++◌, Some, None, Result, Ok, Err, refl, sym, ap, ◌∙◌, subst}
+use Rattle.std.proofs.Common.{◌≡◌, ◌≢◌, ℕ, true, false, List, ◌++◌, Some, None, Ok, Err, refl, sym, ap, ◌∙◌, subst}
 use Rattle.script_lang.specs.Requests.{Request}
 use Rattle.script_lang.specs.Reading.{Reading, Says, Fails, read}
-use Rattle.script_lang.specs.Replies.{line_fault_text, why_text}
+use Rattle.script_lang.specs.Replies.{why_text}
 use Rattle.script_lang.specs.Seen.{Agrees}
 use Rattle.script_lang.specs.declared.faults.LineFault.{LineFault}
 use Rattle.script_lang.specs.declared.faults.LineFault.TheVariants as fault

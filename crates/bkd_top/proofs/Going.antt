@@ -1,12 +1,12 @@
 -- How the lines of a script are joined to those before them.
-use Rattle.std.proofs.Common.{◌≡◌, ℕ, zero, suc, ◌+◌, List, [], ◌∷◌, ◌++◌, length, refl, sym, ap, ◌∙◌, subst, append_assoc, append-nil, add_assoc, zero-add, add-zero, arith, length-append, if◌then◌else◌, ◌==◌, ◌<◌, ◌≤◌, Bool, true, false, cond}
+use Rattle.std.proofs.Common.{◌≡◌, ℕ, suc, ◌+◌, List, [], ◌∷◌, ◌++◌, length, refl, sym, ap, ◌∙◌, subst, append_assoc, append-nil, add_assoc, zero-add, add-zero, arith, length-append, if◌then◌else◌, ◌==◌, ◌<◌, ◌≤◌, Bool, true, false, cond}
 use Rattle.std.proofs.lemmas.Bool.Decides.{nat_tests}
 use mir.Val.{bool_byte}
 use Rattle.outer_io.specs.Parts.{WritesPart}
 use Rattle.outer_io.proofs.Parts.{part_after, part_before}
 use Rattle.script_lang.specs.Lines.{lines_of}
 use Rattle.index_model.specs.State.{State}
-use Rattle.index_model.specs.Script.{Answer, answer, text_of, state_after, refused_in}
+use Rattle.index_model.specs.Script.{answer, text_of, state_after, refused_in}
 use Rattle.bkd_top.specs.Progress.{Place, Progress, WritesLines}
 use Rattle.bkd_top.specs.Runs.{Writes, Counts, EndsLines}
 use Rattle.bkd_top.specs.declared.status.Status.{Status}

@@ -1,6 +1,5 @@
 -- How far a script is done, and what the rest of it will answer.
-use Rattle.std.specs.Prelude.{ℕ, ◌+◌, ◌≡◌, ◌≤◌, List, ◌++◌, length}
-use Rattle.outer_io.specs.Parts.{WritesPart}
+use Rattle.std.specs.Prelude.{ℕ, ◌+◌, ◌≡◌, List, ◌++◌, length}
 use Rattle.index_model.specs.State.{State}
 use Rattle.index_model.specs.Script.{text_of, state_after, refused_in}
 

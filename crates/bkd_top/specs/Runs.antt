@@ -1,7 +1,7 @@
 -- How a run ends.
 use Rattle.std.specs.Prelude.{ℕ, ◌+◌, ◌<◌, ◌≡◌, List, ◌++◌}
 use Rattle.outer_io.specs.Parts.{WritesPart}
-use Rattle.index_model.specs.Script.{text_of, state_after, refused_in}
+use Rattle.index_model.specs.Script.{text_of, refused_in}
 use Rattle.bkd_top.specs.Progress.{Place, WritesLines}
 use Rattle.bkd_top.specs.declared.status.Status.{Status}
 use Rattle.bkd_top.specs.declared.status.Status.TheVariants as status

@@ -1,5 +1,5 @@
 -- The words of the program.
-use Rattle.std.specs.Prelude.{ℕ, Bool, true, false, List, [], ◌∷◌, String, codes, string_bytes}
+use Rattle.std.specs.Prelude.{Bool, false, List, [], ◌∷◌, String, codes, string_bytes}
 use Rattle.std.specs.Str.{bytes_eq}
 use Rattle.std.specs.declared.alloc.Global.{Global}
 

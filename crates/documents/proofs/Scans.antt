@@ -1,5 +1,5 @@
 -- What is left of a list begins with its next element.
-use Rattle.std.proofs.Common.{◌≡◌, ℕ, ◌+◌, ◌<◌, Bool, ◌||◌, cond, List, [], ◌∷◌, ◌++◌, length, drop, map, filter, suc, true, false, get_or, ℤ, refl, sym, ap, ◌∙◌, add-one}
+use Rattle.std.proofs.Common.{◌≡◌, ℕ, ◌+◌, ◌<◌, Bool, ◌||◌, cond, List, ◌∷◌, length, drop, map, filter, suc, true, false, get_or, ℤ, refl, add-one}
 use Rattle.std.proofs.Math.Seq.{drop-cons}
 use Rattle.std.specs.List.{list_any}
 use Rattle.point_codec.specs.Seen.{coordinates_of}

@@ -1,7 +1,6 @@
 -- Documents, and those that a test finds, over one list.
-use Rattle.std.specs.Prelude.{ℕ, ◌≡◌, ◌<◌, ◌≤◌, ◌+◌, Bool, not, nat_eq, List, map, filter, length, sum_by, All, AllPairs, ℤ}
+use Rattle.std.specs.Prelude.{ℕ, ◌<◌, Bool, not, nat_eq, List, map, filter, AllPairs, ℤ}
 use Rattle.std.specs.List.{list_any}
-use Rattle.point_codec.specs.Points.{ArePoints}
 
 -- a document: its number and its points, 1 to 16 different ones in ascending order (Lucene's document number and point values)
 pub record Document : Type 0 where

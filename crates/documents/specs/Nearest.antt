@@ -1,5 +1,5 @@
 -- The documents nearest to a point, over one list.
-use Rattle.std.specs.Prelude.{ℕ, ◌≡◌, ◌<◌, ◌⊎◌, min, List, [], ◌∷◌, map, take, fold, length, All, AllPairs, Contains, ℤ}
+use Rattle.std.specs.Prelude.{ℕ, min, List, [], ◌∷◌, map, take, fold, ℤ}
 use Rattle.std.specs.declared.cmp.Ordering.{Ordering}
 use Rattle.std.specs.Ordering.{nat_cmp, ordering_then}
 use Rattle.point_codec.specs.Points.{dist2}

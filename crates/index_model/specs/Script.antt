@@ -1,9 +1,9 @@
 -- What a script answers and leaves: its lines are read and done one after the other.
-use Rattle.std.specs.Prelude.{ℕ, ◌+◌, Bool, true, false, List, [], ◌∷◌, ◌++◌, Option}
+use Rattle.std.specs.Prelude.{ℕ, ◌+◌, List, [], ◌∷◌, ◌++◌}
 use Rattle.std.specs.Option.{option_map}
 use Rattle.script_lang.specs.Reading.{Reading, Says, Fails, read}
 use Rattle.script_lang.specs.Replies.{line_fault_text, why_text}
-use Rattle.index_model.specs.State.{State, Index, at_rest}
+use Rattle.index_model.specs.State.{State, at_rest}
 use Rattle.index_model.specs.Step.{Outcome, Done, Refused, step}
 
 -- what a line answers and leaves, and 1 where it is refused

@@ -1,5 +1,5 @@
 -- The state of an index, over plain lists.
-use Rattle.std.specs.Prelude.{ℕ, Bool, false, List, [], map, filter, not, Option, None, Some, length, find}
+use Rattle.std.specs.Prelude.{ℕ, Bool, false, List, [], Option, None, Some, find}
 use Rattle.std.specs.Str.{bytes_eq}
 use Rattle.std.specs.Option.{option_map}
 use Rattle.documents.specs.Documents.{Document}

@@ -10,7 +10,7 @@ use Rattle.script_lang.specs.Requests as asks
 use Rattle.script_lang.specs.Replies.{ok_text, doc_text, deleted_text, hits_text, near_text}
 use Rattle.script_lang.specs.declared.faults.Why.{Why}
 use Rattle.script_lang.specs.declared.faults.Why.TheVariants as why
-use Rattle.index_model.specs.State.{Index, State, Snapshot, new_index, snapshot_of, viewed_docs, at_rest}
+use Rattle.index_model.specs.State.{Index, State, new_index, snapshot_of, viewed_docs, at_rest}
 
 -- a request is done, with the state after it and the text of its answer, or refused, which leaves the state
 pub data Outcome : Type 0 where

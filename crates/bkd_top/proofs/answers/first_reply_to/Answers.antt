@@ -1,5 +1,5 @@
 -- The answer is what the script says of the line.
-use Rattle.std.proofs.Common.{◌≡◌, ◌≢◌, ◌++◌, sym, ap, ◌∙◌, refl, rules, append-nil}
+use Rattle.std.proofs.Common.{◌≢◌, sym, refl, rules, append-nil}
 use Rattle.script_lang.specs.Seen.{first_request_of}
 use Rattle.script_lang.specs.Reading.{Says, Fails}
 use Rattle.script_lang.specs.declared.faults.LineFault.TheVariants as fault

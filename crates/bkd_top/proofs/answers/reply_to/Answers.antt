@@ -1,11 +1,8 @@
 -- The answer is what the script says of the line.
-use Rattle.std.proofs.Common.{◌≡◌, ◌≢◌, ◌++◌, sym, ap, ◌∙◌, refl, rules, Ok}
+use Rattle.std.proofs.Common.{◌≢◌, ◌++◌, sym, ◌∙◌, refl, rules}
 use Rattle.script_lang.specs.Seen.{request_of}
-use Rattle.script_lang.specs.Replies.{line_fault_text}
 use Rattle.script_lang.specs.Reading.{Fails}
 use Rattle.script_lang.specs.declared.faults.LineFault.TheVariants as fault
-use Rattle.index_model.specs.Step.{step_on}
-use Rattle.index_model.specs.Sessions.{Does}
 use Rattle.bkd_top.proofs.Answered.{answer_is, done_is, refused_is, fault_read}
 use Rattle.bkd_top.proofs.answers.reply_to.Goals as goal
 

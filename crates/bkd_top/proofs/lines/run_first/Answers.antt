@@ -1,5 +1,5 @@
 -- Each line goes on from those before it; the one that makes an index hands the rest on, and else the last one ends the script.
-use Rattle.std.proofs.Common.{◌≡◌, ◌+◌, length, arith, rules, refl, sym, ap, ◌∙◌, add-zero}
+use Rattle.std.proofs.Common.{◌≡◌, ◌+◌, length, arith, refl, sym, ap, ◌∙◌, add-zero}
 use Rattle.std.proofs.lemmas.Bool.Decides.{nat_tests}
 use Rattle.bkd_top.proofs.Going.{one_more, ends_text, ends_count, sink_stops, finished, no_lines, refused_more, at_most_one}
 use Rattle.bkd_top.proofs.lines.run_first.Goals as goal

@@ -1,6 +1,6 @@
 use Rattle.std.proofs.Common.{◌≤◌, ◌<◌, ◌+◌, ◌^◌, length, None, IsTrue}
 use Rattle.script_lang.specs.Lines.{lines_of}
-use Rattle.bkd_top.specs.Progress.{Place, Progress}
+use Rattle.bkd_top.specs.Progress.{Progress}
 use Rattle.bkd_top.proofs.lines.run_first.Given as goal
 
 -- the lines so far were done as the script says

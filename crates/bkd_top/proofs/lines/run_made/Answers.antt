@@ -1,5 +1,5 @@
 -- Each line goes on from those before it, and the last one ends the script.
-use Rattle.std.proofs.Common.{◌≡◌, ◌+◌, length, arith, rules, refl, sym, ap, ◌∙◌}
+use Rattle.std.proofs.Common.{◌≡◌, length, arith, refl}
 use Rattle.std.proofs.lemmas.Bool.Decides.{nat_tests}
 use Rattle.bkd_top.proofs.Going.{one_more, sink_stops, finished, no_lines, refused_more, at_most_one}
 use Rattle.bkd_top.proofs.lines.run_made.Goals as goal

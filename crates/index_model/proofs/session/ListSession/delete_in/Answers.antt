@@ -1,5 +1,5 @@
 -- There are no more hits than documents, and a deletion leaves no more than there were.
-use Rattle.std.proofs.Common.{◌≡◌, ◌≤◌, ◌^◌, length, ap, arith, ◌∙◌, sym}
+use Rattle.std.proofs.Common.{◌≡◌, length, ap, arith, ◌∙◌}
 use Rattle.point_codec.specs.Points.{in_box}
 use Rattle.documents.specs.Documents.{hits}
 use Rattle.index_model.proofs.Kept.{still_given, few_hits}
