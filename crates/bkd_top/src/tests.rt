@@ -20,7 +20,7 @@ fn outcome(
     source_fails: &[u64],
     folder_fails: &[u64],
     sink_fails: &[u64],
-) -> Result<(Status, MemSink), Fail> {
+) -> Result<(Status, MemFolder, MemSink), Fail> {
     let mut words = Vec::new(alloc);
     words.push(String::from_str(alloc, ".")?)?;
     words.push(String::from_str(alloc, "run")?)?;
@@ -37,12 +37,12 @@ fn outcome(
         &mut folder,
         &mut output,
     );
-    Ok((status, output))
+    Ok((status, folder, output))
 }
 
 fn check(rt: &impl Abort, alloc: Global, rows: &[Row]) -> Result<(), Fail> {
     for row in rows {
-        let (status, output) = outcome(alloc, row.script, &[], &[], &[])?;
+        let (status, folder, output) = outcome(alloc, row.script, &[], &[], &[])?;
         assert_eq!(rt;
             std::str::from_utf8(output.bytes()),
             Ok(row.answers),
@@ -54,6 +54,7 @@ fn check(rt: &impl Abort, alloc: Global, rows: &[Row]) -> Result<(), Fail> {
             count => Status::SomeRefused { count },
         };
         assert_eq!(rt; status, want, "after {:?}", row.script);
+        assert!(rt; folder.get(&FileName::Commit).is_none());
     }
     Ok(())
 }
@@ -230,17 +231,17 @@ fn polygons(rt: HostRuntime) -> Result<(), Fail> {
 fn faults(rt: HostRuntime) -> Result<(), Fail> {
     let alloc = rt.alloc();
     let script = "create 2\nadd 1 2\nbox 0 0 5 5\n";
-    let (status, output) = outcome(alloc, script, &[0], &[], &[])?;
+    let (status, _, output) = outcome(alloc, script, &[0], &[], &[])?;
     assert_eq!(rt; status, Status::SourceFault);
     assert_eq!(rt; output.bytes().len(), 0);
-    let (status, output) = outcome(alloc, script, &[1], &[], &[])?;
+    let (status, _, output) = outcome(alloc, script, &[1], &[], &[])?;
     assert_eq!(rt; status, Status::SourceFault);
     assert_eq!(rt; output.bytes().len(), 0);
-    let (status, output) = outcome(alloc, script, &[], &[0], &[])?;
+    let (status, _, output) = outcome(alloc, script, &[], &[0], &[])?;
     assert_eq!(rt; status, Status::FolderFault);
     assert_eq!(rt; output.bytes().len(), 0);
     for (call, answers) in [(0, ""), (1, "ok\n"), (2, "ok\ndoc 0\n")] {
-        let (status, output) = outcome(alloc, script, &[], &[], &[call])?;
+        let (status, _, output) = outcome(alloc, script, &[], &[], &[call])?;
         assert_eq!(rt; status, Status::SinkFault);
         assert_eq!(rt; std::str::from_utf8(output.bytes()), Ok(answers));
     }
@@ -279,7 +280,7 @@ fn words_and_statuses(rt: HostRuntime) -> Result<(), Fail> {
         [].as_slice(),
         &["."],
         &[".", "scan"],
-        &[".", "run", "--cache"],
+        &[".", "run", "--cache", "0"],
         &[".", "load"],
     ] {
         let mut list = Vec::new(alloc);
