@@ -1,3 +1,4 @@
 pub mod Numbers
 pub mod Vints
 pub mod Partway
+pub mod SpelledVints

@@ -1,5 +1,5 @@
 -- A vint: a number in groups of seven bits, the least group first, each but the last marked by the high bit.
-use Rattle.std.specs.Prelude.{◌≡◌, ◌<◌, ◌≤◌, ℕ, ◌+◌, ◌/◌, ◌%◌, ◌^◌, List, [], ◌∷◌, ◌++◌, length, All}
+use Rattle.std.specs.Prelude.{◌≡◌, ◌<◌, ◌≤◌, ℕ, zero, suc, ◌+◌, ◌/◌, ◌%◌, ◌^◌, List, [], ◌∷◌, ◌++◌, length, All, if◌then◌else◌, nat_lt}
 
 -- The bytes are the canonical vint of the number (this project's form of LEB128): a byte below 128 is
 -- the last one and stands for itself; a byte from 128 on holds the low seven bits, and the bytes after it
@@ -32,3 +32,14 @@ pub record AppendsVint (old new : List ℕ) (n : ℕ) : Type 0 where
   pub spelling : List ℕ
   pub is_vint : IsVint spelling n
   pub joined : new ≡ old ++ spelling
+
+-- ---- the vint as a function, of which a format that is a function of what it spells is made
+
+-- n in groups of seven bits, the least first, the high bit set on each but the last; at most k more groups follow
+abbrev pub vint_groups : ℕ → ℕ → List ℕ
+vint_groups zero n = n ∷ []
+vint_groups (suc k) n = if nat_lt n 128 then n ∷ [] else (128 + n % 128) ∷ vint_groups k (n / 128)
+
+-- the vint of a number below 2 ^ 35: at most five bytes
+unfoldable pub vint : ℕ → List ℕ
+vint = vint_groups 4

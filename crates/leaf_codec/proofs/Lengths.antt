@@ -11,11 +11,12 @@ use Rattle.std.proofs.lemmas.Nat.{div-add-mod'}
 use Rattle.point_codec.specs.Points.{Item}
 use Rattle.leaf_codec.specs.Dimensions.{key_of, key_byte, shared_prefix, sorted_dimension}
 use Rattle.leaf_codec.specs.Leaves.{AreLeaf}
-use Rattle.leaf_codec.specs.Spelling.{vint, least, greatest, form, width, is_row, low_bytes, numbers, shared_bytes, prefixes, pieces, piece_bytes, sorted_bytes, sorted_part, told, rest, rests, spelling}
+use Rattle.leaf_codec.specs.Spelling.{least, greatest, form, width, is_row, low_bytes, numbers, shared_bytes, prefixes, pieces, piece_bytes, sorted_bytes, sorted_part, told, rest, rests, spelling}
+use Rattle.byte_cursor.specs.Vint.{vint}
 use Rattle.leaf_codec.proofs.Lists.{sum_agree}
 use Rattle.leaf_codec.proofs.NumbersLemmas.{least-le}
 use Rattle.leaf_codec.proofs.Permuted.{sorted_found}
-use Rattle.leaf_codec.proofs.Vints.{length-vint}
+use Rattle.byte_cursor.proofs.SpelledVints.{length-vint}
 use Rattle.leaf_codec.proofs.Written.{length-key_of, shared_prefix-le, told-le}
 
 sum_add : (f g : ℕ → ℕ) (xs : List ℕ) → sum_by (λ x. f x + g x) xs ≡ sum_by f xs + sum_by g xs

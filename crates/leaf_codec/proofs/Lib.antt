@@ -8,7 +8,6 @@ pub mod Permuted
 pub mod OrderLemmas
 pub mod Pieces
 pub mod Written
-pub mod Vints
 pub mod NumbersLemmas
 pub mod Lengths
 pub mod Bytes

@@ -5,7 +5,8 @@ use Rattle.std.proofs.lemmas.Bool.{false_from_ne_true, cond-true, cond-false}
 use Rattle.std.proofs.lemmas.List.{same_lists, get_or_default}
 use Rattle.std.proofs.lemmas.List.FromFn.{length-range_with_len, get_or-range_with_len}
 use Rattle.std.specs.Cmp.Lexicographic.{bytes_decides}
-use Rattle.leaf_codec.specs.Spelling.{least, greatest, is_row, form, width, numbers, low_bytes, vint}
+use Rattle.leaf_codec.specs.Spelling.{least, greatest, is_row, form, width, numbers, low_bytes}
+use Rattle.byte_cursor.specs.Vint.{vint}
 
 -- the least of numbers, as a loop over all of them from the first finds it
 pub least_is : (ns : List ℕ) → 0 < length ns → fold min (get_or ns 0 0) ns ≡ least ns

@@ -8,14 +8,15 @@ use Rattle.std.proofs.lemmas.List.Concat.{length-flat_map}
 use Rattle.std.proofs.lemmas.List.Elements.{All-take, All-drop, All-append, All-replicate, All-head, All-tail, All-nil}
 use Rattle.std.proofs.lemmas.List.FromFn.{get_or-map-range_with_len, length-map-range_with_len}
 use Rattle.std.proofs.lemmas.List.Sums.{sum_by-cons}
-use Rattle.leaf_codec.specs.Spelling.{least, greatest, is_row, form, width, numbers, low_bytes, vint}
+use Rattle.leaf_codec.specs.Spelling.{least, greatest, is_row, form, width, numbers, low_bytes}
+use Rattle.byte_cursor.specs.Vint.{vint}
 use Rattle.leaf_codec.specs.Words.{number_of, AreBytes}
 use Rattle.leaf_codec.specs.Raw.{RawNumbers, AreRawNumbers, numbers_bytes, offset_at, raw_docs}
 use Rattle.leaf_codec.proofs.Bytes.{number_of-append, number_of-low, number_of-to_be, to_be-number_of}
 use Rattle.leaf_codec.proofs.Chunks.{chunk_at, chunks_joined, flat_map-map-range, split_same}
 use Rattle.leaf_codec.proofs.Lists.{flat_map_agree}
 use Rattle.leaf_codec.proofs.NumbersLemmas.{least-le, le-greatest, form_row, form_other, row_at}
-use Rattle.leaf_codec.proofs.Vints.{vint_front}
+use Rattle.byte_cursor.proofs.SpelledVints.{vint_front}
 
 -- ---- a number in its last bytes
 

@@ -4,7 +4,8 @@ use Rattle.std.specs.List.{range_with_len, sum_by}
 use Rattle.std.specs.Int.{w16, to_be_bytes}
 use Rattle.point_codec.specs.Points.{Item}
 use Rattle.leaf_codec.specs.Dimensions.{told_of}
-use Rattle.leaf_codec.specs.Spelling.{vint, sorted_bytes}
+use Rattle.leaf_codec.specs.Spelling.{sorted_bytes}
+use Rattle.byte_cursor.specs.Vint.{vint}
 use Rattle.leaf_codec.specs.Words.{number_of, coordinate, AreBytes}
 
 -- ---- the numbers

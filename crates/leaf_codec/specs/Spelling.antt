@@ -5,18 +5,10 @@ use Rattle.std.specs.List.{flat_map, fold, range_with_len}
 use Rattle.std.specs.Int.{w16, w32, to_be_bytes}
 use lib.Pointwise.{pointwise}
 use Rattle.point_codec.specs.Points.{Item}
+use Rattle.byte_cursor.specs.Vint.{vint}
 use Rattle.leaf_codec.specs.Dimensions.{key_of, key_byte, shared_prefix, sorted_dimension}
 
 -- ---- the numbers
-
--- n as a vint (LEB128): groups of seven bits, the least first, the high bit set on each but the last; at most k more groups follow
-abbrev pub vint_groups : ℕ → ℕ → List ℕ
-vint_groups zero n = n ∷ []
-vint_groups (suc k) n = if nat_lt n 128 then n ∷ [] else (128 + n % 128) ∷ vint_groups k (n / 128)
-
--- the vint of a number below 2 ^ 35: at most five bytes
-unfoldable pub vint : ℕ → List ℕ
-vint = vint_groups 4
 
 -- the last w of the four bytes of n, the greatest first
 abbrev pub low_bytes : ℕ → ℕ → List ℕ

@@ -21,7 +21,7 @@ mod write_numbers;
 
 pub use encode::encode_leaf;
 pub use laws::{one_leaf, sorted_in_any_order};
-pub use order::arrange;
+pub use order::{arrange, by_leaf_order};
 pub use size::greatest_leaf;
 pub use view::LeafView;
 

@@ -2,7 +2,7 @@
 
 ghost use Rattle.std.specs.Prelude.{◌≡◌, ◌≤◌, ◌<◌, ◌^◌, ◌*◌, ◌+◌, ◌++◌, ◌∷◌, ◌↔◌, ℕ, List, length, IfSome, IsSome, IsTrue};
 ghost use Rattle.std.specs.Int.{w16, to_be_bytes};
-ghost use Rattle.leaf_codec.specs.Spelling.{vint};
+ghost use Rattle.byte_cursor.specs.Vint.{vint};
 ghost use Rattle.leaf_codec.specs.Raw.{RawNumbers, AreRawNumbers, numbers_bytes, offset_at};
 ghost use Rattle.leaf_codec.specs.Views.{raw_numbers_of, IsNumbers, AreCanonical, BeginsWithNumbers, IsSpan};
 

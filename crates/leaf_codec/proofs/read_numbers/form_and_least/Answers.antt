@@ -1,7 +1,7 @@
 use Rattle.std.proofs.Common.{◌≡◌, ℕ, List, ◌∷◌, ◌++◌, Ok, sym, ap, ◌∙◌, arith}
 use Rattle.std.specs.Prelude.{Result}
-use Rattle.leaf_codec.specs.Spelling.{vint}
-use Rattle.leaf_codec.proofs.Vints.{taken, begins}
+use Rattle.byte_cursor.specs.Vint.{vint}
+use Rattle.byte_cursor.proofs.SpelledVints.{taken, begins}
 use Rattle.leaf_codec.proofs.read_numbers.form_and_least.Goals as goal
 
 tail-is : (a b : ℕ) (x y : List ℕ) → a ∷ x ≡ b ∷ y → x ≡ y

@@ -3,10 +3,11 @@ use Rattle.std.specs.List.{flat_map}
 use Rattle.std.proofs.lemmas.List.{get_or_default}
 use Rattle.std.proofs.lemmas.Result.{on_ok_weaker, IfOk-equal}
 use Rattle.leaf_codec.specs.Entries.{docs_of}
-use Rattle.leaf_codec.specs.Spelling.{least, form, width, vint, low_bytes}
+use Rattle.leaf_codec.specs.Spelling.{least, form, width, low_bytes}
+use Rattle.byte_cursor.specs.Vint.{vint}
 use Rattle.leaf_codec.proofs.Items.{get_or-docs, length-docs}
 use Rattle.leaf_codec.proofs.NumbersLemmas.{least-le, least-le-greatest, form_other, numbers_row, numbers_are}
-use Rattle.leaf_codec.proofs.Vints.{appended}
+use Rattle.byte_cursor.proofs.SpelledVints.{appended}
 use Rattle.leaf_codec.proofs.write_numbers.put_numbers.Goals as goal
 
 pub returns-then-is_row : goal.returns-then-is_row

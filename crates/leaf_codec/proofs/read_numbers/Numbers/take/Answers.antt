@@ -1,9 +1,9 @@
 use Rattle.std.proofs.Common.{◌≡◌, ◌<◌, ◌+◌, ◌-◌, ◌*◌, ◌/◌, ◌%◌, ℕ, List, ◌∷◌, ◌++◌, length, take, drop, sym, ap, ◌∙◌, arith, append_assoc, length-append, refl, eqb, true≢false, length-take}
 use Rattle.std.proofs.lemmas.List.Elements.{All-take, All-drop}
 use Rattle.leaf_codec.specs.Raw.{RawNumbers}
-use Rattle.leaf_codec.specs.Spelling.{vint}
+use Rattle.byte_cursor.specs.Vint.{vint}
 use Rattle.leaf_codec.proofs.ReadNumbers.{HasWords, has_words, AreBytes-from}
-use Rattle.leaf_codec.proofs.Vints.{vint_front, length-vint}
+use Rattle.byte_cursor.proofs.SpelledVints.{vint_front, length-vint}
 use Rattle.leaf_codec.proofs.Written.{flag_is}
 use Rattle.leaf_codec.proofs.read_numbers.Numbers.take.Goals as goal
 use Rattle.leaf_codec.proofs.read_numbers.Numbers.take.Goals.{Else-rest-count}

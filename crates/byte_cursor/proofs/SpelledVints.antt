@@ -3,9 +3,8 @@ use Rattle.std.proofs.Common.{◌≡◌, ◌<◌, ◌≤◌, ◌+◌, ◌^◌, �
 use Rattle.std.proofs.Math.Nat.{pow-suc}
 use Rattle.std.proofs.lemmas.Bool.{cases_lt, lt-ltb, le-ltb, cond-true, cond-false}
 use Rattle.std.proofs.lemmas.Nat.{div_below}
-use Rattle.byte_cursor.specs.Vint.{IsVint, AppendsVint, BeginsWithVint}
+use Rattle.byte_cursor.specs.Vint.{IsVint, AppendsVint, BeginsWithVint, vint_groups, vint}
 use Rattle.byte_cursor.proofs.Vints.{vint_cons, vint_one, vint_unique, vint_lengths}
-use Rattle.leaf_codec.specs.Spelling.{vint_groups, vint}
 
 one_group : (n : ℕ) → n < 128 → IsVint (n ∷ []) n
 unfolding IsVint

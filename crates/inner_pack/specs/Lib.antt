@@ -1,0 +1,4 @@
+pub mod Places
+pub mod Trees
+pub mod Bodies
+pub mod Nodes
