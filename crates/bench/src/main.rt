@@ -1,6 +1,7 @@
 //! What the scripts in `bench/` time: a part of the index and the plain form of it on the same work, with a printed answer.
 #![tactic(auto)]
 
+mod leaves;
 mod rings;
 
 use byte_cursor::Bytes;
@@ -14,7 +15,9 @@ use std::{env, io};
 /// The words of a run, and what it prints:
 /// `csv A B` reads CSV from the standard input, and says how many points these two columns give;
 /// `rings plain|tree POSITIONS QUERIES` asks points and small cells of a star-shaped ring by the plain list of edges or by
-/// the edge tree, and says how many are in and how many are met.
+/// the edge tree, and says how many are in and how many are met;
+/// `leaves COUNT TIMES` reads the leaf of that many entries that the standard input holds, over and over, and says how often it
+/// was one and what the numbers sum up to.
 fn main(rt: HostRuntime) -> io::Result<()> {
     let alloc = rt.alloc();
     let mut words = Vec::new(alloc);
@@ -38,7 +41,17 @@ fn main(rt: HostRuntime) -> io::Result<()> {
                 None => println!(rt; "no ring"),
             }
         }
-        _ => println!(rt; "csv A B | rings plain|tree POSITIONS QUERIES"),
+        [command, count, times] if command.as_str() == "leaves" => {
+            let mut source = StdSource::new(rt.stdin().lock());
+            let Ok(leaf) = read_all(alloc, &mut source, 4096) else {
+                return println!(rt; "no input");
+            };
+            let count = number(count.as_bytes()).unwrap_or(0).min(500) as u16;
+            let times = number(times.as_bytes()).unwrap_or(0);
+            let (found, sum) = leaves::read_over(leaf.as_slice(), count, times);
+            println!(rt; "leaves {found} sum {sum}")
+        }
+        _ => println!(rt; "csv A B | rings plain|tree POSITIONS QUERIES | leaves COUNT TIMES"),
     }
 }
 
