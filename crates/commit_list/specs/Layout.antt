@@ -53,10 +53,14 @@ pub record SpellsCommit (bytes : List ℕ) (c : CommitData) : Type 0 where
 
 -- ---- the head alone, of a body whose list isn't at hand yet
 
+-- the length of the field for the points given
+unfoldable pub given_length : Layout → ℕ
+given_length First = 0
+given_length Second = 4
+
 -- the length of the head
-unfoldable pub head_length : Layout → ℕ
-head_length First = 25
-head_length Second = 29
+abbrev pub head_length : Layout → ℕ
+head_length layout = 25 + given_length layout
 
 -- where the layout has no field for the points given, they are as many as the next number
 abbrev pub SaysGiven : Layout → ℕ → ℕ → Type 0
@@ -86,8 +90,15 @@ pub record BeginsBody (bytes : List ℕ) (n : ℕ) : Type 0 where
 abbrev pub HasNoCommit : List ℕ → Type 0
 HasNoCommit bytes = (c : CommitData) → SpellsCommit bytes c → ⊥
 
+-- the numbers of a segment fit their fields
+pub record FitsListed (s : Listed) : Type 0 where
+  pub segment : s.segment < 2 ^ 64
+  pub generation : s.generation < 2 ^ 64
+  pub entries : s.entries < 2 ^ 32
+  pub live : s.live < 2 ^ 32
+
 -- the bytes spell a list of so many segments, whatever their numbers say
 pub record SpellsList (bytes : List ℕ) (count : ℕ) (listed : List Listed) : Type 0 where
   pub long : length listed ≡ count
   pub spelling : bytes ≡ flat_map spell_listed listed
-  pub generations : All (λ s. s.generation < 2 ^ 64) listed
+  pub fits : All FitsListed listed

@@ -3,7 +3,7 @@
 ghost use Rattle.std.specs.Prelude.{◌≡◌, ◌≢◌, ◌≤◌, ◌<◌, ◌+◌, ◌*◌, ◌++◌, ◌↔◌, ℕ, List, length, IsTrue, IfSome, IfNone};
 ghost use Rattle.byte_cursor.specs.Cursor.{cursor_rest};
 ghost use Rattle.commit_list.specs.Commits.{AreInRange};
-ghost use Rattle.commit_list.specs.Layout.{magic, spell_given, spell_numbers, spell_head, head_length, SaysGiven, FitsHead};
+ghost use Rattle.commit_list.specs.Layout.{magic, spell_given, spell_numbers, spell_head, given_length, head_length, SaysGiven, FitsHead};
 ghost use Rattle.commit_list.specs.declared.head.Head.{Head};
 ghost use Rattle.commit_list.specs.declared.head.Layout.{Layout};
 
@@ -79,7 +79,7 @@ impl Head {
 
 impl Layout {
     /// The length of the head in this layout.
-    #[tactic(auto, unfolding(crate::specs::Layout::head_length))]
+    #[tactic(auto, unfolding(crate::specs::Layout::given_length))]
     fn head_length(self) -> u32
         ensures value { result ≡ head_length self }
         ensures most { result ≤ 29 }
@@ -123,7 +123,7 @@ fn take_numbers(cursor: &mut Cursor<'_>, layout: Layout) -> Option<Head>
     ensures layout { IfSome result (λ h. h.layout ≡ layout) }
     ensures taken { IfSome result (λ h. cursor_rest cursor.old ≡ spell_numbers h ++ cursor_rest cursor.new) }
     ensures fits { IfSome result FitsHead }
-    ensures none { IfNone result ((h : Head) (rest : List ℕ) → h.layout ≡ layout → cursor_rest cursor.old ≢ spell_numbers h ++ rest) }
+    ensures short { IfNone result (length (cursor_rest cursor.old) < 17 + given_length layout) }
 {
     let dims = cursor.take_u8().ok()?;
     let leaf = cursor.take_u16().ok()?;
@@ -143,11 +143,12 @@ fn take_numbers(cursor: &mut Cursor<'_>, layout: Layout) -> Option<Head>
 }
 
 /// Takes the points given, which are the next number where the layout has no field for them.
-#[tactic(auto, unfolding(crate::specs::Layout::spell_given))]
+#[tactic(auto, unfolding(crate::specs::Layout::spell_given, crate::specs::Layout::given_length))]
 fn take_given(cursor: &mut Cursor<'_>, layout: Layout, next: u32) -> Option<u32>
     ensures taken { IfSome result (λ g. cursor_rest cursor.old ≡ spell_given layout g ++ cursor_rest cursor.new) }
     ensures says { IfSome result (SaysGiven layout next) }
-    ensures none { IfNone result ((g : ℕ) (rest : List ℕ) → cursor_rest cursor.old ≢ spell_given layout g ++ rest) }
+    ensures long { IfSome result (λ _. length (cursor_rest cursor.old) ≡ given_length layout + length (cursor_rest cursor.new)) }
+    ensures short { IfNone result (length (cursor_rest cursor.old) < given_length layout) }
 {
     match layout {
         Layout::First => Some(next),

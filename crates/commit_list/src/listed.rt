@@ -3,7 +3,7 @@
 ghost use Rattle.std.specs.Prelude.{◌≡◌, ◌≤◌, ◌<◌, ◌++◌, ◌+◌, ◌^◌, ◌↔◌, length, IsTrue, IfSome, IfNone};
 ghost use Rattle.byte_cursor.specs.Cursor.{cursor_rest};
 ghost use Rattle.commit_list.specs.Commits.{IsListed, AreListed};
-ghost use Rattle.commit_list.specs.Layout.{spell_listed};
+ghost use Rattle.commit_list.specs.Layout.{spell_listed, FitsListed};
 
 use byte_cursor::Cursor;
 
@@ -58,9 +58,10 @@ pub(crate) fn are_listed(next_segment: u64, listed: &[Listed]) -> bool
 }
 
 /// Takes a listed segment.
+#[tactic(auto, unfolding(crate::specs::Layout::spell_listed))]
 pub(crate) fn take_listed(cursor: &mut Cursor<'_>) -> Option<Listed>
     ensures taken { IfSome result (λ s. cursor_rest cursor.old ≡ spell_listed s ++ cursor_rest cursor.new) }
-    ensures fits { IfSome result (λ s. s.generation < 2 ^ 64) }
+    ensures fits { IfSome result FitsListed }
     ensures short { IfNone result (length (cursor_rest cursor.old) < 24) }
 {
     let segment = cursor.take_u64().ok()?;

@@ -39,6 +39,7 @@ pub fn encode_commit(alloc: Global, c: &Commit) -> Result<Bytes, Memory>
 }
 
 /// Appends a head of the second layout.
+#[tactic(auto, unfolding(crate::specs::Layout::spell_head, crate::specs::Layout::spell_numbers, crate::specs::Layout::magic, crate::specs::Layout::spell_given))]
 fn put_head(out: &mut Vec<u8>, head: Head) -> Result<(), Memory>
     requires { head.layout ≡ Layout.Second }
     ensures { OnOk result (out.new.items ≡ out.old.items ++ spell_head head) }
@@ -64,6 +65,7 @@ fn put_list(out: &mut Vec<u8>, listed: &[Listed]) -> Result<(), Memory>
 }
 
 /// Appends a segment of a list.
+#[tactic(auto, unfolding(crate::specs::Layout::spell_listed))]
 fn put_listed(out: &mut Vec<u8>, s: Listed) -> Result<(), Memory>
     ensures spelling { OnOk result (out.new.items ≡ out.old.items ++ spell_listed s) }
     ensures fits { s.generation < 2 ^ 64 }

@@ -1,0 +1,8 @@
+use Rattle.std.proofs.Common.{◌≡◌, ◌<◌, ◌+◌, ◌-◌, ℕ, get_or}
+use Rattle.commit_list.specs.Commits.{ids_of, IsListed}
+use Rattle.commit_list.specs.declared.listed.Listed.{Listed}
+use Rattle.commit_list.proofs.Lists.{Reaches}
+use Rattle.commit_list.proofs.listed.are_listed.Given as goal
+
+abbrev pub invariant-loop-s : goal.invariant-loop-s
+invariant-loop-s l = Reaches l.next_segment l.listed l.s-index l.least
