@@ -8,6 +8,7 @@
 #![tactic(auto)]
 
 mod commits;
+mod files;
 mod head;
 mod laws;
 mod listed;
@@ -15,7 +16,8 @@ mod reading;
 mod writing;
 
 pub use commits::Commit;
-pub use laws::commits_are_unique;
+pub use files::{read_commit, write_commit};
+pub use laws::{commits_are_unique, files_say_one_commit};
 pub use listed::Listed;
 pub use reading::{body_length, decode};
 pub use writing::encode_commit;
