@@ -23,4 +23,6 @@ pub use reading::{body_length, decode};
 pub use writing::encode_commit;
 
 #[cfg(test)]
+mod file_tests;
+#[cfg(test)]
 mod tests;

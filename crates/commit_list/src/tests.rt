@@ -8,7 +8,7 @@ use std::test::Fail;
 
 /// 2 dimensions, leaf size 333, next number 1, 2 points given, next segment 1; segment 0 of generation 1 with 2
 /// entries, 1 live.
-const BODY: [u8; 53] = [
+pub(crate) const BODY: [u8; 53] = [
     0x42, 0x4b, 0x44, 0x50, 0x43, 0x4f, 0x4d, 0x32, // the magic bytes
     2, // dimensions
     0x01, 0x4d, // leaf size
@@ -23,7 +23,7 @@ const BODY: [u8; 53] = [
 ];
 
 /// In the layout of before: the same with 1 point given and 1 entry.
-const OLD_BODY: [u8; 49] = [
+pub(crate) const OLD_BODY: [u8; 49] = [
     0x42, 0x4b, 0x44, 0x50, 0x43, 0x4f, 0x4d, 0x31, // the magic bytes
     2, // dimensions
     0x01, 0x4d, // leaf size
@@ -37,7 +37,7 @@ const OLD_BODY: [u8; 49] = [
 ];
 
 /// The commit of a body that is one.
-fn read(rt: &(impl Abort + AllocGlobal), body: &[u8]) -> Result<Commit, Fail> {
+pub(crate) fn read(rt: &(impl Abort + AllocGlobal), body: &[u8]) -> Result<Commit, Fail> {
     match decode(rt.alloc(), body)? {
         Some(c) => Ok(c),
         None => Err("no commit")?,
@@ -63,6 +63,16 @@ fn one_commit(rt: HostRuntime) -> Result<(), Fail> {
     assert_eq!(rt; *listed, want);
     assert_eq!(rt; encode_commit(rt.alloc(), &c)?.as_slice(), BODY.as_slice());
     assert_eq!(rt; body_length(BODY.as_slice()), Some(53));
+    Ok(())
+}
+
+#[test]
+fn made_by_numbers(rt: HostRuntime) -> Result<(), Fail> {
+    let c = Commit::new(2, 333, 1, 2, 1, Vec::new(rt.alloc()));
+    let mut want = BODY.to_vec(rt.alloc())?;
+    want.truncate(29);
+    want[28] = 0;
+    assert_eq!(rt; encode_commit(rt.alloc(), &c)?.as_slice(), want.as_slice());
     Ok(())
 }
 
@@ -134,7 +144,7 @@ fn no_body(rt: HostRuntime) -> Result<(), Fail> {
 }
 
 /// The body of so many segments, whose ids are the even numbers.
-fn long_body(alloc: Global, count: u16) -> Result<Vec<u8>, Fail> {
+pub(crate) fn long_body(alloc: Global, count: u16) -> Result<Vec<u8>, Fail> {
     let mut out = Vec::new(alloc);
     put_slice(&mut out, &BODY[..19])?;
     put_u64(&mut out, 1000)?;
