@@ -1,3 +1,5 @@
 pub mod PageRuns
 pub mod Damages
 pub mod OneRead
+pub mod FileSizes
+pub mod Sealed
