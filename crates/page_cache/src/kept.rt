@@ -23,7 +23,7 @@ pub(crate) fn touch(pages: &mut KeptPages, key: PageKey) -> bool
     ensures missing { OnFalse result (HasKey pages.old.entries key → ⊥) }
     ensures fewer { KeepsNoMore pages.old.entries pages.new.entries }
     ensures first { OnTrue result (keys_of pages.new.entries ≡ key ∷ without key (keys_of pages.old.entries)) }
-    ensures same { OnFalse result (pages.new ≡ pages.old) }
+    ensures same { OnFalse result (pages.new.entries ≡ pages.old.entries) }
     ensures room { pages.new.cap ≡ pages.old.cap }
 {
     pages.promote(&key)
@@ -33,10 +33,10 @@ pub(crate) fn touch(pages: &mut KeptPages, key: PageKey) -> bool
 pub(crate) fn keep(pages: &mut KeptPages, key: PageKey, page: Box<PageBytes>) -> Result<(), Memory>
     requires { HasKey pages.old.entries key → ⊥ }
     ensures kept { OnOk result (Contains pages.new.entries (key, page)) }
-    ensures one { OnOk result (KeepsOneMore key page pages.old.entries pages.new.entries) }
+    ensures one { KeepsOneMore key page pages.old.entries pages.new.entries }
     ensures first { OnOk result (keys_of pages.new.entries ≡ key ∷ take (pages.old.cap - 1) (keys_of pages.old.entries)) }
     ensures room { pages.new.cap ≡ pages.old.cap }
-    ensures same { OnErr result (pages.new ≡ pages.old) }
+    ensures same { OnErr result (pages.new.entries ≡ pages.old.entries) }
 {
     pages.put(key, page)?;
     Ok(())
