@@ -29,9 +29,9 @@ module _ (id number : ℕ) (page : Box PageBytes Global) (old new : Kept) (one :
   agrees_one files this agrees i n bytes k = elim (one (page_key i n, k.0) k.1) [
     | inl was ↦ agrees i n bytes (k.0, was, k.2)
     | inr same ↦
-      let moved : IsPageOf files (Segment i) n k.0.value.b =
-          subst (λ (e : PageKey × Box PageBytes Global). IsPageOf files (Segment e.0.id) e.0.number e.1.value.b) (sym same) this in
-      subst (IsPageOf files (Segment i) n) k.2 moved
+        let moved : IsPageOf files (Segment i) n k.0.value.b =
+        subst (λ (e : PageKey × Box PageBytes Global). IsPageOf files (Segment e.0.id) e.0.number e.1.value.b) (sym same) this in
+        subst (IsPageOf files (Segment i) n) k.2 moved
   ]
 
   pub valid_one : IsPage 1 id number page.value.b → AllValid old → AllValid new
@@ -53,16 +53,16 @@ module _ (id : ℕ) (old new : Kept) (others : new ≡ filter (λ e. is_of_other
 
   pub others_gone : (n : ℕ) (page : Box PageBytes Global) → Contains new (page_key id n, page) → ⊥
   others_gone n page c =
-    let passed = (in_filter (λ (f : PageKey × Box PageBytes Global). is_of_other id f.0) old (page_key id n, page) (subst (λ (l : Kept). Contains l (page_key id n, page)) others c)).1 in
-    true≢false (sym passed ∙ ap not (eq-eqb id id refl))
+      let passed = (in_filter (λ (f : PageKey × Box PageBytes Global). is_of_other id f.0) old (page_key id n, page) (subst (λ (l : Kept). Contains l (page_key id n, page)) others c)).1 in
+      true≢false (sym passed ∙ ap not (eq-eqb id id refl))
 
   pub others_stay : (i n : ℕ) (bytes : List ℕ) → (i ≡ id → ⊥) → KeepsIn old (page_key i n) bytes → KeepsIn new (page_key i n) bytes
   others_stay i n bytes other k = (
-      k.0,
-      subst (λ (l : Kept). Contains l (page_key i n, k.0)) (sym others)
+    k.0,
+    subst (λ (l : Kept). Contains l (page_key i n, k.0)) (sym others)
         (into_filter (λ (f : PageKey × Box PageBytes Global). is_of_other id f.0) old (page_key i n, k.0) k.1 (ap not (ne_eqb i id other))),
-      k.2
-    )
+    k.2,
+  )
 
 pub taken_valid : (es : Kept) (id number : ℕ) (r : Option (Box PageBytes Global)) → AllValid es → IfSome r (λ p. Contains es (page_key id number, p)) → IfSome r (λ p. IsPage 1 id number p.value.b)
 taken_valid es id number None valid c = tt

@@ -63,8 +63,8 @@ module _ (key : PageKey) where
   -- an entry that is found has the key
   pub found_entry : (es : Kept) (e : PageKey × Box PageBytes Global) → lookup_entry (same_key key) es ≡ Some e → Contains es (key, e.1)
   found_entry es e h =
-    let c = Contains-lookup_entry (same_key key) es e h in
-    subst (λ (k : PageKey). Contains es (k, e.1)) (sym (key_true key e.0 c.1)) c.0
+      let c = Contains-lookup_entry (same_key key) es e h in
+      subst (λ (k : PageKey). Contains es (k, e.1)) (sym (key_true key e.0 c.1)) c.0
 
   pub missing_none : (es : Kept) (o : Option (PageKey × Box PageBytes Global)) → lookup_entry (same_key key) es ≡ o → (HasKey es key → ⊥) → lookup_entry (same_key key) es ≡ None
   missing_none es None h missing = h
@@ -101,8 +101,8 @@ module _ (key : PageKey) where
   used_found : (es : Kept) (o : Option (PageKey × Box PageBytes Global)) → lookup_entry (same_key key) es ≡ o → OnTrue (is_some o) (HasKey (used es o) key)
   used_found es None h = tt
   used_found es (Some e) h =
-    let same : key ≡ e.0 = key_true key e.0 (Contains-lookup_entry (same_key key) es e h).1 in
-    (e.1, subst (λ (k : PageKey). Contains (e ∷ remove_entry (same_key key) es) (k, e.1)) (sym same) (Contains-head e (remove_entry (same_key key) es)))
+      let same : key ≡ e.0 = key_true key e.0 (Contains-lookup_entry (same_key key) es e h).1 in
+      (e.1, subst (λ (k : PageKey). Contains (e ∷ remove_entry (same_key key) es) (k, e.1)) (sym same) (Contains-head e (remove_entry (same_key key) es)))
 
   used_missing : (es : Kept) (o : Option (PageKey × Box PageBytes Global)) → lookup_entry (same_key key) es ≡ o → OnFalse (is_some o) (HasKey es key → ⊥)
   used_missing es None h = none_has es h
@@ -111,8 +111,8 @@ module _ (key : PageKey) where
   used_first : (es : Kept) (o : Option (PageKey × Box PageBytes Global)) → lookup_entry (same_key key) es ≡ o → OnTrue (is_some o) (keys_of (used es o) ≡ key ∷ without key (keys_of es))
   used_first es None h = tt
   used_first es (Some e) h =
-    let same : key ≡ e.0 = key_true key e.0 (Contains-lookup_entry (same_key key) es e h).1 in
-    ap (λ (k : PageKey). k ∷ keys_of (remove_entry (same_key key) es)) (sym same) ∙ ap (λ (ks : List PageKey). key ∷ ks) (keys_without es)
+      let same : key ≡ e.0 = key_true key e.0 (Contains-lookup_entry (same_key key) es e h).1 in
+      ap (λ (k : PageKey). k ∷ keys_of (remove_entry (same_key key) es)) (sym same) ∙ ap (λ (ks : List PageKey). key ∷ ks) (keys_without es)
 
   used_same : (es : Kept) (o : Option (PageKey × Box PageBytes Global)) → OnFalse (is_some o) (used es o ≡ es)
   used_same es None = refl
@@ -148,8 +148,8 @@ module _ (key : PageKey) where
 
   pub put_missing : (c : LruCache PageKey (Box PageBytes Global)) (page : Box PageBytes Global) → (HasKey c.entries key → ⊥) → put_entries same_key c key page ≡ (key, page) ∷ take (c.cap - 1) c.entries
   put_missing c page missing =
-    ap (λ (o : Option (PageKey × Box PageBytes Global)). option_map_or (λ e. (e.0, page) ∷ remove_entry (same_key key) c.entries) o ((key, page) ∷ take (c.cap - 1) c.entries))
-        (missing_none c.entries (lookup_entry (same_key key) c.entries) refl missing)
+      ap (λ (o : Option (PageKey × Box PageBytes Global)). option_map_or (λ e. (e.0, page) ∷ remove_entry (same_key key) c.entries) o ((key, page) ∷ take (c.cap - 1) c.entries))
+      (missing_none c.entries (lookup_entry (same_key key) c.entries) refl missing)
 
   module _ (es ns : Kept) (room : ℕ) (page : Box PageBytes Global) (after : ns ≡ (key, page) ∷ take (room - 1) es) where
     pub keep_kept : Contains ns (key, page)
@@ -179,9 +179,9 @@ module _ (key : PageKey) where
 
   pub taken_gone : (es : Kept) → IsDistinct same_key (keys_of es) → HasKey (remove_entry (same_key key) es) key → ⊥
   taken_gone es apart =
-    let none : lookup (same_key key) (remove_entry (same_key key) es) ≡ None =
-        lookup-remove_entry key_equiv (same_key key) one_key key es apart ∙ ap (λ (b : Bool). cond b None (lookup (same_key key) es)) (key_itself key) in
-    none_has (remove_entry (same_key key) es) (none_of_value (remove_entry (same_key key) es) none)
+      let none : lookup (same_key key) (remove_entry (same_key key) es) ≡ None =
+      lookup-remove_entry key_equiv (same_key key) one_key key es apart ∙ ap (λ (b : Bool). cond b None (lookup (same_key key) es)) (key_itself key) in
+      none_has (remove_entry (same_key key) es) (none_of_value (remove_entry (same_key key) es) none)
 
 -- ---- a segment's file is taken out by turning the list once
 

@@ -109,7 +109,7 @@ pages_behind name first count a b len pages n low high =
     let place : n ≡ first + (n - first) = omega arith in
     let few : n - first < count = omega arith in
     let page : IsPage (kind_of name) (number_of name) n (page_at b (n - first)) =
-        subst (λ (k : ℕ). IsPage (kind_of name) (number_of name) k (page_at b (n - first))) (sym place) (pages (n - first) few) in
+    subst (λ (k : ℕ). IsPage (kind_of name) (number_of name) k (page_at b (n - first))) (sym place) (pages (n - first) few) in
     subst (IsPage (kind_of name) (number_of name) n) (sym (page_at_back a b first n (n - first) len place)) page
 
 -- the first page and the pages behind it

@@ -31,27 +31,27 @@ part_filled body rest part i some e f =
     let begin : 4064 * i ≤ length body = omega arith in
     let left : length rest ≡ length body - 4064 * i = ap (λ (x : List ℕ). length x) e ∙ length-drop (4064 * i) body in
     let behind : drop (4064 * i) (filled body) ≡ rest ++ replicate (4064 * pages_for (length body) - length body) 0 =
-        drop-append-le (4064 * i) body (replicate (4064 * pages_for (length body) - length body) 0) begin
-        ∙ ap (λ (x : List ℕ). x ++ replicate (4064 * pages_for (length body) - length body) 0) (sym e) in
+    drop-append-le (4064 * i) body (replicate (4064 * pages_for (length body) - length body) 0) begin
+    ∙ ap (λ (x : List ℕ). x ++ replicate (4064 * pages_for (length body) - length body) 0) (sym e) in
     elim (cases_lt (length rest) 4064) [
       | inl short ↦
-        let all : part ≡ rest = f ∙ take_all (min (length rest) 4064) rest (omega arith) in
-        let same : 4064 - length part ≡ 4064 * pages_for (length body) - length body = ap (λ (x : List ℕ). 4064 - length x) all ∙ omega arith in
-        let whole : length (rest ++ replicate (4064 * pages_for (length body) - length body) 0) ≤ 4064 =
-            omega (arith, length-append rest (replicate (4064 * pages_for (length body) - length body) 0), length-replicate {A = ℕ} (4064 * pages_for (length body) - length body) 0) in
-        ap (λ (n : ℕ). part ++ replicate n 0) same
-        ∙ ap (λ (x : List ℕ). x ++ replicate (4064 * pages_for (length body) - length body) 0) all
-        ∙ sym (take_all 4064 (rest ++ replicate (4064 * pages_for (length body) - length body) 0) whole)
-        ∙ ap (λ (x : List ℕ). take 4064 x) (sym behind)
+          let all : part ≡ rest = f ∙ take_all (min (length rest) 4064) rest (omega arith) in
+          let same : 4064 - length part ≡ 4064 * pages_for (length body) - length body = ap (λ (x : List ℕ). 4064 - length x) all ∙ omega arith in
+          let whole : length (rest ++ replicate (4064 * pages_for (length body) - length body) 0) ≤ 4064 =
+          omega (arith, length-append rest (replicate (4064 * pages_for (length body) - length body) 0), length-replicate {A = ℕ} (4064 * pages_for (length body) - length body) 0) in
+          ap (λ (n : ℕ). part ++ replicate n 0) same
+          ∙ ap (λ (x : List ℕ). x ++ replicate (4064 * pages_for (length body) - length body) 0) all
+          ∙ sym (take_all 4064 (rest ++ replicate (4064 * pages_for (length body) - length body) 0) whole)
+          ∙ ap (λ (x : List ℕ). take 4064 x) (sym behind)
       | inr long ↦
-        let count : min (length rest) 4064 ≡ 4064 = omega arith in
-        let front : part ≡ take 4064 rest = f ∙ ap (λ (n : ℕ). take n rest) count in
-        let none : 4064 - length part ≡ 0 = ap (λ (x : List ℕ). 4064 - length x) front ∙ omega (arith, length-take 4064 rest) in
-        ap (λ (n : ℕ). part ++ replicate n 0) none
-        ∙ append-nil part
-        ∙ front
-        ∙ sym (take-append-le 4064 rest (replicate (4064 * pages_for (length body) - length body) 0) long)
-        ∙ ap (λ (x : List ℕ). take 4064 x) (sym behind)
+          let count : min (length rest) 4064 ≡ 4064 = omega arith in
+          let front : part ≡ take 4064 rest = f ∙ ap (λ (n : ℕ). take n rest) count in
+          let none : 4064 - length part ≡ 0 = ap (λ (x : List ℕ). 4064 - length x) front ∙ omega (arith, length-take 4064 rest) in
+          ap (λ (n : ℕ). part ++ replicate n 0) none
+          ∙ append-nil part
+          ∙ front
+          ∙ sym (take-append-le 4064 rest (replicate (4064 * pages_for (length body) - length body) 0) long)
+          ∙ ap (λ (x : List ℕ). take 4064 x) (sym behind)
     ]
 
 -- nothing was put yet
@@ -72,10 +72,10 @@ pub put_more : (name : FileName) (first : ℕ) (body rest part : List ℕ) (i : 
 put_more name first body rest part i old mid new some e f put page =
     let long : length page.bytes ≡ 4096 = page.page.len in
     let this : page_at (put.bytes ++ page.bytes) i ≡ page.bytes =
-        page_at_back put.bytes page.bytes i i 0 put.len (sym (add-zero i)) ∙ page_at_only page.bytes long in
+    page_at_back put.bytes page.bytes i i 0 put.len (sym (add-zero i)) ∙ page_at_only page.bytes long in
     let before : 4096 * (0 + i) ≤ length put.bytes = let len = put.len in omega arith in
     let payload : payload_of page.bytes ≡ payload_of (page_at (put.bytes ++ page.bytes) (0 + i)) =
-        ap payload_of (sym this) ∙ ap (λ (n : ℕ). payload_of (page_at (put.bytes ++ page.bytes) n)) (sym (zero-add i)) in
+    ap payload_of (sym this) ∙ ap (λ (n : ℕ). payload_of (page_at (put.bytes ++ page.bytes) n)) (sym (zero-add i)) in
     let grown : 4064 * i + 4064 ≡ 4064 * (i + 1) = omega arith in
     record {
       bytes = put.bytes ++ page.bytes;
@@ -86,14 +86,14 @@ put_more name first body rest part i old mid new some e f put page =
             subst (IsPage (kind_of name) (number_of name) (first + k)) (sym (page_at_front put.bytes page.bytes k fits)) (put.pages k below)
         | inr at_least ↦ let same : i ≡ k = omega arith in
             subst (λ (n : ℕ). IsPage (kind_of name) (number_of name) (first + n) (page_at (put.bytes ++ page.bytes) n)) same
-              (subst (IsPage (kind_of name) (number_of name) (first + i)) (sym this) page.page)
+            (subst (IsPage (kind_of name) (number_of name) (first + i)) (sym this) page.page)
       ];
       payload =
-        sym (payloads_more (put.bytes ++ page.bytes) [] (payloads_of (put.bytes ++ page.bytes) 0 i) (payload_of page.bytes) 0 i refl payload)
-        ∙ ap (λ (x : List ℕ). x ++ payload_of page.bytes) (payloads_front put.bytes page.bytes 0 i before ∙ put.payload)
-        ∙ ap (λ (x : List ℕ). take (4064 * i) (filled body) ++ x) (page.payload ∙ part_filled body rest part i some e f)
-        ∙ sym (take-add (4064 * i) 4064 (filled body))
-        ∙ ap (λ (n : ℕ). take n (filled body)) grown;
+          sym (payloads_more (put.bytes ++ page.bytes) [] (payloads_of (put.bytes ++ page.bytes) 0 i) (payload_of page.bytes) 0 i refl payload)
+          ∙ ap (λ (x : List ℕ). x ++ payload_of page.bytes) (payloads_front put.bytes page.bytes 0 i before ∙ put.payload)
+          ∙ ap (λ (x : List ℕ). take (4064 * i) (filled body) ++ x) (page.payload ∙ part_filled body rest part i some e f)
+          ∙ sym (take-add (4064 * i) 4064 (filled body))
+          ∙ ap (λ (n : ℕ). take n (filled body)) grown;
     }
 
 -- all pages were put
@@ -115,13 +115,13 @@ rest_more body rest others i e f =
     let left : length rest ≡ length body - 4064 * i = ap (λ (x : List ℕ). length x) e ∙ length-drop (4064 * i) body in
     elim (cases_lt (length rest) 4064) [
       | inl short ↦
-        let gone : drop (4064 * (i + 1)) body ≡ [] = drop_of_length-le body (omega arith) in
-        let none : drop (min (length rest) 4064) rest ≡ [] = drop_of_length-le rest (omega arith) in
-        f ∙ none ∙ sym gone
+          let gone : drop (4064 * (i + 1)) body ≡ [] = drop_of_length-le body (omega arith) in
+          let none : drop (min (length rest) 4064) rest ≡ [] = drop_of_length-le rest (omega arith) in
+          f ∙ none ∙ sym gone
       | inr long ↦
-        let count : min (length rest) 4064 ≡ 4064 = omega arith in
-        let place : 4064 * i + 4064 ≡ 4064 * (i + 1) = omega arith in
-        f ∙ ap (λ (n : ℕ). drop n rest) count ∙ ap (λ (x : List ℕ). drop 4064 x) e ∙ drop-drop 4064 (4064 * i) body ∙ ap (λ (n : ℕ). drop n body) place
+          let count : min (length rest) 4064 ≡ 4064 = omega arith in
+          let place : 4064 * i + 4064 ≡ 4064 * (i + 1) = omega arith in
+          f ∙ ap (λ (n : ℕ). drop n rest) count ∙ ap (λ (x : List ℕ). drop 4064 x) e ∙ drop-drop 4064 (4064 * i) body ∙ ap (λ (n : ℕ). drop n body) place
     ]
 
 -- the pages of a body, from page 0 on and with nothing before, are its file

@@ -31,12 +31,7 @@ fn put_page(out: &mut Vec<u8>, name: &FileName, number: u32, part: &[u8])
 
 /// Appends the pages of a body, numbered from `first` on as pages of the file of this name. Each is sealed once.
 /// Memory is taken once for all of them.
-pub fn put_pages(
-    out: &mut Vec<u8>,
-    name: &FileName,
-    first: u32,
-    body: &[u8],
-) -> Result<(), Memory>
+pub fn put_pages(out: &mut Vec<u8>, name: &FileName, first: u32, body: &[u8]) -> Result<(), Memory>
     requires { first + pages_of_body (length body.now) < 2 ^ 32 }
     ensures ok { OnOk result (AppendsPages name.now first body.now out.old.items out.new.items) }
     ensures err { OnErr result (out.new.items ≡ out.old.items) }

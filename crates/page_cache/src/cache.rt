@@ -24,12 +24,13 @@ pub struct PageCache {
 
 impl PageCache {
     ghost use Rattle.std.specs.Prelude.{◌≡◌, ◌≢◌, ◌≤◌, ◌+◌, ◌⊎◌, ℕ, List, [], IsTrue, IsOk, OnOk, OnErr, IfOk, IfSome, IfNone, OnSome};
+    ghost use Rattle.outer_io.specs.Counts.{RisesByOne};
     ghost use Rattle.outer_io.specs.Files.{Files, bytes_of};
     ghost use Rattle.outer_io.specs.declared.file_name.FileName.TheVariants.{Segment};
     ghost use Rattle.page_file.specs.Page.{IsPage};
     ghost use Rattle.page_cache.specs.FilePages.{kind_of, number_of, page_at, IsFilePage};
     ghost use Rattle.page_cache.specs.Evidence.{OnDamage, NotDamaged, IsPageOf, IsPageDamage, IsPageDamageOf};
-    ghost use Rattle.page_cache.specs.Causes.{HasPageCause};
+    ghost use Rattle.page_cache.specs.Causes.{HasPageCause, IsSteady};
     ghost use Rattle.page_cache.specs.Keys.{page_key, without};
     ghost use Rattle.page_cache.specs.Cache.{Keeps, IsKept, KeepsFile, Agrees, room_of, order_of, of_others, IsUsed, IsSegment, KeepsOf, IsKeptOf};
 
@@ -63,12 +64,16 @@ impl PageCache {
         ensures files { IsTrue F.told → F.files folder.new ≡ F.files folder.old }
         ensures reads { F.reads folder.new ≤ F.reads folder.old + 1 }
         ensures cause { HasPageCause (F.faults folder.old) (F.faults folder.new) result }
+        ensures steady { IsSteady (F.faults folder.old) (F.faults folder.new) result }
         ensures hit { IsKept self.old id number → IsOk result × (F.reads folder.new ≡ F.reads folder.old) }
+        ensures once { (IsKept self.old id number → ⊥) → OnOk result (RisesByOne (F.reads folder.old) (F.reads folder.new)) }
         ensures kept { OnOk result (IsKept self.new id number) }
         ensures order { OnOk result (IsUsed id number self.old self.new) }
         ensures refused { OnErr result (order_of self.new ≡ order_of self.old) }
         ensures room { room_of self.new ≡ room_of self.old }
         ensures others { (i : ℕ) → KeepsFile self.new i → KeepsFile self.old i ⊎ (i ≡ id) }
+        ensures stays { (i n : ℕ) (bytes : List ℕ) → Keeps self.new i n bytes
+            → Keeps self.old i n bytes ⊎ ((i ≡ id) × (n ≡ number) × (IsKept self.old id number → ⊥)) }
         ensures agrees { IsTrue F.told → Agrees (F.files folder.old) self.old → Agrees (F.files folder.old) self.new }
         ensures shown { OnDamage result (IsPageDamage (Segment id) number) }
         ensures damage { IsTrue F.told → OnDamage result (IsPageDamageOf (F.files folder.old) number) }
@@ -107,6 +112,7 @@ impl PageCache {
         ensures files { IsTrue F.told → F.files folder.new ≡ F.files folder.old }
         ensures reads { F.reads folder.new ≤ F.reads folder.old + 1 }
         ensures cause { HasPageCause (F.faults folder.old) (F.faults folder.new) result }
+        ensures steady { IsSteady (F.faults folder.old) (F.faults folder.new) result }
         ensures hit { IsKeptOf self.old file.now number → IsOk result × (F.reads folder.new ≡ F.reads folder.old) }
         ensures place { IfOk result (λ v. (v.kind ≡ 1) × (v.file ≡ number_of file.now) × (v.number ≡ number)) }
         ensures bytes { IsTrue F.told → Agrees (F.files folder.old) self.old → IfOk result (λ v. IsPageOf (F.files folder.old) file.now number v.bytes.now.b) }

@@ -23,29 +23,37 @@ pub struct FirstPage {
 }
 
 impl FirstPage {
-    ghost use Rattle.std.specs.Prelude.{◌≡◌, ◌≤◌, ◌+◌, ◌*◌, length, vec_len, IsTrue, IsOk, IfOk, OnOk, IsErrOf, ◌↔◌};
+    ghost use Rattle.std.specs.Prelude.{◌≡◌, ◌≤◌, ◌+◌, ◌*◌, length, vec_len, IsTrue, IsOk, IfOk, OnOk, IfSome, IfNone, None, IsErrOf, ◌↔◌};
     ghost use Rattle.outer_io.specs.Files.{Files, bytes_of};
     ghost use Rattle.page_cache.specs.FilePages.{IsFilePage, ArePages, payloads_of};
-    ghost use Rattle.page_cache.specs.Evidence.{OnDamage, NotDamaged, IsFileDamage, IsFileDamageOf};
-    ghost use Rattle.page_cache.specs.Causes.{HasPageCause};
+    ghost use Rattle.page_cache.specs.Evidence.{OnDamage, NotDamaged, SizeNeeds, IsSizeDamage, IsFileDamage, IsFileDamageOf};
+    ghost use Rattle.page_cache.specs.Causes.{HasPageCause, IsSteady};
     ghost use Rattle.page_cache.specs.FirstPages.{first_name, first_payload, first_size, IsFirstPage};
     ghost use Rattle.page_cache.specs.declared.faults.PageFault.TheVariants as page;
 
-    /// Reads the size and the first page of a file. Missing, Size where the file has fewer bytes than a page, and
-    /// then Page are the damages.
+    /// Reads the size and the first page of a file, and None where it isn't there. Size where the file has fewer
+    /// bytes than a page, and then Page, are the damages.
     #[tactic(auto, unfolding(crate::specs::FirstPages::first_name, crate::specs::FirstPages::first_payload, crate::specs::FirstPages::first_size))]
-    pub fn read<F: Pages>(alloc: Global, folder: &mut F, name: &FileName) -> Result<FirstPage, PageFault>
+    pub fn find<F: Pages>(
+        alloc: Global,
+        folder: &mut F,
+        name: &FileName,
+    ) -> Result<Option<FirstPage>, PageFault>
         ensures files { IsTrue F.told → F.files folder.new ≡ F.files folder.old }
         ensures reads { F.reads folder.new ≤ F.reads folder.old + 1 }
         ensures cause { HasPageCause (F.faults folder.old) (F.faults folder.new) result }
-        ensures name { IfOk result (λ p. first_name p ≡ name.now) }
-        ensures first { IsTrue F.told → IfOk result (IsFirstPage (F.files folder.old)) }
+        ensures steady { IsSteady (F.faults folder.old) (F.faults folder.new) result }
+        ensures name { IfOk result (λ found. IfSome found (λ p. first_name p ≡ name.now)) }
+        ensures first { IsTrue F.told → IfOk result (λ found. IfSome found (IsFirstPage (F.files folder.old))) }
+        ensures none { IsTrue F.told → IfOk result (λ found. IfNone found (F.files folder.old name.now ≡ None)) }
         ensures shown { OnDamage result (IsFileDamage name.now) }
+        ensures needed { OnDamage result (SizeNeeds 4096) }
         ensures damage { IsTrue F.told → OnDamage result (IsFileDamageOf (F.files folder.old)) }
+        ensures absent { IsTrue F.told → F.files folder.old name.now ≡ None → NotDamaged result }
         ensures whole { IsTrue F.told → IsFilePage name.now (bytes_of (F.files folder.old name.now)) 0 → NotDamaged result }
     {
         let Some(size) = folder.size(name)? else {
-            return Err(PageFault::Damaged(Damage::Missing { file: *name }));
+            return Ok(None);
         };
         if size < PAGE_LEN as u64 {
             return Err(PageFault::Damaged(Damage::Size {
@@ -55,11 +63,36 @@ impl FirstPage {
             }));
         }
         let page = read_page(alloc, folder, name, 0)?;
-        Ok(FirstPage {
+        Ok(Some(FirstPage {
             name: *name,
             size,
             page,
-        })
+        }))
+    }
+
+    /// Reads the size and the first page of a file. Missing, Size where the file has fewer bytes than a page, and
+    /// then Page are the damages.
+    #[tactic(auto, unfolding(crate::specs::FirstPages::first_name, crate::specs::FirstPages::first_payload, crate::specs::FirstPages::first_size))]
+    pub fn read<F: Pages>(
+        alloc: Global,
+        folder: &mut F,
+        name: &FileName,
+    ) -> Result<FirstPage, PageFault>
+        ensures files { IsTrue F.told → F.files folder.new ≡ F.files folder.old }
+        ensures reads { F.reads folder.new ≤ F.reads folder.old + 1 }
+        ensures cause { HasPageCause (F.faults folder.old) (F.faults folder.new) result }
+        ensures steady { IsSteady (F.faults folder.old) (F.faults folder.new) result }
+        ensures name { IfOk result (λ p. first_name p ≡ name.now) }
+        ensures first { IsTrue F.told → IfOk result (IsFirstPage (F.files folder.old)) }
+        ensures shown { OnDamage result (IsFileDamage name.now) }
+        ensures needed { OnDamage result (SizeNeeds 4096) }
+        ensures damage { IsTrue F.told → OnDamage result (IsFileDamageOf (F.files folder.old)) }
+        ensures whole { IsTrue F.told → IsFilePage name.now (bytes_of (F.files folder.old name.now)) 0 → NotDamaged result }
+    {
+        match FirstPage::find(alloc, folder, name)? {
+            Some(first) => Ok(first),
+            None => Err(PageFault::Damaged(Damage::Missing { file: *name })),
+        }
     }
 
     /// The payload of the page, 4,064 bytes.
@@ -85,6 +118,7 @@ impl FirstPage {
         ensures ok { IsOk result ↔ (first_size self.now ≡ 4096 * pages) }
         ensures failed { IsErrOf result page.Failed → ⊥ }
         ensures shown { OnDamage result (IsFileDamage (first_name self.now)) }
+        ensures size { OnDamage result (IsSizeDamage (first_name self.now) (first_size self.now) (4096 * pages)) }
         ensures damage { (files : Files) → IsFirstPage files self.now → OnDamage result (IsFileDamageOf files) }
     {
         let needed = PAGE_LEN as u64 * u64::from(pages);
@@ -102,11 +136,17 @@ impl FirstPage {
     /// The payloads of the first `pages` pages of the file, this one's and those of the others, which are read by
     /// one call each, one after another.
     #[tactic(auto, unfolding(crate::specs::FirstPages::first_name, crate::specs::FirstPages::first_payload, crate::specs::FirstPages::first_size))]
-    pub fn joined<F: Pages>(&self, alloc: Global, folder: &mut F, pages: u32) -> Result<Vec<u8>, PageFault>
+    pub fn joined<F: Pages>(
+        &self,
+        alloc: Global,
+        folder: &mut F,
+        pages: u32,
+    ) -> Result<Vec<u8>, PageFault>
         requires { 1 ≤ pages }
         ensures files { IsTrue F.told → F.files folder.new ≡ F.files folder.old }
         ensures reads { F.reads folder.new + 1 ≤ F.reads folder.old + pages }
         ensures cause { HasPageCause (F.faults folder.old) (F.faults folder.new) result }
+        ensures steady { IsSteady (F.faults folder.old) (F.faults folder.new) result }
         ensures len { IfOk result (λ v. vec_len v ≡ 4064 * pages) }
         ensures payloads { IsTrue F.told → IsFirstPage (F.files folder.old) self.now → IfOk result (λ v. v.items ≡ payloads_of (bytes_of (F.files folder.old (first_name self.now))) 0 pages) }
         ensures pages { IsTrue F.told → IsFirstPage (F.files folder.old) self.now → OnOk result (ArePages (first_name self.now) (bytes_of (F.files folder.old (first_name self.now))) 0 pages) }

@@ -11,7 +11,7 @@ unreachable-requires c =
 
 pub returns : goal.returns
 returns c = (
-    c.in-Some.page.now,
-    Contains-from_lookup kept.key_true c.args.key c.in-Some.page.now c.args.pages.now.entries (sym c.peek.ensures ∙ ap option_copied c.in-Some.is),
-    ap (λ (p : PageBytes). p.b) (sym c.deref.ensures)
-  )
+  c.in-Some.page.now,
+  Contains-from_lookup kept.key_true c.args.key c.in-Some.page.now c.args.pages.now.entries (sym c.peek.ensures ∙ ap option_copied c.in-Some.is),
+  ap (λ (p : PageBytes). p.b) (sym c.deref.ensures),
+)

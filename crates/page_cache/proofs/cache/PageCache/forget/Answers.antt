@@ -20,8 +20,14 @@ returns-clause-others c = others_stay c.args.id c.args.self.now.pages.entries c.
 
 pub returns-clause-fewer : goal.returns-clause-fewer
 unfolding Keeps IsKept KeepsFile
-returns-clause-fewer c = λ i k. (k.0, (k.1.0, keeps_fewer c.args.self.now.pages.entries c.take_file_out.new.pages.entries (page_key i k.0) k.1.0
-    (others_fewer c.args.id c.args.self.now.pages.entries c.take_file_out.new.pages.entries c.take_file_out.ensures.others) k.1.1))
+returns-clause-fewer c = λ i k. (
+  k.0,
+  (
+    k.1.0,
+    keeps_fewer c.args.self.now.pages.entries c.take_file_out.new.pages.entries (page_key i k.0) k.1.0
+        (others_fewer c.args.id c.args.self.now.pages.entries c.take_file_out.new.pages.entries c.take_file_out.ensures.others) k.1.1,
+  ),
+)
 
 pub returns-clause-agrees : goal.returns-clause-agrees
 unfolding Keeps Agrees
@@ -31,5 +37,5 @@ returns-clause-agrees c = λ files. agrees_fewer files c.args.self.now.pages.ent
 pub invariant_of-self : goal.invariant_of-self
 invariant_of-self c = record {
   valid = valid_fewer c.args.self.now.pages.entries c.take_file_out.new.pages.entries
-    (others_fewer c.args.id c.args.self.now.pages.entries c.take_file_out.new.pages.entries c.take_file_out.ensures.others) c.args.self.now.valid;
+      (others_fewer c.args.id c.args.self.now.pages.entries c.take_file_out.new.pages.entries c.take_file_out.ensures.others) c.args.self.now.valid;
 }

@@ -10,7 +10,7 @@ use Rattle.page_cache.proofs.cache.PageCache.take.Goals as goal
 pub returns-clause-valid : goal.returns-clause-valid
 returns-clause-valid c =
     subst (λ (f : FileName). IfSome c.take_out.result (λ p. IsPage (kind_of f) (number_of f) c.args.number p.value.b)) (sym c.in-Segment.is)
-        (taken_valid c.args.self.now.pages.entries c.in-Segment.id c.args.number c.take_out.result c.args.self.now.valid c.take_out.ensures.some)
+    (taken_valid c.args.self.now.pages.entries c.in-Segment.id c.args.number c.take_out.result c.args.self.now.valid c.take_out.ensures.some)
 
 pub returns-clause-fewer : goal.returns-clause-fewer
 unfolding Keeps IsKept KeepsFile
