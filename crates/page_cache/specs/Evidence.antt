@@ -9,12 +9,16 @@ use Rattle.page_cache.specs.declared.faults.Damage.TheVariants.{Page, Leaf, Body
 use Rattle.page_cache.specs.declared.faults.PageFault.{PageFault}
 use Rattle.page_cache.specs.declared.faults.PageFault.TheVariants.{Failed, Damaged, Memory}
 
+-- P holds of the damage, where the fault is one
+abbrev pub FaultShows : (Damage → Type 0) → PageFault → Type 0
+FaultShows P Failed = Unit {0}
+FaultShows P (Damaged d) = P d
+FaultShows P Memory = Unit {0}
+
 -- P holds of the damage, where the call answers one
 abbrev pub OnDamage : {T : Type 0} → Result T PageFault → (Damage → Type 0) → Type 0
 OnDamage (Ok _) P = Unit {0}
-OnDamage (Err Failed) P = Unit {0}
-OnDamage (Err (Damaged d)) P = P d
-OnDamage (Err Memory) P = Unit {0}
+OnDamage (Err fault) P = FaultShows P fault
 
 -- the call answers no damage
 abbrev pub NotDamaged : {T : Type 0} → Result T PageFault → Type 0
@@ -66,6 +70,28 @@ IsTrueOf place pairs beyond doubled files (Size file size needed) = IsEndOf file
 IsTrueOf place pairs beyond doubled files (Unequal file said found) = pairs file said found
 IsTrueOf place pairs beyond doubled files (Beyond doc next) = beyond doc next
 IsTrueOf place pairs beyond doubled files (Doubled doc) = doubled doc
+
+-- where the damage is one of size, so many bytes were needed
+abbrev pub SizeNeeds : ℕ → Damage → Type 0
+SizeNeeds most (Page file number bytes) = Unit {0}
+SizeNeeds most (Leaf file number offset len bytes) = Unit {0}
+SizeNeeds most (Body file bytes) = Unit {0}
+SizeNeeds most (Missing file) = Unit {0}
+SizeNeeds most (Size file size needed) = needed ≡ most
+SizeNeeds most (Unequal file said found) = Unit {0}
+SizeNeeds most (Beyond doc next) = Unit {0}
+SizeNeeds most (Doubled doc) = Unit {0}
+
+-- the damage is that the file has this size and needs another
+abbrev pub IsSizeDamage : FileName → ℕ → ℕ → Damage → Type 0
+IsSizeDamage name had most (Size file size needed) = (file ≡ name) × (size ≡ had) × (needed ≡ most)
+IsSizeDamage name had most (Page file number bytes) = ⊥
+IsSizeDamage name had most (Leaf file number offset len bytes) = ⊥
+IsSizeDamage name had most (Body file bytes) = ⊥
+IsSizeDamage name had most (Missing file) = ⊥
+IsSizeDamage name had most (Unequal file said found) = ⊥
+IsSizeDamage name had most (Beyond doc next) = ⊥
+IsSizeDamage name had most (Doubled doc) = ⊥
 
 -- ---- the damages of one page, and of pages of one file
 
