@@ -1,5 +1,5 @@
 -- Payloads of a Commit file, and the commit that they say.
-use Rattle.std.proofs.Common.{◌≡◌, ◌≢◌, ◌<◌, ◌≤◌, ◌+◌, ◌-◌, ◌*◌, ◌/◌, ℕ, List, [], ◌∷◌, ◌++◌, length, take, drop, replicate, Option, Some, None, refl, sym, ap, subst, ◌∙◌, arith, length-append, MatchOption}
+use Rattle.std.proofs.Common.{◌≡◌, ◌≢◌, ◌≤◌, ◌+◌, ◌-◌, ◌*◌, ℕ, List, [], ◌++◌, length, take, drop, replicate, Option, Some, None, refl, sym, ap, subst, ◌∙◌, arith, length-append, MatchOption}
 use Rattle.std.proofs.Math.Seq.{take-append-add}
 use Rattle.std.proofs.lemmas.List.{take_at, drop_at, take-append-drop, length-replicate, length-take}
 use Rattle.outer_io.specs.declared.file_name.FileName.{FileName}
@@ -9,10 +9,9 @@ use Rattle.page_cache.specs.FilePages.{page_at, IsFilePage, ArePages, payloads_o
 use Rattle.page_cache.specs.declared.first_page.FirstPage.{FirstPage}
 use Rattle.page_cache.specs.FirstPages.{first_name, first_payload, first_size, IsFirstPage}
 use Rattle.page_cache.specs.Evidence.{ArePayloadsOf}
-use Rattle.page_cache.specs.Bodies.{pages_for, filled, IsBodyFile}
+use Rattle.page_cache.specs.Bodies.{pages_for, filled}
 use Rattle.commit_list.specs.declared.head.Layout.{Layout}
 use Rattle.commit_list.specs.declared.head.Layout.TheVariants.{First, Second}
-use Rattle.commit_list.specs.declared.head.Head.{Head}
 use Rattle.commit_list.specs.Commits.{CommitData}
 use Rattle.commit_list.specs.Layout.{spell_head, given_length, head_length, SpellsCommit, BeginsBody, HasNoCommit}
 use Rattle.commit_list.specs.CommitFiles.{IsCommitFile, SpellsFilled, HasNoFilled, BeginsNone}
@@ -204,3 +203,12 @@ first_payloads files size payload bytes h e = record {
   pages = λ n low high. let zero : 0 ≡ n = omega arith in subst (IsFilePage Commit (bytes_of (files Commit))) zero h.page;
   same = e ∙ h.payload_is ∙ sym (payloads_of_one (bytes_of (files Commit)) 0);
 }
+
+no_page : IsFilePage Commit [] 0 → ⊥
+unfolding IsFilePage page_at
+no_page page = let long = page.len in omega (arith, long)
+
+-- where a first page was found, the file is there
+pub first_there : (file : Option (List ℕ)) → IsFilePage Commit (bytes_of file) 0 → file ≢ None
+first_there None page e = no_page page
+first_there (Some bytes) page e = cc

@@ -1,9 +1,9 @@
 //! The file of the commit, read and written.
 
-ghost use Rattle.std.specs.Prelude.{◌≡◌, ◌≤◌, ◌+◌, ◌*◌, ◌/◌, ◌⊎◌, ℕ, List, None, Some, length, IsTrue, IfOk, IfSome, OnOk, OnErr, IsErrOf, MatchOption, replicate, ◌↔◌};
+ghost use Rattle.std.specs.Prelude.{◌≡◌, ◌≤◌, ◌+◌, ◌*◌, ◌/◌, ◌⊎◌, ℕ, List, None, Some, length, IsTrue, IfOk, IfSome, OnSome, OnOk, OnErr, IsErrOf, MatchOption, replicate, ◌↔◌};
 ghost use Rattle.outer_io.specs.Files.{Files, bytes_of, SameButTwo};
 ghost use Rattle.outer_io.specs.declared.file_name.FileName.TheVariants.{Commit as CommitName, CommitNew};
-ghost use Rattle.page_cache.specs.Causes.{HasPageCause, HasSegCause};
+ghost use Rattle.page_cache.specs.Causes.{HasPageCause, HasSegCause, IsSteady};
 ghost use Rattle.page_cache.specs.Evidence.{OnDamage, NotDamaged, ArePayloadsOf};
 ghost use Rattle.page_cache.specs.declared.faults.Damage.TheVariants.{Body};
 ghost use Rattle.page_cache.specs.FirstPages.{first_name, first_payload, first_size, IsFirstPage};
@@ -34,33 +34,20 @@ pub fn read_commit<F: Folder>(alloc: Global, folder: &mut F) -> Result<Option<Co
         (IsCommitFile (bytes_of (F.files folder.old CommitName)))) }
     ensures files { IsTrue F.told → F.files folder.new ≡ F.files folder.old }
     ensures reads { F.reads folder.new ≤ F.reads folder.old + 2 }
-    ensures pages { IsTrue F.told → OnOk result (F.reads folder.new ≤ F.reads folder.old + length (bytes_of (F.files folder.old CommitName)) / 4096) }
+    ensures pages { IsTrue F.told → IfOk result (λ found. OnSome found
+        (F.reads folder.new ≤ F.reads folder.old + length (bytes_of (F.files folder.old CommitName)) / 4096)) }
     ensures cause { HasPageCause (F.faults folder.old) (F.faults folder.new) result }
+    ensures steady { IsSteady (F.faults folder.old) (F.faults folder.new) result }
     ensures shown { OnDamage result IsCommitDamage }
     ensures damage { IsTrue F.told → OnDamage result (IsCommitDamageOf (F.files folder.old)) }
     ensures absent { IsTrue F.told → F.files folder.old CommitName ≡ None → NotDamaged result }
     ensures whole { IsTrue F.told → (c : CommitData) → IsCommitFile (bytes_of (F.files folder.old CommitName)) c → NotDamaged result }
 {
-    if folder.size(&FileName::Commit)?.is_none() {
+    let Some(first) = FirstPage::find(alloc, folder, &FileName::Commit)? else {
         return Ok(None);
-    }
-    let commit = read_there(alloc, folder)?;
+    };
+    let commit = read_from(alloc, folder, &first)?;
     Ok(Some(commit))
-}
-
-/// The commit of a folder that has one.
-fn read_there<F: Folder>(alloc: Global, folder: &mut F) -> Result<Commit, PageFault>
-    ensures found { IsTrue F.told → IfOk result (IsCommitFile (bytes_of (F.files folder.old CommitName))) }
-    ensures files { IsTrue F.told → F.files folder.new ≡ F.files folder.old }
-    ensures reads { F.reads folder.new ≤ F.reads folder.old + 2 }
-    ensures pages { IsTrue F.told → OnOk result (F.reads folder.new ≤ F.reads folder.old + length (bytes_of (F.files folder.old CommitName)) / 4096) }
-    ensures cause { HasPageCause (F.faults folder.old) (F.faults folder.new) result }
-    ensures shown { OnDamage result IsCommitDamage }
-    ensures damage { IsTrue F.told → OnDamage result (IsCommitDamageOf (F.files folder.old)) }
-    ensures whole { IsTrue F.told → (c : CommitData) → IsCommitFile (bytes_of (F.files folder.old CommitName)) c → NotDamaged result }
-{
-    let first = FirstPage::read(alloc, folder, &FileName::Commit)?;
-    read_from(alloc, folder, &first)
 }
 
 /// The commit of the file that has this first page.
@@ -76,6 +63,7 @@ fn read_from<F: Folder>(
     ensures pages { IsTrue F.told → IsFirstPage (F.files folder.old) first.now
         → OnOk result (F.reads folder.new + 1 ≤ F.reads folder.old + length (bytes_of (F.files folder.old CommitName)) / 4096) }
     ensures cause { HasPageCause (F.faults folder.old) (F.faults folder.new) result }
+    ensures steady { IsSteady (F.faults folder.old) (F.faults folder.new) result }
     ensures shown { OnDamage result IsCommitDamage }
     ensures damage { IsTrue F.told → IsFirstPage (F.files folder.old) first.now → OnDamage result (IsCommitDamageOf (F.files folder.old)) }
     ensures whole { IsTrue F.told → IsFirstPage (F.files folder.old) first.now

@@ -1,4 +1,4 @@
-use Rattle.std.proofs.Common.{refl, sym, subst, List, ℕ, inr, inl}
+use Rattle.std.proofs.Common.{refl, subst, inr}
 use Rattle.commit_list.specs.CommitFiles.{HasNoFilled}
 use Rattle.commit_list.proofs.files.commit_of.Goals as goal
 

@@ -1,10 +1,9 @@
-use Rattle.std.proofs.Common.{◌≡◌, ◌*◌, arith, sym, ap, subst, ◌∙◌, refl, ℕ, length, IfOk}
+use Rattle.std.proofs.Common.{◌≡◌, ◌*◌, arith, sym, ap, subst, ◌∙◌, refl, ℕ, length}
 use Rattle.std.proofs.lemmas.Result.{err_from_is_err_and, IfOk-weaker}
 use Rattle.outer_io.specs.Files.{bytes_of}
 use Rattle.outer_io.specs.declared.file_name.FileName.{FileName}
 use Rattle.outer_io.specs.declared.file_name.FileName.TheVariants.{Commit}
 use Rattle.page_cache.specs.FilePages.{ArePages, payloads_of}
-use Rattle.page_cache.specs.FirstPages.{first_size}
 use Rattle.commit_list.specs.CommitFiles.{IsCommitFile, SpellsFilled}
 use Rattle.commit_list.proofs.CommitPages.{begins-short, first_begins, file_pages, file_payloads, file_so, first_of}
 use Rattle.commit_list.proofs.files.read_from.Goals as goal

@@ -1,7 +1,6 @@
-use Rattle.std.proofs.Common.{ℕ, List, ◌++◌, ◌≡◌, length, arith, sym, ap, ◌∙◌}
+use Rattle.std.proofs.Common.{ℕ, List, ◌++◌, length, arith, sym, ap, ◌∙◌}
 use Rattle.byte_cursor.specs.Cursor.{cursor_rest}
 use Rattle.commit_list.specs.declared.head.Layout.{Layout}
-use Rattle.commit_list.specs.declared.head.Head.{Head}
 use Rattle.commit_list.specs.Layout.{magic, spell_numbers, given_length}
 use Rattle.commit_list.proofs.Heads.{head-parts, numbers-length, magic_unique}
 use Rattle.commit_list.proofs.head.head_of.Goals as goal

@@ -1,5 +1,4 @@
 use Rattle.std.proofs.Common.{arith, refl, ◌≡◌, length, subst, ℕ}
-use Rattle.commit_list.specs.Commits.{AreListed}
 use Rattle.commit_list.proofs.Lists.{Reaches, reaches-none, reaches-more, reaches-all, reaches-not}
 use Rattle.commit_list.proofs.listed.are_listed.Goals as goal
 

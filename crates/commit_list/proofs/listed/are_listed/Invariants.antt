@@ -1,6 +1,3 @@
-use Rattle.std.proofs.Common.{◌≡◌, ◌<◌, ◌+◌, ◌-◌, ℕ, get_or}
-use Rattle.commit_list.specs.Commits.{ids_of, IsListed}
-use Rattle.commit_list.specs.declared.listed.Listed.{Listed}
 use Rattle.commit_list.proofs.Lists.{Reaches}
 use Rattle.commit_list.proofs.listed.are_listed.Given as goal
 

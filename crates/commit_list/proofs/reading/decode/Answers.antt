@@ -1,5 +1,4 @@
-use Rattle.std.proofs.Common.{refl, sym, subst, List, ◌∙◌}
-use Rattle.commit_list.specs.declared.listed.Listed.{Listed}
+use Rattle.std.proofs.Common.{refl, sym, subst}
 use Rattle.commit_list.specs.Commits.{AreListed}
 use Rattle.commit_list.proofs.Bodies.{spelt, in_range, list_long, listed_so, may_stand, spells_so}
 use Rattle.commit_list.proofs.reading.decode.Goals as goal

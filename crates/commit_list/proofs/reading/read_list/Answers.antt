@@ -1,4 +1,4 @@
-use Rattle.std.proofs.Common.{arith, refl, sym, ap, subst, ◌∙◌, ◌≡◌, length, List, ℕ, [], eqb-true, eq-eqb}
+use Rattle.std.proofs.Common.{arith, sym, ap, subst, ◌∙◌, ◌≡◌, length, ℕ, eqb-true, eq-eqb}
 use Rattle.byte_cursor.specs.Cursor.{cursor_rest}
 use Rattle.commit_list.specs.Layout.{SpellsList}
 use Rattle.commit_list.proofs.Lists.{reads-none, reads-more, reads-length, reads-all, none_left}

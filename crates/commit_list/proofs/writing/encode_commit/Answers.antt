@@ -1,7 +1,5 @@
-use Rattle.std.proofs.Common.{◌≡◌, ◌++◌, List, ℕ, length, refl, ap, ◌∙◌, arith}
+use Rattle.std.proofs.Common.{length, refl, ap, ◌∙◌, arith}
 use Rattle.commit_list.specs.declared.head.Layout.TheVariants.{Second}
-use Rattle.commit_list.specs.declared.head.Head.{Head}
-use Rattle.commit_list.specs.Layout.{head_of, spell_head, commit_body}
 use Rattle.commit_list.proofs.Bodies.{written, written_spells}
 use Rattle.commit_list.proofs.writing.encode_commit.Goals as goal
 
