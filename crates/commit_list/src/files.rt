@@ -1,12 +1,12 @@
 //! The file of the commit, read and written.
 
-ghost use Rattle.std.specs.Prelude.{◌≡◌, ◌≤◌, ◌+◌, ◌*◌, ◌/◌, ◌⊎◌, ℕ, List, None, Some, length, IsTrue, IfOk, IfSome, OnSome, OnOk, OnErr, IsErrOf, MatchOption, replicate, ◌↔◌};
+ghost use Rattle.std.specs.Prelude.{◌≡◌, ◌≤◌, ◌+◌, ◌/◌, ◌⊎◌, ℕ, None, Some, length, IsTrue, IfOk, OnSome, OnOk, OnErr, IsErrOf, MatchOption, replicate, ◌↔◌};
 ghost use Rattle.outer_io.specs.Files.{Files, bytes_of, SameButTwo};
 ghost use Rattle.outer_io.specs.declared.file_name.FileName.TheVariants.{Commit as CommitName, CommitNew};
 ghost use Rattle.page_cache.specs.Causes.{HasPageCause, HasSegCause, IsSteady};
 ghost use Rattle.page_cache.specs.Evidence.{OnDamage, NotDamaged, ArePayloadsOf};
 ghost use Rattle.page_cache.specs.declared.faults.Damage.TheVariants.{Body};
-ghost use Rattle.page_cache.specs.FirstPages.{first_name, first_payload, first_size, IsFirstPage};
+ghost use Rattle.page_cache.specs.FirstPages.{first_name, first_payload, IsFirstPage};
 ghost use Rattle.page_cache.specs.declared.faults.PageFault.TheVariants as page;
 ghost use Rattle.page_cache.specs.declared.faults.SegFault.TheVariants as seg;
 ghost use Rattle.commit_list.specs.Commits.{CommitData};

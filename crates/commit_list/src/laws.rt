@@ -2,14 +2,14 @@
 
 ghost use Rattle.std.specs.Prelude.{◌≡◌, ◌≤◌, ℕ, List, Option, Some, length};
 ghost use Rattle.commit_list.specs.Commits.{CommitData, IsCommit, FitsFields};
-ghost use Rattle.commit_list.specs.Layout.{SpellsCommit, BeginsBody, commit_body};
+ghost use Rattle.commit_list.specs.Layout.{SpellsCommit, commit_body};
 ghost use Rattle.outer_io.specs.Files.{bytes_of};
 ghost use Rattle.commit_list.specs.CommitFiles.{IsCommitFile, IsWrittenCommit};
 
 /// Bytes are the body of one commit at most.
 pub fn commits_are_unique()
     ensures commit { (c d : CommitData) (bytes : List ℕ) → SpellsCommit bytes c → SpellsCommit bytes d → c ≡ d }
-    // a commit has its body of the layout that is written, and no other
+    // a commit has a body in the layout that is written, and by its definition one only
     ensures body { (c : CommitData) → IsCommit c → FitsFields c → SpellsCommit (commit_body c) c }
 {}
 

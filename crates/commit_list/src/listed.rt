@@ -1,6 +1,6 @@
 //! A listed segment, and the rules that a list meets.
 
-ghost use Rattle.std.specs.Prelude.{◌≡◌, ◌≤◌, ◌<◌, ◌++◌, ◌+◌, ◌^◌, ◌↔◌, length, IsTrue, IfSome, IfNone};
+ghost use Rattle.std.specs.Prelude.{◌≡◌, ◌<◌, ◌++◌, ◌↔◌, length, IsTrue, IfSome, IfNone};
 ghost use Rattle.byte_cursor.specs.Cursor.{cursor_rest};
 ghost use Rattle.commit_list.specs.Commits.{IsListed, AreListed};
 ghost use Rattle.commit_list.specs.Layout.{spell_listed, FitsListed};

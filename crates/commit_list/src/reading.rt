@@ -1,9 +1,7 @@
 //! Reading a body.
 
-ghost use Rattle.std.specs.Prelude.{◌≡◌, ◌≢◌, ◌<◌, ◌*◌, ◌++◌, ◌^◌, ℕ, length, All, IfOk, IfSome, IfNone, MatchOption};
-ghost use Rattle.std.specs.List.{flat_map};
-ghost use Rattle.commit_list.specs.Commits.{CommitData};
-ghost use Rattle.commit_list.specs.Layout.{spell_listed, BeginsBody, SpellsCommit, HasNoCommit, SpellsList};
+ghost use Rattle.std.specs.Prelude.{◌≢◌, ◌*◌, ℕ, length, IfOk, IfSome, IfNone, MatchOption};
+ghost use Rattle.commit_list.specs.Layout.{BeginsBody, SpellsCommit, HasNoCommit, SpellsList};
 
 use crate::commits::Commit;
 use crate::head::head_of;

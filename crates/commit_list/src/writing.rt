@@ -1,8 +1,7 @@
 //! Writing a body.
 
-ghost use Rattle.std.specs.Prelude.{◌≡◌, ◌<◌, ◌++◌, ◌^◌, length, All, IfOk, OnOk};
+ghost use Rattle.std.specs.Prelude.{◌≡◌, ◌<◌, ◌++◌, ◌^◌, All, IfOk, OnOk};
 ghost use Rattle.std.specs.List.{flat_map};
-ghost use Rattle.commit_list.specs.Commits.{FitsFields};
 ghost use Rattle.commit_list.specs.Layout.{commit_body, spell_listed, spell_head, SpellsCommit};
 
 use crate::commits::Commit;
