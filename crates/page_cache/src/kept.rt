@@ -1,13 +1,13 @@
 //! The kept pages by themselves: a list of pages by their keys, the last used first.
 
-ghost use Rattle.std.specs.Prelude.{◌≡◌, ◌≤◌, ◌<◌, ◌-◌, ◌++◌, ◌∷◌, [], cond, ℕ, length, map, take, filter, Contains, IsTrue, IfSome, IfNone, IfOk, OnOk, OnErr};
+ghost use Rattle.std.specs.Prelude.{◌≡◌, ◌-◌, ◌++◌, ◌∷◌, [], cond, take, filter, Contains, IfSome, IfNone, OnOk, OnErr};
 ghost use Rattle.std.specs.Bool.{OnTrue, OnFalse};
 ghost use Rattle.std.specs.Map.{keys_of};
 ghost use Rattle.std.specs.declared.boxed.Box.{Box};
 ghost use Rattle.std.specs.declared.alloc.Global.{Global};
 ghost use Rattle.page_file.specs.declared.page.PageBytes.{PageBytes};
 ghost use Rattle.page_cache.specs.declared.key.PageKey.{PageKey};
-ghost use Rattle.page_cache.specs.Keys.{Kept, same_key, without, HasKey, KeepsIn, KeepsNoMore, KeepsOneMore, is_of_other};
+ghost use Rattle.page_cache.specs.Keys.{Kept, without, HasKey, KeepsIn, KeepsNoMore, KeepsOneMore, is_of_other};
 
 use crate::faults::Memory;
 use crate::key::PageKey;

@@ -1,5 +1,4 @@
-use Rattle.std.proofs.Common.{◌≡◌, sym, subst, ap, Option, List, ℕ}
-use Rattle.outer_io.specs.declared.file_name.FileName.TheVariants.{Segment}
+use Rattle.std.proofs.Common.{◌≡◌, sym, subst, Option, List, ℕ}
 use Rattle.outer_io.specs.Files.{bytes_of}
 use Rattle.page_cache.specs.FilePages.{page_at}
 use Rattle.page_cache.specs.Cache.{Agrees, KeepsFile, IsKept}
