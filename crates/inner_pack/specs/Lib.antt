@@ -2,3 +2,4 @@ pub mod Places
 pub mod Trees
 pub mod Bodies
 pub mod Nodes
+pub mod Parts

@@ -1,5 +1,5 @@
 -- What contracts see of a node that is read in place.
-use Rattle.std.specs.Prelude.{ℕ, ◌+◌, ◌≤◌, ◌<◌, ◌≡◌, ◌×◌, if◌then◌else◌, ◌==◌, List, [], length, All}
+use Rattle.std.specs.Prelude.{ℕ, ◌+◌, ◌≤◌, ◌<◌, ◌≡◌, if◌then◌else◌, ◌==◌, List, [], length, All, ℤ}
 use Rattle.point_codec.specs.Points.{Region}
 use Rattle.point_codec.specs.Seen.{region_of}
 use Rattle.point_codec.specs.Cells.{left_of, right_of}

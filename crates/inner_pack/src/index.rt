@@ -9,8 +9,7 @@ ghost use Rattle.inner_pack.specs.Bodies.{SpellsIndex, HasTree, pages_of};
 
 use crate::node::NodeAt;
 use byte_cursor::{Bytes, Memory};
-use point_codec::Cell;
-use std::alloc::Global;
+use std::alloc::{AllocError, Global};
 use std::marker::Model;
 
 /// The bytes are no index of that form and that number of leaves. They are handed back.
@@ -37,15 +36,10 @@ impl<const D: usize> Model for Index<D> {
 }
 
 impl<const D: usize> Index<D> {
-    /// The index of form 3 with this root cell, these inner nodes in preorder as the dimension and the value of their split, and
-    /// the lengths and own cells of its leaves from left to right.
-    pub fn pack(alloc: Global, root: Cell<D>, nodes: &[(u8, i32)], lengths: &[u16], cells: &[Cell<D>]) -> Result<Index<D>, Memory>
-        requires tree { AreParts D (region_of root.entry) nodes.now lengths.now cells.now }
-        ensures { (t : IndexTree) → ArePartsOf D (region_of root.entry) nodes.now lengths.now cells.now t
-            → IfOk result (λ i. (i.form ≡ 3) × (i.leaves ≡ length lengths.now) × HasTree D i (region_of root.entry) t) }
-    {
-        Err(Memory)
-    }
+    ghost use Rattle.inner_pack.specs.Bodies.{SpellsIndex, IsSpelled, HasTree, pages_of};
+    ghost use Rattle.inner_pack.specs.Trees.{IndexTree};
+    ghost use Rattle.inner_pack.specs.Nodes.{IsAt};
+    ghost use Rattle.inner_pack.specs.Places.{front};
 
     /// The index of that form and number of leaves that the bytes spell. They are handed back exactly where they spell none. No
     /// memory is taken.
@@ -90,13 +84,13 @@ impl<const D: usize> Index<D> {
     pub fn walk(&self) -> NodeAt<'_, D>
         ensures { (root : Region) (t : IndexTree) → HasTree D self.now root t → IsAt result 0 front root t }
     {
-        loop {}
+        unreachable!()
     }
 
     /// The same index once more.
     pub fn copy(&self, alloc: Global) -> Result<Index<D>, Memory>
         ensures { IfOk result (λ i. i ≡ self.now) }
     {
-        Err(Memory)
+        Err(AllocError)
     }
 }

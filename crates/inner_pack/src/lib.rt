@@ -9,10 +9,9 @@
 mod index;
 mod laws;
 mod node;
-
+mod pack;
 mod place;
 
 pub use index::{Index, NotIndex};
-
 pub use node::NodeAt;
 pub use place::LeafPlace;
