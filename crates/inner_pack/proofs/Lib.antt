@@ -1,3 +1,4 @@
 pub mod PlaceLemmas
 pub mod CellLemmas
 pub mod KeyLemmas
+pub mod SpelledLemmas
