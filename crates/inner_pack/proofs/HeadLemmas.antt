@@ -1,5 +1,5 @@
 -- What an inner node says of itself.
-use Rattle.std.proofs.Common.{◌≡◌, ℕ, ℤ, pos, negsuc, zero, suc, ◌+◌, ◌-◌, ◌*◌, ◌/◌, ◌^◌, ◌≤◌, ◌<◌, ◌≤ℤ◌, List, [], ◌∷◌, ◌++◌, length, map, take, drop, set, All, FitsSigned, refl, sym, ap, subst, ◌∙◌, arith, take_at, drop_at, cond, eqb, ltb, lt-ltb, le-ltb, eq-eqb, ne_eqb, inl, inr, ◌%◌, length-append, length-drop, append_assoc, slice_set, slice_index_or}
+use Rattle.std.proofs.Common.{◌≡◌, ℕ, ℤ, pos, negsuc, zero, suc, ◌+◌, ◌-◌, ◌*◌, ◌/◌, ◌^◌, ◌≤◌, ◌<◌, ◌≤ℤ◌, List, [], ◌∷◌, ◌++◌, length, map, take, drop, set, All, FitsSigned, refl, sym, ap, subst, ◌∙◌, arith, take_at, drop_at, to_z, of_z, to_z-of_z, cond, eqb, ltb, lt-ltb, le-ltb, eq-eqb, ne_eqb, inl, inr, ◌%◌, length-append, length-drop, append_assoc, slice_set, slice_index_or}
 use Rattle.std.specs.Int.{w32}
 use Rattle.std.specs.List.{flat_map}
 use Rattle.std.proofs.lemmas.Bool.{cases_lt, cases_eq, cond-true, cond-false}
@@ -22,6 +22,9 @@ use Rattle.inner_pack.proofs.KeyLemmas.{shared-le}
 
 pub key_long : (x : ℤ) → length (key x) ≡ 4
 key_long x = refl
+
+pub key_back : (x : ℤ) → FitsSigned w32 x → key (to_z w32 (of_z w32 x)) ≡ key x
+key_back x h = ap key (to_z-of_z h)
 
 -- a value between two of 32 bits has 32 bits
 pub between_fits : (a x b : ℤ) → a ≤ℤ x → x ≤ℤ b → FitsSigned w32 a → FitsSigned w32 b → FitsSigned w32 x

@@ -4,7 +4,7 @@ use Rattle.std.proofs.lemmas.List.Elements.{All-append}
 use Rattle.point_codec.specs.Points.{Region}
 use Rattle.point_codec.specs.Keys.{key}
 use Rattle.point_codec.specs.Cells.{left_of, right_of}
-use Rattle.inner_pack.specs.Places.{Spot, fitted, end_of}
+use Rattle.inner_pack.specs.Places.{Spot, fitted, behind, end_of}
 use Rattle.inner_pack.specs.Trees.{IndexTree, Leaf, Split, IsShaped, IsInCell, leaf_count, lengths_of}
 use Rattle.inner_pack.specs.Bodies.{first_length, right_begin}
 use Rattle.inner_pack.specs.Spelled.{spelled_part, told_part, IsNodeOf}
@@ -89,3 +89,36 @@ joined_node D form leaves s path references bytes places l r h lb lp rb rp lower
 -- where the leaves of an inner node next behind e end
 pub split_end : (e : Spot) (d : ℕ) (x : ℤ) (l r : IndexTree) → end_of e (lengths_of (Split d x l r)) ≡ end_of (end_of e (lengths_of l)) (lengths_of r)
 split_end e d x l r = end_of_append e (lengths_of l) (lengths_of r)
+
+-- where a leaf next behind e ends
+pub leaf_span : (e b f : Spot) (t : IndexTree) (n m : ℕ) (own : Region) → t ≡ Leaf m own → n ≡ m → b ≡ fitted e n → f ≡ behind b n → (b ≡ fitted e (first_length t)) × (f ≡ end_of e (lengths_of t))
+leaf_span e b f t n m own is same begin end =
+    subst (λ (u : IndexTree). (b ≡ fitted e (first_length u)) × (f ≡ end_of e (lengths_of u))) (sym is)
+    (begin ∙ ap (fitted e) same, end ∙ (λ i. behind (begin i) n) ∙ ap (λ k. behind (fitted e k) k) same)
+
+pub as_leaf : (D form : ℕ) (e : Spot) (path : Region) (references : List (List ℕ)) (bytes places : List ℕ) (t : IndexTree) (n : ℕ) (own : Region) → t ≡ Leaf n own
+    → IsNodeOf D form 1 (fitted e (first_length t)) path references bytes places t → IsNodeOf D form 1 (fitted e n) path references bytes places (Leaf n own)
+as_leaf D form e path references bytes places t n own is h = subst (λ (u : IndexTree). IsNodeOf D form 1 (fitted e (first_length u)) path references bytes places u) is h
+
+-- the same node, its path cell, its references and its begin said otherwise
+pub said_otherwise : (D form leaves : ℕ) (s u : Spot) (path other : Region) (references moved : List (List ℕ)) (bytes places : List ℕ) (t : IndexTree) → u ≡ s → other ≡ path → moved ≡ references
+    → IsNodeOf D form leaves s path references bytes places t → IsNodeOf D form leaves u other moved bytes places t
+said_otherwise D form leaves s u path other references moved bytes places t es ep er h =
+    subst (λ (v : Spot). IsNodeOf D form leaves v other moved bytes places t) (sym es)
+    (subst (λ (q : Region). IsNodeOf D form leaves s q moved bytes places t) (sym ep)
+    (subst (λ (rs : List (List ℕ)). IsNodeOf D form leaves s path rs bytes places t) (sym er) h))
+
+pub as_split : (D form leaves : ℕ) (e : Spot) (path : Region) (references : List (List ℕ)) (bytes places : List ℕ) (t : IndexTree) (d : ℕ) (x : ℤ) (l r : IndexTree) → t ≡ Split d x l r
+    → IsNodeOf D form leaves (fitted e (first_length t)) path references bytes places t → IsNodeOf D form leaves (fitted e (first_length l)) path references bytes places (Split d x l r)
+as_split D form leaves e path references bytes places t d x l r is h = subst (λ (u : IndexTree). IsNodeOf D form leaves (fitted e (first_length u)) path references bytes places u) is h
+
+-- where an inner node next behind e begins and ends, where its children are found one behind the other
+pub split_span : (e b m f : Spot) (t : IndexTree) (d : ℕ) (x : ℤ) (l r : IndexTree) → t ≡ Split d x l r → b ≡ fitted e (first_length l) → m ≡ end_of e (lengths_of l) → f ≡ end_of m (lengths_of r)
+    → (b ≡ fitted e (first_length t)) × (f ≡ end_of e (lengths_of t))
+split_span e b m f t d x l r is begin middle end =
+    subst (λ (u : IndexTree). (b ≡ fitted e (first_length u)) × (f ≡ end_of e (lengths_of u))) (sym is)
+    (begin, end ∙ ap (λ (v : Spot). end_of v (lengths_of r)) middle ∙ sym (split_end e d x l r))
+
+-- where the right child is found is where the tree has it
+pub right_found : (e m : Spot) (l r : IndexTree) → AreLengths (lengths_of l) → m ≡ end_of e (lengths_of l) → fitted m (first_length r) ≡ right_begin (fitted e (first_length l)) l r
+right_found e m l r h middle = ap (λ (v : Spot). fitted v (first_length r)) middle ∙ sym (right_first e l r h)

@@ -42,7 +42,7 @@ pub(crate) fn read_head<'a, const D: usize>(form: u8, leaves: u32, references: &
     requires form { (1 ≤ form) × (form ≤ 3) }
     requires leaves { (2 ≤ leaves) × (leaves ≤ 8388608) }
     ensures found { IfSome result (IsHead D form references.now part.entry.bytes.now part.entry.places.now) }
-    ensures only { (s : Spot) (path : Region) (d : ℕ) (x : ℤ) (l r : IndexTree) → s.page + leaves ≤ 8388608 → FitsSigned w32 x → IsNodeOf D form leaves s path references.now part.entry.bytes.now part.entry.places.now (Split d x l r)
+    ensures only { (s : Spot) (path : Region) (d : ℕ) (x : ℤ) (l r : IndexTree) → s.page ≤ 8388608 → FitsSigned w32 x → IsNodeOf D form leaves s path references.now part.entry.bytes.now part.entry.places.now (Split d x l r)
         → IsSomeAnd result (SaysSplit form references.now s d x l r) }
 {
     if form == 1 {
@@ -57,7 +57,7 @@ fn table_head<'a, const D: usize>(leaves: u32, part: Part<'a>) -> Option<Head<'a
     requires dims { D ≤ 8 }
     requires leaves { (2 ≤ leaves) × (leaves ≤ 8388608) }
     ensures found { (references : List (List ℕ)) → IfSome result (IsHead D 1 references part.entry.bytes.now part.entry.places.now) }
-    ensures only { (references : List (List ℕ)) (s : Spot) (path : Region) (d : ℕ) (x : ℤ) (l r : IndexTree) → s.page + leaves ≤ 8388608 → FitsSigned w32 x → IsNodeOf D 1 leaves s path references part.entry.bytes.now part.entry.places.now (Split d x l r)
+    ensures only { (references : List (List ℕ)) (s : Spot) (path : Region) (d : ℕ) (x : ℤ) (l r : IndexTree) → s.page ≤ 8388608 → FitsSigned w32 x → IsNodeOf D 1 leaves s path references part.entry.bytes.now part.entry.places.now (Split d x l r)
         → IsSomeAnd result (SaysSplit 1 references s d x l r) }
 {
     let (dimension, key, cuts) = take_cut::<D>(part.bytes)?;
@@ -104,7 +104,7 @@ fn take_cut<const D: usize>(b: &[u8]) -> Option<(usize, [u8; 4], &[u8])>
 fn packed_head<'a, const D: usize>(references: &[[u8; 4]; D], part: Part<'a>) -> Option<Head<'a>>
     requires dims { D ≤ 8 }
     ensures found { (form : ℕ) → 2 ≤ form → IfSome result (IsHead D form references.now part.entry.bytes.now part.entry.places.now) }
-    ensures only { (form leaves : ℕ) (s : Spot) (path : Region) (d : ℕ) (x : ℤ) (l r : IndexTree) → 2 ≤ form → s.page + leaves ≤ 8388608 → FitsSigned w32 x → IsNodeOf D form leaves s path references.now part.entry.bytes.now part.entry.places.now (Split d x l r)
+    ensures only { (form leaves : ℕ) (s : Spot) (path : Region) (d : ℕ) (x : ℤ) (l r : IndexTree) → 2 ≤ form → leaves ≤ 8388608 → FitsSigned w32 x → IsNodeOf D form leaves s path references.now part.entry.bytes.now part.entry.places.now (Split d x l r)
         → IsSomeAnd result (SaysSplit form references.now s d x l r) }
 {
     let (code, rest) = take_byte(part.bytes)?;

@@ -5,12 +5,12 @@ use Rattle.inner_pack.specs.Places.{Spot, Placed}
 use Rattle.inner_pack.specs.Trees.{Split}
 use Rattle.inner_pack.specs.Bodies.{node_bytes, right_begin, first_length, shared}
 use Rattle.inner_pack.proofs.SpelledLemmas.{spelled_packed, told_packed, no_places}
-use Rattle.inner_pack.proofs.HeadLemmas.{packed_node, joins_packed, key_long}
+use Rattle.inner_pack.proofs.HeadLemmas.{packed_node, joins_packed, key_back, key_long}
 use Rattle.inner_pack.proofs.head.packed_head.Goals as goal
 
 pub returns-in_err-code-clause-only : goal.returns-in_err-code-clause-only
 returns-in_err-code-clause-only g c form leaves s path d x l r packed room fits h =
-    let n = packed_node g.row.D form leaves s path c.args.references.now c.args.part.bytes.now c.args.part.places.now d x l r c.requires.dims packed (omega (arith, room)) h in
+    let n = packed_node g.row.D form leaves s path c.args.references.now c.args.part.bytes.now c.args.part.places.now d x l r c.requires.dims packed room h in
     let lower = slice_set c.args.references.now d (key x) in
     let right = right_begin s l r in
     let lb = node_bytes form lower s l in
@@ -26,7 +26,7 @@ returns-in_err-code-clause-only g c form leaves s path d x l r packed room fits 
 
 pub returns-then-dimension-clause-only : goal.returns-then-dimension-clause-only
 returns-then-dimension-clause-only g c form leaves s path d x l r packed room fits h =
-    let n = packed_node g.row.D form leaves s path c.args.references.now c.args.part.bytes.now c.args.part.places.now d x l r c.requires.dims packed (omega (arith, room)) h in
+    let n = packed_node g.row.D form leaves s path c.args.references.now c.args.part.bytes.now c.args.part.places.now d x l r c.requires.dims packed room h in
     let lower = slice_set c.args.references.now d (key x) in
     let right = right_begin s l r in
     let lb = node_bytes form lower s l in
@@ -45,7 +45,7 @@ returns-then-dimension-clause-only g c form leaves s path d x l r packed room fi
 
 pub returns-in_err-key-clause-only : goal.returns-in_err-key-clause-only
 returns-in_err-key-clause-only g c form leaves s path d x l r packed room fits h =
-    let n = packed_node g.row.D form leaves s path c.args.references.now c.args.part.bytes.now c.args.part.places.now d x l r c.requires.dims packed (omega (arith, room)) h in
+    let n = packed_node g.row.D form leaves s path c.args.references.now c.args.part.bytes.now c.args.part.places.now d x l r c.requires.dims packed room h in
     let lower = slice_set c.args.references.now d (key x) in
     let right = right_begin s l r in
     let lb = node_bytes form lower s l in
@@ -66,7 +66,7 @@ returns-in_err-key-clause-only g c form leaves s path d x l r packed room fits h
 
 pub returns-in_err-pages-clause-only : goal.returns-in_err-pages-clause-only
 returns-in_err-pages-clause-only g c form leaves s path d x l r packed room fits h =
-    let n = packed_node g.row.D form leaves s path c.args.references.now c.args.part.bytes.now c.args.part.places.now d x l r c.requires.dims packed (omega (arith, room)) h in
+    let n = packed_node g.row.D form leaves s path c.args.references.now c.args.part.bytes.now c.args.part.places.now d x l r c.requires.dims packed room h in
     let lower = slice_set c.args.references.now d (key x) in
     let right = right_begin s l r in
     let lb = node_bytes form lower s l in
@@ -88,7 +88,7 @@ returns-in_err-pages-clause-only g c form leaves s path d x l r packed room fits
 
 pub returns-in_err-offset-clause-only : goal.returns-in_err-offset-clause-only
 returns-in_err-offset-clause-only g c form leaves s path d x l r packed room fits h =
-    let n = packed_node g.row.D form leaves s path c.args.references.now c.args.part.bytes.now c.args.part.places.now d x l r c.requires.dims packed (omega (arith, room)) h in
+    let n = packed_node g.row.D form leaves s path c.args.references.now c.args.part.bytes.now c.args.part.places.now d x l r c.requires.dims packed room h in
     let lower = slice_set c.args.references.now d (key x) in
     let right = right_begin s l r in
     let lb = node_bytes form lower s l in
@@ -111,7 +111,7 @@ returns-in_err-offset-clause-only g c form leaves s path d x l r packed room fit
 
 pub returns-in_err-left_length-clause-only : goal.returns-in_err-left_length-clause-only
 returns-in_err-left_length-clause-only g c form leaves s path d x l r packed room fits h =
-    let n = packed_node g.row.D form leaves s path c.args.references.now c.args.part.bytes.now c.args.part.places.now d x l r c.requires.dims packed (omega (arith, room)) h in
+    let n = packed_node g.row.D form leaves s path c.args.references.now c.args.part.bytes.now c.args.part.places.now d x l r c.requires.dims packed room h in
     let lower = slice_set c.args.references.now d (key x) in
     let right = right_begin s l r in
     let lb = node_bytes form lower s l in
@@ -135,7 +135,7 @@ returns-in_err-left_length-clause-only g c form leaves s path d x l r packed roo
 
 pub returns-then-offset-gt4064-clause-only : goal.returns-then-offset-gt4064-clause-only
 returns-then-offset-gt4064-clause-only g c form leaves s path d x l r packed room fits h =
-    let n = packed_node g.row.D form leaves s path c.args.references.now c.args.part.bytes.now c.args.part.places.now d x l r c.requires.dims packed (omega (arith, room)) h in
+    let n = packed_node g.row.D form leaves s path c.args.references.now c.args.part.bytes.now c.args.part.places.now d x l r c.requires.dims packed room h in
     let lower = slice_set c.args.references.now d (key x) in
     let right = right_begin s l r in
     let lb = node_bytes form lower s l in
@@ -159,7 +159,7 @@ returns-then-offset-gt4064-clause-only g c form leaves s path d x l r packed roo
 
 pub returns-in_err-left-clause-only : goal.returns-in_err-left-clause-only
 returns-in_err-left-clause-only g c form leaves s path d x l r packed room fits h =
-    let n = packed_node g.row.D form leaves s path c.args.references.now c.args.part.bytes.now c.args.part.places.now d x l r c.requires.dims packed (omega (arith, room)) h in
+    let n = packed_node g.row.D form leaves s path c.args.references.now c.args.part.bytes.now c.args.part.places.now d x l r c.requires.dims packed room h in
     let lower = slice_set c.args.references.now d (key x) in
     let right = right_begin s l r in
     let lb = node_bytes form lower s l in
@@ -185,7 +185,6 @@ returns-in_err-left-clause-only g c form leaves s path d x l r packed room fits 
 pub returns-clause-found : goal.returns-clause-found
 returns-clause-found g c form packed =
     let sf : FitsSigned w32 c.from_sortable.result = search rules in
-    let back : to_z w32 (of_z w32 c.from_sortable.result) ≡ c.from_sortable.result = to_z-of_z sf in
     let code = c.in_ok-code.code in
     let key = c.in_ok-key.key in
     let few : c.in_ok-offset.offset ≤ 4064 = omega (arith, c.if-offset-gt4064.false) in
@@ -197,13 +196,14 @@ returns-clause-found g c form packed =
     let e0 = c.in_ok-code.ensures.found ∙ ap (λ (t : List ℕ). code ∷ t) (c.in_ok-key.ensures.found.1 ∙ ap (λ (t : List ℕ). drop (code % 5) key ++ t) e1) in
     record {
       dimension = omega (arith, c.if-dimension.false);
+      key_is = sym (key_back c.from_sortable.result sf ∙ c.from_sortable.ensures.is);
       joins = λ s l r lengths says. joins_packed form c.args.references.now s l r _ c.args.part.bytes.now c.args.part.places.now [] code packed says e0 refl
           (ap (shared key) (sym c.reference_in-reference.ensures.value) ∙ c.in_ok-key.ensures.found.0) refl;
     }
 
 pub returns-clause-only : goal.returns-clause-only
 returns-clause-only g c form leaves s path d x l r packed room fits h =
-    let n = packed_node g.row.D form leaves s path c.args.references.now c.args.part.bytes.now c.args.part.places.now d x l r c.requires.dims packed (omega (arith, room)) h in
+    let n = packed_node g.row.D form leaves s path c.args.references.now c.args.part.bytes.now c.args.part.places.now d x l r c.requires.dims packed room h in
     let lower = slice_set c.args.references.now d (key x) in
     let right = right_begin s l r in
     let lb = node_bytes form lower s l in
