@@ -3,3 +3,4 @@ pub mod Trees
 pub mod Bodies
 pub mod Nodes
 pub mod Parts
+pub mod Packs

@@ -1,0 +1,3 @@
+pub mod PackPlaces
+pub mod PackBytes
+pub mod PackParts
