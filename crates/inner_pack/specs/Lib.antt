@@ -4,3 +4,4 @@ pub mod Bodies
 pub mod Nodes
 pub mod Parts
 pub mod Packs
+pub mod PackedParts

@@ -30,9 +30,3 @@ pub record IsPart (D : ℕ) (s : Spot) (nodes : List (ℕ × ℤ)) (places : Lis
   pub nodes_are : nodes ≡ map (λ c. (c.dimension, c.at)) (cuts_of t)
   pub places_are : map placed_of places ≡ placed s (lengths_of t)
   pub cells_are : map region_of cells ≡ own_cells t
-
--- they are those of some subtree
-pub record IsSomePart (D : ℕ) (nodes : List (ℕ × ℤ)) (places : List LeafPlace) (cells : List (Cell D)) : Type 0 where
-  pub begin : Spot
-  pub tree : IndexTree
-  pub is : IsPart D begin nodes places cells tree

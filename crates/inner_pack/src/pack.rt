@@ -11,7 +11,7 @@ ghost use Rattle.point_codec.specs.Seen.{region_of};
 ghost use Rattle.inner_pack.specs.Places.{Spot, front, placed, fitted, end_of};
 ghost use Rattle.inner_pack.specs.Trees.{IndexTree};
 ghost use Rattle.inner_pack.specs.Bodies.{shared, head_bytes, leaf_bytes, node_bytes, cell_bytes};
-ghost use Rattle.inner_pack.specs.Packs.{placed_of, end_at, AppendsTurned, IsPart, IsSomePart};
+ghost use Rattle.inner_pack.specs.Packs.{placed_of, end_at, AppendsTurned, IsPart};
 
 use crate::place::LeafPlace;
 use byte_cursor::{Memory, put_slice, put_u8, put_vint};
@@ -94,42 +94,80 @@ struct Head {
     left: u32,
 }
 
+/// The parts of a node with all below it: its inner nodes in preorder, and the places and own cells of its leaves.
+#[derive(Clone, Copy)]
+struct Part<'a, const D: usize> {
+    nodes: &'a [(u8, i32)],
+    places: &'a [LeafPlace],
+    cells: &'a [Cell<D>],
+    ghost dims: { D ≤ 8 },
+    ghost dimensions: { All (λ node. node.0 < D) nodes.now },
+    ghost lengths: { All (λ place. place.length ≤ 4064) places.now },
+    ghost many_nodes: { length nodes.now + 1 ≡ length places.now },
+    ghost many_cells: { length cells.now ≡ length places.now },
+}
+
+impl<'a, const D: usize> Part<'a, D> {
+    ghost use Rattle.std.specs.Prelude.{◌≡◌, ◌≤◌, ◌<◌, ◌+◌, length};
+    ghost use Rattle.inner_pack.specs.PackedParts.{AreChildParts};
+
+    /// Those of the left and of the right child.
+    fn children(&self) -> (Part<'a, D>, Part<'a, D>)
+        requires { 2 ≤ length self.now.places.now }
+        ensures are { AreChildParts self.now result.0 result.1 }
+        ensures left { length result.0.places.now < length self.now.places.now }
+        ensures right { length result.1.places.now < length self.now.places.now }
+        ensures sum { length result.0.places.now + length result.1.places.now ≡ length self.now.places.now }
+    {
+        let left = self.places.len() - self.places.len() / 2;
+        (
+            Part {
+                nodes: &self.nodes[1..left],
+                places: &self.places[..left],
+                cells: &self.cells[..left],
+            },
+            Part {
+                nodes: &self.nodes[left..],
+                places: &self.places[left..],
+                cells: &self.cells[left..],
+            },
+        )
+    }
+}
+
 /// Appends the bytes of a node, the last one first. The references are the keys of the last split in each dimension on the
 /// path from the root, and of the root cell where there is none.
 fn put_node<const D: usize>(
     out: &mut Vec<u8>,
-    references: &[[u8; 4]; D],
-    nodes: &[(u8, i32)],
-    places: &[LeafPlace],
-    cells: &[Cell<D>],
+    references: [[u8; 4]; D],
+    part: Part<'_, D>,
 ) -> Result<(), Memory>
-    requires part { IsSomePart D nodes.now places.now cells.now }
-    requires nodes { length nodes.now + 1 ≡ length places.now }
-    requires cells { length cells.now ≡ length places.now }
-    requires room { length out.old.items + 89 * length places.now < 2 ^ 32 }
-    ensures spelled { (s : Spot) (t : IndexTree) → IsPart D s nodes.now places.now cells.now t
-        → OnOk result (AppendsTurned out.old.items out.new.items (node_bytes 3 references.now s t)) }
-    ensures room { OnOk result (length out.new.items ≤ length out.old.items + 89 * length places.now) }
+    requires { length out.old.items + 89 * length part.places.now < 2 ^ 32 }
+    ensures spelled { (s : Spot) (t : IndexTree) → IsPart D s part.entry.nodes.now part.entry.places.now part.entry.cells.now t
+        → OnOk result (AppendsTurned out.old.items out.new.items (node_bytes 3 references.entry s t)) }
+    ensures more { OnOk result (length out.old.items ≤ length out.new.items) }
+    ensures room { OnOk result (length out.new.items + 20 ≤ length out.old.items + 89 * length part.entry.places.now) }
 {
-    if nodes.is_empty() {
-        put_leaf(out, places[0].length, &cells[0])?;
+    if part.places.len() < 2 {
+        put_leaf(out, part.places[0].length, &part.cells[0])?;
         return Ok(());
     }
-    let (dimension, at) = nodes[0];
-    let left = places.len() - places.len() / 2;
-    let mut inner = *references;
-    inner[dimension as usize] = sortable(at);
-    put_node(out, &inner, &nodes[left..], &places[left..], &cells[left..])?;
+    let (left, right) = part.children();
+    let (dimension, at) = part.nodes[0];
+    let mut below = references;
+    below[dimension as usize] = sortable(at);
+    put_node(out, below, right)?;
     let before = out.len();
-    put_node(out, &inner, &nodes[1..left], &places[..left], &cells[..left])?;
+    put_node(out, below, left)?;
     let head = Head {
         dimension,
         at,
-        pages: places[left].page - places[0].page,
-        offset: places[left].offset,
+        // The pages ascend.
+        pages: right.places[0].page.saturating_sub(part.places[0].page),
+        offset: right.places[0].offset,
         left: (out.len() - before) as u32,
     };
-    put_head(out, references, &head)?;
+    put_head(out, &references, &head)?;
     Ok(())
 }
 
@@ -143,6 +181,7 @@ fn put_head<const D: usize>(
     requires dimension { head.now.dimension < D }
     ensures spelled { OnOk result (AppendsTurned out.old.items out.new.items
         (head_bytes references.now head.now.dimension head.now.at head.now.pages head.now.offset head.now.left)) }
+    ensures more { OnOk result (length out.old.items ≤ length out.new.items) }
     ensures room { OnOk result (length out.new.items ≤ length out.old.items + 20) }
 {
     let from = out.len();
@@ -174,6 +213,7 @@ fn shared_front(a: &[u8; 4], b: &[u8; 4]) -> usize
 fn put_leaf<const D: usize>(out: &mut Vec<u8>, size: u16, own: &Cell<D>) -> Result<(), Memory>
     requires { size ≤ 4064 }
     ensures spelled { OnOk result (AppendsTurned out.old.items out.new.items (leaf_bytes 3 size (region_of own.now))) }
+    ensures more { OnOk result (length out.old.items ≤ length out.new.items) }
     ensures room { OnOk result (length out.new.items ≤ length out.old.items + 69) }
 {
     let from = out.len();

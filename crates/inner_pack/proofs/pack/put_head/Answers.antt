@@ -31,3 +31,9 @@ returns-clause-room g c =
     let longer = length-turned c.args.out.now.items c.turn.new.out.items (head_bytes references head.dimension head.at head.pages head.offset head.left) (returns-clause-spelled g c) in
     let short = length-head references head.dimension head.at head.pages head.offset head.left (length-key head.at) (omega arith) (omega arith) (omega arith) in
     omega arith
+
+pub returns-clause-more : goal.returns-clause-more
+returns-clause-more g c =
+    let head = c.args.head.now in
+    let longer = length-turned c.args.out.now.items c.turn.new.out.items (head_bytes c.args.references.now head.dimension head.at head.pages head.offset head.left) (returns-clause-spelled g c) in
+    omega arith

@@ -26,3 +26,8 @@ returns-clause-room g c =
     let cell : length c.put_cell.new.out.items ≡ length c.put_vint.new.out.items + length (cell_bytes own) =
         ap length c.in_ok-put_cell.ensures.spelled ∙ length-append c.put_vint.new.out.items (cell_bytes own) in
     omega (arith, c.in_ok-put_cell.ensures.room)
+
+pub returns-clause-more : goal.returns-clause-more
+returns-clause-more g c =
+    let longer = length-turned c.args.out.now.items c.turn.new.out.items (leaf_bytes 3 c.args.size (region_of c.args.own.now)) (returns-clause-spelled g c) in
+    omega arith
