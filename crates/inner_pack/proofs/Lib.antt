@@ -1,6 +1,6 @@
-pub mod PackPlaces
 pub mod PackBytes
 pub mod PackParts
 pub mod PlaceLemmas
 pub mod CellLemmas
 pub mod KeyLemmas
+pub mod PackWhole

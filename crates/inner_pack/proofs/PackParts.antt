@@ -9,25 +9,18 @@ use Rattle.point_codec.specs.Keys.{key}
 use Rattle.point_codec.specs.Cells.{left_of, right_of}
 use Rattle.point_codec.specs.declared.boxes.Cell.{Cell}
 use Rattle.inner_pack.specs.declared.place.LeafPlace.{LeafPlace}
-use Rattle.inner_pack.specs.declared.pack.Part.{Part}
+use Rattle.inner_pack.specs.declared.pack.Subtree.{Subtree}
 use Rattle.inner_pack.specs.PackedParts.{AreChildParts}
 use Rattle.inner_pack.specs.Places.{Spot, front, fitted, behind, Placed, placed, end_of}
 use Rattle.inner_pack.specs.Trees.{IndexTree, Leaf, Split, Cut, IsShaped, HasCells, leaf_count, cuts_of, lengths_of, own_cells}
 use Rattle.inner_pack.specs.Bodies.{first_length, right_begin, head_bytes, leaf_bytes, node_bytes}
 use Rattle.inner_pack.specs.Packs.{placed_of, AppendsTurned, IsPart}
-use Rattle.inner_pack.proofs.PackPlaces.{placed-append, length-placed, placed_again, fitted_again, page-end_of, page-fitted, firstly}
+use Rattle.inner_pack.proofs.PlaceLemmas.{placed_append, placed_first, fitted_again, first_fits, lengths_first, count_shaped, length-lengths_of}
 use Rattle.inner_pack.proofs.PackBytes.{length-turned}
 
-pub count_shaped : (n : ℕ) (t : IndexTree) → IsShaped n t → leaf_count t ≡ n
-count_shaped n (Leaf m own) h = sym h
-count_shaped n (Split d x l r) h =
-    let left = count_shaped (n - n / 2) l h.1 in
-    let right = count_shaped (n / 2) r h.2 in
-    omega arith
-
-pub length-lengths_of : (t : IndexTree) → length (lengths_of t) ≡ leaf_count t
-length-lengths_of (Leaf m own) = refl
-length-lengths_of (Split d x l r) = omega (arith, length-append (lengths_of l) (lengths_of r), length-lengths_of l, length-lengths_of r)
+pub length-placed : (e : Spot) (xs : List ℕ) → length (placed e xs) ≡ length xs
+length-placed e [] = refl
+length-placed e (x ∷ xs) = ap suc (length-placed (behind (fitted e x) x) xs)
 
 pub length-own_cells : (t : IndexTree) → length (own_cells t) ≡ leaf_count t
 length-own_cells (Leaf m own) = refl
@@ -62,20 +55,6 @@ All-left xs ys all = subst (All (λ (n : ℕ). (1 ≤ n) × (n ≤ 4064))) (take
 All-right : (xs ys : List ℕ) → All (λ (n : ℕ). (1 ≤ n) × (n ≤ 4064)) (xs ++ ys) → All (λ (n : ℕ). (1 ≤ n) × (n ≤ 4064)) ys
 All-right xs ys all = subst (All (λ (n : ℕ). (1 ≤ n) × (n ≤ 4064))) (drop-append_seam xs ys) (All-drop (λ (n : ℕ). (1 ≤ n) × (n ≤ 4064)) (length xs) (xs ++ ys) all)
 
--- the first leaf fits into a page
-pub first_fits : (t : IndexTree) → All (λ (n : ℕ). (1 ≤ n) × (n ≤ 4064)) (lengths_of t) → first_length t ≤ 4064
-first_fits t all =
-    let f = firstly t in
-    let here : (1 ≤ get_or (lengths_of t) 0 0) × (get_or (lengths_of t) 0 0 ≤ 4064) = all 0 0 (omega (arith, ap length f.are)) in
-    let is : get_or (lengths_of t) 0 0 ≡ first_length t = ap (λ (ns : List ℕ). get_or ns 0 0) f.are in
-    omega arith
-
--- the leaves of a subtree from where the first of them begins
-pub placed_tree : (e : Spot) (t : IndexTree) → first_length t ≤ 4064 → placed (fitted e (first_length t)) (lengths_of t) ≡ placed e (lengths_of t)
-placed_tree e t le =
-    let f = firstly t in
-    ap (placed (fitted e (first_length t))) f.are ∙ placed_again e (first_length t) f.others le ∙ sym (ap (placed e) f.are)
-
 -- ---- the children
 
 pub left_part : (D k : ℕ) (s : Spot) (nodes : List (ℕ × ℤ)) (places : List LeafPlace) (cells : List (Cell D)) (d : ℕ) (x : ℤ) (l r : IndexTree)
@@ -92,7 +71,7 @@ left_part D k s nodes places cells d x l r half p =
       begins = p.begins;
       nodes_are = taken (k - 1) (drop 1 nodes) (map split_of (cuts_of l)) (map split_of (cuts_of r)) (ap (drop 1) p.nodes_are ∙ map-append split_of (cuts_of l) (cuts_of r))
           (omega (arith, length-map (cuts_of l) split_of, length-cuts_of l));
-      places_are = seen_taken placed_of k places (placed s (lengths_of l)) (placed (end_of s (lengths_of l)) (lengths_of r)) (p.places_are ∙ placed-append s (lengths_of l) (lengths_of r))
+      places_are = seen_taken placed_of k places (placed s (lengths_of l)) (placed (end_of s (lengths_of l)) (lengths_of r)) (p.places_are ∙ placed_append s (lengths_of l) (lengths_of r))
           (omega (arith, length-placed s (lengths_of l), length-lengths_of l));
       cells_are = seen_taken region_of k cells (own_cells l) (own_cells r) p.cells_are (omega (arith, length-own_cells l));
     }
@@ -106,17 +85,16 @@ right_part D k s nodes places cells d x l r half p =
     let fewer : length (drop k places) ≡ n / 2 = omega (arith, length-drop k places) in
     let e = end_of s (lengths_of l) in
     let all = All-right (lengths_of l) (lengths_of r) p.lengths in
-    let fits = first_fits r all in
     record {
       path = right_of p.path d x;
       shaped = subst (λ (m : ℕ). IsShaped m r) (sym fewer) p.shaped.2;
       cells_in = p.cells_in.2;
       lengths = all;
-      begins = fitted_again e (first_length r) fits;
+      begins = fitted_again e (first_length r) ((first_fits r all).1);
       nodes_are = dropped k nodes ((d, x) ∷ map split_of (cuts_of l)) (map split_of (cuts_of r)) (p.nodes_are ∙ ap (λ (cs : List (ℕ × ℤ)). (d, x) ∷ cs) (map-append split_of (cuts_of l) (cuts_of r)))
           (omega (arith, length-map (cuts_of l) split_of, length-cuts_of l));
-      places_are = seen_dropped placed_of k places (placed s (lengths_of l)) (placed e (lengths_of r)) (p.places_are ∙ placed-append s (lengths_of l) (lengths_of r))
-          (omega (arith, length-placed s (lengths_of l), length-lengths_of l)) ∙ sym (placed_tree e r fits);
+      places_are = seen_dropped placed_of k places (placed s (lengths_of l)) (placed e (lengths_of r)) (p.places_are ∙ placed_append s (lengths_of l) (lengths_of r))
+          (omega (arith, length-placed s (lengths_of l), length-lengths_of l)) ∙ sym (placed_first e r all);
       cells_are = seen_dropped region_of k cells (own_cells l) (own_cells r) p.cells_are (omega (arith, length-own_cells l));
     }
 
@@ -124,17 +102,16 @@ right_part D k s nodes places cells d x l r half p =
 pub first_place : (D : ℕ) (s : Spot) (nodes : List (ℕ × ℤ)) (places : List LeafPlace) (cells : List (Cell D)) (t : IndexTree) (p d : LeafPlace)
     → 0 < length places → p ≡ get_or places 0 d → IsPart D s nodes places cells t → placed_of p ≡ record { at = s; length = first_length t }
 first_place D s nodes places cells t p d some is part =
-    let f = firstly t in
     let seen : placed_of p ≡ get_or (map placed_of places) 0 (placed_of p) = ap placed_of is ∙ sym (get_or-map placed_of places 0 d (placed_of p) some) in
     let first : get_or (placed s (lengths_of t)) 0 (placed_of p) ≡ record { at = fitted s (first_length t); length = first_length t } =
-    ap (λ (ns : List ℕ). get_or (placed s ns) 0 (placed_of p)) f.are in
+    ap (λ (ns : List ℕ). get_or (placed s ns) 0 (placed_of p)) (lengths_first t) in
     let begin : Placed = record { at = s; length = first_length t } in
     let here : record { at = fitted s (first_length t); length = first_length t } ≡ begin = ap (λ (e : Spot). record { at = e; length = first_length t }) part.begins in
     seen ∙ ap (λ (ps : List Placed). get_or ps 0 (placed_of p)) part.places_are ∙ first ∙ here
 
 -- ---- the children as the code has them
 
-pub left_is : {D : ℕ} (s : Spot) (whole left right : Part D) (d : ℕ) (x : ℤ) (l r : IndexTree) → AreChildParts whole left right
+pub left_is : {D : ℕ} (s : Spot) (whole left right : Subtree D) (d : ℕ) (x : ℤ) (l r : IndexTree) → AreChildParts whole left right
     → IsPart D s whole.nodes.now whole.places.now whole.cells.now (Split d x l r) → IsPart D s left.nodes.now left.places.now left.cells.now l
 left_is {D} s whole left right d x l r h part =
     let k = length left.places.now in
@@ -144,7 +121,7 @@ left_is {D} s whole left right d x l r h part =
     (subst (λ (ps : List LeafPlace). IsPart D s (take (k - 1) (drop 1 whole.nodes.now)) ps left.cells.now l) (sym h.left_places)
      (subst (λ (cs : List (Cell D)). IsPart D s (take (k - 1) (drop 1 whole.nodes.now)) (take k whole.places.now) cs l) (sym h.left_cells) is))
 
-pub right_is : {D : ℕ} (s : Spot) (whole left right : Part D) (d : ℕ) (x : ℤ) (l r : IndexTree) → AreChildParts whole left right
+pub right_is : {D : ℕ} (s : Spot) (whole left right : Subtree D) (d : ℕ) (x : ℤ) (l r : IndexTree) → AreChildParts whole left right
     → IsPart D s whole.nodes.now whole.places.now whole.cells.now (Split d x l r) → IsPart D (right_begin s l r) right.nodes.now right.places.now right.cells.now r
 right_is {D} s whole left right d x l r h part =
     let k = length left.places.now in
@@ -177,7 +154,7 @@ node_joined a b c e right left head p q r =
     ∙ append_assoc (a ++ reverse right) (reverse left) (reverse head) ∙ append_assoc a (reverse right) (reverse left ++ reverse head)
     ∙ ap (λ (t : List ℕ). a ++ t) (sym turned)
 
-pub node_written : {D : ℕ} (s : Spot) (whole left right : Part D) (p q other : LeafPlace) (v : ℕ × ℤ) (y : ℤ) (pages size : ℕ) (references below : List (List ℕ)) (a b c e : List ℕ)
+pub node_written : {D : ℕ} (s : Spot) (whole left right : Subtree D) (p q other : LeafPlace) (v : ℕ × ℤ) (y : ℤ) (pages size : ℕ) (references below : List (List ℕ)) (a b c e : List ℕ)
     (t : IndexTree) → 2 ≤ length whole.places.now → AreChildParts whole left right → p ≡ get_or whole.places.now 0 other → q ≡ get_or right.places.now 0 other
     → v ≡ get_or whole.nodes.now 0 (0, pos 0) → y ≡ v.1 → pages ≡ q.page - p.page → size ≡ length c - length b → below ≡ set references v.0 (key v.1)
     → ((s : Spot) (t : IndexTree) → IsPart D s right.nodes.now right.places.now right.cells.now t → AppendsTurned a b (node_bytes 3 below s t))

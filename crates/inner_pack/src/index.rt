@@ -189,7 +189,7 @@ fn root_part(form: u8, leaves: u32, b: &[u8]) -> Option<Part<'_>>
 }
 
 /// The keys of the coordinates.
-fn keys_of<const D: usize>(p: &Point<D>) -> [[u8; 4]; D]
+pub(crate) fn keys_of<const D: usize>(p: &Point<D>) -> [[u8; 4]; D]
     ensures { result ≡ map key p.now.c }
 {
     let mut keys = [[0; 4]; D];

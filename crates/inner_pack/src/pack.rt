@@ -10,9 +10,11 @@ ghost use Rattle.point_codec.specs.Keys.{key};
 ghost use Rattle.point_codec.specs.Seen.{region_of};
 ghost use Rattle.inner_pack.specs.Places.{Spot, front, placed, fitted, end_of};
 ghost use Rattle.inner_pack.specs.Trees.{IndexTree};
-ghost use Rattle.inner_pack.specs.Bodies.{shared, head_bytes, leaf_bytes, node_bytes, cell_bytes};
+ghost use Rattle.inner_pack.specs.Bodies.{body_bytes, head_bytes, leaf_bytes, node_bytes, cell_bytes};
 ghost use Rattle.inner_pack.specs.Packs.{placed_of, end_at, AppendsTurned, IsPart};
 
+use crate::fields::shared_length;
+use crate::index::{Index, keys_of};
 use crate::place::LeafPlace;
 use byte_cursor::{Memory, put_slice, put_u8, put_vint};
 use point_codec::{Cell, sortable};
@@ -20,6 +22,72 @@ use std::alloc::Global;
 
 /// How many bytes of a leaf page hold leaves.
 const PAYLOAD: u16 = 4064;
+
+impl<const D: usize> Index<D> {
+    ghost use Rattle.std.specs.Prelude.{◌≡◌, length, IfOk};
+    ghost use Rattle.inner_pack.specs.Trees.{IndexTree};
+    ghost use Rattle.inner_pack.specs.Bodies.{HasTree, IsSpelled};
+    ghost use Rattle.inner_pack.specs.Parts.{AreParts, ArePartsOf};
+
+    /// The index of form 3 with this root cell, these inner nodes in preorder as the dimension and the value of their split, and
+    /// the lengths and own cells of its leaves from left to right.
+    pub fn pack(
+        alloc: Global,
+        root: Cell<D>,
+        nodes: &[(u8, i32)],
+        lengths: &[u16],
+        cells: &[Cell<D>],
+    ) -> Result<Index<D>, Memory>
+        requires tree { AreParts D (region_of root) nodes.now lengths.now cells.now }
+        ensures packed { (t : IndexTree) → ArePartsOf D (region_of root.entry) nodes.now lengths.now cells.now t
+            → IfOk result (λ i. (i.form ≡ 3) × (i.leaves ≡ length lengths.now) × HasTree D i (region_of root.entry) t) }
+        ensures spelled { IfOk result (λ i. IsSpelled D i) }
+    {
+        let layout = Layout::of(alloc, lengths)?;
+        let whole = Subtree {
+            nodes,
+            places: layout.places.as_slice(),
+            cells,
+        };
+        let bytes = body_of(alloc, &root, whole)?;
+        Ok(Index::of_parts(
+            3,
+            lengths.len() as u32,
+            layout.pages,
+            root,
+            bytes,
+        ))
+    }
+}
+
+/// The bytes of a body of form 3: the root cell, and the node with all below it.
+fn body_of<const D: usize>(
+    alloc: Global,
+    root: &Cell<D>,
+    whole: Subtree<'_, D>,
+) -> Result<Vec<u8>, Memory>
+    requires { length whole.places.now ≤ 8388608 }
+    ensures { (t : IndexTree) → IsPart D front whole.entry.nodes.now whole.entry.places.now whole.entry.cells.now t
+        → IfOk result (λ b. b.items ≡ body_bytes 3 (region_of root.now) t) }
+{
+    let mut out = Vec::with_capacity(alloc, room(whole.places.len(), D))?;
+    put_node(&mut out, keys_of(&root.lo), whole)?;
+    let from = out.len();
+    put_cell(&mut out, root)?;
+    turn(&mut out, from);
+    turn(&mut out, 0);
+    Ok(out)
+}
+
+/// As many bytes as a body takes at most.
+fn room(leaves: usize, dims: usize) -> usize
+    requires leaves { leaves ≤ 8388608 }
+    requires dims { dims ≤ 8 }
+{
+    // Each leaf has a length of at most two bytes and its own cell. Each inner node has a code, four bytes of a key, a number of
+    // pages below 2^28, an offset below 2^14, and the length of its left child.
+    8 * dims + leaves * (2 + 8 * dims + 1 + 4 + 4 + 2 + 5)
+}
 
 /// The places of some leaves.
 #[derive(Debug, Drop)]
@@ -83,7 +151,7 @@ fn next(last: &LeafPlace, size: u16) -> LeafPlace
 
 /// What an inner node says before its children.
 #[derive(Clone, Copy, Debug)]
-struct Head {
+struct HeadFields {
     dimension: u8,
     at: i32,
     /// How many pages further than its own first leaf that of the right child begins.
@@ -96,7 +164,7 @@ struct Head {
 
 /// The parts of a node with all below it: its inner nodes in preorder, and the places and own cells of its leaves.
 #[derive(Clone, Copy)]
-struct Part<'a, const D: usize> {
+struct Subtree<'a, const D: usize> {
     nodes: &'a [(u8, i32)],
     places: &'a [LeafPlace],
     cells: &'a [Cell<D>],
@@ -107,12 +175,12 @@ struct Part<'a, const D: usize> {
     ghost many_cells: { length cells.now ≡ length places.now },
 }
 
-impl<'a, const D: usize> Part<'a, D> {
+impl<'a, const D: usize> Subtree<'a, D> {
     ghost use Rattle.std.specs.Prelude.{◌≡◌, ◌≤◌, ◌<◌, ◌+◌, length};
     ghost use Rattle.inner_pack.specs.PackedParts.{AreChildParts};
 
     /// Those of the left and of the right child.
-    fn children(&self) -> (Part<'a, D>, Part<'a, D>)
+    fn children(&self) -> (Subtree<'a, D>, Subtree<'a, D>)
         requires { 2 ≤ length self.now.places.now }
         ensures are { AreChildParts self.now result.0 result.1 }
         ensures left { length result.0.places.now < length self.now.places.now }
@@ -121,12 +189,12 @@ impl<'a, const D: usize> Part<'a, D> {
     {
         let left = self.places.len() - self.places.len() / 2;
         (
-            Part {
+            Subtree {
                 nodes: &self.nodes[1..left],
                 places: &self.places[..left],
                 cells: &self.cells[..left],
             },
-            Part {
+            Subtree {
                 nodes: &self.nodes[left..],
                 places: &self.places[left..],
                 cells: &self.cells[left..],
@@ -140,7 +208,7 @@ impl<'a, const D: usize> Part<'a, D> {
 fn put_node<const D: usize>(
     out: &mut Vec<u8>,
     references: [[u8; 4]; D],
-    part: Part<'_, D>,
+    part: Subtree<'_, D>,
 ) -> Result<(), Memory>
     requires { length out.old.items + 89 * length part.places.now < 2 ^ 32 }
     ensures spelled { (s : Spot) (t : IndexTree) → IsPart D s part.entry.nodes.now part.entry.places.now part.entry.cells.now t
@@ -159,7 +227,7 @@ fn put_node<const D: usize>(
     put_node(out, below, right)?;
     let before = out.len();
     put_node(out, below, left)?;
-    let head = Head {
+    let head = HeadFields {
         dimension,
         at,
         // The pages ascend.
@@ -175,7 +243,7 @@ fn put_node<const D: usize>(
 fn put_head<const D: usize>(
     out: &mut Vec<u8>,
     references: &[[u8; 4]; D],
-    head: &Head,
+    head: &HeadFields,
 ) -> Result<(), Memory>
     requires dims { D ≤ 8 }
     requires dimension { head.now.dimension < D }
@@ -186,7 +254,7 @@ fn put_head<const D: usize>(
 {
     let from = out.len();
     let key = sortable(head.at);
-    let shared = shared_front(&key, &references[head.dimension as usize]);
+    let shared = shared_length(key, references[head.dimension as usize]);
     put_u8(out, 5 * head.dimension + shared as u8)?;
     put_slice(out, &key[shared..])?;
     put_vint(out, head.pages)?;
@@ -194,19 +262,6 @@ fn put_head<const D: usize>(
     put_vint(out, head.left)?;
     turn(out, from);
     Ok(())
-}
-
-/// How many bytes the two keys share at the front.
-fn shared_front(a: &[u8; 4], b: &[u8; 4]) -> usize
-    ensures value { result ≡ shared a.now b.now }
-    ensures bound { result ≤ 4 }
-{
-    for i in 0..4 {
-        if a[i] != b[i] {
-            return i;
-        }
-    }
-    4
 }
 
 /// Appends the length and the own cell of a leaf, the last byte first.

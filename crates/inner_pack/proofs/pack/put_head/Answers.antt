@@ -12,8 +12,8 @@ returns-clause-spelled g c =
     let old = c.args.out.now.items in
     let k = shared (key head.at) (get_or references head.dimension []) in
     let is : c.sortable-key.result ≡ key head.at = search rules in
-    let same : c.shared_front-shared.result ≡ k = c.shared_front-shared.ensures.value ∙ ap (λ (a : List ℕ). shared a (get_or references head.dimension [])) is in
-    let rest = ap (λ (t : List ℕ). c.put_u8.new.out.items ++ t) (key_rest head.at c.sortable-key.result c.shared_front-shared.result k is same) in
+    let same : c.shared_length-shared.result ≡ k = c.shared_length-shared.ensures.value ∙ ap (λ (a : List ℕ). shared a (get_or references head.dimension [])) is in
+    let rest = ap (λ (t : List ℕ). c.put_u8.new.out.items ++ t) (key_rest head.at c.sortable-key.result c.shared_length-shared.result k is same) in
     turned old c.put_vint-3.new.out.items c.turn.new.out.items (head_bytes references head.dimension head.at head.pages head.offset head.left) c.len-from.result (search rules)
     (head_joined references head.dimension head.at head.pages head.offset head.left old c.put_u8.new.out.items c.put_slice.new.out.items c.put_vint.new.out.items
      c.put_vint-2.new.out.items c.put_vint-3.new.out.items

@@ -2,7 +2,7 @@ use Rattle.std.proofs.Common.{rules, arith, ℕ, ◌-◌, ◌/◌, ◌<◌, ◌�
 use Rattle.std.proofs.lemmas.List.Elements.{All-take, All-drop}
 use Rattle.inner_pack.specs.declared.place.LeafPlace.{LeafPlace}
 use Rattle.inner_pack.proofs.PackParts.{left_counts}
-use Rattle.inner_pack.proofs.pack.Part.children.Goals as goal
+use Rattle.inner_pack.proofs.pack.Subtree.children.Goals as goal
 
 pub invariant_of-result : goal.invariant_of-result
 invariant_of-result g c =
