@@ -1,6 +1,6 @@
 -- Bytes that are appended, and turned.
-use Rattle.std.proofs.Common.{◌≡◌, ◌<◌, ◌≤◌, ◌+◌, ◌-◌, ◌*◌, ◌^◌, ℕ, List, [], ◌∷◌, ◌++◌, length, reverse, take, drop, get_or, refl, sym, ap, subst, ◌∙◌, arith, append_assoc, length-append, length-drop, ℤ}
-use Rattle.std.proofs.lemmas.List.{length-reverse, reverse-append}
+use Rattle.std.proofs.Common.{◌≡◌, ◌<◌, ◌≤◌, ◌+◌, ◌-◌, ◌*◌, ◌^◌, ℕ, List, [], ◌∷◌, ◌++◌, length, reverse, take, drop, get_or, refl, sym, ap, subst, ◌∙◌, arith, append_assoc, length-append, length-drop, ℤ, map, set}
+use Rattle.std.proofs.lemmas.List.{length-reverse, reverse-append, take_more, take_more_set, map_push}
 use Rattle.std.proofs.Math.Seq.{take-append_seam, drop-append_seam, take-length}
 use Rattle.byte_cursor.specs.Vint.{vint, AppendsVint}
 use Rattle.byte_cursor.proofs.SpelledVints.{length-vint, appended}
@@ -60,3 +60,8 @@ key_rest x k m n e same =
 
 pub vint_appended : (old new : List ℕ) (m n : ℕ) → m ≡ n → n < 2 ^ 32 → AppendsVint old new m → new ≡ old ++ vint n
 vint_appended old new m n e lt h = appended old new n lt (subst (λ (k : ℕ). AppendsVint old new k) e h)
+
+pub keys_more : (keys : List (List ℕ)) (c : List ℤ) (d : ℕ) (k : List ℕ) (e : ℤ) → d < length keys → d < length c → k ≡ key (get_or c d e) → take d keys ≡ map key (take d c)
+    → take (d + 1) (set keys d k) ≡ map key (take (d + 1) c)
+keys_more keys c d k e under below is filled =
+    take_more_set keys d k under ∙ (λ i. filled i ++ is i ∷ []) ∙ sym (map_push key (take d c) (get_or c d e)) ∙ ap (map key) (sym (take_more c d e below))
