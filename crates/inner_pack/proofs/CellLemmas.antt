@@ -117,3 +117,15 @@ four_at bs at within =
     let e1 : at + 1 + 1 ≡ at + 2 = omega arith in
     let e2 : at + 2 + 1 ≡ at + 3 = omega arith in
     ap (take 4) (d0 ∙ ap (λ (t : List ℕ). get_or bs at 0 ∷ t) (d1 ∙ ap (λ (t : List ℕ). get_or bs (at + 1) 0 ∷ t) (ap (λ n. drop n bs) e1 ∙ d2 ∙ ap (λ (t : List ℕ). get_or bs (at + 2) 0 ∷ t) (ap (λ n. drop n bs) e2 ∙ d3))))
+
+pub if_map : {A : Type 0} (o : Option A) (P Q : A → Type 0) → IfSome o P → ((x : A) → P x → Q x) → IfSome o Q
+if_map None P Q h f = tt
+if_map (Some x) P Q h f = f x h
+
+pub and_map : {A : Type 0} (o : Option A) (P Q : A → Type 0) → IsSomeAnd o P → ((x : A) → P x → Q x) → IsSomeAnd o Q
+and_map None P Q h f = h
+and_map (Some x) P Q h f = f x h
+
+pub none_long : (b : List ℕ) → length b ≡ 0 → b ≡ []
+none_long [] e = refl
+none_long (x ∷ xs) e = absurd (omega arith)

@@ -4,3 +4,4 @@ pub mod PlaceLemmas
 pub mod CellLemmas
 pub mod KeyLemmas
 pub mod PackWhole
+pub mod SpelledLemmas

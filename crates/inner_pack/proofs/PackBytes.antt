@@ -46,8 +46,16 @@ unfolding head_bytes
 length-head references d x pages offset left four p o l =
     let k = shared (key x) (get_or references d []) in
     let rest = drop k (key x) in
-    omega (arith, length-append (((k ∷ rest) ++ vint pages) ++ vint offset) (vint left), length-append ((k ∷ rest) ++ vint pages) (vint offset), length-append (k ∷ rest) (vint pages),
-    length-drop k (key x), length-vint pages p, length-vint offset o, length-vint left l)
+    omega (
+      arith,
+      length-append (((k ∷ rest) ++ vint pages) ++ vint offset) (vint left),
+      length-append ((k ∷ rest) ++ vint pages) (vint offset),
+      length-append (k ∷ rest) (vint pages),
+      length-drop k (key x),
+      length-vint pages p,
+      length-vint offset o,
+      length-vint left l,
+    )
 
 pub length-key : (x : ℤ) → length (key x) ≡ 4
 length-key x = refl

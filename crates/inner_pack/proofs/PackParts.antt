@@ -119,7 +119,7 @@ left_is {D} s whole left right d x l r h part =
     left_part D k s whole.nodes.now whole.places.now whole.cells.now d x l r h.half part in
     subst (λ (ns : List (ℕ × ℤ)). IsPart D s ns left.places.now left.cells.now l) (sym h.left_nodes)
     (subst (λ (ps : List LeafPlace). IsPart D s (take (k - 1) (drop 1 whole.nodes.now)) ps left.cells.now l) (sym h.left_places)
-     (subst (λ (cs : List (Cell D)). IsPart D s (take (k - 1) (drop 1 whole.nodes.now)) (take k whole.places.now) cs l) (sym h.left_cells) is))
+    (subst (λ (cs : List (Cell D)). IsPart D s (take (k - 1) (drop 1 whole.nodes.now)) (take k whole.places.now) cs l) (sym h.left_cells) is))
 
 pub right_is : {D : ℕ} (s : Spot) (whole left right : Subtree D) (d : ℕ) (x : ℤ) (l r : IndexTree) → AreChildParts whole left right
     → IsPart D s whole.nodes.now whole.places.now whole.cells.now (Split d x l r) → IsPart D (right_begin s l r) right.nodes.now right.places.now right.cells.now r
@@ -129,7 +129,7 @@ right_is {D} s whole left right d x l r h part =
     right_part D k s whole.nodes.now whole.places.now whole.cells.now d x l r h.half part in
     subst (λ (ns : List (ℕ × ℤ)). IsPart D (right_begin s l r) ns right.places.now right.cells.now r) (sym h.right_nodes)
     (subst (λ (ps : List LeafPlace). IsPart D (right_begin s l r) (drop k whole.nodes.now) ps right.cells.now r) (sym h.right_places)
-     (subst (λ (cs : List (Cell D)). IsPart D (right_begin s l r) (drop k whole.nodes.now) (drop k whole.places.now) cs r) (sym h.right_cells) is))
+    (subst (λ (cs : List (Cell D)). IsPart D (right_begin s l r) (drop k whole.nodes.now) (drop k whole.places.now) cs r) (sym h.right_cells) is))
 
 -- ---- what is written
 

@@ -11,7 +11,7 @@ ghost use Rattle.inner_pack.specs.Spelled.{spelled_part, told_part, tree_bytes, 
 ghost use Rattle.inner_pack.specs.Heads.{JoinsRoot};
 
 use crate::check::check_node;
-use crate::fields::{coordinates, cell_of, cut, is_cell};
+use crate::fields::{cell_of, coordinates, cut, is_cell};
 use crate::head::Part;
 use crate::node::NodeAt;
 use crate::place::Mark;

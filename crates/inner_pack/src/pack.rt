@@ -50,13 +50,7 @@ impl<const D: usize> Index<D> {
             cells,
         };
         let bytes = body_of(alloc, &root, whole)?;
-        Ok(Index::of_parts(
-            3,
-            lengths.len() as u32,
-            layout.pages,
-            root,
-            bytes,
-        ))
+        Ok(Index::of_parts(3, lengths.len() as u32, layout.pages, root, bytes))
     }
 }
 

@@ -16,12 +16,12 @@ returns-clause-spelled g c =
     let rest = ap (λ (t : List ℕ). c.put_u8.new.out.items ++ t) (key_rest head.at c.sortable-key.result c.shared_length-shared.result k is same) in
     turned old c.put_vint-3.new.out.items c.turn.new.out.items (head_bytes references head.dimension head.at head.pages head.offset head.left) c.len-from.result (search rules)
     (head_joined references head.dimension head.at head.pages head.offset head.left old c.put_u8.new.out.items c.put_slice.new.out.items c.put_vint.new.out.items
-     c.put_vint-2.new.out.items c.put_vint-3.new.out.items
-     (c.in_ok-put_u8.ensures.ok ∙ ap (λ (n : ℕ). old ++ (5 * head.dimension + n) ∷ []) same)
-     (c.in_ok-put_slice.ensures.ok ∙ rest)
-     (vint_appended c.put_slice.new.out.items c.put_vint.new.out.items head.pages head.pages refl (omega arith) c.in_ok-put_vint.ensures.ok)
-     (vint_appended c.put_vint.new.out.items c.put_vint-2.new.out.items c.from.result head.offset (search rules) (omega arith) c.in_ok-put_vint-2.ensures.ok)
-     (vint_appended c.put_vint-2.new.out.items c.put_vint-3.new.out.items head.left head.left refl (omega arith) c.in_ok-put_vint-3.ensures.ok))
+    c.put_vint-2.new.out.items c.put_vint-3.new.out.items
+    (c.in_ok-put_u8.ensures.ok ∙ ap (λ (n : ℕ). old ++ (5 * head.dimension + n) ∷ []) same)
+    (c.in_ok-put_slice.ensures.ok ∙ rest)
+    (vint_appended c.put_slice.new.out.items c.put_vint.new.out.items head.pages head.pages refl (omega arith) c.in_ok-put_vint.ensures.ok)
+    (vint_appended c.put_vint.new.out.items c.put_vint-2.new.out.items c.from.result head.offset (search rules) (omega arith) c.in_ok-put_vint-2.ensures.ok)
+    (vint_appended c.put_vint-2.new.out.items c.put_vint-3.new.out.items head.left head.left refl (omega arith) c.in_ok-put_vint-3.ensures.ok))
     c.turn.ensures
 
 pub returns-clause-room : goal.returns-clause-room

@@ -12,7 +12,7 @@ returns-clause-spelled g c =
     let own = region_of c.args.own.now in
     turned old c.put_cell.new.out.items c.turn.new.out.items (leaf_bytes 3 c.args.size own) c.len-from.result (search rules)
     (leaf_joined old c.put_vint.new.out.items c.put_cell.new.out.items c.args.size own
-     (vint_appended old c.put_vint.new.out.items c.from.result c.args.size (search rules) (omega arith) c.in_ok-put_vint.ensures.ok) c.in_ok-put_cell.ensures.spelled)
+    (vint_appended old c.put_vint.new.out.items c.from.result c.args.size (search rules) (omega arith) c.in_ok-put_vint.ensures.ok) c.in_ok-put_cell.ensures.spelled)
     c.turn.ensures
 
 pub returns-clause-room : goal.returns-clause-room
@@ -22,9 +22,9 @@ returns-clause-room g c =
     let longer = length-turned c.args.out.now.items c.turn.new.out.items (leaf_bytes 3 c.args.size own) (returns-clause-spelled g c) in
     let short = length-leaf c.args.size own (omega arith) in
     let written : length c.put_vint.new.out.items ≡ length c.args.out.now.items + length (vint c.args.size) =
-        ap length (vint_appended c.args.out.now.items c.put_vint.new.out.items c.from.result c.args.size (search rules) (omega arith) c.in_ok-put_vint.ensures.ok) ∙ length-append c.args.out.now.items (vint c.args.size) in
+    ap length (vint_appended c.args.out.now.items c.put_vint.new.out.items c.from.result c.args.size (search rules) (omega arith) c.in_ok-put_vint.ensures.ok) ∙ length-append c.args.out.now.items (vint c.args.size) in
     let cell : length c.put_cell.new.out.items ≡ length c.put_vint.new.out.items + length (cell_bytes own) =
-        ap length c.in_ok-put_cell.ensures.spelled ∙ length-append c.put_vint.new.out.items (cell_bytes own) in
+    ap length c.in_ok-put_cell.ensures.spelled ∙ length-append c.put_vint.new.out.items (cell_bytes own) in
     omega (arith, c.in_ok-put_cell.ensures.room)
 
 pub returns-clause-more : goal.returns-clause-more

@@ -30,27 +30,35 @@ body_of-requires g c =
     (search rules, (search rules, omega arith))
 
 pub of_parts-requires : goal.of_parts-requires
-of_parts-requires g c =
-    (search rules, (search rules, is_index g.row.D (region_of c.args.root) c.args.nodes.now c.args.lengths.now c.args.cells.now c.in_ok-bytes.bytes.items c.in_ok-layout.layout.pages
-     c.requires.tree (c.in_ok-bytes.ensures c.requires.tree.tree (whole_part g.row.D (region_of c.args.root) c.args.nodes.now c.args.lengths.now c.args.cells.now c.as_slice.result.now c.requires.tree.tree c.requires.tree.are
-      (ap (map placed_of) c.as_slice.ensures.value ∙ c.in_ok-layout.ensures.places))) c.in_ok-layout.ensures.pages))
+of_parts-requires g c = (
+  search rules,
+  (
+    search rules,
+    is_index g.row.D (region_of c.args.root) c.args.nodes.now c.args.lengths.now c.args.cells.now c.in_ok-bytes.bytes.items c.in_ok-layout.layout.pages
+        c.requires.tree (c.in_ok-bytes.ensures c.requires.tree.tree (whole_part g.row.D (region_of c.args.root) c.args.nodes.now c.args.lengths.now c.args.cells.now c.as_slice.result.now c.requires.tree.tree c.requires.tree.are
+        (ap (map placed_of) c.as_slice.ensures.value ∙ c.in_ok-layout.ensures.places))) c.in_ok-layout.ensures.pages,
+  ),
+)
 
 pub returns-clause-packed : goal.returns-clause-packed
 returns-clause-packed g c = λ t h.
     let root = region_of c.args.root in
-    subst (λ (b : Body). (b.form ≡ 3) × (b.leaves ≡ length c.args.lengths.now) × HasTree g.row.D b root t) (sym c.of_parts.ensures)
-    (refl, refl, spelled_body g.row.D root c.args.nodes.now c.args.lengths.now c.args.cells.now c.in_ok-bytes.bytes.items t h
-     (c.in_ok-bytes.ensures t (whole_part g.row.D root c.args.nodes.now c.args.lengths.now c.args.cells.now c.as_slice.result.now t h
-      (ap (map placed_of) c.as_slice.ensures.value ∙ c.in_ok-layout.ensures.places))))
+    subst (λ (b : Body). (b.form ≡ 3) × (b.leaves ≡ length c.args.lengths.now) × HasTree g.row.D b root t) (sym c.of_parts.ensures) (
+      refl,
+      refl,
+      spelled_body g.row.D root c.args.nodes.now c.args.lengths.now c.args.cells.now c.in_ok-bytes.bytes.items t h
+          (c.in_ok-bytes.ensures t (whole_part g.row.D root c.args.nodes.now c.args.lengths.now c.args.cells.now c.as_slice.result.now t h
+          (ap (map placed_of) c.as_slice.ensures.value ∙ c.in_ok-layout.ensures.places))),
+    )
 
 pub returns-clause-spelled : goal.returns-clause-spelled
 returns-clause-spelled g c =
     let root = region_of c.args.root in
     let h = c.requires.tree in
     subst (IsSpelled g.row.D) (sym c.of_parts.ensures) (record {
-       root = root;
-       tree = h.tree;
-       has = spelled_body g.row.D root c.args.nodes.now c.args.lengths.now c.args.cells.now c.in_ok-bytes.bytes.items h.tree h.are
-           (c.in_ok-bytes.ensures h.tree (whole_part g.row.D root c.args.nodes.now c.args.lengths.now c.args.cells.now c.as_slice.result.now h.tree h.are
-            (ap (map placed_of) c.as_slice.ensures.value ∙ c.in_ok-layout.ensures.places)));
-     })
+      root = root;
+      tree = h.tree;
+      has = spelled_body g.row.D root c.args.nodes.now c.args.lengths.now c.args.cells.now c.in_ok-bytes.bytes.items h.tree h.are
+          (c.in_ok-bytes.ensures h.tree (whole_part g.row.D root c.args.nodes.now c.args.lengths.now c.args.cells.now c.as_slice.result.now h.tree h.are
+          (ap (map placed_of) c.as_slice.ensures.value ∙ c.in_ok-layout.ensures.places)));
+    })
