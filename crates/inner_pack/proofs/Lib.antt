@@ -5,3 +5,4 @@ pub mod CellLemmas
 pub mod KeyLemmas
 pub mod PackWhole
 pub mod SpelledLemmas
+pub mod PackTests

@@ -2,6 +2,7 @@
 use Rattle.std.proofs.Common.{◌≡◌, ◌<◌, ◌≤◌, ◌+◌, ◌-◌, ◌*◌, ◌^◌, ℕ, List, [], ◌∷◌, ◌++◌, length, reverse, take, drop, get_or, refl, sym, ap, subst, ◌∙◌, arith, append_assoc, length-append, length-drop, ℤ, map, set}
 use Rattle.std.proofs.lemmas.List.{length-reverse, reverse-append, take_more, take_more_set, map_push}
 use Rattle.std.proofs.Math.Seq.{take-append_seam, drop-append_seam, take-length}
+use Rattle.std.specs.List.{flat_map}
 use Rattle.byte_cursor.specs.Vint.{vint, AppendsVint}
 use Rattle.byte_cursor.proofs.SpelledVints.{length-vint, appended}
 use Rattle.point_codec.specs.Points.{Region}
@@ -56,6 +57,17 @@ length-head references d x pages offset left four p o l =
       length-vint offset o,
       length-vint left l,
     )
+
+-- what both keys share, where one of them is this coordinate's
+pub shared_key : (n : ℕ) (k reference : List ℕ) (x : ℤ) → n ≡ shared k reference → k ≡ key x → n ≡ shared (key x) reference
+shared_key n k reference x e is = e ∙ ap (λ (a : List ℕ). shared a reference) is
+
+pub grown : (old new bytes : List ℕ) → new ≡ old ++ bytes → length new ≡ length old + length bytes
+grown old new bytes e = ap length e ∙ length-append old bytes
+
+pub cell_written : (old a b : List ℕ) (cell : Region) → a ≡ old ++ flat_map key cell.lo → b ≡ a ++ flat_map key cell.hi → b ≡ old ++ cell_bytes cell
+unfolding cell_bytes
+cell_written old a b cell e f = f ∙ ap (λ (t : List ℕ). t ++ flat_map key cell.hi) e ∙ append_assoc old (flat_map key cell.lo) (flat_map key cell.hi)
 
 pub length-key : (x : ℤ) → length (key x) ≡ 4
 length-key x = refl

@@ -2,7 +2,7 @@ use Rattle.std.proofs.Common.{◌≡◌, ◌+◌, ◌-◌, ◌*◌, ◌<◌, ◌
 use Rattle.point_codec.specs.Keys.{key}
 use Rattle.inner_pack.specs.Bodies.{shared, head_bytes}
 use Rattle.inner_pack.specs.Packs.{AppendsTurned}
-use Rattle.inner_pack.proofs.PackBytes.{turned, length-turned, head_joined, length-head, key_rest, length-key, vint_appended}
+use Rattle.inner_pack.proofs.PackBytes.{turned, length-turned, head_joined, length-head, key_rest, length-key, vint_appended, shared_key}
 use Rattle.inner_pack.proofs.pack.put_head.Goals as goal
 
 pub returns-clause-spelled : goal.returns-clause-spelled
@@ -12,7 +12,7 @@ returns-clause-spelled g c =
     let old = c.args.out.now.items in
     let k = shared (key head.at) (get_or references head.dimension []) in
     let is : c.sortable-key.result ≡ key head.at = search rules in
-    let same : c.shared_length-shared.result ≡ k = c.shared_length-shared.ensures.value ∙ ap (λ (a : List ℕ). shared a (get_or references head.dimension [])) is in
+    let same = shared_key c.shared_length-shared.result c.sortable-key.result (get_or references head.dimension []) head.at c.shared_length-shared.ensures.value is in
     let rest = ap (λ (t : List ℕ). c.put_u8.new.out.items ++ t) (key_rest head.at c.sortable-key.result c.shared_length-shared.result k is same) in
     turned old c.put_vint-3.new.out.items c.turn.new.out.items (head_bytes references head.dimension head.at head.pages head.offset head.left) c.len-from.result (search rules)
     (head_joined references head.dimension head.at head.pages head.offset head.left old c.put_u8.new.out.items c.put_slice.new.out.items c.put_vint.new.out.items

@@ -3,7 +3,7 @@ use Rattle.point_codec.specs.Seen.{region_of}
 use Rattle.byte_cursor.specs.Vint.{vint}
 use Rattle.byte_cursor.proofs.SpelledVints.{length-vint}
 use Rattle.inner_pack.specs.Bodies.{leaf_bytes, cell_bytes}
-use Rattle.inner_pack.proofs.PackBytes.{turned, length-turned, leaf_joined, length-leaf, vint_appended}
+use Rattle.inner_pack.proofs.PackBytes.{turned, length-turned, leaf_joined, length-leaf, vint_appended, grown}
 use Rattle.inner_pack.proofs.pack.put_leaf.Goals as goal
 
 pub returns-clause-spelled : goal.returns-clause-spelled
@@ -21,10 +21,9 @@ returns-clause-room g c =
     let vint_short = length-vint c.args.size (omega arith) in
     let longer = length-turned c.args.out.now.items c.turn.new.out.items (leaf_bytes 3 c.args.size own) (returns-clause-spelled g c) in
     let short = length-leaf c.args.size own (omega arith) in
-    let written : length c.put_vint.new.out.items ≡ length c.args.out.now.items + length (vint c.args.size) =
-    ap length (vint_appended c.args.out.now.items c.put_vint.new.out.items c.from.result c.args.size (search rules) (omega arith) c.in_ok-put_vint.ensures.ok) ∙ length-append c.args.out.now.items (vint c.args.size) in
-    let cell : length c.put_cell.new.out.items ≡ length c.put_vint.new.out.items + length (cell_bytes own) =
-    ap length c.in_ok-put_cell.ensures.spelled ∙ length-append c.put_vint.new.out.items (cell_bytes own) in
+    let written = grown c.args.out.now.items c.put_vint.new.out.items (vint c.args.size)
+        (vint_appended c.args.out.now.items c.put_vint.new.out.items c.from.result c.args.size (search rules) (omega arith) c.in_ok-put_vint.ensures.ok) in
+    let cell = grown c.put_vint.new.out.items c.put_cell.new.out.items (cell_bytes own) c.in_ok-put_cell.ensures.spelled in
     omega (arith, c.in_ok-put_cell.ensures.room)
 
 pub returns-clause-more : goal.returns-clause-more
