@@ -5,3 +5,5 @@ pub mod Spelled
 pub mod Nodes
 pub mod Heads
 pub mod Parts
+pub mod Packs
+pub mod PackedParts

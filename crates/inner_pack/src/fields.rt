@@ -59,7 +59,7 @@ pub(crate) fn are_coordinates<const D: usize>(p: &Point<D>)
 }
 
 /// The coordinates of a point.
-fn coordinates<const D: usize>(p: &Point<D>) -> &[i32]
+pub(crate) fn coordinates<const D: usize>(p: &Point<D>) -> &[i32]
     ensures value { result.now ≡ p.now.c }
     ensures long { length p.now.c ≡ D }
 {

@@ -11,7 +11,7 @@ ghost use Rattle.inner_pack.specs.Spelled.{spelled_part, told_part, tree_bytes, 
 ghost use Rattle.inner_pack.specs.Heads.{JoinsRoot};
 
 use crate::check::check_node;
-use crate::fields::{cell_of, cut, is_cell};
+use crate::fields::{cell_of, coordinates, cut, is_cell};
 use crate::head::Part;
 use crate::node::NodeAt;
 use crate::place::Mark;
@@ -189,12 +189,13 @@ fn root_part(form: u8, leaves: u32, b: &[u8]) -> Option<Part<'_>>
 }
 
 /// The keys of the coordinates.
-fn keys_of<const D: usize>(p: &Point<D>) -> [[u8; 4]; D]
+pub(crate) fn keys_of<const D: usize>(p: &Point<D>) -> [[u8; 4]; D]
     ensures { result ≡ map key p.now.c }
 {
+    let c = coordinates(p);
     let mut keys = [[0; 4]; D];
     for d in 0..D {
-        keys[d] = sortable(p.c[d]);
+        keys[d] = sortable(c[d]);
     }
     keys
 }

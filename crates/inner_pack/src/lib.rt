@@ -22,3 +22,5 @@ pub use place::LeafPlace;
 
 #[cfg(test)]
 mod tests;
+#[cfg(test)]
+mod pack_tests;
