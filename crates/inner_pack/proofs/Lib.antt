@@ -8,3 +8,4 @@ pub mod PackTests
 pub mod PackWhole
 pub mod PlaceLemmas
 pub mod SpelledLemmas
+pub mod OneTree
