@@ -9,3 +9,4 @@ pub mod PackWhole
 pub mod PlaceLemmas
 pub mod SpelledLemmas
 pub mod OneTree
+pub mod Walking
