@@ -10,3 +10,4 @@ pub mod PlaceLemmas
 pub mod SpelledLemmas
 pub mod OneTree
 pub mod Walking
+pub mod Nested

@@ -54,7 +54,7 @@ body_is form root t = refl
 le_self : (x : ℤ) → int_le x x ≡ true
 le_self x = grind (arith, ints)
 
-all_le_self : (xs : List ℤ) → all_le xs xs ≡ true
+pub all_le_self : (xs : List ℤ) → all_le xs xs ≡ true
 all_le_self [] = refl
 all_le_self (x ∷ xs) = rw (le_self x, all_le_self xs) refl
 

@@ -17,6 +17,7 @@ mod pack;
 mod place;
 
 pub use index::{Index, NotIndex};
+pub use laws::{cells_nest, leaves_are_counted, one_tree, places_ascend};
 pub use node::NodeAt;
 pub use place::LeafPlace;
 
