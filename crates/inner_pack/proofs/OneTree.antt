@@ -62,7 +62,7 @@ one_leaf D form leaves s u path references bytes places m n own other h k = elim
       let a = to_packed_leaf D form leaves s path references bytes places m own packed h in
       let b = to_packed_leaf D form leaves u path references bytes places n other packed k in
       let both = vint_front m n (cond (eqb form 3) (cell_bytes own) []) (cond (eqb form 3) (cell_bytes other) []) (omega (arith, a.greatest)) (omega (arith, b.greatest))
-          (sym (a.spelled ∙ leaf_bytes_is form m own) ∙ (b.spelled ∙ leaf_bytes_is form n other)) in
+      (sym (a.spelled ∙ leaf_bytes_is form m own) ∙ (b.spelled ∙ leaf_bytes_is form n other)) in
       let cell : own ≡ other = elim (cases_eq form 3) [
         | inl three ↦
             let ea = cond-true (eqb form 3) (cell_bytes own) [] (eq-eqb form 3 three) in
@@ -159,7 +159,7 @@ same_children D form n s u path references bytes places d e x y l l2 r r2 few ma
       let a = packed_node D form n s path references bytes places d x l r few packed many h in
       let b = packed_node D form n u path references bytes places e y l2 r2 few packed many k in
       let p = fields_parts references d e x y (v.page - s.page) (w.page - u.page) v.offset w.offset (node_bytes form lower s l) (node_bytes form lower2 u l2) (node_bytes form lower v r) (node_bytes form lower2 w r2)
-          fx fy a.few b.few a.pages b.pages a.offset b.offset a.left b.left (sym a.is ∙ b.is) in
+      fx fy a.few b.few a.pages b.pages a.offset b.offset a.left b.left (sym a.is ∙ b.is) in
       record {
         dimension = p.0;
         value = p.1;
@@ -222,13 +222,13 @@ one_node D form n s u path references bytes places (Split d x l r) (Split e y l2
     let w = right_begin u l2 r2 in
     let moved : lower ≡ lower2 = (λ i. slice_set references (c.dimension i) (key (c.value i))) in
     let left : l ≡ l2 = one_node D form (n - n / 2) s u (left_of path d x) lower (spelled_part form lower s l) (told_part form s l) l l2 few (omega (arith, many)) (left_wide D d x path wide fx)
-        (own_bytes_left D form n s path references bytes places d x l r h)
-        (with_bytes D form (n - n / 2) u (left_of path e y) (left_of path d x) lower2 lower (spelled_part form lower2 u l2) (spelled_part form lower s l) (told_part form u l2) (told_part form s l) l2
-        (λ i. left_of path (c.dimension i) (c.value i)) moved c.left_bytes c.left_places (own_bytes_left D form n u path references bytes places e y l2 r2 k)) in
+    (own_bytes_left D form n s path references bytes places d x l r h)
+    (with_bytes D form (n - n / 2) u (left_of path e y) (left_of path d x) lower2 lower (spelled_part form lower2 u l2) (spelled_part form lower s l) (told_part form u l2) (told_part form s l) l2
+    (λ i. left_of path (c.dimension i) (c.value i)) moved c.left_bytes c.left_places (own_bytes_left D form n u path references bytes places e y l2 r2 k)) in
     let right : r ≡ r2 = one_node D form (n / 2) v w (right_of path d x) lower (spelled_part form lower v r) (told_part form v r) r r2 few (omega (arith, many)) (right_wide D d x path wide fx)
-        (own_bytes_right D form n s path references bytes places d x l r h)
-        (with_bytes D form (n / 2) w (right_of path e y) (right_of path d x) lower2 lower (spelled_part form lower2 w r2) (spelled_part form lower v r) (told_part form w r2) (told_part form v r) r2
-        (λ i. right_of path (c.dimension i) (c.value i)) moved c.right_bytes c.right_places (own_bytes_right D form n u path references bytes places e y l2 r2 k)) in
+    (own_bytes_right D form n s path references bytes places d x l r h)
+    (with_bytes D form (n / 2) w (right_of path e y) (right_of path d x) lower2 lower (spelled_part form lower2 w r2) (spelled_part form lower v r) (told_part form w r2) (told_part form v r) r2
+    (λ i. right_of path (c.dimension i) (c.value i)) moved c.right_bytes c.right_places (own_bytes_right D form n u path references bytes places e y l2 r2 k)) in
     (λ i. Split (c.dimension i) (c.value i) (left i) (right i))
 
 -- the root's parts

@@ -22,6 +22,6 @@ pub use node::NodeAt;
 pub use place::LeafPlace;
 
 #[cfg(test)]
-mod tests;
-#[cfg(test)]
 mod pack_tests;
+#[cfg(test)]
+mod tests;

@@ -75,10 +75,32 @@ impl<'a, const D: usize> NodeAt<'a, D> {
         let (left_path, right_path) = self.cell.split(head.dimension, head.at);
         let references = with_key(&self.references, head.dimension, head.key);
         let left_leaves = self.leaves - self.leaves / 2;
-        let begin = Mark { page: self.page, offset: self.offset };
-        let right_begin = Mark { page: self.page + head.pages, offset: head.offset };
-        let left = NodeAt::new(self.form, left_leaves, self.first, begin, &left_path, &references, head.left);
-        let right = NodeAt::new(self.form, self.leaves / 2, self.first + left_leaves, right_begin, &right_path, &references, head.right);
+        let begin = Mark {
+            page: self.page,
+            offset: self.offset,
+        };
+        let right_begin = Mark {
+            page: self.page + head.pages,
+            offset: head.offset,
+        };
+        let left = NodeAt::new(
+            self.form,
+            left_leaves,
+            self.first,
+            begin,
+            &left_path,
+            &references,
+            head.left,
+        );
+        let right = NodeAt::new(
+            self.form,
+            self.leaves / 2,
+            self.first + left_leaves,
+            right_begin,
+            &right_path,
+            &references,
+            head.right,
+        );
         Some((left, right))
     }
 
@@ -90,7 +112,11 @@ impl<'a, const D: usize> NodeAt<'a, D> {
         if self.leaves != 1 {
             return None;
         }
-        Some(LeafPlace { page: self.page, offset: self.offset, length: self.length() })
+        Some(LeafPlace {
+            page: self.page,
+            offset: self.offset,
+            length: self.length(),
+        })
     }
 
     /// What the inner node says of itself.
@@ -102,7 +128,10 @@ impl<'a, const D: usize> NodeAt<'a, D> {
             → SaysTree self.now.form self.now.references (spot_at self.now.page self.now.offset) t result }
     {
         is_cell(&self.cell);
-        let part = Part { bytes: self.bytes, places: self.places };
+        let part = Part {
+            bytes: self.bytes,
+            places: self.places,
+        };
         let Some(head) = read_head(self.form, self.leaves, &self.references, part) else {
             unreachable!()
         };
@@ -128,7 +157,15 @@ impl<'a, const D: usize> NodeAt<'a, D> {
     }
 
     /// The node whose path cell this is.
-    pub(crate) fn new(form: u8, leaves: u32, first: u32, begin: Mark, path: &Cell<D>, references: &[[u8; 4]; D], part: Part<'a>) -> NodeAt<'a, D>
+    pub(crate) fn new(
+        form: u8,
+        leaves: u32,
+        first: u32,
+        begin: Mark,
+        path: &Cell<D>,
+        references: &[[u8; 4]; D],
+        part: Part<'a>,
+    ) -> NodeAt<'a, D>
         requires some { ∥ IsSomeTree D form leaves (spot_of begin) (region_of path.now) references.now part.bytes.now part.places.now ∥₁ }
         requires leaves { 1 ≤ leaves }
         requires last { first + leaves ≤ 8388608 }

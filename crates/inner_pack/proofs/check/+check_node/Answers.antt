@@ -235,4 +235,3 @@ returns-clause-only g t c t' h =
     let rspan = c.in_ok-right.ensures.only r rnode in
     let span = split_span e (spot_of c.in_ok-left.left.begin) (spot_of c.in_ok-left.left.end) (spot_of c.in_ok-right.right.end) t' sp.d sp.x l r sp.is lspan.begin lspan.end rspan.end in
     record { begin = span.0; end = span.1 }
-

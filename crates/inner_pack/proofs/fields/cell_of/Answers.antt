@@ -11,7 +11,7 @@ returns-then-b-clause-only g c r h e = c.if-b.true (ap length e ∙ length-cell 
 pub returns-clause-found : goal.returns-clause-found
 returns-clause-found g c =
     let whole = sym (take-append-drop (4 * g.row.D) c.args.b.now) ∙ (λ i. sym c.split_at.ensures.front i ++ sym c.split_at.ensures.back i) ∙ (λ i. sym c.point_of-lo.ensures i ++ sym c.point_of-hi.ensures i)
-        ∙ cell_joined c.point_of-lo.result.c c.point_of-hi.result.c in
+    ∙ cell_joined c.point_of-lo.result.c c.point_of-hi.result.c in
     some_if c.new.result _ _ _ c.new.ensures.cases (λ cell is. whole ∙ ap cell_bytes (sym is))
 
 pub returns-clause-only : goal.returns-clause-only

@@ -238,4 +238,3 @@ returns-clause-only g c form leaves s path d x l r packed room fits h =
       right_bytes = lr.1 ∙ sym (spelled_packed form lower right r packed);
       right_places = none ∙ sym (told_packed form right r packed);
     }
-

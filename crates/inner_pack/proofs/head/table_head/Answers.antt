@@ -75,4 +75,3 @@ returns-clause-only g c references s path d x l r room fits h =
       right_bytes = b.1 ∙ sym (spelled_one 1 (slice_set references d (key x)) (right_begin s l r) r refl);
       right_places = p.1 ∙ sym (told_one 1 (right_begin s l r) r refl);
     }
-
