@@ -1,8 +1,10 @@
+pub mod CellLemmas
+pub mod HeadLemmas
+pub mod KeyLemmas
+pub mod NodeLemmas
 pub mod PackBytes
 pub mod PackParts
-pub mod PlaceLemmas
-pub mod CellLemmas
-pub mod KeyLemmas
-pub mod PackWhole
-pub mod SpelledLemmas
 pub mod PackTests
+pub mod PackWhole
+pub mod PlaceLemmas
+pub mod SpelledLemmas

@@ -39,6 +39,7 @@ pub record SaysTree (form : ℕ) (references : List (List ℕ)) (s : Spot) (t : 
 -- the bytes are those of the node with the head's split, wherever its first leaf begins, where the parts are those of the children
 pub record IsHead (D form : ℕ) (references : List (List ℕ)) (bytes places : List ℕ) (h : Head) : Type 0 where
   pub dimension : h.dimension < D
+  pub key_is : h.key ≡ key h.at
   pub joins : (s : Spot) (l r : IndexTree) → All (λ length. (1 ≤ length) × (length ≤ 4064)) (lengths_of r) → SaysSplit form references s h.dimension h.at l r h
     → (bytes ≡ spelled_part form references s (Split h.dimension h.at l r)) × (places ≡ told_part form s (Split h.dimension h.at l r))
 

@@ -8,6 +8,7 @@ ghost use Rattle.inner_pack.specs.Bodies.{first_length};
 ghost use Rattle.inner_pack.specs.Spelled.{IsNodeOf};
 ghost use Rattle.inner_pack.specs.Heads.{SpansFrom, IsSpanOf, spot_of};
 
+use crate::fields::is_cell;
 use crate::head::{Head, Part, read_head};
 use crate::leaf::read_leaf;
 use crate::place::Mark;
@@ -31,10 +32,13 @@ pub(crate) fn check_node<const D: usize>(form: u8, leaves: u32, path: &Cell<D>, 
     ensures found { IfSome result (SpansFrom D form leaves (spot_of behind) (region_of path.now) references.now part.entry.bytes.now part.entry.places.now) }
     ensures only { (t : IndexTree) → IsNodeOf D form leaves (fitted (spot_of behind) (first_length t)) (region_of path.now) references.now part.entry.bytes.now part.entry.places.now t
         → IsSomeAnd result (IsSpanOf (spot_of behind) t) }
+    ensures page { IfSome result (λ x. x.end.page ≤ behind.page + leaves) }
+    ensures end { IfSome result (λ x. x.end.offset ≤ 4064) }
 {
     if leaves == 1 {
         return check_leaf(form, path, references, part, behind);
     }
+    is_cell(path);
     let head = read_head(form, leaves, references, part)?;
     if !is_in_cell(path, head.dimension, head.at) {
         return None;
@@ -60,6 +64,8 @@ fn check_leaf<const D: usize>(form: u8, path: &Cell<D>, references: &[[u8; 4]; D
     ensures found { IfSome result (SpansFrom D form 1 (spot_of behind) (region_of path.now) references.now part.entry.bytes.now part.entry.places.now) }
     ensures only { (t : IndexTree) → IsNodeOf D form 1 (fitted (spot_of behind) (first_length t)) (region_of path.now) references.now part.entry.bytes.now part.entry.places.now t
         → IsSomeAnd result (IsSpanOf (spot_of behind) t) }
+    ensures page { IfSome result (λ x. x.end.page ≤ behind.page + 1) }
+    ensures end { IfSome result (λ x. x.end.offset ≤ 4064) }
 {
     let _references = *references;
     let length = read_leaf(form, path, part, behind)?;

@@ -1,6 +1,6 @@
 //! The fields of an index body: cells, keys and vints.
 
-ghost use Rattle.std.specs.Prelude.{◌≡◌, ◌≤◌, ◌<◌, ◌*◌, ◌+◌, ◌-◌, ◌^◌, ◌++◌, ℕ, ℤ, List, length, take, drop, All, IfSome, IsSomeAnd, FitsSigned, slice_index_or, pos};
+ghost use Rattle.std.specs.Prelude.{◌≡◌, ◌≤◌, ◌<◌, ◌*◌, ◌+◌, ◌-◌, ◌^◌, ◌++◌, ◌∷◌, ℕ, ℤ, List, length, take, drop, All, IfSome, IsSomeAnd, FitsSigned, slice_index_or, pos};
 ghost use Rattle.std.specs.Int.{w32};
 ghost use Rattle.std.specs.List.{flat_map};
 ghost use Rattle.point_codec.specs.Points.{Region};
@@ -149,6 +149,17 @@ pub(crate) fn take_place(b: &[u8]) -> Option<(LeafPlace, &[u8])>
         length,
     };
     Some((place, cursor.rest()))
+}
+
+/// The first byte and the others.
+pub(crate) fn take_byte(b: &[u8]) -> Option<(u8, &[u8])>
+    ensures found { IfSome result (λ x. b.now ≡ x.0 ∷ x.1.now) }
+    ensures only { (n : ℕ) (rest : List ℕ) → b.now ≡ n ∷ rest → IsSomeAnd result (λ x. (x.0 ≡ n) × (x.1.now ≡ rest)) }
+{
+    let [first, rest @ ..] = b else {
+        return None;
+    };
+    Some((*first, rest))
 }
 
 /// The first `n` bytes and the others.

@@ -1,6 +1,6 @@
 //! What an inner node says of itself, in each form.
 
-ghost use Rattle.std.specs.Prelude.{◌≡◌, ◌≤◌, ◌<◌, ◌*◌, ◌+◌, ◌-◌, ◌^◌, ◌++◌, ◌∷◌, [], ℕ, ℤ, List, length, drop, All, IfSome, IsSomeAnd, slice_index_or, slice_set};
+ghost use Rattle.std.specs.Prelude.{◌≡◌, ◌≤◌, ◌<◌, ◌*◌, ◌+◌, ◌-◌, ◌^◌, ◌++◌, ◌∷◌, [], ℕ, ℤ, List, length, drop, All, IfSome, IsSomeAnd, slice_index_or, slice_set, FitsSigned};
 ghost use Rattle.std.specs.Int.{w16, w32, to_be_bytes};
 ghost use Rattle.point_codec.specs.Points.{Region};
 ghost use Rattle.point_codec.specs.Keys.{key};
@@ -10,7 +10,7 @@ ghost use Rattle.inner_pack.specs.Bodies.{first_length, place_bytes};
 ghost use Rattle.inner_pack.specs.Spelled.{IsNodeOf, spelled_part, told_part};
 ghost use Rattle.inner_pack.specs.Heads.{IsHead, SaysSplit};
 
-use crate::fields::{cut, take_key, take_place, take_vint};
+use crate::fields::{cut, take_byte, take_key, take_place, take_vint};
 use point_codec::from_sortable;
 
 /// The bytes of a node with all below it.
@@ -42,7 +42,7 @@ pub(crate) fn read_head<'a, const D: usize>(form: u8, leaves: u32, references: &
     requires form { (1 ≤ form) × (form ≤ 3) }
     requires leaves { (2 ≤ leaves) × (leaves ≤ 8388608) }
     ensures found { IfSome result (IsHead D form references.now part.entry.bytes.now part.entry.places.now) }
-    ensures only { (s : Spot) (path : Region) (d : ℕ) (x : ℤ) (l r : IndexTree) → s.page + leaves ≤ 8388608 → IsNodeOf D form leaves s path references.now part.entry.bytes.now part.entry.places.now (Split d x l r)
+    ensures only { (s : Spot) (path : Region) (d : ℕ) (x : ℤ) (l r : IndexTree) → s.page ≤ 8388608 → FitsSigned w32 x → IsNodeOf D form leaves s path references.now part.entry.bytes.now part.entry.places.now (Split d x l r)
         → IsSomeAnd result (SaysSplit form references.now s d x l r) }
 {
     if form == 1 {
@@ -57,7 +57,7 @@ fn table_head<'a, const D: usize>(leaves: u32, part: Part<'a>) -> Option<Head<'a
     requires dims { D ≤ 8 }
     requires leaves { (2 ≤ leaves) × (leaves ≤ 8388608) }
     ensures found { (references : List (List ℕ)) → IfSome result (IsHead D 1 references part.entry.bytes.now part.entry.places.now) }
-    ensures only { (references : List (List ℕ)) (s : Spot) (path : Region) (d : ℕ) (x : ℤ) (l r : IndexTree) → s.page + leaves ≤ 8388608 → IsNodeOf D 1 leaves s path references part.entry.bytes.now part.entry.places.now (Split d x l r)
+    ensures only { (references : List (List ℕ)) (s : Spot) (path : Region) (d : ℕ) (x : ℤ) (l r : IndexTree) → s.page ≤ 8388608 → FitsSigned w32 x → IsNodeOf D 1 leaves s path references part.entry.bytes.now part.entry.places.now (Split d x l r)
         → IsSomeAnd result (SaysSplit 1 references s d x l r) }
 {
     let (dimension, key, cuts) = take_cut::<D>(part.bytes)?;
@@ -104,15 +104,16 @@ fn take_cut<const D: usize>(b: &[u8]) -> Option<(usize, [u8; 4], &[u8])>
 fn packed_head<'a, const D: usize>(references: &[[u8; 4]; D], part: Part<'a>) -> Option<Head<'a>>
     requires dims { D ≤ 8 }
     ensures found { (form : ℕ) → 2 ≤ form → IfSome result (IsHead D form references.now part.entry.bytes.now part.entry.places.now) }
-    ensures only { (form leaves : ℕ) (s : Spot) (path : Region) (d : ℕ) (x : ℤ) (l r : IndexTree) → 2 ≤ form → s.page + leaves ≤ 8388608 → IsNodeOf D form leaves s path references.now part.entry.bytes.now part.entry.places.now (Split d x l r)
+    ensures only { (form leaves : ℕ) (s : Spot) (path : Region) (d : ℕ) (x : ℤ) (l r : IndexTree) → 2 ≤ form → leaves ≤ 8388608 → FitsSigned w32 x → IsNodeOf D form leaves s path references.now part.entry.bytes.now part.entry.places.now (Split d x l r)
         → IsSomeAnd result (SaysSplit form references.now s d x l r) }
 {
-    let (code, rest) = part.bytes.split_first()?;
-    let dimension = *code as usize / 5;
+    let (code, rest) = take_byte(part.bytes)?;
+    let dimension = code as usize / 5;
     if dimension >= D {
         return None;
     }
-    let (key, rest) = take_key(rest, references[dimension], *code as usize % 5)?;
+    let reference = reference_in(references, dimension);
+    let (key, rest) = take_key(rest, reference, code as usize % 5)?;
     let (pages, rest) = take_vint(rest)?;
     let (offset, rest) = take_vint(rest)?;
     let (left_length, rest) = take_vint(rest)?;
@@ -135,4 +136,13 @@ fn packed_head<'a, const D: usize>(references: &[[u8; 4]; D], part: Part<'a>) ->
             places: part.places,
         },
     })
+}
+
+/// The reference of a dimension.
+fn reference_in<const D: usize>(references: &[[u8; 4]; D], dimension: usize) -> [u8; 4]
+    requires { dimension < D }
+    ensures value { result ≡ slice_index_or references.now dimension [] }
+    ensures long { length references.now ≡ D }
+{
+    references[dimension]
 }
