@@ -1,4 +1,4 @@
-use Rattle.std.proofs.Common.{◌≡◌, ◌+◌, ◌<◌, ◌^◌, ℕ, List, ◌++◌, length, refl, sym, ap, ◌∙◌, arith, rules, length-append}
+use Rattle.std.proofs.Common.{arith, rules}
 use Rattle.point_codec.specs.Seen.{region_of}
 use Rattle.byte_cursor.specs.Vint.{vint}
 use Rattle.byte_cursor.proofs.SpelledVints.{length-vint}
