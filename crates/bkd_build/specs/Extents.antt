@@ -1,0 +1,34 @@
+-- How far items reach in a dimension.
+use Rattle.std.specs.Prelude.{ℕ, ◌≡◌, ◌≤◌, ◌<◌, List, All, map, ℤ, pos, ◌+ℤ◌, ◌≤ℤ◌, slice_index_or}
+use Rattle.std.specs.List.{Contains}
+use Rattle.point_codec.specs.Points.{Item}
+
+-- an item's coordinate d
+abbrev pub coordinate : ℕ → Item → ℤ
+coordinate d x = slice_index_or x.at d (pos 0)
+
+-- m is the least coordinate d of the items
+pub record IsLeast (d : ℕ) (m : ℤ) (items : List Item) : Type 0 where
+  pub bound : All (λ x. m ≤ℤ coordinate d x) items
+  pub reached : Contains (map (coordinate d) items) m
+
+-- m is the greatest coordinate d of the items
+pub record IsGreatest (d : ℕ) (m : ℤ) (items : List Item) : Type 0 where
+  pub bound : All (λ x. coordinate d x ≤ℤ m) items
+  pub reached : Contains (map (coordinate d) items) m
+
+-- the extent in dimension d is w: the greatest coordinate d less the least
+pub record HasExtent (d w : ℕ) (items : List Item) : Type 0 where
+  pub least : ℤ
+  pub greatest : ℤ
+  pub is_least : IsLeast d least items
+  pub is_greatest : IsGreatest d greatest items
+  pub is : greatest ≡ least +ℤ pos w
+
+-- of D dimensions, d is the one of the greatest extent, and the first of those (the split dimension of the Bkd-tree)
+pub record IsWidest (D d : ℕ) (items : List Item) : Type 0 where
+  pub dimension : d < D
+  pub extent : ℕ
+  pub has : HasExtent d extent items
+  pub greatest : (e w : ℕ) → e < D → HasExtent e w items → w ≤ extent
+  pub first : (e w : ℕ) → e < d → HasExtent e w items → w < extent
