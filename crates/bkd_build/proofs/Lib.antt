@@ -1,3 +1,5 @@
 pub mod Ascending
 pub mod OneSplit
 pub mod OneTree
+pub mod Counts
+pub mod Nodes

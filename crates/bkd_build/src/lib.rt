@@ -4,3 +4,9 @@
 
 mod cuts;
 mod extents;
+mod gate;
+mod halves;
+mod parts;
+mod tree;
+
+pub use gate::{Gate, OpenGate};
