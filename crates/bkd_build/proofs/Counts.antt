@@ -9,7 +9,7 @@ pub leaves_hold : (leaf count : ℕ) → 1 ≤ leaf → (count ≤ leaves_for le
 leaves_hold leaf count some = let p : 0 < leaf = omega arith in div_ceil_times count leaf p
 
 no_fewer : (leaf m n count : ℕ) → n < m → m * leaf < count + leaf → count ≤ n * leaf → ⊥
-no_fewer leaf m n count lt h k = omega (arith, mul-le-mul_right {n + 1} {m} leaf lt)
+no_fewer leaf m n count lt h k = omega (arith, mul-le-mul_right leaf lt)
 
 -- there is one such number
 pub leaves_unique : (leaf n count : ℕ) → 1 ≤ leaf → count ≤ n * leaf → n * leaf < count + leaf → n ≡ leaves_for leaf count
@@ -26,13 +26,13 @@ leaves_unique leaf n count some holds few =
 -- more entries than a leaf has fill two leaves or more
 pub two_leaves : (leaf count : ℕ) → 1 ≤ leaf → leaf < count → 2 ≤ leaves_for leaf count
 two_leaves leaf count some many = elim (cases_lt (leaves_for leaf count) 2) [
-  | inl few ↦ absurd (omega (arith, mul-le-mul_right {leaves_for leaf count} {1} leaf (omega arith), (leaves_hold leaf count some).0))
+  | inl few ↦ absurd (omega (arith, mul-le-mul_right {m = leaves_for leaf count} {n = 1} leaf (omega arith), (leaves_hold leaf count some).0))
   | inr enough ↦ enough
 ]
 
 -- both halves have entries
 parts_fit : (leaf count n m : ℕ) → 1 ≤ leaf → 1 ≤ m → m < n → n * leaf < count + leaf → (1 ≤ m * leaf) × (m * leaf < count)
-parts_fit leaf count n m some one less few = (omega (arith, mul-le-mul_right {1} {m} leaf one), omega (arith, mul-le-mul_right {m + 1} {n} leaf less))
+parts_fit leaf count n m some one less few = (omega (arith, mul-le-mul_right leaf one), omega (arith, mul-le-mul_right leaf less))
 
 pub left_fits : (leaf count : ℕ) → 1 ≤ leaf → leaf < count → (1 ≤ left_count leaf count) × (left_count leaf count < count)
 left_fits leaf count some many =

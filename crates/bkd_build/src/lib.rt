@@ -1,7 +1,11 @@
 //! The bulk builder of a point index: the one canonical tree of some entries (after the bulk loading of the Bkd-tree by
 //! Procopiuc, Agarwal, Arge and Vitter, and of the balanced block tree of Lucene's points).
+//!
+//! Entries have one canonical tree (`laws::one_canonical_tree`), so what is built of them depends on nothing else: not on their
+//! order, and not on how many threads build it (`laws::one_build`).
 #![tactic(auto)]
 
+mod builder;
 mod cuts;
 mod extents;
 mod gate;
@@ -9,4 +13,5 @@ mod halves;
 mod parts;
 mod tree;
 
+pub use builder::{Built, build};
 pub use gate::{Gate, OpenGate};
