@@ -1,0 +1,4 @@
+pub mod Samples
+pub mod CutLemmas
+pub mod Parting
+pub mod CutEntries

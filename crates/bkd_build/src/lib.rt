@@ -4,3 +4,6 @@
 
 mod cuts;
 mod extents;
+
+pub use cuts::cut;
+pub use extents::{least_at, widest};
