@@ -2,3 +2,4 @@ pub mod Samples
 pub mod CutLemmas
 pub mod Parting
 pub mod CutEntries
+pub mod ExtentLemmas

@@ -1,8 +1,8 @@
 //! How far entries reach in each dimension.
 
-ghost use Rattle.std.specs.Prelude.{◌≡◌, ◌≤◌, ◌<◌, ◌≤ℤ◌, ◌+ℤ◌, pos, slice_index_or, length};
-ghost use Rattle.point_codec.specs.Seen.{items_of};
-ghost use Rattle.bkd_build.specs.Extents.{IsWidest, IsLeast};
+ghost use Rattle.std.specs.Prelude.{◌≡◌, ◌≤◌, ◌<◌, length};
+ghost use Rattle.point_codec.specs.Seen.{items_of, region_of};
+ghost use Rattle.bkd_build.specs.Extents.{IsWidest, IsWidestSide, IsLeast, width};
 
 use point_codec::{Cell, Entry};
 
@@ -13,20 +13,22 @@ pub fn widest<const D: usize>(entries: &[Entry<D>]) -> usize
     ensures { IsWidest D result (items_of entries.now) }
 {
     match Cell::of(entries) {
-        Some(cell) => widest_of(&cell),
+        Some(cell) => widest_side(&cell),
         None => 0,
     }
 }
 
 /// The dimension in which a cell is widest, the first one of those.
-fn widest_of<const D: usize>(cell: &Cell<D>) -> usize {
+fn widest_side<const D: usize>(cell: &Cell<D>) -> usize
+    ensures { IsWidestSide D result (region_of cell.now) }
+{
     let mut widest = 0;
-    let mut extent = width(cell, 0);
+    let mut greatest = width(cell, 0);
     for d in 1..D {
         let other = width(cell, d);
-        if other > extent {
+        if other > greatest {
             widest = d;
-            extent = other;
+            greatest = other;
         }
     }
     widest
@@ -34,8 +36,8 @@ fn widest_of<const D: usize>(cell: &Cell<D>) -> usize {
 
 /// The greatest less the least coordinate `d` of a cell.
 fn width<const D: usize>(cell: &Cell<D>, d: usize) -> u32
-    requires within { d < D }
-    ensures { slice_index_or cell.now.hi.c d (pos 0) ≡ slice_index_or cell.now.lo.c d (pos 0) +ℤ pos result }
+    requires { d < D }
+    ensures { result ≡ width (region_of cell.now) d }
 {
     cell.hi().c[d].abs_diff(cell.lo().c[d])
 }
