@@ -3,3 +3,4 @@ pub mod CutLemmas
 pub mod Parting
 pub mod CutEntries
 pub mod ExtentLemmas
+pub mod Sides

@@ -2,7 +2,7 @@
 
 ghost use Rattle.std.specs.Prelude.{◌≡◌, ◌≤◌, ◌<◌, length};
 ghost use Rattle.point_codec.specs.Seen.{items_of, region_of};
-ghost use Rattle.bkd_build.specs.Extents.{IsWidest, IsWidestSide, IsLeast, width};
+ghost use Rattle.bkd_build.specs.Extents.{IsWidest, IsWidestSide, width};
 
 use point_codec::{Cell, Entry};
 
@@ -40,18 +40,4 @@ fn width<const D: usize>(cell: &Cell<D>, d: usize) -> u32
     ensures { result ≡ width (region_of cell.now) d }
 {
     cell.hi().c[d].abs_diff(cell.lo().c[d])
-}
-
-/// The least coordinate `d` of the entries.
-pub fn least_at<const D: usize>(entries: &[Entry<D>], d: usize) -> i32
-    requires dims { (1 ≤ D) × (D ≤ 8) }
-    requires within { d < D }
-    requires some { 0 < length entries.now }
-    ensures { IsLeast d result (items_of entries.now) }
-{
-    let mut least = entries[0].point.c[d];
-    for entry in entries {
-        least = least.min(entry.point.c[d]);
-    }
-    least
 }

@@ -6,4 +6,4 @@ mod cuts;
 mod extents;
 
 pub use cuts::cut;
-pub use extents::{least_at, widest};
+pub use extents::widest;
