@@ -87,7 +87,7 @@ IsWidest-IsPermutation D d xs ys p h =
 
 -- ---- in a cell
 
-all_le-length : (a b : List ℤ) → all_le a b ≡ true → length a ≡ length b
+pub all_le-length : (a b : List ℤ) → all_le a b ≡ true → length a ≡ length b
 all_le-length [] [] h = refl
 all_le-length [] (y ∷ ys) h = cc
 all_le-length (x ∷ xs) [] h = cc
@@ -102,6 +102,13 @@ coordinate_inside d r x lt h =
 -- the least coordinate of items that lie in a cell lies in it too
 pub least_inside : (d : ℕ) (m : ℤ) (r : Region) (items : List Item) → d < length r.lo → All (λ x. in_box r x.at ≡ true) items → IsLeast d m items → (get_or r.lo d (pos 0) ≤ℤ m) × (m ≤ℤ get_or r.hi d (pos 0))
 least_inside d m r items lt inside h = (
+  All-contains (λ (z : ℤ). get_or r.lo d (pos 0) ≤ℤ z) (map (coordinate d) items) m (All-map (λ (z : ℤ). get_or r.lo d (pos 0) ≤ℤ z) (coordinate d) items (All-weaker (λ (x : Item). in_box r x.at ≡ true) (λ (x : Item). get_or r.lo d (pos 0) ≤ℤ coordinate d x) (λ x at. (coordinate_inside d r x lt at).0) items inside)) h.reached,
+  All-contains (λ (z : ℤ). z ≤ℤ get_or r.hi d (pos 0)) (map (coordinate d) items) m (All-map (λ (z : ℤ). z ≤ℤ get_or r.hi d (pos 0)) (coordinate d) items (All-weaker (λ (x : Item). in_box r x.at ≡ true) (λ (x : Item). coordinate d x ≤ℤ get_or r.hi d (pos 0)) (λ x at. (coordinate_inside d r x lt at).1) items inside)) h.reached,
+)
+
+-- and so does the greatest
+pub greatest_inside : (d : ℕ) (m : ℤ) (r : Region) (items : List Item) → d < length r.lo → All (λ x. in_box r x.at ≡ true) items → IsGreatest d m items → (get_or r.lo d (pos 0) ≤ℤ m) × (m ≤ℤ get_or r.hi d (pos 0))
+greatest_inside d m r items lt inside h = (
   All-contains (λ (z : ℤ). get_or r.lo d (pos 0) ≤ℤ z) (map (coordinate d) items) m (All-map (λ (z : ℤ). get_or r.lo d (pos 0) ≤ℤ z) (coordinate d) items (All-weaker (λ (x : Item). in_box r x.at ≡ true) (λ (x : Item). get_or r.lo d (pos 0) ≤ℤ coordinate d x) (λ x at. (coordinate_inside d r x lt at).0) items inside)) h.reached,
   All-contains (λ (z : ℤ). z ≤ℤ get_or r.hi d (pos 0)) (map (coordinate d) items) m (All-map (λ (z : ℤ). z ≤ℤ get_or r.hi d (pos 0)) (coordinate d) items (All-weaker (λ (x : Item). in_box r x.at ≡ true) (λ (x : Item). coordinate d x ≤ℤ get_or r.hi d (pos 0)) (λ x at. (coordinate_inside d r x lt at).1) items inside)) h.reached,
 )
