@@ -1,6 +1,7 @@
 //! What the scripts in `bench/` time: a part of the index and the plain form of it on the same work, with a printed answer.
 #![tactic(auto)]
 
+mod partition;
 mod rings;
 
 use byte_cursor::Bytes;
@@ -14,7 +15,8 @@ use std::{env, io};
 /// The words of a run, and what it prints:
 /// `csv A B` reads CSV from the standard input, and says how many points these two columns give;
 /// `rings plain|tree POSITIONS QUERIES` asks points and small cells of a star-shaped ring by the plain list of edges or by
-/// the edge tree, and says how many are in and how many are met.
+/// the edge tree, and says how many are in and how many are met;
+/// `partition draw|tree COUNT ROUNDS` draws so many entries and parts them into leaves so many times, and sums up their order.
 fn main(rt: HostRuntime) -> io::Result<()> {
     let alloc = rt.alloc();
     let mut words = Vec::new(alloc);
@@ -38,7 +40,15 @@ fn main(rt: HostRuntime) -> io::Result<()> {
                 None => println!(rt; "no ring"),
             }
         }
-        _ => println!(rt; "csv A B | rings plain|tree POSITIONS QUERIES"),
+        [command, kind, count, rounds] if command.as_str() == "partition" => {
+            let count = number(count.as_bytes()).unwrap_or(1000).min(16_777_215);
+            let rounds = number(rounds.as_bytes()).unwrap_or(1);
+            match partition::parted(alloc, kind.as_str() == "tree", count, rounds) {
+                Ok(sum) => println!(rt; "order {sum}"),
+                Err(_) => println!(rt; "no memory"),
+            }
+        }
+        _ => println!(rt; "csv A B | rings plain|tree POSITIONS QUERIES | partition draw|tree COUNT ROUNDS"),
     }
 }
 

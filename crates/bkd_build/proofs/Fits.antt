@@ -1,9 +1,7 @@
 -- The cells of a canonical tree: each is one of D dimensions, and within its path cell.
 use Rattle.std.proofs.Common.{◌≡◌, ℕ, zero, suc, ◌+◌, ◌-◌, ◌^◌, ◌<◌, ◌≤◌, Bool, true, false, ◌&&◌, List, [], ◌∷◌, ◌++◌, length, map, get_or, set, replicate, ℤ, pos, negsuc, ◌≤ℤ◌, ◌<ℤ◌, int_le, w32, FitsSigned, Ordering, Less, Equal, Greater, is_gt, refl, sym, ap, ◌∙◌, subst, arith, true≢false}
 use Rattle.std.specs.List.{All, Contains}
-use Rattle.std.specs.Ordering.{int_cmp, ordering_then, MatchOrdering}
 use Rattle.std.proofs.lemmas.Int.{ints}
-use Rattle.std.proofs.lemmas.Cmp.{int_ranked}
 use Rattle.std.proofs.lemmas.List.{length-set, take_at, drop_at}
 use Rattle.std.proofs.lemmas.List.Elements.{All-nil, All-cons, All-head, All-tail, All-append, All-map, All-contains, All-weaker, All-take, All-drop}
 use Rattle.point_codec.specs.Points.{Item, Region, all_le, in_box}
@@ -15,15 +13,10 @@ use Rattle.inner_pack.specs.Trees.{IsCell, IsInCell, HasCells}
 use Rattle.bkd_build.specs.Cuts.{ComesBefore}
 use Rattle.bkd_build.specs.Extents.{coordinate, IsLeast}
 use Rattle.bkd_build.specs.Canon.{KdTree, Leaf, Split, entries_of, index_tree_of, IsCanonLeaf, IsCanonSplit, IsCanon}
+use Rattle.bkd_build.proofs.ExtentLemmas.{all_le-length, coordinate_le, least_inside}
 use Rattle.bkd_build.proofs.Shapes.{all_points}
 
 -- ---- the least cell round points has their dimensions, and coordinates of 32 bits
-
-all_le-length : (a b : List ℤ) → all_le a b ≡ true → length a ≡ length b
-all_le-length [] [] h = refl
-all_le-length [] (y ∷ ys) h = cc
-all_le-length (x ∷ xs) [] h = cc
-all_le-length (x ∷ xs) (y ∷ ys) h = omega (arith, all_le-length xs ys (both_true (int_le x y) (all_le xs ys) h).1)
 
 abbrev lowest : ℤ
 lowest = negsuc 2147483647
@@ -104,24 +97,6 @@ cell_round_points D (x ∷ xs) r some points h =
 
 -- ---- a split value lies in the cell of its node, and each half in its part of it
 
--- the coordinates of what doesn't come before
-not_greater : (x y : ℤ) → is_gt (int_cmp x y) ≡ false → x ≤ℤ y
-not_greater x y h = by (int_cmp x y) (int_ranked x y (int_cmp x y) refl) h
-  where
-    by : (o : Ordering) → MatchOrdering o (x <ℤ y) (x ≡ y) (y <ℤ x) → is_gt o ≡ false → x ≤ℤ y
-    by Less m k = omega (arith, ints)
-    by Equal m k = omega (arith, ints)
-    by Greater m k = absurd (true≢false k)
-
-first_decides : (o rest : Ordering) → is_gt (ordering_then o rest) ≡ false → is_gt o ≡ false
-first_decides Less rest h = refl
-first_decides Equal rest h = refl
-first_decides Greater rest h = h
-
-no_less : (d : ℕ) (x y : Item) → is_gt (leaf_cmp d x y) ≡ false → coordinate d x ≤ℤ coordinate d y
-unfolding leaf_cmp
-no_less d x y h = not_greater (coordinate d x) (coordinate d y) (first_decides (int_cmp (coordinate d x) (coordinate d y)) _ h)
-
 -- a fact on the coordinates holds of one that is reached
 reached : (P : ℤ → Type 0) (d : ℕ) (x : ℤ) (items : List Item) → All (λ (y : Item). P (coordinate d y)) items → Contains (map (coordinate d) items) x → P x
 reached P d x items all there = All-contains P (map (coordinate d) items) x (All-map P (coordinate d) items all) there
@@ -129,25 +104,17 @@ reached P d x items all there = All-contains P (map (coordinate d) items) x (All
 left_below : (D leaf d : ℕ) (x : ℤ) (ls rs : List Item) → IsCanonSplit D leaf d x ls rs → All (λ (y : Item). coordinate d y ≤ℤ x) ls
 left_below D leaf d x ls rs h =
     All-weaker (λ (y : Item). All (λ (z : Item). is_gt (leaf_cmp d y z) ≡ false) rs) (λ (y : Item). coordinate d y ≤ℤ x)
-    (λ y each. reached (λ (v : ℤ). coordinate d y ≤ℤ v) d x rs (All-weaker (λ (z : Item). is_gt (leaf_cmp d y z) ≡ false) (λ (z : Item). coordinate d y ≤ℤ coordinate d z) (λ z k. no_less d y z k) rs each) h.value.reached)
+    (λ y each. reached (λ (v : ℤ). coordinate d y ≤ℤ v) d x rs (All-weaker (λ (z : Item). is_gt (leaf_cmp d y z) ≡ false) (λ (z : Item). coordinate d y ≤ℤ coordinate d z) (λ z k. coordinate_le d y z k) rs each) h.value.reached)
     ls h.apart.each
 
 -- all items are in the cell
 abbrev AreIn : Region → List Item → Type 0
 AreIn r items = All (λ (y : Item). in_box r y.at ≡ true) items
 
-in_cell : (D leaf d : ℕ) (x : ℤ) (ls rs : List Item) (path : Region) → IsCanonSplit D leaf d x ls rs → length path.lo ≡ D → length path.hi ≡ D
-    → All (λ (y : Item). IsPoint D y.at) rs → AreIn path rs → IsInCell D path d x
-in_cell D leaf d x ls rs path h lo hi points inside = record {
-  dimension = h.widest.dimension;
-  from = reached (λ (v : ℤ). get_or path.lo d (pos 0) ≤ℤ v) d x rs
-    (All-weaker (λ (y : Item). in_box path y.at ≡ true) (λ (y : Item). get_or path.lo d (pos 0) ≤ℤ coordinate d y)
-    (λ y k. all_le_at path.lo y.at d (both_true (all_le path.lo y.at) (all_le y.at path.hi) k).0 (omega (arith, lo, h.widest.dimension))) rs inside) h.value.reached;
-  to = reached (λ (v : ℤ). v ≤ℤ get_or path.hi d (pos 0)) d x rs (λ k e lt. to_end (get_or rs k e) (points k e lt) (inside k e lt)) h.value.reached;
-}
-  where
-    to_end : (y : Item) → IsPoint D y.at → in_box path y.at ≡ true → coordinate d y ≤ℤ get_or path.hi d (pos 0)
-    to_end y is k = all_le_at y.at path.hi d (both_true (all_le path.lo y.at) (all_le y.at path.hi) k).1 (omega (arith, is.dims, h.widest.dimension))
+in_cell : (D leaf d : ℕ) (x : ℤ) (ls rs : List Item) (path : Region) → IsCanonSplit D leaf d x ls rs → length path.lo ≡ D → AreIn path rs → IsInCell D path d x
+in_cell D leaf d x ls rs path h lo inside =
+    let ends = least_inside d x path rs (omega (arith, lo, h.widest.dimension)) inside h.value in
+    record { dimension = h.widest.dimension; from = ends.0; to = ends.1 }
 
 test_true : (x y : ℤ) → x ≤ℤ y → int_le x y ≡ true
 test_true x y h = grind (arith, ints)
@@ -185,7 +152,7 @@ cells_lie D leaf path (Split d x l r) h lo hi inside =
     let right_points = all_points D leaf r h.2 in
     let left = all_front (λ (y : Item). in_box path y.at ≡ true) ls rs inside in
     let right = all_back (λ (y : Item). in_box path y.at ≡ true) ls rs inside in
-    let cell : IsInCell D path d x = in_cell D leaf d x ls rs path h.0 lo hi right_points right in
+    let cell : IsInCell D path d x = in_cell D leaf d x ls rs path h.0 lo right in
     (cell,
     cells_lie D leaf (left_of path d x) l h.1 lo (length-set path.hi d x ∙ hi) (lefts_in D leaf d x ls rs path h.0 cell lo hi left_points left),
     cells_lie D leaf (right_of path d x) r h.2 (length-set path.lo d x ∙ lo) hi (rights_in D leaf d x ls rs path h.0 cell lo hi right_points right))

@@ -19,8 +19,8 @@ use Rattle.bkd_build.specs.Cuts.{ComesBefore}
 use Rattle.bkd_build.specs.Extents.{IsLeast, IsWidest}
 use Rattle.bkd_build.specs.Canon.{KdTree, Leaf, Split, entries_of, leaves_of, index_tree_of, left_count, IsCanonLeaf, IsCanonSplit, IsCanon}
 use Rattle.bkd_build.specs.Parts.{AreEntries, Pieces, pieces_of, no_pieces, one_node, joined, Adds}
-use Rattle.bkd_build.proofs.Ascending.{comes_before-IsPermutation}
-use Rattle.bkd_build.proofs.OneSplit.{least-IsPermutation, widest-IsPermutation}
+use Rattle.bkd_build.proofs.CutLemmas.{before-moved}
+use Rattle.bkd_build.proofs.ExtentLemmas.{IsLeast-IsPermutation, IsWidest-IsPermutation}
 use Rattle.bkd_build.proofs.OneTree.{least_cell-IsPermutation}
 
 -- ---- the entries of the halves
@@ -88,7 +88,7 @@ split_of_cut D leaf d rank x es fs p many is below widest apart value =
     there : IsCanonSplit D leaf d x (take rank (items_of fs)) (drop rank (items_of fs))
     there = record {
       many = rw whole (rw long many);
-      widest = rw whole (widest-IsPermutation D d (items_of es) (items_of fs) (items-IsPermutation es fs p) widest);
+      widest = rw whole (IsWidest-IsPermutation D d (items_of es) (items_of fs) (items-IsPermutation es fs p) widest);
       rank = rw (whole, long) (length-take-le rank (items_of fs) (omega (arith, long, below)) ∙ is);
       apart = apart;
       value = value;
@@ -110,10 +110,10 @@ split-IsPermutation D leaf d x ls rs us vs p q h =
     let long : length (us ++ vs) ≡ length (ls ++ rs) = length_permutation (ls ++ rs) (us ++ vs) both in
     record {
       many = rw long h.many;
-      widest = widest-IsPermutation D d (ls ++ rs) (us ++ vs) both h.widest;
+      widest = IsWidest-IsPermutation D d (ls ++ rs) (us ++ vs) both h.widest;
       rank = rw long (length_permutation ls us p ∙ h.rank);
-      apart = comes_before-IsPermutation d ls rs us vs p q h.apart;
-      value = least-IsPermutation d x rs vs q h.value;
+      apart = before-moved (leaf_cmp d) ls rs us vs p q h.apart;
+      value = IsLeast-IsPermutation d x rs vs q h.value;
     }
 
 abbrev node_of : Cut → ℕ × ℤ

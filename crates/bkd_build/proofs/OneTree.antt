@@ -13,7 +13,7 @@ use Rattle.bkd_build.specs.Cuts.{ComesBefore}
 use Rattle.bkd_build.specs.Extents.{IsLeast}
 use Rattle.bkd_build.specs.Canon.{KdTree, Leaf, Split, entries_of, left_count, IsCanonLeaf, IsCanonSplit, IsCanon, Canon}
 use Rattle.bkd_build.proofs.Ascending.{ascends_strictly, one_ascending, same_items, one_cut}
-use Rattle.bkd_build.proofs.OneSplit.{one_least, one_widest}
+use Rattle.bkd_build.proofs.ExtentLemmas.{one_least, one_widest, IsLeast-IsPermutation, IsWidest-IsPermutation}
 
 -- a leaf's entries stand in one order
 one_leaf_order : (D : ℕ) (xs ys : List Item) → AreLeaf D xs → AreLeaf D ys → IsPermutation xs ys → xs ≡ ys
@@ -48,10 +48,10 @@ no_split leaf xs ys p few many = omega (arith, length_permutation xs ys p)
 halves : (D leaf d e : ℕ) (x y : ℤ) (ls rs us vs : List Item) → IsCanonSplit D leaf d x ls rs → IsCanonSplit D leaf e y us vs → IsPermutation (ls ++ rs) (us ++ vs)
     → (d ≡ e) × (x ≡ y) × IsPermutation ls us × IsPermutation rs vs
 halves D leaf d e x y ls rs us vs a b p =
-    let dims : d ≡ e = one_widest D d e (ls ++ rs) (us ++ vs) p a.widest b.widest in
+    let dims : d ≡ e = one_widest D d e (us ++ vs) (IsWidest-IsPermutation D d (ls ++ rs) (us ++ vs) p a.widest) b.widest in
     let long : length ls ≡ length us = a.rank ∙ ap (left_count leaf) (sym (length_permutation (ls ++ rs) (us ++ vs) p)) ∙ sym b.rank in
     let parts = one_cut d ls rs us vs p long a.apart (subst (λ (d : ℕ). ComesBefore (leaf_cmp d) us vs) (sym dims) b.apart) in
-    (dims, one_least d x y rs vs parts.1 a.value (subst (λ (d : ℕ). IsLeast d y vs) (sym dims) b.value), parts.0, parts.1)
+    (dims, one_least d x y vs (IsLeast-IsPermutation d x rs vs parts.1 a.value) (subst (λ (d : ℕ). IsLeast d y vs) (sym dims) b.value), parts.0, parts.1)
 
 pub one_tree : (D leaf : ℕ) (t u : KdTree) → IsCanon D leaf t → IsCanon D leaf u → IsPermutation (entries_of t) (entries_of u) → t ≡ u
 one_tree D leaf (Leaf xs r) (Leaf ys s) a b p = same_leaf D leaf xs ys r s a b p

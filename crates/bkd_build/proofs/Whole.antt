@@ -21,7 +21,7 @@ use Rattle.bkd_build.specs.declared.parts.Part.{Part}
 use Rattle.bkd_build.proofs.Shapes.{shaped, shaped_count, all_points, all_fit, few_leaves, some_leaves}
 use Rattle.bkd_build.proofs.Fits.{cell_round_points, cells_lie}
 
-unmapped : (P : List ℤ → Type 0) (items : List Item) → All P (map (λ (x : Item). x.at) items) → All (λ (x : Item). P x.at) items
+pub unmapped : (P : List ℤ → Type 0) (items : List Item) → All P (map (λ (x : Item). x.at) items) → All (λ (x : Item). P x.at) items
 unmapped P [] h = All-nil (λ (x : Item). P x.at)
 unmapped P (x ∷ xs) h =
     All-cons (λ (y : Item). P y.at) x xs (All-head P x.at (map (λ (y : Item). y.at) xs) h) (unmapped P xs (All-tail P x.at (map (λ (y : Item). y.at) xs) h))

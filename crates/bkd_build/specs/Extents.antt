@@ -1,7 +1,7 @@
 -- How far items reach in a dimension.
-use Rattle.std.specs.Prelude.{ℕ, ◌≡◌, ◌≤◌, ◌<◌, List, All, map, ℤ, pos, ◌+ℤ◌, ◌≤ℤ◌, slice_index_or}
+use Rattle.std.specs.Prelude.{ℕ, ◌≡◌, ◌≤◌, ◌<◌, List, All, map, ℤ, pos, ◌+ℤ◌, ◌-ℤ◌, ◌≤ℤ◌, unsigned_abs, slice_index_or}
 use Rattle.std.specs.List.{Contains}
-use Rattle.point_codec.specs.Points.{Item}
+use Rattle.point_codec.specs.Points.{Item, Region}
 
 -- an item's coordinate d
 abbrev pub coordinate : ℕ → Item → ℤ
@@ -32,3 +32,13 @@ pub record IsWidest (D d : ℕ) (items : List Item) : Type 0 where
   pub has : HasExtent d extent items
   pub greatest : (e w : ℕ) → e < D → HasExtent e w items → w ≤ extent
   pub first : (e w : ℕ) → e < d → HasExtent e w items → w < extent
+
+-- how wide a cell is in dimension d
+abbrev pub width : Region → ℕ → ℕ
+width r d = unsigned_abs (slice_index_or r.hi d (pos 0) -ℤ slice_index_or r.lo d (pos 0))
+
+-- of the first n dimensions, d is the one in which the cell is widest, and the first of those
+pub record IsWidestSide (n d : ℕ) (r : Region) : Type 0 where
+  pub dimension : d < n
+  pub greatest : (e : ℕ) → e < n → width r e ≤ width r d
+  pub first : (e : ℕ) → e < d → width r e < width r d

@@ -2,3 +2,4 @@ pub mod Cuts
 pub mod Extents
 pub mod Canon
 pub mod Parts
+pub mod Leaves

@@ -53,8 +53,8 @@ impl<const D: usize> Built<D> {
     /// The index, and the bytes of each leaf in order.
     pub fn into_parts(self) -> (Index<D>, Vec<Bytes>)
         requires { (1 ≤ D) × (D ≤ 8) }
-        ensures index { result.0 ≡ self.index }
-        ensures leaves { result.1.items ≡ self.leaves }
+        ensures index { result.0 ≡ self.entry.index }
+        ensures leaves { result.1.items ≡ self.entry.leaves }
     {
         let Built { index, leaves } = self;
         (index, leaves)

@@ -10,8 +10,12 @@ mod cuts;
 mod extents;
 mod gate;
 mod halves;
+mod laws;
 mod parts;
 mod tree;
 
 pub use builder::{Built, build};
+pub use cuts::cut;
+pub use extents::widest;
 pub use gate::{Gate, OpenGate};
+pub use laws::{built_leaves, one_build, one_canonical_tree};
