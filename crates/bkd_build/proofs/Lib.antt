@@ -12,3 +12,4 @@ pub mod Shapes
 pub mod Fits
 pub mod Whole
 pub mod Leaves
+pub mod Numbered

@@ -19,3 +19,6 @@ pub use cuts::cut;
 pub use extents::widest;
 pub use gate::{Gate, OpenGate};
 pub use laws::{built_leaves, one_build, one_canonical_tree};
+
+#[cfg(test)]
+mod tests;
