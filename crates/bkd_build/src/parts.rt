@@ -29,17 +29,21 @@ impl<const D: usize> Part<D> {
     ghost use Rattle.leaf_codec.specs.Leaves.{leaf_limit};
     ghost use Rattle.bkd_build.specs.Parts.{AreEntries, Adds, held, joined, no_pieces, one_node};
 
-    /// A part with nothing in it. Takes no memory.
-    pub(crate) fn new(alloc: Global) -> Part<D>
+    /// A part with nothing in it, and with room for so many leaves and the nodes over them.
+    pub(crate) fn with_room(alloc: Global, leaves: usize) -> Result<Part<D>, Memory>
         requires { (1 ≤ D) × (D ≤ 8) }
-        ensures { held result ≡ no_pieces }
+        ensures { IfOk result (λ part. held part ≡ no_pieces) }
     {
-        Part {
-            nodes: Vec::new(alloc),
-            lengths: Vec::new(alloc),
-            cells: Vec::new(alloc),
-            leaves: Vec::new(alloc),
-        }
+        let nodes = Vec::with_capacity(alloc, leaves)?;
+        let lengths = Vec::with_capacity(alloc, leaves)?;
+        let cells = Vec::with_capacity(alloc, leaves)?;
+        let leaves = Vec::with_capacity(alloc, leaves)?;
+        Ok(Part {
+            nodes,
+            lengths,
+            cells,
+            leaves,
+        })
     }
 
     /// Adds an inner node.

@@ -75,7 +75,7 @@ fn grown<const D: usize>(
     ensures same { IsPermutation entries.old entries.new }
     ensures built { IfOk result (λ part. Adds D leaf (items_of entries.old) no_pieces (held part)) }
 {
-    let mut part = Part::new(alloc);
+    let mut part = Part::with_room(alloc, entries.len().div_ceil(leaf))?;
     grow(alloc, entries, leaf, &mut part)?;
     Ok(part)
 }
@@ -90,7 +90,7 @@ fn over<const D: usize>(
     requires { (1 ≤ D) × (D ≤ 8) }
     ensures { IfOk result (λ part. held part ≡ joined (joined (one_node node.dimension node.at) (held left.entry)) (held right.entry)) }
 {
-    let mut part = Part::new(alloc);
+    let mut part = Part::with_room(alloc, left.leaves.len() + right.leaves.len())?;
     part.put_node(node)?;
     part.append(left)?;
     part.append(right)?;
