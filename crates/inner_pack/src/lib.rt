@@ -6,8 +6,12 @@
 //! of the tree, and spell no other one (`one_tree`).
 #![tactic(auto)]
 
+mod check;
+mod fields;
+mod head;
 mod index;
 mod laws;
+mod leaf;
 mod node;
 mod pack;
 mod place;
@@ -15,3 +19,8 @@ mod place;
 pub use index::{Index, NotIndex};
 pub use node::NodeAt;
 pub use place::LeafPlace;
+
+#[cfg(test)]
+mod tests;
+#[cfg(test)]
+mod pack_tests;
