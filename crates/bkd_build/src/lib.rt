@@ -7,3 +7,6 @@ mod extents;
 
 pub use cuts::cut;
 pub use extents::widest;
+
+#[cfg(test)]
+mod tests;
