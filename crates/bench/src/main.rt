@@ -48,7 +48,9 @@ fn main(rt: HostRuntime) -> io::Result<()> {
                 Err(_) => println!(rt; "no memory"),
             }
         }
-        _ => println!(rt; "csv A B | rings plain|tree POSITIONS QUERIES | partition draw|tree COUNT ROUNDS"),
+        _ => println!(rt;
+            "csv A B | rings plain|tree POSITIONS QUERIES | partition draw|tree COUNT ROUNDS"
+        ),
     }
 }
 

@@ -1,6 +1,6 @@
 //! Entries parted into the leaves of a tree.
 
-ghost use Rattle.std.specs.Prelude.{◌<◌, ◌≤◌};
+ghost use Rattle.std.specs.Prelude.{◌<◌};
 
 use bkd_build::{cut, widest};
 use leaf_codec::arrange;
@@ -37,6 +37,16 @@ fn entries(alloc: Global, count: u32) -> Result<Vec<Entry<2>>, AllocError> {
     Ok(entries)
 }
 
+/// How many of `len` entries are left of a split.
+fn left(len: usize) -> usize
+    requires { 333 < len }
+    ensures some { 0 < result }
+    ensures less { result < len }
+{
+    let leaves = len.div_ceil(LEAF);
+    (leaves - leaves / 2) * LEAF
+}
+
 /// Parts the entries into full leaves, each in leaf order; half of the leaves, rounded up, are left of a split.
 fn part(entries: &mut [Entry<2>]) {
     let len = entries.len();
@@ -44,7 +54,7 @@ fn part(entries: &mut [Entry<2>]) {
         arrange(entries);
         return;
     }
-    let rank = (len.div_ceil(LEAF)).div_ceil(2) * LEAF;
+    let rank = left(len);
     let d = widest(entries);
     cut(entries, d, rank);
     let (left, right) = entries.split_at_mut(rank);
