@@ -18,9 +18,9 @@ leaves_unique leaf n count some holds few =
     elim (cases_lt n (leaves_for leaf count)) [
       | inl below ↦ absurd (no_fewer leaf (leaves_for leaf count) n count below told.1 holds)
       | inr above ↦ elim (cases_lt (leaves_for leaf count) n) [
-          | inl over ↦ absurd (no_fewer leaf n (leaves_for leaf count) count over few told.0)
-          | inr not_over ↦ omega arith
-        ]
+        | inl over ↦ absurd (no_fewer leaf n (leaves_for leaf count) count over few told.0)
+        | inr not_over ↦ omega arith
+      ]
     ]
 
 -- more entries than a leaf has fill two leaves or more

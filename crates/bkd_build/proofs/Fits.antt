@@ -84,7 +84,7 @@ cell_round_points D (x ∷ xs) r some points h =
     let long : length x.at ≡ D = (All-head (λ (y : Item). IsPoint D y.at) x xs points).dims in
     let ends = both_true (all_le r.lo x.at) (all_le x.at r.hi) here in
     let space : within r (all_space D) ≡ true =
-        h.least (all_space D) (All-map (λ (p : List ℤ). in_box (all_space D) p ≡ true) (λ (y : Item). y.at) (x ∷ xs) (All-weaker (λ (y : Item). IsPoint D y.at) (λ (y : Item). in_box (all_space D) y.at ≡ true) (λ y is. in_space D y.at is) (x ∷ xs) points)) in
+    h.least (all_space D) (All-map (λ (p : List ℤ). in_box (all_space D) p ≡ true) (λ (y : Item). y.at) (x ∷ xs) (All-weaker (λ (y : Item). IsPoint D y.at) (λ (y : Item). in_box (all_space D) y.at ≡ true) (λ y is. in_space D y.at is) (x ∷ xs) points)) in
     let wide = both_true (all_le (replicate D lowest) r.lo) (all_le r.hi (replicate D highest)) space in
     let ordered : all_le r.lo r.hi ≡ true = in_box-corners r x.at here in
     record {
@@ -152,7 +152,8 @@ cells_lie D leaf path (Split d x l r) h lo hi inside =
     let right_points = all_points D leaf r h.2 in
     let left = all_front (λ (y : Item). in_box path y.at ≡ true) ls rs inside in
     let right = all_back (λ (y : Item). in_box path y.at ≡ true) ls rs inside in
-    let cell : IsInCell D path d x = in_cell D leaf d x ls rs path h.0 lo right in
-    (cell,
-    cells_lie D leaf (left_of path d x) l h.1 lo (length-set path.hi d x ∙ hi) (lefts_in D leaf d x ls rs path h.0 cell lo hi left_points left),
-    cells_lie D leaf (right_of path d x) r h.2 (length-set path.lo d x ∙ lo) hi (rights_in D leaf d x ls rs path h.0 cell lo hi right_points right))
+    let cell : IsInCell D path d x = in_cell D leaf d x ls rs path h.0 lo right in (
+      cell,
+      cells_lie D leaf (left_of path d x) l h.1 lo (length-set path.hi d x ∙ hi) (lefts_in D leaf d x ls rs path h.0 cell lo hi left_points left),
+      cells_lie D leaf (right_of path d x) r h.2 (length-set path.lo d x ∙ lo) hi (rights_in D leaf d x ls rs path h.0 cell lo hi right_points right),
+    )

@@ -38,7 +38,7 @@ leaves_count D leaf t some h =
     let told : length (map (λ (bytes : List ℕ). length bytes) (map (spelling D) (leaves_of t))) ≡ length (lengths_of (index_tree_of D t)) = ap (λ (ns : List ℕ). length ns) (lengths_told D t) in
     let once : length (map (spelling D) (leaves_of t)) ≡ length (leaves_of t) = length-map (leaves_of t) (spelling D) in
     let twice : length (map (λ (bytes : List ℕ). length bytes) (map (spelling D) (leaves_of t))) ≡ length (map (spelling D) (leaves_of t)) =
-        length-map (map (spelling D) (leaves_of t)) (λ (bytes : List ℕ). length bytes) in
+    length-map (map (spelling D) (leaves_of t)) (λ (bytes : List ℕ). length bytes) in
     sym once ∙ sym twice ∙ told ∙ shaped_count (leaves_for leaf (length (entries_of t))) (index_tree_of D t) (shaped D leaf t some h)
 
 -- the entries of the leaves are all entries
@@ -115,15 +115,15 @@ are_leaves D leaf items b some h =
       counted = counted;
       lengths = ap (map (λ (bytes : List ℕ). length bytes)) h.leaves ∙ lengths_told D t;
       spelled = λ k bytes entries own lt.
-        let within : k < length (leaves_of t) = omega (arith, counted, lt) in
-        let at = leaf_at D leaf t h.canon.canon k entries own within in
-        let is : get_or b.leaves k bytes ≡ spelling D (get_or (leaves_of t) k entries) =
-            ap (λ (bs : List (List ℕ)). get_or bs k bytes) h.leaves ∙ get_or-map (spelling D) (leaves_of t) k entries bytes within in
-        record {
-          spells = record { are_leaf = at.entries; is = is };
-          counted = size_at D leaf t some h.canon.canon k entries within ∙ ap (λ (m : ℕ). min leaf (m - k * leaf)) all;
-          inside = unmapped (λ (p : List ℤ). in_box (get_or (own_cells (index_tree_of D t)) k own) p ≡ true) (get_or (leaves_of t) k entries) at.cell.holds;
-        };
+          let within : k < length (leaves_of t) = omega (arith, counted, lt) in
+          let at = leaf_at D leaf t h.canon.canon k entries own within in
+          let is : get_or b.leaves k bytes ≡ spelling D (get_or (leaves_of t) k entries) =
+          ap (λ (bs : List (List ℕ)). get_or bs k bytes) h.leaves ∙ get_or-map (spelling D) (leaves_of t) k entries bytes within in
+          record {
+            spells = record { are_leaf = at.entries; is = is };
+            counted = size_at D leaf t some h.canon.canon k entries within ∙ ap (λ (m : ℕ). min leaf (m - k * leaf)) all;
+            inside = unmapped (λ (p : List ℤ). in_box (get_or (own_cells (index_tree_of D t)) k own) p ≡ true) (get_or (leaves_of t) k entries) at.cell.holds;
+          };
     }
 
 pub all_there : (D leaf : ℕ) (items : List Item) (b : BuiltValue) → (h : IsBuilt D leaf items b) → IsPermutation items (flat_map (λ (leaf : List Item). leaf) (leaves_of h.tree))
@@ -148,7 +148,7 @@ one_index : (D : ℕ) (p q : Body) (r s : Region) (x y : IndexTree) → p.form �
 one_index D p q r s x y f g h k roots trees =
     let forms : p.form ≡ q.form = f ∙ sym g in
     let leaves : p.leaves ≡ q.leaves =
-        sym (shaped_count p.leaves x h.tree.shaped) ∙ ap (λ (t : IndexTree). length (lengths_of t)) trees ∙ shaped_count q.leaves y k.tree.shaped in
+    sym (shaped_count p.leaves x h.tree.shaped) ∙ ap (λ (t : IndexTree). length (lengths_of t)) trees ∙ shaped_count q.leaves y k.tree.shaped in
     let bytes : p.bytes ≡ q.bytes = h.is ∙ cc (k.is, forms, roots, trees) in
     λ i. record { form = forms i; leaves = leaves i; bytes = bytes i }
 

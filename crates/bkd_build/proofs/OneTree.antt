@@ -26,7 +26,7 @@ same_leaf : (D leaf : ℕ) (xs ys : List Item) (r s : Region) → IsCanonLeaf D 
 same_leaf D leaf xs ys r s a b p =
     let items : xs ≡ ys = one_leaf_order D xs ys a.entries b.entries p in
     let cells : r ≡ s =
-        least_cell_unique (map (λ (x : Item). x.at) ys) r s (subst (λ (zs : List Item). IsLeastCell (map (λ (x : Item). x.at) zs) r) items a.cell) b.cell in
+    least_cell_unique (map (λ (x : Item). x.at) ys) r s (subst (λ (zs : List Item). IsLeastCell (map (λ (x : Item). x.at) zs) r) items a.cell) b.cell in
     λ i. Leaf (items i) (cells i)
 
 -- the least cell is that of the points in any order
@@ -67,7 +67,7 @@ one_tree D leaf (Split d x l r) (Split e y m q) a b p =
 pub one_canon : (D leaf : ℕ) (xs ys : List Item) (r s : Region) (t u : KdTree) → IsPermutation xs ys → Canon D leaf xs r t → Canon D leaf ys s u → (r ≡ s) × (t ≡ u)
 one_canon D leaf xs ys r s t u p a b =
     let between : IsPermutation (entries_of t) (entries_of u) =
-        IsPermutation-trans (entries_of t) xs (entries_of u) (IsPermutation-sym xs (entries_of t) a.same) (IsPermutation-trans xs ys (entries_of u) p b.same) in
+    IsPermutation-trans (entries_of t) xs (entries_of u) (IsPermutation-sym xs (entries_of t) a.same) (IsPermutation-trans xs ys (entries_of u) p b.same) in
     (one_root xs ys r s p a.cell b.cell, one_tree D leaf t u a.canon b.canon between)
   where
     one_root : (xs ys : List Item) (r s : Region) → IsPermutation xs ys → IsLeastCell (map (λ (x : Item). x.at) xs) r → IsLeastCell (map (λ (x : Item). x.at) ys) s → r ≡ s

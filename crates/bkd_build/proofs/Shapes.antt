@@ -26,10 +26,11 @@ shaped D leaf (Split d x l r) some h =
     let count : ℕ = length (entries_of l ++ entries_of r) in
     let left : leaves_for leaf (length (entries_of l)) ≡ leaves_for leaf count - leaves_for leaf count / 2 = ap (leaves_for leaf) h.0.rank ∙ left_leaves leaf count some h.0.many in
     let right : leaves_for leaf (length (entries_of r)) ≡ leaves_for leaf count / 2 =
-        ap (leaves_for leaf) (rest_count D leaf d x (entries_of l) (entries_of r) h.0) ∙ right_leaves leaf count some h.0.many in
-    (two_leaves leaf count some h.0.many,
-    subst (λ (n : ℕ). IsShaped n (index_tree_of D l)) left (shaped D leaf l some h.1),
-    subst (λ (n : ℕ). IsShaped n (index_tree_of D r)) right (shaped D leaf r some h.2))
+    ap (leaves_for leaf) (rest_count D leaf d x (entries_of l) (entries_of r) h.0) ∙ right_leaves leaf count some h.0.many in (
+      two_leaves leaf count some h.0.many,
+      subst (λ (n : ℕ). IsShaped n (index_tree_of D l)) left (shaped D leaf l some h.1),
+      subst (λ (n : ℕ). IsShaped n (index_tree_of D r)) right (shaped D leaf r some h.2),
+    )
 
 -- the points of the entries
 pub all_points : (D leaf : ℕ) (t : KdTree) → IsCanon D leaf t → All (λ (x : Item). IsPoint D x.at) (entries_of t)

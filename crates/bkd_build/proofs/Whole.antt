@@ -40,10 +40,10 @@ parts_are D leaf items root nodes lengths cells leaves dims few two some count c
     let lengths_are : lengths ≡ lengths_of tree = ap (λ (ps : Pieces). ps.lengths) a.is in
     let long : length lengths ≡ n = ap (λ (ns : List ℕ). length ns) lengths_are ∙ shaped_count n tree shape in
     let points : All (λ (x : Item). IsPoint D x.at) items =
-        All-permutation (λ (x : Item). IsPoint D x.at) (entries_of t) items (IsPermutation-sym items (entries_of t) a.same) (all_points D leaf t a.canon) in
+    All-permutation (λ (x : Item). IsPoint D x.at) (entries_of t) items (IsPermutation-sym items (entries_of t) a.same) (all_points D leaf t a.canon) in
     let whole : IsCell D root = cell_round_points D items root some points cell in
     let inside : All (λ (x : Item). in_box root x.at ≡ true) (entries_of t) =
-        All-permutation (λ (x : Item). in_box root x.at ≡ true) items (entries_of t) a.same (unmapped (λ (p : List ℤ). in_box root p ≡ true) items cell.holds) in
+    All-permutation (λ (x : Item). in_box root x.at ≡ true) items (entries_of t) a.same (unmapped (λ (p : List ℤ). in_box root p ≡ true) items cell.holds) in
     let enough : 1 ≤ n = some_leaves leaf (length (entries_of t)) one (omega (arith, all, some)) in
     let few_enough : n ≤ 8388608 = few_leaves leaf (length (entries_of t)) two (omega (arith, all, count)) in
     record {

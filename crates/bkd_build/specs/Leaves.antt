@@ -20,4 +20,4 @@ pub record AreLeaves (D leaf count : ℕ) (b : BuiltValue) (root : Region) (tree
   pub counted : length leaves ≡ leaves_for leaf count
   pub lengths : map (λ bytes. length bytes) b.leaves ≡ lengths_of tree
   pub spelled : (k : ℕ) (bytes : List ℕ) (items : List Item) (own : Region) → k < leaves_for leaf count
-    → SpellsLeafIn D (slice_index_or b.leaves k bytes) (leaf_size leaf count k) (slice_index_or (own_cells tree) k own) (slice_index_or leaves k items)
+      → SpellsLeafIn D (slice_index_or b.leaves k bytes) (leaf_size leaf count k) (slice_index_or (own_cells tree) k own) (slice_index_or leaves k items)

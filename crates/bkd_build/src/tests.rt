@@ -24,6 +24,7 @@ const FIVE_BODY: [u8; 44] = [
     9, 0x80, 0, 0, 7, 0x80, 0, 0, 7, //
     9, 0x80, 0, 0, 7, 0x80, 0, 0, 7, //
 ];
+
 const FIVE_LEAVES: [&[u8]; 3] = [
     &[0, 2, 0, 0, 3, 0x80, 0, 0, 0, 0, 5, 7],
     &[0, 2, 0, 2, 4, 0x80, 0, 0, 7],
@@ -134,12 +135,7 @@ fn drawn(alloc: Global, count: u32) -> Result<Vec<Entry<2>>, Memory>
 }
 
 /// What is built of the drawn entries.
-fn built<R: Threads + Sync>(
-    rt: &R,
-    alloc: Global,
-    leaf: u16,
-    forks: u8,
-) -> Result<Built<2>, Memory>
+fn built<R: Threads + Sync>(rt: &R, alloc: Global, leaf: u16, forks: u8) -> Result<Built<2>, Memory>
     requires { (2 ≤ leaf) × (leaf ≤ 333) }
 {
     let mut entries = drawn(alloc, DRAWN)?;

@@ -16,7 +16,7 @@ returns-clause-lefts g c = entries-take c.left_count-rank.result c.cut-at.new.en
 pub returns-clause-rights : goal.returns-clause-rights
 returns-clause-rights g c =
     let inside : c.left_count-rank.result < length c.cut-at.new.entries =
-        omega (arith, length_permutation c.args.entries.now c.cut-at.new.entries c.cut-at.ensures.same, c.left_count-rank.ensures.right) in
+    omega (arith, length_permutation c.args.entries.now c.cut-at.new.entries c.cut-at.ensures.same, c.left_count-rank.ensures.right) in
     entries-drop c.left_count-rank.result c.cut-at.new.entries inside (moved g c)
 
 pub returns-clause-split : goal.returns-clause-split

@@ -24,7 +24,7 @@ grow-returns-clause-added g t c =
     let node = c.halve-node.result in
     let both = c.in_ok-grow_halves.ensures.added in
     let split : IsCanonSplit g.row.D c.args.leaf node.dimension node.at (items_of ls) (items_of rs) =
-        rw (c.split_at_mut-left.ensures.front, c.split_at_mut-left.ensures.back) c.halve-node.ensures.split in
+    rw (c.split_at_mut-left.ensures.front, c.split_at_mut-left.ensures.back) c.halve-node.ensures.split in
     node_adds g.row.D c.args.leaf node.dimension node.at (items_of c.args.entries.now) (items_of ls) (items_of rs) (held c.args.part.now) both.middle (held c.grow_halves.new.part)
     (items_joined c.args.entries.now c.halve-node.new.entries ls rs c.halve-node.ensures.same c.split_at_mut-left.ensures.value)
     split

@@ -30,7 +30,7 @@ returns-clause-added g c =
     let was = c.args.self.now in
     let lengths : c.push.new.self.items ≡ was.lengths.items ++ length spelled ∷ [] = cc (c.in_ok-push.ensures.items, ap length c.as_slice.ensures, ap length c.in_ok-bytes.ensures.spelled.is) in
     let cells : map region_of c.push-2.new.self.items ≡ map region_of was.cells.items ++ region_of c.cell_round-cell.result ∷ [] =
-        ap (map region_of) c.in_ok-push-2.ensures.items ∙ map-append (λ (cell : Cell g.row.D). region_of cell) was.cells.items (c.cell_round-cell.result ∷ []) in
+    ap (map region_of) c.in_ok-push-2.ensures.items ∙ map-append (λ (cell : Cell g.row.D). region_of cell) was.cells.items (c.cell_round-cell.result ∷ []) in
     let leaves : c.push-3.new.self.items ≡ was.leaves.items ++ spelled ∷ [] = c.in_ok-push-3.ensures.items ∙ ap (λ (b : List ℕ). was.leaves.items ++ b ∷ []) c.in_ok-bytes.ensures.spelled.is in
     let nodes : was.nodes.items ≡ was.nodes.items ++ [] = sym (append-nil was.nodes.items) in
     leaf_adds g.row.D c.args.leaf (items_of c.args.entries.now) (items_of c.arrange.new.entries) (region_of c.cell_round-cell.result) (held was) _
