@@ -9,4 +9,4 @@ pub use cuts::cut;
 pub use extents::widest;
 
 #[cfg(test)]
-mod tests;
+mod cut_tests;
