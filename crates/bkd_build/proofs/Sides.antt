@@ -1,12 +1,12 @@
 -- The sides of the least cell round items are their extents.
-use Rattle.std.proofs.Common.{◌≡◌, ◌⊎◌, ℕ, zero, suc, ◌+◌, ◌<◌, ◌≤◌, Bool, true, false, List, [], ◌∷◌, map, length, get_or, set, refl, sym, ap, ◌∙◌, subst, arith, inl, inr, ℤ, pos, ◌+ℤ◌, ◌-ℤ◌, ◌≤ℤ◌, ◌<ℤ◌, int_le, unsigned_abs, ◌&&◌}
+use Rattle.std.proofs.Common.{◌≡◌, ◌⊎◌, ℕ, suc, ◌+◌, ◌<◌, ◌≤◌, true, false, List, [], ◌∷◌, map, length, get_or, set, refl, sym, ◌∙◌, subst, arith, inl, inr, ℤ, pos, ◌+ℤ◌, ◌-ℤ◌, ◌≤ℤ◌, int_le, unsigned_abs}
 use Rattle.std.specs.List.{All, Contains}
 use Rattle.std.proofs.lemmas.Bool.{cases_order, and_from, cases_Bool}
 use Rattle.std.proofs.lemmas.Int.{ints}
 use Rattle.std.proofs.lemmas.List.{get_or-set_same, length-set, length-map, get_or-map}
-use Rattle.std.proofs.lemmas.List.Elements.{All-nil, All-cons, All-map, All-weaker, All-get_or}
+use Rattle.std.proofs.lemmas.List.Elements.{All-nil, All-cons, All-map, All-weaker}
 use Rattle.point_codec.specs.Points.{Item, Region, all_le, in_box}
-use Rattle.point_codec.specs.Cells.{IsLeastCell, within, left_of, right_of}
+use Rattle.point_codec.specs.Cells.{IsLeastCell, left_of, right_of}
 use Rattle.point_codec.proofs.Corners.{both_true, all_le_at, left_keeps, right_keeps}
 use Rattle.bkd_build.specs.Extents.{coordinate, IsLeast, IsGreatest, HasExtent, IsWidest, IsWidestSide, width}
 use Rattle.bkd_build.proofs.ExtentLemmas.{coordinate_inside, all_le-length, least_inside, greatest_inside, one_extent}

@@ -1,5 +1,4 @@
-use Rattle.std.proofs.Common.{◌≡◌, ◌<◌, ◌≤◌, ℕ, ◌+◌, ap, sym, ◌∙◌, subst, arith}
-use Rattle.point_codec.specs.Points.{Region}
+use Rattle.std.proofs.Common.{◌≡◌, ◌<◌, ◌≤◌, ℕ, subst, arith}
 use Rattle.point_codec.specs.Seen.{region_of}
 use Rattle.bkd_build.specs.Extents.{IsWidestSide, width}
 use Rattle.bkd_build.proofs.Sides.{first_side, wider_side, same_side}

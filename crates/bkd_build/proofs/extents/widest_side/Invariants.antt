@@ -1,5 +1,5 @@
 -- The first one of the dimensions passed in which the cell is widest.
-use Rattle.std.proofs.Common.{◌≡◌, ◌≤◌}
+use Rattle.std.proofs.Common.{◌≡◌}
 use Rattle.point_codec.specs.Seen.{region_of}
 use Rattle.bkd_build.specs.Extents.{IsWidestSide, width}
 use Rattle.bkd_build.proofs.extents.widest_side.Given as goal
