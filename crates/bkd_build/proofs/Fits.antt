@@ -1,18 +1,17 @@
 -- The cells of a canonical tree: each is one of D dimensions, and within its path cell.
-use Rattle.std.proofs.Common.{◌≡◌, ℕ, zero, suc, ◌+◌, ◌-◌, ◌^◌, ◌<◌, ◌≤◌, Bool, true, false, ◌&&◌, List, [], ◌∷◌, ◌++◌, length, map, get_or, set, replicate, ℤ, pos, negsuc, ◌≤ℤ◌, ◌<ℤ◌, int_le, w32, FitsSigned, Ordering, Less, Equal, Greater, is_gt, refl, sym, ap, ◌∙◌, subst, arith, true≢false}
+use Rattle.std.proofs.Common.{◌≡◌, ℕ, zero, suc, ◌≤◌, true, false, List, [], ◌∷◌, ◌++◌, length, map, get_or, replicate, ℤ, pos, negsuc, ◌≤ℤ◌, int_le, w32, FitsSigned, is_gt, refl, sym, ◌∙◌, subst, arith}
 use Rattle.std.specs.List.{All, Contains}
 use Rattle.std.proofs.lemmas.Int.{ints}
 use Rattle.std.proofs.lemmas.List.{length-set, take_at, drop_at}
-use Rattle.std.proofs.lemmas.List.Elements.{All-nil, All-cons, All-head, All-tail, All-append, All-map, All-contains, All-weaker, All-take, All-drop}
+use Rattle.std.proofs.lemmas.List.Elements.{All-nil, All-cons, All-head, All-tail, All-map, All-contains, All-weaker, All-take, All-drop}
 use Rattle.point_codec.specs.Points.{Item, Region, all_le, in_box}
 use Rattle.point_codec.specs.Cells.{IsLeastCell, within, left_of, right_of}
-use Rattle.point_codec.proofs.Corners.{both_true, all_le_at, in_box-corners, left_keeps, right_keeps}
+use Rattle.point_codec.proofs.Corners.{both_true, in_box-corners, left_keeps, right_keeps}
 use Rattle.leaf_codec.specs.LeafOrder.{leaf_cmp}
 use Rattle.leaf_codec.specs.Leaves.{IsPoint}
 use Rattle.inner_pack.specs.Trees.{IsCell, IsInCell, HasCells}
-use Rattle.bkd_build.specs.Cuts.{ComesBefore}
-use Rattle.bkd_build.specs.Extents.{coordinate, IsLeast}
-use Rattle.bkd_build.specs.Canon.{KdTree, Leaf, Split, entries_of, index_tree_of, IsCanonLeaf, IsCanonSplit, IsCanon}
+use Rattle.bkd_build.specs.Extents.{coordinate}
+use Rattle.bkd_build.specs.Canon.{KdTree, Leaf, Split, entries_of, index_tree_of, IsCanonSplit, IsCanon}
 use Rattle.bkd_build.proofs.ExtentLemmas.{all_le-length, coordinate_le, least_inside}
 use Rattle.bkd_build.proofs.Shapes.{all_points}
 

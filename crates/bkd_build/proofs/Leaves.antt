@@ -1,19 +1,18 @@
 -- The leaves of a canonical tree, one by one.
-use Rattle.std.proofs.Common.{◌≡◌, ℕ, ℤ, zero, suc, ◌+◌, ◌-◌, ◌*◌, ◌/◌, ◌<◌, ◌≤◌, min, true, List, [], ◌∷◌, ◌++◌, length, map, get_or, refl, sym, ap, ◌∙◌, subst, arith, inl, inr, mul-le-mul_right}
-use Rattle.std.specs.List.{All, flat_map}
+use Rattle.std.proofs.Common.{◌≡◌, ℕ, ℤ, zero, suc, ◌+◌, ◌-◌, ◌*◌, ◌/◌, ◌<◌, ◌≤◌, min, true, List, ◌++◌, length, map, get_or, refl, sym, ap, ◌∙◌, subst, arith, inl, inr, mul-le-mul_right}
+use Rattle.std.specs.List.{flat_map}
 use Rattle.std.specs.List.Sorted.{IsPermutation}
 use Rattle.std.proofs.lemmas.Bool.{cases_lt}
 use Rattle.std.proofs.lemmas.List.{length-append, length-map, map-append, append-nil, get_or_append_left, get_or-append_right, get_or-map}
 use Rattle.std.proofs.lemmas.List.Concat.{flat_map-append}
 use Rattle.std.proofs.lemmas.List.Sorted.{IsPermutation-sym, IsPermutation-trans, length_permutation}
 use Rattle.point_codec.specs.Points.{Item, Region, in_box}
-use Rattle.leaf_codec.specs.Leaves.{SpellsLeafIn}
 use Rattle.leaf_codec.specs.Spelling.{spelling}
 use Rattle.inner_pack.specs.Trees.{IndexTree, IsShaped, lengths_of, own_cells}
 use Rattle.inner_pack.specs.Bodies.{Body, HasTree}
-use Rattle.bkd_build.specs.Canon.{KdTree, Leaf, Split, entries_of, leaves_of, index_tree_of, leaves_for, left_count, IsCanonLeaf, IsCanonSplit, IsCanon, BuiltValue, IsBuilt}
-use Rattle.bkd_build.specs.Leaves.{leaf_size, AreLeaves}
-use Rattle.bkd_build.proofs.Counts.{leaves_hold, one_leaf_for, left_leaves, left_fits}
+use Rattle.bkd_build.specs.Canon.{KdTree, Leaf, Split, entries_of, leaves_of, index_tree_of, leaves_for, IsCanonLeaf, IsCanon, BuiltValue, IsBuilt}
+use Rattle.bkd_build.specs.Leaves.{AreLeaves}
+use Rattle.bkd_build.proofs.Counts.{left_leaves}
 use Rattle.bkd_build.proofs.Shapes.{shaped, shaped_count}
 use Rattle.bkd_build.proofs.OneTree.{one_canon, least_cell-IsPermutation}
 use Rattle.bkd_build.proofs.Whole.{unmapped}

@@ -1,10 +1,10 @@
 -- From the entries of a leaf, and from both halves of a node, to the canonical tree.
-use Rattle.std.proofs.Common.{◌≡◌, ℕ, ◌+◌, ◌-◌, ◌*◌, ◌/◌, ◌^◌, ◌<◌, ◌≤◌, Bool, List, [], ◌∷◌, ◌++◌, length, map, take, drop, cond, ℤ, refl, sym, ap, ◌∙◌, subst, arith}
-use Rattle.std.specs.List.{All, sum_by, count_by}
+use Rattle.std.proofs.Common.{◌≡◌, ℕ, ◌+◌, ◌^◌, ◌<◌, ◌≤◌, Bool, List, [], ◌∷◌, ◌++◌, length, map, take, drop, cond, ℤ, sym, ap, ◌∙◌, subst, arith}
+use Rattle.std.specs.List.{count_by}
 use Rattle.std.specs.List.Sorted.{IsPermutation}
-use Rattle.std.proofs.lemmas.List.{length-map, length-append, length-take, length-take-le, length-drop, take-append-drop, take-map, drop-map, map-append, append_assoc}
+use Rattle.std.proofs.lemmas.List.{length-map, length-take, length-take-le, length-drop, take-append-drop, take-map, drop-map, map-append, append_assoc}
 use Rattle.std.proofs.lemmas.List.Elements.{All-take, All-drop}
-use Rattle.std.proofs.lemmas.List.Sorted.{IsPermutation-refl, IsPermutation-trans, IsPermutation-append, IsPermutation-map, All-permutation, length_permutation}
+use Rattle.std.proofs.lemmas.List.Sorted.{IsPermutation-trans, IsPermutation-append, IsPermutation-map, All-permutation, length_permutation}
 use Rattle.std.proofs.lemmas.List.Sums.{sum_by-append}
 use Rattle.point_codec.specs.Points.{Item, Region}
 use Rattle.point_codec.specs.Cells.{IsLeastCell}
@@ -17,11 +17,10 @@ use Rattle.leaf_codec.proofs.OrderLemmas.{NoneTwice-IsPermutation}
 use Rattle.inner_pack.specs.Trees.{Cut, cuts_of, lengths_of, own_cells}
 use Rattle.bkd_build.specs.Cuts.{ComesBefore}
 use Rattle.bkd_build.specs.Extents.{IsLeast, IsWidest}
-use Rattle.bkd_build.specs.Canon.{KdTree, Leaf, Split, entries_of, leaves_of, index_tree_of, left_count, IsCanonLeaf, IsCanonSplit, IsCanon}
+use Rattle.bkd_build.specs.Canon.{KdTree, Leaf, Split, entries_of, leaves_of, index_tree_of, left_count, IsCanonSplit}
 use Rattle.bkd_build.specs.Parts.{AreEntries, Pieces, pieces_of, no_pieces, one_node, joined, Adds}
 use Rattle.bkd_build.proofs.CutLemmas.{before-moved}
 use Rattle.bkd_build.proofs.ExtentLemmas.{IsLeast-IsPermutation, IsWidest-IsPermutation}
-use Rattle.bkd_build.proofs.OneTree.{least_cell-IsPermutation}
 
 -- ---- the entries of the halves
 

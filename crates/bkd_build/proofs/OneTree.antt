@@ -1,5 +1,5 @@
 -- The same entries have one canonical tree.
-use Rattle.std.proofs.Common.{◌≡◌, ℕ, ◌+◌, ◌<◌, ◌≤◌, List, ◌++◌, length, map, ℤ, Option, unwrap_or, refl, sym, ap, ◌∙◌, subst, arith, true}
+use Rattle.std.proofs.Common.{◌≡◌, ℕ, ◌<◌, ◌≤◌, List, ◌++◌, length, map, ℤ, Option, unwrap_or, sym, ap, ◌∙◌, subst, arith, true}
 use Rattle.std.specs.List.Sorted.{IsPermutation, IsStrictlySortedBy}
 use Rattle.std.proofs.lemmas.List.Sorted.{IsPermutation-sym, IsPermutation-trans, length_permutation, All-permutation, IsPermutation-map}
 use Rattle.point_codec.specs.Points.{Item, Region, in_box}

@@ -1,14 +1,14 @@
 -- The shape of a canonical tree follows from the number of its entries.
-use Rattle.std.proofs.Common.{◌≡◌, ℕ, zero, suc, add-one, ◌+◌, ◌-◌, ◌*◌, ◌/◌, ◌<◌, ◌≤◌, ℤ, List, [], ◌∷◌, ◌++◌, length, map, refl, sym, ap, ◌∙◌, subst, arith, mul-le-mul_left}
+use Rattle.std.proofs.Common.{◌≡◌, ℕ, zero, suc, add-one, ◌+◌, ◌-◌, ◌*◌, ◌/◌, ◌<◌, ◌≤◌, ℤ, List, [], ◌++◌, length, sym, ap, ◌∙◌, subst, arith, mul-le-mul_left}
 use Rattle.std.specs.List.{All}
 use Rattle.std.proofs.lemmas.List.{length-append}
 use Rattle.std.proofs.lemmas.List.Elements.{All-nil, All-cons, All-append}
-use Rattle.point_codec.specs.Points.{Item, Region}
+use Rattle.point_codec.specs.Points.{Item}
 use Rattle.leaf_codec.specs.Leaves.{IsPoint}
 use Rattle.leaf_codec.specs.Spelling.{spelling}
 use Rattle.leaf_codec.proofs.Lengths.{length-spelling}
 use Rattle.inner_pack.specs.Trees.{IndexTree, Leaf as IndexLeaf, Split as IndexSplit, IsShaped, lengths_of}
-use Rattle.bkd_build.specs.Canon.{KdTree, Leaf, Split, entries_of, leaves_of, index_tree_of, leaves_for, left_count, IsCanonLeaf, IsCanonSplit, IsCanon}
+use Rattle.bkd_build.specs.Canon.{KdTree, Leaf, Split, entries_of, index_tree_of, leaves_for, left_count, IsCanonSplit, IsCanon}
 use Rattle.bkd_build.proofs.Counts.{leaves_hold, one_leaf_for, two_leaves, left_leaves, right_leaves}
 
 -- a tree of n leaves has n

@@ -1,7 +1,6 @@
 -- From the pieces of a canonical tree to the parts of an index, and to what is built.
-use Rattle.std.proofs.Common.{◌≡◌, ℕ, zero, suc, ◌+◌, ◌-◌, ◌*◌, ◌/◌, ◌<◌, ◌≤◌, true, List, [], ◌∷◌, ◌++◌, length, map, get_or, ℤ, refl, sym, ap, ◌∙◌, subst, arith}
+use Rattle.std.proofs.Common.{◌≡◌, ℕ, ◌≤◌, true, List, [], ◌∷◌, length, map, ℤ, sym, ap, ◌∙◌, subst, arith}
 use Rattle.std.specs.List.{All}
-use Rattle.std.specs.List.Sorted.{IsPermutation}
 use Rattle.std.proofs.lemmas.List.{length-map}
 use Rattle.std.proofs.lemmas.List.Elements.{All-nil, All-cons, All-head, All-tail}
 use Rattle.std.proofs.lemmas.List.Sorted.{IsPermutation-sym, All-permutation, length_permutation}
@@ -11,11 +10,10 @@ use Rattle.point_codec.specs.Seen.{region_of, items_of}
 use Rattle.point_codec.specs.declared.boxes.Cell.{Cell}
 use Rattle.point_codec.specs.declared.entries.Entry.{Entry}
 use Rattle.leaf_codec.specs.Leaves.{IsPoint}
-use Rattle.leaf_codec.specs.Spelling.{spelling}
 use Rattle.inner_pack.specs.Trees.{IndexTree, IsCell, IsShaped, lengths_of}
 use Rattle.inner_pack.specs.Bodies.{Body, HasTree}
-use Rattle.inner_pack.specs.Parts.{ArePartsOf, AreParts}
-use Rattle.bkd_build.specs.Canon.{KdTree, entries_of, leaves_of, index_tree_of, leaves_for, BuiltValue, IsBuilt, IsCanon}
+use Rattle.inner_pack.specs.Parts.{ArePartsOf}
+use Rattle.bkd_build.specs.Canon.{KdTree, entries_of, index_tree_of, leaves_for, IsBuilt}
 use Rattle.bkd_build.specs.Parts.{Adds, Pieces, no_pieces, held}
 use Rattle.bkd_build.specs.declared.parts.Part.{Part}
 use Rattle.bkd_build.proofs.Shapes.{shaped, shaped_count, all_points, all_fit, few_leaves, some_leaves}

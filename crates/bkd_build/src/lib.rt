@@ -22,6 +22,5 @@ pub use laws::{built_leaves, one_build, one_canonical_tree};
 
 #[cfg(test)]
 mod cut_tests;
-
 #[cfg(test)]
 mod tests;

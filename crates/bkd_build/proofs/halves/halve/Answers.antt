@@ -1,4 +1,4 @@
-use Rattle.std.proofs.Common.{rules, ◌≡◌, ◌<◌, ◌≤◌, length, take, drop, ℕ, ℤ, w32, to_z, of_z, arith, sym, subst}
+use Rattle.std.proofs.Common.{rules, ◌≡◌, ◌<◌, length, take, drop, ℕ, ℤ, w32, to_z, of_z, arith, subst}
 use Rattle.std.proofs.lemmas.List.Sorted.{length_permutation}
 use Rattle.point_codec.specs.Seen.{items_of}
 use Rattle.bkd_build.specs.Canon.{IsCanonSplit}

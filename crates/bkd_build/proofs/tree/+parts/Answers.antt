@@ -1,8 +1,6 @@
-use Rattle.std.proofs.Common.{List, ◌++◌, ◌≡◌}
-use Rattle.std.specs.List.Sorted.{IsPermutation}
 use Rattle.point_codec.specs.Seen.{items_of}
 use Rattle.bkd_build.specs.Canon.{IsCanonSplit}
-use Rattle.bkd_build.specs.Parts.{Adds, held, Pieces}
+use Rattle.bkd_build.specs.Parts.{held}
 use Rattle.bkd_build.proofs.Nodes.{items_joined, halves_moved, halves_add}
 use Rattle.bkd_build.proofs.tree.+parts.Goals as goal
 

@@ -1,5 +1,3 @@
-use Rattle.std.proofs.Common.{List, ◌++◌}
-use Rattle.std.specs.List.Sorted.{IsPermutation}
 use Rattle.std.proofs.Common.{subst}
 use Rattle.point_codec.specs.Seen.{items_of}
 use Rattle.bkd_build.specs.Canon.{IsCanonSplit}

@@ -1,19 +1,14 @@
-use Rattle.std.proofs.Common.{rules, ◌≡◌, ◌<◌, ◌≤◌, ◌^◌, length, ℕ, arith, sym, ap, ◌∙◌, List, [], ◌∷◌, ◌++◌, map}
-use Rattle.std.specs.List.{All}
-use Rattle.std.specs.List.Sorted.{IsStrictlySortedBy, IsPermutation}
+use Rattle.std.proofs.Common.{rules, ◌≡◌, ◌≤◌, length, ℕ, arith, sym, ap, ◌∙◌, List, [], ◌∷◌, ◌++◌, map}
+use Rattle.std.specs.List.Sorted.{IsStrictlySortedBy}
 use Rattle.std.proofs.lemmas.List.{append-nil, map-append, length-map}
-use Rattle.point_codec.specs.declared.entries.Entry.{Entry}
 use Rattle.std.proofs.lemmas.List.Sorted.{length_permutation}
-use Rattle.point_codec.specs.Points.{Region}
 use Rattle.point_codec.specs.Seen.{items_of, region_of}
 use Rattle.point_codec.specs.declared.boxes.Cell.{Cell}
 use Rattle.leaf_codec.specs.LeafOrder.{leaf_order}
 use Rattle.leaf_codec.specs.Leaves.{leaf_limit}
 use Rattle.leaf_codec.specs.Spelling.{spelling}
-use Rattle.bkd_build.specs.Canon.{Leaf}
-use Rattle.bkd_build.specs.Parts.{AreEntries, held, joined, pieces_of, Pieces}
+use Rattle.bkd_build.specs.Parts.{AreEntries, held}
 use Rattle.bkd_build.proofs.Nodes.{entries-IsPermutation, items-IsPermutation, leaf_adds}
-use Rattle.bkd_build.proofs.parts.Part.put_leaf.Given.{Over}
 use Rattle.bkd_build.proofs.parts.Part.put_leaf.Goals as goal
 
 pub encode_leaf-requires : goal.encode_leaf-requires
