@@ -8,3 +8,5 @@ pub mod PackTests
 pub mod PackWhole
 pub mod PlaceLemmas
 pub mod SpelledLemmas
+pub mod OneTree
+pub mod Walking

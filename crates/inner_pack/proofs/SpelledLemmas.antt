@@ -68,11 +68,11 @@ one_length n low high k d lt =
     let first : zero ≡ k = omega arith in
     subst (λ (i : ℕ). (1 ≤ slice_index_or (n ∷ []) i d) × (slice_index_or (n ∷ []) i d ≤ 4064)) first (low, high)
 
-leaf_in_table : (s : Spot) (n : ℕ) (own : Region) → places_table s (Leaf n own) ≡ place_bytes (record { at = fitted s n; length = n })
+pub leaf_in_table : (s : Spot) (n : ℕ) (own : Region) → places_table s (Leaf n own) ≡ place_bytes (record { at = fitted s n; length = n })
 unfolding places_table
 leaf_in_table s n own = append-nil (place_bytes (record { at = fitted s n; length = n }))
 
-no_cut : (n : ℕ) (own : Region) → cuts_table (Leaf n own) ≡ []
+pub no_cut : (n : ℕ) (own : Region) → cuts_table (Leaf n own) ≡ []
 unfolding cuts_table
 no_cut n own = refl
 

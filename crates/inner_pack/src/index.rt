@@ -155,6 +155,7 @@ fn checked<const D: usize>(form: u8, leaves: u32, b: &[u8]) -> Option<(Cell<D>, 
     }
     let (front, rest) = cut(b, 8 * D)?;
     let root = cell_of::<D>(front)?;
+    is_cell(&root);
     let pages = checked_tree(form, leaves, &root, rest)?;
     Some((root, pages))
 }
@@ -175,6 +176,7 @@ fn checked_tree<const D: usize>(form: u8, leaves: u32, root: &Cell<D>, b: &[u8])
 
 /// The part of the root in what follows the root cell.
 fn root_part(form: u8, leaves: u32, b: &[u8]) -> Option<Part<'_>>
+    requires form { 1 ≤ form }
     requires leaves { (1 ≤ leaves) × (leaves ≤ 8388608) }
     ensures found { IfSome result (λ part. JoinsRoot form b.now part.bytes.now part.places.now) }
     ensures only { (references : List (List ℕ)) (t : IndexTree) → IsShaped leaves t → b.now ≡ tree_bytes form references t

@@ -8,7 +8,7 @@ ghost use Rattle.inner_pack.specs.Trees.{IndexTree, IsInCell, leaf_count, cell_o
 ghost use Rattle.inner_pack.specs.Spelled.{IsNodeOf, IsSomeNode, IsSomeTree, IsSomeLeaf};
 
 use crate::check::with_key;
-use crate::fields::take_place;
+use crate::fields::{is_cell, take_place};
 use crate::head::{Head, Part, read_head};
 use crate::leaf::{packed_leaf, take_length};
 use crate::place::{LeafPlace, Mark};
@@ -98,9 +98,10 @@ impl<'a, const D: usize> NodeAt<'a, D> {
         requires { 2 ≤ self.now.leaves }
         ensures cell { IsInCell D (region_of self.now.cell) result.dimension result.at }
         ensures room { result.pages ≤ self.now.leaves - self.now.leaves / 2 }
-        ensures says { (path : Region) (t : IndexTree) → IsNodeOf D self.now.form self.now.leaves (spot_at self.now.page self.now.offset) path self.now.references self.now.bytes.now self.now.places.now t
+        ensures says { (path : Region) (t : IndexTree) → region_of self.now.cell ≡ cell_of path t → IsNodeOf D self.now.form self.now.leaves (spot_at self.now.page self.now.offset) path self.now.references self.now.bytes.now self.now.places.now t
             → SaysTree self.now.form self.now.references (spot_at self.now.page self.now.offset) t result }
     {
+        is_cell(&self.cell);
         let part = Part { bytes: self.bytes, places: self.places };
         let Some(head) = read_head(self.form, self.leaves, &self.references, part) else {
             unreachable!()
