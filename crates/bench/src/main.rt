@@ -2,6 +2,7 @@
 #![tactic(auto)]
 
 mod leaves;
+mod partition;
 mod rings;
 
 use byte_cursor::Bytes;
@@ -17,7 +18,8 @@ use std::{env, io};
 /// `rings plain|tree POSITIONS QUERIES` asks points and small cells of a star-shaped ring by the plain list of edges or by
 /// the edge tree, and says how many are in and how many are met;
 /// `leaves COUNT TIMES` reads the leaf of that many entries that the standard input holds, over and over, and says how often it
-/// was one and what the numbers sum up to.
+/// was one and what the numbers sum up to;
+/// `partition draw|tree COUNT ROUNDS` draws so many entries and parts them into leaves so many times, and sums up their order.
 fn main(rt: HostRuntime) -> io::Result<()> {
     let alloc = rt.alloc();
     let mut words = Vec::new(alloc);
@@ -51,7 +53,17 @@ fn main(rt: HostRuntime) -> io::Result<()> {
             let (found, sum) = leaves::read_over(leaf.as_slice(), count, times);
             println!(rt; "leaves {found} sum {sum}")
         }
-        _ => println!(rt; "csv A B | rings plain|tree POSITIONS QUERIES | leaves COUNT TIMES"),
+        [command, kind, count, rounds] if command.as_str() == "partition" => {
+            let count = number(count.as_bytes()).unwrap_or(1000).min(16_777_215);
+            let rounds = number(rounds.as_bytes()).unwrap_or(1);
+            match partition::parted(alloc, kind.as_str() == "tree", count, rounds) {
+                Ok(sum) => println!(rt; "order {sum}"),
+                Err(_) => println!(rt; "no memory"),
+            }
+        }
+        _ => println!(rt;
+            "csv A B | rings plain|tree POSITIONS QUERIES | leaves COUNT TIMES | partition draw|tree COUNT ROUNDS"
+        ),
     }
 }
 
