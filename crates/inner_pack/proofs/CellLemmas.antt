@@ -1,7 +1,7 @@
 -- Cells and keys in bytes.
-use Rattle.std.proofs.Common.{◌≡◌, ℕ, ℤ, pos, negsuc, zero, suc, ◌+◌, ◌-◌, ◌*◌, ◌^◌, ◌≤◌, ◌<◌, List, [], ◌∷◌, ◌++◌, length, get_or, take, drop, set, All, FitsSigned, refl, sym, ap, subst, ◌∙◌, arith, add-one, length-append, append_assoc, append-nil, take_at, drop_at, take-add, take-suc-set, Option, Some, None, MatchOption, IsSomeAnd, IfSome}
+use Rattle.std.proofs.Common.{◌≡◌, ℕ, ℤ, pos, negsuc, ◌+◌, ◌*◌, ◌^◌, ◌≤◌, ◌<◌, List, [], ◌∷◌, ◌++◌, length, get_or, take, drop, set, All, FitsSigned, refl, sym, ap, ◌∙◌, arith, add-one, length-append, append_assoc, append-nil, take_at, drop_at, take-add, take-suc-set, Option, Some, None, MatchOption, IsSomeAnd, IfSome}
 use Rattle.std.specs.List.{flat_map}
-use Rattle.std.specs.Int.{w32, to_be_bytes}
+use Rattle.std.specs.Int.{w32}
 use Rattle.std.proofs.lemmas.List.Elements.{All-head, All-tail}
 use Rattle.std.proofs.lemmas.List.{drop_more}
 use Rattle.std.proofs.lemmas.List.Concat.{flat_map-append}

@@ -1,5 +1,5 @@
 -- What an inner node says of itself.
-use Rattle.std.proofs.Common.{◌≡◌, ℕ, ℤ, pos, negsuc, zero, suc, ◌+◌, ◌-◌, ◌*◌, ◌/◌, ◌^◌, ◌≤◌, ◌<◌, ◌≤ℤ◌, List, [], ◌∷◌, ◌++◌, length, map, take, drop, set, All, FitsSigned, refl, sym, ap, subst, ◌∙◌, arith, take_at, drop_at, to_z, of_z, to_z-of_z, cond, eqb, ltb, lt-ltb, le-ltb, eq-eqb, ne_eqb, inl, inr, ◌%◌, length-append, length-drop, append_assoc, slice_set, slice_index_or}
+use Rattle.std.proofs.Common.{◌≡◌, ℕ, ℤ, pos, zero, suc, ◌+◌, ◌-◌, ◌*◌, ◌/◌, ◌^◌, ◌≤◌, ◌<◌, ◌≤ℤ◌, List, [], ◌∷◌, ◌++◌, length, take, drop, FitsSigned, refl, sym, ap, ◌∙◌, arith, take_at, drop_at, to_z, of_z, to_z-of_z, cond, eqb, ltb, lt-ltb, le-ltb, eq-eqb, ne_eqb, inl, inr, ◌%◌, length-append, length-drop, slice_set, slice_index_or}
 use Rattle.std.specs.Int.{w32}
 use Rattle.std.specs.List.{flat_map}
 use Rattle.std.proofs.lemmas.Bool.{cases_lt, cases_eq, cond-true, cond-false}
@@ -7,15 +7,15 @@ use Rattle.std.proofs.lemmas.Int.{ints}
 use Rattle.std.proofs.lemmas.List.Elements.{All-same, All-take, All-drop}
 use Rattle.point_codec.specs.Points.{Region}
 use Rattle.point_codec.specs.Keys.{key}
-use Rattle.point_codec.specs.Cells.{within, left_of, right_of}
+use Rattle.point_codec.specs.Cells.{left_of, right_of}
 use Rattle.byte_cursor.specs.Vint.{vint, vint_groups}
 use Rattle.inner_pack.specs.Places.{Spot, Placed, placed, behind}
-use Rattle.inner_pack.specs.Trees.{IndexTree, Leaf, Split, IsShaped, IsCell, IsInCell, HasCells, leaf_count, lengths_of}
+use Rattle.inner_pack.specs.Trees.{IndexTree, Leaf, Split, IsCell, IsInCell, HasCells, leaf_count, lengths_of}
 use Rattle.inner_pack.specs.Bodies.{cuts_table, places_table, place_bytes, cell_bytes, shared, node_bytes, first_length, right_begin}
 use Rattle.inner_pack.specs.Spelled.{spelled_part, told_part, IsNodeOf}
 use Rattle.inner_pack.specs.Heads.{SaysSplit}
 use Rattle.inner_pack.specs.declared.head.Head.{Head}
-use Rattle.inner_pack.proofs.PlaceLemmas.{AreLengths, rest_lengths, first_fits, right_fits, right_from, right_to, places_first, places_split, count_shaped}
+use Rattle.inner_pack.proofs.PlaceLemmas.{AreLengths, rest_lengths, right_fits, right_from, right_to, places_first, places_split, count_shaped}
 use Rattle.inner_pack.proofs.SpelledLemmas.{spelled_one, told_one, spelled_packed, told_packed, cuts_split, cuts_long, places_long, fields, leaf_bytes_is, with_children_is}
 use Rattle.inner_pack.proofs.CellLemmas.{length-cell}
 use Rattle.inner_pack.proofs.KeyLemmas.{shared-le}

@@ -1,7 +1,7 @@
 -- No bytes spell two trees of one number of leaves.
-use Rattle.std.proofs.Common.{◌≡◌, ℕ, ℤ, pos, zero, suc, ◌+◌, ◌-◌, ◌*◌, ◌/◌, ◌%◌, ◌^◌, ◌≤◌, ◌<◌, List, [], ◌∷◌, ◌++◌, length, map, take, drop, All, FitsSigned, refl, sym, ap, subst, ◌∙◌, arith, get_or, take-append-drop, cond, eqb, inl, inr, append_assoc, append-nil, length-drop, length-set, length-append, slice_set, slice_index_or, eq-eqb, ne_eqb}
-use Rattle.std.specs.Int.{w32, w16, to_be_bytes}
-use Rattle.std.proofs.lemmas.Bool.{cases_eq, cases_lt, cond-true, cond-false}
+use Rattle.std.proofs.Common.{◌≡◌, ℕ, ℤ, pos, ◌+◌, ◌-◌, ◌*◌, ◌/◌, ◌^◌, ◌≤◌, ◌<◌, List, [], ◌++◌, length, map, take, drop, FitsSigned, refl, sym, ap, subst, ◌∙◌, arith, get_or, take-append-drop, cond, eqb, inl, inr, length-drop, length-set, slice_set, slice_index_or, eq-eqb}
+use Rattle.std.specs.Int.{w32, w16}
+use Rattle.std.proofs.lemmas.Bool.{cases_eq, cond-true}
 use Rattle.std.proofs.lemmas.List.Elements.{All-set}
 use Rattle.byte_cursor.specs.Vint.{vint}
 use Rattle.byte_cursor.proofs.SpelledVints.{vint_front}
@@ -9,17 +9,16 @@ use Rattle.byte_cursor.proofs.Numbers.{spelling_unique}
 use Rattle.point_codec.specs.Points.{Region}
 use Rattle.point_codec.specs.Keys.{key}
 use Rattle.point_codec.specs.Cells.{left_of, right_of}
-use Rattle.inner_pack.specs.Places.{Spot, Placed, fitted, front}
-use Rattle.inner_pack.specs.Trees.{IndexTree, Leaf, Split, IsShaped, IsCell, IsInCell, HasCells, IsTree, lengths_of, leaf_count}
-use Rattle.inner_pack.specs.Bodies.{SpellsIndex, cuts_table, places_table, place_bytes, node_bytes, cell_bytes, body_bytes, shared, first_length, right_begin}
+use Rattle.inner_pack.specs.Places.{Spot, fitted, front}
+use Rattle.inner_pack.specs.Trees.{IndexTree, Leaf, Split, IsShaped, IsCell, IsInCell}
+use Rattle.inner_pack.specs.Bodies.{SpellsIndex, cuts_table, places_table, place_bytes, node_bytes, cell_bytes, shared, right_begin}
 use Rattle.inner_pack.specs.Spelled.{spelled_part, told_part, tree_bytes, IsNodeOf, IsTreeIn}
-use Rattle.inner_pack.specs.Heads.{IsTableLeaf, IsPackedLeaf}
-use Rattle.inner_pack.proofs.PlaceLemmas.{AreLengths, first_fits, right_fits, fitted_fits, fitted_again}
+use Rattle.inner_pack.proofs.PlaceLemmas.{first_fits, right_fits}
 use Rattle.inner_pack.proofs.CellLemmas.{split_same, key_front, key_one, cell_one, cell_front, Fit}
-use Rattle.inner_pack.proofs.KeyLemmas.{shared-le, shared_take, key_again}
-use Rattle.inner_pack.proofs.SpelledLemmas.{spelled_one, told_one, spelled_packed, told_packed, tree_one, tree_packed, body_is, leaf_bytes_is, leaf_in_table, no_cut, to_packed_leaf, cuts_split, cuts_long, places_long, fields}
+use Rattle.inner_pack.proofs.KeyLemmas.{shared_take, key_again}
+use Rattle.inner_pack.proofs.SpelledLemmas.{spelled_one, told_one, spelled_packed, told_packed, tree_one, tree_packed, body_is, leaf_bytes_is, leaf_in_table, to_packed_leaf, cuts_long, fields}
 use Rattle.inner_pack.proofs.NodeLemmas.{said_otherwise}
-use Rattle.inner_pack.proofs.HeadLemmas.{TableNode, PackedNode, table_node, packed_node, key_long, between_fits, left_lengths, right_lengths}
+use Rattle.inner_pack.proofs.HeadLemmas.{TableNode, table_node, packed_node, key_long, between_fits, left_lengths, right_lengths}
 
 -- a cell with so many dimensions, whatever the order of its ends
 pub record IsWide (D : ℕ) (r : Region) : Type 0 where

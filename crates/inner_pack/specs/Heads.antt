@@ -1,5 +1,5 @@
 -- What an inner node and a leaf say of themselves, and what a check of a node finds.
-use Rattle.std.specs.Prelude.{ℕ, ◌+◌, ◌-◌, ◌≤◌, ◌<◌, ◌≡◌, if◌then◌else◌, ◌==◌, true, List, [], All, ℤ, slice_set}
+use Rattle.std.specs.Prelude.{ℕ, ◌-◌, ◌≤◌, ◌<◌, ◌≡◌, if◌then◌else◌, ◌==◌, true, List, [], All, ℤ, slice_set}
 use Rattle.point_codec.specs.Points.{Region}
 use Rattle.point_codec.specs.Keys.{key}
 use Rattle.point_codec.specs.Cells.{within}

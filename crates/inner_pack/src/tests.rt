@@ -6,16 +6,16 @@ use std::process::Abort;
 use std::test::Fail;
 
 /// Three leaves of one dimension, of 12, 9 and 9 bytes, over the cell from 5 to 7, split at 7 twice, in each form.
-const TABLE: [u8; 42] = [
+pub const TABLE: [u8; 42] = [
     0x80, 0, 0, 5, 0x80, 0, 0, 7, 0, 0x80, 0, 0, 7, 0, 0x80, 0, 0, 7, 0, 0, 0, 0, 0, 0, 0, 12, 0,
     0, 0, 0, 0, 12, 0, 9, 0, 0, 0, 0, 0, 21, 0, 9,
 ];
 
-const PACKED: [u8; 20] = [
+pub const PACKED: [u8; 20] = [
     0x80, 0, 0, 5, 0x80, 0, 0, 7, 3, 7, 0, 21, 6, 4, 0, 12, 1, 12, 9, 9,
 ];
 
-const OWN: [u8; 44] = [
+pub const OWN: [u8; 44] = [
     0x80, 0, 0, 5, 0x80, 0, 0, 7, 3, 7, 0, 21, 22, 4, 0, 12, 9, 12, 0x80, 0, 0, 5, 0x80, 0, 0, 7,
     9, 0x80, 0, 0, 7, 0x80, 0, 0, 7, 9, 0x80, 0, 0, 7, 0x80, 0, 0, 7,
 ];

@@ -1,12 +1,10 @@
-use Rattle.std.proofs.Common.{◌≡◌, ◌≤◌, ◌<◌, ◌+◌, ◌-◌, ◌/◌, ◌∙◌, ℕ, ℤ, List, refl, sym, ap, subst, arith, true≢false, slice_set, rules, to_z, of_z, to_z-of_z, FitsSigned, w32}
-use Rattle.point_codec.specs.Points.{Region}
+use Rattle.std.proofs.Common.{◌≡◌, ◌≤◌, ◌-◌, ◌/◌, ◌∙◌, ℕ, ℤ, refl, sym, ap, subst, arith, true≢false, slice_set, rules, to_z, of_z, to_z-of_z, FitsSigned, w32}
 use Rattle.point_codec.specs.Keys.{key}
 use Rattle.point_codec.specs.Cells.{left_of, right_of}
 use Rattle.point_codec.specs.Seen.{region_of}
-use Rattle.inner_pack.specs.Places.{Spot, fitted, end_of}
-use Rattle.inner_pack.specs.Trees.{Split, IsInCell, lengths_of}
+use Rattle.inner_pack.specs.Places.{Spot, fitted}
+use Rattle.inner_pack.specs.Trees.{Split, IsInCell}
 use Rattle.inner_pack.specs.Bodies.{first_length, right_begin}
-use Rattle.inner_pack.specs.Spelled.{spelled_part, told_part}
 use Rattle.inner_pack.specs.Heads.{spot_of, SaysSplit}
 use Rattle.inner_pack.proofs.PlaceLemmas.{fitted_to}
 use Rattle.inner_pack.proofs.HeadLemmas.{left_lengths, in_cell_fits}

@@ -1,6 +1,5 @@
-use Rattle.std.proofs.Common.{◌≡◌, ◌∙◌, ◌++◌, ℕ, ℤ, List, sym, ap, arith, length, false, true, true≢false, take-append-drop, ◌*◌}
-use Rattle.point_codec.specs.Points.{Region, all_le}
-use Rattle.point_codec.specs.Seen.{region_of}
+use Rattle.std.proofs.Common.{◌∙◌, ◌++◌, sym, ap, length, true≢false, take-append-drop, ◌*◌}
+use Rattle.point_codec.specs.Points.{all_le}
 use Rattle.inner_pack.specs.Bodies.{cell_bytes}
 use Rattle.inner_pack.proofs.CellLemmas.{cell_read, cell_joined, length-cell, some_and, some_if}
 use Rattle.inner_pack.proofs.fields.cell_of.Goals as goal

@@ -1,4 +1,4 @@
-use Rattle.std.proofs.Common.{rules, ℕ, ℤ, List, [], ◌∷◌, sym, subst, pos}
+use Rattle.std.proofs.Common.{rules, [], ◌∷◌, sym, subst, pos}
 use Rattle.point_codec.specs.Points.{Region}
 use Rattle.inner_pack.specs.Parts.{AreParts}
 use Rattle.inner_pack.proofs.PackTests.{three_parts}

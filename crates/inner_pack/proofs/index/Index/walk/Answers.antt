@@ -1,11 +1,11 @@
-use Rattle.std.proofs.Common.{◌≡◌, ◌≤◌, ◌*◌, ◌+◌, ◌∙◌, ℕ, ℤ, List, [], length, map, drop, sym, refl, ap, subst, arith, rules}
+use Rattle.std.proofs.Common.{◌≡◌, ◌*◌, ◌∙◌, [], length, map, drop, sym, ap, subst, arith, rules}
 use Rattle.std.proofs.Props.{props}
 use Rattle.std.proofs.Math.Logic.{∥∥₁_elim, ∥∥₁_prop}
 use Rattle.std.proofs.lemmas.Grind.{merely, not_there}
 use Rattle.point_codec.specs.Points.{Region}
 use Rattle.point_codec.specs.Keys.{key}
 use Rattle.point_codec.specs.Seen.{region_of}
-use Rattle.inner_pack.specs.Places.{Spot, front}
+use Rattle.inner_pack.specs.Places.{front}
 use Rattle.inner_pack.specs.Bodies.{Body, HasTree, SpellsIndex}
 use Rattle.inner_pack.specs.Nodes.{IsAt}
 use Rattle.inner_pack.specs.Spelled.{IsSomeTree}

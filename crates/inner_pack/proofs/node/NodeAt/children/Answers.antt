@@ -1,13 +1,12 @@
-use Rattle.std.proofs.Common.{◌≡◌, ◌≤◌, ◌+◌, ◌-◌, ◌/◌, ◌∙◌, ℕ, ℤ, sym, refl, ap, subst, arith, rules, to_z, of_z, to_z-of_z, FitsSigned, w32}
+use Rattle.std.proofs.Common.{◌≡◌, ◌+◌, ◌-◌, ◌/◌, ◌∙◌, sym, ap, rules, to_z, of_z, to_z-of_z, FitsSigned, w32}
 use Rattle.std.proofs.Math.Logic.{∥∥₁_elim, ∥∥₁_prop}
 use Rattle.std.proofs.lemmas.Grind.{merely}
-use Rattle.point_codec.specs.Points.{Region}
 use Rattle.point_codec.specs.Cells.{left_of, right_of}
 use Rattle.point_codec.specs.Seen.{region_of}
-use Rattle.inner_pack.specs.Places.{Spot, spot_at}
-use Rattle.inner_pack.specs.Trees.{IndexTree, cell_of, leaf_count}
+use Rattle.inner_pack.specs.Places.{spot_at}
+use Rattle.inner_pack.specs.Trees.{cell_of, leaf_count}
 use Rattle.inner_pack.specs.Bodies.{right_begin}
-use Rattle.inner_pack.specs.Spelled.{IsNodeOf, IsSomeTree}
+use Rattle.inner_pack.specs.Spelled.{IsSomeTree}
 use Rattle.inner_pack.proofs.PlaceLemmas.{count_shaped}
 use Rattle.inner_pack.proofs.Walking.{as_inner, begins_at, left_child, right_child, right_spot, at_otherwise}
 use Rattle.inner_pack.proofs.node.NodeAt.children.Goals as goal

@@ -1,6 +1,6 @@
-use Rattle.std.proofs.Common.{◌≡◌, ◌∙◌, ℕ, sym, ap, subst, arith}
+use Rattle.std.proofs.Common.{◌≡◌, ◌∙◌, sym, ap, subst, arith}
 use Rattle.inner_pack.specs.Places.{Spot, spot_at}
-use Rattle.inner_pack.specs.Trees.{IndexTree, Leaf}
+use Rattle.inner_pack.specs.Trees.{Leaf}
 use Rattle.inner_pack.specs.Bodies.{first_length}
 use Rattle.inner_pack.specs.Spelled.{IsNodeOf}
 use Rattle.inner_pack.proofs.Walking.{leaf_node}
