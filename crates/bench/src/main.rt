@@ -1,6 +1,7 @@
 //! What the scripts in `bench/` time: a part of the index and the plain form of it on the same work, with a printed answer.
 #![tactic(auto)]
 
+mod builds;
 mod leaves;
 mod partition;
 mod rings;
@@ -19,6 +20,8 @@ use std::{env, io};
 /// the edge tree, and says how many are in and how many are met;
 /// `leaves COUNT TIMES` reads the leaf of that many entries that the standard input holds, over and over, and says how often it
 /// was one and what the numbers sum up to;
+/// `build FORKS COUNT ROUNDS` draws so many entries and builds their tree so many times, the upper levels by two threads each, and
+/// sums up its bytes;
 /// `partition draw|tree COUNT ROUNDS` draws so many entries and parts them into leaves so many times, and sums up their order.
 fn main(rt: HostRuntime) -> io::Result<()> {
     let alloc = rt.alloc();
@@ -53,6 +56,17 @@ fn main(rt: HostRuntime) -> io::Result<()> {
             let (found, sum) = leaves::read_over(leaf.as_slice(), count, times);
             println!(rt; "leaves {found} sum {sum}")
         }
+        [command, forks, count, rounds] if command.as_str() == "build" => {
+            let forks = number(forks.as_bytes()).unwrap_or(0).min(6) as u8;
+            let count = number(count.as_bytes())
+                .unwrap_or(1000)
+                .clamp(1, 16_777_216);
+            let rounds = number(rounds.as_bytes()).unwrap_or(1);
+            match builds::built(&rt, alloc, count, forks, rounds) {
+                Ok(sum) => println!(rt; "bytes {sum}"),
+                Err(_) => println!(rt; "no memory"),
+            }
+        }
         [command, kind, count, rounds] if command.as_str() == "partition" => {
             let count = number(count.as_bytes()).unwrap_or(1000).min(16_777_215);
             let rounds = number(rounds.as_bytes()).unwrap_or(1);
@@ -62,7 +76,7 @@ fn main(rt: HostRuntime) -> io::Result<()> {
             }
         }
         _ => println!(rt;
-            "csv A B | rings plain|tree POSITIONS QUERIES | leaves COUNT TIMES | partition draw|tree COUNT ROUNDS"
+            "csv A B | rings plain|tree POSITIONS QUERIES | leaves COUNT TIMES | build FORKS COUNT ROUNDS | partition draw|tree COUNT ROUNDS"
         ),
     }
 }
