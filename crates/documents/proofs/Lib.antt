@@ -1,2 +1,10 @@
 pub mod Scans
 pub mod Ranking
+pub mod Lists
+pub mod InOrder
+pub mod Totals
+pub mod Members
+pub mod Kept
+pub mod OneList
+pub mod HitNumbers
+pub mod NearestDocs
