@@ -8,3 +8,4 @@ pub mod Kept
 pub mod OneList
 pub mod HitNumbers
 pub mod NearestDocs
+pub mod Making

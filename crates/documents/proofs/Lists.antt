@@ -1,9 +1,9 @@
 -- Members of lists, and lists that ascend.
-use Rattle.std.proofs.Common.{◌≡◌, ℕ, ◌+◌, ◌≤◌, zero, suc, Bool, true, false, ◌&&◌, cond, List, [], ◌∷◌, length, map, take, refl, sym, ap, subst, ◌∙◌, ◌⊎◌, inl, inr, ⊎_elim, arith}
-use Rattle.std.specs.List.{AllPairs, Contains, filter, flat_map}
+use Rattle.std.proofs.Common.{◌++◌, ◌≡◌, ℕ, ◌+◌, ◌≤◌, zero, suc, Bool, true, false, ◌&&◌, cond, List, [], ◌∷◌, length, map, take, refl, sym, ap, subst, ◌∙◌, ◌⊎◌, inl, inr, ⊎_elim, arith}
+use Rattle.std.specs.List.{All, AllPairs, Contains, filter, flat_map}
 use Rattle.std.proofs.lemmas.List.{take_all}
 use Rattle.std.proofs.lemmas.List.Kept.{AllPairs-cons}
-use Rattle.std.proofs.lemmas.List.Elements.{All-contains_itself, All-map, All-weaker, Contains-append_left, Contains-append_right, Contains-append_cases}
+use Rattle.std.proofs.lemmas.List.Elements.{All-append, All-contains_itself, All-map, All-weaker, Contains-append_left, Contains-append_right, Contains-append_cases}
 
 -- ---- members
 
@@ -98,6 +98,19 @@ pairs_tail R x xs up i j d h k = up (suc i) (suc j) d (omega arith) (omega arith
 
 pub pairs_head : {X : Type 0} (R : X → X → Type 0) (x : X) (xs : List X) → AllPairs R (x ∷ xs) → (y : X) → Contains xs y → R x y
 pairs_head R x xs up y (k, h, e) = subst (λ z. R x z) e (up zero (suc k) y (omega arith) (omega arith))
+
+pub pairs_after : {X : Type 0} (R : X → X → Type 0) (x : X) (xs : List X) → AllPairs R (x ∷ xs) → All (R x) xs
+pairs_after R x xs up k d h = up zero (suc k) d (omega arith) (omega arith)
+
+pub pairs_none : {X : Type 0} (R : X → X → Type 0) → AllPairs R []
+pairs_none R i j d h k = absurd (omega arith)
+
+pub pairs_append : {X : Type 0} (R : X → X → Type 0) (xs ys : List X) → AllPairs R xs → AllPairs R ys → ((x y : X) → Contains xs x → Contains ys y → R x y) → AllPairs R (xs ++ ys)
+pairs_append R [] ys up vp apart = vp
+pairs_append {X} R (x ∷ xs) ys up vp apart =
+    AllPairs-cons R x (xs ++ ys)
+    (All-append (R x) xs ys (pairs_after R x xs up) (All-weaker (λ (y : X). Contains ys y) (R x) (λ y h. apart x y (cons_head x xs) h) ys (All-contains_itself ys)))
+    (pairs_append R xs ys (pairs_tail R x xs up) vp (λ y z h k. apart y z (cons_tail x xs y h) k))
 
 -- what f reads of them is in order
 pub pairs_map : {X Y : Type 0} (R : Y → Y → Type 0) (f : X → Y) (xs : List X) → AllPairs (λ a b. R (f a) (f b)) xs → AllPairs R (map f xs)

@@ -1,6 +1,6 @@
 -- The numbers nearest among the entries are the nearest documents.
 use Rattle.std.proofs.Common.{◌≡◌, ℕ, ◌<◌, ◌≤◌, List, [], ◌∷◌, length, map, fold, min, refl, sym, ap, subst, ◌∙◌, ◌⊎◌, inl, inr, ⊎_elim, arith, Less, ℤ}
-use Rattle.std.specs.List.{Contains}
+use Rattle.std.specs.List.{All, Contains}
 use Rattle.std.specs.Ordering.{nat_cmp, ordering_then}
 use Rattle.std.specs.Cmp.{tied_itself}
 use Rattle.std.proofs.lemmas.Bool.{cases_lt}
@@ -74,6 +74,12 @@ never_nearer : (a : ℕ × ℕ) → Nearer a a → ⊥
 never_nearer a h = let tied = tied_itself nearer_total a in cc
 
 module _ (n k : ℕ) (xs : List Item) (docs : List Document) (at : List ℤ) (found : List Near) (are : AreDocs n xs docs) (is : IsNearest k (nears_of at xs) found) where
+  abbrev far_of : Document → ℕ × ℕ
+  far_of d = (distance at d.points, d.number)
+
+  same_pair : (a : Near) (d : Document) → d.number ≡ a.doc → distance at d.points ≡ a.dist2 → far_of d ≡ pair_of a
+  same_pair a d e f = λ i. (f i, e i)
+
   -- the entry of a document that is nearest
   nearest_entry : (d : Document) → Contains docs d → (x : Item) × Contains (nears_of at xs) (near_of at x) × (x.doc ≡ d.number) × (dist2 x.at at ≡ distance at d.points)
   nearest_entry d h =
@@ -96,31 +102,37 @@ module _ (n k : ℕ) (xs : List Item) (docs : List Document) (at : List ℤ) (fo
       (doc.0, doc.1, number, omega (arith, over, far, under, near))
 
   sub : (p : ℕ × ℕ) → Contains (found_of found) p → Contains (in_order nearer (distances at docs)) p
-  sub p h =
-      let a = of_map pair_of found p h in
-      let doc = found_doc a.0 a.1 in
-      let same : (distance at doc.0.points, doc.0.number) ≡ p = (λ i. (doc.3 i, doc.2 i)) ∙ a.2 in
-      in_order_has nearer nearer_total nearer_exact (distances at docs) p
-      (subst (λ q. Contains (distances at docs) q) same (in_map (λ (d : Document). (distance at d.points, d.number)) docs doc.0 doc.1))
+  sub p h = let a = of_map pair_of found p h in let doc = found_doc a.0 a.1 in with_doc a.0 doc.0 doc.1 (same_pair a.0 doc.0 doc.2 doc.3) a.2
+    where
+      with_doc : (a : Near) (d : Document) → Contains docs d → far_of d ≡ pair_of a → pair_of a ≡ p → Contains (in_order nearer (distances at docs)) p
+      with_doc a d k e f =
+          in_order_has nearer nearer_total nearer_exact (distances at docs) p (subst (λ q. Contains (distances at docs) q) (e ∙ f) (in_map far_of docs d k))
 
-  left : (p : ℕ × ℕ) → Contains (in_order nearer (distances at docs)) p → Contains (found_of found) p ⊎ ((length (found_of found) ≡ k) × ((b : ℕ × ℕ) → Contains (found_of found) b → Nearer b p))
+  -- it is found, or comes after k found ones
+  abbrev FoundOrAfter : ℕ × ℕ → Type 0
+  FoundOrAfter p = Contains (found_of found) p ⊎ ((length (found_of found) ≡ k) × ((b : ℕ × ℕ) → Contains (found_of found) b → Nearer b p))
+
+  found_or_after : (d : Document) (x : Item) → Contains docs d → Contains (nears_of at xs) (near_of at x) → x.doc ≡ d.number → far_of d ≡ pair_of (near_of at x)
+      → FoundOrAfter (far_of d)
+  found_or_after d x h near number far = ⊎_elim
+      (λ m. let other = found_doc m.0 m.1 in inl (this m.0 other.0 m.1 other.1 (other.2 ∙ m.2 ∙ number) (same_pair m.0 other.0 other.2 other.3)))
+      (λ out. inr (length-map found pair_of ∙ out.0, λ b m. let a = of_map pair_of found b m in after a.0 b out.1 a.1 a.2))
+      (is.left_out (near_of at x) near)
+    where
+      this : (a : Near) (e : Document) → Contains found a → Contains docs e → e.number ≡ d.number → far_of e ≡ pair_of a → Contains (found_of found) (far_of d)
+      this a e m l same is_it =
+          subst (λ (q : ℕ × ℕ). Contains (found_of found) q) (sym is_it ∙ ap far_of (one_number docs e d are.ascend l h same)) (in_map pair_of found a m)
+
+      after : (a : Near) (b : ℕ × ℕ) → All (λ c. ComesBefore c (near_of at x)) found → Contains found a → pair_of a ≡ b → Nearer b (far_of d)
+      after a b all m e =
+          let less : Nearer (pair_of a) (pair_of (near_of at x)) = nearer_from a (near_of at x) (All-contains (λ (c : Near). ComesBefore c (near_of at x)) found a all m) in
+          subst (λ (q : ℕ × ℕ). Nearer q (far_of d)) e (subst (λ (q : ℕ × ℕ). Nearer (pair_of a) q) (sym far) less)
+
+  left : (p : ℕ × ℕ) → Contains (in_order nearer (distances at docs)) p → FoundOrAfter p
   left p h =
-      let doc = of_map (λ (d : Document). (distance at d.points, d.number)) docs p (in_order_of nearer nearer_total nearer_exact (distances at docs) p h) in
+      let doc = of_map far_of docs p (in_order_of nearer nearer_total nearer_exact (distances at docs) p h) in
       let x = nearest_entry doc.0 doc.1 in
-      let same : pair_of (near_of at x.0) ≡ p = (λ i. (x.3 i, x.2 i)) ∙ doc.2 in
-      ⊎_elim
-      (λ m.
-      let other = found_doc m.0 m.1 in
-      let one : other.0 ≡ doc.0 = one_number docs other.0 doc.0 are.ascend other.1 doc.1 (other.2 ∙ m.2 ∙ x.2) in
-      let it : pair_of m.0 ≡ p = sym (λ i. (other.3 i, other.2 i)) ∙ ap (λ (d : Document). (distance at d.points, d.number)) one ∙ doc.2 in
-      inl (subst (λ q. Contains (found_of found) q) it (in_map pair_of found m.0 m.1)))
-      (λ out. inr (
-        length-map found pair_of ∙ out.0,
-        λ b m.
-            let a = of_map pair_of found b m in
-            subst (λ q. Nearer q p) a.2 (subst (λ q. Nearer (pair_of a.0) q) same (nearer_from a.0 (near_of at x.0) (All-contains (λ (c : Near). ComesBefore c (near_of at x.0)) found a.0 out.1 a.1))),
-      ))
-      (is.left_out (near_of at x.0) x.1)
+      subst FoundOrAfter doc.2 (found_or_after doc.0 x.0 doc.1 x.1 x.2 (same_pair (near_of at x.0) doc.0 (sym x.2) (sym x.3)))
 
   pub nearest_are : found_of found ≡ nearest k at docs
   nearest_are =

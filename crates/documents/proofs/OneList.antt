@@ -15,10 +15,10 @@ use Rattle.documents.specs.Entries.{AreDocs, entry_of}
 use Rattle.documents.proofs.Lists.{same_members}
 use Rattle.documents.proofs.Members.{doc_of, has_entry_in, own_entry, some_point}
 
-abbrev Ahead : List ℤ → List ℤ → Type 0
+abbrev pub Ahead : List ℤ → List ℤ → Type 0
 Ahead p q = slice_cmp int_cmp p q ≡ Less
 
-never_ahead : (p : List ℤ) → Ahead p p → ⊥
+pub never_ahead : (p : List ℤ) → Ahead p p → ⊥
 never_ahead p h = let tied = tied_itself points_total p in cc
 
 -- points that ascend and have the same members are one

@@ -17,18 +17,18 @@ use Rattle.documents.proofs.Lists.{cons_head, cons_tail}
 
 -- ---- whether two entries are one
 
-abbrev item_cmp : Item → Item → Ordering
+abbrev pub item_cmp : Item → Item → Ordering
 item_cmp x y = ordering_then (nat_cmp x.doc y.doc) (slice_cmp int_cmp x.at y.at)
 
-item_total : IsTotalOrder item_cmp
+pub item_total : IsTotalOrder item_cmp
 item_total = then_total (on_total (λ (x : Item). x.doc) nat_cmp_total) (on_total (λ (x : Item). x.at) points_total)
 
-item_exact : (x y : Item) → item_cmp x y ≡ Equal → x ≡ y
+pub item_exact : (x y : Item) → item_cmp x y ≡ Equal → x ≡ y
 item_exact x y h =
     let same : (x.doc, x.at) ≡ (y.doc, y.at) = exact_pairs nat_cmp (slice_cmp int_cmp) exact_unsigned points_exact (x.doc, x.at) (y.doc, y.at) h in
     λ i. record { doc = (same i).0; at = (same i).1 }
 
-abbrev is_item : Item → Item → Bool
+abbrev pub is_item : Item → Item → Bool
 is_item = eq_by_cmp item_cmp
 
 -- ---- both directions
@@ -71,7 +71,7 @@ permuted (x ∷ xs) ys same =
 
 -- ---- filters
 
-sum_by-filter : {X : Type 0} (f : X → ℕ) (p : X → Bool) (xs : List X) → sum_by f (filter p xs) ≡ sum_by (λ x. cond (p x) (f x) 0) xs
+pub sum_by-filter : {X : Type 0} (f : X → ℕ) (p : X → Bool) (xs : List X) → sum_by f (filter p xs) ≡ sum_by (λ x. cond (p x) (f x) 0) xs
 sum_by-filter f p [] = refl
 sum_by-filter f p (x ∷ xs) = by (p x) (sum_by-filter f p xs) ∙ sym (sum_by-cons (λ y. cond (p y) (f y) 0) x xs)
   where

@@ -1,6 +1,6 @@
 -- Documents as entries: an index keeps of a document its number with each of its points, in whatever order.
-use Rattle.std.specs.Prelude.{ℕ, ◌≡◌, ◌<◌, Bool, not, nat_eq, List, map, filter, All, ℤ}
-use Rattle.std.specs.List.{list_any, flat_map, sum_by}
+use Rattle.std.specs.Prelude.{ℕ, ◌≡◌, ◌≢◌, ◌<◌, ◌≤◌, Bool, not, nat_eq, List, map, filter, All, AllPairs, ℤ}
+use Rattle.std.specs.List.{list_any, flat_map, sum_by, count_by}
 use Rattle.std.specs.List.Sorted.{IsPermutation}
 use Rattle.point_codec.specs.Points.{Item, ArePoints}
 use Rattle.documents.specs.Documents.{Document, Ascend}
@@ -24,6 +24,13 @@ pub record AreDocs (next : ℕ) (entries : List Item) (docs : List Document) : T
   pub below : All (λ d. d.number < next) docs
   pub points : All (λ d. ArePoints d.points) docs
   pub same : IsPermutation entries (entries_in docs)
+
+-- What makes entries those of documents (`docs_exist`): numbers below next, of each number at most 16 entries, and no entry
+-- twice.
+pub record MakeDocs (next : ℕ) (entries : List Item) : Type 0 where
+  pub below : All (λ x. x.doc < next) entries
+  pub few : (number : ℕ) → count_by (λ x. nat_eq x.doc number) entries ≤ 16
+  pub once : AllPairs (λ x y. x ≢ y) entries
 
 -- Any sum over the one list is that over the other: what a permutation comes to, in the form that proofs reckon with
 -- (`permutations_by_totals`).

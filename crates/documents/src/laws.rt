@@ -5,7 +5,7 @@ ghost use Rattle.std.specs.List.Sorted.{IsPermutation, IsStrictlyIncreasing};
 ghost use Rattle.point_codec.specs.Points.{Item, ArePoints};
 ghost use Rattle.point_codec.specs.declared.entries.Near.{Near};
 ghost use Rattle.documents.specs.Documents.{Document, deleted, hits, is_live, without};
-ghost use Rattle.documents.specs.Entries.{AreDocs, SameTotals, entries_but, entries_of, has_entry, is_among, numbers_found};
+ghost use Rattle.documents.specs.Entries.{AreDocs, MakeDocs, SameTotals, entries_but, entries_of, has_entry, is_among, numbers_found};
 ghost use Rattle.documents.specs.Nearest.{found_of, nearest};
 ghost use Rattle.documents.specs.NearestEntries.{IsNearest, nears_of};
 
@@ -20,6 +20,12 @@ pub fn docs_in_any_order()
     ensures order { (n : ℕ) (xs ys : List Item) (docs : List Document) → AreDocs n xs docs → IsPermutation xs ys → AreDocs n ys docs }
     ensures later { (m n : ℕ) (xs : List Item) (docs : List Document) → AreDocs m xs docs → m ≤ n → AreDocs n xs docs }
     ensures none { (n : ℕ) → AreDocs n [] [] }
+{}
+
+/// Entries are those of documents exactly where their numbers are below the next, a number has at most 16 of them, and none
+/// stands twice.
+pub fn docs_exist()
+    ensures { (n : ℕ) (xs : List Item) → MakeDocs n xs ↔ ((docs : List Document) × AreDocs n xs docs) }
 {}
 
 /// Lists are permutations of each other exactly where any sum over both is one.
