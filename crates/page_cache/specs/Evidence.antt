@@ -9,12 +9,16 @@ use Rattle.page_cache.specs.declared.faults.Damage.TheVariants.{Page, Leaf, Body
 use Rattle.page_cache.specs.declared.faults.PageFault.{PageFault}
 use Rattle.page_cache.specs.declared.faults.PageFault.TheVariants.{Failed, Damaged, Memory}
 
+-- P holds of the damage, where the fault is one
+abbrev pub FaultShows : (Damage → Type 0) → PageFault → Type 0
+FaultShows P Failed = Unit {0}
+FaultShows P (Damaged d) = P d
+FaultShows P Memory = Unit {0}
+
 -- P holds of the damage, where the call answers one
 abbrev pub OnDamage : {T : Type 0} → Result T PageFault → (Damage → Type 0) → Type 0
 OnDamage (Ok _) P = Unit {0}
-OnDamage (Err Failed) P = Unit {0}
-OnDamage (Err (Damaged d)) P = P d
-OnDamage (Err Memory) P = Unit {0}
+OnDamage (Err fault) P = FaultShows P fault
 
 -- the call answers no damage
 abbrev pub NotDamaged : {T : Type 0} → Result T PageFault → Type 0

@@ -23,7 +23,7 @@ pub use first_page::FirstPage;
 pub use laws::{
     agreement_is_of_kept_files, bodies_of_one_length_are_equal, pages_that_agree, payloads_join,
 };
-pub use read::{MAX_PAGES, read_payloads};
+pub use read::read_payloads;
 
 #[cfg(test)]
 mod tests;
