@@ -1,2 +1,6 @@
 pub mod Options
 pub mod Leaves
+pub mod Lists
+pub mod FieldBytes
+pub mod LiveLemmas
+pub mod Unique
