@@ -3,4 +3,5 @@ pub mod Leaves
 pub mod Lists
 pub mod FieldBytes
 pub mod LiveLemmas
+pub mod LiveReads
 pub mod Unique
