@@ -13,6 +13,7 @@ use Rattle.page_file.specs.Page.{payload_of}
 use Rattle.page_cache.specs.declared.first_page.FirstPage.{FirstPage}
 use Rattle.page_cache.specs.FirstPages.{first_name, first_payload, first_size, IsFirstPage}
 use Rattle.page_cache.proofs.PageRuns.{payloads_join, payloads_of_one}
+use Rattle.segment_file.proofs.FirstPayloads.{first_payload_is, first_size_is, first_payloads}
 use Rattle.page_cache.specs.declared.faults.Damage.{Damage}
 use Rattle.page_cache.specs.declared.faults.Damage.TheVariants.{Page, Leaf, Body, Missing, Size, Unequal, Beyond, Doubled}
 use Rattle.segment_file.specs.LiveFiles.{IsLiveFile, IsSetOf}
@@ -81,23 +82,6 @@ live_file segment generation bytes payloads s len h long size pages same =
         payload = ap (λ (n : ℕ). payloads_of bytes 0 n) (sym k) ∙ sym same ∙ h.payloads_are;
       };
     }
-
--- ---- the first page
-
-pub first_payload_is : (files : Files) (p : FirstPage) (name : FileName) → first_name p ≡ name → IsFirstPage files p → first_payload p ≡ payload_of (page_at (bytes_of (files name)) 0)
-first_payload_is files p name same first = subst (λ (n : FileName). first_payload p ≡ payload_of (page_at (bytes_of (files n)) 0)) same first.payload
-
-pub first_size_is : (files : Files) (p : FirstPage) (name : FileName) → first_name p ≡ name → IsFirstPage files p → first_size p ≡ length (bytes_of (files name))
-first_size_is files p name same first = subst (λ (n : FileName). first_size p ≡ length (bytes_of (files n))) same first.size
-
--- the payload of the first page is that of the first pages of the file, one page
-pub first_payloads : (files : Files) (p : FirstPage) (name : FileName) → first_name p ≡ name → IsFirstPage files p → ArePayloadsOf files name (first_payload p)
-first_payloads files p name same first = record {
-  count = 1;
-  some = omega arith;
-  pages = subst (λ (n : FileName). ArePages n (bytes_of (files n)) 0 1) same (λ n from below. let zero_is : 0 ≡ n = omega arith in subst (λ (k : ℕ). IsFilePage (first_name p) (bytes_of (files (first_name p))) k) zero_is first.page);
-  same = first_payload_is files p name same first ∙ sym (payloads_of_one (bytes_of (files name)) 0);
-}
 
 -- what the file of a set says of its first page
 pub record FirstOf (segment generation : ℕ) (bytes : List ℕ) (live : LiveSet) : Type 0 where

@@ -7,12 +7,12 @@
 //! Beside a segment stands the file of its live bits, one for each generation.
 #![tactic(auto)]
 
-mod blank;
 mod head;
 mod laws;
 mod leaf;
 mod live;
 mod open;
+mod payloads;
 mod read;
 mod write;
 

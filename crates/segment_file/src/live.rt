@@ -13,7 +13,7 @@ ghost use Rattle.segment_file.specs.LiveFiles.{IsLiveFile, IsSetOf};
 ghost use Rattle.segment_file.specs.Kept.{OnFault};
 ghost use Rattle.segment_file.specs.Damages.{BeginsNoSet, IsBodyDamage, IsLiveDamage, IsLiveDamageOf};
 
-use crate::blank::is_blank;
+use crate::payloads::{all_payloads, is_blank};
 use byte_cursor::{Bytes, Memory};
 use live_bits::{BitsFault, LiveBits, body_len};
 use outer_io::{FileName, Folder, Pages};
@@ -79,7 +79,7 @@ pub fn read_live<F: Pages>(
     let len = said_len(alloc, id, generation, first.payload())?;
     let pages = pages_for(len);
     first.check_size(pages)?;
-    let joined = first.joined(alloc, folder, pages)?;
+    let joined = all_payloads(alloc, folder, &name, &first, pages)?;
     set_of(alloc, id, generation, joined, len)
 }
 
