@@ -10,7 +10,8 @@ use Rattle.page_cache.specs.Bodies.{pages_for, filled}
 use Rattle.segment_file.specs.Heads.{Head, Fields, HasRanges, fields_of, fields_bytes, leaves_for, index_pages, page_of, count_of}
 use Rattle.segment_file.specs.Segments.{part_of, SpellsHead, IsHeadOf, HoldsLeaf, HoldsTree, IsSegment}
 use Rattle.segment_file.proofs.Lists.{bodies_equal}
-use Rattle.segment_file.proofs.FieldBytes.{AreNarrow, AreSame, narrow_fields, fields_unique}
+use Rattle.segment_file.specs.FieldsSeen.{AreNarrow}
+use Rattle.segment_file.proofs.FieldBytes.{AreSame, narrow_fields, fields_unique}
 
 -- ---- the head
 

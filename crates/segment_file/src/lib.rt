@@ -7,6 +7,7 @@
 //! Beside a segment stands the file of its live bits, one for each generation.
 #![tactic(auto)]
 
+mod fields;
 mod head;
 mod laws;
 mod leaf;
