@@ -6,3 +6,4 @@ pub mod LiveLemmas
 pub mod FirstPayloads
 pub mod LiveReads
 pub mod Unique
+pub mod HeadReads
