@@ -7,3 +7,5 @@ pub mod FirstPayloads
 pub mod LiveReads
 pub mod Unique
 pub mod HeadReads
+pub mod Subtrees
+pub mod Entries
