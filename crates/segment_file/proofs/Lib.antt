@@ -11,3 +11,4 @@ pub mod Subtrees
 pub mod Entries
 pub mod Paged
 pub mod Laid
+pub mod LaidTree
