@@ -94,6 +94,8 @@ impl PageCache {
         requires { IsKept self.now id number }
         ensures place { (result.kind ≡ 1) × (result.file ≡ id) × (result.number ≡ number) }
         ensures bytes { Keeps self.now id number result.bytes.now.b }
+        // No other page is kept for that place.
+        ensures only { (bytes : List ℕ) → Keeps self.now id number bytes → bytes ≡ result.bytes.now.b }
         ensures file { (files : Files) → Agrees files self.now → IsPageOf files (Segment id) number result.bytes.now.b }
     {
         let page = bytes_of(&self.pages, PageKey { id, number });

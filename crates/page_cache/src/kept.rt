@@ -1,6 +1,6 @@
 //! The kept pages by themselves: a list of pages by their keys, the last used first.
 
-ghost use Rattle.std.specs.Prelude.{◌≡◌, ◌-◌, ◌++◌, ◌∷◌, [], cond, take, filter, Contains, IfSome, IfNone, OnOk, OnErr};
+ghost use Rattle.std.specs.Prelude.{◌≡◌, ◌≤◌, ◌<◌, ◌-◌, ◌++◌, ◌∷◌, [], cond, ℕ, List, length, map, take, filter, Contains, IsTrue, IfSome, IfNone, IfOk, OnOk, OnErr};
 ghost use Rattle.std.specs.Bool.{OnTrue, OnFalse};
 ghost use Rattle.std.specs.Map.{keys_of};
 ghost use Rattle.std.specs.declared.boxed.Box.{Box};
@@ -45,8 +45,11 @@ pub(crate) fn keep(pages: &mut KeptPages, key: PageKey, page: Box<PageBytes>) ->
 /// The bytes of a kept page.
 pub(crate) fn bytes_of(pages: &KeptPages, key: PageKey) -> &PageBytes
     requires { HasKey pages.now.entries key }
-    ensures { KeepsIn pages.now.entries key result.now.b }
+    ensures kept { KeepsIn pages.now.entries key result.now.b }
+    ensures only { (bytes : List ℕ) → KeepsIn pages.now.entries key bytes → bytes ≡ result.now.b }
 {
+    // it says that no key stands twice
+    let _kept = pages.len();
     match pages.peek(&key) {
         Some(page) => page,
         None => unreachable!(),

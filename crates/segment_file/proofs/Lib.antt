@@ -1,0 +1,14 @@
+pub mod Options
+pub mod Leaves
+pub mod Lists
+pub mod FieldBytes
+pub mod LiveLemmas
+pub mod FirstPayloads
+pub mod LiveReads
+pub mod Unique
+pub mod HeadReads
+pub mod Subtrees
+pub mod Entries
+pub mod Paged
+pub mod Laid
+pub mod LaidTree

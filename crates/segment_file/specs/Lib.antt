@@ -1,0 +1,9 @@
+pub mod Heads
+pub mod Segments
+pub mod Written
+pub mod LiveFiles
+pub mod Damages
+pub mod Kept
+pub mod FieldsSeen
+pub mod Gathers
+pub mod Pieced
