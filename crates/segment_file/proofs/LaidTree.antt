@@ -112,6 +112,14 @@ page_payload : (name : FileName) (bytes : List ℕ) (page : ℕ) → IsFilePage 
 unfolding IsFilePage
 page_payload name bytes page valid = payload_of-length (kind_of name) (number_of name) page (page_at bytes page) valid
 
+pub payloads_long : (name : FileName) (bytes : List ℕ) (from count : ℕ) → ArePages name bytes from (from + count) → length (payloads_of bytes from count) ≡ 4064 * count
+unfolding payloads_of IsFilePage
+payloads_long name bytes from zero pages = refl
+payloads_long name bytes from (suc count) pages =
+    let before = payloads_long name bytes from count (λ n low high. pages n low (omega arith)) in
+    let page = payload_of-length (kind_of name) (number_of name) (from + count) (page_at bytes (from + count)) (pages (from + count) (omega arith) (omega arith)) in
+    omega (arith, before, page, length-append (payloads_of bytes from count) (payload_of (page_at bytes (from + count))))
+
 pub record StandsIn (name : FileName) (bytes : List ℕ) (page offset : ℕ) (leaf : List ℕ) : Type 0 where
   pub valid : IsFilePage name bytes page
   pub part : part_of offset (length leaf) (page_at bytes page) ≡ leaf
