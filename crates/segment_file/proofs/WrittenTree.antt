@@ -1,6 +1,6 @@
 -- The file that is written is that of its segment.
 use Rattle.std.proofs.Common.{◌≡◌, ◌≤◌, ◌<◌, ◌^◌, ◌+◌, ◌-◌, ◌*◌, ◌/◌, ℕ, List, [], ◌∷◌, ◌++◌, length, refl, sym, ap, subst, ◌∙◌, arith, append_assoc, length-append, map, All}
-use Rattle.std.proofs.lemmas.List.{map-append}
+use Rattle.std.proofs.lemmas.List.{map-append, length-map}
 use Rattle.std.proofs.lemmas.List.Elements.{All-cons}
 use Rattle.outer_io.specs.declared.file_name.FileName.TheVariants.{Segment}
 use Rattle.point_codec.specs.Points.{Item, Region}
@@ -145,3 +145,26 @@ written D id leaf entries index leaves items bytes count f fits ranges fields na
       has = fits.has;
       holds = subst (λ (s : Spot). HoldsTree D bytes head 0 s t items) (fitted_here front (first_length t) (omega arith)) (tree_held D bytes (pre ++ laid [] leaves) head count 0 front t leaves items p lengths fits.spells laid_is.all);
     }
+
+-- ---- what is asked of the leaves
+
+short_ones : (leaves : List (List ℕ)) → AreLengths (map length leaves) → All (λ b. length b ≤ 4064) leaves
+short_ones [] h = λ k d lt. absurd (omega arith)
+short_ones (x ∷ xs) h =
+    let n = head_length (length x) (map length xs) h in
+    All-cons (λ (b : List ℕ). length b ≤ 4064) x xs n.1 (short_ones xs (tail_lengths (length x) (map length xs) h))
+
+pub short_leaves : (D id leaf entries : ℕ) (index : Body) (leaves : List (List ℕ)) (items : List Item) → FitsSegment D id leaf entries index leaves items → All (λ b. length b ≤ 4064) leaves
+short_leaves D id leaf entries index leaves items fits =
+    let has = fits.has in
+    let tree = has.tree in
+    short_ones leaves (subst AreLengths (sym (spelled_lengths D (head_of id entries leaf index) 0 fits.tree leaves items fits.spells)) tree.lengths)
+
+pub few_leaves : (D id leaf entries : ℕ) (index : Body) (leaves : List (List ℕ)) (items : List Item) → FitsSegment D id leaf entries index leaves items → length leaves ≤ 8388608
+few_leaves D id leaf entries index leaves items fits =
+    let has = fits.has in
+    let tree = has.tree in
+    let few = tree.few in
+    let same = spelled_lengths D (head_of id entries leaf index) 0 fits.tree leaves items fits.spells in
+    let count = count_shaped index.leaves fits.tree tree.shaped in
+    omega (arith, ap (λ (ns : List ℕ). length ns) same, length-map leaves (λ (b : List ℕ). length b), length-lengths_of fits.tree, count, few)
