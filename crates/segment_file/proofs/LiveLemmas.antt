@@ -14,7 +14,7 @@ use Rattle.segment_file.specs.LiveFiles.{IsLiveFile}
 use Rattle.segment_file.proofs.Lists.{bodies_equal}
 
 -- the body's length is that of its span
-body_length : (segment generation : ℕ) (s : LiveSet) (body : List ℕ) → IsLiveBody segment generation s body → length body ≡ 36 + (s.span + 7) / 8
+pub body_length : (segment generation : ℕ) (s : LiveSet) (body : List ℕ) → IsLiveBody segment generation s body → length body ≡ 36 + (s.span + 7) / 8
 body_length segment generation s body h =
     let len = h.are_bits.len in
     let front = head-length segment generation s.base s.span (length s.live) in

@@ -92,6 +92,17 @@ IsHeadDamageOf D files (Leaf file number offset len bytes) = ⊥
 IsHeadDamageOf D files (Beyond doc next) = ⊥
 IsHeadDamageOf D files (Doubled doc) = ⊥
 
+-- the damage is that these payloads of the file are out of its grammar
+abbrev pub IsBodyDamage : FileName → List ℕ → Damage → Type 0
+IsBodyDamage name payloads (Body file bytes) = (file ≡ name) × (bytes ≡ payloads)
+IsBodyDamage name payloads (Page file number bytes) = ⊥
+IsBodyDamage name payloads (Leaf file number offset len bytes) = ⊥
+IsBodyDamage name payloads (Missing file) = ⊥
+IsBodyDamage name payloads (Size file size needed) = ⊥
+IsBodyDamage name payloads (Unequal file said found) = ⊥
+IsBodyDamage name payloads (Beyond doc next) = ⊥
+IsBodyDamage name payloads (Doubled doc) = ⊥
+
 -- ---- live bits
 
 -- no set's body begins with these payloads

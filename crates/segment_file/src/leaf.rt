@@ -20,7 +20,7 @@ use crate::head::SegmentHead;
 use inner_pack::{LeafPlace, NodeAt};
 use leaf_codec::LeafView;
 use outer_io::{FileName, Pages};
-use page_cache::{Damage, PageCache, PageFault, one_page_kept};
+use page_cache::{Damage, PageCache, PageFault};
 use std::alloc::Global;
 
 /// Sees to it that the page is kept in which a leaf of the head's index stands, and answers the leaf's place.
@@ -75,7 +75,6 @@ pub fn leaf_in<'a, const D: usize>(
         → (items : List Item) → HoldsLeaf D (bytes_of (files (Segment head.now.id))) head.now first s len own items → ⊥) }
     ensures bad { IfNone result (SpellsNoLeaf cache.now head.now node.now place) }
 {
-    one_page_kept();
     let page = cache.view(head.id(), head.page_of(place));
     let part = part_of(page.payload(), place);
     LeafView::read(part, &node.cell(), head.count_of(node.first_leaf()))

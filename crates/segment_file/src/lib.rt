@@ -12,6 +12,7 @@ mod laws;
 mod leaf;
 mod live;
 mod open;
+mod payloads;
 mod read;
 mod write;
 

@@ -54,7 +54,7 @@ unfolding SpellsNoLeaf
 returns-clause-bad g c =
     none_weaker c.read.result _ _
     (λ h first s path len own at bytes items kept spells.
-    let viewed : Keeps c.args.cache.now c.args.head.now.id (page_of c.args.head.now c.args.place.page) c.view-page.result.bytes.now.b = rw (← c.id.ensures, ← c.page_of.ensures) c.view-page.ensures.bytes in
-    let same : c.view-page.result.bytes.now.b ≡ bytes = c.one_page_kept.ensures c.args.cache.now c.args.head.now.id (page_of c.args.head.now c.args.place.page) c.view-page.result.bytes.now.b bytes viewed kept in
+    let here : Keeps c.args.cache.now c.id.result c.page_of.result bytes = rw (c.id.ensures, c.page_of.ensures) kept in
+    let same : c.view-page.result.bytes.now.b ≡ bytes = sym (c.view-page.ensures.only bytes here) in
     h items (rw (part g c, same, count g c first s path len own at, c.cell.ensures first s path (Leaf len own) at) spells))
     c.read.ensures.none
