@@ -42,3 +42,7 @@ pub record Appends (old new : List ℕ) (P : List ℕ → Type 0) : Type 0 where
   pub out : List ℕ
   pub grew : new ≡ old ++ out
   pub holds : P out
+
+-- what was there still stands in front
+abbrev pub Begins : (old new : List ℕ) → Type 0
+Begins old new = (rest : List ℕ) × (new ≡ old ++ rest)

@@ -4,8 +4,9 @@
 //! (Apache Lucene's `IntersectVisitor`). How often the shape is asked and how many pages are read is bounded by the index alone.
 #![tactic(auto)]
 
-mod survey;
+mod costs;
+mod leaves;
 mod walk;
 
-pub use survey::{Tally, survey};
+pub use costs::{Tally, survey};
 pub use walk::intersect;
