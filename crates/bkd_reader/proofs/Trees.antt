@@ -2,14 +2,14 @@
 use Rattle.std.proofs.Common.{◌≡◌, ℕ, zero, suc, ◌+◌, ◌-◌, ◌/◌, ◌≤◌, ◌⊎◌, inl, inr, ⊎_elim, Bool, true, false, cond, ◌&&◌, List, [], ◌∷◌, ◌++◌, map, filter, ℤ, Result, Ok, Err, refl, sym, ap, subst, ◌∙◌, arith}
 use Rattle.std.proofs.lemmas.List.{append_assoc}
 use Rattle.std.proofs.lemmas.List.Elements.{All-head, All-tail}
-use Rattle.std.specs.Prelude.{OnOk}
+use Rattle.std.specs.Prelude.{OnOk, IsErrAnd}
 use Rattle.std.specs.List.{All}
 use Rattle.outer_io.specs.declared.file_name.FileName.TheVariants.{Segment}
 use Rattle.point_codec.specs.Points.{Item, Region, in_box}
 use Rattle.leaf_codec.proofs.ReadLeaf.{one_leaf}
 use Rattle.live_bits.specs.LiveSet.{LiveSet, is_live}
 use Rattle.cell_relate.specs.Relations.{AllAnswer}
-use Rattle.inner_pack.specs.Places.{Spot}
+use Rattle.inner_pack.specs.Places.{Spot, front}
 use Rattle.inner_pack.specs.Trees.{IndexTree, Leaf, Split, IsShaped, HasCells, cell_of, leaf_count}
 use Rattle.inner_pack.specs.Bodies.{Body, HasTree, right_begin}
 use Rattle.inner_pack.specs.Nodes.{IsAt, AreChildren, IsPlaceOf}
@@ -20,10 +20,10 @@ use Rattle.page_cache.specs.FilePages.{IsFilePage}
 use Rattle.page_cache.specs.declared.faults.Damage.{Damage}
 use Rattle.page_cache.specs.declared.faults.Damage.TheVariants as damage
 use Rattle.page_cache.specs.declared.faults.PageFault.{PageFault}
-use Rattle.page_cache.specs.Evidence.{OnDamage}
+use Rattle.page_cache.specs.Evidence.{OnDamage, FaultShows}
 use Rattle.page_cache.proofs.Damages.{on_damage_weaker}
 use Rattle.segment_file.specs.Heads.{Head, page_of}
-use Rattle.segment_file.specs.Segments.{HoldsLeaf, HoldsTree}
+use Rattle.segment_file.specs.Segments.{HoldsLeaf, HoldsTree, SegmentParts, IsSegment}
 use Rattle.segment_file.specs.Damages.{IsLeafDamage}
 use Rattle.bkd_reader.specs.Below.{IsRoot}
 use Rattle.bkd_reader.specs.Counts.{tested}
@@ -144,6 +144,15 @@ damage_right D head first s d x l r (damage.Unequal file said found) h = h
 damage_right D head first s d x l r (damage.Beyond doc next) h = h
 damage_right D head first s d x l r (damage.Doubled doc) h = h
 
+-- a fault that is handed on shows what it showed
+pub handed_on : {T : Type 0} (r : Result T PageFault) (f : PageFault) (P : Damage → Type 0) → IsErrAnd r (λ e. e ≡ f) → FaultShows P f → OnDamage r P
+handed_on (Ok x) f P h k = tt
+handed_on (Err e) f P h k = subst (FaultShows P) (sym h) k
+
+pub on_ok : {T E : Type 0} (P Q : Type 0) (r : Result T E) → (P → Q) → OnOk r P → OnOk r Q
+on_ok P Q (Ok x) f h = f h
+on_ok P Q (Err e) f h = h
+
 -- ---- the same by the children that a node gives
 
 pub left_damage : {T : Type 0} {D : ℕ} (res : Result T PageFault) (head : Head) (left right : NodeAt D) (first : ℕ) (s : Spot) (path : Region) (t : IndexTree) (k : AreChildren left right first s path t)
@@ -211,3 +220,28 @@ tested_hits bytes head has live node place first s path (Split d x l r) items ol
 pub tested_leaf : (crosses : Region → Bool) (count : ℕ → ℕ) (place : LeafPlace) (first : ℕ) (s : Spot) (path : Region) (t : IndexTree) → IsPlaceOf place s t → crosses (cell_of path t) ≡ true → tested crosses count first t ≡ count first
 tested_leaf crosses count place first s path (Leaf len own) at e = rw e refl
 tested_leaf crosses count place first s path (Split d x l r) at e = let f = at.is in cc
+
+pub children_hits : {D : ℕ} (bytes : List ℕ) (head : Head) (has : List ℤ → Bool) (live : LiveSet) (left right : NodeAt D) (first : ℕ) (s : Spot) (path : Region) (t : IndexTree) (k : AreChildren left right first s path t) (old mid new : List ℕ)
+    → Appends old mid (AreHits D bytes head has live first s k.l) → Appends mid new (AreHits D bytes head has live (first + leaf_count k.l) (right_begin s k.l k.r) k.r)
+    → Appends old new (AreHits D bytes head has live first s t)
+children_hits {D} bytes head has live left right first s path t k old mid new a b =
+    subst (λ u. Appends old new (AreHits D bytes head has live first s u)) (sym k.is)
+    (joins_hits (AreHits D bytes head has live first s k.l) (AreHits D bytes head has live (first + leaf_count k.l) (right_begin s k.l k.r) k.r) old mid new a b)
+
+-- what the shape answers on all of a node's cell, it answers on those of both children
+pub children_all : {D : ℕ} (has : List ℤ → Bool) (b : Bool) (left right : NodeAt D) (first : ℕ) (s : Spot) (path : Region) (t : IndexTree) (k : AreChildren left right first s path t) → HasCells D path t → AllAnswer has b (cell_of path t)
+    → AllAnswer has b (cell_of (left_of path k.dimension k.value) k.l) × AllAnswer has b (cell_of (right_of path k.dimension k.value) k.r)
+children_all {D} has b left right first s path t k cells all =
+    let c : HasCells D path (Split k.dimension k.value k.l k.r) = subst (λ u. HasCells D path u) k.is cells in
+    let a : AllAnswer has b path = subst (λ u. AllAnswer has b (cell_of path u)) k.is all in
+    (all_cell D has b (left_of path k.dimension k.value) k.l c.1 (all_left D has b path k.dimension k.value k.l k.r c a),
+    all_cell D has b (right_of path k.dimension k.value) k.r c.2 (all_right D has b path k.dimension k.value k.l k.r c a))
+
+-- ---- the whole segment
+
+pub root_of : {D : ℕ} (node : NodeAt D) (index : Body) (root : Region) (t : IndexTree) → HasTree D index root t → IsAt node 0 front root t → IsRoot node 0 front root t
+root_of node index root t h is = record { is = is; cells = h.tree.cells }
+
+pub parts_of : (D : ℕ) (bytes : List ℕ) (head : Head) (items : List Item) → IsSegment D bytes head items → SegmentParts D bytes head items
+unfolding IsSegment
+parts_of D bytes head items h = h

@@ -93,7 +93,7 @@ fn visit<const D: usize, S: Shape<D>, F: Pages>(
         → OnOk result (Appends hits.old.items hits.new.items (AreHits D (bytes_of (F.files folder.old (Segment head.now.id))) head.now (S.has shape.old) live.now first s t)) }
     ensures tests { (first : ℕ) (s : Spot) (path : Region) (t : IndexTree) → IsRoot node.now first s path t
         → S.tests shape.new ≤ S.tests shape.old + tested (S.crosses shape.old) (count_of head.now) first t }
-    ensures compares { S.compares shape.new + 1 ≤ S.compares shape.old + 2 * node.now.leaves }
+    ensures compares { (first : ℕ) (s : Spot) (path : Region) (t : IndexTree) → IsAt node.now first s path t → S.compares shape.new + 1 ≤ S.compares shape.old + 2 * leaf_count t }
     ensures reads { (first : ℕ) (s : Spot) (path : Region) (t : IndexTree) → IsRoot node.now first s path t
         → F.reads folder.new ≤ F.reads folder.old + touched (S.has shape.old) (S.crosses shape.old) t }
     ensures has { S.has shape.new ≡ S.has shape.old }
