@@ -6,3 +6,6 @@ pub mod LiveLemmas
 pub mod FirstPayloads
 pub mod LiveReads
 pub mod Unique
+pub mod HeadReads
+pub mod Subtrees
+pub mod Entries

@@ -1,5 +1,5 @@
 -- What a damage of a segment's file or of a file of live bits shows: by what it carries alone, and of the files where those are told.
-use Rattle.std.specs.Prelude.{◌≡◌, ◌≢◌, ℕ, ◌+◌, ◌<◌, ◌⊎◌, List, ◌++◌, None, slice_index}
+use Rattle.std.specs.Prelude.{◌≡◌, ◌≢◌, ℕ, ◌+◌, ◌^◌, ◌<◌, ◌⊎◌, List, ◌++◌, None, slice_index}
 use Rattle.outer_io.specs.declared.file_name.FileName.{FileName}
 use Rattle.outer_io.specs.declared.file_name.FileName.TheVariants.{Segment, Live}
 use Rattle.outer_io.specs.Files.{Files, bytes_of}
@@ -59,7 +59,7 @@ IsLeafDamageOf files (Doubled doc) = ⊥
 
 -- no head and index of any number of dimensions begins with these payloads
 abbrev pub BeginsNoHead : List ℕ → Type 0
-BeginsNoHead payloads = (dims said : ℕ) (head : Head) (rest : List ℕ) → IsHead dims head
+BeginsNoHead payloads = (dims said : ℕ) (head : Head) (rest : List ℕ) → said < 2 ^ 32 → IsHead dims head
     → payloads ++ rest ≡ filled (fields_bytes (fields_of dims head said)) ++ filled head.index.bytes → ⊥
 
 -- two numbers of a segment's file that must agree: the dimensions that are wanted and the file's, or the leaf pages that the head says and those
@@ -102,6 +102,17 @@ IsBodyDamage name payloads (Size file size needed) = ⊥
 IsBodyDamage name payloads (Unequal file said found) = ⊥
 IsBodyDamage name payloads (Beyond doc next) = ⊥
 IsBodyDamage name payloads (Doubled doc) = ⊥
+
+-- the damage is that these two numbers of the file differ
+abbrev pub IsPairDamage : FileName → (said found : ℕ) → Damage → Type 0
+IsPairDamage name m n (Unequal file said found) = (file ≡ name) × (said ≡ m) × (found ≡ n)
+IsPairDamage name m n (Body file bytes) = ⊥
+IsPairDamage name m n (Page file number bytes) = ⊥
+IsPairDamage name m n (Leaf file number offset len bytes) = ⊥
+IsPairDamage name m n (Missing file) = ⊥
+IsPairDamage name m n (Size file size needed) = ⊥
+IsPairDamage name m n (Beyond doc next) = ⊥
+IsPairDamage name m n (Doubled doc) = ⊥
 
 -- ---- live bits
 

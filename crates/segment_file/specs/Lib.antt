@@ -4,3 +4,6 @@ pub mod Written
 pub mod LiveFiles
 pub mod Damages
 pub mod Kept
+pub mod FieldsSeen
+pub mod Gathers
+pub mod Pieced
