@@ -42,7 +42,7 @@ shaped_count n (Split d x l r) h =
 
 -- a node has as many leaves as its subtree
 pub count_at : {D : ℕ} (node : NodeAt D) (first : ℕ) (s : Spot) (path : Region) (t : IndexTree) → IsAt node first s path t → leaf_count t ≡ node.leaves
-count_at node first s path t h = shaped_count node.leaves t h.shaped
+count_at node first s path t h = shaped_count node.leaves t h.is.shaped
 
 pub some_leaf : (t : IndexTree) → 1 ≤ leaf_count t
 some_leaf (Leaf len own) = omega arith
