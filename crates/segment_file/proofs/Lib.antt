@@ -9,3 +9,5 @@ pub mod Unique
 pub mod HeadReads
 pub mod Subtrees
 pub mod Entries
+pub mod Paged
+pub mod Laid
