@@ -1,6 +1,4 @@
 use Rattle.std.proofs.Common.{◌≡◌, ◌∙◌, ℕ, sym, ap, subst, arith}
-use Rattle.std.proofs.Props.{props}
-use Rattle.std.proofs.Math.Logic.{∥∥₁_elim}
 use Rattle.inner_pack.specs.Places.{Spot, spot_at}
 use Rattle.inner_pack.specs.Trees.{IndexTree, Leaf}
 use Rattle.inner_pack.specs.Bodies.{first_length}
@@ -17,10 +15,3 @@ returns-clause-some g c first s path t h =
     let lf = leaf_node g.row.D N.form N.leaves (spot_at N.page N.offset) path N.references N.bytes.now N.places.now t one here in
     let size : c.length.result ≡ lf.size = c.length.ensures path t here ∙ ap first_length lf.is in
     record { own = lf.own; is = lf.is ∙ (λ i. Leaf (sym size i) lf.own); page = h.page_is; offset = h.offset_is }
-
-pub returns-clause-fits : goal.returns-clause-fits
-returns-clause-fits g c =
-    ∥∥₁_elim c.args.self.now.some (hlevel props) (λ q.
-    let size = c.length.ensures q.path q.tree q.is in
-    let room = q.is.fits in
-    omega (arith, size, room))
