@@ -61,4 +61,4 @@ returns g c other t h =
     let same : root ≡ other = ∥∥₁_elim i.valid (hlevel props) (λ v. (one_index D i.form i.leaves i.bytes.items root other v.tree t v.spelled here).0) in
     let mine : SpellsIndex D i.form i.leaves i.bytes.items root t = subst (λ (r : Region). SpellsIndex D i.form i.leaves i.bytes.items r t) (sym same) here in
     let parts = c.in-Some.ensures.only (map key root.lo) t mine.tree.shaped (rest ∙ after_cell D i.form i.leaves i.bytes.items root t mine) in
-    subst (λ (r : Region). IsAt c.new.result 0 front r t) same (c.new.ensures t (root_at D i.form i.leaves i.bytes.items [] root t c.keys_of.result c.in-Some.part.bytes.now c.in-Some.part.places.now mine keys parts.0 parts.1))
+    subst (λ (r : Region). IsAt c.new.result 0 front r t) same (c.new.ensures.at t (root_at D i.form i.leaves i.bytes.items [] root t c.keys_of.result c.in-Some.part.bytes.now c.in-Some.part.places.now mine keys parts.0 parts.1))

@@ -81,6 +81,6 @@ returns-clause-some g c first s path t h =
       l = y.l;
       r = y.r;
       is = y.is;
-      left_is = at_otherwise c.new-left.result N.first first s0 s lp (left_of path y.dimension y.value) y.l (sym h.first_is) same lto (c.new-left.ensures y.l (left_child D N.form N.leaves s0 cell N.references N.bytes.now N.places.now y.dimension y.value y.l y.r head lp moved node y.says lpath c.with_key-references.ensures));
-      right_is = at_otherwise c.new-right.result (N.first + (N.leaves - N.leaves / 2)) (first + leaf_count y.l) (spot_at (N.page + head.pages) head.offset) (right_begin s y.l y.r) rp (right_of path y.dimension y.value) y.r count begin rto (c.new-right.ensures y.r (right_child D N.form N.leaves s0 cell N.references N.bytes.now N.places.now y.dimension y.value y.l y.r head rp moved node y.says rpath c.with_key-references.ensures));
+      left_is = at_otherwise c.new-left.result N.first first s0 s lp (left_of path y.dimension y.value) y.l (sym h.first_is) same lto (c.new-left.ensures.at y.l (left_child D N.form N.leaves s0 cell N.references N.bytes.now N.places.now y.dimension y.value y.l y.r head lp moved node y.says lpath c.with_key-references.ensures));
+      right_is = at_otherwise c.new-right.result (N.first + (N.leaves - N.leaves / 2)) (first + leaf_count y.l) (spot_at (N.page + head.pages) head.offset) (right_begin s y.l y.r) rp (right_of path y.dimension y.value) y.r count begin rto (c.new-right.ensures.at y.r (right_child D N.form N.leaves s0 cell N.references N.bytes.now N.places.now y.dimension y.value y.l y.r head rp moved node y.says rpath c.with_key-references.ensures));
     }

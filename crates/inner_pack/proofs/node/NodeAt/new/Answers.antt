@@ -21,8 +21,8 @@ invariant_of-result-clause-some g c =
       is = q.is;
     }))
 
-pub returns : goal.returns
-returns g c t h = record {
+pub returns-clause-at : goal.returns-clause-at
+returns-clause-at g c t h = record {
   first_is = refl;
   page_is = refl;
   offset_is = refl;
