@@ -23,7 +23,7 @@ returns-in-Inside-clause-touched g c = λ first s path len own is.
 
 pub returns-in-Crosses-clause-tested : goal.returns-in-Crosses-clause-tested
 returns-in-Crosses-clause-tested g c = λ first s path len own is.
-    c.from.ensures ∙ c.count_of.ensures ∙ ap (count_of c.args.head.now) (c.first_leaf.ensures first s path (Leaf len own) is)
+    c.from.ensures ∙ c.count_of.ensures ∙ ap (count_of c.args.head.now) (c.first_leaf.ensures.number first s path (Leaf len own) is)
     ∙ crossed_tested (g.S.Shape.has c.args.shape.now) (g.S.Shape.crosses c.args.shape.now) (count_of c.args.head.now) first len (region_of c.cell.result) own (c.cell.ensures first s path (Leaf len own) is) c.in-Crosses.ensures.answer
 
 pub returns-in-Crosses-clause-touched : goal.returns-in-Crosses-clause-touched
