@@ -62,7 +62,7 @@ all_hit has live cell [] all inside = refl
 all_hit has live cell (x ∷ xs) all inside =
     let here : has x.at ≡ true = all x.at (All-head (λ y. in_box cell y.at ≡ true) x xs inside) in
     let rest : map (λ y. y.doc) (filter (is_hit (λ _. true) live) xs) ≡ map (λ y. y.doc) (filter (is_hit has live) xs)
-        = all_hit has live cell xs all (All-tail (λ y. in_box cell y.at ≡ true) x xs inside) in
+    = all_hit has live cell xs all (All-tail (λ y. in_box cell y.at ≡ true) x xs inside) in
     one (is_live live x.doc) (has x.at) x.doc (filter (is_hit (λ _. true) live) xs) (filter (is_hit has live) xs) here rest
   where
     one : (a b : Bool) (n : ℕ) (ys zs : List Item) → b ≡ true → map (λ y. y.doc) ys ≡ map (λ y. y.doc) zs

@@ -233,9 +233,10 @@ pub children_all : {D : ℕ} (has : List ℤ → Bool) (b : Bool) (left right : 
     → AllAnswer has b (cell_of (left_of path k.dimension k.value) k.l) × AllAnswer has b (cell_of (right_of path k.dimension k.value) k.r)
 children_all {D} has b left right first s path t k cells all =
     let c : HasCells D path (Split k.dimension k.value k.l k.r) = subst (λ u. HasCells D path u) k.is cells in
-    let a : AllAnswer has b path = subst (λ u. AllAnswer has b (cell_of path u)) k.is all in
-    (all_cell D has b (left_of path k.dimension k.value) k.l c.1 (all_left D has b path k.dimension k.value k.l k.r c a),
-    all_cell D has b (right_of path k.dimension k.value) k.r c.2 (all_right D has b path k.dimension k.value k.l k.r c a))
+    let a : AllAnswer has b path = subst (λ u. AllAnswer has b (cell_of path u)) k.is all in (
+      all_cell D has b (left_of path k.dimension k.value) k.l c.1 (all_left D has b path k.dimension k.value k.l k.r c a),
+      all_cell D has b (right_of path k.dimension k.value) k.r c.2 (all_right D has b path k.dimension k.value k.l k.r c a),
+    )
 
 -- ---- the whole segment
 

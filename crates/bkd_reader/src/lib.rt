@@ -5,8 +5,12 @@
 #![tactic(auto)]
 
 mod costs;
-mod leaves;
+mod crossed;
+mod inside;
 mod walk;
 
 pub use costs::{Tally, survey};
 pub use walk::intersect;
+
+#[cfg(test)]
+mod tests;

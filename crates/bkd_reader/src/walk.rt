@@ -19,7 +19,8 @@ ghost use Rattle.bkd_reader.specs.Below.{IsRoot};
 ghost use Rattle.bkd_reader.specs.Counts.{tested, touched};
 ghost use Rattle.bkd_reader.specs.Hits.{AreHits, Appends, Begins, hits_in};
 
-use crate::leaves::{take_leaf, test_leaf};
+use crate::crossed::test_leaf;
+use crate::inside::take_leaf;
 use cell_relate::{Relation, Shape};
 use inner_pack::NodeAt;
 use live_bits::LiveBits;

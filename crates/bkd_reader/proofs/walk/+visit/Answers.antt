@@ -55,7 +55,7 @@ pub returns-in_err-visit-in-Some-clause-tests : goal.returns-in_err-visit-in-Som
 returns-in_err-visit-in-Some-clause-tests g t c = λ first s path t' root.
     let k = c.in-Some.ensures.some first s path t' root.is in
     let left = subst (λ f. g.S.Shape.tests c.visit.new.shape ≤ g.S.Shape.tests c.compare.new.self + tested f (count_of c.args.head.now) first k.l) c.compare.ensures.crosses
-        (c.in_err-visit-in-Some.ensures.tests first s _ k.l (left_root c.in-Some.left c.in-Some.right first s path t' k root.cells)) in
+    (c.in_err-visit-in-Some.ensures.tests first s _ k.l (left_root c.in-Some.left c.in-Some.right first s path t' k root.cells)) in
     let both = ap (tested (g.S.Shape.crosses c.args.shape.now) (count_of c.args.head.now) first) k.is in
     let same = c.compare.ensures.tests in
     omega (arith, left, both, same)
@@ -102,7 +102,7 @@ returns-in_ok-visit-in-Some-clause-hits g t c = λ told agrees first s path t' r
     let same = c.visit.ensures.files told in
     let agree = subst (λ f. Agrees f c.visit.new.cache) (sym same) (c.visit.ensures.agrees told agrees) in
     let front = subst (λ h. Appends c.args.hits.now.items c.visit.new.hits.items (AreHits g.row.D (bytes_of (g.F.Pages.files c.args.folder.now (Segment c.args.head.now.id))) c.args.head.now h c.args.live.now first s k.l)) c.compare.ensures.has
-        (c.in_ok-visit-in-Some.ensures.hits told agrees first s _ k.l (left_root c.in-Some.left c.in-Some.right first s path t' k root.cells)) in
+    (c.in_ok-visit-in-Some.ensures.hits told agrees first s _ k.l (left_root c.in-Some.left c.in-Some.right first s path t' k root.cells)) in
     let back = c.visit-in-Some.ensures.hits told agree (first + leaf_count k.l) (right_begin s k.l k.r) _ k.r (right_root c.in-Some.left c.in-Some.right first s path t' k root.cells) in
     let back_files = subst (λ f. OnOk c.visit-in-Some.result (Appends c.visit.new.hits.items c.visit-in-Some.new.hits.items (AreHits g.row.D (bytes_of (f (Segment c.args.head.now.id))) c.args.head.now (g.S.Shape.has c.visit.new.shape) c.args.live.now (first + leaf_count k.l) (right_begin s k.l k.r) k.r))) same back in
     on_ok (Appends c.visit.new.hits.items c.visit-in-Some.new.hits.items (AreHits g.row.D (bytes_of (g.F.Pages.files c.args.folder.now (Segment c.args.head.now.id))) c.args.head.now (g.S.Shape.has c.args.shape.now) c.args.live.now (first + leaf_count k.l) (right_begin s k.l k.r) k.r))
@@ -116,9 +116,9 @@ pub returns-in_ok-visit-in-Some-clause-tests : goal.returns-in_ok-visit-in-Some-
 returns-in_ok-visit-in-Some-clause-tests g t c = λ first s path t' root.
     let k = c.in-Some.ensures.some first s path t' root.is in
     let left = subst (λ f. g.S.Shape.tests c.visit.new.shape ≤ g.S.Shape.tests c.compare.new.self + tested f (count_of c.args.head.now) first k.l) c.compare.ensures.crosses
-        (c.visit.ensures.tests first s _ k.l (left_root c.in-Some.left c.in-Some.right first s path t' k root.cells)) in
+    (c.visit.ensures.tests first s _ k.l (left_root c.in-Some.left c.in-Some.right first s path t' k root.cells)) in
     let right = subst (λ f. g.S.Shape.tests c.visit-in-Some.new.shape ≤ g.S.Shape.tests c.visit.new.shape + tested f (count_of c.args.head.now) (first + leaf_count k.l) k.r) (c.visit.ensures.crosses ∙ c.compare.ensures.crosses)
-        (c.visit-in-Some.ensures.tests (first + leaf_count k.l) (right_begin s k.l k.r) _ k.r (right_root c.in-Some.left c.in-Some.right first s path t' k root.cells)) in
+    (c.visit-in-Some.ensures.tests (first + leaf_count k.l) (right_begin s k.l k.r) _ k.r (right_root c.in-Some.left c.in-Some.right first s path t' k root.cells)) in
     let both = ap (tested (g.S.Shape.crosses c.args.shape.now) (count_of c.args.head.now) first) k.is in
     let same = c.compare.ensures.tests in
     omega (arith, left, right, both, same)
@@ -185,7 +185,7 @@ returns-in-None-clause-reads g t c = λ first s path t' root.
     let one : c.args.node.now.leaves ≡ 1 = search rules in
     let crossed = subst (λ r. g.S.Shape.crosses c.args.shape.now r ≡ true) (c.cell.ensures first s path t' root.is) c.in-Crosses.ensures.answer in
     let it = only_leaf (λ u. g.S.Shape.crosses c.args.shape.now (cell_of path u) ≡ true → 1 ≡ touched (g.S.Shape.has c.args.shape.now) (g.S.Shape.crosses c.args.shape.now) u) t'
-        (count_at c.args.node.now first s path t' root.is ∙ one)
-        (λ len own e. crossed_touched (g.S.Shape.has c.args.shape.now) (g.S.Shape.crosses c.args.shape.now) (count_of c.args.head.now) first len own own refl e) crossed in
+    (count_at c.args.node.now first s path t' root.is ∙ one)
+    (λ len own e. crossed_touched (g.S.Shape.has c.args.shape.now) (g.S.Shape.crosses c.args.shape.now) (count_of c.args.head.now) first len own own refl e) crossed in
     let most = c.test_leaf.ensures.reads in
     omega (arith, it, most)

@@ -5,7 +5,7 @@ use Rattle.inner_pack.specs.Trees.{Leaf}
 use Rattle.segment_file.specs.Heads.{count_of}
 use Rattle.segment_file.specs.Damages.{IsLeafDamage}
 use Rattle.bkd_reader.proofs.Trees.{handed_on, first_page, never_bad, tested_hits, tested_leaf}
-use Rattle.bkd_reader.proofs.leaves.test_leaf.Goals as goal
+use Rattle.bkd_reader.proofs.crossed.test_leaf.Goals as goal
 
 pub returns-in_err-place-clause-shown : goal.returns-in_err-place-clause-shown
 returns-in_err-place-clause-shown g c = λ first s path t is.

@@ -1,6 +1,6 @@
 use Rattle.std.proofs.Common.{◌≡◌, ◌≤◌, ◌+◌, ◌++◌, take}
 use Rattle.bkd_reader.specs.Hits.{hits_in}
-use Rattle.bkd_reader.proofs.leaves.push_tested.Given as goal
+use Rattle.bkd_reader.proofs.crossed.push_tested.Given as goal
 
 abbrev pub invariant-loop-i : goal.invariant-loop-i
 invariant-loop-i g l = record {

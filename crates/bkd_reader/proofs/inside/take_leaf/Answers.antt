@@ -4,7 +4,7 @@ use Rattle.outer_io.specs.declared.file_name.FileName.TheVariants.{Segment}
 use Rattle.inner_pack.specs.Trees.{Leaf}
 use Rattle.segment_file.specs.Damages.{IsLeafDamage}
 use Rattle.bkd_reader.proofs.Trees.{handed_on, first_page, never_bad, taken_hits}
-use Rattle.bkd_reader.proofs.leaves.take_leaf.Goals as goal
+use Rattle.bkd_reader.proofs.inside.take_leaf.Goals as goal
 
 pub returns-in_err-place-clause-shown : goal.returns-in_err-place-clause-shown
 returns-in_err-place-clause-shown g c = λ first s path t is.

@@ -3,7 +3,7 @@ use Rattle.std.proofs.lemmas.List.{take_all, append_assoc}
 use Rattle.live_bits.specs.LiveSet.{is_live}
 use Rattle.bkd_reader.specs.Hits.{hits_in}
 use Rattle.bkd_reader.proofs.HitLemmas.{no_item, read_item, hit_more, dead_more, outside_more, none_yet}
-use Rattle.bkd_reader.proofs.leaves.push_tested.Goals as goal
+use Rattle.bkd_reader.proofs.crossed.push_tested.Goals as goal
 
 pub loop-i-init : goal.loop-i-init
 loop-i-init g c = record {
