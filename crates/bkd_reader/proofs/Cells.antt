@@ -1,9 +1,9 @@
 -- The cells of a subtree, each within that of the node above.
-use Rattle.std.proofs.Common.{◌≡◌, ℕ, zero, suc, ◌+◌, Bool, true, false, ◌&&◌, List, [], ◌∷◌, get_or, set, ℤ, pos, ◌≤ℤ◌, int_le, refl, sym, ap, subst, ◌∙◌, arith}
+use Rattle.std.proofs.Common.{◌≡◌, ℕ, zero, suc, Bool, true, false, List, [], ◌∷◌, get_or, set, ℤ, pos, ◌≤ℤ◌, refl, subst, arith}
 use Rattle.std.proofs.lemmas.Int.{ints}
-use Rattle.point_codec.specs.Points.{Region, all_le, in_box}
+use Rattle.point_codec.specs.Points.{Region, all_le}
 use Rattle.point_codec.specs.Cells.{within, left_of, right_of}
-use Rattle.cell_relate.specs.Relations.{AllAnswer, IsUncrossed, is_outside}
+use Rattle.cell_relate.specs.Relations.{AllAnswer, IsUncrossed}
 use Rattle.cell_relate.proofs.Corners.{all_le-refl}
 use Rattle.cell_relate.proofs.RelationLemmas.{AllAnswer-within, is_outside-all}
 use Rattle.inner_pack.specs.Trees.{IndexTree, Leaf, Split, HasCells, cell_of, leaf_count}

@@ -1,6 +1,6 @@
 -- The hits of a list of entries, one more entry at a time, and those of a cell that lies in the shape.
 use Rattle.std.proofs.Common.{◌≡◌, ℕ, ◌+◌, ◌<◌, Bool, true, false, ◌&&◌, cond, List, [], ◌∷◌, ◌++◌, length, map, take, filter, get_or, ℤ, refl, sym, ap, subst, ◌∙◌}
-use Rattle.std.proofs.lemmas.List.{take_all, map-append, append_assoc, append-nil}
+use Rattle.std.proofs.lemmas.List.{map-append, append_assoc, append-nil}
 use Rattle.std.proofs.lemmas.List.Elements.{filter-append, filter_more, All-head, All-tail}
 use Rattle.std.proofs.lemmas.Option.{slice_get-get_or}
 use Rattle.std.specs.Prelude.{IsSomeAnd}
@@ -8,7 +8,7 @@ use Rattle.std.specs.List.{All, slice_get}
 use Rattle.point_codec.specs.Points.{Item, Region, in_box}
 use Rattle.live_bits.specs.LiveSet.{LiveSet, is_live}
 use Rattle.cell_relate.specs.Relations.{AllAnswer}
-use Rattle.bkd_reader.specs.Hits.{is_hit, hits_in, Appends, Begins}
+use Rattle.bkd_reader.specs.Hits.{is_hit, hits_in, Begins}
 
 pub no_item : Item
 no_item = record { doc = 0; at = [] }

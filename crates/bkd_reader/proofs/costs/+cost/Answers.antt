@@ -1,5 +1,5 @@
 use Rattle.std.proofs.Common.{rules, ◌≡◌, ◌+◌, sym, subst, arith}
-use Rattle.inner_pack.specs.Trees.{Leaf, leaf_count}
+use Rattle.inner_pack.specs.Trees.{leaf_count}
 use Rattle.inner_pack.specs.Bodies.{right_begin}
 use Rattle.inner_pack.specs.Nodes.{IsAt}
 use Rattle.segment_file.specs.Heads.{count_of}

@@ -1,6 +1,5 @@
-use Rattle.std.proofs.Common.{◌≡◌, sym, subst, ap, ◌∙◌, arith}
+use Rattle.std.proofs.Common.{sym, subst, ap, ◌∙◌, arith}
 use Rattle.inner_pack.specs.Places.{front}
-use Rattle.inner_pack.specs.Trees.{leaf_count}
 use Rattle.inner_pack.specs.Bodies.{HasTree}
 use Rattle.bkd_reader.proofs.Trees.{count_at, tree_count}
 use Rattle.bkd_reader.proofs.costs.survey.Goals as goal

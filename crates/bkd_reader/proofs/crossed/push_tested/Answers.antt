@@ -1,8 +1,7 @@
-use Rattle.std.proofs.Common.{◌≡◌, ◌<◌, ◌++◌, ◌∷◌, [], ◌∙◌, ap, sym, refl, length, take, get_or, arith, true, false}
-use Rattle.std.proofs.lemmas.List.{take_all, append_assoc}
-use Rattle.live_bits.specs.LiveSet.{is_live}
+use Rattle.std.proofs.Common.{◌≡◌, ◌<◌, ◌++◌, ◌∷◌, [], ◌∙◌, ap, sym, refl, length, take, arith}
+use Rattle.std.proofs.lemmas.List.{append_assoc}
 use Rattle.bkd_reader.specs.Hits.{hits_in}
-use Rattle.bkd_reader.proofs.HitLemmas.{no_item, read_item, hit_more, dead_more, outside_more, none_yet}
+use Rattle.bkd_reader.proofs.HitLemmas.{read_item, hit_more, dead_more, outside_more, none_yet}
 use Rattle.bkd_reader.proofs.crossed.push_tested.Goals as goal
 
 pub loop-i-init : goal.loop-i-init

@@ -1,7 +1,6 @@
-use Rattle.std.proofs.Common.{◌≡◌, ◌≤◌, ◌+◌, arith}
+use Rattle.std.proofs.Common.{arith}
 use Rattle.outer_io.specs.Files.{bytes_of}
 use Rattle.outer_io.specs.declared.file_name.FileName.TheVariants.{Segment}
-use Rattle.inner_pack.specs.Trees.{Leaf}
 use Rattle.segment_file.specs.Heads.{count_of}
 use Rattle.segment_file.specs.Damages.{IsLeafDamage}
 use Rattle.bkd_reader.proofs.Trees.{handed_on, first_page, never_bad, tested_hits, tested_leaf}

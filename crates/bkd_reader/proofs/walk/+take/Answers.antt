@@ -1,4 +1,4 @@
-use Rattle.std.proofs.Common.{◌≡◌, ◌+◌, Err, true, sym, subst}
+use Rattle.std.proofs.Common.{◌+◌, Err, true, sym, subst}
 use Rattle.std.specs.Prelude.{OnOk}
 use Rattle.outer_io.specs.Files.{bytes_of}
 use Rattle.outer_io.specs.declared.file_name.FileName.TheVariants.{Segment}

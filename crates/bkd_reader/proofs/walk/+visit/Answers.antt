@@ -1,10 +1,9 @@
-use Rattle.std.proofs.Common.{rules, ◌≡◌, ◌≤◌, ◌+◌, ◌*◌, Err, true, false, [], append-nil, sym, subst, ap, refl, ◌∙◌, arith}
+use Rattle.std.proofs.Common.{rules, ◌≡◌, ◌≤◌, ◌+◌, Err, true, false, [], append-nil, sym, subst, ap, refl, ◌∙◌, arith}
 use Rattle.std.specs.Prelude.{OnOk}
 use Rattle.outer_io.specs.Files.{bytes_of}
 use Rattle.outer_io.specs.declared.file_name.FileName.TheVariants.{Segment}
-use Rattle.point_codec.specs.Seen.{region_of}
 use Rattle.cell_relate.specs.Relations.{AllAnswer}
-use Rattle.inner_pack.specs.Trees.{Leaf, cell_of, leaf_count}
+use Rattle.inner_pack.specs.Trees.{cell_of, leaf_count}
 use Rattle.inner_pack.specs.Bodies.{right_begin}
 use Rattle.page_cache.specs.Cache.{Agrees}
 use Rattle.segment_file.specs.Heads.{count_of}

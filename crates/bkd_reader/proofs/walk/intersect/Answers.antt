@@ -1,5 +1,4 @@
 use Rattle.std.proofs.Common.{◌≡◌, ◌++◌, sym, subst, ap, ◌∙◌, arith}
-use Rattle.std.specs.Prelude.{OnOk}
 use Rattle.outer_io.specs.Files.{bytes_of}
 use Rattle.outer_io.specs.declared.file_name.FileName.TheVariants.{Segment}
 use Rattle.inner_pack.specs.Places.{front}
