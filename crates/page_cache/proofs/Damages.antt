@@ -1,0 +1,86 @@
+-- The damages of a page are damages of its file, and these are damages as the crates above know them.
+use Rattle.std.proofs.Common.{◌≡◌, ◌≢◌, ℕ, ◌+◌, ◌*◌, ◌≤◌, ◌<◌, ◌⊎◌, inl, inr, List, length, Result, Ok, Err, arith}
+use Rattle.outer_io.specs.declared.file_name.FileName.{FileName}
+use Rattle.outer_io.specs.Files.{Files, bytes_of}
+use Rattle.page_cache.specs.declared.faults.Damage.{Damage}
+use Rattle.page_cache.specs.declared.faults.Damage.TheVariants.{Page, Leaf, Body, Missing, Size, Unequal, Beyond, Doubled}
+use Rattle.page_cache.specs.declared.faults.PageFault.{PageFault}
+use Rattle.page_cache.specs.declared.faults.PageFault.TheVariants.{Failed, Damaged, Memory}
+use Rattle.page_cache.specs.Evidence.{FaultShows, OnDamage, IsShown, IsTrueOf, IsPageDamage, IsPageDamageOf, IsFileDamage, IsFileDamageOf}
+
+-- what follows of a damage follows of the fault that is one, and of the answer that has it
+pub fault_weaker : (f : PageFault) (P Q : Damage → Type 0) → ((d : Damage) → P d → Q d) → FaultShows P f → FaultShows Q f
+fault_weaker Failed P Q w h = tt
+fault_weaker (Damaged d) P Q w h = w d h
+fault_weaker Memory P Q w h = tt
+
+pub fault_both : (f : PageFault) (P Q R : Damage → Type 0) → ((d : Damage) → P d → Q d → R d) → FaultShows P f → FaultShows Q f → FaultShows R f
+fault_both Failed P Q R w h k = tt
+fault_both (Damaged d) P Q R w h k = w d h k
+fault_both Memory P Q R w h k = tt
+
+pub on_damage_weaker : {T : Type 0} (r : Result T PageFault) (P Q : Damage → Type 0) → ((d : Damage) → P d → Q d) → OnDamage r P → OnDamage r Q
+on_damage_weaker (Ok _) P Q w h = tt
+on_damage_weaker (Err f) P Q w h = fault_weaker f P Q w h
+
+pub on_damage_both : {T : Type 0} (r : Result T PageFault) (P Q R : Damage → Type 0) → ((d : Damage) → P d → Q d → R d) → OnDamage r P → OnDamage r Q → OnDamage r R
+on_damage_both (Ok _) P Q R w h k = tt
+on_damage_both (Err f) P Q R w h k = fault_both f P Q R w h k
+
+pub file_from_page : (name : FileName) (n : ℕ) (d : Damage) → IsPageDamage name n d → IsFileDamage name d
+file_from_page name n (Page file number bytes) h = (h.0, h.2)
+file_from_page name n (Size file size needed) h = let short : size < needed = h.2 in let apart : size ≢ needed = omega arith in (h.0, apart)
+file_from_page name n (Leaf file number offset len bytes) h = h
+file_from_page name n (Body file bytes) h = h
+file_from_page name n (Missing file) h = absurd h
+file_from_page name n (Unequal file said found) h = h
+file_from_page name n (Beyond doc next) h = h
+file_from_page name n (Doubled doc) h = h
+
+pub file_from_page_of : (files : Files) (name : FileName) (n : ℕ) (d : Damage) → IsPageDamage name n d → IsPageDamageOf files n d → IsFileDamageOf files d
+file_from_page_of files name n (Page file number bytes) h k = k
+file_from_page_of files name n (Size file size needed) h k = inr (n, h.1, k)
+file_from_page_of files name n (Leaf file number offset len bytes) h k = k
+file_from_page_of files name n (Body file bytes) h k = k
+file_from_page_of files name n (Missing file) h k = absurd k
+file_from_page_of files name n (Unequal file said found) h k = k
+file_from_page_of files name n (Beyond doc next) h k = k
+file_from_page_of files name n (Doubled doc) h k = k
+
+pub shown_from_file : (leaf : FileName → ℕ → ℕ → ℕ → List ℕ → Type 0) (body : FileName → List ℕ → Type 0) (name : FileName) (d : Damage)
+    → IsFileDamage name d → IsShown leaf body d
+shown_from_file leaf body name (Page file number bytes) h = h.1
+shown_from_file leaf body name (Size file size needed) h = h.1
+shown_from_file leaf body name (Leaf file number offset len bytes) h = absurd h
+shown_from_file leaf body name (Body file bytes) h = absurd h
+shown_from_file leaf body name (Missing file) h = tt
+shown_from_file leaf body name (Unequal file said found) h = absurd h
+shown_from_file leaf body name (Beyond doc next) h = absurd h
+shown_from_file leaf body name (Doubled doc) h = absurd h
+
+pub true_from_file : (place : FileName → ℕ → ℕ → ℕ → Type 0) (pairs : FileName → ℕ → ℕ → Type 0) (beyond : ℕ → ℕ → Type 0) (doubled : ℕ → Type 0)
+    (files : Files) (d : Damage) → IsFileDamageOf files d → IsTrueOf place pairs beyond doubled files d
+true_from_file place pairs beyond doubled files (Page file number bytes) h = h
+true_from_file place pairs beyond doubled files (Size file size needed) h = h
+true_from_file place pairs beyond doubled files (Leaf file number offset len bytes) h = absurd h
+true_from_file place pairs beyond doubled files (Body file bytes) h = absurd h
+true_from_file place pairs beyond doubled files (Missing file) h = h
+true_from_file place pairs beyond doubled files (Unequal file said found) h = absurd h
+true_from_file place pairs beyond doubled files (Beyond doc next) h = absurd h
+true_from_file place pairs beyond doubled files (Doubled doc) h = absurd h
+
+-- the same of answers
+pub on_file_from_page : {T : Type 0} (r : Result T PageFault) (name : FileName) (n : ℕ) → OnDamage r (IsPageDamage name n) → OnDamage r (IsFileDamage name)
+on_file_from_page r name n = on_damage_weaker r (IsPageDamage name n) (IsFileDamage name) (file_from_page name n)
+
+pub on_file_from_page_of : {T : Type 0} (r : Result T PageFault) (files : Files) (name : FileName) (n : ℕ)
+    → OnDamage r (IsPageDamage name n) → OnDamage r (IsPageDamageOf files n) → OnDamage r (IsFileDamageOf files)
+on_file_from_page_of r files name n = on_damage_both r (IsPageDamage name n) (IsPageDamageOf files n) (IsFileDamageOf files) (file_from_page_of files name n)
+
+pub on_shown_from_file : {T : Type 0} (r : Result T PageFault) (leaf : FileName → ℕ → ℕ → ℕ → List ℕ → Type 0) (body : FileName → List ℕ → Type 0) (name : FileName)
+    → OnDamage r (IsFileDamage name) → OnDamage r (IsShown leaf body)
+on_shown_from_file r leaf body name = on_damage_weaker r (IsFileDamage name) (IsShown leaf body) (shown_from_file leaf body name)
+
+pub on_true_from_file : {T : Type 0} (r : Result T PageFault) (place : FileName → ℕ → ℕ → ℕ → Type 0) (pairs : FileName → ℕ → ℕ → Type 0)
+    (beyond : ℕ → ℕ → Type 0) (doubled : ℕ → Type 0) (files : Files) → OnDamage r (IsFileDamageOf files) → OnDamage r (IsTrueOf place pairs beyond doubled files)
+on_true_from_file r place pairs beyond doubled files = on_damage_weaker r (IsFileDamageOf files) (IsTrueOf place pairs beyond doubled files) (true_from_file place pairs beyond doubled files)

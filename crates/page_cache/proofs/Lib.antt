@@ -1,0 +1,3 @@
+pub mod PageRuns
+pub mod Damages
+pub mod OneRead

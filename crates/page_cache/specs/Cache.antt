@@ -1,0 +1,65 @@
+-- What contracts see of a cache: which pages it keeps, in which order, and whether they are those of the files.
+use Rattle.std.specs.Prelude.{◌≡◌, ◌≢◌, ℕ, ◌-◌, ◌==◌, not, List, ◌∷◌, map, take, filter, Contains}
+use Rattle.std.specs.declared.boxed.Box.{Box}
+use Rattle.std.specs.declared.alloc.Global.{Global}
+use Rattle.page_file.specs.declared.page.PageBytes.{PageBytes}
+use Rattle.outer_io.specs.declared.file_name.FileName.{FileName}
+use Rattle.outer_io.specs.declared.file_name.FileName.TheVariants.{Commit, CommitNew, Segment, Live}
+use Rattle.outer_io.specs.Files.{Files}
+use Rattle.page_cache.specs.declared.key.PageKey.{PageKey}
+use Rattle.page_cache.specs.declared.cache.PageCache.{PageCache}
+use Rattle.page_cache.specs.Keys.{page_key, without}
+use Rattle.page_cache.specs.Evidence.{IsPageOf}
+
+-- the cache keeps this page of the segment's file, with these bytes
+unfoldable pub Keeps : PageCache → ℕ → ℕ → List ℕ → Type 0
+Keeps c id number bytes = (page : Box PageBytes Global) × Contains c.pages.entries (page_key id number, page) × (page.value.b ≡ bytes)
+
+-- it keeps this page
+unfoldable pub IsKept : PageCache → ℕ → ℕ → Type 0
+IsKept c id number = (bytes : List ℕ) × Keeps c id number bytes
+
+-- it keeps some page of the segment's file
+unfoldable pub KeepsFile : PageCache → ℕ → Type 0
+KeepsFile c id = (number : ℕ) × IsKept c id number
+
+-- the pages that it keeps are those that the files have
+unfoldable pub Agrees : Files → PageCache → Type 0
+Agrees files c = (id number : ℕ) (bytes : List ℕ) → Keeps c id number bytes → IsPageOf files (Segment id) number bytes
+
+-- how many pages it may keep
+unfoldable pub room_of : PageCache → ℕ
+room_of c = c.pages.cap
+
+-- the segment and number of each page that it keeps, the last used first
+unfoldable pub order_of : PageCache → List PageKey
+order_of c = map (λ e. e.0) c.pages.entries
+
+-- this page was used: it stands first; where it wasn't kept and the room is full, the one least lately used went
+pub record IsUsed (id number : ℕ) (old new : PageCache) : Type 0 where
+  pub kept : IsKept old id number → order_of new ≡ page_key id number ∷ without (page_key id number) (order_of old)
+  pub read : (IsKept old id number → ⊥) → order_of new ≡ page_key id number ∷ take (room_of old - 1) (order_of old)
+
+-- the keys of other segments
+abbrev pub of_others : ℕ → List PageKey → List PageKey
+of_others id keys = filter (λ k. not (k.id == id)) keys
+
+-- the name is that of a segment's file; only of those pages are kept
+abbrev pub IsSegment : FileName → Type 0
+IsSegment (Segment id) = Unit {0}
+IsSegment Commit = ⊥
+IsSegment CommitNew = ⊥
+IsSegment (Live segment generation) = ⊥
+
+-- the cache keeps this page of the file of this name
+abbrev pub KeepsOf : PageCache → FileName → ℕ → List ℕ → Type 0
+KeepsOf c (Segment id) number bytes = Keeps c id number bytes
+KeepsOf c Commit number bytes = ⊥
+KeepsOf c CommitNew number bytes = ⊥
+KeepsOf c (Live segment generation) number bytes = ⊥
+
+abbrev pub IsKeptOf : PageCache → FileName → ℕ → Type 0
+IsKeptOf c (Segment id) number = IsKept c id number
+IsKeptOf c Commit number = ⊥
+IsKeptOf c CommitNew number = ⊥
+IsKeptOf c (Live segment generation) number = ⊥

@@ -1,0 +1,32 @@
+-- What the answers of a call say of the count of faults of the folder that it was made on: a failure of the
+-- folder is answered only by a call in which that count rose.
+use Rattle.std.specs.Prelude.{◌≡◌, ℕ, ◌≤◌, Result, OnOk, IsErrOf}
+use Rattle.outer_io.specs.Counts.{Rose}
+use Rattle.outer_io.specs.declared.faults.WriteFault.{WriteFault}
+use Rattle.outer_io.specs.declared.faults.WriteFault.TheVariants as write
+use Rattle.page_cache.specs.declared.faults.PageFault.{PageFault}
+use Rattle.page_cache.specs.declared.faults.PageFault.TheVariants as page
+use Rattle.page_cache.specs.declared.faults.SegFault.{SegFault}
+use Rattle.page_cache.specs.declared.faults.SegFault.TheVariants as seg
+
+-- faults are never forgotten; a call that is done raised none; a call that answers Failed raised some
+pub record HasPageCause {T : Type 0} (before now : ℕ) (result : Result T PageFault) : Type 0 where
+  pub later : before ≤ now
+  pub fine : OnOk result (now ≡ before)
+  pub failed : IsErrOf result page.Failed → Rose before now
+
+-- the same of a call that writes
+pub record HasSegCause {T : Type 0} (before now : ℕ) (result : Result T SegFault) : Type 0 where
+  pub later : before ≤ now
+  pub fine : OnOk result (now ≡ before)
+  pub failed : IsErrOf result seg.Failed → Rose before now
+
+-- what a fault of a write is as a fault of a segment
+abbrev pub seg_fault : WriteFault → SegFault
+seg_fault write.Failed = seg.Failed
+seg_fault write.Memory = seg.Memory
+
+-- what a fault of a call that writes is where a call may meet damage too
+abbrev pub page_fault : SegFault → PageFault
+page_fault seg.Failed = page.Failed
+page_fault seg.Memory = page.Memory

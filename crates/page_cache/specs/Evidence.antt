@@ -1,0 +1,118 @@
+-- What a damage shows: by what it carries alone, and of the files where those are told.
+use Rattle.std.specs.Prelude.{◌≡◌, ◌≢◌, ℕ, ◌+◌, ◌*◌, ◌≤◌, ◌<◌, ◌⊎◌, max, List, length, take, drop, None, Result, Ok, Err}
+use Rattle.outer_io.specs.declared.file_name.FileName.{FileName}
+use Rattle.outer_io.specs.Files.{Files, bytes_of}
+use Rattle.page_file.specs.Page.{IsPage, payload_of}
+use Rattle.page_cache.specs.FilePages.{kind_of, number_of, page_at, ArePages, payloads_of}
+use Rattle.page_cache.specs.declared.faults.Damage.{Damage}
+use Rattle.page_cache.specs.declared.faults.Damage.TheVariants.{Page, Leaf, Body, Missing, Size, Unequal, Beyond, Doubled}
+use Rattle.page_cache.specs.declared.faults.PageFault.{PageFault}
+use Rattle.page_cache.specs.declared.faults.PageFault.TheVariants.{Failed, Damaged, Memory}
+
+-- P holds of the damage, where the fault is one
+abbrev pub FaultShows : (Damage → Type 0) → PageFault → Type 0
+FaultShows P Failed = Unit {0}
+FaultShows P (Damaged d) = P d
+FaultShows P Memory = Unit {0}
+
+-- P holds of the damage, where the call answers one
+abbrev pub OnDamage : {T : Type 0} → Result T PageFault → (Damage → Type 0) → Type 0
+OnDamage (Ok _) P = Unit {0}
+OnDamage (Err fault) P = FaultShows P fault
+
+-- the call answers no damage
+abbrev pub NotDamaged : {T : Type 0} → Result T PageFault → Type 0
+NotDamaged result = OnDamage result (λ _. ⊥)
+
+-- ---- any damage: what only the crates above can say stands as parameters
+
+-- what a damage carries shows it, over every folder. `leaf file page offset length part` says that the part of a
+-- page is no leaf of the entries and cell used; `body file payloads` that the payloads are out of the grammar
+abbrev pub IsShown : (leaf : FileName → ℕ → ℕ → ℕ → List ℕ → Type 0) (body : FileName → List ℕ → Type 0) → Damage → Type 0
+IsShown leaf body (Page file number bytes) = IsPage (kind_of file) (number_of file) number bytes.value.b → ⊥
+IsShown leaf body (Leaf file number offset len bytes) =
+    IsPage (kind_of file) (number_of file) number bytes.value.b × leaf file number offset len (take len (drop offset (payload_of bytes.value.b)))
+IsShown leaf body (Body file bytes) = body file bytes
+IsShown leaf body (Missing file) = Unit {0}
+IsShown leaf body (Size file size needed) = size ≢ needed
+IsShown leaf body (Unequal file said found) = said ≢ found
+IsShown leaf body (Beyond doc next) = next ≤ doc
+IsShown leaf body (Doubled doc) = Unit {0}
+
+-- these are the bytes of that page of the file
+abbrev pub IsPageOf : Files → FileName → ℕ → List ℕ → Type 0
+IsPageOf files file number bytes = bytes ≡ page_at (bytes_of (files file)) number
+
+-- these are the joined payloads of the first pages of the file, all of them for their places
+pub record ArePayloadsOf (files : Files) (file : FileName) (payloads : List ℕ) : Type 0 where
+  pub count : ℕ
+  pub some : 1 ≤ count
+  pub pages : ArePages file (bytes_of (files file)) 0 count
+  pub same : payloads ≡ payloads_of (bytes_of (files file)) 0 count
+
+-- the end of the file as reading page `number` shows it: not before the page's begin; no file ends at 0
+abbrev pub seen_end : Files → FileName → ℕ → ℕ
+seen_end files file number = max (4096 * number) (length (bytes_of (files file)))
+
+-- size is the end of the file; where a page was read that it doesn't have whole, as that page shows it
+abbrev pub IsEndOf : Files → FileName → ℕ → ℕ → Type 0
+IsEndOf files file size needed = (size ≡ length (bytes_of (files file))) ⊎ ((number : ℕ) × (needed ≡ 4096 * (number + 1)) × (size ≡ seen_end files file number))
+
+-- a damage is true of the files. `place file page offset length` says that a leaf of the file has this place;
+-- `pairs file said found` that the two numbers are a pair of the file that must agree; `beyond doc next` that the
+-- number is live and next the commit's; `doubled doc` that two live entries have the number
+abbrev pub IsTrueOf : (place : FileName → ℕ → ℕ → ℕ → Type 0) (pairs : FileName → ℕ → ℕ → Type 0) (beyond : ℕ → ℕ → Type 0) (doubled : ℕ → Type 0) → Files → Damage → Type 0
+IsTrueOf place pairs beyond doubled files (Page file number bytes) = IsPageOf files file number bytes.value.b
+IsTrueOf place pairs beyond doubled files (Leaf file number offset len bytes) = IsPageOf files file number bytes.value.b × place file number offset len
+IsTrueOf place pairs beyond doubled files (Body file bytes) = ArePayloadsOf files file bytes
+IsTrueOf place pairs beyond doubled files (Missing file) = files file ≡ None
+IsTrueOf place pairs beyond doubled files (Size file size needed) = IsEndOf files file size needed
+IsTrueOf place pairs beyond doubled files (Unequal file said found) = pairs file said found
+IsTrueOf place pairs beyond doubled files (Beyond doc next) = beyond doc next
+IsTrueOf place pairs beyond doubled files (Doubled doc) = doubled doc
+
+-- ---- the damages of one page, and of pages of one file
+
+-- reading this page of this file shows it to be no page for its place, or the file to end before its end
+abbrev pub IsPageDamage : FileName → ℕ → Damage → Type 0
+IsPageDamage name n (Page file number bytes) = (file ≡ name) × (number ≡ n) × (IsPage (kind_of file) (number_of file) number bytes.value.b → ⊥)
+IsPageDamage name n (Size file size needed) = (file ≡ name) × (needed ≡ 4096 * (n + 1)) × (size < needed)
+IsPageDamage name n (Leaf file number offset len bytes) = ⊥
+IsPageDamage name n (Body file bytes) = ⊥
+IsPageDamage name n (Missing file) = ⊥
+IsPageDamage name n (Unequal file said found) = ⊥
+IsPageDamage name n (Beyond doc next) = ⊥
+IsPageDamage name n (Doubled doc) = ⊥
+
+-- and it is true of the files
+abbrev pub IsPageDamageOf : Files → ℕ → Damage → Type 0
+IsPageDamageOf files n (Page file number bytes) = IsPageOf files file number bytes.value.b
+IsPageDamageOf files n (Size file size needed) = size ≡ seen_end files file n
+IsPageDamageOf files n (Leaf file number offset len bytes) = ⊥
+IsPageDamageOf files n (Body file bytes) = ⊥
+IsPageDamageOf files n (Missing file) = ⊥
+IsPageDamageOf files n (Unequal file said found) = ⊥
+IsPageDamageOf files n (Beyond doc next) = ⊥
+IsPageDamageOf files n (Doubled doc) = ⊥
+
+-- the file isn't there, or has another size than is needed, or one of its pages is none for its place
+abbrev pub IsFileDamage : FileName → Damage → Type 0
+IsFileDamage name (Page file number bytes) = (file ≡ name) × (IsPage (kind_of file) (number_of file) number bytes.value.b → ⊥)
+IsFileDamage name (Missing file) = file ≡ name
+IsFileDamage name (Size file size needed) = (file ≡ name) × (size ≢ needed)
+IsFileDamage name (Leaf file number offset len bytes) = ⊥
+IsFileDamage name (Body file bytes) = ⊥
+IsFileDamage name (Unequal file said found) = ⊥
+IsFileDamage name (Beyond doc next) = ⊥
+IsFileDamage name (Doubled doc) = ⊥
+
+-- and it is true of the files
+abbrev pub IsFileDamageOf : Files → Damage → Type 0
+IsFileDamageOf files (Page file number bytes) = IsPageOf files file number bytes.value.b
+IsFileDamageOf files (Missing file) = files file ≡ None
+IsFileDamageOf files (Size file size needed) = IsEndOf files file size needed
+IsFileDamageOf files (Leaf file number offset len bytes) = ⊥
+IsFileDamageOf files (Body file bytes) = ⊥
+IsFileDamageOf files (Unequal file said found) = ⊥
+IsFileDamageOf files (Beyond doc next) = ⊥
+IsFileDamageOf files (Doubled doc) = ⊥

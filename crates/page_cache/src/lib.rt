@@ -1,0 +1,29 @@
+//! Pages on demand: the cache of the pages of segment files, and files that are read whole.
+//!
+//! A page is read by one call on the folder and digested once; a page that was found to be for its place is
+//! kept as such and never digested again. The cache keeps the pages that were used last, up to its room.
+//! Only pages of segment files are kept.
+//!
+//! Where bytes are out of their format the answer is a [`Damage`], which carries what shows it. Reading changes
+//! no file.
+#![tactic(auto)]
+
+mod bodies;
+mod cache;
+mod faults;
+mod first_page;
+mod key;
+mod laws;
+mod read;
+
+pub use bodies::{pages_for, pages_of, put_pages};
+pub use cache::PageCache;
+pub use faults::{Damage, Memory, PageFault, SegFault};
+pub use first_page::FirstPage;
+pub use laws::{
+    agreement_is_of_kept_files, bodies_of_one_length_are_equal, pages_that_agree, payloads_join,
+};
+pub use read::read_payloads;
+
+#[cfg(test)]
+mod tests;

@@ -1,0 +1,1 @@
+//! Pages read once, kept and dropped; files that are damaged.

@@ -1,0 +1,6 @@
+pub mod Heads
+pub mod Segments
+pub mod Written
+pub mod LiveFiles
+pub mod Damages
+pub mod Kept

@@ -1,0 +1,24 @@
+//! Laws of the files of segments. Each function has an empty body: its contract is the law.
+
+ghost use Rattle.std.specs.Prelude.{◌≡◌, ℕ, List};
+ghost use Rattle.point_codec.specs.Points.{Item};
+ghost use Rattle.live_bits.specs.LiveSet.{LiveSet};
+ghost use Rattle.segment_file.specs.Heads.{Head};
+ghost use Rattle.segment_file.specs.Segments.{IsHeadOf, IsSegment};
+ghost use Rattle.segment_file.specs.LiveFiles.{IsLiveFile};
+
+/// A file has one head at most.
+pub fn one_head()
+    ensures { (D : ℕ) (bytes : List ℕ) (g h : Head) → g.id ≡ h.id → IsHeadOf D bytes g → IsHeadOf D bytes h → g ≡ h }
+{}
+
+/// A file is that of one segment at most.
+pub fn one_segment()
+    ensures head { (D : ℕ) (bytes : List ℕ) (h : Head) (items : List Item) → IsSegment D bytes h items → IsHeadOf D bytes h }
+    ensures items { (D : ℕ) (bytes : List ℕ) (h : Head) (xs ys : List Item) → IsSegment D bytes h xs → IsSegment D bytes h ys → xs ≡ ys }
+{}
+
+/// A file has one set of live numbers at most.
+pub fn one_live_set()
+    ensures { (segment generation : ℕ) (bytes : List ℕ) (s t : LiveSet) → IsLiveFile segment generation bytes s → IsLiveFile segment generation bytes t → s ≡ t }
+{}

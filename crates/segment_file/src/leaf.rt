@@ -1,0 +1,96 @@
+//! One leaf, read in place in a page that the cache keeps.
+
+ghost use Rattle.std.specs.Prelude.{◌≡◌, ◌≤◌, ◌<◌, ◌+◌, ◌⊎◌, ℕ, List, Err, IsTrue, IsOk, IfOk, OnOk, OnErr, IfSome, IfNone};
+ghost use Rattle.outer_io.specs.Files.{Files, bytes_of};
+ghost use Rattle.outer_io.specs.declared.file_name.FileName.TheVariants.{Segment};
+ghost use Rattle.point_codec.specs.Points.{Item, Region};
+ghost use Rattle.inner_pack.specs.Places.{Spot};
+ghost use Rattle.inner_pack.specs.Trees.{IndexTree, Leaf};
+ghost use Rattle.inner_pack.specs.Nodes.{IsAt, IsPlaceOf};
+ghost use Rattle.page_cache.specs.Cache.{IsKept, KeepsFile, Agrees, order_of};
+ghost use Rattle.page_cache.specs.Causes.{HasPageCause};
+ghost use Rattle.page_cache.specs.Evidence.{OnDamage, NotDamaged};
+ghost use Rattle.page_cache.specs.FilePages.{IsFilePage};
+ghost use Rattle.segment_file.specs.Heads.{page_of};
+ghost use Rattle.segment_file.specs.Segments.{HoldsLeaf};
+ghost use Rattle.segment_file.specs.Damages.{IsLeafDamage, IsLeafDamageOf};
+ghost use Rattle.segment_file.specs.Kept.{SpellsNoLeaf, IsLeafFault, OnFault};
+
+use crate::head::SegmentHead;
+use inner_pack::{LeafPlace, NodeAt};
+use leaf_codec::LeafView;
+use outer_io::Pages;
+use page_cache::{PageCache, PageFault};
+use std::alloc::Global;
+
+/// Sees to it that the page is kept in which a leaf of the head's index stands, and answers the leaf's place.
+/// A kept page is found without a read and without memory.
+pub fn load_leaf<const D: usize, F: Pages>(
+    alloc: Global,
+    folder: &mut F,
+    cache: &mut PageCache,
+    head: &SegmentHead<D>,
+    node: &NodeAt<'_, D>,
+) -> Result<LeafPlace, PageFault>
+    requires leaf { node.now.leaves ≡ 1 }
+    ensures files { IsTrue F.told → F.files folder.new ≡ F.files folder.old }
+    ensures reads { F.reads folder.new ≤ F.reads folder.old + 1 }
+    ensures cause { HasPageCause (F.faults folder.old) (F.faults folder.new) result }
+    ensures place { IfOk result (λ p. (first : ℕ) (s : Spot) (path : Region) (t : IndexTree) → IsAt node.now first s path t → IsPlaceOf p s t) }
+    ensures small { IfOk result (λ p. p.page < 8388608) }
+    ensures fits { IfOk result (λ p. p.offset + p.length ≤ 4064) }
+    ensures kept { IfOk result (λ p. IsKept cache.new head.now.id (page_of head.now p.page)) }
+    ensures hit { (first : ℕ) (s : Spot) (path : Region) (t : IndexTree) → IsAt node.now first s path t
+        → IsKept cache.old head.now.id (page_of head.now s.page) → IsOk result × (F.reads folder.new ≡ F.reads folder.old) }
+    ensures others { (i : ℕ) → KeepsFile cache.new i → KeepsFile cache.old i ⊎ (i ≡ head.now.id) }
+    ensures agrees { IsTrue F.told → Agrees (F.files folder.old) cache.old → Agrees (F.files folder.old) cache.new }
+    ensures shown { (first : ℕ) (s : Spot) (t : IndexTree) → OnDamage result (IsLeafDamage D head.now first s t) }
+    ensures damage { IsTrue F.told → OnDamage result (IsLeafDamageOf (F.files folder.old)) }
+    ensures whole { IsTrue F.told → (first : ℕ) (s : Spot) (path : Region) (t : IndexTree) → IsAt node.now first s path t
+        → IsFilePage (Segment head.now.id) (bytes_of (F.files folder.old (Segment head.now.id))) (page_of head.now s.page) → NotDamaged result }
+{
+    Err(PageFault::Memory)
+}
+
+/// The leaf of the node in its page, which is kept. None exactly where the page has no leaf of the node's count
+/// and cell there. Nothing is copied, and no digest is computed.
+pub fn leaf_in<'a, const D: usize>(
+    cache: &'a PageCache,
+    head: &SegmentHead<D>,
+    node: &NodeAt<'_, D>,
+    place: LeafPlace,
+) -> Option<LeafView<'a, D>>
+    requires small { place.page < 8388608 }
+    requires fits { place.offset + place.length ≤ 4064 }
+    requires kept { IsKept cache.now head.now.id (page_of head.now place.page) }
+    ensures some { IfSome result (λ view. (files : Files) (first : ℕ) (s : Spot) (path : Region) (len : ℕ) (own : Region)
+        → Agrees files cache.now → IsAt node.now first s path (Leaf len own) → IsPlaceOf place s (Leaf len own)
+        → HoldsLeaf D (bytes_of (files (Segment head.now.id))) head.now first s len own view) }
+    ensures none { IfNone result ((files : Files) (first : ℕ) (s : Spot) (path : Region) (len : ℕ) (own : Region)
+        → Agrees files cache.now → IsAt node.now first s path (Leaf len own) → IsPlaceOf place s (Leaf len own)
+        → (items : List Item) → HoldsLeaf D (bytes_of (files (Segment head.now.id))) head.now first s len own items → ⊥) }
+    ensures bad { IfNone result (SpellsNoLeaf cache.now head.now node.now place) }
+{
+    None
+}
+
+/// The damage of a leaf that `leaf_in` did not find. The page is taken out of the cache and carried by it, so no
+/// memory is taken.
+pub fn bad_leaf<const D: usize>(
+    cache: &mut PageCache,
+    head: &SegmentHead<D>,
+    node: &NodeAt<'_, D>,
+    place: LeafPlace,
+) -> PageFault
+    requires small { place.page < 8388608 }
+    requires kept { IsKept cache.old head.now.id (page_of head.now place.page) }
+    requires bad { SpellsNoLeaf cache.old head.now node.now place }
+    ensures is { IsLeafFault cache.old head.now place result }
+    ensures shown { (first : ℕ) (s : Spot) (path : Region) (t : IndexTree) → IsAt node.now first s path t → IsPlaceOf place s t
+        → OnFault result (IsLeafDamage D head.now first s t) }
+    ensures damage { (files : Files) → Agrees files cache.old → OnFault result (IsLeafDamageOf files) }
+    ensures fewer { (i : ℕ) → KeepsFile cache.new i → KeepsFile cache.old i }
+    ensures agrees { (files : Files) → Agrees files cache.old → Agrees files cache.new }
+{
+    PageFault::Memory
+}
