@@ -3,3 +3,6 @@ pub mod Order
 pub mod Offers
 pub mod Links
 pub mod Kept
+pub mod Added
+pub mod Turns
+pub mod Placed

@@ -1,5 +1,5 @@
 -- What is kept of the entries seen so far.
-use Rattle.std.specs.Prelude.{ℕ, ◌≡◌, ◌≤◌, ◌+◌, ◌↔◌, Some, IsTrue, true, List, ◌∷◌, length, nat_eq, not, if◌then◌else◌}
+use Rattle.std.specs.Prelude.{ℕ, ◌≡◌, ◌≤◌, ◌+◌, ◌↔◌, Some, IsTrue, true, List, sum_by, ◌∷◌, length, nat_eq, not, if◌then◌else◌}
 use Rattle.std.specs.declared.cmp.Ordering.{Ordering}
 use Rattle.std.specs.Ordering.{nat_cmp, ordering_then}
 use Rattle.std.specs.BTreeSet as sorted
@@ -29,3 +29,9 @@ pub record IsPut (n : Near) (old new : Candidates) : Type 0 where
   pub counted : length new.in_order.keys ≡ length old.in_order.keys + (if not (sorted.contains near_cmp old.in_order n) then 1 else 0)
   pub ordered : sorted.IsOrdered near_cmp new.in_order
   pub kept : hash.Updates nat_eq old.distances new.distances n.doc (Some n.dist2)
+
+-- so many entries were seen: those seen before, and these
+pub record AreAdded (seen entries : List Near) (c : Candidates) : Type 0 where
+  pub after : List Near
+  pub best : AreBest after c
+  pub totals : (f : Near → ℕ) → sum_by f after ≡ sum_by f seen + sum_by f entries

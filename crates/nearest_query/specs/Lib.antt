@@ -1,2 +1,5 @@
 pub mod Nearest
 pub mod Best
+pub mod Segments
+pub mod Fronts
+pub mod Search

@@ -1,6 +1,6 @@
 //! The nearest numbers among the entries seen so far.
 
-ghost use Rattle.std.specs.Prelude.{◌≡◌, ◌≤◌, List, [], ◌∷◌, length, OnOk, IfOk, IsTrue, Contains, All, false, None, Some, nat_eq};
+ghost use Rattle.std.specs.Prelude.{◌≡◌, ◌≤◌, ◌<◌, List, [], ◌∷◌, length, OnOk, IfOk, IsTrue, Contains, All, false, None, Some, nat_eq};
 ghost use Rattle.std.specs.Ordering.{is_lt};
 ghost use Rattle.std.specs.declared.cmp.Ordering.TheVariants.{Less};
 ghost use Rattle.std.specs.HashMap as hash;
@@ -54,6 +54,21 @@ impl Candidates {
         match self.distances.get(&near.doc).copied() {
             Some(dist2) => self.improve(dist2, near),
             None => self.add(near),
+        }
+    }
+
+    /// Whether all places are taken by numbers that are nearer than this distance.
+    pub fn ends_before(&self, dist2: u128) -> bool
+        ensures yes { IsTrue result → (self.now.room ≤ length self.now.in_order.keys) × All (λ a. a.dist2 < dist2) self.now.in_order.keys }
+        ensures no { result ≡ false → 1 ≤ self.now.room → self.now.room ≤ length self.now.in_order.keys
+            → (a : Near) × Contains self.now.in_order.keys a × (dist2 ≤ a.dist2) }
+    {
+        if self.in_order.len() < self.room {
+            return false;
+        }
+        match self.in_order.last() {
+            Some(last) => last.dist2 < dist2,
+            None => false,
         }
     }
 

@@ -3,3 +3,6 @@
 #![tactic(auto)]
 
 mod candidates;
+mod frontier;
+mod leaves;
+mod search;

@@ -1,0 +1,14 @@
+use Rattle.std.proofs.Common.{◌≡◌, subst, sym}
+use Rattle.inner_pack.specs.Trees.{Leaf}
+use Rattle.nearest_query.specs.Nearest.{nears_of}
+use Rattle.nearest_query.specs.Best.{AreAdded}
+use Rattle.nearest_query.specs.Segments.{live_items}
+use Rattle.nearest_query.proofs.Placed.{one_holding}
+use Rattle.nearest_query.proofs.leaves.open_leaf.Goals as goal
+
+pub returns-clause-found : goal.returns-clause-found
+returns-clause-found g c = λ told agrees first s path len own items seen is holds best.
+    let place = c.in_ok-place.ensures.place first s path (Leaf len own) is in
+    let here = c.in-Some.ensures.some (g.F.Pages.files c.args.folder.now) first s path len own (c.in_ok-place.ensures.agrees told agrees) is place in
+    let same = one_holding _ _ _ _ _ _ _ c.in-Some.view items here holds in
+    subst (λ xs. AreAdded seen (nears_of c.args.at.now.c (live_items c.args.live.now xs)) c.offer_leaf.new.found) same (c.in_ok-offer_leaf.ensures.found seen best)
