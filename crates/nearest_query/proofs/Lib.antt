@@ -6,3 +6,7 @@ pub mod Kept
 pub mod Added
 pub mod Turns
 pub mod Placed
+pub mod Distances
+pub mod Unique
+pub mod Steps
+pub mod Ends

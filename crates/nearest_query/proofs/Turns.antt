@@ -10,8 +10,8 @@ use Rattle.std.specs.List.{sum_by, All, range_with_len}
 use Rattle.std.specs.List.Sorted.{IsPermutation}
 use Rattle.inner_pack.specs.declared.node.NodeAt.{NodeAt}
 use Rattle.nearest_query.specs.declared.frontier.Waiting.{Waiting}
-use Rattle.nearest_query.specs.Fronts.{Front, IsWaiting, IsInside, span, spread, work}
-use Rattle.nearest_query.specs.Search.{Stands}
+use Rattle.nearest_query.specs.Fronts.{Front, IsWaiting, span, spread, work}
+use Rattle.nearest_query.specs.Search.{Stands, IsInside}
 
 pub span_split : (h : ℕ → ℕ) (a m n : ℕ) → sum_by h (range_with_len a (m + n)) ≡ sum_by h (range_with_len a m) + sum_by h (range_with_len (a + m) n)
 span_split h a zero n =
@@ -62,10 +62,11 @@ stands_still nodes new more node place e h = subst (λ ns. Stands ns place node)
 pub inside_put : {D : ℕ} (n : ℕ) (at : List ℤ) (seg : ℕ) (node : NodeAt D) (old new : Front D) → seg < n → IsWaiting at seg node old new
     → All (IsInside n old.nodes) old.turns → All (IsInside n new.nodes) new.turns
 inside_put n at seg node old new lt h all =
-    let longer : length new.nodes ≡ length old.nodes + 1 = ap length h.grown ∙ length-append old.nodes (node ∷ []) in
     All-permutation (IsInside n new.nodes) (turn_of h.dist seg node (length old.nodes) ∷ old.turns) new.turns h.moved
-    (All-cons (IsInside n new.nodes) (turn_of h.dist seg node (length old.nodes)) old.turns (lt, omega (arith, longer))
-    (All-weaker (IsInside n old.nodes) (IsInside n new.nodes) (λ t k. (k.0, let p = k.1 in omega (arith, longer, p))) old.turns all))
+    (All-cons (IsInside n new.nodes) (turn_of h.dist seg node (length old.nodes)) old.turns
+    (record { inside = lt; node = node; stands = stands_new old.nodes new.nodes node h.grown; leaves_are = refl })
+    (All-weaker (IsInside n old.nodes) (IsInside n new.nodes)
+    (λ t k. record { inside = k.inside; node = k.node; stands = stands_still old.nodes new.nodes node k.node t.place h.grown k.stands; leaves_are = k.leaves_are }) old.turns all))
 
 -- an element read is the one that any default gives
 pub read_any : {X : Type 0} (xs : List X) (i : ℕ) (x d : X) → i < length xs → x ≡ get_or xs i x → get_or xs i d ≡ x

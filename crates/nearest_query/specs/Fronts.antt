@@ -6,7 +6,7 @@ use Rattle.std.specs.declared.cmp.Ordering.{Ordering}
 use Rattle.std.specs.Ordering.{nat_cmp}
 use Rattle.point_codec.specs.Points.{Region}
 use Rattle.inner_pack.specs.Places.{Spot}
-use Rattle.inner_pack.specs.Trees.{IndexTree, cell_of}
+use Rattle.inner_pack.specs.Trees.{IndexTree, cell_of, leaf_count}
 use Rattle.inner_pack.specs.Nodes.{IsAt}
 use Rattle.inner_pack.specs.declared.node.NodeAt.{NodeAt}
 use Rattle.nearest_query.specs.declared.frontier.Waiting.{Waiting}
@@ -32,13 +32,10 @@ spread g t = span g t.segment t.first t.leaves
 abbrev pub work : Waiting → ℕ
 work t = 2 * t.leaves - 1 + (1 - t.leaves)
 
--- its node and its segment are there
-abbrev pub IsInside : {D : ℕ} → (segments : ℕ) → List (NodeAt D) → Waiting → Type 0
-IsInside segments nodes t = (t.segment < segments) × (t.place < length nodes)
-
 -- a node waits now, by its least distance from the point
 pub record IsWaiting {D : ℕ} (at : List ℤ) (segment : ℕ) (node : NodeAt D) (old new : Front D) : Type 0 where
   pub dist : ℕ
   pub grown : new.nodes ≡ old.nodes ++ node ∷ []
   pub moved : IsPermutation (record { dist2 = record { 0 = dist }; segment = segment; first = node.first; leaves = node.leaves; place = length old.nodes } ∷ old.turns) new.turns
-  pub is : (first : ℕ) (s : Spot) (path : Region) (t : IndexTree) → IsAt node first s path t → dist ≡ least_dist2 at (cell_of path t)
+  pub is : (first : ℕ) (s : Spot) (path : Region) (t : IndexTree) → IsAt node first s path t
+      → (dist ≡ least_dist2 at (cell_of path t)) × (node.first ≡ first) × (node.leaves ≡ leaf_count t)

@@ -10,7 +10,7 @@ use Rattle.live_bits.specs.LiveSet.{LiveSet}
 use Rattle.outer_io.specs.Files.{Files, bytes_of}
 use Rattle.outer_io.specs.declared.file_name.FileName.TheVariants.{Segment}
 use Rattle.inner_pack.specs.Places.{Spot, front}
-use Rattle.inner_pack.specs.Trees.{IndexTree, Leaf, Split, leaf_count, cell_of}
+use Rattle.inner_pack.specs.Trees.{IndexTree, Leaf, Split, leaf_count, cell_of, HasCells}
 use Rattle.inner_pack.specs.Bodies.{HasTree, right_begin}
 use Rattle.inner_pack.specs.Nodes.{IsAt}
 use Rattle.inner_pack.specs.declared.node.NodeAt.{NodeAt}
@@ -38,8 +38,11 @@ no_head = record { id = 0; entries = 0; leaf = 0; index = record { form = 0; lea
 abbrev pub head_at : World → ℕ → Head
 head_at w i = slice_index_or w.heads i no_head
 
+abbrev pub no_live : LiveSet
+no_live = record { base = 0; span = 0; live = [] }
+
 abbrev pub live_at : World → ℕ → LiveSet
-live_at w i = slice_index_or w.lives i (record { base = 0; span = 0; live = [] })
+live_at w i = slice_index_or w.lives i no_live
 
 -- the live entries of leaf n of segment i
 abbrev pub nears_at : World → ℕ → ℕ → List Near
@@ -63,6 +66,13 @@ pub record Stands {D : ℕ} (nodes : List (NodeAt D)) (place : ℕ) (node : Node
   pub within : place < length nodes
   pub is : (d : NodeAt D) → slice_index_or nodes place d ≡ node
 
+-- its segment is there, and its node with that many leaves
+pub record IsInside {D : ℕ} (segments : ℕ) (nodes : List (NodeAt D)) (t : Waiting) : Type 0 where
+  pub inside : t.segment < segments
+  pub node : NodeAt D
+  pub stands : Stands nodes t.place node
+  pub leaves_are : t.leaves ≡ node.leaves
+
 -- what waits is a node of its segment's tree, and waits by its least distance
 pub record IsNode (D : ℕ) (w : World) (nodes : List (NodeAt D)) (t : Waiting) : Type 0 where
   pub inside : t.segment < length w.heads
@@ -73,6 +83,10 @@ pub record IsNode (D : ℕ) (w : World) (nodes : List (NodeAt D)) (t : Waiting) 
   pub tree : IndexTree
   pub is : IsAt node t.first spot path tree
   pub count : t.leaves ≡ leaf_count tree
+  pub node_count : node.leaves ≡ leaf_count tree
+  pub dims : length path.hi ≡ D
+  pub dims_too : length path.lo ≡ D
+  pub cells : HasCells D path tree
   pub leaves : HasLeaves D w t.segment t.first spot tree
   pub dist : t.dist2.0 ≡ least_dist2 w.at (cell_of path tree)
 

@@ -4,5 +4,6 @@
 
 mod candidates;
 mod frontier;
+mod laws;
 mod leaves;
 mod search;

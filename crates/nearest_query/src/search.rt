@@ -1,13 +1,17 @@
 //! The search, best first.
 
 ghost use Rattle.std.specs.Prelude.{◌≡◌, ◌≤◌, ◌<◌, ◌+◌, ◌⊎◌, ℕ, List, [], ◌∷◌, length, All, IsTrue, true, OnOk, sum_by, Option};
+ghost use Rattle.point_codec.specs.Points.{Region};
 ghost use Rattle.point_codec.specs.declared.entries.Near.{Near};
+ghost use Rattle.inner_pack.specs.Places.{Spot};
+ghost use Rattle.inner_pack.specs.Trees.{IndexTree, leaf_count};
+ghost use Rattle.inner_pack.specs.Nodes.{IsAt};
 ghost use Rattle.page_cache.specs.Cache.{KeepsFile, Agrees};
 ghost use Rattle.page_cache.specs.Causes.{HasPageCause};
 ghost use Rattle.nearest_query.specs.Nearest.{IsNearest};
 ghost use Rattle.nearest_query.specs.Segments.{HasId, is_within, bound_of};
-ghost use Rattle.nearest_query.specs.Fronts.{Front, IsWaiting, IsInside, span, spread, work};
-ghost use Rattle.nearest_query.specs.Search.{World, IsOver, IsNode, IsSought, one_within};
+ghost use Rattle.nearest_query.specs.Fronts.{Front, IsWaiting, span, spread, work};
+ghost use Rattle.nearest_query.specs.Search.{World, IsOver, IsInside, IsNode, IsSought, one_within};
 
 use crate::candidates::Candidates;
 use crate::frontier::{Frontier, Waiting};
@@ -29,6 +33,7 @@ fn fork<'a, const D: usize>(
     at: &Point<D>,
 ) -> Result<(), AllocError>
     ensures put { OnOk result ((mid : Front D) × IsWaiting at.now.c segment left.now frontier.old mid × IsWaiting at.now.c segment right.now mid frontier.new) }
+    ensures counted { (first : ℕ) (s : Spot) (path : Region) (t : IndexTree) → IsAt left.now first s path t → left.now.leaves ≡ leaf_count t }
     ensures most { (g : ℕ → ℕ → ℕ) → sum_by (spread g) frontier.new.turns
         ≤ span g segment left.now.first left.now.leaves + span g segment right.now.first right.now.leaves + sum_by (spread g) frontier.old.turns }
 {
