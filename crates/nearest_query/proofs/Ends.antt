@@ -3,7 +3,7 @@ use Rattle.std.proofs.Common.{◌≡◌, ◌≢◌, ℕ, ◌+◌, ◌*◌, ◌�
 use Rattle.std.proofs.lemmas.Bool.Decides.{nat_tests}
 use Rattle.std.proofs.lemmas.Map.Views.{exact_unsigned_eq}
 use Rattle.std.proofs.lemmas.List.Sums.{sum_by-cons, get_or-le-sum_by}
-use Rattle.std.proofs.lemmas.List.Elements.{All-head, All-tail, All-contains}
+use Rattle.std.proofs.lemmas.List.Elements.{All-cons, All-head, All-tail, All-contains}
 use Rattle.std.specs.List.{sum_by, All, AllPairs, Contains}
 use Rattle.std.specs.Prelude.{nat_lt, nat_le}
 use Rattle.point_codec.specs.declared.entries.Near.{Near}
@@ -137,3 +137,16 @@ module _ {D : ℕ} (w : World) (all : List Near) (turns : List Waiting) (nodes :
   goes_on d nearest far is not_ended = by_test _ (nat_lt (length nearest) found.room)
       (λ fewer. ap (λ b. is_within (cond b None (last_of nearest)) d) fewer)
       (λ enough. ap (λ b. is_within (cond b None (last_of nearest)) d) enough ∙ last_within d nearest far is not_ended enough)
+
+-- the next node is one of the world
+pub next_node : {D : ℕ} (w : World) (all : List Near) (next : Waiting) (turns : List Waiting) (nodes nodes' : List (NodeAt D)) (found : Candidates) → IsSought D w all (next ∷ turns) nodes found → nodes' ≡ nodes → IsNode D w nodes' next
+next_node {D} w all next turns nodes nodes' found s e = subst (λ ns. IsNode D w ns next) (sym e) (All-head (IsNode D w nodes) next turns s.nodes_are)
+
+-- and within the bound, where the search hasn't ended
+pub next_within : {D : ℕ} (w : World) (all : List Near) (next : Waiting) (turns : List Waiting) (nodes : List (NodeAt D)) (found : Candidates) → IsSought D w all (next ∷ turns) nodes found
+    → (room : ℕ) (nearest : List Near) → found.room ≡ room → IsNearest room all nearest → All (λ t. next.dist2.0 ≤ t.dist2.0) turns
+    → (1 ≤ found.room → found.room ≤ length found.in_order.keys → (a : Near) × Contains found.in_order.keys a × (next.dist2.0 ≤ a.dist2))
+    → is_within (bound_of room nearest) next.dist2.0 ≡ true
+next_within w all next turns nodes found s room nearest e is least not_ended =
+    subst (λ k. is_within (bound_of k nearest) next.dist2.0 ≡ true) e
+    (goes_on w all (next ∷ turns) nodes found s next.dist2.0 nearest (All-cons (λ t. next.dist2.0 ≤ t.dist2.0) next turns (omega arith) least) (subst (λ k. IsNearest k all nearest) (sym e) is) (not_ended s.best.some))

@@ -6,4 +6,8 @@ mod candidates;
 mod frontier;
 mod laws;
 mod leaves;
+mod query;
 mod search;
+
+pub use laws::one_nearest;
+pub use query::nearest;
