@@ -10,3 +10,5 @@ pub mod Distances
 pub mod Unique
 pub mod Steps
 pub mod Ends
+pub mod Roots
+pub mod Start

@@ -8,6 +8,8 @@ mod laws;
 mod leaves;
 mod query;
 mod search;
+mod survey;
 
 pub use laws::one_nearest;
 pub use query::nearest;
+pub use survey::survey_near;

@@ -1,6 +1,6 @@
 //! The nearest documents of segments and a buffer.
 
-ghost use Rattle.std.specs.Prelude.{◌≡◌, ◌≤◌, ◌<◌, ◌+◌, ◌++◌, ◌⊎◌, ℕ, List, Option, length, All, IsTrue, OnOk, IfOk, sum_by};
+ghost use Rattle.std.specs.Prelude.{◌≡◌, ◌≤◌, ◌<◌, ◌+◌, ◌++◌, ◌⊎◌, ℕ, List, [], length, All, IsTrue, OnOk, IfOk, sum_by};
 ghost use Rattle.std.specs.List.{range_with_len};
 ghost use Rattle.point_codec.specs.Points.{Item, Region};
 ghost use Rattle.point_codec.specs.Seen.{items_of};
@@ -77,7 +77,7 @@ fn put_roots<'a, const D: usize>(
     heads: &'a [SegmentHead<D>],
     at: &Point<D>,
 ) -> Result<(), AllocError>
-    requires { length frontier.old.turns ≡ 0 }
+    requires { frontier.old.turns ≡ [] }
     ensures inside { OnOk result (All (IsInside (length heads.now) frontier.new.nodes) frontier.new.turns) }
     ensures nodes { (w : World) → HasRoots D w → w.heads ≡ heads.now → w.at ≡ at.now.c → OnOk result (All (IsNode D w frontier.new.nodes) frontier.new.turns) }
     ensures totals { (w : World) → HasRoots D w → w.heads ≡ heads.now → (g : ℕ → ℕ → ℕ)

@@ -1,0 +1,58 @@
+use Rattle.std.proofs.Common.{◌≡◌, ◌++◌, ◌+◌, ◌≤◌, List, [], ℕ, ap, subst, sym, refl, ◌∙◌, arith}
+use Rattle.std.specs.Prelude.{All, sum_by, length}
+use Rattle.std.specs.List.{range_with_len}
+use Rattle.point_codec.specs.Points.{Item}
+use Rattle.point_codec.specs.Seen.{items_of}
+use Rattle.nearest_query.specs.Nearest.{IsNearest, nears_of}
+use Rattle.nearest_query.specs.Segments.{AreSegments, live_in, bound_of}
+use Rattle.nearest_query.specs.Search.{IsSought, one_within}
+use Rattle.nearest_query.specs.Fronts.{spread}
+use Rattle.nearest_query.proofs.Start.{world, roots, start, start_near}
+use Rattle.nearest_query.proofs.query.nearest.Goals as goal
+
+pub returns-clause-answer : goal.returns-clause-answer
+returns-clause-answer g c = λ told agrees contents segments.
+    let w = world g.row.D c.args.at.now.c c.args.heads.now c.args.lives.now (g.F.Pages.files c.args.folder.now) contents segments in
+    let rs = roots g.row.D c.args.at.now.c c.args.heads.now c.args.lives.now (g.F.Pages.files c.args.folder.now) contents segments in
+    let room = c.in_ok-offer_all.ensures.room ∙ c.new-found.ensures.room ∙ c.from.ensures in
+    let sought = start g.row.D c.args.at.now.c c.args.heads.now c.args.lives.now (g.F.Pages.files c.args.folder.now) contents segments (items_of c.args.buffer.now) c.put_roots.new.frontier.turns c.put_roots.new.frontier.nodes c.offer_all.new.found
+        c.requires.lives (c.in_ok-offer_all.ensures.found [] c.new-found.ensures.best) (c.in_ok-put_roots.ensures.nodes w rs refl refl) (c.in_ok-put_roots.ensures.totals w rs refl) in
+    let answer = c.in_ok-search.ensures.answer told agrees w _ (record { at_is = refl; heads_are = refl; lives_are = refl; files_are = refl }) sought in
+    subst (λ xs. IsNearest c.args.k (nears_of c.args.at.now.c (live_in contents c.args.heads.now c.args.lives.now ++ items_of c.args.buffer.now)) xs) (sym c.in_ok-found.ensures)
+    (subst (λ k. IsNearest k (nears_of c.args.at.now.c (live_in contents c.args.heads.now c.args.lives.now ++ items_of c.args.buffer.now)) c.search.new.found.in_order.keys) room answer)
+
+pub returns-clause-reads : goal.returns-clause-reads
+returns-clause-reads g c = λ told agrees contents segments nearest is leaves near.
+    let w = world g.row.D c.args.at.now.c c.args.heads.now c.args.lives.now (g.F.Pages.files c.args.folder.now) contents segments in
+    let rs = roots g.row.D c.args.at.now.c c.args.heads.now c.args.lives.now (g.F.Pages.files c.args.folder.now) contents segments in
+    let room = c.in_ok-offer_all.ensures.room ∙ c.new-found.ensures.room ∙ c.from.ensures in
+    let sought = start g.row.D c.args.at.now.c c.args.heads.now c.args.lives.now (g.F.Pages.files c.args.folder.now) contents segments (items_of c.args.buffer.now) c.put_roots.new.frontier.turns c.put_roots.new.frontier.nodes c.offer_all.new.found
+        c.requires.lives (c.in_ok-offer_all.ensures.found [] c.new-found.ensures.best) (c.in_ok-put_roots.ensures.nodes w rs refl refl) (c.in_ok-put_roots.ensures.totals w rs refl) in
+    let reads = c.in_ok-search.ensures.reads told agrees w _ nearest (record { at_is = refl; heads_are = refl; lives_are = refl; files_are = refl }) sought (subst (λ k. IsNearest k (nears_of c.args.at.now.c (live_in contents c.args.heads.now c.args.lives.now ++ items_of c.args.buffer.now)) nearest) (sym room) is) in
+    let bounds = ap (λ k. sum_by (spread (one_within w (bound_of k nearest))) c.put_roots.new.frontier.turns) room in
+    let total = start_near g.row.D c.args.at.now.c c.args.heads.now c.args.lives.now (g.F.Pages.files c.args.folder.now) contents segments (bound_of c.args.k nearest) c.put_roots.new.frontier.turns leaves near (c.in_ok-put_roots.ensures.totals w rs refl) in
+    omega (arith, reads, bounds, total)
+
+pub returns-in_err-found-clause-reads : goal.returns-in_err-found-clause-reads
+returns-in_err-found-clause-reads g c = λ told agrees contents segments nearest is leaves near.
+    let w = world g.row.D c.args.at.now.c c.args.heads.now c.args.lives.now (g.F.Pages.files c.args.folder.now) contents segments in
+    let rs = roots g.row.D c.args.at.now.c c.args.heads.now c.args.lives.now (g.F.Pages.files c.args.folder.now) contents segments in
+    let room = c.in_ok-offer_all.ensures.room ∙ c.new-found.ensures.room ∙ c.from.ensures in
+    let sought = start g.row.D c.args.at.now.c c.args.heads.now c.args.lives.now (g.F.Pages.files c.args.folder.now) contents segments (items_of c.args.buffer.now) c.put_roots.new.frontier.turns c.put_roots.new.frontier.nodes c.offer_all.new.found
+        c.requires.lives (c.in_ok-offer_all.ensures.found [] c.new-found.ensures.best) (c.in_ok-put_roots.ensures.nodes w rs refl refl) (c.in_ok-put_roots.ensures.totals w rs refl) in
+    let reads = c.in_ok-search.ensures.reads told agrees w _ nearest (record { at_is = refl; heads_are = refl; lives_are = refl; files_are = refl }) sought (subst (λ k. IsNearest k (nears_of c.args.at.now.c (live_in contents c.args.heads.now c.args.lives.now ++ items_of c.args.buffer.now)) nearest) (sym room) is) in
+    let bounds = ap (λ k. sum_by (spread (one_within w (bound_of k nearest))) c.put_roots.new.frontier.turns) room in
+    let total = start_near g.row.D c.args.at.now.c c.args.heads.now c.args.lives.now (g.F.Pages.files c.args.folder.now) contents segments (bound_of c.args.k nearest) c.put_roots.new.frontier.turns leaves near (c.in_ok-put_roots.ensures.totals w rs refl) in
+    omega (arith, reads, bounds, total)
+
+pub returns-in_err-search-clause-reads : goal.returns-in_err-search-clause-reads
+returns-in_err-search-clause-reads g c = λ told agrees contents segments nearest is leaves near.
+    let w = world g.row.D c.args.at.now.c c.args.heads.now c.args.lives.now (g.F.Pages.files c.args.folder.now) contents segments in
+    let rs = roots g.row.D c.args.at.now.c c.args.heads.now c.args.lives.now (g.F.Pages.files c.args.folder.now) contents segments in
+    let room = c.in_ok-offer_all.ensures.room ∙ c.new-found.ensures.room ∙ c.from.ensures in
+    let sought = start g.row.D c.args.at.now.c c.args.heads.now c.args.lives.now (g.F.Pages.files c.args.folder.now) contents segments (items_of c.args.buffer.now) c.put_roots.new.frontier.turns c.put_roots.new.frontier.nodes c.offer_all.new.found
+        c.requires.lives (c.in_ok-offer_all.ensures.found [] c.new-found.ensures.best) (c.in_ok-put_roots.ensures.nodes w rs refl refl) (c.in_ok-put_roots.ensures.totals w rs refl) in
+    let reads = c.in_err-search.ensures.reads told agrees w _ nearest (record { at_is = refl; heads_are = refl; lives_are = refl; files_are = refl }) sought (subst (λ k. IsNearest k (nears_of c.args.at.now.c (live_in contents c.args.heads.now c.args.lives.now ++ items_of c.args.buffer.now)) nearest) (sym room) is) in
+    let bounds = ap (λ k. sum_by (spread (one_within w (bound_of k nearest))) c.put_roots.new.frontier.turns) room in
+    let total = start_near g.row.D c.args.at.now.c c.args.heads.now c.args.lives.now (g.F.Pages.files c.args.folder.now) contents segments (bound_of c.args.k nearest) c.put_roots.new.frontier.turns leaves near (c.in_ok-put_roots.ensures.totals w rs refl) in
+    omega (arith, reads, bounds, total)
