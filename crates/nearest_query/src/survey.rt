@@ -24,15 +24,17 @@ pub fn survey_near<const D: usize>(
     near_below(&head.index().walk(), at, bound)
 }
 
-#[tactic(auto, unfolding(crate::specs::Segments::near_leaves))]
 /// The same of the leaves at or below a node.
 fn near_below<const D: usize>(node: &NodeAt<'_, D>, at: &Point<D>, bound: Option<u128>) -> u64
     ensures value { (first : ℕ) (s : Spot) (path : Region) (t : IndexTree) → IsAt node.now first s path t → result ≡ near_leaves at.now.c bound t }
     ensures fits { result ≤ node.now.leaves }
 {
+    if node.leaf_count() == 1 {
+        return one_within(node.cell().least_dist2(at), bound);
+    }
     match node.children() {
         Some((left, right)) => near_below(&left, at, bound) + near_below(&right, at, bound),
-        None => one_within(node.cell().least_dist2(at), bound),
+        None => 0,
     }
 }
 
