@@ -50,7 +50,7 @@ pub record IsSpelt (s : LiveSet) (base span count : ℕ) (bits : List ℕ) : Typ
   pub are_bits : AreBits base span bits
   pub numbers : s.live ≡ live_in base span bits
 
-sizes_unique : (segment generation a b c d e f : ℕ) (x y : List ℕ) → a < 2 ^ 32 → b < 2 ^ 32 → c < 2 ^ 32 → d < 2 ^ 32 → e < 2 ^ 32 → f < 2 ^ 32
+pub sizes_unique : (segment generation a b c d e f : ℕ) (x y : List ℕ) → a < 2 ^ 32 → b < 2 ^ 32 → c < 2 ^ 32 → d < 2 ^ 32 → e < 2 ^ 32 → f < 2 ^ 32
     → head segment generation a b c ++ x ≡ head segment generation d e f ++ y → (a ≡ d) × (b ≡ e) × (c ≡ f) × (x ≡ y)
 sizes_unique segment generation a b c d e f x y ha hb hc hd he hf same =
     let numbers = append_cancel_left (name segment generation) (sizes a b c ++ x) (sizes d e f ++ y) (sym (head-parts segment generation a b c x) ∙ same ∙ head-parts segment generation d e f y) in

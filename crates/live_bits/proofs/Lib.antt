@@ -6,3 +6,4 @@ pub mod Reach
 pub mod Heads
 pub mod Bodies
 pub mod Made
+pub mod Fronts

@@ -18,7 +18,7 @@ const MAGIC: &[u8; 8] = b"BKDPLIV1";
 const HEAD_LEN: usize = 36;
 
 /// The greatest number of documents.
-const LIMIT: u32 = 1 << 24;
+pub(crate) const LIMIT: u32 = 1 << 24;
 
 /// The numbers of a body that say what its bits mean.
 #[derive(Clone, Copy)]
@@ -52,7 +52,7 @@ pub(crate) fn parse(segment: u64, generation: u64, body: &[u8]) -> Option<(Sizes
 }
 
 /// The sizes in front, whatever they say, and the bytes after them.
-fn fields_of(segment: u64, generation: u64, body: &[u8]) -> Option<(Sizes, &[u8])>
+pub(crate) fn fields_of(segment: u64, generation: u64, body: &[u8]) -> Option<(Sizes, &[u8])>
     ensures some { IfSome result (λ p. body.now ≡ head segment generation p.0.base p.0.span p.0.count ++ p.1.now) }
     ensures fits { IfSome result (λ p. (p.0.base < 2 ^ 32) × (p.0.span < 2 ^ 32) × (p.0.count < 2 ^ 32)) }
     ensures none { IfNone result ((base span count : ℕ) (bits : List ℕ)

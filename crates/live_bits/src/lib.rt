@@ -10,10 +10,12 @@ mod bits;
 mod body;
 mod docs;
 mod fault;
+mod front;
 mod laws;
 mod live;
 
 pub use fault::{BitsFault, Memory};
+pub use front::body_len;
 pub use laws::{bodies_are_unique, clearing_takes_one_out, none_is_live};
 pub use live::LiveBits;
 

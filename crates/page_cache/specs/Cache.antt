@@ -1,19 +1,16 @@
 -- What contracts see of a cache: which pages it keeps, in which order, and whether they are those of the files.
-use Rattle.std.specs.Prelude.{◌≡◌, ◌≢◌, ℕ, ◌-◌, ◌==◌, not, List, ◌∷◌, map, take, filter, Contains}
-use Rattle.std.specs.declared.boxed.Box.{Box}
-use Rattle.std.specs.declared.alloc.Global.{Global}
-use Rattle.page_file.specs.declared.page.PageBytes.{PageBytes}
+use Rattle.std.specs.Prelude.{◌≡◌, ℕ, ◌-◌, List, ◌∷◌, map, take, filter}
 use Rattle.outer_io.specs.declared.file_name.FileName.{FileName}
 use Rattle.outer_io.specs.declared.file_name.FileName.TheVariants.{Commit, CommitNew, Segment, Live}
 use Rattle.outer_io.specs.Files.{Files}
 use Rattle.page_cache.specs.declared.key.PageKey.{PageKey}
 use Rattle.page_cache.specs.declared.cache.PageCache.{PageCache}
-use Rattle.page_cache.specs.Keys.{page_key, without}
+use Rattle.page_cache.specs.Keys.{page_key, without, KeepsIn, is_of_other}
 use Rattle.page_cache.specs.Evidence.{IsPageOf}
 
 -- the cache keeps this page of the segment's file, with these bytes
 unfoldable pub Keeps : PageCache → ℕ → ℕ → List ℕ → Type 0
-Keeps c id number bytes = (page : Box PageBytes Global) × Contains c.pages.entries (page_key id number, page) × (page.value.b ≡ bytes)
+Keeps c id number bytes = KeepsIn c.pages.entries (page_key id number) bytes
 
 -- it keeps this page
 unfoldable pub IsKept : PageCache → ℕ → ℕ → Type 0
@@ -42,7 +39,7 @@ pub record IsUsed (id number : ℕ) (old new : PageCache) : Type 0 where
 
 -- the keys of other segments
 abbrev pub of_others : ℕ → List PageKey → List PageKey
-of_others id keys = filter (λ k. not (k.id == id)) keys
+of_others id keys = filter (is_of_other id) keys
 
 -- the name is that of a segment's file; only of those pages are kept
 abbrev pub IsSegment : FileName → Type 0

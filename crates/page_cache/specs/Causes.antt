@@ -1,6 +1,6 @@
 -- What the answers of a call say of the count of faults of the folder that it was made on: a failure of the
 -- folder is answered only by a call in which that count rose.
-use Rattle.std.specs.Prelude.{◌≡◌, ℕ, ◌≤◌, Result, OnOk, IsErrOf}
+use Rattle.std.specs.Prelude.{◌≡◌, ℕ, ◌≤◌, Result, Ok, Err, OnOk, IsErrOf}
 use Rattle.outer_io.specs.Counts.{Rose}
 use Rattle.outer_io.specs.declared.faults.WriteFault.{WriteFault}
 use Rattle.outer_io.specs.declared.faults.WriteFault.TheVariants as write
@@ -15,7 +15,14 @@ pub record HasPageCause {T : Type 0} (before now : ℕ) (result : Result T PageF
   pub fine : OnOk result (now ≡ before)
   pub failed : IsErrOf result page.Failed → Rose before now
 
--- the same of a call that writes
+-- a call that answers anything but Failed raised none
+abbrev pub IsSteady : {T : Type 0} → ℕ → ℕ → Result T PageFault → Type 0
+IsSteady before now (Ok _) = now ≡ before
+IsSteady before now (Err page.Failed) = Unit {0}
+IsSteady before now (Err (page.Damaged d)) = now ≡ before
+IsSteady before now (Err page.Memory) = now ≡ before
+
+-- causes, of a call that writes
 pub record HasSegCause {T : Type 0} (before now : ℕ) (result : Result T SegFault) : Type 0 where
   pub later : before ≤ now
   pub fine : OnOk result (now ≡ before)

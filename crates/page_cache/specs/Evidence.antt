@@ -71,6 +71,28 @@ IsTrueOf place pairs beyond doubled files (Unequal file said found) = pairs file
 IsTrueOf place pairs beyond doubled files (Beyond doc next) = beyond doc next
 IsTrueOf place pairs beyond doubled files (Doubled doc) = doubled doc
 
+-- where the damage is one of size, so many bytes were needed
+abbrev pub SizeNeeds : ℕ → Damage → Type 0
+SizeNeeds most (Page file number bytes) = Unit {0}
+SizeNeeds most (Leaf file number offset len bytes) = Unit {0}
+SizeNeeds most (Body file bytes) = Unit {0}
+SizeNeeds most (Missing file) = Unit {0}
+SizeNeeds most (Size file size needed) = needed ≡ most
+SizeNeeds most (Unequal file said found) = Unit {0}
+SizeNeeds most (Beyond doc next) = Unit {0}
+SizeNeeds most (Doubled doc) = Unit {0}
+
+-- the damage is that the file has this size and needs another
+abbrev pub IsSizeDamage : FileName → ℕ → ℕ → Damage → Type 0
+IsSizeDamage name had most (Size file size needed) = (file ≡ name) × (size ≡ had) × (needed ≡ most)
+IsSizeDamage name had most (Page file number bytes) = ⊥
+IsSizeDamage name had most (Leaf file number offset len bytes) = ⊥
+IsSizeDamage name had most (Body file bytes) = ⊥
+IsSizeDamage name had most (Missing file) = ⊥
+IsSizeDamage name had most (Unequal file said found) = ⊥
+IsSizeDamage name had most (Beyond doc next) = ⊥
+IsSizeDamage name had most (Doubled doc) = ⊥
+
 -- ---- the damages of one page, and of pages of one file
 
 -- reading this page of this file shows it to be no page for its place, or the file to end before its end

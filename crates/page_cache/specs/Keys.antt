@@ -1,5 +1,5 @@
 -- Kept pages, as the list of them, and which of them are kept after a use.
-use Rattle.std.specs.Prelude.{ℕ, Bool, ◌==◌, ◌&&◌, cond, List, [], ◌∷◌, map, Contains}
+use Rattle.std.specs.Prelude.{◌≡◌, ◌⊎◌, not, ℕ, Bool, ◌==◌, ◌&&◌, cond, List, [], ◌∷◌, map, Contains}
 use Rattle.std.specs.declared.boxed.Box.{Box}
 use Rattle.std.specs.declared.alloc.Global.{Global}
 use Rattle.page_file.specs.declared.page.PageBytes.{PageBytes}
@@ -20,6 +20,26 @@ same_key a b = (a.id == b.id) && (a.number == b.number)
 -- each kept page is a page for its place in its segment's file
 abbrev pub AllValid : Kept → Type 0
 AllValid pages = (e : PageKey × Box PageBytes Global) → Contains pages e → IsPage 1 e.0.id e.0.number e.1.value.b
+
+-- the page of this key is kept with these bytes
+abbrev pub KeepsIn : Kept → PageKey → List ℕ → Type 0
+KeepsIn pages key bytes = (page : Box PageBytes Global) × Contains pages (key, page) × (page.value.b ≡ bytes)
+
+-- the page of this key is kept
+abbrev pub HasKey : Kept → PageKey → Type 0
+HasKey pages key = (page : Box PageBytes Global) × Contains pages (key, page)
+
+-- each page that is kept now was kept
+abbrev pub KeepsNoMore : Kept → Kept → Type 0
+KeepsNoMore old new = (e : PageKey × Box PageBytes Global) → Contains new e → Contains old e
+
+-- it was kept or is this one
+abbrev pub KeepsOneMore : PageKey → Box PageBytes Global → Kept → Kept → Type 0
+KeepsOneMore key page old new = (e : PageKey × Box PageBytes Global) → Contains new e → Contains old e ⊎ (e ≡ (key, page))
+
+-- whether the key is of another segment
+abbrev pub is_of_other : ℕ → PageKey → Bool
+is_of_other id key = not (key.id == id)
 
 -- the keys without the first that is this one
 abbrev pub without : PageKey → List PageKey → List PageKey

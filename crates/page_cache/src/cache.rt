@@ -1,36 +1,41 @@
 //! The cache of pages of segment files.
 
-ghost use Rattle.std.specs.Prelude.{◌≤◌};
 ghost use Rattle.page_cache.specs.Keys.{AllValid};
 
 use crate::faults::{Memory, PageFault};
+use crate::kept::{KeptPages, bytes_of, keep, take_file_out, take_out, touch};
 use crate::key::PageKey;
+use crate::read::read_page;
 use lru::LruCache;
 use outer_io::{FileName, Pages};
 use page_file::{PageBytes, PageView};
 use std::alloc::Global;
+use std::num::NonZeroUsize;
+
+/// The kind of a segment's file.
+const SEGMENT_KIND: u8 = 1;
 
 /// Pages of segment files, those that were used last, each known to be a page for its place.
 #[derive(Drop)]
 pub struct PageCache {
-    pages: LruCache<PageKey, Box<PageBytes>>,
+    pages: KeptPages,
     ghost valid: { AllValid pages.entries },
-    // this goes with the bodies that are not written yet
-    ghost stub: { 1 ≤ 0 },
 }
 
 impl PageCache {
     ghost use Rattle.std.specs.Prelude.{◌≡◌, ◌≢◌, ◌≤◌, ◌+◌, ◌⊎◌, ℕ, List, [], IsTrue, IsOk, OnOk, OnErr, IfOk, IfSome, IfNone, OnSome};
+    ghost use Rattle.outer_io.specs.Counts.{RisesByOne};
     ghost use Rattle.outer_io.specs.Files.{Files, bytes_of};
     ghost use Rattle.outer_io.specs.declared.file_name.FileName.TheVariants.{Segment};
     ghost use Rattle.page_file.specs.Page.{IsPage};
     ghost use Rattle.page_cache.specs.FilePages.{kind_of, number_of, page_at, IsFilePage};
     ghost use Rattle.page_cache.specs.Evidence.{OnDamage, NotDamaged, IsPageOf, IsPageDamage, IsPageDamageOf};
-    ghost use Rattle.page_cache.specs.Causes.{HasPageCause};
+    ghost use Rattle.page_cache.specs.Causes.{HasPageCause, IsSteady};
     ghost use Rattle.page_cache.specs.Keys.{page_key, without};
     ghost use Rattle.page_cache.specs.Cache.{Keeps, IsKept, KeepsFile, Agrees, room_of, order_of, of_others, IsUsed, IsSegment, KeepsOf, IsKeptOf};
 
     /// A cache with room for so many pages, 1 to 65,536, that keeps none.
+    #[tactic(auto, unfolding(crate::specs::Cache::Keeps, crate::specs::Cache::IsKept, crate::specs::Cache::KeepsFile, crate::specs::Cache::Agrees, crate::specs::Cache::room_of, crate::specs::Cache::order_of))]
     pub fn new(alloc: Global, pages: u32) -> Result<PageCache, Memory>
         requires some { 1 ≤ pages }
         requires fits { pages ≤ 65536 }
@@ -39,12 +44,16 @@ impl PageCache {
         ensures empty { IfOk result (λ c. (id : ℕ) → KeepsFile c id → ⊥) }
         ensures agrees { IfOk result (λ c. (files : Files) → Agrees files c) }
     {
-        Err(std::alloc::AllocError)
+        let room = NonZeroUsize::new(pages as usize).unwrap();
+        Ok(PageCache {
+            pages: LruCache::sparse(alloc, room)?,
+        })
     }
 
     /// Sees to it that a page of a segment's file is kept. A page that is kept is found without a read and without
     /// memory. Another is read by one call; where the room is full, the page least lately used goes for it. A
     /// refusal leaves all kept pages.
+    #[tactic(auto, unfolding(crate::specs::Cache::Keeps, crate::specs::Cache::IsKept, crate::specs::Cache::KeepsFile, crate::specs::Cache::Agrees, crate::specs::Cache::room_of, crate::specs::Cache::order_of))]
     pub fn load<F: Pages>(
         &mut self,
         alloc: Global,
@@ -55,28 +64,42 @@ impl PageCache {
         ensures files { IsTrue F.told → F.files folder.new ≡ F.files folder.old }
         ensures reads { F.reads folder.new ≤ F.reads folder.old + 1 }
         ensures cause { HasPageCause (F.faults folder.old) (F.faults folder.new) result }
+        ensures steady { IsSteady (F.faults folder.old) (F.faults folder.new) result }
         ensures hit { IsKept self.old id number → IsOk result × (F.reads folder.new ≡ F.reads folder.old) }
+        ensures once { (IsKept self.old id number → ⊥) → OnOk result (RisesByOne (F.reads folder.old) (F.reads folder.new)) }
         ensures kept { OnOk result (IsKept self.new id number) }
         ensures order { OnOk result (IsUsed id number self.old self.new) }
         ensures refused { OnErr result (order_of self.new ≡ order_of self.old) }
         ensures room { room_of self.new ≡ room_of self.old }
         ensures others { (i : ℕ) → KeepsFile self.new i → KeepsFile self.old i ⊎ (i ≡ id) }
+        ensures stays { (i n : ℕ) (bytes : List ℕ) → Keeps self.new i n bytes
+            → Keeps self.old i n bytes ⊎ ((i ≡ id) × (n ≡ number) × (IsKept self.old id number → ⊥)) }
         ensures agrees { IsTrue F.told → Agrees (F.files folder.old) self.old → Agrees (F.files folder.old) self.new }
         ensures shown { OnDamage result (IsPageDamage (Segment id) number) }
         ensures damage { IsTrue F.told → OnDamage result (IsPageDamageOf (F.files folder.old) number) }
         ensures whole { IsTrue F.told → IsFilePage (Segment id) (bytes_of (F.files folder.old (Segment id))) number → NotDamaged result }
     {
-        Err(PageFault::Memory)
+        let key = PageKey { id, number };
+        if touch(&mut self.pages, key) {
+            return Ok(());
+        }
+        let page = read_page(alloc, folder, &FileName::Segment(id), number)?;
+        keep(&mut self.pages, key, page)?;
+        Ok(())
     }
 
     /// A page that is kept. It computes no digest.
+    #[tactic(auto, unfolding(crate::specs::Cache::Keeps, crate::specs::Cache::IsKept, crate::specs::Cache::KeepsFile, crate::specs::Cache::Agrees, crate::specs::Cache::room_of, crate::specs::Cache::order_of))]
     pub fn view(&self, id: u64, number: u32) -> PageView<'_>
         requires { IsKept self.now id number }
         ensures place { (result.kind ≡ 1) × (result.file ≡ id) × (result.number ≡ number) }
         ensures bytes { Keeps self.now id number result.bytes.now.b }
+        // No other page is kept for that place.
+        ensures only { (bytes : List ℕ) → Keeps self.now id number bytes → bytes ≡ result.bytes.now.b }
         ensures file { (files : Files) → Agrees files self.now → IsPageOf files (Segment id) number result.bytes.now.b }
     {
-        unreachable!()
+        let page = bytes_of(&self.pages, PageKey { id, number });
+        PageView::of_valid(SEGMENT_KIND, id, number, page)
     }
 
     /// A page of a segment's file, as `load` and then `view` give it.
@@ -91,6 +114,7 @@ impl PageCache {
         ensures files { IsTrue F.told → F.files folder.new ≡ F.files folder.old }
         ensures reads { F.reads folder.new ≤ F.reads folder.old + 1 }
         ensures cause { HasPageCause (F.faults folder.old) (F.faults folder.new) result }
+        ensures steady { IsSteady (F.faults folder.old) (F.faults folder.new) result }
         ensures hit { IsKeptOf self.old file.now number → IsOk result × (F.reads folder.new ≡ F.reads folder.old) }
         ensures place { IfOk result (λ v. (v.kind ≡ 1) × (v.file ≡ number_of file.now) × (v.number ≡ number)) }
         ensures bytes { IsTrue F.told → Agrees (F.files folder.old) self.old → IfOk result (λ v. IsPageOf (F.files folder.old) file.now number v.bytes.now.b) }
@@ -98,10 +122,15 @@ impl PageCache {
         ensures damage { IsTrue F.told → OnDamage result (IsPageDamageOf (F.files folder.old) number) }
         ensures whole { IsTrue F.told → IsFilePage file.now (bytes_of (F.files folder.old file.now)) number → NotDamaged result }
     {
-        Err(PageFault::Memory)
+        let FileName::Segment(id) = *file else {
+            unreachable!()
+        };
+        self.load(alloc, folder, id, number)?;
+        Ok(self.view(id, number))
     }
 
     /// Takes a page out. None exactly where it isn't kept. Takes no memory.
+    #[tactic(auto, unfolding(crate::specs::Cache::Keeps, crate::specs::Cache::IsKept, crate::specs::Cache::KeepsFile, crate::specs::Cache::Agrees, crate::specs::Cache::room_of, crate::specs::Cache::order_of))]
     pub fn take(&mut self, file: &FileName, number: u32) -> Option<Box<PageBytes>>
         ensures none { IfNone result (IsKeptOf self.old file.now number → ⊥) }
         ensures some { IfSome result (λ p. KeepsOf self.old file.now number p.value.b) }
@@ -113,10 +142,14 @@ impl PageCache {
         ensures agrees { (files : Files) → Agrees files self.old → Agrees files self.new }
         ensures room { room_of self.new ≡ room_of self.old }
     {
-        None
+        let FileName::Segment(id) = *file else {
+            return None;
+        };
+        take_out(&mut self.pages, PageKey { id, number })
     }
 
     /// Takes all pages of a segment's file out, and leaves those of others as they are. Takes no memory.
+    #[tactic(auto, unfolding(crate::specs::Cache::Keeps, crate::specs::Cache::IsKept, crate::specs::Cache::KeepsFile, crate::specs::Cache::Agrees, crate::specs::Cache::room_of, crate::specs::Cache::order_of))]
     pub fn forget(&mut self, id: u64)
         ensures gone { KeepsFile self.new id → ⊥ }
         ensures order { order_of self.new ≡ of_others id (order_of self.old) }
@@ -124,5 +157,7 @@ impl PageCache {
         ensures fewer { (i : ℕ) → KeepsFile self.new i → KeepsFile self.old i }
         ensures agrees { (files : Files) → Agrees files self.old → Agrees files self.new }
         ensures room { room_of self.new ≡ room_of self.old }
-    {}
+    {
+        take_file_out(&mut self.pages, id);
+    }
 }

@@ -48,9 +48,14 @@ pub enum Damage {
         bytes: Box<PageBytes>,
     },
     /// The payload of the first page, or the joined payloads, of valid pages that break the file's format.
-    Body { file: FileName, bytes: Bytes },
+    Body {
+        file: FileName,
+        bytes: Bytes,
+    },
     /// The file isn't there.
-    Missing { file: FileName },
+    Missing {
+        file: FileName,
+    },
     /// The file ends at another byte than its layout needs.
     Size {
         file: FileName,
@@ -64,9 +69,14 @@ pub enum Damage {
         found: u64,
     },
     /// A live document's number isn't below the next number.
-    Beyond { doc: u32, next: u32 },
+    Beyond {
+        doc: u32,
+        next: u32,
+    },
     /// A document's number is live twice.
-    Doubled { doc: u32 },
+    Doubled {
+        doc: u32,
+    },
 }
 
 impl From<Failed> for PageFault {

@@ -32,3 +32,14 @@ pub fn payloads_join()
     ensures parts { (bytes : List ℕ) (from a b : ℕ) → payloads_of bytes from (a + b) ≡ payloads_of bytes from a ++ payloads_of bytes (from + a) b }
     ensures one { (bytes : List ℕ) (n : ℕ) → payloads_of bytes n 1 ≡ payload_of (page_at bytes n) }
 {}
+
+/// Pages that are put behind so many whole pages of a file are its pages from there on, and the pages before stay.
+pub fn pages_put_behind()
+    ensures pages { (name : FileName) (first : ℕ) (body old bytes : List ℕ) → length old ≡ 4096 * first → ArePagesOf name first body bytes
+        → ArePages name (old ++ bytes) first (first + pages_for (length body)) }
+    ensures payloads { (name : FileName) (first : ℕ) (body old bytes : List ℕ) → length old ≡ 4096 * first → ArePagesOf name first body bytes
+        → payloads_of (old ++ bytes) first (pages_for (length body)) ≡ payloads_of bytes 0 (pages_for (length body)) }
+    ensures before { (name : FileName) (from end : ℕ) (old bytes : List ℕ) → ArePages name old from end → ArePages name (old ++ bytes) from end }
+    ensures same { (name : FileName) (from count : ℕ) (old bytes : List ℕ) → ArePages name old from (from + count)
+        → payloads_of (old ++ bytes) from count ≡ payloads_of old from count }
+{}

@@ -12,6 +12,7 @@ mod bodies;
 mod cache;
 mod faults;
 mod first_page;
+mod kept;
 mod key;
 mod laws;
 mod read;
@@ -21,7 +22,8 @@ pub use cache::PageCache;
 pub use faults::{Damage, Memory, PageFault, SegFault};
 pub use first_page::FirstPage;
 pub use laws::{
-    agreement_is_of_kept_files, bodies_of_one_length_are_equal, pages_that_agree, payloads_join,
+    agreement_is_of_kept_files, bodies_of_one_length_are_equal, pages_put_behind, pages_that_agree,
+    payloads_join,
 };
 pub use read::read_payloads;
 

@@ -1,12 +1,13 @@
 //! Pages read from a file.
 
 ghost use Rattle.std.specs.Prelude.{◌≡◌, ◌≤◌, ◌<◌, ◌+◌, ◌*◌, ◌^◌, ◌++◌, ◌↔◌, length, vec_len, IsTrue, IfOk, OnOk, IfErr, OnErr};
+ghost use Rattle.outer_io.specs.Counts.{RisesByOne};
 ghost use Rattle.outer_io.specs.Faults.{HasCause};
 ghost use Rattle.outer_io.specs.Files.{bytes_of};
 ghost use Rattle.page_file.specs.Page.{IsPage, payload_of};
 ghost use Rattle.page_cache.specs.FilePages.{kind_of, number_of, IsFilePage, ArePages, payloads_of};
 ghost use Rattle.page_cache.specs.Evidence.{OnDamage, NotDamaged, IsPageOf, seen_end, IsPageDamage, IsPageDamageOf, IsFileDamage, IsFileDamageOf};
-ghost use Rattle.page_cache.specs.Causes.{HasPageCause};
+ghost use Rattle.page_cache.specs.Causes.{HasPageCause, IsSteady};
 ghost use Rattle.page_cache.specs.declared.faults.PageFault.TheVariants as fault;
 ghost use Rattle.page_cache.specs.declared.faults.Damage.TheVariants as damage;
 
@@ -40,11 +41,7 @@ fn is_page(name: &FileName, number: u32, page: &PageBytes) -> bool
 }
 
 /// The page, if it is one for that place.
-fn checked(
-    name: &FileName,
-    number: u32,
-    page: Box<PageBytes>,
-) -> Result<Box<PageBytes>, PageFault>
+fn checked(name: &FileName, number: u32, page: Box<PageBytes>) -> Result<Box<PageBytes>, PageFault>
     ensures same { IfOk result (λ p. p ≡ page) }
     ensures valid { OnOk result (IsPage (kind_of name.now) (number_of name.now) number page.value.b) }
     ensures other { IfErr result (λ e. e ≡ fault.Damaged (damage.Page name.now number page)) }
@@ -69,7 +66,7 @@ fn read_bytes<F: Pages>(
     page: &mut PageBytes,
 ) -> Result<usize, Failed>
     ensures files { IsTrue F.told → F.files folder.new ≡ F.files folder.old }
-    ensures reads { F.reads folder.new ≤ F.reads folder.old + 1 }
+    ensures reads { RisesByOne (F.reads folder.old) (F.reads folder.new) }
     ensures cause { HasCause (F.faults folder.old) (F.faults folder.new) result }
     ensures whole { IsTrue F.told → IfOk result (λ count. 4096 ≤ count → IsPageOf (F.files folder.old) name.now number page.new.b) }
     ensures end { IsTrue F.told → IfOk result (λ count. count < 4096 → 4096 * number + count ≡ seen_end (F.files folder.old) name.now number) }
@@ -88,7 +85,9 @@ pub(crate) fn read_over<F: Pages>(
 ) -> Result<Box<PageBytes>, PageFault>
     ensures files { IsTrue F.told → F.files folder.new ≡ F.files folder.old }
     ensures reads { F.reads folder.new ≤ F.reads folder.old + 1 }
+    ensures once { OnOk result (RisesByOne (F.reads folder.old) (F.reads folder.new)) }
     ensures cause { HasPageCause (F.faults folder.old) (F.faults folder.new) result }
+    ensures steady { IsSteady (F.faults folder.old) (F.faults folder.new) result }
     ensures valid { IfOk result (λ p. IsPage (kind_of name.now) (number_of name.now) number p.value.b) }
     ensures bytes { IsTrue F.told → IfOk result (λ p. IsPageOf (F.files folder.old) name.now number p.value.b) }
     ensures shown { OnDamage result (IsPageDamage name.now number) }
@@ -116,7 +115,9 @@ pub(crate) fn read_page<F: Pages>(
 ) -> Result<Box<PageBytes>, PageFault>
     ensures files { IsTrue F.told → F.files folder.new ≡ F.files folder.old }
     ensures reads { F.reads folder.new ≤ F.reads folder.old + 1 }
+    ensures once { OnOk result (RisesByOne (F.reads folder.old) (F.reads folder.new)) }
     ensures cause { HasPageCause (F.faults folder.old) (F.faults folder.new) result }
+    ensures steady { IsSteady (F.faults folder.old) (F.faults folder.new) result }
     ensures valid { IfOk result (λ p. IsPage (kind_of name.now) (number_of name.now) number p.value.b) }
     ensures bytes { IsTrue F.told → IfOk result (λ p. IsPageOf (F.files folder.old) name.now number p.value.b) }
     ensures shown { OnDamage result (IsPageDamage name.now number) }
@@ -149,6 +150,7 @@ pub(crate) fn append_payloads<F: Pages>(
     ensures files { IsTrue F.told → F.files folder.new ≡ F.files folder.old }
     ensures reads { F.reads folder.new ≤ F.reads folder.old + count }
     ensures cause { HasPageCause (F.faults folder.old) (F.faults folder.new) result }
+    ensures steady { IsSteady (F.faults folder.old) (F.faults folder.new) result }
     ensures payloads { IsTrue F.told → OnOk result (out.new.items ≡ out.old.items ++ payloads_of (bytes_of (F.files folder.old name.now)) from count) }
     ensures len { OnOk result (vec_len out.new ≡ vec_len out.old + 4064 * count) }
     ensures pages { IsTrue F.told → OnOk result (ArePages name.now (bytes_of (F.files folder.old name.now)) from (from + count)) }
@@ -177,6 +179,7 @@ pub fn read_payloads<F: Pages>(
     ensures files { IsTrue F.told → F.files folder.new ≡ F.files folder.old }
     ensures reads { F.reads folder.new ≤ F.reads folder.old + count }
     ensures cause { HasPageCause (F.faults folder.old) (F.faults folder.new) result }
+    ensures steady { IsSteady (F.faults folder.old) (F.faults folder.new) result }
     ensures payloads { IsTrue F.told → IfOk result (λ v. v.items ≡ payloads_of (bytes_of (F.files folder.old name.now)) from count) }
     ensures len { IfOk result (λ v. vec_len v ≡ 4064 * count) }
     ensures pages { IsTrue F.told → OnOk result (ArePages name.now (bytes_of (F.files folder.old name.now)) from (from + count)) }

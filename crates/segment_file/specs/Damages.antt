@@ -1,5 +1,5 @@
 -- What a damage of a segment's file or of a file of live bits shows: by what it carries alone, and of the files where those are told.
-use Rattle.std.specs.Prelude.{◌≡◌, ◌≢◌, ℕ, ◌+◌, ◌<◌, ◌⊎◌, List, ◌++◌, None, slice_index}
+use Rattle.std.specs.Prelude.{◌≡◌, ◌≢◌, ℕ, ◌+◌, ◌^◌, ◌<◌, ◌⊎◌, List, ◌++◌, None, slice_index}
 use Rattle.outer_io.specs.declared.file_name.FileName.{FileName}
 use Rattle.outer_io.specs.declared.file_name.FileName.TheVariants.{Segment, Live}
 use Rattle.outer_io.specs.Files.{Files, bytes_of}
@@ -59,7 +59,7 @@ IsLeafDamageOf files (Doubled doc) = ⊥
 
 -- no head and index of any number of dimensions begins with these payloads
 abbrev pub BeginsNoHead : List ℕ → Type 0
-BeginsNoHead payloads = (dims said : ℕ) (head : Head) (rest : List ℕ) → IsHead dims head
+BeginsNoHead payloads = (dims said : ℕ) (head : Head) (rest : List ℕ) → said < 2 ^ 32 → IsHead dims head
     → payloads ++ rest ≡ filled (fields_bytes (fields_of dims head said)) ++ filled head.index.bytes → ⊥
 
 -- two numbers of a segment's file that must agree: the dimensions that are wanted and the file's, or the leaf pages that the head says and those
@@ -91,6 +91,17 @@ IsHeadDamageOf D files (Unequal file said found) = AreHeadPair D (bytes_of (file
 IsHeadDamageOf D files (Leaf file number offset len bytes) = ⊥
 IsHeadDamageOf D files (Beyond doc next) = ⊥
 IsHeadDamageOf D files (Doubled doc) = ⊥
+
+-- the damage is that these payloads of the file are out of its grammar
+abbrev pub IsBodyDamage : FileName → List ℕ → Damage → Type 0
+IsBodyDamage name payloads (Body file bytes) = (file ≡ name) × (bytes ≡ payloads)
+IsBodyDamage name payloads (Page file number bytes) = ⊥
+IsBodyDamage name payloads (Leaf file number offset len bytes) = ⊥
+IsBodyDamage name payloads (Missing file) = ⊥
+IsBodyDamage name payloads (Size file size needed) = ⊥
+IsBodyDamage name payloads (Unequal file said found) = ⊥
+IsBodyDamage name payloads (Beyond doc next) = ⊥
+IsBodyDamage name payloads (Doubled doc) = ⊥
 
 -- ---- live bits
 

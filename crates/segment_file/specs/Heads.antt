@@ -57,11 +57,14 @@ pub record AreFields (f : Fields) : Type 0 where
 abbrev pub magic : ℕ → List ℕ
 magic form = if form == 3 then codes "BKDPSEG2" else codes "BKDPSEG1"
 
--- the fields in order, the greatest byte of a number first (this project's layout)
+-- the fields behind the magic bytes, the greatest byte of a number first (this project's layout)
+abbrev pub numbers_bytes : Fields → List ℕ
+numbers_bytes f =
+    f.dims ∷ f.form ∷ to_be_bytes w16 f.leaf ++ (to_be_bytes w32 f.entries ++ (to_be_bytes w32 f.leaves
+    ++ (to_be_bytes w32 f.index_length ++ to_be_bytes w32 f.leaf_pages)))
+
 unfoldable pub fields_bytes : Fields → List ℕ
-fields_bytes f =
-    magic f.form ++ f.dims ∷ f.form ∷ to_be_bytes w16 f.leaf ++ to_be_bytes w32 f.entries ++ to_be_bytes w32 f.leaves
-    ++ to_be_bytes w32 f.index_length ++ to_be_bytes w32 f.leaf_pages
+fields_bytes f = magic f.form ++ numbers_bytes f
 
 -- the fields of a head of D dimensions whose leaves take so many pages
 abbrev pub fields_of : ℕ → Head → ℕ → Fields

@@ -3,9 +3,11 @@ use Rattle.std.specs.Prelude.{◌≡◌, ℕ, List, Err}
 use Rattle.std.specs.declared.boxed.Box.{Box}
 use Rattle.std.specs.declared.alloc.Global.{Global}
 use Rattle.outer_io.specs.declared.file_name.FileName.TheVariants.{Segment}
-use Rattle.point_codec.specs.Points.{Item}
-use Rattle.point_codec.specs.Seen.{region_of}
+use Rattle.point_codec.specs.Points.{Item, Region}
 use Rattle.leaf_codec.specs.Leaves.{SpellsLeafIn}
+use Rattle.inner_pack.specs.Places.{Spot}
+use Rattle.inner_pack.specs.Trees.{Leaf}
+use Rattle.inner_pack.specs.Nodes.{IsAt}
 use Rattle.inner_pack.specs.declared.node.NodeAt.{NodeAt}
 use Rattle.inner_pack.specs.declared.place.LeafPlace.{LeafPlace}
 use Rattle.page_file.specs.Page.{IsPage}
@@ -20,11 +22,12 @@ use Rattle.page_cache.specs.Evidence.{OnDamage}
 use Rattle.segment_file.specs.Heads.{Head, page_of, count_of}
 use Rattle.segment_file.specs.Segments.{part_of}
 
--- what the cache keeps of this place spells no leaf of the count and the cell of the node, which is a leaf of the head's index
+-- what the cache keeps of this place spells no leaf of the count and the own cell of the node, which is a leaf of the head's index
 unfoldable pub SpellsNoLeaf : {D : ℕ} → PageCache → Head → NodeAt D → LeafPlace → Type 0
 SpellsNoLeaf {D} cache head node place =
-    (bytes : List ℕ) (items : List Item) → Keeps cache head.id (page_of head place.page) bytes
-    → SpellsLeafIn D (part_of place.offset place.length bytes) (count_of head node.first) (region_of node.cell) items → ⊥
+    (first : ℕ) (s : Spot) (path : Region) (len : ℕ) (own : Region) → IsAt node first s path (Leaf len own)
+    → (bytes : List ℕ) (items : List Item) → Keeps cache head.id (page_of head place.page) bytes
+    → SpellsLeafIn D (part_of place.offset place.length bytes) (count_of head first) own items → ⊥
 
 -- the fault is a damage of that place, and carries the page that the cache kept
 pub record IsLeafFault (cache : PageCache) (head : Head) (place : LeafPlace) (f : PageFault) : Type 0 where

@@ -4,3 +4,4 @@ pub mod Written
 pub mod LiveFiles
 pub mod Damages
 pub mod Kept
+pub mod FieldsSeen

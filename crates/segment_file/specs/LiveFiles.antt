@@ -1,9 +1,9 @@
 -- A file of live bits.
-use Rattle.std.specs.Prelude.{ℕ, List}
+use Rattle.std.specs.Prelude.{◌≡◌, ℕ, List}
 use Rattle.outer_io.specs.declared.file_name.FileName.TheVariants.{Live}
 use Rattle.live_bits.specs.LiveSet.{LiveSet}
 use Rattle.live_bits.specs.LiveBody.{IsLiveBody}
-use Rattle.page_cache.specs.Bodies.{IsBodyFile}
+use Rattle.page_cache.specs.Bodies.{filled, IsBodyFile}
 
 -- the file of this segment and generation is the body of this set
 pub record LiveParts (segment generation : ℕ) (bytes : List ℕ) (live : LiveSet) : Type 0 where
@@ -14,3 +14,9 @@ pub record LiveParts (segment generation : ℕ) (bytes : List ℕ) (live : LiveS
 -- the same, of which no part is told. A file has one set at most (`one_live_set`)
 unfoldable pub IsLiveFile : (segment generation : ℕ) → List ℕ → LiveSet → Type 0
 IsLiveFile segment generation bytes live = LiveParts segment generation bytes live
+
+-- the payloads of the file, all of them, are those of the body of this set
+pub record IsSetOf (segment generation : ℕ) (payloads : List ℕ) (live : LiveSet) : Type 0 where
+  pub body : List ℕ
+  pub set : IsLiveBody segment generation live body
+  pub payloads_are : payloads ≡ filled body

@@ -7,6 +7,8 @@ ghost use Rattle.segment_file.specs.Heads.{Head};
 ghost use Rattle.segment_file.specs.Segments.{IsHeadOf, IsSegment};
 ghost use Rattle.segment_file.specs.LiveFiles.{IsLiveFile};
 
+use inner_pack::one_tree;
+
 /// A file has one head at most.
 pub fn one_head()
     ensures { (D : ℕ) (bytes : List ℕ) (g h : Head) → g.id ≡ h.id → IsHeadOf D bytes g → IsHeadOf D bytes h → g ≡ h }
@@ -16,7 +18,9 @@ pub fn one_head()
 pub fn one_segment()
     ensures head { (D : ℕ) (bytes : List ℕ) (h : Head) (items : List Item) → IsSegment D bytes h items → IsHeadOf D bytes h }
     ensures items { (D : ℕ) (bytes : List ℕ) (h : Head) (xs ys : List Item) → IsSegment D bytes h xs → IsSegment D bytes h ys → xs ≡ ys }
-{}
+{
+    one_tree();
+}
 
 /// A file has one set of live numbers at most.
 pub fn one_live_set()

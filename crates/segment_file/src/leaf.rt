@@ -1,6 +1,6 @@
 //! One leaf, read in place in a page that the cache keeps.
 
-ghost use Rattle.std.specs.Prelude.{◌≡◌, ◌≤◌, ◌<◌, ◌+◌, ◌⊎◌, ℕ, List, Err, IsTrue, IsOk, IfOk, OnOk, OnErr, IfSome, IfNone};
+ghost use Rattle.std.specs.Prelude.{◌≡◌, ◌≤◌, ◌<◌, ◌+◌, ◌⊎◌, ℕ, List, length, take, drop, IsTrue, IsOk, IfOk, OnOk, OnErr, IfSome, IfNone};
 ghost use Rattle.outer_io.specs.Files.{Files, bytes_of};
 ghost use Rattle.outer_io.specs.declared.file_name.FileName.TheVariants.{Segment};
 ghost use Rattle.point_codec.specs.Points.{Item, Region};
@@ -19,8 +19,8 @@ ghost use Rattle.segment_file.specs.Kept.{SpellsNoLeaf, IsLeafFault, OnFault};
 use crate::head::SegmentHead;
 use inner_pack::{LeafPlace, NodeAt};
 use leaf_codec::LeafView;
-use outer_io::Pages;
-use page_cache::{PageCache, PageFault};
+use outer_io::{FileName, Pages};
+use page_cache::{Damage, PageCache, PageFault};
 use std::alloc::Global;
 
 /// Sees to it that the page is kept in which a leaf of the head's index stands, and answers the leaf's place.
@@ -49,7 +49,11 @@ pub fn load_leaf<const D: usize, F: Pages>(
     ensures whole { IsTrue F.told → (first : ℕ) (s : Spot) (path : Region) (t : IndexTree) → IsAt node.now first s path t
         → IsFilePage (Segment head.now.id) (bytes_of (F.files folder.old (Segment head.now.id))) (page_of head.now s.page) → NotDamaged result }
 {
-    Err(PageFault::Memory)
+    let Some(place) = node.leaf_place() else {
+        unreachable!()
+    };
+    cache.load(alloc, folder, head.id(), head.page_of(place))?;
+    Ok(place)
 }
 
 /// The leaf of the node in its page, which is kept. None exactly where the page has no leaf of the node's count
@@ -71,7 +75,19 @@ pub fn leaf_in<'a, const D: usize>(
         → (items : List Item) → HoldsLeaf D (bytes_of (files (Segment head.now.id))) head.now first s len own items → ⊥) }
     ensures bad { IfNone result (SpellsNoLeaf cache.now head.now node.now place) }
 {
-    None
+    let page = cache.view(head.id(), head.page_of(place));
+    let part = part_of(page.payload(), place);
+    LeafView::read(part, &node.cell(), head.count_of(node.first_leaf()))
+}
+
+/// The part of a page's payload that is a leaf's place.
+fn part_of(payload: &[u8], place: LeafPlace) -> &[u8]
+    requires { place.offset + place.length ≤ length payload.now }
+    ensures { result.now ≡ take place.length (drop place.offset payload.now) }
+{
+    let (_, rest) = payload.split_at(usize::from(place.offset));
+    let (part, _) = rest.split_at(usize::from(place.length));
+    part
 }
 
 /// The damage of a leaf that `leaf_in` did not find. The page is taken out of the cache and carried by it, so no
@@ -92,5 +108,16 @@ pub fn bad_leaf<const D: usize>(
     ensures fewer { (i : ℕ) → KeepsFile cache.new i → KeepsFile cache.old i }
     ensures agrees { (files : Files) → Agrees files cache.old → Agrees files cache.new }
 {
-    PageFault::Memory
+    let file = FileName::Segment(head.id());
+    let number = head.page_of(place);
+    let Some(bytes) = cache.take(&file, number) else {
+        unreachable!()
+    };
+    PageFault::Damaged(Damage::Leaf {
+        file,
+        number,
+        offset: place.offset,
+        length: place.length,
+        bytes,
+    })
 }

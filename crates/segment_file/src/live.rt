@@ -1,17 +1,23 @@
 //! Files of live bits.
 
-ghost use Rattle.std.specs.Prelude.{◌≡◌, ◌≤◌, ◌+◌, ℕ, IsTrue, IfOk, OnOk};
+ghost use Rattle.std.specs.Prelude.{◌≡◌, ◌≢◌, ◌≤◌, ◌+◌, ◌*◌, ◌++◌, ℕ, List, length, vec_len, IsTrue, IfOk, OnOk, IsErrOf};
 ghost use Rattle.outer_io.specs.Files.{bytes_of, SameBut};
 ghost use Rattle.outer_io.specs.declared.file_name.FileName.TheVariants.{Live};
 ghost use Rattle.live_bits.specs.LiveSet.{LiveSet, IsLiveSet};
+ghost use Rattle.live_bits.specs.LiveBody.{IsLiveBody};
+ghost use Rattle.page_cache.specs.declared.faults.PageFault.TheVariants as page;
+ghost use Rattle.page_cache.specs.Bodies.{pages_for as pages_for_body};
 ghost use Rattle.page_cache.specs.Causes.{HasPageCause, HasSegCause};
 ghost use Rattle.page_cache.specs.Evidence.{OnDamage, NotDamaged};
-ghost use Rattle.segment_file.specs.LiveFiles.{IsLiveFile};
-ghost use Rattle.segment_file.specs.Damages.{IsLiveDamage, IsLiveDamageOf};
+ghost use Rattle.segment_file.specs.LiveFiles.{IsLiveFile, IsSetOf};
+ghost use Rattle.segment_file.specs.Kept.{OnFault};
+ghost use Rattle.segment_file.specs.Damages.{BeginsNoSet, IsBodyDamage, IsLiveDamage, IsLiveDamageOf};
 
-use live_bits::LiveBits;
-use outer_io::{Folder, Pages};
-use page_cache::{PageFault, SegFault};
+use crate::payloads::{all_payloads, is_blank};
+use byte_cursor::{Bytes, Memory};
+use live_bits::{BitsFault, LiveBits, body_len};
+use outer_io::{FileName, Folder, Pages};
+use page_cache::{Damage, FirstPage, PageFault, SegFault, pages_for, pages_of};
 use std::alloc::Global;
 
 /// Writes the live bits of a segment as the file of this generation. On a refusal that file holds any bytes or
@@ -28,7 +34,25 @@ pub fn write_live<F: Folder>(
     ensures reads { F.reads folder.new ≡ F.reads folder.old }
     ensures cause { HasSegCause (F.faults folder.old) (F.faults folder.new) result }
 {
-    Err(SegFault::Memory)
+    let name = FileName::Live {
+        segment: id,
+        generation,
+    };
+    let pages = live_pages(alloc, id, generation, live)?;
+    folder.write_file(&name, pages.as_slice())?;
+    Ok(())
+}
+
+/// The file of the live bits: its pages.
+fn live_pages(alloc: Global, id: u64, generation: u64, live: &LiveBits) -> Result<Vec<u8>, Memory>
+    ensures { IfOk result (λ v. IsLiveFile id generation v.items live.now) }
+{
+    let name = FileName::Live {
+        segment: id,
+        generation,
+    };
+    let body = live.write(alloc, id, generation)?;
+    pages_of(alloc, &name, body.as_slice())
 }
 
 /// Reads the live bits of a segment from the file of this generation. The damages are those of this file: it is
@@ -47,5 +71,86 @@ pub fn read_live<F: Pages>(
     ensures damage { IsTrue F.told → OnDamage result (IsLiveDamageOf (F.files folder.old)) }
     ensures whole { IsTrue F.told → (live : LiveSet) → IsLiveFile id generation (bytes_of (F.files folder.old (Live id generation))) live → NotDamaged result }
 {
-    Err(PageFault::Memory)
+    let name = FileName::Live {
+        segment: id,
+        generation,
+    };
+    let first = FirstPage::read(alloc, folder, &name)?;
+    let len = said_len(alloc, id, generation, first.payload())?;
+    let pages = pages_for(len);
+    first.check_size(pages)?;
+    let joined = all_payloads(alloc, folder, &name, &first, pages)?;
+    set_of(alloc, id, generation, joined, len)
+}
+
+/// How long the body is that the first page begins. Where no body begins so, the damage carries the payload.
+fn said_len(alloc: Global, id: u64, generation: u64, payload: &[u8]) -> Result<u32, PageFault>
+    requires long { length payload.now ≡ 4064 }
+    ensures len { IfOk result (λ n. (s : LiveSet) (body x y : List ℕ) → IsLiveBody id generation s body → payload.now ++ x ≡ body ++ y → length body ≡ n) }
+    ensures few { IfOk result (λ n. (36 ≤ n) × (n ≤ 2097188)) }
+    ensures shown { OnDamage result (IsLiveDamage id generation) }
+    ensures carried { OnDamage result (IsBodyDamage (Live id generation) payload.now) }
+    ensures no_fault { IsErrOf result page.Failed → ⊥ }
+{
+    match body_len(id, generation, payload) {
+        Some(len) => Ok(len),
+        None => Err(no_body(alloc, id, generation, payload)),
+    }
+}
+
+/// The damage that these payloads of a file of live bits are those of no body.
+fn no_body(alloc: Global, id: u64, generation: u64, payloads: &[u8]) -> PageFault
+    requires { BeginsNoSet id generation payloads.now }
+    ensures shown { OnFault result (IsLiveDamage id generation) }
+    ensures carried { OnFault result (IsBodyDamage (Live id generation) payloads.now) }
+    ensures no_fault { result ≢ page.Failed }
+{
+    match Vec::from_slice(alloc, payloads) {
+        Ok(bytes) => PageFault::Damaged(Damage::Body {
+            file: FileName::Live {
+                segment: id,
+                generation,
+            },
+            bytes: Bytes::new(bytes),
+        }),
+        Err(_) => PageFault::Memory,
+    }
+}
+
+/// The set whose body, of this length, fills the payloads.
+fn set_of(
+    alloc: Global,
+    id: u64,
+    generation: u64,
+    payloads: Vec<u8>,
+    len: u32,
+) -> Result<LiveBits, PageFault>
+    requires few { (36 ≤ len) × (len ≤ 2097188) }
+    requires long { vec_len payloads ≡ 4064 * pages_for_body len }
+    requires said { (s : LiveSet) (body x y : List ℕ) → IsLiveBody id generation s body → payloads.items ++ x ≡ body ++ y → length body ≡ len }
+    ensures set { IfOk result (IsSetOf id generation payloads.items) }
+    ensures long { OnOk result (length payloads.items ≡ 4064 * pages_for_body len) }
+    ensures shown { OnDamage result (IsLiveDamage id generation) }
+    ensures carried { OnDamage result (IsBodyDamage (Live id generation) payloads.items) }
+    ensures no_fault { IsErrOf result page.Failed → ⊥ }
+{
+    let (body, rest) = payloads.as_slice().split_at(len as usize);
+    if !is_blank(rest) {
+        return Err(no_body(alloc, id, generation, payloads.as_slice()));
+    }
+    match LiveBits::read(
+        alloc,
+        id,
+        generation,
+        Bytes::new(Vec::from_slice(alloc, body)?),
+    ) {
+        Ok(live) => Ok(live),
+        Err(BitsFault::NotBits { b: _ }) => Err(no_body(
+            alloc,
+            id,
+            generation,
+            payloads.as_slice(),
+        )),
+        Err(BitsFault::Memory) => Err(PageFault::Memory),
+    }
 }

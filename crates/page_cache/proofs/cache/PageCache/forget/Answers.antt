@@ -1,0 +1,41 @@
+use Rattle.std.proofs.Common.{◌∙◌, ap}
+use Rattle.std.specs.Map.{keys_of}
+use Rattle.page_cache.specs.Cache.{Keeps, IsKept, KeepsFile, Agrees, order_of}
+use Rattle.page_cache.specs.Keys.{Kept, page_key}
+use Rattle.page_cache.proofs.KeptPages.{keys_filtered}
+use Rattle.page_cache.proofs.CachePages.{keeps_fewer, agrees_fewer, valid_fewer, others_fewer, others_gone, others_stay}
+use Rattle.page_cache.proofs.cache.PageCache.forget.Goals as goal
+
+pub returns-clause-gone : goal.returns-clause-gone
+unfolding Keeps IsKept KeepsFile
+returns-clause-gone c = λ k. others_gone c.args.id c.args.self.now.pages.entries c.take_file_out.new.pages.entries c.take_file_out.ensures.others k.0 k.1.1.0 k.1.1.1
+
+pub returns-clause-order : goal.returns-clause-order
+unfolding order_of
+returns-clause-order c = ap (λ (l : Kept). keys_of l) c.take_file_out.ensures.others ∙ keys_filtered c.args.id c.args.self.now.pages.entries
+
+pub returns-clause-others : goal.returns-clause-others
+unfolding Keeps
+returns-clause-others c = others_stay c.args.id c.args.self.now.pages.entries c.take_file_out.new.pages.entries c.take_file_out.ensures.others
+
+pub returns-clause-fewer : goal.returns-clause-fewer
+unfolding Keeps IsKept KeepsFile
+returns-clause-fewer c = λ i k. (
+  k.0,
+  (
+    k.1.0,
+    keeps_fewer c.args.self.now.pages.entries c.take_file_out.new.pages.entries (page_key i k.0) k.1.0
+        (others_fewer c.args.id c.args.self.now.pages.entries c.take_file_out.new.pages.entries c.take_file_out.ensures.others) k.1.1,
+  ),
+)
+
+pub returns-clause-agrees : goal.returns-clause-agrees
+unfolding Keeps Agrees
+returns-clause-agrees c = λ files. agrees_fewer files c.args.self.now.pages.entries c.take_file_out.new.pages.entries
+    (others_fewer c.args.id c.args.self.now.pages.entries c.take_file_out.new.pages.entries c.take_file_out.ensures.others)
+
+pub invariant_of-self : goal.invariant_of-self
+invariant_of-self c = record {
+  valid = valid_fewer c.args.self.now.pages.entries c.take_file_out.new.pages.entries
+      (others_fewer c.args.id c.args.self.now.pages.entries c.take_file_out.new.pages.entries c.take_file_out.ensures.others) c.args.self.now.valid;
+}

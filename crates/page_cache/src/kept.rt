@@ -1,0 +1,101 @@
+//! The kept pages by themselves: a list of pages by their keys, the last used first.
+
+ghost use Rattle.std.specs.Prelude.{◌≡◌, ◌≤◌, ◌<◌, ◌-◌, ◌++◌, ◌∷◌, [], cond, ℕ, List, length, map, take, filter, Contains, IsTrue, IfSome, IfNone, IfOk, OnOk, OnErr};
+ghost use Rattle.std.specs.Bool.{OnTrue, OnFalse};
+ghost use Rattle.std.specs.Map.{keys_of};
+ghost use Rattle.std.specs.declared.boxed.Box.{Box};
+ghost use Rattle.std.specs.declared.alloc.Global.{Global};
+ghost use Rattle.page_file.specs.declared.page.PageBytes.{PageBytes};
+ghost use Rattle.page_cache.specs.declared.key.PageKey.{PageKey};
+ghost use Rattle.page_cache.specs.Keys.{Kept, same_key, without, HasKey, KeepsIn, KeepsNoMore, KeepsOneMore, is_of_other};
+
+use crate::faults::Memory;
+use crate::key::PageKey;
+use lru::LruCache;
+use page_file::PageBytes;
+
+/// Pages by their keys, the last used first, up to a number of them.
+pub(crate) type KeptPages = LruCache<PageKey, Box<PageBytes>>;
+
+/// Whether the page is kept. It then stands first.
+pub(crate) fn touch(pages: &mut KeptPages, key: PageKey) -> bool
+    ensures found { OnTrue result (HasKey pages.new.entries key) }
+    ensures missing { OnFalse result (HasKey pages.old.entries key → ⊥) }
+    ensures fewer { KeepsNoMore pages.old.entries pages.new.entries }
+    ensures first { OnTrue result (keys_of pages.new.entries ≡ key ∷ without key (keys_of pages.old.entries)) }
+    ensures same { OnFalse result (pages.new.entries ≡ pages.old.entries) }
+    ensures room { pages.new.cap ≡ pages.old.cap }
+{
+    pages.promote(&key)
+}
+
+/// Keeps a page that isn't kept, and puts it first. Where the room is full the last goes for it.
+pub(crate) fn keep(pages: &mut KeptPages, key: PageKey, page: Box<PageBytes>) -> Result<(), Memory>
+    requires { HasKey pages.old.entries key → ⊥ }
+    ensures kept { OnOk result (Contains pages.new.entries (key, page)) }
+    ensures one { KeepsOneMore key page pages.old.entries pages.new.entries }
+    ensures first { OnOk result (keys_of pages.new.entries ≡ key ∷ take (pages.old.cap - 1) (keys_of pages.old.entries)) }
+    ensures room { pages.new.cap ≡ pages.old.cap }
+    ensures same { OnErr result (pages.new.entries ≡ pages.old.entries) }
+{
+    pages.put(key, page)?;
+    Ok(())
+}
+
+/// The bytes of a kept page.
+pub(crate) fn bytes_of(pages: &KeptPages, key: PageKey) -> &PageBytes
+    requires { HasKey pages.now.entries key }
+    ensures kept { KeepsIn pages.now.entries key result.now.b }
+    ensures only { (bytes : List ℕ) → KeepsIn pages.now.entries key bytes → bytes ≡ result.now.b }
+{
+    // it says that no key stands twice
+    let _kept = pages.len();
+    match pages.peek(&key) {
+        Some(page) => page,
+        None => unreachable!(),
+    }
+}
+
+/// Takes a page out, if it is kept.
+pub(crate) fn take_out(pages: &mut KeptPages, key: PageKey) -> Option<Box<PageBytes>>
+    ensures some { IfSome result (λ p. Contains pages.old.entries (key, p)) }
+    ensures none { IfNone result (HasKey pages.old.entries key → ⊥) }
+    ensures gone { HasKey pages.new.entries key → ⊥ }
+    ensures fewer { KeepsNoMore pages.old.entries pages.new.entries }
+    ensures order { keys_of pages.new.entries ≡ without key (keys_of pages.old.entries) }
+    ensures room { pages.new.cap ≡ pages.old.cap }
+{
+    // it says that no key stands twice
+    let _kept = pages.len();
+    pages.pop(&key)
+}
+
+/// Takes the last page out where it is of the segment's file, and else puts it first.
+fn turn(pages: &mut KeptPages, id: u64)
+    ensures turned { (front : Kept) (last : PageKey × Box PageBytes Global) → pages.old.entries ≡ front ++ last ∷ []
+        → pages.new.entries ≡ cond (is_of_other id last.0) (last ∷ front) front }
+    ensures room { pages.new.cap ≡ pages.old.cap }
+{
+    // it says that no key stands twice
+    let _kept = pages.len();
+    let Some((last, _)) = pages.peek_lru() else {
+        return;
+    };
+    let key = *last;
+    if key.id == id {
+        drop(pages.pop_lru());
+    } else {
+        pages.promote(&key);
+    }
+}
+
+/// Takes all pages of the segment's file out. The others stay in their order.
+pub(crate) fn take_file_out(pages: &mut KeptPages, id: u64)
+    ensures others { pages.new.entries ≡ filter (λ e. is_of_other id e.0) pages.old.entries }
+    ensures room { pages.new.cap ≡ pages.old.cap }
+{
+    let kept = pages.len();
+    'turns: for _ in 0..kept {
+        turn(pages, id);
+    }
+}

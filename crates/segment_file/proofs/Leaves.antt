@@ -1,0 +1,58 @@
+-- A leaf in its page: from what the page spells to what the file holds, and back.
+use Rattle.std.proofs.Common.{◌≡◌, ℕ, List, refl, sym, ap, subst, ◌∙◌, inl, inr}
+use Rattle.outer_io.specs.declared.file_name.FileName.TheVariants.{Segment}
+use Rattle.point_codec.specs.Points.{Item, Region}
+use Rattle.leaf_codec.specs.Leaves.{SpellsLeafIn}
+use Rattle.inner_pack.specs.Places.{Spot}
+use Rattle.inner_pack.specs.Trees.{IndexTree, Leaf}
+use Rattle.inner_pack.specs.Nodes.{IsAt, IsPlaceOf}
+use Rattle.inner_pack.specs.declared.node.NodeAt.{NodeAt}
+use Rattle.inner_pack.specs.declared.place.LeafPlace.{LeafPlace}
+use Rattle.page_file.specs.Page.{IsPage}
+use Rattle.page_cache.specs.FilePages.{page_at, IsFilePage}
+use Rattle.page_cache.specs.declared.cache.PageCache.{PageCache}
+use Rattle.page_cache.specs.Cache.{Keeps}
+use Rattle.segment_file.specs.Heads.{Head, page_of, count_of}
+use Rattle.segment_file.specs.Segments.{part_of, HoldsLeaf, IsLeafOf}
+use Rattle.segment_file.specs.Damages.{IsNoLeaf}
+use Rattle.segment_file.specs.Kept.{SpellsNoLeaf}
+
+-- the place of a leaf is where the leaf begins, and is as long
+pub place_length : (place : LeafPlace) (s : Spot) (len : ℕ) (own : Region) → IsPlaceOf place s (Leaf len own) → len ≡ place.length
+place_length place s len own at = let same = at.is in cc
+
+pub holds_leaf : (D : ℕ) (bytes page : List ℕ) (head : Head) (first : ℕ) (s : Spot) (len : ℕ) (own : Region) (items : List Item) (place : LeafPlace)
+    → page ≡ page_at bytes (page_of head place.page) → IsPage 1 head.id (page_of head place.page) page → IsPlaceOf place s (Leaf len own)
+    → SpellsLeafIn D (part_of place.offset place.length page) (count_of head first) own items → HoldsLeaf D bytes head first s len own items
+unfolding HoldsLeaf IsFilePage
+holds_leaf D bytes page head first s len own items place same valid at spells =
+    let long = place_length place s len own at in
+    record {
+      page = rw (← at.page, ← same) valid;
+      spells = rw (← at.page, ← same, ← at.offset, long) spells;
+    }
+
+pub leaf_spells : (D : ℕ) (bytes page : List ℕ) (head : Head) (first : ℕ) (s : Spot) (len : ℕ) (own : Region) (items : List Item) (place : LeafPlace)
+    → page ≡ page_at bytes (page_of head place.page) → IsPlaceOf place s (Leaf len own)
+    → HoldsLeaf D bytes head first s len own items → SpellsLeafIn D (part_of place.offset place.length page) (count_of head first) own items
+unfolding HoldsLeaf
+leaf_spells D bytes page head first s len own items place same at holds =
+    let long = place_length place s len own at in
+    rw (same, at.page, at.offset, ← long) holds.spells
+
+-- a kept page that spells no leaf at its place
+pub no_leaf : (D : ℕ) (cache : PageCache) (head : Head) (node : NodeAt D) (first : ℕ) (s : Spot) (path : Region) (t : IndexTree) (place : LeafPlace) (bytes : List ℕ)
+    → Keeps cache head.id (page_of head place.page) bytes → IsAt node first s path t → IsPlaceOf place s t → SpellsNoLeaf cache head node place
+    → IsNoLeaf D head first s t (page_of head place.page) place.offset place.length (part_of place.offset place.length bytes)
+unfolding SpellsNoLeaf
+no_leaf D cache head node first s path t place bytes kept at where_ none =
+    let here : IsLeafOf first s t first s place.length where_.own = subst (λ (u : IndexTree). IsLeafOf first s u first s place.length where_.own) (sym where_.is) (refl, refl, refl, refl) in
+    record {
+      number = first;
+      spot = s;
+      own = where_.own;
+      is = here;
+      page_is = ap (λ (n : ℕ). page_of head n) where_.page;
+      offset_is = where_.offset;
+      none = λ items spells. none first s path place.length where_.own (subst (λ (u : IndexTree). IsAt node first s path u) where_.is at) bytes items kept spells;
+    }

@@ -1,0 +1,28 @@
+use Rattle.std.proofs.Common.{◌≡◌, ℕ, ap, sym, ◌∙◌}
+use Rattle.std.proofs.lemmas.Result.{err_from_is_err_and}
+use Rattle.page_cache.specs.Cache.{IsKept}
+use Rattle.page_cache.specs.FilePages.{IsFilePage}
+use Rattle.outer_io.specs.Files.{bytes_of}
+use Rattle.outer_io.specs.declared.file_name.FileName.TheVariants.{Segment}
+use Rattle.segment_file.specs.Heads.{page_of}
+use Rattle.segment_file.proofs.leaf.load_leaf.Goals as goal
+
+pub returns-clause-hit : goal.returns-clause-hit
+returns-clause-hit g c = λ first s path t at kept.
+    let p = c.in-Some.ensures.some first s path t at in
+    let here : IsKept c.args.cache.now c.id.result c.page_of.result = rw (c.id.ensures, c.page_of.ensures, p.page) kept in
+    c.in_ok-load.ensures.hit here
+
+pub returns-in_err-load-clause-hit : goal.returns-in_err-load-clause-hit
+returns-in_err-load-clause-hit g c = λ first s path t at kept.
+    let p = c.in-Some.ensures.some first s path t at in
+    let here : IsKept c.args.cache.now c.id.result c.page_of.result = rw (c.id.ensures, c.page_of.ensures, p.page) kept in
+    let hit = c.in_err-load.ensures.hit here in
+    absurd (let no_ok = hit.0 in cc)
+
+pub returns-in_err-load-clause-whole : goal.returns-in_err-load-clause-whole
+returns-in_err-load-clause-whole g c = λ told first s path t at page.
+    let p = c.in-Some.ensures.some first s path t at in
+    let here : IsFilePage (Segment c.id.result) (bytes_of (g.F.Pages.files c.args.folder.now (Segment c.id.result))) c.page_of.result = rw (c.id.ensures, c.page_of.ensures, p.page) page in
+    let e = err_from_is_err_and c.from_residual.result c.from_residual.ensures.1 in
+    rw (e.1, e.2) (c.in_err-load.ensures.whole told here)
