@@ -100,3 +100,9 @@ pub record IsSpelled (D : ℕ) (index : Body) : Type 0 where
 -- one page more than that in which the last leaf stands
 abbrev pub pages_of : IndexTree → ℕ
 pages_of t = (end_of front (lengths_of t)).page + 1
+
+-- the bytes spell a tree over this root cell, whose leaves take so many pages
+pub record IsIndex (D form leaves : ℕ) (bytes : List ℕ) (root : Region) (pages : ℕ) : Type 0 where
+  pub tree : IndexTree
+  pub spelled : SpellsIndex D form leaves bytes root tree
+  pub pages_are : pages ≡ pages_of tree

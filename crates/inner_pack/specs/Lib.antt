@@ -1,5 +1,9 @@
 pub mod Places
 pub mod Trees
 pub mod Bodies
+pub mod Spelled
 pub mod Nodes
+pub mod Heads
 pub mod Parts
+pub mod Packs
+pub mod PackedParts

@@ -6,6 +6,9 @@ pub record Spot : Type 0 where
   pub page : ℕ
   pub offset : ℕ
 
+abbrev pub spot_at : ℕ → ℕ → Spot
+spot_at page offset = record { page = page; offset = offset }
+
 -- the first leaf begins here
 abbrev pub front : Spot
 front = record { page = 0; offset = 0 }

@@ -6,12 +6,22 @@
 //! of the tree, and spell no other one (`one_tree`).
 #![tactic(auto)]
 
+mod check;
+mod fields;
+mod head;
 mod index;
 mod laws;
+mod leaf;
 mod node;
 mod pack;
 mod place;
 
 pub use index::{Index, NotIndex};
+pub use laws::{cells_nest, leaves_are_counted, one_tree, places_ascend};
 pub use node::NodeAt;
 pub use place::LeafPlace;
+
+#[cfg(test)]
+mod tests;
+#[cfg(test)]
+mod pack_tests;

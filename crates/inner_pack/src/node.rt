@@ -1,12 +1,17 @@
 //! A node, read in place.
 
-ghost use Rattle.std.specs.Prelude.{◌≡◌, ◌≤◌, ◌<◌, ◌↔◌, ◌^◌, ◌+◌, ℕ, IfSome, IsNone, IsSome};
+ghost use Rattle.std.specs.Prelude.{◌≡◌, ◌≤◌, ◌<◌, ◌↔◌, ◌^◌, ◌+◌, ◌-◌, ◌/◌, ℕ, List, IfSome, IsNone, IsSome};
 ghost use Rattle.point_codec.specs.Points.{Region};
 ghost use Rattle.point_codec.specs.Seen.{region_of};
-ghost use Rattle.inner_pack.specs.Places.{Spot};
-ghost use Rattle.inner_pack.specs.Trees.{IndexTree, leaf_count, cell_of};
+ghost use Rattle.inner_pack.specs.Places.{Spot, spot_at};
+ghost use Rattle.inner_pack.specs.Trees.{IndexTree, IsInCell, leaf_count, cell_of};
+ghost use Rattle.inner_pack.specs.Spelled.{IsNodeOf, IsSomeNode, IsSomeTree, IsSomeLeaf};
 
-use crate::place::LeafPlace;
+use crate::check::with_key;
+use crate::fields::{is_cell, take_place};
+use crate::head::{Head, Part, read_head};
+use crate::leaf::{packed_leaf, take_length};
+use crate::place::{LeafPlace, Mark};
 use point_codec::Cell;
 
 /// A node of an index, which borrows the bytes that spell it: a walk copies no byte and takes no memory.
@@ -28,10 +33,14 @@ pub struct NodeAt<'a, const D: usize> {
     pub(crate) bytes: &'a [u8],
     /// In form 1 its part of the table of places.
     pub(crate) places: &'a [u8],
+    pub(crate) ghost some: { ∥ IsSomeNode D form leaves (spot_at page offset) (region_of cell) references bytes.now places.now ∥₁ },
+    pub(crate) ghost numbered: { (1 ≤ leaves) × (first + leaves ≤ 8388608) × (page ≤ first) },
 }
 
 impl<'a, const D: usize> NodeAt<'a, D> {
     ghost use Rattle.inner_pack.specs.Nodes.{IsAt, AreChildren, IsPlaceOf};
+    ghost use Rattle.inner_pack.specs.Bodies.{first_length};
+    ghost use Rattle.inner_pack.specs.Heads.{SaysTree, spot_of};
 
     /// The cell in which all entries below the node lie: of an inner node its path cell, of a leaf its own.
     pub fn cell(&self) -> Cell<D>
@@ -59,7 +68,18 @@ impl<'a, const D: usize> NodeAt<'a, D> {
         ensures some { IfSome result (λ c. (first : ℕ) (s : Spot) (path : Region) (t : IndexTree) → IsAt self.now first s path t → AreChildren c.0 c.1 first s path t) }
         ensures none { IsNone result ↔ (self.now.leaves ≡ 1) }
     {
-        None
+        if self.leaves == 1 {
+            return None;
+        }
+        let head = self.head();
+        let (left_path, right_path) = self.cell.split(head.dimension, head.at);
+        let references = with_key(&self.references, head.dimension, head.key);
+        let left_leaves = self.leaves - self.leaves / 2;
+        let begin = Mark { page: self.page, offset: self.offset };
+        let right_begin = Mark { page: self.page + head.pages, offset: head.offset };
+        let left = NodeAt::new(self.form, left_leaves, self.first, begin, &left_path, &references, head.left);
+        let right = NodeAt::new(self.form, self.leaves / 2, self.first + left_leaves, right_begin, &right_path, &references, head.right);
+        Some((left, right))
     }
 
     /// Where the leaf stands. None exactly at an inner node.
@@ -67,6 +87,84 @@ impl<'a, const D: usize> NodeAt<'a, D> {
         ensures some { IfSome result (λ p. (first : ℕ) (s : Spot) (path : Region) (t : IndexTree) → IsAt self.now first s path t → IsPlaceOf p s t) }
         ensures none { IsSome result ↔ (self.now.leaves ≡ 1) }
     {
-        None
+        if self.leaves != 1 {
+            return None;
+        }
+        Some(LeafPlace { page: self.page, offset: self.offset, length: self.length() })
     }
+
+    /// What the inner node says of itself.
+    fn head(&self) -> Head<'a>
+        requires { 2 ≤ self.now.leaves }
+        ensures cell { IsInCell D (region_of self.now.cell) result.dimension result.at }
+        ensures room { result.pages ≤ self.now.leaves - self.now.leaves / 2 }
+        ensures says { (path : Region) (t : IndexTree) → region_of self.now.cell ≡ cell_of path t → IsNodeOf D self.now.form self.now.leaves (spot_at self.now.page self.now.offset) path self.now.references self.now.bytes.now self.now.places.now t
+            → SaysTree self.now.form self.now.references (spot_at self.now.page self.now.offset) t result }
+    {
+        is_cell(&self.cell);
+        let part = Part { bytes: self.bytes, places: self.places };
+        let Some(head) = read_head(self.form, self.leaves, &self.references, part) else {
+            unreachable!()
+        };
+        head
+    }
+
+    /// How many bytes spell the leaf.
+    fn length(&self) -> u16
+        requires { self.now.leaves ≡ 1 }
+        ensures { (path : Region) (t : IndexTree) → IsNodeOf D self.now.form self.now.leaves (spot_at self.now.page self.now.offset) path self.now.references self.now.bytes.now self.now.places.now t
+            → result ≡ first_length t }
+    {
+        if self.form == 1 {
+            let Some((place, _)) = take_place(self.places) else {
+                unreachable!()
+            };
+            return place.length;
+        }
+        let Some((length, _)) = take_length(self.bytes) else {
+            unreachable!()
+        };
+        length
+    }
+
+    /// The node whose path cell this is.
+    pub(crate) fn new(form: u8, leaves: u32, first: u32, begin: Mark, path: &Cell<D>, references: &[[u8; 4]; D], part: Part<'a>) -> NodeAt<'a, D>
+        requires some { ∥ IsSomeTree D form leaves (spot_of begin) (region_of path.now) references.now part.bytes.now part.places.now ∥₁ }
+        requires leaves { 1 ≤ leaves }
+        requires last { first + leaves ≤ 8388608 }
+        requires page { begin.page ≤ first }
+        ensures { (t : IndexTree) → IsNodeOf D form leaves (spot_of begin) (region_of path.now) references.now part.entry.bytes.now part.entry.places.now t
+            → IsAt result first (spot_of begin) (region_of path.now) t }
+    {
+        NodeAt {
+            form,
+            leaves,
+            first,
+            page: begin.page,
+            offset: begin.offset,
+            cell: cell_at(form, leaves, path, part.bytes),
+            references: *references,
+            bytes: part.bytes,
+            places: part.places,
+        }
+    }
+}
+
+/// The cell of a node with this path cell: of a leaf of form 3 the own cell that it tells.
+fn cell_at<const D: usize>(form: u8, leaves: u32, path: &Cell<D>, b: &[u8]) -> Cell<D>
+    requires some { ∥ IsSomeLeaf D form leaves (region_of path.now) b.now ∥₁ }
+    requires leaves { 1 ≤ leaves }
+    ensures { (s : Spot) (references : List (List ℕ)) (places : List ℕ) (t : IndexTree) → IsNodeOf D form leaves s (region_of path.now) references b.now places t
+        → region_of result ≡ cell_of (region_of path.now) t }
+{
+    if leaves > 1 {
+        return *path;
+    }
+    if form != 3 {
+        return *path;
+    }
+    let Some((_, own)) = packed_leaf(form, path, b) else {
+        unreachable!()
+    };
+    own
 }

@@ -1,4 +1,7 @@
-//! Where a leaf stands.
+//! Where leaves stand.
+
+ghost use Rattle.std.specs.Prelude.{◌≡◌, ◌≤◌, ◌+◌, ◌<◌, ◌^◌};
+ghost use Rattle.inner_pack.specs.Places.{fitted, behind};
 
 /// The place of a leaf in the leaf pages of its segment.
 #[derive(Clone, Copy, PartialEq, Eq, Debug)]
@@ -9,4 +12,43 @@ pub struct LeafPlace {
     pub offset: u16,
     /// How many bytes spell it.
     pub length: u16,
+}
+
+/// A leaf page, and an offset in its payload of 4,064 bytes.
+#[derive(Clone, Copy, Debug)]
+pub(crate) struct Mark {
+    pub page: u32,
+    pub offset: u16,
+}
+
+impl Mark {
+    ghost use Rattle.inner_pack.specs.Heads.{spot_of};
+
+    /// Where a leaf begins that comes next behind the mark.
+    pub(crate) fn fit(self, length: u16) -> Mark
+        requires length { length ≤ 4064 }
+        requires offset { self.offset ≤ 4064 }
+        requires page { self.page + 1 < 2 ^ 32 }
+        ensures { spot_of result ≡ fitted (spot_of self) length }
+    {
+        if self.offset + length <= 4064 {
+            self
+        } else {
+            Mark {
+                page: self.page + 1,
+                offset: 0,
+            }
+        }
+    }
+
+    /// Where a leaf ends that begins at the mark.
+    pub(crate) fn behind(self, length: u16) -> Mark
+        requires { self.offset + length ≤ 4064 }
+        ensures { spot_of result ≡ behind (spot_of self) length }
+    {
+        Mark {
+            page: self.page,
+            offset: self.offset + length,
+        }
+    }
 }

@@ -1,0 +1,13 @@
+pub mod CellLemmas
+pub mod HeadLemmas
+pub mod KeyLemmas
+pub mod NodeLemmas
+pub mod PackBytes
+pub mod PackParts
+pub mod PackTests
+pub mod PackWhole
+pub mod PlaceLemmas
+pub mod SpelledLemmas
+pub mod OneTree
+pub mod Walking
+pub mod Nested
