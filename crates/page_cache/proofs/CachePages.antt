@@ -1,5 +1,5 @@
 -- Pages that agree with the files, and are valid, after one more is kept or some are taken out.
-use Rattle.std.proofs.Common.{◌≡◌, ◌≢◌, ℕ, ◌⊎◌, inl, inr, List, Bool, true, false, not, nat_eq, Contains, filter, Option, Some, None, IfSome, refl, sym, ap, ◌∙◌, subst, ne_eqb, eq-eqb, true≢false}
+use Rattle.std.proofs.Common.{◌≡◌, ℕ, ◌⊎◌, inl, inr, List, not, Contains, filter, Option, Some, None, IfSome, refl, sym, ap, ◌∙◌, subst, ne_eqb, eq-eqb, true≢false}
 use Rattle.std.specs.declared.boxed.Box.{Box}
 use Rattle.std.specs.declared.alloc.Global.{Global}
 use Rattle.outer_io.specs.Files.{Files}

@@ -30,6 +30,10 @@ payloads_more bytes old new payload from i before this =
     ∙ append_assoc old (payloads_of bytes from i) (payload_of (page_at bytes (from + i)))
     ∙ ap (λ (n : ℕ). old ++ payloads_of bytes from n) (sym (add-one i))
 
+pub payloads_grown : (bytes old new payload all : List ℕ) (from i : ℕ) → all ≡ new ++ payload → new ≡ old ++ payloads_of bytes from i → payload ≡ payload_of (page_at bytes (from + i))
+    → all ≡ old ++ payloads_of bytes from (i + 1)
+payloads_grown bytes old new payload all from i grew before this = grew ∙ payloads_more bytes old new payload from i before this
+
 pub pages_more : (name : FileName) (bytes : List ℕ) (from i : ℕ) → ArePages name bytes from (from + i) → IsFilePage name bytes (from + i)
     → ArePages name bytes from (from + (i + 1))
 pages_more name bytes from i before this n low high = elim (cases_lt n (from + i)) [

@@ -1,5 +1,5 @@
 -- The pages of a body, put one after another.
-use Rattle.std.proofs.Common.{◌≡◌, ℕ, zero, suc, ◌+◌, ◌-◌, ◌*◌, ◌/◌, ◌≤◌, ◌<◌, ◌⊎◌, inl, inr, min, List, [], ◌++◌, length, take, drop, replicate, refl, sym, ap, ◌∙◌, subst, arith, add-zero, add-one, zero-add, append_assoc, append-nil, length-append, length-take, length-drop}
+use Rattle.std.proofs.Common.{◌≡◌, ℕ, ◌+◌, ◌-◌, ◌*◌, ◌≤◌, ◌<◌, inl, inr, min, List, [], ◌++◌, length, take, drop, replicate, refl, sym, ap, ◌∙◌, subst, arith, add-zero, zero-add, append_assoc, append-nil, length-append, length-take, length-drop}
 use Rattle.std.proofs.lemmas.Bool.{cases_lt}
 use Rattle.std.proofs.lemmas.List.{take_all, take-append-le, drop-append-le, drop-drop, length-replicate}
 use Rattle.std.proofs.Math.Seq.{take-add}
@@ -7,7 +7,7 @@ use Rattle.std.proofs.Math.ListN.{drop_of_length-le}
 use Rattle.outer_io.specs.declared.file_name.FileName.{FileName}
 use Rattle.page_file.specs.Page.{IsPage, payload_of}
 use Rattle.page_cache.specs.FilePages.{kind_of, number_of, page_at, payloads_of}
-use Rattle.page_cache.specs.Bodies.{pages_for, filled, ArePagesOf, AppendsPage, AppendsPages, IsBodyFile}
+use Rattle.page_cache.specs.Bodies.{pages_for, filled, AppendsPage, AppendsPages, IsBodyFile}
 use Rattle.page_cache.proofs.PageRuns.{page_at_front, page_at_back, page_at_only, payloads_front, payloads_more, pages_behind}
 
 -- the first i pages of the body were put behind what was there

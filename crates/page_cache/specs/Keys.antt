@@ -1,5 +1,5 @@
 -- Kept pages, as the list of them, and which of them are kept after a use.
-use Rattle.std.specs.Prelude.{◌≡◌, ◌⊎◌, not, ℕ, Bool, ◌==◌, ◌&&◌, cond, List, [], ◌∷◌, map, Contains}
+use Rattle.std.specs.Prelude.{◌≡◌, ◌⊎◌, not, ℕ, Bool, ◌==◌, ◌&&◌, cond, List, [], ◌∷◌, Contains}
 use Rattle.std.specs.declared.boxed.Box.{Box}
 use Rattle.std.specs.declared.alloc.Global.{Global}
 use Rattle.page_file.specs.declared.page.PageBytes.{PageBytes}

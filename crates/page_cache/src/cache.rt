@@ -28,7 +28,7 @@ impl PageCache {
     ghost use Rattle.outer_io.specs.Files.{Files, bytes_of};
     ghost use Rattle.outer_io.specs.declared.file_name.FileName.TheVariants.{Segment};
     ghost use Rattle.page_file.specs.Page.{IsPage};
-    ghost use Rattle.page_cache.specs.FilePages.{kind_of, number_of, page_at, IsFilePage};
+    ghost use Rattle.page_cache.specs.FilePages.{kind_of, number_of, IsFilePage};
     ghost use Rattle.page_cache.specs.Evidence.{OnDamage, NotDamaged, IsPageOf, IsPageDamage, IsPageDamageOf};
     ghost use Rattle.page_cache.specs.Causes.{HasPageCause, IsSteady};
     ghost use Rattle.page_cache.specs.Keys.{page_key, without};

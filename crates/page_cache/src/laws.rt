@@ -1,7 +1,7 @@
 //! Laws of pages, bodies and caches. Each function has an empty body: its contract is the law.
 
-ghost use Rattle.std.specs.Prelude.{◌≡◌, ◌+◌, ◌*◌, ◌++◌, ℕ, List, length, take};
-ghost use Rattle.outer_io.specs.Files.{Files, bytes_of};
+ghost use Rattle.std.specs.Prelude.{◌≡◌, ◌+◌, ◌*◌, ◌++◌, ℕ, List, length};
+ghost use Rattle.outer_io.specs.Files.{Files};
 ghost use Rattle.outer_io.specs.declared.file_name.FileName.{FileName};
 ghost use Rattle.outer_io.specs.declared.file_name.FileName.TheVariants.{Segment};
 ghost use Rattle.page_file.specs.Page.{payload_of};

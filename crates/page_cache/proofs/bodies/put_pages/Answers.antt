@@ -1,5 +1,5 @@
-use Rattle.std.proofs.Common.{refl, arith, ◌∙◌, ap, List, ℕ, take, drop}
-use Rattle.page_cache.proofs.Sealed.{put_none, put_more, put_all, rest_more}
+use Rattle.std.proofs.Common.{refl, arith, ◌∙◌, ap, ℕ, take, drop}
+use Rattle.page_cache.proofs.Sealed.{put_none, put_more, rest_more}
 use Rattle.page_cache.proofs.bodies.put_pages.Goals as goal
 
 pub pages-init : goal.pages-init

@@ -1,4 +1,4 @@
-use Rattle.std.proofs.Common.{◌≡◌, ◌≤◌, ◌+◌, ◌-◌, ◌*◌, length, drop, vec_len, vec_capacity}
+use Rattle.std.proofs.Common.{◌≡◌, ◌≤◌, ◌+◌, ◌-◌, ◌*◌, drop, vec_len, vec_capacity}
 use Rattle.page_cache.proofs.Sealed.{PutSoFar}
 use Rattle.page_cache.proofs.bodies.put_pages.Given as goal
 

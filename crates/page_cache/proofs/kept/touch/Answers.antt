@@ -1,7 +1,5 @@
 use Rattle.std.proofs.Common.{ap}
-use Rattle.page_cache.specs.Keys.{Kept}
 use Rattle.page_cache.proofs.KeptPages as kept
-use Rattle.lru.specs.LruCache.{LruCache}
 use Rattle.page_cache.proofs.kept.touch.Goals as goal
 
 pub returns-clause-found : goal.returns-clause-found

@@ -1,7 +1,7 @@
-use Rattle.std.proofs.Common.{◌≡◌, ℕ, ◌+◌, ◌≤◌, ◌<◌, List, length, arith, rules, refl, sym, ap, ◌∙◌, append-nil, add-zero}
+use Rattle.std.proofs.Common.{◌≡◌, ◌+◌, arith, rules, refl, sym, ap, ◌∙◌, append-nil}
 use Rattle.std.proofs.lemmas.Result.{err_from_is_err_and}
-use Rattle.page_cache.specs.FilePages.{payloads_of}
-use Rattle.page_cache.proofs.PageRuns.{payloads_more, pages_more}
+use Rattle.page_cache.specs.FilePages.{page_at, payloads_of}
+use Rattle.page_cache.proofs.PageRuns.{payloads_grown, pages_more}
 use Rattle.page_cache.proofs.OneRead.{file_of_page}
 use Rattle.page_file.specs.declared.page.PageBytes.{PageBytes}
 use Rattle.page_file.specs.Page.{payload_of}
@@ -30,9 +30,10 @@ pages-preserved g c = record {
   payloads = λ told.
       let same = c.pages.invariant.files told in
       let page = rw same at (c.in_ok-page-2.ensures.bytes told) in
-      c.in_ok-extend_from_slice.ensures.items
-      ∙ payloads_more (bytes_of (g.F.Pages.files c.args.folder.now c.args.name.now)) c.args.out.now.items c.pages.out.items c.payload_bytes.result.now c.args.from c.pages.i
-      (c.pages.invariant.payloads told) (c.payload_bytes.ensures.bytes ∙ ap (λ (p : PageBytes). payload_of p.b) c.deref.ensures ∙ ap payload_of page);
+      let came : c.payload_bytes.result.now ≡ payload_of (page_at (bytes_of (g.F.Pages.files c.args.folder.now c.args.name.now)) (c.args.from + c.pages.i)) =
+      c.payload_bytes.ensures.bytes ∙ ap (λ (p : PageBytes). payload_of p.b) c.deref.ensures ∙ ap payload_of page in
+      payloads_grown (bytes_of (g.F.Pages.files c.args.folder.now c.args.name.now)) c.args.out.now.items c.pages.out.items c.payload_bytes.result.now c.extend_from_slice.new.self.items
+      c.args.from c.pages.i c.in_ok-extend_from_slice.ensures.items (c.pages.invariant.payloads told) came;
   pages = λ told.
       let same = c.pages.invariant.files told in
       let page = rw same at (c.in_ok-page-2.ensures.bytes told) in

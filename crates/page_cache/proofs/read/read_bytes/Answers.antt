@@ -1,4 +1,4 @@
-use Rattle.std.proofs.Common.{◌≡◌, ℕ, ◌*◌, List, length, arith}
+use Rattle.std.proofs.Common.{◌*◌, arith}
 use Rattle.page_cache.proofs.OneRead.{read_whole, short_is_none}
 use Rattle.page_cache.proofs.read.read_bytes.Goals as goal
 

@@ -1,10 +1,10 @@
-use Rattle.std.proofs.Common.{◌≡◌, refl, sym, ap, ◌∙◌, subst, take, List, ℕ, ◌∷◌, ◌-◌, inl, inr}
+use Rattle.std.proofs.Common.{refl, sym, ap, subst, inl, inr}
 use Rattle.std.specs.declared.boxed.Box.{Box}
 use Rattle.std.specs.declared.alloc.Global.{Global}
 use Rattle.page_file.specs.declared.page.PageBytes.{PageBytes}
 use Rattle.page_cache.specs.declared.key.PageKey.{PageKey}
 use Rattle.page_cache.specs.Cache.{Keeps, IsKept, KeepsFile, Agrees, order_of, room_of}
-use Rattle.page_cache.specs.Keys.{Kept, page_key}
+use Rattle.page_cache.specs.Keys.{page_key}
 use Rattle.page_cache.proofs.CachePages.{AgreesIn, keeps_fewer, agrees_fewer, valid_fewer, agrees_one, valid_one, keeps_one}
 use Rattle.page_cache.proofs.cache.PageCache.load.Goals as goal
 

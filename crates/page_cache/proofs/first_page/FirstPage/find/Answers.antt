@@ -1,8 +1,7 @@
-use Rattle.std.proofs.Common.{◌∙◌, ap, rules, sym, List, ℕ}
-use Rattle.outer_io.specs.Files.{bytes_of}
+use Rattle.std.proofs.Common.{◌∙◌, ap, sym}
 use Rattle.page_file.specs.Page.{payload_of}
 use Rattle.page_cache.specs.FirstPages.{first_name, first_payload, first_size}
-use Rattle.page_cache.proofs.FileSizes.{size_is_length, no_file_no_page, small_file_no_page}
+use Rattle.page_cache.proofs.FileSizes.{size_is_length, small_file_no_page}
 use Rattle.page_cache.proofs.OneRead.{file_of_page}
 use Rattle.page_cache.proofs.first_page.FirstPage.find.Goals as goal
 

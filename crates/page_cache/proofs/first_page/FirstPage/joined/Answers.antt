@@ -1,6 +1,6 @@
 use Rattle.std.proofs.Common.{◌∙◌}
 use Rattle.outer_io.specs.Files.{bytes_of}
-use Rattle.page_cache.specs.FirstPages.{first_name, first_payload, first_size}
+use Rattle.page_cache.specs.FirstPages.{first_name, first_payload}
 use Rattle.page_cache.proofs.PageRuns.{joined_payloads}
 use Rattle.page_cache.proofs.first_page.FirstPage.joined.Goals as goal
 

@@ -1,0 +1,36 @@
+-- What agreement of a cache gives, and that a file is one body of a length.
+use Rattle.std.proofs.Common.{◌≡◌, ℕ, ◌-◌, ◌*◌, List, length, take, replicate, Option, sym, ap, ◌∙◌, subst}
+use Rattle.std.proofs.Math.Seq.{take-append_seam}
+use Rattle.outer_io.specs.declared.file_name.FileName.{FileName}
+use Rattle.outer_io.specs.declared.file_name.FileName.TheVariants.{Segment}
+use Rattle.outer_io.specs.Files.{Files, bytes_of}
+use Rattle.page_cache.specs.declared.cache.PageCache.{PageCache}
+use Rattle.page_cache.specs.FilePages.{page_at, payloads_of}
+use Rattle.page_cache.specs.Bodies.{pages_for, filled, IsBodyFile}
+use Rattle.page_cache.specs.Cache.{Keeps, IsKept, KeepsFile, Agrees}
+use Rattle.page_cache.specs.Evidence.{IsPageOf}
+
+-- only the files of which pages are kept matter
+pub agrees_other : (old new : Files) (c : PageCache) → ((id : ℕ) → KeepsFile c id → new (Segment id) ≡ old (Segment id)) → Agrees old c → Agrees new c
+unfolding Agrees KeepsFile IsKept
+agrees_other old new c same agrees id number bytes keeps =
+    subst (λ (file : Option (List ℕ)). bytes ≡ page_at (bytes_of file) number) (sym (same id (number, (bytes, keeps)))) (agrees id number bytes keeps)
+
+-- what is kept is the page of the file
+pub agreeing_page : (files : Files) (c : PageCache) (id number : ℕ) (bytes : List ℕ) → Agrees files c → Keeps c id number bytes → IsPageOf files (Segment id) number bytes
+unfolding Agrees
+agreeing_page files c id number bytes agrees keeps = agrees id number bytes keeps
+
+-- a cache that keeps nothing agrees with all files
+pub agrees_empty : (files : Files) (c : PageCache) → ((id : ℕ) → KeepsFile c id → ⊥) → Agrees files c
+unfolding Agrees KeepsFile IsKept
+agrees_empty files c none id number bytes keeps = absurd (none id (number, (bytes, keeps)))
+
+-- two bodies of one length that a file is are the same
+pub bodies_equal : (name : FileName) (bytes a b : List ℕ) → length a ≡ length b → IsBodyFile name bytes a → IsBodyFile name bytes b → a ≡ b
+bodies_equal name bytes a b len x y =
+    let same : filled a ≡ filled b = sym x.payload ∙ ap (λ (n : ℕ). payloads_of bytes 0 (pages_for n)) len ∙ y.payload in
+    sym (take-append_seam a (replicate (4064 * pages_for (length a) - length a) 0))
+    ∙ ap (λ (l : List ℕ). take (length a) l) same
+    ∙ ap (λ (n : ℕ). take n (filled b)) len
+    ∙ take-append_seam b (replicate (4064 * pages_for (length b) - length b) 0)
