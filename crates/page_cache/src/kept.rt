@@ -1,13 +1,13 @@
 //! The kept pages by themselves: a list of pages by their keys, the last used first.
 
-ghost use Rattle.std.specs.Prelude.{◌≡◌, ◌-◌, ◌++◌, ◌∷◌, [], cond, take, filter, Contains, IfSome, IfNone, OnOk, OnErr};
+ghost use Rattle.std.specs.Prelude.{◌≡◌, ◌≤◌, ◌<◌, ◌-◌, ◌++◌, ◌∷◌, [], cond, ℕ, List, length, map, take, filter, Contains, IsTrue, IfSome, IfNone, IfOk, OnOk, OnErr};
 ghost use Rattle.std.specs.Bool.{OnTrue, OnFalse};
 ghost use Rattle.std.specs.Map.{keys_of};
 ghost use Rattle.std.specs.declared.boxed.Box.{Box};
 ghost use Rattle.std.specs.declared.alloc.Global.{Global};
 ghost use Rattle.page_file.specs.declared.page.PageBytes.{PageBytes};
 ghost use Rattle.page_cache.specs.declared.key.PageKey.{PageKey};
-ghost use Rattle.page_cache.specs.Keys.{Kept, without, HasKey, KeepsIn, KeepsNoMore, KeepsOneMore, is_of_other};
+ghost use Rattle.page_cache.specs.Keys.{Kept, same_key, without, HasKey, KeepsIn, KeepsNoMore, KeepsOneMore, is_of_other};
 
 use crate::faults::Memory;
 use crate::key::PageKey;
@@ -45,8 +45,11 @@ pub(crate) fn keep(pages: &mut KeptPages, key: PageKey, page: Box<PageBytes>) ->
 /// The bytes of a kept page.
 pub(crate) fn bytes_of(pages: &KeptPages, key: PageKey) -> &PageBytes
     requires { HasKey pages.now.entries key }
-    ensures { KeepsIn pages.now.entries key result.now.b }
+    ensures kept { KeepsIn pages.now.entries key result.now.b }
+    ensures only { (bytes : List ℕ) → KeepsIn pages.now.entries key bytes → bytes ≡ result.now.b }
 {
+    // it says that no key stands twice
+    let _kept = pages.len();
     match pages.peek(&key) {
         Some(page) => page,
         None => unreachable!(),
