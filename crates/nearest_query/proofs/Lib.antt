@@ -12,3 +12,5 @@ pub mod Steps
 pub mod Ends
 pub mod Roots
 pub mod Start
+pub mod InOrder
+pub mod OfDocuments

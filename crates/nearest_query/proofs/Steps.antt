@@ -7,6 +7,8 @@ use Rattle.std.proofs.lemmas.List.Elements.{All-cons, All-head, All-tail, All-we
 use Rattle.std.specs.Prelude.{OnOk}
 use Rattle.std.specs.List.{sum_by, All}
 use Rattle.std.specs.List.Sorted.{IsPermutation}
+use Rattle.page_cache.specs.Evidence.{NotDamaged}
+use Rattle.page_cache.specs.declared.faults.PageFault.{PageFault}
 use Rattle.outer_io.specs.Files.{Files, bytes_of}
 use Rattle.outer_io.specs.declared.file_name.FileName.TheVariants.{Segment}
 use Rattle.point_codec.specs.Points.{Item, Region}
@@ -209,3 +211,17 @@ sought_moved {D} w all turns turns' nodes found moved s = record {
   nodes_are = All-permutation (IsNode D w nodes) turns turns' moved s.nodes_are;
   totals = λ f. let t = s.totals f in let p = sum_by-IsPermutation (spread (λ i n. sum_by f (nears_at w i n))) turns turns' moved in omega (arith, t, p);
 }
+
+-- what opening a leaf promises of damages
+abbrev pub OpensWhole : {D : ℕ} {T : Type 0} → Files → Head → NodeAt D → Result T PageFault → Type 0
+OpensWhole {D} files head node r =
+    (first : ℕ) (s : Spot) (path : Region) (len : ℕ) (own : Region) (items : List Item)
+    → IsAt node first s path (Leaf len own) → HoldsLeaf D (bytes_of (files (Segment head.id))) head first s len own items → NotDamaged r
+
+pub leaf_whole : {D : ℕ} {T : Type 0} (w : World) (next : Waiting) (nodes : List (NodeAt D)) (node : NodeAt D) (r : Result T PageFault) → (n : IsNode D w nodes next) → node.leaves ≡ 1 → node ≡ n.node
+    → OpensWhole w.files (head_at w next.segment) node r → NotDamaged r
+leaf_whole {D} w next nodes node r n single same opens =
+    (one_leaf_tree (λ t. IsAt node next.first n.spot n.path t → HasLeaves D w next.segment next.first n.spot t → NotDamaged r) n.tree
+    (sym n.node_count ∙ ap (λ m. m.leaves) (sym same) ∙ single)
+    (λ len own is leaves. opens next.first n.spot n.path len own (w.table next.segment next.first) is leaves.0))
+    (subst (λ m. IsAt m next.first n.spot n.path n.tree) (sym same) n.is) n.leaves

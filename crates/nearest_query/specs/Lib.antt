@@ -3,3 +3,4 @@ pub mod Best
 pub mod Segments
 pub mod Fronts
 pub mod Search
+pub mod OfDocuments

@@ -9,6 +9,8 @@ ghost use Rattle.inner_pack.specs.Trees.{IndexTree};
 ghost use Rattle.inner_pack.specs.Bodies.{HasTree};
 ghost use Rattle.page_cache.specs.Cache.{KeepsFile, Agrees};
 ghost use Rattle.page_cache.specs.Causes.{HasPageCause};
+ghost use Rattle.page_cache.specs.Evidence.{OnDamage, NotDamaged};
+ghost use Rattle.segment_file.specs.Damages.{IsLeafDamageOf};
 ghost use Rattle.nearest_query.specs.Nearest.{IsNearest, nears_of};
 ghost use Rattle.nearest_query.specs.Segments.{AreSegments, AreNearLeaves, HasId, live_in, bound_of};
 ghost use Rattle.nearest_query.specs.Fronts.{Front, span, spread};
@@ -49,6 +51,9 @@ pub fn nearest<const D: usize, F: Pages>(
     ensures reads { IsTrue F.told → Agrees (F.files folder.old) cache.old → (contents : ℕ → List Item) → AreSegments D (F.files folder.old) contents heads.now
         → (found : List Near) → IsNearest k (nears_of at.now.c (live_in contents heads.now lives.now ++ items_of buffer.now)) found
         → (leaves : ℕ) → AreNearLeaves D at.now.c (bound_of k found) heads.now leaves → F.reads folder.new ≤ F.reads folder.old + leaves }
+    // what a damage shows of the files; there is none where the files hold the segments
+    ensures damage { IsTrue F.told → Agrees (F.files folder.old) cache.old → OnDamage result (IsLeafDamageOf (F.files folder.old)) }
+    ensures whole { IsTrue F.told → Agrees (F.files folder.old) cache.old → (contents : ℕ → List Item) → AreSegments D (F.files folder.old) contents heads.now → NotDamaged result }
     ensures files { IsTrue F.told → F.files folder.new ≡ F.files folder.old }
     ensures agrees { IsTrue F.told → Agrees (F.files folder.old) cache.old → Agrees (F.files folder.old) cache.new }
     ensures others { (id : ℕ) → KeepsFile cache.new id → KeepsFile cache.old id ⊎ HasId heads.now id }

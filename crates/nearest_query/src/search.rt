@@ -8,6 +8,8 @@ ghost use Rattle.inner_pack.specs.Trees.{IndexTree, leaf_count};
 ghost use Rattle.inner_pack.specs.Nodes.{IsAt};
 ghost use Rattle.page_cache.specs.Cache.{KeepsFile, Agrees};
 ghost use Rattle.page_cache.specs.Causes.{HasPageCause};
+ghost use Rattle.page_cache.specs.Evidence.{OnDamage, NotDamaged};
+ghost use Rattle.segment_file.specs.Damages.{IsLeafDamageOf};
 ghost use Rattle.nearest_query.specs.Nearest.{IsNearest};
 ghost use Rattle.nearest_query.specs.Segments.{HasId, is_within, bound_of};
 ghost use Rattle.nearest_query.specs.Fronts.{Front, IsWaiting, span, spread, work};
@@ -68,6 +70,9 @@ fn open<'a, const D: usize, F: Pages>(
     ensures reads { (w : World) (bound : Option ℕ) → IsNode D w frontier.old.nodes next → w.at ≡ at.now.c → is_within bound next.dist2.0 ≡ true
         → F.reads folder.new + sum_by (spread (one_within w bound)) frontier.new.turns
         ≤ F.reads folder.old + spread (one_within w bound) next + sum_by (spread (one_within w bound)) frontier.old.turns }
+    ensures damage { IsTrue F.told → Agrees (F.files folder.old) cache.old → OnDamage result (IsLeafDamageOf (F.files folder.old)) }
+    ensures whole { IsTrue F.told → Agrees (F.files folder.old) cache.old → (w : World) → IsOver w at.now.c heads.now lives.now (F.files folder.old)
+        → IsNode D w frontier.old.nodes next → NotDamaged result }
 {
     match frontier.node(next.place).children() {
         Some((left, right)) => Ok(fork(frontier, next.segment, &left, &right, at)?),
@@ -106,6 +111,9 @@ pub fn search<'a, const D: usize, F: Pages>(
     ensures reads { IsTrue F.told → Agrees (F.files folder.old) cache.old → (w : World) (all nearest : List Near) → IsOver w at.now.c heads.now lives.now (F.files folder.old)
         → IsSought D w all frontier.old.turns frontier.old.nodes found.old → IsNearest found.old.room all nearest
         → F.reads folder.new ≤ F.reads folder.old + sum_by (spread (one_within w (bound_of found.old.room nearest))) frontier.old.turns }
+    ensures damage { IsTrue F.told → Agrees (F.files folder.old) cache.old → OnDamage result (IsLeafDamageOf (F.files folder.old)) }
+    ensures whole { IsTrue F.told → Agrees (F.files folder.old) cache.old → (w : World) (all : List Near) → IsOver w at.now.c heads.now lives.now (F.files folder.old)
+        → IsSought D w all frontier.old.turns frontier.old.nodes found.old → NotDamaged result }
 {
     while let Some(next) = frontier.pop() {
         if found.ends_before(next.dist2.0) {

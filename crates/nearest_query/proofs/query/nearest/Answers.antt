@@ -1,3 +1,4 @@
+use Rattle.std.proofs.lemmas.Result.{err_from_is_err_and}
 use Rattle.std.proofs.Common.{◌≡◌, ◌++◌, ◌+◌, ◌≤◌, List, [], ℕ, ap, subst, sym, refl, ◌∙◌, arith}
 use Rattle.std.specs.Prelude.{All, sum_by, length}
 use Rattle.std.specs.List.{range_with_len}
@@ -56,3 +57,13 @@ returns-in_err-search-clause-reads g c = λ told agrees contents segments neares
     let bounds = ap (λ k. sum_by (spread (one_within w (bound_of k nearest))) c.put_roots.new.frontier.turns) room in
     let total = start_near g.row.D c.args.at.now.c c.args.heads.now c.args.lives.now (g.F.Pages.files c.args.folder.now) contents segments (bound_of c.args.k nearest) c.put_roots.new.frontier.turns leaves near (c.in_ok-put_roots.ensures.totals w rs refl) in
     omega (arith, reads, bounds, total)
+
+pub returns-in_err-search-clause-whole : goal.returns-in_err-search-clause-whole
+returns-in_err-search-clause-whole g c = λ told agrees contents segments.
+    let w = world g.row.D c.args.at.now.c c.args.heads.now c.args.lives.now (g.F.Pages.files c.args.folder.now) contents segments in
+    let rs = roots g.row.D c.args.at.now.c c.args.heads.now c.args.lives.now (g.F.Pages.files c.args.folder.now) contents segments in
+    let sought = start g.row.D c.args.at.now.c c.args.heads.now c.args.lives.now (g.F.Pages.files c.args.folder.now) contents segments (items_of c.args.buffer.now) c.put_roots.new.frontier.turns c.put_roots.new.frontier.nodes c.offer_all.new.found
+        c.requires.lives (c.in_ok-offer_all.ensures.found [] c.new-found.ensures.best) (c.in_ok-put_roots.ensures.nodes w rs refl refl) (c.in_ok-put_roots.ensures.totals w rs refl) in
+    let h = c.in_err-search.ensures.whole told agrees w _ (record { at_is = refl; heads_are = refl; lives_are = refl; files_are = refl }) sought in
+    let p = err_from_is_err_and c.from_residual-in_err-search.result c.from_residual-in_err-search.ensures.1 in
+    rw (p.1, p.2) h

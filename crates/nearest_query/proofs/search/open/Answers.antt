@@ -2,7 +2,7 @@ use Rattle.std.proofs.Common.{◌≡◌, ◌∷◌, ◌+◌, ◌-◌, ◌*◌, �
 use Rattle.inner_pack.specs.Nodes.{IsAt, AreChildren}
 use Rattle.nearest_query.specs.Search.{IsNode, IsSought, one_within, head_at, live_at, no_head, no_live}
 use Rattle.nearest_query.proofs.Turns.{inside_put, waiting_work, read_any}
-use Rattle.nearest_query.proofs.Steps.{children_span, fork_step, leaf_step, leaf_counts, Opens}
+use Rattle.nearest_query.proofs.Steps.{children_span, fork_step, leaf_step, leaf_counts, leaf_whole, Opens, OpensWhole}
 use Rattle.nearest_query.proofs.search.open.Goals as goal
 
 pub returns-in_err-fork-in-Some-clause-reads : goal.returns-in_err-fork-in-Some-clause-reads
@@ -68,3 +68,14 @@ returns-in-None-clause-reads g c = λ w bound n at within.
     let one = leaf_counts w bound c.args.frontier.now.nodes c.args.next n (ap (λ m. m.leaves) (sym (c.node.ensures ∙ n.stands.is c.node.result.now)) ∙ single) within in
     let reads = c.open_leaf.ensures.reads in
     omega (arith, one, reads)
+
+pub returns-in-None-clause-whole : goal.returns-in-None-clause-whole
+returns-in-None-clause-whole g c = λ told agrees w over n.
+    let single = c.in-None.ensures.none.0 refl in
+    let head : head_at w c.args.next.segment ≡ c.index-heads-next.result = ap (λ hs. get_or hs c.args.next.segment no_head) over.heads_are ∙ read_any c.args.heads.now c.args.next.segment c.index-heads-next.result no_head c.requires.inside.inside c.index-heads-next.is in
+    leaf_whole w c.args.next c.args.frontier.now.nodes c.node-in-None.result.now c.open_leaf.result n
+    (ap (λ m. m.leaves) (c.node-in-None.ensures ∙ c.requires.inside.stands.is c.node-in-None.result.now ∙ sym (c.node.ensures ∙ c.requires.inside.stands.is c.node.result.now)) ∙ single)
+    (c.node-in-None.ensures ∙ n.stands.is c.node-in-None.result.now)
+    (subst (λ f. OpensWhole f (head_at w c.args.next.segment) c.node-in-None.result.now c.open_leaf.result) (sym over.files_are)
+    (subst (λ h. OpensWhole (g.F.Pages.files c.args.folder.now) h c.node-in-None.result.now c.open_leaf.result) (sym head)
+    (c.open_leaf.ensures.whole told agrees)))

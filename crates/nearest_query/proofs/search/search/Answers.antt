@@ -1,3 +1,4 @@
+use Rattle.std.proofs.lemmas.Result.{err_from_is_err_and}
 use Rattle.std.proofs.Common.{◌≡◌, ◌∷◌, ◌+◌, ◌≤◌, ◌<◌, ◌⊎◌, inl, inr, ⊎_elim, length, ℕ, ap, subst, sym, refl, ◌∙◌, arith, rules}
 use Rattle.std.specs.Prelude.{All}
 use Rattle.std.proofs.lemmas.List.Sorted.{All-permutation, sum_by_popped}
@@ -81,3 +82,12 @@ pub returns-clause-reads : goal.returns-clause-reads
 returns-clause-reads g c = λ told agrees w all nearest over s is.
     let r = c.loop-next.invariant.reads told agrees w all nearest over s is in
     omega (arith, r)
+
+pub returns-in_err-open-clause-whole : goal.returns-in_err-open-clause-whole
+returns-in_err-open-clause-whole g c = λ told a w all over s.
+    let here = sought_moved w all c.loop-next.frontier.turns (c.in-Some.next ∷ c.pop.new.self.turns) c.loop-next.frontier.nodes c.loop-next.found c.in-Some.ensures.some (c.loop-next.invariant.sought told a w all over s) in
+    let h = c.in_err-open.ensures.whole told (subst (λ f. Agrees f c.loop-next.cache) (sym (c.loop-next.invariant.files told)) (c.loop-next.invariant.agrees told a)) w
+        (record { at_is = over.at_is; heads_are = over.heads_are; lives_are = over.lives_are; files_are = over.files_are ∙ sym (c.loop-next.invariant.files told) })
+        (next_node w all c.in-Some.next c.pop.new.self.turns c.loop-next.frontier.nodes c.pop.new.self.nodes c.loop-next.found here c.in-Some.ensures.nodes) in
+    let p = err_from_is_err_and c.from_residual.result c.from_residual.ensures.1 in
+    rw (p.1, p.2) h
