@@ -49,7 +49,7 @@ far_within D at d inner outer h far p e k =
     far p e (rw (all_le-trans outer.lo inner.lo p w.0 b.0, all_le-trans p inner.hi outer.hi b.1 w.1) refl)
 
 module _ (D : ℕ) (at : List ℤ) (d : ℕ) (path : Region) (dim : ℕ) (x : ℤ) (hi : length path.hi ≡ D) (lo : length path.lo ≡ D) (inside : dim < D)
-  (from : get_or path.lo dim (pos 0) ≤ℤ x) (to : x ≤ℤ get_or path.hi dim (pos 0)) (far : IsFar D at d path) where
+    (from : get_or path.lo dim (pos 0) ≤ℤ x) (to : x ≤ℤ get_or path.hi dim (pos 0)) (far : IsFar D at d path) where
   pub far_left : IsFar D at d (left_of path dim x)
   far_left p e k = far p e (both_true _ _ (sym (left_keeps path dim x (lo ∙ sym hi) (omega (arith, inside, hi)) from to p (e ∙ sym hi)) ∙ k)).0
 

@@ -99,7 +99,7 @@ added true h = cc
 added false h = refl
 
 module _ (entries : List Near) (old : BTreeSet Near) (mid new : Candidates) (n : Near) (some : 1 ≤ mid.room) (was : IsNearest mid.room entries old.keys)
-  (but : LinkedBut n (given mid) (has mid.in_order)) (put : IsPut n mid new) (sub : (a : Near) → has mid.in_order a ≡ true → has old a ≡ true) where
+    (but : LinkedBut n (given mid) (has mid.in_order)) (put : IsPut n mid new) (sub : (a : Near) → has mid.in_order a ≡ true → has old a ≡ true) where
   no_number : has mid.in_order n ≡ false
   no_number = by_test _ (has mid.in_order n) (λ h. absurd (but.none n h refl)) (λ h. h)
 
@@ -149,7 +149,8 @@ module _ (entries : List Near) (old : BTreeSet Near) (mid new : Candidates) (n :
           → (length new.in_order.keys ≡ mid.room) × ((b : Near) → Contains new.in_order.keys b → ComesBefore b a)
       all_before a gone = (
         let l = length_put in let f = gone.0 in omega arith,
-        λ b h. ⊎_elim (λ is. subst (λ y. ComesBefore y a) is gone.1) (λ k. gone.2 b k) (from b (from_keys new.in_order b h)))
+        λ b h. ⊎_elim (λ is. subst (λ y. ComesBefore y a) is gone.1) (λ k. gone.2 b k) (from b (from_keys new.in_order b h)),
+      )
 
 -- a candidate comes nearer
 pub improved_best : (entries : List Near) (old mid new : Candidates) (n : Near) (d : ℕ) → AreBest entries old → hash.get eqb old.distances n.doc ≡ Some d → n.dist2 < d

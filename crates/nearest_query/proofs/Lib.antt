@@ -14,3 +14,4 @@ pub mod Roots
 pub mod Start
 pub mod InOrder
 pub mod OfDocuments
+pub mod Parts

@@ -46,7 +46,7 @@ pub by_test : (P : Type 0) (b : Bool) → (b ≡ true → P) → (b ≡ false �
 by_test P b on off = elim b as (λ c. b ≡ c → P) [ true ↦ λ e. on e | false ↦ λ e. off e ] refl
 
 module _ (n : Near) (g g' : ℕ → Option ℕ) (m m' : Near → Bool) (but : LinkedBut n g m)
-  (placed : (q : Near) → m' q ≡ cond (is_at (near_cmp n) q) true (m q)) (kept : (d : ℕ) → g' d ≡ cond (eqb n.doc d) (Some n.dist2) (g d)) where
+    (placed : (q : Near) → m' q ≡ cond (is_at (near_cmp n) q) true (m q)) (kept : (d : ℕ) → g' d ≡ cond (eqb n.doc d) (Some n.dist2) (g d)) where
   given_here : (q : Near) → n.doc ≡ q.doc → g' q.doc ≡ Some n.dist2
   given_here q e = kept q.doc ∙ ap (λ b. cond b (Some n.dist2) (g q.doc)) (same_docs n.doc q.doc e)
 
@@ -76,7 +76,7 @@ but_none n g m is h = record {
 
 -- without the entry w, whose distance g gives
 module _ (w : Near) (g : ℕ → Option ℕ) (m m' : Near → Bool) (is : Linked g m) (given : g w.doc ≡ Some w.dist2)
-  (gone : (q : Near) → m' q ≡ cond (is_at (near_cmp w) q) false (m q)) where
+    (gone : (q : Near) → m' q ≡ cond (is_at (near_cmp w) q) false (m q)) where
   -- it has no entry of the number any more
   pub none_left : (q : Near) → m' q ≡ true → w.doc ≢ q.doc
   none_left q h e = by_test ⊥ (is_at (near_cmp w) q)

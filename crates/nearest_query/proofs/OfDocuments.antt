@@ -56,9 +56,10 @@ fold_least a [] = (omega arith, λ x h. nil_none x _ h, inl refl)
 fold_least a (x ∷ xs) =
     let r = fold_least (min a x) xs in
     let low = r.0 in (
-    omega (arith, low),
-    λ y h. ⊎_elim (λ e. omega (arith, low, e)) (λ k. r.1 y k) (cons_cases x xs y h),
-    ⊎_elim (λ e. smaller a x (fold min (min a x) xs) e) (λ k. inr (cons_tail x xs _ k)) r.2)
+      omega (arith, low),
+      λ y h. ⊎_elim (λ e. omega (arith, low, e)) (λ k. r.1 y k) (cons_cases x xs y h),
+      ⊎_elim (λ e. smaller a x (fold min (min a x) xs) e) (λ k. inr (cons_tail x xs _ k)) r.2,
+    )
   where
     smaller : (a x m : ℕ) → m ≡ min a x → (m ≡ a) ⊎ Contains (x ∷ xs) m
     smaller a x m e = ⊎_elim (λ lt. inl (omega arith)) (λ ge. inr (subst (λ y. Contains (x ∷ xs) y) (let f : x ≡ m = omega arith in f) (cons_head x xs))) (cases_lt a x)
@@ -207,14 +208,17 @@ module _ (k : ℕ) (at : List ℤ) (docs : List Document) (items : List Item) (a
         let f = is_from x m in
         ⊎_elim
         (λ h. inl (near_of_pair (pair_of f.doc), map_has near_of_pair (take k ranked) (pair_of f.doc) h, f.number))
-        (λ o. inr (length_mapped (take k ranked) ∙ o.0, All-weaker (λ a. Contains first_ones a) (λ a. ComesBefore a x)
-        (λ a h.
-        let r = map_from near_of_pair (take k ranked) a h in
-        let b = subst (λ z. ComesBefore z (near_of_pair (pair_of f.doc))) r.2 (before_from_less (near_of_pair r.0) (near_of_pair (pair_of f.doc)) (o.1 r.0 r.1)) in
-        let n = b.near in
-        let l = f.dist in
-        record { near = omega (arith, n, l); tie = λ t. let s : distance at f.doc.points ≤ a.dist2 = omega (arith, n, l, t) in let q = b.tie s in let g = f.number in omega (arith, q, g) })
-        first_ones (All-contains_itself first_ones)))
+        (λ o. inr (
+          length_mapped (take k ranked) ∙ o.0,
+          All-weaker (λ a. Contains first_ones a) (λ a. ComesBefore a x)
+              (λ a h.
+              let r = map_from near_of_pair (take k ranked) a h in
+              let b = subst (λ z. ComesBefore z (near_of_pair (pair_of f.doc))) r.2 (before_from_less (near_of_pair r.0) (near_of_pair (pair_of f.doc)) (o.1 r.0 r.1)) in
+              let n = b.near in
+              let l = f.dist in
+              record { near = omega (arith, n, l); tie = λ t. let s : distance at f.doc.points ≤ a.dist2 = omega (arith, n, l, t) in let q = b.tie s in let g = f.number in omega (arith, q, g) })
+              first_ones (All-contains_itself first_ones),
+        ))
         (take_or (λ p q. nearer p q ≡ Less) k ranked (pair_of f.doc) ascends (in_ranked f.doc f.in_docs));
   }
 

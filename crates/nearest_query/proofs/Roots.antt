@@ -25,7 +25,8 @@ use Rattle.nearest_query.specs.Nearest.{near_of, nears_of}
 use Rattle.nearest_query.specs.Best.{AreBest, AreAdded}
 use Rattle.nearest_query.specs.Segments.{live_items, live_in, least_dist2, is_within, near_leaves, AreSegments, AreNearLeaves}
 use Rattle.nearest_query.specs.Fronts.{Front, IsWaiting, span, spread}
-use Rattle.nearest_query.specs.Search.{World, IsNode, IsSought, HasLeaves, HasRoot, HasRoots, head_at, live_at, nears_at, one_within, no_head, no_live}
+use Rattle.nearest_query.specs.Search.{World, IsNode, IsSought, HasLeaves, HasRoot, HasRoots, head_at, live_at, nears_at, one_within, no_live}
+use Rattle.nearest_query.specs.Segments.{no_head}
 use Rattle.nearest_query.proofs.Turns.{span_split, span_one, waiting_sum}
 use Rattle.nearest_query.proofs.Steps.{nodes_put, some_leaf}
 
@@ -82,17 +83,19 @@ module _ (D : ℕ) (w : World) (i : ℕ) (bytes : List ℕ) (bytes_are : bytes_o
       → ((n : ℕ) → first ≤ n → n < first + leaf_count t → w.least i n ≡ least_of w.at first t n)
       → HasLeaves D w i first s t
   has_leaves first s (Leaf len own) items h table least =
-      let here = table first (omega arith) (omega arith) in
-      (subst (λ xs. HoldsLeaf D (bytes_of (w.files (Segment (head_at w i).id))) (head_at w i) first s len own xs) (sym here)
-      (subst (λ b. HoldsLeaf D b (head_at w i) first s len own items) (sym bytes_are) h),
-      least first (omega arith) (omega arith))
+      let here = table first (omega arith) (omega arith) in (
+        subst (λ xs. HoldsLeaf D (bytes_of (w.files (Segment (head_at w i).id))) (head_at w i) first s len own xs) (sym here)
+            (subst (λ b. HoldsLeaf D b (head_at w i) first s len own items) (sym bytes_are) h),
+        least first (omega arith) (omega arith),
+      )
   has_leaves first s (Split d x l r) items h table least = (
-      has_leaves first s l h.front_items h.front_holds
-      (λ n a b. let c = some_leaf r in table n a (omega (arith, b, c)) ∙ ap (λ t. cond t (leaves_of D bytes (head_at w i) first s l h.front_items h.front_holds n) (leaves_of D bytes (head_at w i) (first + leaf_count l) (right_begin s l r) r h.back_items h.back_holds n)) (in_left n (first + leaf_count l) b))
-      (λ n a b. let c = some_leaf r in least n a (omega (arith, b, c)) ∙ ap (λ t. cond t (least_of w.at first l n) (least_of w.at (first + leaf_count l) r n)) (in_left n (first + leaf_count l) b)),
-      has_leaves (first + leaf_count l) (right_begin s l r) r h.back_items h.back_holds
-      (λ n a b. table n (omega (arith, a)) (omega (arith, b)) ∙ ap (λ t. cond t (leaves_of D bytes (head_at w i) first s l h.front_items h.front_holds n) (leaves_of D bytes (head_at w i) (first + leaf_count l) (right_begin s l r) r h.back_items h.back_holds n)) (in_right n (first + leaf_count l) a))
-      (λ n a b. least n (omega (arith, a)) (omega (arith, b)) ∙ ap (λ t. cond t (least_of w.at first l n) (least_of w.at (first + leaf_count l) r n)) (in_right n (first + leaf_count l) a)))
+    has_leaves first s l h.front_items h.front_holds
+        (λ n a b. let c = some_leaf r in table n a (omega (arith, b, c)) ∙ ap (λ t. cond t (leaves_of D bytes (head_at w i) first s l h.front_items h.front_holds n) (leaves_of D bytes (head_at w i) (first + leaf_count l) (right_begin s l r) r h.back_items h.back_holds n)) (in_left n (first + leaf_count l) b))
+        (λ n a b. let c = some_leaf r in least n a (omega (arith, b, c)) ∙ ap (λ t. cond t (least_of w.at first l n) (least_of w.at (first + leaf_count l) r n)) (in_left n (first + leaf_count l) b)),
+    has_leaves (first + leaf_count l) (right_begin s l r) r h.back_items h.back_holds
+        (λ n a b. table n (omega (arith, a)) (omega (arith, b)) ∙ ap (λ t. cond t (leaves_of D bytes (head_at w i) first s l h.front_items h.front_holds n) (leaves_of D bytes (head_at w i) (first + leaf_count l) (right_begin s l r) r h.back_items h.back_holds n)) (in_right n (first + leaf_count l) a))
+        (λ n a b. least n (omega (arith, a)) (omega (arith, b)) ∙ ap (λ t. cond t (least_of w.at first l n) (least_of w.at (first + leaf_count l) r n)) (in_right n (first + leaf_count l) a)),
+  )
 
   -- the live entries of all of them are those of the items
   pub leaf_totals : (f : Near → ℕ) (first : ℕ) (s : Spot) (t : IndexTree) (items : List Item) (h : HoldsTree D bytes (head_at w i) first s t items)
@@ -102,15 +105,15 @@ module _ (D : ℕ) (w : World) (i : ℕ) (bytes : List ℕ) (bytes_are : bytes_o
       span_one (λ j n. sum_by f (nears_at w j n)) i first ∙ ap (λ xs. sum_by f (nears_of w.at (live_items (live_at w i) xs))) (table first (omega arith) (omega arith))
   leaf_totals f first s (Split d x l r) items h table =
       let a = leaf_totals f first s l h.front_items h.front_holds
-          (λ n a b. let c = some_leaf r in table n a (omega (arith, b, c)) ∙ ap (λ t. cond t (leaves_of D bytes (head_at w i) first s l h.front_items h.front_holds n) (leaves_of D bytes (head_at w i) (first + leaf_count l) (right_begin s l r) r h.back_items h.back_holds n)) (in_left n (first + leaf_count l) b)) in
+      (λ n a b. let c = some_leaf r in table n a (omega (arith, b, c)) ∙ ap (λ t. cond t (leaves_of D bytes (head_at w i) first s l h.front_items h.front_holds n) (leaves_of D bytes (head_at w i) (first + leaf_count l) (right_begin s l r) r h.back_items h.back_holds n)) (in_left n (first + leaf_count l) b)) in
       let b = leaf_totals f (first + leaf_count l) (right_begin s l r) r h.back_items h.back_holds
-          (λ n a b. table n (omega (arith, a)) (omega (arith, b)) ∙ ap (λ t. cond t (leaves_of D bytes (head_at w i) first s l h.front_items h.front_holds n) (leaves_of D bytes (head_at w i) (first + leaf_count l) (right_begin s l r) r h.back_items h.back_holds n)) (in_right n (first + leaf_count l) a)) in
+      (λ n a b. table n (omega (arith, a)) (omega (arith, b)) ∙ ap (λ t. cond t (leaves_of D bytes (head_at w i) first s l h.front_items h.front_holds n) (leaves_of D bytes (head_at w i) (first + leaf_count l) (right_begin s l r) r h.back_items h.back_holds n)) (in_right n (first + leaf_count l) a)) in
       let c = span_split (λ n. sum_by f (nears_at w i n)) first (leaf_count l) (leaf_count r) in
       let joined : sum_by f (nears_of w.at (live_items (live_at w i) items)) ≡ sum_by f (nears_of w.at (live_items (live_at w i) h.front_items)) + sum_by f (nears_of w.at (live_items (live_at w i) h.back_items)) =
-          ap (λ xs. sum_by f (nears_of w.at (live_items (live_at w i) xs))) h.joined
-          ∙ ap (λ xs. sum_by f (nears_of w.at xs)) (filter-append (λ y. is_live (live_at w i) y.doc) h.front_items h.back_items)
-          ∙ ap (sum_by f) (map-append (near_of w.at) (live_items (live_at w i) h.front_items) (live_items (live_at w i) h.back_items))
-          ∙ sum_by-append f (nears_of w.at (live_items (live_at w i) h.front_items)) (nears_of w.at (live_items (live_at w i) h.back_items)) in
+      ap (λ xs. sum_by f (nears_of w.at (live_items (live_at w i) xs))) h.joined
+      ∙ ap (λ xs. sum_by f (nears_of w.at xs)) (filter-append (λ y. is_live (live_at w i) y.doc) h.front_items h.back_items)
+      ∙ ap (sum_by f) (map-append (near_of w.at) (live_items (live_at w i) h.front_items) (live_items (live_at w i) h.back_items))
+      ∙ sum_by-append f (nears_of w.at (live_items (live_at w i) h.front_items)) (nears_of w.at (live_items (live_at w i) h.back_items)) in
       omega (arith, a, b, c, joined)
 
 -- how many of them are within a bound

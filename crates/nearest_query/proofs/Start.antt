@@ -22,7 +22,8 @@ use Rattle.nearest_query.specs.Nearest.{near_of, nears_of}
 use Rattle.nearest_query.specs.Best.{AreAdded}
 use Rattle.nearest_query.specs.Segments.{live_items, live_in, near_leaves, AreSegments, AreNearLeaves}
 use Rattle.nearest_query.specs.Fronts.{span, spread}
-use Rattle.nearest_query.specs.Search.{World, IsNode, IsSought, HasRoot, HasRoots, head_at, live_at, nears_at, one_within, no_head}
+use Rattle.nearest_query.specs.Search.{World, IsNode, IsSought, HasRoot, HasRoots, head_at, live_at, nears_at, one_within}
+use Rattle.nearest_query.specs.Segments.{no_head}
 use Rattle.nearest_query.proofs.Roots.{shaped_count, leaves_of, least_of, has_leaves, leaf_totals, near_totals, sum_in, near_in, HasNear}
 
 -- a segment's tree with its leaves
@@ -93,7 +94,7 @@ module _ (D : ℕ) (at : List ℤ) (heads : List Head) (lives : List LiveSet) (f
         let z : sum_by f [] ≡ 0 = refl in
         let t = totals g in
         let i = sum_in f at contents heads lives 0 (λ i. span g i 0 (head_at world i).index.leaves) same
-            (λ i lt. let e : zero + i ≡ i = omega arith in ap (λ k. span g k 0 (head_at world k).index.leaves) e ∙ (root_at i lt).totals f) in
+        (λ i lt. let e : zero + i ≡ i = omega arith in ap (λ k. span g k 0 (head_at world k).index.leaves) e ∙ (root_at i lt).totals f) in
         let j = ap (sum_by f) (map-append (near_of at) (live_in contents heads lives) buffer) ∙ sum_by-append f (nears_of at (live_in contents heads lives)) (nears_of at buffer) in
         omega (arith, a, z, t, i, j);
   }

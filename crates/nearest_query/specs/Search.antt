@@ -15,13 +15,13 @@ use Rattle.inner_pack.specs.Bodies.{HasTree, right_begin}
 use Rattle.inner_pack.specs.Nodes.{IsAt}
 use Rattle.inner_pack.specs.declared.node.NodeAt.{NodeAt}
 use Rattle.segment_file.specs.Heads.{Head}
-use Rattle.segment_file.specs.Segments.{HoldsLeaf}
+use Rattle.segment_file.specs.Segments.{HoldsLeaf, IsLeafOf}
 use Rattle.nearest_query.specs.declared.candidates.Candidates.{Candidates}
 use Rattle.nearest_query.specs.declared.frontier.Waiting.{Waiting}
 use Rattle.nearest_query.specs.Nearest.{nears_of}
 use Rattle.nearest_query.specs.Best.{AreBest}
 use Rattle.nearest_query.specs.Fronts.{spread, work}
-use Rattle.nearest_query.specs.Segments.{live_items, least_dist2, is_within}
+use Rattle.nearest_query.specs.Segments.{live_items, least_dist2, is_within, no_head}
 
 -- what is searched: a point and segments, told by position, with the entries and the least distance of each leaf
 pub record World : Type 0 where
@@ -31,9 +31,6 @@ pub record World : Type 0 where
   pub files : Files
   pub table : ℕ → ℕ → List Item
   pub least : ℕ → ℕ → ℕ
-
-abbrev pub no_head : Head
-no_head = record { id = 0; entries = 0; leaf = 0; index = record { form = 0; leaves = 0; bytes = [] } }
 
 abbrev pub head_at : World → ℕ → Head
 head_at w i = slice_index_or w.heads i no_head
@@ -72,6 +69,17 @@ pub record IsInside {D : ℕ} (segments : ℕ) (nodes : List (NodeAt D)) (t : Wa
   pub node : NodeAt D
   pub stands : Stands nodes t.place node
   pub leaves_are : t.leaves ≡ node.leaves
+
+-- what waits is a node of its segment's tree, whose leaves are some of those of the tree
+pub record IsPart {D : ℕ} (heads : List Head) (trees : ℕ → IndexTree) (nodes : List (NodeAt D)) (t : Waiting) : Type 0 where
+  pub inside : t.segment < length heads
+  pub node : NodeAt D
+  pub stands : Stands nodes t.place node
+  pub spot : Spot
+  pub path : Region
+  pub tree : IndexTree
+  pub is : IsAt node t.first spot path tree
+  pub part : (number : ℕ) (at : Spot) (len : ℕ) (own : Region) → IsLeafOf t.first spot tree number at len own → IsLeafOf 0 front (trees t.segment) number at len own
 
 -- what waits is a node of its segment's tree, and waits by its least distance
 pub record IsNode (D : ℕ) (w : World) (nodes : List (NodeAt D)) (t : Waiting) : Type 0 where

@@ -1,5 +1,5 @@
 -- The entries of segments, and how far their leaves are from a point.
-use Rattle.std.specs.Prelude.{ℕ, ◌+◌, ◌≡◌, Bool, true, if◌then◌else◌, nat_le, nat_lt, Option, Some, None, List, [], ◌∷◌, ◌++◌, filter, length, All, Contains, ℤ}
+use Rattle.std.specs.Prelude.{ℕ, ◌<◌, slice_index_or, ◌+◌, ◌≡◌, Bool, true, if◌then◌else◌, nat_le, nat_lt, Option, Some, None, List, [], ◌∷◌, ◌++◌, filter, length, All, Contains, ℤ}
 use Rattle.point_codec.specs.Points.{Item, Region, dist2}
 use Rattle.point_codec.specs.Cells.{nearest_in}
 use Rattle.point_codec.specs.declared.entries.Near.{Near}
@@ -8,6 +8,9 @@ use Rattle.outer_io.specs.Files.{Files, bytes_of}
 use Rattle.outer_io.specs.declared.file_name.FileName.TheVariants.{Segment}
 use Rattle.inner_pack.specs.Trees.{IndexTree, Leaf, Split}
 use Rattle.inner_pack.specs.Bodies.{HasTree}
+use Rattle.inner_pack.specs.Places.{front}
+use Rattle.page_cache.specs.declared.faults.Damage.{Damage}
+use Rattle.segment_file.specs.Damages.{IsLeafDamage}
 use Rattle.segment_file.specs.Heads.{Head}
 use Rattle.segment_file.specs.Segments.{IsSegment}
 
@@ -20,6 +23,9 @@ abbrev pub live_in : (ℕ → List Item) → List Head → List LiveSet → List
 live_in contents [] lives = []
 live_in contents (h ∷ hs) [] = []
 live_in contents (h ∷ hs) (live ∷ lives) = live_items live (contents h.id) ++ live_in contents hs lives
+
+abbrev pub no_head : Head
+no_head = record { id = 0; entries = 0; leaf = 0; index = record { form = 0; leaves = 0; bytes = [] } }
 
 -- each head is that of its segment's file, which has these contents
 abbrev pub AreSegments : ℕ → Files → (ℕ → List Item) → List Head → Type 0
@@ -49,6 +55,14 @@ abbrev pub AreNearLeaves : (D : ℕ) → List ℤ → Option ℕ → List Head �
 AreNearLeaves D at bound [] n = n ≡ 0
 AreNearLeaves D at bound (h ∷ hs) n =
     (m : ℕ) × (rest : ℕ) × ((root : Region) (t : IndexTree) → HasTree D h.index root t → m ≡ near_leaves at bound t) × AreNearLeaves D at bound hs rest × (n ≡ m + rest)
+
+-- a damage of a leaf of one of the segments, told by position, of whose index this is the tree
+abbrev pub IsSegmentDamage : ℕ → List Head → (ℕ → IndexTree) → Damage → Type 0
+IsSegmentDamage D heads trees d = (i : ℕ) × (i < length heads) × IsLeafDamage D (slice_index_or heads i no_head) 0 front (trees i) d
+
+-- these are the trees of the segments' indexes
+abbrev pub HaveTrees : ℕ → List Head → (ℕ → IndexTree) → Type 0
+HaveTrees D heads trees = (i : ℕ) → i < length heads → (root : Region) × HasTree D (slice_index_or heads i no_head).index root (trees i)
 
 -- how far a search of k numbers goes that finds these: as far as the last, and over all where there are fewer
 abbrev pub last_of : List Near → Option ℕ

@@ -65,7 +65,12 @@ impl<'a, const D: usize> Frontier<'a, D> {
     }
 
     /// Lets a node wait.
-    pub fn put(&mut self, segment: usize, node: &NodeAt<'a, D>, at: &Point<D>) -> Result<(), AllocError>
+    pub fn put(
+        &mut self,
+        segment: usize,
+        node: &NodeAt<'a, D>,
+        at: &Point<D>,
+    ) -> Result<(), AllocError>
         ensures put { OnOk result (IsWaiting at.now.c segment node.now self.old self.new) }
         ensures counted { (first : ℕ) (s : Spot) (path : Region) (t : IndexTree) → IsAt node.now first s path t → node.now.leaves ≡ leaf_count t }
         ensures most { (g : ℕ → ℕ → ℕ) → sum_by (spread g) self.new.turns ≤ span g segment node.now.first node.now.leaves + sum_by (spread g) self.old.turns }

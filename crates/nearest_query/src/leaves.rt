@@ -50,6 +50,7 @@ pub fn open_leaf<const D: usize, F: Pages>(
         → IsAt node.now first s path (Leaf len own) → HoldsLeaf D (bytes_of (F.files folder.old (Segment head.now.id))) head.now first s len own items
         → AreBest seen found.old → OnOk result (AreAdded seen (nears_of at.now.c (live_items live.now items)) found.new) }
     ensures damage { IsTrue F.told → Agrees (F.files folder.old) cache.old → OnDamage result (IsLeafDamageOf (F.files folder.old)) }
+    ensures shown { (first : ℕ) (s : Spot) (path : Region) (t : IndexTree) → IsAt node.now first s path t → OnDamage result (IsLeafDamage D head.now first s t) }
     ensures whole { IsTrue F.told → Agrees (F.files folder.old) cache.old → (first : ℕ) (s : Spot) (path : Region) (len : ℕ) (own : Region) (items : List Item)
         → IsAt node.now first s path (Leaf len own) → HoldsLeaf D (bytes_of (F.files folder.old (Segment head.now.id))) head.now first s len own items → NotDamaged result }
 {

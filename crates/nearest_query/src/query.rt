@@ -12,9 +12,9 @@ ghost use Rattle.page_cache.specs.Causes.{HasPageCause};
 ghost use Rattle.page_cache.specs.Evidence.{OnDamage, NotDamaged};
 ghost use Rattle.segment_file.specs.Damages.{IsLeafDamageOf};
 ghost use Rattle.nearest_query.specs.Nearest.{IsNearest, nears_of};
-ghost use Rattle.nearest_query.specs.Segments.{AreSegments, AreNearLeaves, HasId, live_in, bound_of};
+ghost use Rattle.nearest_query.specs.Segments.{AreSegments, AreNearLeaves, HasId, HaveTrees, IsSegmentDamage, live_in, bound_of};
 ghost use Rattle.nearest_query.specs.Fronts.{Front, span, spread};
-ghost use Rattle.nearest_query.specs.Search.{World, IsOver, IsInside, IsNode, HasRoots, head_at};
+ghost use Rattle.nearest_query.specs.Search.{World, IsOver, IsInside, IsPart, IsNode, HasRoots, head_at};
 
 use crate::candidates::Candidates;
 use crate::frontier::Frontier;
@@ -51,7 +51,8 @@ pub fn nearest<const D: usize, F: Pages>(
     ensures reads { IsTrue F.told → Agrees (F.files folder.old) cache.old → (contents : ℕ → List Item) → AreSegments D (F.files folder.old) contents heads.now
         → (found : List Near) → IsNearest k (nears_of at.now.c (live_in contents heads.now lives.now ++ items_of buffer.now)) found
         → (leaves : ℕ) → AreNearLeaves D at.now.c (bound_of k found) heads.now leaves → F.reads folder.new ≤ F.reads folder.old + leaves }
-    // what a damage shows of the files; there is none where the files hold the segments
+    // what a damage shows by what it carries, and of the files; there is none where the files hold the segments
+    ensures shown { (trees : ℕ → IndexTree) → HaveTrees D heads.now trees → OnDamage result (IsSegmentDamage D heads.now trees) }
     ensures damage { IsTrue F.told → Agrees (F.files folder.old) cache.old → OnDamage result (IsLeafDamageOf (F.files folder.old)) }
     ensures whole { IsTrue F.told → Agrees (F.files folder.old) cache.old → (contents : ℕ → List Item) → AreSegments D (F.files folder.old) contents heads.now → NotDamaged result }
     ensures files { IsTrue F.told → F.files folder.new ≡ F.files folder.old }
@@ -84,6 +85,7 @@ fn put_roots<'a, const D: usize>(
 ) -> Result<(), AllocError>
     requires { frontier.old.turns ≡ [] }
     ensures inside { OnOk result (All (IsInside (length heads.now) frontier.new.nodes) frontier.new.turns) }
+    ensures parts { (trees : ℕ → IndexTree) → HaveTrees D heads.now trees → OnOk result (All (IsPart heads.now trees frontier.new.nodes) frontier.new.turns) }
     ensures nodes { (w : World) → HasRoots D w → w.heads ≡ heads.now → w.at ≡ at.now.c → OnOk result (All (IsNode D w frontier.new.nodes) frontier.new.turns) }
     ensures totals { (w : World) → HasRoots D w → w.heads ≡ heads.now → (g : ℕ → ℕ → ℕ)
         → OnOk result (sum_by (spread g) frontier.new.turns ≡ sum_by (λ i. span g i 0 (head_at w i).index.leaves) (range_with_len 0 (length heads.now))) }

@@ -11,9 +11,9 @@ ghost use Rattle.page_cache.specs.Causes.{HasPageCause};
 ghost use Rattle.page_cache.specs.Evidence.{OnDamage, NotDamaged};
 ghost use Rattle.segment_file.specs.Damages.{IsLeafDamageOf};
 ghost use Rattle.nearest_query.specs.Nearest.{IsNearest};
-ghost use Rattle.nearest_query.specs.Segments.{HasId, is_within, bound_of};
+ghost use Rattle.nearest_query.specs.Segments.{HasId, IsSegmentDamage, is_within, bound_of};
 ghost use Rattle.nearest_query.specs.Fronts.{Front, IsWaiting, span, spread, work};
-ghost use Rattle.nearest_query.specs.Search.{World, IsOver, IsInside, IsNode, IsSought, one_within};
+ghost use Rattle.nearest_query.specs.Search.{World, IsOver, IsInside, IsPart, IsNode, IsSought, one_within};
 
 use crate::candidates::Candidates;
 use crate::frontier::{Frontier, Waiting};
@@ -71,6 +71,8 @@ fn open<'a, const D: usize, F: Pages>(
         → F.reads folder.new + sum_by (spread (one_within w bound)) frontier.new.turns
         ≤ F.reads folder.old + spread (one_within w bound) next + sum_by (spread (one_within w bound)) frontier.old.turns }
     ensures damage { IsTrue F.told → Agrees (F.files folder.old) cache.old → OnDamage result (IsLeafDamageOf (F.files folder.old)) }
+    ensures parts { (trees : ℕ → IndexTree) → All (IsPart heads.now trees frontier.old.nodes) (next ∷ frontier.old.turns) → OnOk result (All (IsPart heads.now trees frontier.new.nodes) frontier.new.turns) }
+    ensures shown { (trees : ℕ → IndexTree) → IsPart heads.now trees frontier.old.nodes next → OnDamage result (IsSegmentDamage D heads.now trees) }
     ensures whole { IsTrue F.told → Agrees (F.files folder.old) cache.old → (w : World) → IsOver w at.now.c heads.now lives.now (F.files folder.old)
         → IsNode D w frontier.old.nodes next → NotDamaged result }
 {
@@ -112,6 +114,7 @@ pub fn search<'a, const D: usize, F: Pages>(
         → IsSought D w all frontier.old.turns frontier.old.nodes found.old → IsNearest found.old.room all nearest
         → F.reads folder.new ≤ F.reads folder.old + sum_by (spread (one_within w (bound_of found.old.room nearest))) frontier.old.turns }
     ensures damage { IsTrue F.told → Agrees (F.files folder.old) cache.old → OnDamage result (IsLeafDamageOf (F.files folder.old)) }
+    ensures shown { (trees : ℕ → IndexTree) → All (IsPart heads.now trees frontier.old.nodes) frontier.old.turns → OnDamage result (IsSegmentDamage D heads.now trees) }
     ensures whole { IsTrue F.told → Agrees (F.files folder.old) cache.old → (w : World) (all : List Near) → IsOver w at.now.c heads.now lives.now (F.files folder.old)
         → IsSought D w all frontier.old.turns frontier.old.nodes found.old → NotDamaged result }
 {

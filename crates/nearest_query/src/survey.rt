@@ -14,11 +14,7 @@ use segment_file::SegmentHead;
 
 /// How many leaves of the segment have a cell whose least squared distance from the point is at most the bound; all where
 /// there is none. Nothing is read, and no memory is taken.
-pub fn survey_near<const D: usize>(
-    head: &SegmentHead<D>,
-    at: &Point<D>,
-    bound: Option<u128>,
-) -> u64
+pub fn survey_near<const D: usize>(head: &SegmentHead<D>, at: &Point<D>, bound: Option<u128>) -> u64
     ensures { (root : Region) (t : IndexTree) → HasTree D head.now.index root t → result ≡ near_leaves at.now.c bound t }
 {
     near_below(&head.index().walk(), at, bound)

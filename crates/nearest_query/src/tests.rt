@@ -22,16 +22,7 @@ fn nearest_in<const D: usize>(
 {
     let mut cache = PageCache::new(rt.alloc(), 1)?;
     let mut folder = MemFolder::new(rt.alloc(), Vec::new(rt.alloc()));
-    let found = nearest(
-        rt.alloc(),
-        &[],
-        &[],
-        buffer,
-        &mut cache,
-        &mut folder,
-        at,
-        k,
-    )?;
+    let found = nearest(rt.alloc(), &[], &[], buffer, &mut cache, &mut folder, at, k)?;
     Ok(found)
 }
 

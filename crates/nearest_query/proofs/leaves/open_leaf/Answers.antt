@@ -23,3 +23,12 @@ returns-in_err-place-clause-whole g c = λ told agrees first s path len own item
 pub returns-in_default-clause-whole : goal.returns-in_default-clause-whole
 returns-in_default-clause-whole g c = λ told agrees first s path len own items is holds.
     absurd (c.in_default.ensures.none (g.F.Pages.files c.args.folder.now) first s path len own (c.in_ok-place.ensures.agrees told agrees) is (c.in_ok-place.ensures.place first s path (Leaf len own) is) items holds)
+
+pub returns-in_err-place-clause-shown : goal.returns-in_err-place-clause-shown
+returns-in_err-place-clause-shown g c = λ first s path t is.
+    let h = c.in_err-place.ensures.shown first s t in
+    let p = err_from_is_err_and c.from_residual.result c.from_residual.ensures.1 in
+    rw (p.1, p.2) h
+
+pub returns-in_default-clause-shown : goal.returns-in_default-clause-shown
+returns-in_default-clause-shown g c = λ first s path t is. c.bad_leaf.ensures.shown first s path t is (c.in_ok-place.ensures.place first s path t is)

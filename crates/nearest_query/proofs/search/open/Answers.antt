@@ -1,8 +1,19 @@
+use Rattle.std.specs.Prelude.{All}
+use Rattle.nearest_query.proofs.Results.{always}
 use Rattle.std.proofs.Common.{◌≡◌, ◌∷◌, ◌+◌, ◌-◌, ◌*◌, ◌≤◌, ◌<◌, length, get_or, ℕ, ap, subst, sym, refl, ◌∙◌, arith}
 use Rattle.inner_pack.specs.Nodes.{IsAt, AreChildren}
-use Rattle.nearest_query.specs.Search.{IsNode, IsSought, one_within, head_at, live_at, no_head, no_live}
+use Rattle.nearest_query.specs.Search.{IsNode, IsSought, one_within, head_at, live_at, no_live}
+use Rattle.nearest_query.specs.Segments.{no_head}
 use Rattle.nearest_query.proofs.Turns.{inside_put, waiting_work, read_any}
 use Rattle.nearest_query.proofs.Steps.{children_span, fork_step, leaf_step, leaf_counts, leaf_whole, Opens, OpensWhole}
+use Rattle.segment_file.specs.Damages.{IsLeafDamage}
+use Rattle.page_cache.specs.Evidence.{OnDamage}
+use Rattle.inner_pack.specs.Trees.{IndexTree}
+use Rattle.inner_pack.specs.Places.{Spot}
+use Rattle.point_codec.specs.Points.{Region}
+use Rattle.nearest_query.specs.Search.{IsPart}
+use Rattle.nearest_query.proofs.Parts.{parts_fork, leaf_shown}
+use Rattle.std.proofs.lemmas.List.Elements.{All-head, All-tail}
 use Rattle.nearest_query.proofs.search.open.Goals as goal
 
 pub returns-in_err-fork-in-Some-clause-reads : goal.returns-in_err-fork-in-Some-clause-reads
@@ -79,3 +90,23 @@ returns-in-None-clause-whole g c = λ told agrees w over n.
     (subst (λ f. OpensWhole f (head_at w c.args.next.segment) c.node-in-None.result.now c.open_leaf.result) (sym over.files_are)
     (subst (λ h. OpensWhole (g.F.Pages.files c.args.folder.now) h c.node-in-None.result.now c.open_leaf.result) (sym head)
     (c.open_leaf.ensures.whole told agrees)))
+
+pub returns-in_ok-fork-in-Some-clause-parts : goal.returns-in_ok-fork-in-Some-clause-parts
+returns-in_ok-fork-in-Some-clause-parts g c = λ trees all.
+    let put = c.in_ok-fork-in-Some.ensures.put in
+    let n = All-head (IsPart c.args.heads.now trees c.args.frontier.now.nodes) c.args.next c.args.frontier.now.turns all in
+    let same = c.node.ensures ∙ n.stands.is c.node.result.now in
+    parts_fork c.args.heads.now trees c.args.at.now.c c.args.next c.args.frontier.now put.0 c.fork.new.frontier c.in-Some.left c.in-Some.right n
+    (c.in-Some.ensures.some c.args.next.first n.spot n.path n.tree (subst (λ m. IsAt m c.args.next.first n.spot n.path n.tree) (sym same) n.is))
+    put.1 put.2 (All-tail (IsPart c.args.heads.now trees c.args.frontier.now.nodes) c.args.next c.args.frontier.now.turns all)
+
+pub returns-in-None-clause-shown : goal.returns-in-None-clause-shown
+returns-in-None-clause-shown g c = λ trees n.
+    let head : get_or c.args.heads.now c.args.next.segment no_head ≡ c.index-heads-next.result = read_any c.args.heads.now c.args.next.segment c.index-heads-next.result no_head c.requires.inside.inside c.index-heads-next.is in
+    leaf_shown c.args.heads.now trees c.args.frontier.now.nodes c.args.next c.node-in-None.result.now c.open_leaf.result n (c.node-in-None.ensures ∙ n.stands.is c.node-in-None.result.now)
+    (subst (λ h. (first : ℕ) (s : Spot) (path : Region) (t : IndexTree) → IsAt c.node-in-None.result.now first s path t → OnDamage c.open_leaf.result (IsLeafDamage g.row.D h first s t)) (sym head) c.open_leaf.ensures.shown)
+
+pub returns-in-None-clause-parts : goal.returns-in-None-clause-parts
+returns-in-None-clause-parts g c = λ trees all.
+    always (All (IsPart c.args.heads.now trees c.args.frontier.now.nodes) c.args.frontier.now.turns) c.open_leaf.result
+    (All-tail (IsPart c.args.heads.now trees c.args.frontier.now.nodes) c.args.next c.args.frontier.now.turns all)

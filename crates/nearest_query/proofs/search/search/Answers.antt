@@ -7,7 +7,7 @@ use Rattle.page_cache.specs.Cache.{Agrees}
 use Rattle.nearest_query.specs.Nearest.{IsNearest}
 use Rattle.nearest_query.specs.Segments.{bound_of, is_within}
 use Rattle.nearest_query.specs.Fronts.{spread, work}
-use Rattle.nearest_query.specs.Search.{IsOver, IsInside, IsNode, IsSought, one_within}
+use Rattle.nearest_query.specs.Search.{IsOver, IsInside, IsPart, IsNode, IsSought, one_within}
 use Rattle.nearest_query.proofs.Steps.{sought_moved}
 use Rattle.nearest_query.proofs.Ends.{stop_nearest, end_nearest, next_node, next_within}
 use Rattle.nearest_query.proofs.search.search.Goals as goal
@@ -27,10 +27,21 @@ returns-then-ends_before-clause-reads g c = λ told agrees w all nearest over s 
     omega (arith, r)
 
 pub open-requires : goal.open-requires
-open-requires g c =
-    (search rules, (search rules, (search rules, (c.requires.lives, subst (λ ns. IsInside (length c.args.heads.now) ns c.in-Some.next) (sym c.in-Some.ensures.nodes)
-    (All-head (IsInside (length c.args.heads.now) c.loop-next.frontier.nodes) c.in-Some.next c.pop.new.self.turns
-    (All-permutation (IsInside (length c.args.heads.now) c.loop-next.frontier.nodes) c.loop-next.frontier.turns (c.in-Some.next ∷ c.pop.new.self.turns) c.in-Some.ensures.some c.loop-next.invariant.inside))))))
+open-requires g c = (
+  search rules,
+  (
+    search rules,
+    (
+      search rules,
+      (
+        c.requires.lives,
+        subst (λ ns. IsInside (length c.args.heads.now) ns c.in-Some.next) (sym c.in-Some.ensures.nodes)
+            (All-head (IsInside (length c.args.heads.now) c.loop-next.frontier.nodes) c.in-Some.next c.pop.new.self.turns
+            (All-permutation (IsInside (length c.args.heads.now) c.loop-next.frontier.nodes) c.loop-next.frontier.turns (c.in-Some.next ∷ c.pop.new.self.turns) c.in-Some.ensures.some c.loop-next.invariant.inside)),
+      ),
+    ),
+  ),
+)
 
 pub loop-next-smaller : goal.loop-next-smaller
 loop-next-smaller g c =
@@ -50,6 +61,9 @@ loop-next-preserved g c = record {
       (subst (λ ns. All (IsInside (length c.args.heads.now) ns) c.pop.new.self.turns) (sym c.in-Some.ensures.nodes)
       (All-tail (IsInside (length c.args.heads.now) c.loop-next.frontier.nodes) c.in-Some.next c.pop.new.self.turns
       (All-permutation (IsInside (length c.args.heads.now) c.loop-next.frontier.nodes) c.loop-next.frontier.turns (c.in-Some.next ∷ c.pop.new.self.turns) c.in-Some.ensures.some c.loop-next.invariant.inside)));
+  parts = λ trees all. c.in_ok-open.ensures.parts trees
+      (subst (λ ns. All (IsPart c.args.heads.now trees ns) (c.in-Some.next ∷ c.pop.new.self.turns)) (sym c.in-Some.ensures.nodes)
+      (All-permutation (IsPart c.args.heads.now trees c.loop-next.frontier.nodes) c.loop-next.frontier.turns (c.in-Some.next ∷ c.pop.new.self.turns) c.in-Some.ensures.some (c.loop-next.invariant.parts trees all)));
   sought = λ told a w all over s.
       c.in_ok-open.ensures.sought told (subst (λ f. Agrees f c.loop-next.cache) (sym (c.loop-next.invariant.files told)) (c.loop-next.invariant.agrees told a)) w all
       (record { at_is = over.at_is; heads_are = over.heads_are; lives_are = over.lives_are; files_are = over.files_are ∙ sym (c.loop-next.invariant.files told) })
@@ -59,19 +73,19 @@ loop-next-preserved g c = record {
       let r = c.loop-next.invariant.reads told a w all nearest over s is in
       let here = sought_moved w all c.loop-next.frontier.turns (c.in-Some.next ∷ c.pop.new.self.turns) c.loop-next.frontier.nodes c.loop-next.found c.in-Some.ensures.some (c.loop-next.invariant.sought told a w all over s) in
       let o = c.in_ok-open.ensures.reads w (bound_of c.args.found.now.room nearest) (next_node w all c.in-Some.next c.pop.new.self.turns c.loop-next.frontier.nodes c.pop.new.self.nodes c.loop-next.found here c.in-Some.ensures.nodes) over.at_is
-          (next_within w all c.in-Some.next c.pop.new.self.turns c.loop-next.frontier.nodes c.loop-next.found here c.args.found.now.room nearest c.loop-next.invariant.room is c.in-Some.ensures.least (c.ends_before.ensures.no c.if-ends_before.false)) in
+      (next_within w all c.in-Some.next c.pop.new.self.turns c.loop-next.frontier.nodes c.loop-next.found here c.args.found.now.room nearest c.loop-next.invariant.room is c.in-Some.ensures.least (c.ends_before.ensures.no c.if-ends_before.false)) in
       let p = sum_by_popped (spread (one_within w (bound_of c.args.found.now.room nearest))) c.in-Some.next c.loop-next.frontier.turns c.pop.new.self.turns c.in-Some.ensures.some in
       omega (arith, r, o, p);
 }
 
 pub returns-in_err-open-clause-reads : goal.returns-in_err-open-clause-reads
 returns-in_err-open-clause-reads g c = λ told a w all nearest over s is.
-      let r = c.loop-next.invariant.reads told a w all nearest over s is in
-      let here = sought_moved w all c.loop-next.frontier.turns (c.in-Some.next ∷ c.pop.new.self.turns) c.loop-next.frontier.nodes c.loop-next.found c.in-Some.ensures.some (c.loop-next.invariant.sought told a w all over s) in
-      let o = c.in_err-open.ensures.reads w (bound_of c.args.found.now.room nearest) (next_node w all c.in-Some.next c.pop.new.self.turns c.loop-next.frontier.nodes c.pop.new.self.nodes c.loop-next.found here c.in-Some.ensures.nodes) over.at_is
-          (next_within w all c.in-Some.next c.pop.new.self.turns c.loop-next.frontier.nodes c.loop-next.found here c.args.found.now.room nearest c.loop-next.invariant.room is c.in-Some.ensures.least (c.ends_before.ensures.no c.if-ends_before.false)) in
-      let p = sum_by_popped (spread (one_within w (bound_of c.args.found.now.room nearest))) c.in-Some.next c.loop-next.frontier.turns c.pop.new.self.turns c.in-Some.ensures.some in
-      omega (arith, r, o, p)
+    let r = c.loop-next.invariant.reads told a w all nearest over s is in
+    let here = sought_moved w all c.loop-next.frontier.turns (c.in-Some.next ∷ c.pop.new.self.turns) c.loop-next.frontier.nodes c.loop-next.found c.in-Some.ensures.some (c.loop-next.invariant.sought told a w all over s) in
+    let o = c.in_err-open.ensures.reads w (bound_of c.args.found.now.room nearest) (next_node w all c.in-Some.next c.pop.new.self.turns c.loop-next.frontier.nodes c.pop.new.self.nodes c.loop-next.found here c.in-Some.ensures.nodes) over.at_is
+    (next_within w all c.in-Some.next c.pop.new.self.turns c.loop-next.frontier.nodes c.loop-next.found here c.args.found.now.room nearest c.loop-next.invariant.room is c.in-Some.ensures.least (c.ends_before.ensures.no c.if-ends_before.false)) in
+    let p = sum_by_popped (spread (one_within w (bound_of c.args.found.now.room nearest))) c.in-Some.next c.loop-next.frontier.turns c.pop.new.self.turns c.in-Some.ensures.some in
+    omega (arith, r, o, p)
 
 pub returns-clause-answer : goal.returns-clause-answer
 returns-clause-answer g c = λ told agrees w all over s.
@@ -87,7 +101,16 @@ pub returns-in_err-open-clause-whole : goal.returns-in_err-open-clause-whole
 returns-in_err-open-clause-whole g c = λ told a w all over s.
     let here = sought_moved w all c.loop-next.frontier.turns (c.in-Some.next ∷ c.pop.new.self.turns) c.loop-next.frontier.nodes c.loop-next.found c.in-Some.ensures.some (c.loop-next.invariant.sought told a w all over s) in
     let h = c.in_err-open.ensures.whole told (subst (λ f. Agrees f c.loop-next.cache) (sym (c.loop-next.invariant.files told)) (c.loop-next.invariant.agrees told a)) w
-        (record { at_is = over.at_is; heads_are = over.heads_are; lives_are = over.lives_are; files_are = over.files_are ∙ sym (c.loop-next.invariant.files told) })
-        (next_node w all c.in-Some.next c.pop.new.self.turns c.loop-next.frontier.nodes c.pop.new.self.nodes c.loop-next.found here c.in-Some.ensures.nodes) in
+    (record { at_is = over.at_is; heads_are = over.heads_are; lives_are = over.lives_are; files_are = over.files_are ∙ sym (c.loop-next.invariant.files told) })
+    (next_node w all c.in-Some.next c.pop.new.self.turns c.loop-next.frontier.nodes c.pop.new.self.nodes c.loop-next.found here c.in-Some.ensures.nodes) in
+    let p = err_from_is_err_and c.from_residual.result c.from_residual.ensures.1 in
+    rw (p.1, p.2) h
+
+pub returns-in_err-open-clause-shown : goal.returns-in_err-open-clause-shown
+returns-in_err-open-clause-shown g c = λ trees all.
+    let h = c.in_err-open.ensures.shown trees
+    (subst (λ ns. IsPart c.args.heads.now trees ns c.in-Some.next) (sym c.in-Some.ensures.nodes)
+    (All-head (IsPart c.args.heads.now trees c.loop-next.frontier.nodes) c.in-Some.next c.pop.new.self.turns
+    (All-permutation (IsPart c.args.heads.now trees c.loop-next.frontier.nodes) c.loop-next.frontier.turns (c.in-Some.next ∷ c.pop.new.self.turns) c.in-Some.ensures.some (c.loop-next.invariant.parts trees all)))) in
     let p = err_from_is_err_and c.from_residual.result c.from_residual.ensures.1 in
     rw (p.1, p.2) h
