@@ -1,12 +1,12 @@
 -- How far the entries below a node are.
-use Rattle.std.proofs.Common.{◌≡◌, ℕ, ◌+◌, ◌*◌, ◌≤◌, ◌<◌, zero, suc, Bool, true, false, ◌&&◌, cond, List, [], ◌∷◌, ◌++◌, length, get_or, ℤ, ◌-ℤ◌, ◌≤ℤ◌, unsigned_abs, pos, refl, sym, ap, subst, ◌∙◌, arith}
+use Rattle.std.proofs.Common.{◌≡◌, ℕ, ◌+◌, ◌*◌, ◌≤◌, ◌<◌, Bool, true, false, cond, List, [], ◌∷◌, length, get_or, ℤ, ◌-ℤ◌, ◌≤ℤ◌, unsigned_abs, pos, refl, sym, ◌∙◌, arith}
 use Rattle.std.proofs.lemmas.Int.{ints}
 use Rattle.std.proofs.lemmas.List.{length-set}
 use Rattle.std.proofs.lemmas.List.Sums.{sum_by-cons}
-use Rattle.std.proofs.lemmas.List.Elements.{All-head, All-tail, All-weaker}
-use Rattle.std.specs.List.{sum_by, All, filter}
-use Rattle.point_codec.specs.Points.{Item, Region, dist2, square, in_box, all_le}
-use Rattle.point_codec.specs.Cells.{nearest_in, left_of, right_of, within}
+use Rattle.std.proofs.lemmas.List.Elements.{All-head, All-tail}
+use Rattle.std.specs.List.{sum_by, All}
+use Rattle.point_codec.specs.Points.{Item, Region, dist2, in_box, all_le}
+use Rattle.point_codec.specs.Cells.{left_of, right_of, within}
 use Rattle.point_codec.proofs.Corners.{both_true, all_le-trans, left_keeps, right_keeps}
 use Rattle.point_codec.proofs.Distances.{nearest_is_least}
 use Rattle.point_codec.specs.declared.entries.Near.{Near}

@@ -11,11 +11,11 @@ use Rattle.std.specs.BTreeSet.{BTreeSet}
 use Rattle.std.specs.HashMap as hash
 use Rattle.point_codec.specs.declared.entries.Near.{Near}
 use Rattle.nearest_query.specs.declared.candidates.Candidates.{Candidates}
-use Rattle.nearest_query.specs.Nearest.{ComesBefore, HasNumber, IsNearest}
+use Rattle.nearest_query.specs.Nearest.{ComesBefore, IsNearest}
 use Rattle.nearest_query.specs.Best.{near_cmp, AreLinked, AreBest, IsPut}
 use Rattle.nearest_query.proofs.Order.{near_total, near_exact, same_near, behind, before_from_less, before_trans, pairs_from_sorted}
 use Rattle.nearest_query.proofs.Offers.{none_nearest, nearest_same, nearest_after}
-use Rattle.nearest_query.proofs.Links.{Linked, LinkedBut, at_one, at_itself, by_test, link_put, but_none, none_left, was_in, same_left, but_improved, but_replaced}
+use Rattle.nearest_query.proofs.Links.{Linked, LinkedBut, at_one, at_itself, by_test, link_put, but_none, was_in, but_improved, but_replaced}
 
 abbrev given : Candidates → ℕ → Option ℕ
 given c d = hash.get eqb c.distances d

@@ -1,14 +1,12 @@
 -- The nearest numbers among entries are the nearest documents.
-use Rattle.std.proofs.Common.{◌≡◌, ◌≢◌, ℕ, ◌+◌, ◌≤◌, ◌<◌, zero, suc, min, Bool, true, false, List, [], ◌∷◌, ◌++◌, length, map, take, get_or, ℤ, refl, sym, ap, subst, ◌∙◌, ◌⊎◌, inl, inr, ⊎_elim, arith, length-take-le}
+use Rattle.std.proofs.Common.{◌≡◌, ℕ, ◌≤◌, ◌<◌, zero, suc, min, List, [], ◌∷◌, length, map, take, get_or, ℤ, refl, sym, ap, subst, ◌∙◌, ◌⊎◌, inl, inr, ⊎_elim, arith}
 use Rattle.std.proofs.lemmas.Map.Keys.{Less-from_sorted}
 use Rattle.std.proofs.lemmas.Map.Views.{Contains-from_any, list_any-from_Contains, tells_apart}
-use Rattle.std.proofs.lemmas.List.{length-map, take-map, take_all}
 use Rattle.std.proofs.lemmas.List.Elements.{All-weaker, All-contains_itself}
 use Rattle.std.proofs.lemmas.Bool.{cases_lt}
 use Rattle.std.proofs.lemmas.List.Kept.{AllPairs-cons}
-use Rattle.std.specs.List.{All, AllPairs, Contains, list_any, fold}
-use Rattle.std.specs.List.Sorted.{IsStrictlySortedBy}
-use Rattle.std.specs.Ordering.{eq_by_cmp, nat_cmp}
+use Rattle.std.specs.List.{AllPairs, Contains, fold}
+use Rattle.std.specs.Ordering.{nat_cmp}
 use Rattle.std.specs.declared.cmp.Ordering.TheVariants.{Less, Equal}
 use Rattle.std.specs.Cmp.{IsTotalOrder, nat_cmp_total, on_total, then_total, eq_by_cmp_equiv}
 use Rattle.std.proofs.lemmas.Map.Lookups.{exact_unsigned, exact_pairs}
@@ -17,7 +15,7 @@ use Rattle.point_codec.specs.Order.{in_order}
 use Rattle.point_codec.specs.declared.entries.Near.{Near}
 use Rattle.documents.specs.Documents.{Document, Ascend}
 use Rattle.documents.specs.Nearest.{distance, nearer, distances, nearest, found_of}
-use Rattle.nearest_query.specs.Nearest.{ComesBefore, HasNumber, IsNearest, near_of, nears_of}
+use Rattle.nearest_query.specs.Nearest.{ComesBefore, IsNearest, near_of, nears_of}
 use Rattle.nearest_query.specs.OfDocuments.{AreEntriesOf}
 use Rattle.nearest_query.proofs.Order.{before_from_less, cons_cases, cons_head, cons_tail, nil_none}
 use Rattle.nearest_query.proofs.Unique.{nearest_unique}

@@ -1,11 +1,10 @@
 -- One more entry: the nearest numbers stay so.
-use Rattle.std.proofs.Common.{◌≡◌, ◌≢◌, ℕ, ◌+◌, ◌≤◌, ◌<◌, Bool, true, false, not, cond, List, [], ◌∷◌, ◌++◌, length, Option, Some, None, refl, sym, ap, subst, ◌∙◌, ◌⊎◌, inl, inr, ⊎_elim, arith}
-use Rattle.std.proofs.lemmas.List.Elements.{All-contains, All-contains_itself, All-weaker, All-append, All-push, Contains-push_cases, Contains-append_left, Contains-push}
+use Rattle.std.proofs.Common.{◌≡◌, ℕ, ◌≤◌, List, [], ◌∷◌, length, sym, ap, subst, ◌∙◌, ◌⊎◌, inl, inr, ⊎_elim, arith}
+use Rattle.std.proofs.lemmas.List.Elements.{All-contains, All-contains_itself, All-weaker}
 use Rattle.std.specs.List.{All, AllPairs, Contains}
-use Rattle.std.specs.List.Sorted.{IsStrictlySortedBy}
 use Rattle.point_codec.specs.declared.entries.Near.{Near}
 use Rattle.nearest_query.specs.Nearest.{ComesBefore, HasNumber, IsNearest}
-use Rattle.nearest_query.proofs.Order.{before_from_less, before_trans, cons_cases, cons_head, cons_tail, nil_none, pairs_from_sorted}
+use Rattle.nearest_query.proofs.Order.{cons_cases, cons_head, cons_tail, nil_none}
 
 -- no entry, and none found
 pub none_nearest : (k : ℕ) (found : List Near) → found ≡ [] → IsNearest k [] found

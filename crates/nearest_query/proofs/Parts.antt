@@ -1,7 +1,7 @@
 -- Nodes that wait, as parts of their segments' trees.
-use Rattle.std.proofs.Common.{◌≡◌, ℕ, ◌+◌, ◌<◌, List, [], ◌∷◌, ◌++◌, length, get_or, ℤ, Result, Ok, Err, refl, sym, ap, subst, ◌∙◌, ◌⊎◌, inl, inr}
+use Rattle.std.proofs.Common.{◌≡◌, ℕ, ◌<◌, List, ◌∷◌, length, get_or, ℤ, Result, Ok, Err, sym, subst, inl, inr}
 use Rattle.std.proofs.lemmas.List.Sorted.{All-permutation}
-use Rattle.std.proofs.lemmas.List.Elements.{All-cons, All-head, All-tail, All-weaker}
+use Rattle.std.proofs.lemmas.List.Elements.{All-cons, All-weaker}
 use Rattle.std.specs.List.{All}
 use Rattle.page_cache.specs.Evidence.{OnDamage}
 use Rattle.page_cache.specs.declared.faults.Damage.{Damage}
@@ -10,15 +10,14 @@ use Rattle.page_cache.specs.declared.faults.PageFault.{PageFault}
 use Rattle.page_cache.specs.declared.faults.PageFault.TheVariants.{Failed, Damaged, Memory}
 use Rattle.point_codec.specs.Points.{Region}
 use Rattle.inner_pack.specs.Places.{Spot, front}
-use Rattle.inner_pack.specs.Trees.{IndexTree, Split, leaf_count}
-use Rattle.inner_pack.specs.Bodies.{HasTree, right_begin}
+use Rattle.inner_pack.specs.Trees.{IndexTree}
 use Rattle.inner_pack.specs.Nodes.{IsAt, AreChildren}
 use Rattle.inner_pack.specs.declared.node.NodeAt.{NodeAt}
 use Rattle.segment_file.specs.Heads.{Head}
 use Rattle.segment_file.specs.Segments.{IsLeafOf}
 use Rattle.segment_file.specs.Damages.{IsLeafDamage}
 use Rattle.nearest_query.specs.declared.frontier.Waiting.{Waiting}
-use Rattle.nearest_query.specs.Segments.{IsSegmentDamage, HaveTrees, no_head}
+use Rattle.nearest_query.specs.Segments.{IsSegmentDamage, no_head}
 use Rattle.nearest_query.specs.Fronts.{Front, IsWaiting}
 use Rattle.nearest_query.specs.Search.{IsPart}
 use Rattle.nearest_query.proofs.Turns.{turn_of, stands_new, stands_still}

@@ -1,13 +1,12 @@
 -- The roots of the segments, and what they cover.
-use Rattle.std.proofs.Common.{◌≡◌, ℕ, ◌+◌, ◌-◌, ◌/◌, ◌≤◌, ◌<◌, zero, suc, Bool, true, false, cond, List, [], ◌∷◌, ◌++◌, length, map, get_or, ℤ, Option, refl, sym, ap, subst, ◌∙◌, ◌⊎◌, inl, inr, arith}
+use Rattle.std.proofs.Common.{◌≡◌, ℕ, ◌+◌, ◌-◌, ◌/◌, ◌≤◌, ◌<◌, zero, suc, true, false, cond, List, [], ◌∷◌, length, get_or, ℤ, Option, refl, sym, ap, subst, ◌∙◌, arith}
 use Rattle.std.proofs.lemmas.List.{map-append}
 use Rattle.std.proofs.lemmas.List.Sums.{sum_by-cons, sum_by-append}
 use Rattle.std.proofs.lemmas.List.Elements.{filter-append}
-use Rattle.std.proofs.lemmas.Bool.{cases_lt}
 use Rattle.std.specs.Prelude.{nat_lt}
 use Rattle.std.specs.List.{sum_by, All, range_with_len}
 use Rattle.std.proofs.lemmas.Bool.Decides.{nat_tests}
-use Rattle.outer_io.specs.Files.{Files, bytes_of}
+use Rattle.outer_io.specs.Files.{bytes_of}
 use Rattle.outer_io.specs.declared.file_name.FileName.TheVariants.{Segment}
 use Rattle.point_codec.specs.Points.{Item, Region}
 use Rattle.point_codec.specs.declared.entries.Near.{Near}
@@ -18,14 +17,11 @@ use Rattle.inner_pack.specs.Bodies.{HasTree, right_begin}
 use Rattle.inner_pack.specs.Nodes.{IsAt}
 use Rattle.inner_pack.specs.declared.node.NodeAt.{NodeAt}
 use Rattle.segment_file.specs.Heads.{Head}
-use Rattle.segment_file.specs.Segments.{HoldsTree, HoldsLeaf, IsSegment}
-use Rattle.nearest_query.specs.declared.candidates.Candidates.{Candidates}
-use Rattle.nearest_query.specs.declared.frontier.Waiting.{Waiting}
+use Rattle.segment_file.specs.Segments.{HoldsTree, HoldsLeaf}
 use Rattle.nearest_query.specs.Nearest.{near_of, nears_of}
-use Rattle.nearest_query.specs.Best.{AreBest, AreAdded}
-use Rattle.nearest_query.specs.Segments.{live_items, live_in, least_dist2, is_within, near_leaves, AreSegments, AreNearLeaves}
+use Rattle.nearest_query.specs.Segments.{live_items, live_in, least_dist2, is_within, near_leaves, AreNearLeaves}
 use Rattle.nearest_query.specs.Fronts.{Front, IsWaiting, span, spread}
-use Rattle.nearest_query.specs.Search.{World, IsNode, IsSought, HasLeaves, HasRoot, HasRoots, head_at, live_at, nears_at, one_within, no_live}
+use Rattle.nearest_query.specs.Search.{World, IsNode, HasLeaves, HasRoots, head_at, live_at, nears_at, one_within, no_live}
 use Rattle.nearest_query.specs.Segments.{no_head}
 use Rattle.nearest_query.proofs.Turns.{span_split, span_one, waiting_sum}
 use Rattle.nearest_query.proofs.Steps.{nodes_put, some_leaf}

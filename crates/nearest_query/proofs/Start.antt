@@ -1,5 +1,5 @@
 -- What a search begins with.
-use Rattle.std.proofs.Common.{◌≡◌, ℕ, ◌+◌, ◌≤◌, ◌<◌, zero, suc, List, [], ◌∷◌, ◌++◌, length, map, get_or, ℤ, Option, refl, sym, ap, subst, ◌∙◌, ◌⊎◌, inl, inr, arith}
+use Rattle.std.proofs.Common.{◌≡◌, ℕ, ◌+◌, ◌≤◌, ◌<◌, zero, List, [], ◌++◌, length, get_or, ℤ, Option, refl, sym, ap, subst, ◌∙◌, ◌⊎◌, inl, inr, arith}
 use Rattle.std.proofs.lemmas.Bool.{cases_lt}
 use Rattle.std.proofs.lemmas.List.{map-append}
 use Rattle.std.proofs.lemmas.List.Sums.{sum_by-append}
@@ -20,7 +20,7 @@ use Rattle.nearest_query.specs.declared.candidates.Candidates.{Candidates}
 use Rattle.nearest_query.specs.declared.frontier.Waiting.{Waiting}
 use Rattle.nearest_query.specs.Nearest.{near_of, nears_of}
 use Rattle.nearest_query.specs.Best.{AreAdded}
-use Rattle.nearest_query.specs.Segments.{live_items, live_in, near_leaves, AreSegments, AreNearLeaves}
+use Rattle.nearest_query.specs.Segments.{live_items, live_in, AreSegments, AreNearLeaves}
 use Rattle.nearest_query.specs.Fronts.{span, spread}
 use Rattle.nearest_query.specs.Search.{World, IsNode, IsSought, HasRoot, HasRoots, head_at, live_at, nears_at, one_within}
 use Rattle.nearest_query.specs.Segments.{no_head}

@@ -1,5 +1,5 @@
 -- The steps of a search.
-use Rattle.std.proofs.Common.{◌≡◌, ℕ, ◌+◌, ◌-◌, ◌*◌, ◌≤◌, ◌<◌, zero, suc, Bool, true, false, cond, List, [], ◌∷◌, ◌++◌, length, get_or, ℤ, Option, Result, refl, sym, ap, subst, ◌∙◌, arith}
+use Rattle.std.proofs.Common.{◌≡◌, ℕ, ◌+◌, ◌≤◌, ◌<◌, true, cond, List, ◌∷◌, length, ℤ, Option, Result, refl, sym, ap, subst, ◌∙◌, arith}
 use Rattle.std.proofs.lemmas.List.{length-set}
 use Rattle.std.proofs.lemmas.List.Sums.{sum_by-cons}
 use Rattle.std.proofs.lemmas.List.Sorted.{All-permutation, sum_by-IsPermutation}
@@ -27,10 +27,10 @@ use Rattle.nearest_query.specs.declared.frontier.Waiting.{Waiting}
 use Rattle.nearest_query.specs.Nearest.{nears_of}
 use Rattle.nearest_query.specs.Best.{AreBest, AreAdded}
 use Rattle.nearest_query.specs.Segments.{live_items, least_dist2, is_within}
-use Rattle.nearest_query.specs.Fronts.{Front, IsWaiting, span, spread, work}
-use Rattle.nearest_query.specs.Search.{World, IsOver, Stands, IsNode, IsSought, HasLeaves, head_at, live_at, nears_at, one_within}
+use Rattle.nearest_query.specs.Fronts.{Front, IsWaiting, span, spread}
+use Rattle.nearest_query.specs.Search.{World, IsNode, IsSought, HasLeaves, head_at, live_at, nears_at, one_within}
 use Rattle.nearest_query.proofs.Results.{on_ok}
-use Rattle.nearest_query.proofs.Turns.{span_split, span_one, turn_of, waiting_sum, waiting_work, stands_new, stands_still, inside_put}
+use Rattle.nearest_query.proofs.Turns.{span_split, span_one, turn_of, waiting_sum, stands_new, stands_still}
 
 -- a tree has a leaf
 pub some_leaf : (t : IndexTree) → 1 ≤ leaf_count t

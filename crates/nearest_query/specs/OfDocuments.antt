@@ -1,5 +1,5 @@
 -- Entries and documents.
-use Rattle.std.specs.Prelude.{ℕ, ◌≡◌, ◌≤◌, List, length, Contains, ℤ}
+use Rattle.std.specs.Prelude.{◌≡◌, ◌≤◌, List, length, Contains, ℤ}
 use Rattle.point_codec.specs.Points.{Item}
 use Rattle.documents.specs.Documents.{Document, Ascend}
 

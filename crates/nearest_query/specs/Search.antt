@@ -1,9 +1,5 @@
 -- What a search knows of the nodes that wait.
-use Rattle.std.specs.Prelude.{ℕ, ◌+◌, ◌-◌, ◌*◌, ◌≡◌, ◌<◌, ◌≤◌, if◌then◌else◌, Option, List, [], ◌∷◌, ◌++◌, length, sum_by, All, slice_index_or, ℤ}
-use Rattle.std.specs.List.{range_with_len}
-use Rattle.std.specs.List.Sorted.{IsPermutation}
-use Rattle.std.specs.declared.cmp.Ordering.{Ordering}
-use Rattle.std.specs.Ordering.{nat_cmp}
+use Rattle.std.specs.Prelude.{ℕ, ◌+◌, ◌≡◌, ◌<◌, if◌then◌else◌, Option, List, [], length, sum_by, All, slice_index_or, ℤ}
 use Rattle.point_codec.specs.Points.{Item, Region}
 use Rattle.point_codec.specs.declared.entries.Near.{Near}
 use Rattle.live_bits.specs.LiveSet.{LiveSet}
@@ -20,7 +16,7 @@ use Rattle.nearest_query.specs.declared.candidates.Candidates.{Candidates}
 use Rattle.nearest_query.specs.declared.frontier.Waiting.{Waiting}
 use Rattle.nearest_query.specs.Nearest.{nears_of}
 use Rattle.nearest_query.specs.Best.{AreBest}
-use Rattle.nearest_query.specs.Fronts.{spread, work}
+use Rattle.nearest_query.specs.Fronts.{spread}
 use Rattle.nearest_query.specs.Segments.{live_items, least_dist2, is_within, no_head}
 
 -- what is searched: a point and segments, told by position, with the entries and the least distance of each leaf

@@ -1,6 +1,5 @@
-use Rattle.std.proofs.Common.{◌≡◌, ◌<◌, ◌∙◌, ap, subst, sym, refl, take, length, get_or, arith, Bool, true, false, not}
+use Rattle.std.proofs.Common.{◌≡◌, ◌<◌, ◌∙◌, ap, sym, length, get_or, arith, true, false}
 use Rattle.std.proofs.lemmas.List.{take_all}
-use Rattle.point_codec.specs.declared.entries.Near.{Near}
 use Rattle.live_bits.specs.LiveSet.{is_live}
 use Rattle.nearest_query.specs.Nearest.{nears_of}
 use Rattle.nearest_query.specs.Segments.{live_items}

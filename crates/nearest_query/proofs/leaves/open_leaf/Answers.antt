@@ -1,5 +1,5 @@
 use Rattle.std.proofs.lemmas.Result.{err_from_is_err_and}
-use Rattle.std.proofs.Common.{◌≡◌, subst, sym, rules}
+use Rattle.std.proofs.Common.{subst}
 use Rattle.inner_pack.specs.Trees.{Leaf}
 use Rattle.nearest_query.specs.Nearest.{nears_of}
 use Rattle.nearest_query.specs.Best.{AreAdded}

@@ -1,12 +1,10 @@
 use Rattle.std.proofs.lemmas.Result.{err_from_is_err_and}
-use Rattle.std.proofs.Common.{◌≡◌, ◌++◌, ◌+◌, ◌≤◌, List, [], ℕ, ap, subst, sym, refl, ◌∙◌, arith}
-use Rattle.std.specs.Prelude.{All, sum_by, length}
-use Rattle.std.specs.List.{range_with_len}
-use Rattle.point_codec.specs.Points.{Item}
+use Rattle.std.proofs.Common.{◌++◌, [], ap, subst, sym, refl, ◌∙◌, arith}
+use Rattle.std.specs.Prelude.{sum_by}
 use Rattle.point_codec.specs.Seen.{items_of}
 use Rattle.nearest_query.specs.Nearest.{IsNearest, nears_of}
-use Rattle.nearest_query.specs.Segments.{AreSegments, live_in, bound_of}
-use Rattle.nearest_query.specs.Search.{IsSought, one_within}
+use Rattle.nearest_query.specs.Segments.{live_in, bound_of}
+use Rattle.nearest_query.specs.Search.{one_within}
 use Rattle.nearest_query.specs.Fronts.{spread}
 use Rattle.nearest_query.proofs.Start.{world, roots, start, start_near}
 use Rattle.nearest_query.proofs.query.nearest.Goals as goal

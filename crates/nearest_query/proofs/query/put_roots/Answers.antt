@@ -1,10 +1,6 @@
-use Rattle.std.proofs.Common.{◌≡◌, ◌<◌, length, get_or, ap, subst, sym, ◌∙◌, arith}
-use Rattle.point_codec.specs.Points.{Region}
+use Rattle.std.proofs.Common.{◌<◌, length, get_or, ap, subst, sym, ◌∙◌}
 use Rattle.inner_pack.specs.Places.{front}
-use Rattle.inner_pack.specs.Trees.{IndexTree}
 use Rattle.inner_pack.specs.Bodies.{HasTree}
-use Rattle.inner_pack.specs.Nodes.{IsAt}
-use Rattle.nearest_query.specs.Search.{head_at}
 use Rattle.nearest_query.specs.Segments.{no_head}
 use Rattle.nearest_query.proofs.Turns.{inside_put, read_any}
 use Rattle.nearest_query.proofs.Roots.{root_nodes, root_totals}

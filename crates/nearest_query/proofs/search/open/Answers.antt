@@ -1,8 +1,8 @@
 use Rattle.std.specs.Prelude.{All}
 use Rattle.nearest_query.proofs.Results.{always}
-use Rattle.std.proofs.Common.{◌≡◌, ◌∷◌, ◌+◌, ◌-◌, ◌*◌, ◌≤◌, ◌<◌, length, get_or, ℕ, ap, subst, sym, refl, ◌∙◌, arith}
-use Rattle.inner_pack.specs.Nodes.{IsAt, AreChildren}
-use Rattle.nearest_query.specs.Search.{IsNode, IsSought, one_within, head_at, live_at, no_live}
+use Rattle.std.proofs.Common.{◌≡◌, length, get_or, ℕ, ap, subst, sym, refl, ◌∙◌, arith}
+use Rattle.inner_pack.specs.Nodes.{IsAt}
+use Rattle.nearest_query.specs.Search.{one_within, head_at, live_at, no_live}
 use Rattle.nearest_query.specs.Segments.{no_head}
 use Rattle.nearest_query.proofs.Turns.{inside_put, waiting_work, read_any}
 use Rattle.nearest_query.proofs.Steps.{children_span, fork_step, leaf_step, leaf_counts, leaf_whole, Opens, OpensWhole}

@@ -1,13 +1,13 @@
 use Rattle.std.proofs.lemmas.Result.{err_from_is_err_and}
-use Rattle.std.proofs.Common.{◌≡◌, ◌∷◌, ◌+◌, ◌≤◌, ◌<◌, ◌⊎◌, inl, inr, ⊎_elim, length, ℕ, ap, subst, sym, refl, ◌∙◌, arith, rules}
+use Rattle.std.proofs.Common.{◌∷◌, ◌≤◌, inr, ⊎_elim, length, subst, sym, ◌∙◌, arith, rules}
 use Rattle.std.specs.Prelude.{All}
 use Rattle.std.proofs.lemmas.List.Sorted.{All-permutation, sum_by_popped}
 use Rattle.std.proofs.lemmas.List.Elements.{All-cons, All-head, All-tail}
 use Rattle.page_cache.specs.Cache.{Agrees}
 use Rattle.nearest_query.specs.Nearest.{IsNearest}
-use Rattle.nearest_query.specs.Segments.{bound_of, is_within}
+use Rattle.nearest_query.specs.Segments.{bound_of}
 use Rattle.nearest_query.specs.Fronts.{spread, work}
-use Rattle.nearest_query.specs.Search.{IsOver, IsInside, IsPart, IsNode, IsSought, one_within}
+use Rattle.nearest_query.specs.Search.{IsInside, IsPart, IsSought, one_within}
 use Rattle.nearest_query.proofs.Steps.{sought_moved}
 use Rattle.nearest_query.proofs.Ends.{stop_nearest, end_nearest, next_node, next_within}
 use Rattle.nearest_query.proofs.search.search.Goals as goal

@@ -1,8 +1,6 @@
 use Rattle.std.proofs.Common.{◌≡◌, ◌+◌, ℕ, List, ℤ, Option, cond, ap, sym, refl, ◌∙◌, arith}
 use Rattle.point_codec.specs.Points.{Region}
-use Rattle.inner_pack.specs.Places.{Spot}
 use Rattle.inner_pack.specs.Trees.{IndexTree, Leaf, Split, cell_of}
-use Rattle.inner_pack.specs.Nodes.{IsAt}
 use Rattle.nearest_query.specs.Segments.{is_within, near_leaves, least_dist2}
 use Rattle.nearest_query.proofs.Steps.{one_leaf_tree}
 use Rattle.nearest_query.proofs.survey.+near_below.Goals as goal

@@ -1,4 +1,4 @@
-use Rattle.std.proofs.Common.{◌≡◌, ◌∷◌, ◌++◌, length, ap, sym, ◌∙◌, arith}
+use Rattle.std.proofs.Common.{◌≡◌, ◌++◌, length, ap, sym, ◌∙◌, arith}
 use Rattle.point_codec.specs.Points.{dist2}
 use Rattle.point_codec.specs.Cells.{nearest_in}
 use Rattle.nearest_query.proofs.Turns.{same_turn, waiting_sum}
