@@ -1,7 +1,7 @@
 #!/usr/bin/env python3
 """Times the program crates/bench, which has to be built (rt run in its folder), and prints ratios of one run.
 
-usage: bench/time.py csv | rings
+usage: bench/time.py csv | rings | partition
 """
 import os
 import random
@@ -96,8 +96,31 @@ def rings():
         print("    ratio      %9.1f" % (plain / tree))
 
 
+def partition():
+    with tempfile.TemporaryDirectory() as folder:
+        plain = os.path.join(folder, "partition")
+        subprocess.run(["rustc", "-O", "-o", plain, os.path.join(HERE, "partition.rs")], check=True)
+        drawn = {PROGRAM: None, plain: None}
+        parted = {PROGRAM: None, plain: None}
+        said = {}
+        # in turns, so that both meet the same spells of the machine
+        for _ in range(5):
+            for program in (PROGRAM, plain):
+                for kind, least in (("draw", drawn), ("tree", parted)):
+                    spent, answer = best([program, "partition", kind, "1000000", "5"], times=1)
+                    least[program] = spent if least[program] is None else min(least[program], spent)
+                    said[program, kind] = answer
+    if said[PROGRAM, "tree"] != said[plain, "tree"]:
+        sys.exit("the orders differ: %s, %s" % (said[PROGRAM, "tree"], said[plain, "tree"]))
+    ours, theirs = ((parted[program] - drawn[program]) / 5 for program in (PROGRAM, plain))
+    print("partition: a million drawn entries of two dimensions into leaves of 333; drawing taken off, %s" % said[PROGRAM, "tree"])
+    print("  cut and arrange                        %6.1f ms" % (ours * 1000))
+    print("  select_nth_unstable_by and sort (Rust) %6.1f ms" % (theirs * 1000))
+    print("  ratio                                  %6.2f" % (ours / theirs))
+
+
 if __name__ == "__main__":
-    kinds = {"csv": csv, "rings": rings}
+    kinds = {"csv": csv, "rings": rings, "partition": partition}
     if len(sys.argv) != 2 or sys.argv[1] not in kinds:
         sys.exit(__doc__)
     kinds[sys.argv[1]]()

@@ -1,6 +1,9 @@
 //! What the scripts in `bench/` time: a part of the index and the plain form of it on the same work, with a printed answer.
 #![tactic(auto)]
 
+mod builds;
+mod leaves;
+mod partition;
 mod rings;
 
 use byte_cursor::Bytes;
@@ -14,7 +17,12 @@ use std::{env, io};
 /// The words of a run, and what it prints:
 /// `csv A B` reads CSV from the standard input, and says how many points these two columns give;
 /// `rings plain|tree POSITIONS QUERIES` asks points and small cells of a star-shaped ring by the plain list of edges or by
-/// the edge tree, and says how many are in and how many are met.
+/// the edge tree, and says how many are in and how many are met;
+/// `leaves COUNT TIMES` reads the leaf of that many entries that the standard input holds, over and over, and says how often it
+/// was one and what the numbers sum up to;
+/// `build FORKS COUNT ROUNDS` draws so many entries and builds their tree so many times, the upper levels by two threads each, and
+/// sums up its bytes;
+/// `partition draw|tree COUNT ROUNDS` draws so many entries and parts them into leaves so many times, and sums up their order.
 fn main(rt: HostRuntime) -> io::Result<()> {
     let alloc = rt.alloc();
     let mut words = Vec::new(alloc);
@@ -38,7 +46,38 @@ fn main(rt: HostRuntime) -> io::Result<()> {
                 None => println!(rt; "no ring"),
             }
         }
-        _ => println!(rt; "csv A B | rings plain|tree POSITIONS QUERIES"),
+        [command, count, times] if command.as_str() == "leaves" => {
+            let mut source = StdSource::new(rt.stdin().lock());
+            let Ok(leaf) = read_all(alloc, &mut source, 4096) else {
+                return println!(rt; "no input");
+            };
+            let count = number(count.as_bytes()).unwrap_or(0).min(500) as u16;
+            let times = number(times.as_bytes()).unwrap_or(0);
+            let (found, sum) = leaves::read_over(leaf.as_slice(), count, times);
+            println!(rt; "leaves {found} sum {sum}")
+        }
+        [command, forks, count, rounds] if command.as_str() == "build" => {
+            let forks = number(forks.as_bytes()).unwrap_or(0).min(6) as u8;
+            let count = number(count.as_bytes())
+                .unwrap_or(1000)
+                .clamp(1, 16_777_216);
+            let rounds = number(rounds.as_bytes()).unwrap_or(1);
+            match builds::built(&rt, alloc, count, forks, rounds) {
+                Ok(sum) => println!(rt; "bytes {sum}"),
+                Err(_) => println!(rt; "no memory"),
+            }
+        }
+        [command, kind, count, rounds] if command.as_str() == "partition" => {
+            let count = number(count.as_bytes()).unwrap_or(1000).min(16_777_215);
+            let rounds = number(rounds.as_bytes()).unwrap_or(1);
+            match partition::parted(alloc, kind.as_str() == "tree", count, rounds) {
+                Ok(sum) => println!(rt; "order {sum}"),
+                Err(_) => println!(rt; "no memory"),
+            }
+        }
+        _ => println!(rt;
+            "csv A B | rings plain|tree POSITIONS QUERIES | leaves COUNT TIMES | build FORKS COUNT ROUNDS | partition draw|tree COUNT ROUNDS"
+        ),
     }
 }
 

@@ -1,2 +1,11 @@
 pub mod Scans
 pub mod Ranking
+pub mod Lists
+pub mod InOrder
+pub mod Totals
+pub mod Members
+pub mod Kept
+pub mod OneList
+pub mod HitNumbers
+pub mod NearestDocs
+pub mod Making

@@ -12,10 +12,10 @@ use Rattle.point_codec.specs.Order.{in_order}
 use Rattle.point_codec.specs.declared.entries.Near.{Near}
 use Rattle.documents.specs.Nearest.{nearer, found_of}
 
-nearer_total : IsTotalOrder nearer
+pub nearer_total : IsTotalOrder nearer
 nearer_total = then_total (on_total (λ p. p.0) nat_cmp_total) (on_total (λ p. p.1) nat_cmp_total)
 
-nearer_exact : IsAntisymmetric nearer
+pub nearer_exact : IsAntisymmetric nearer
 nearer_exact a b h = exact_pairs nat_cmp nat_cmp exact_unsigned exact_unsigned a b h
 
 abbrev pair_of : Near → ℕ × ℕ

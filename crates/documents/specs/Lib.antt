@@ -1,2 +1,4 @@
 pub mod Documents
 pub mod Nearest
+pub mod Entries
+pub mod NearestEntries

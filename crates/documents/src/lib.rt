@@ -3,7 +3,12 @@
 #![tactic(auto)]
 
 mod held;
+mod laws;
 mod scan;
 
 pub use held::{HeldDocument, Memory};
+pub use laws::{
+    docs_added, docs_counted, docs_exist, docs_hits, docs_in_any_order, docs_kept, docs_live,
+    docs_nearest, one_list, permutations_by_totals,
+};
 pub use scan::{has_some, scan_hits, scan_nearest};

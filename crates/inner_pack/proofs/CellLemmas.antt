@@ -1,7 +1,7 @@
 -- Cells and keys in bytes.
-use Rattle.std.proofs.Common.{◌≡◌, ℕ, ℤ, pos, negsuc, zero, suc, ◌+◌, ◌-◌, ◌*◌, ◌^◌, ◌≤◌, ◌<◌, List, [], ◌∷◌, ◌++◌, length, get_or, take, drop, set, All, FitsSigned, refl, sym, ap, subst, ◌∙◌, arith, add-one, length-append, append_assoc, append-nil, take_at, drop_at, take-add, take-suc-set, Option, Some, None, MatchOption, IsSomeAnd, IfSome}
+use Rattle.std.proofs.Common.{◌≡◌, ℕ, ℤ, pos, negsuc, ◌+◌, ◌*◌, ◌^◌, ◌≤◌, ◌<◌, List, [], ◌∷◌, ◌++◌, length, get_or, take, drop, set, All, FitsSigned, refl, sym, ap, ◌∙◌, arith, add-one, length-append, append_assoc, append-nil, take_at, drop_at, take-add, take-suc-set, Option, Some, None, MatchOption, IsSomeAnd, IfSome}
 use Rattle.std.specs.List.{flat_map}
-use Rattle.std.specs.Int.{w32, to_be_bytes}
+use Rattle.std.specs.Int.{w32}
 use Rattle.std.proofs.lemmas.List.Elements.{All-head, All-tail}
 use Rattle.std.proofs.lemmas.List.{drop_more}
 use Rattle.std.proofs.lemmas.List.Concat.{flat_map-append}
@@ -82,7 +82,7 @@ pub cell_front : (D : ℕ) (r s : Region) (x y : List ℕ) → IsCell D r → Is
 unfolding cell_bytes
 cell_front D r s x y h k e =
     let lo = keys_front r.lo s.lo (flat_map key r.hi ++ x) (flat_map key s.hi ++ y) (h.lo_dims ∙ sym k.lo_dims) h.lo_fits k.lo_fits
-        (sym (append_assoc (flat_map key r.lo) (flat_map key r.hi) x) ∙ e ∙ append_assoc (flat_map key s.lo) (flat_map key s.hi) y) in
+    (sym (append_assoc (flat_map key r.lo) (flat_map key r.hi) x) ∙ e ∙ append_assoc (flat_map key s.lo) (flat_map key s.hi) y) in
     let hi = keys_front r.hi s.hi x y (h.hi_dims ∙ sym k.hi_dims) h.hi_fits k.hi_fits lo.1 in
     ((λ i. record { lo = lo.0 i; hi = hi.0 i }), hi.1)
 

@@ -1,5 +1,5 @@
 -- What an inner node says of itself.
-use Rattle.std.proofs.Common.{◌≡◌, ℕ, ℤ, pos, negsuc, zero, suc, ◌+◌, ◌-◌, ◌*◌, ◌/◌, ◌^◌, ◌≤◌, ◌<◌, ◌≤ℤ◌, List, [], ◌∷◌, ◌++◌, length, map, take, drop, set, All, FitsSigned, refl, sym, ap, subst, ◌∙◌, arith, take_at, drop_at, to_z, of_z, to_z-of_z, cond, eqb, ltb, lt-ltb, le-ltb, eq-eqb, ne_eqb, inl, inr, ◌%◌, length-append, length-drop, append_assoc, slice_set, slice_index_or}
+use Rattle.std.proofs.Common.{◌≡◌, ℕ, ℤ, pos, zero, suc, ◌+◌, ◌-◌, ◌*◌, ◌/◌, ◌^◌, ◌≤◌, ◌<◌, ◌≤ℤ◌, List, [], ◌∷◌, ◌++◌, length, take, drop, FitsSigned, refl, sym, ap, ◌∙◌, arith, take_at, drop_at, to_z, of_z, to_z-of_z, cond, eqb, ltb, lt-ltb, le-ltb, eq-eqb, ne_eqb, inl, inr, ◌%◌, length-append, length-drop, slice_set, slice_index_or}
 use Rattle.std.specs.Int.{w32}
 use Rattle.std.specs.List.{flat_map}
 use Rattle.std.proofs.lemmas.Bool.{cases_lt, cases_eq, cond-true, cond-false}
@@ -7,15 +7,15 @@ use Rattle.std.proofs.lemmas.Int.{ints}
 use Rattle.std.proofs.lemmas.List.Elements.{All-same, All-take, All-drop}
 use Rattle.point_codec.specs.Points.{Region}
 use Rattle.point_codec.specs.Keys.{key}
-use Rattle.point_codec.specs.Cells.{within, left_of, right_of}
+use Rattle.point_codec.specs.Cells.{left_of, right_of}
 use Rattle.byte_cursor.specs.Vint.{vint, vint_groups}
 use Rattle.inner_pack.specs.Places.{Spot, Placed, placed, behind}
-use Rattle.inner_pack.specs.Trees.{IndexTree, Leaf, Split, IsShaped, IsCell, IsInCell, HasCells, leaf_count, lengths_of}
+use Rattle.inner_pack.specs.Trees.{IndexTree, Leaf, Split, IsCell, IsInCell, HasCells, leaf_count, lengths_of}
 use Rattle.inner_pack.specs.Bodies.{cuts_table, places_table, place_bytes, cell_bytes, shared, node_bytes, first_length, right_begin}
 use Rattle.inner_pack.specs.Spelled.{spelled_part, told_part, IsNodeOf}
 use Rattle.inner_pack.specs.Heads.{SaysSplit}
 use Rattle.inner_pack.specs.declared.head.Head.{Head}
-use Rattle.inner_pack.proofs.PlaceLemmas.{AreLengths, rest_lengths, first_fits, right_fits, right_from, right_to, places_first, places_split, count_shaped}
+use Rattle.inner_pack.proofs.PlaceLemmas.{AreLengths, rest_lengths, right_fits, right_from, right_to, places_first, places_split, count_shaped}
 use Rattle.inner_pack.proofs.SpelledLemmas.{spelled_one, told_one, spelled_packed, told_packed, cuts_split, cuts_long, places_long, fields, leaf_bytes_is, with_children_is}
 use Rattle.inner_pack.proofs.CellLemmas.{length-cell}
 use Rattle.inner_pack.proofs.KeyLemmas.{shared-le}
@@ -90,13 +90,13 @@ pub joins_table : (form : ℕ) (references : List (List ℕ)) (s : Spot) (l r : 
 joins_table form references s l r h bytes places one rl says eb ep =
     let lower = slice_set references h.dimension (key h.at) in (
       eb
-      ∙ (λ i. h.dimension ∷ (says.key_is i ++ ((says.left_bytes ∙ spelled_one form lower s l one) i ++ (says.right_bytes ∙ spelled_one form lower (right_begin s l r) r one) i)))
-      ∙ sym (cuts_split h.dimension h.at l r)
-      ∙ sym (spelled_one form references s (Split h.dimension h.at l r) one),
+          ∙ (λ i. h.dimension ∷ (says.key_is i ++ ((says.left_bytes ∙ spelled_one form lower s l one) i ++ (says.right_bytes ∙ spelled_one form lower (right_begin s l r) r one) i)))
+          ∙ sym (cuts_split h.dimension h.at l r)
+          ∙ sym (spelled_one form references s (Split h.dimension h.at l r) one),
       ep
-      ∙ (λ i. (says.left_places ∙ told_one form s l one) i ++ (says.right_places ∙ told_one form (right_begin s l r) r one) i)
-      ∙ sym (places_split s h.dimension h.at l r rl)
-      ∙ sym (told_one form s (Split h.dimension h.at l r) one),
+          ∙ (λ i. (says.left_places ∙ told_one form s l one) i ++ (says.right_places ∙ told_one form (right_begin s l r) r one) i)
+          ∙ sym (places_split s h.dimension h.at l r rl)
+          ∙ sym (told_one form s (Split h.dimension h.at l r) one),
     )
 
 -- ---- the packed forms
@@ -124,8 +124,16 @@ fields_long references d x pages offset lb rb =
     let v1 = vint_few pages in
     let v2 = vint_few offset in
     let v3 = vint_few (length lb) in
-    omega (arith, length-drop p (key x), key_long x, length-append (drop p (key x)) (vint pages ++ (vint offset ++ (vint (length lb) ++ (lb ++ rb)))), length-append (vint pages) (vint offset ++ (vint (length lb) ++ (lb ++ rb))),
-      length-append (vint offset) (vint (length lb) ++ (lb ++ rb)), length-append (vint (length lb)) (lb ++ rb), length-append lb rb)
+    omega (
+      arith,
+      length-drop p (key x),
+      key_long x,
+      length-append (drop p (key x)) (vint pages ++ (vint offset ++ (vint (length lb) ++ (lb ++ rb)))),
+      length-append (vint pages) (vint offset ++ (vint (length lb) ++ (lb ++ rb))),
+      length-append (vint offset) (vint (length lb) ++ (lb ++ rb)),
+      length-append (vint (length lb)) (lb ++ rb),
+      length-append lb rb,
+    )
 
 -- a node takes fewer than 89 bytes for each of its leaves
 pub node_long : (D form : ℕ) (references : List (List ℕ)) (s : Spot) (path : Region) (t : IndexTree) → D ≤ 8 → HasCells D path t → length (node_bytes form references s t) + 20 ≤ 89 * leaf_count t
@@ -136,8 +144,13 @@ node_long D form references s path (Split d x l r) le h =
     let right = right_begin s l r in
     let lb = node_bytes form lower s l in
     let rb = node_bytes form lower right r in
-    omega (arith, ap length (with_children_is references d x s right lb rb), fields_long references d x (right.page - s.page) right.offset lb rb,
-      node_long D form lower s (left_of path d x) l le h.1, node_long D form lower right (right_of path d x) r le h.2)
+    omega (
+      arith,
+      ap length (with_children_is references d x s right lb rb),
+      fields_long references d x (right.page - s.page) right.offset lb rb,
+      node_long D form lower s (left_of path d x) l le h.1,
+      node_long D form lower right (right_of path d x) r le h.2,
+    )
 
 pub record PackedNode (form : ℕ) (references : List (List ℕ)) (s : Spot) (d : ℕ) (x : ℤ) (l r : IndexTree) (bytes : List ℕ) : Type 0 where
   pub is : bytes ≡ fields references d (key x) ((right_begin s l r).page - s.page) (right_begin s l r).offset (node_bytes form (slice_set references d (key x)) s l) (node_bytes form (slice_set references d (key x)) (right_begin s l r) r)
@@ -177,8 +190,8 @@ joins_packed form references s l r h bytes places back code packed says eb ed es
     let kept : fields references h.dimension h.key h.pages h.offset h.left.bytes.now h.right.bytes.now ≡ bytes =
     (λ i. sym front i ∷ (drop (es i) h.key ++ (vint h.pages ++ (vint h.offset ++ (vint (length h.left.bytes.now) ++ (h.left.bytes.now ++ h.right.bytes.now)))))) ∙ sym eb in (
       sym kept
-      ∙ (λ i. fields references h.dimension (says.key_is i) (says.pages i) (says.offset i) (lb i) (rb i))
-      ∙ sym (with_children_is references h.dimension h.at s right (node_bytes form lower s l) (node_bytes form lower right r))
-      ∙ sym (spelled_packed form references s (Split h.dimension h.at l r) packed),
+          ∙ (λ i. fields references h.dimension (says.key_is i) (says.pages i) (says.offset i) (lb i) (rb i))
+          ∙ sym (with_children_is references h.dimension h.at s right (node_bytes form lower s l) (node_bytes form lower right r))
+          ∙ sym (spelled_packed form references s (Split h.dimension h.at l r) packed),
       ep ∙ says.left_places ∙ told_packed form s l packed ∙ sym (told_packed form s (Split h.dimension h.at l r) packed),
     )

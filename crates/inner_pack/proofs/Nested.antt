@@ -6,7 +6,7 @@ use Rattle.point_codec.specs.Points.{Region, all_le}
 use Rattle.point_codec.specs.Cells.{within, left_of, right_of}
 use Rattle.inner_pack.specs.Places.{Spot, end_of}
 use Rattle.inner_pack.specs.Trees.{IndexTree, Leaf, Split, IsInCell, IsCell, HasCells, cell_of, lengths_of}
-use Rattle.inner_pack.specs.Bodies.{right_begin, first_length}
+use Rattle.inner_pack.specs.Bodies.{right_begin}
 use Rattle.inner_pack.proofs.PlaceLemmas.{AreLengths, end_first, end_of_append, end_of_from}
 use Rattle.inner_pack.proofs.SpelledLemmas.{all_le_self, within_self}
 

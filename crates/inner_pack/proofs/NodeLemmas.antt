@@ -1,16 +1,16 @@
 -- Nodes made of their children, and taken apart.
-use Rattle.std.proofs.Common.{◌≡◌, ℕ, ℤ, zero, suc, ◌+◌, ◌-◌, ◌*◌, ◌/◌, ◌≤◌, ◌<◌, List, [], ◌∷◌, ◌++◌, length, All, refl, sym, ap, subst, ◌∙◌, arith, slice_set, slice_index_or}
+use Rattle.std.proofs.Common.{◌≡◌, ℕ, ℤ, ◌-◌, ◌/◌, ◌≤◌, List, length, refl, sym, ap, subst, ◌∙◌, arith, slice_set}
 use Rattle.std.proofs.lemmas.List.Elements.{All-append}
 use Rattle.point_codec.specs.Points.{Region}
 use Rattle.point_codec.specs.Keys.{key}
 use Rattle.point_codec.specs.Cells.{left_of, right_of}
 use Rattle.inner_pack.specs.Places.{Spot, fitted, behind, end_of}
-use Rattle.inner_pack.specs.Trees.{IndexTree, Leaf, Split, IsShaped, IsInCell, leaf_count, lengths_of}
+use Rattle.inner_pack.specs.Trees.{IndexTree, Leaf, Split, IsShaped, IsInCell, lengths_of}
 use Rattle.inner_pack.specs.Bodies.{first_length, right_begin}
-use Rattle.inner_pack.specs.Spelled.{spelled_part, told_part, IsNodeOf}
-use Rattle.inner_pack.specs.Heads.{SaysSplit, SaysTree, IsHead}
+use Rattle.inner_pack.specs.Spelled.{IsNodeOf}
+use Rattle.inner_pack.specs.Heads.{SaysSplit, IsHead}
 use Rattle.inner_pack.specs.declared.head.Head.{Head}
-use Rattle.inner_pack.proofs.PlaceLemmas.{AreLengths, first_fits, right_fits, end_first, end_of_append, right_first}
+use Rattle.inner_pack.proofs.PlaceLemmas.{AreLengths, right_fits, end_of_append, right_first}
 use Rattle.inner_pack.proofs.HeadLemmas.{left_lengths, right_lengths}
 
 -- a node of two leaves or more is an inner node

@@ -1,7 +1,7 @@
 -- No bytes spell two trees of one number of leaves.
-use Rattle.std.proofs.Common.{◌≡◌, ℕ, ℤ, pos, zero, suc, ◌+◌, ◌-◌, ◌*◌, ◌/◌, ◌%◌, ◌^◌, ◌≤◌, ◌<◌, List, [], ◌∷◌, ◌++◌, length, map, take, drop, All, FitsSigned, refl, sym, ap, subst, ◌∙◌, arith, get_or, take-append-drop, cond, eqb, inl, inr, append_assoc, append-nil, length-drop, length-set, length-append, slice_set, slice_index_or, eq-eqb, ne_eqb}
-use Rattle.std.specs.Int.{w32, w16, to_be_bytes}
-use Rattle.std.proofs.lemmas.Bool.{cases_eq, cases_lt, cond-true, cond-false}
+use Rattle.std.proofs.Common.{◌≡◌, ℕ, ℤ, pos, ◌+◌, ◌-◌, ◌*◌, ◌/◌, ◌^◌, ◌≤◌, ◌<◌, List, [], ◌++◌, length, map, take, drop, FitsSigned, refl, sym, ap, subst, ◌∙◌, arith, get_or, take-append-drop, cond, eqb, inl, inr, length-drop, length-set, slice_set, slice_index_or, eq-eqb}
+use Rattle.std.specs.Int.{w32, w16}
+use Rattle.std.proofs.lemmas.Bool.{cases_eq, cond-true}
 use Rattle.std.proofs.lemmas.List.Elements.{All-set}
 use Rattle.byte_cursor.specs.Vint.{vint}
 use Rattle.byte_cursor.proofs.SpelledVints.{vint_front}
@@ -9,17 +9,16 @@ use Rattle.byte_cursor.proofs.Numbers.{spelling_unique}
 use Rattle.point_codec.specs.Points.{Region}
 use Rattle.point_codec.specs.Keys.{key}
 use Rattle.point_codec.specs.Cells.{left_of, right_of}
-use Rattle.inner_pack.specs.Places.{Spot, Placed, fitted, front}
-use Rattle.inner_pack.specs.Trees.{IndexTree, Leaf, Split, IsShaped, IsCell, IsInCell, HasCells, IsTree, lengths_of, leaf_count}
-use Rattle.inner_pack.specs.Bodies.{SpellsIndex, cuts_table, places_table, place_bytes, node_bytes, cell_bytes, body_bytes, shared, first_length, right_begin}
+use Rattle.inner_pack.specs.Places.{Spot, fitted, front}
+use Rattle.inner_pack.specs.Trees.{IndexTree, Leaf, Split, IsShaped, IsCell, IsInCell}
+use Rattle.inner_pack.specs.Bodies.{SpellsIndex, cuts_table, places_table, place_bytes, node_bytes, cell_bytes, shared, right_begin}
 use Rattle.inner_pack.specs.Spelled.{spelled_part, told_part, tree_bytes, IsNodeOf, IsTreeIn}
-use Rattle.inner_pack.specs.Heads.{IsTableLeaf, IsPackedLeaf}
-use Rattle.inner_pack.proofs.PlaceLemmas.{AreLengths, first_fits, right_fits, fitted_fits, fitted_again}
+use Rattle.inner_pack.proofs.PlaceLemmas.{first_fits, right_fits}
 use Rattle.inner_pack.proofs.CellLemmas.{split_same, key_front, key_one, cell_one, cell_front, Fit}
-use Rattle.inner_pack.proofs.KeyLemmas.{shared-le, shared_take, key_again}
-use Rattle.inner_pack.proofs.SpelledLemmas.{spelled_one, told_one, spelled_packed, told_packed, tree_one, tree_packed, body_is, leaf_bytes_is, leaf_in_table, no_cut, to_packed_leaf, cuts_split, cuts_long, places_long, fields}
+use Rattle.inner_pack.proofs.KeyLemmas.{shared_take, key_again}
+use Rattle.inner_pack.proofs.SpelledLemmas.{spelled_one, told_one, spelled_packed, told_packed, tree_one, tree_packed, body_is, leaf_bytes_is, leaf_in_table, to_packed_leaf, cuts_long, fields}
 use Rattle.inner_pack.proofs.NodeLemmas.{said_otherwise}
-use Rattle.inner_pack.proofs.HeadLemmas.{TableNode, PackedNode, table_node, packed_node, key_long, between_fits, left_lengths, right_lengths}
+use Rattle.inner_pack.proofs.HeadLemmas.{TableNode, table_node, packed_node, key_long, between_fits, left_lengths, right_lengths}
 
 -- a cell with so many dimensions, whatever the order of its ends
 pub record IsWide (D : ℕ) (r : Region) : Type 0 where
@@ -62,7 +61,7 @@ one_leaf D form leaves s u path references bytes places m n own other h k = elim
       let a = to_packed_leaf D form leaves s path references bytes places m own packed h in
       let b = to_packed_leaf D form leaves u path references bytes places n other packed k in
       let both = vint_front m n (cond (eqb form 3) (cell_bytes own) []) (cond (eqb form 3) (cell_bytes other) []) (omega (arith, a.greatest)) (omega (arith, b.greatest))
-          (sym (a.spelled ∙ leaf_bytes_is form m own) ∙ (b.spelled ∙ leaf_bytes_is form n other)) in
+      (sym (a.spelled ∙ leaf_bytes_is form m own) ∙ (b.spelled ∙ leaf_bytes_is form n other)) in
       let cell : own ≡ other = elim (cases_eq form 3) [
         | inl three ↦
             let ea = cond-true (eqb form 3) (cell_bytes own) [] (eq-eqb form 3 three) in
@@ -159,7 +158,7 @@ same_children D form n s u path references bytes places d e x y l l2 r r2 few ma
       let a = packed_node D form n s path references bytes places d x l r few packed many h in
       let b = packed_node D form n u path references bytes places e y l2 r2 few packed many k in
       let p = fields_parts references d e x y (v.page - s.page) (w.page - u.page) v.offset w.offset (node_bytes form lower s l) (node_bytes form lower2 u l2) (node_bytes form lower v r) (node_bytes form lower2 w r2)
-          fx fy a.few b.few a.pages b.pages a.offset b.offset a.left b.left (sym a.is ∙ b.is) in
+      fx fy a.few b.few a.pages b.pages a.offset b.offset a.left b.left (sym a.is ∙ b.is) in
       record {
         dimension = p.0;
         value = p.1;
@@ -222,13 +221,13 @@ one_node D form n s u path references bytes places (Split d x l r) (Split e y l2
     let w = right_begin u l2 r2 in
     let moved : lower ≡ lower2 = (λ i. slice_set references (c.dimension i) (key (c.value i))) in
     let left : l ≡ l2 = one_node D form (n - n / 2) s u (left_of path d x) lower (spelled_part form lower s l) (told_part form s l) l l2 few (omega (arith, many)) (left_wide D d x path wide fx)
-        (own_bytes_left D form n s path references bytes places d x l r h)
-        (with_bytes D form (n - n / 2) u (left_of path e y) (left_of path d x) lower2 lower (spelled_part form lower2 u l2) (spelled_part form lower s l) (told_part form u l2) (told_part form s l) l2
-        (λ i. left_of path (c.dimension i) (c.value i)) moved c.left_bytes c.left_places (own_bytes_left D form n u path references bytes places e y l2 r2 k)) in
+    (own_bytes_left D form n s path references bytes places d x l r h)
+    (with_bytes D form (n - n / 2) u (left_of path e y) (left_of path d x) lower2 lower (spelled_part form lower2 u l2) (spelled_part form lower s l) (told_part form u l2) (told_part form s l) l2
+    (λ i. left_of path (c.dimension i) (c.value i)) moved c.left_bytes c.left_places (own_bytes_left D form n u path references bytes places e y l2 r2 k)) in
     let right : r ≡ r2 = one_node D form (n / 2) v w (right_of path d x) lower (spelled_part form lower v r) (told_part form v r) r r2 few (omega (arith, many)) (right_wide D d x path wide fx)
-        (own_bytes_right D form n s path references bytes places d x l r h)
-        (with_bytes D form (n / 2) w (right_of path e y) (right_of path d x) lower2 lower (spelled_part form lower2 w r2) (spelled_part form lower v r) (told_part form w r2) (told_part form v r) r2
-        (λ i. right_of path (c.dimension i) (c.value i)) moved c.right_bytes c.right_places (own_bytes_right D form n u path references bytes places e y l2 r2 k)) in
+    (own_bytes_right D form n s path references bytes places d x l r h)
+    (with_bytes D form (n / 2) w (right_of path e y) (right_of path d x) lower2 lower (spelled_part form lower2 w r2) (spelled_part form lower v r) (told_part form w r2) (told_part form v r) r2
+    (λ i. right_of path (c.dimension i) (c.value i)) moved c.right_bytes c.right_places (own_bytes_right D form n u path references bytes places e y l2 r2 k)) in
     (λ i. Split (c.dimension i) (c.value i) (left i) (right i))
 
 -- the root's parts

@@ -1,6 +1,6 @@
 -- Bytes that are appended, and turned.
 use Rattle.std.proofs.Common.{◌≡◌, ◌<◌, ◌≤◌, ◌+◌, ◌-◌, ◌*◌, ◌^◌, ℕ, List, [], ◌∷◌, ◌++◌, length, reverse, take, drop, get_or, refl, sym, ap, subst, ◌∙◌, arith, append_assoc, length-append, length-drop, ℤ, map, set}
-use Rattle.std.proofs.lemmas.List.{length-reverse, reverse-append, take_more, take_more_set, map_push}
+use Rattle.std.proofs.lemmas.List.{length-reverse, take_more, take_more_set, map_push}
 use Rattle.std.proofs.Math.Seq.{take-append_seam, drop-append_seam, take-length}
 use Rattle.std.specs.List.{flat_map}
 use Rattle.byte_cursor.specs.Vint.{vint, AppendsVint}

@@ -1,6 +1,6 @@
 -- The parts of a subtree, and those of its children.
-use Rattle.std.proofs.Common.{◌≡◌, ◌<◌, ◌≤◌, ◌+◌, ◌-◌, ◌/◌, ◌*◌, ℕ, zero, suc, List, [], ◌∷◌, ◌++◌, length, map, take, drop, get_or, set, reverse, refl, sym, ap, subst, ◌∙◌, arith, All, append_assoc, length-append, ℤ, pos}
-use Rattle.std.proofs.lemmas.List.{length-map, take-map, drop-map, map-append, length-take-le, length-drop, reverse-append, get_or-drop, get_or-map}
+use Rattle.std.proofs.Common.{◌≡◌, ◌<◌, ◌≤◌, ◌+◌, ◌-◌, ◌/◌, ℕ, suc, List, [], ◌∷◌, ◌++◌, length, map, take, drop, get_or, set, reverse, refl, sym, ap, subst, ◌∙◌, arith, All, append_assoc, length-append, ℤ, pos}
+use Rattle.std.proofs.lemmas.List.{length-map, take-map, drop-map, map-append, length-take-le, length-drop, reverse-append, get_or-map}
 use Rattle.std.proofs.lemmas.List.Elements.{All-take, All-drop}
 use Rattle.std.proofs.Math.Seq.{take-append_seam, drop-append_seam, take-length}
 use Rattle.point_codec.specs.Points.{Region}
@@ -11,8 +11,8 @@ use Rattle.point_codec.specs.declared.boxes.Cell.{Cell}
 use Rattle.inner_pack.specs.declared.place.LeafPlace.{LeafPlace}
 use Rattle.inner_pack.specs.declared.pack.Subtree.{Subtree}
 use Rattle.inner_pack.specs.PackedParts.{AreChildParts}
-use Rattle.inner_pack.specs.Places.{Spot, front, fitted, behind, Placed, placed, end_of}
-use Rattle.inner_pack.specs.Trees.{IndexTree, Leaf, Split, Cut, IsShaped, HasCells, leaf_count, cuts_of, lengths_of, own_cells}
+use Rattle.inner_pack.specs.Places.{Spot, fitted, behind, Placed, placed, end_of}
+use Rattle.inner_pack.specs.Trees.{IndexTree, Leaf, Split, Cut, IsShaped, leaf_count, cuts_of, lengths_of, own_cells}
 use Rattle.inner_pack.specs.Bodies.{first_length, right_begin, head_bytes, leaf_bytes, node_bytes}
 use Rattle.inner_pack.specs.Packs.{placed_of, AppendsTurned, IsPart}
 use Rattle.inner_pack.proofs.PlaceLemmas.{placed_append, placed_first, fitted_again, first_fits, lengths_first, count_shaped, length-lengths_of}

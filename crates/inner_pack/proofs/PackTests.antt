@@ -1,12 +1,12 @@
 -- The trees of the tests.
-use Rattle.std.proofs.Common.{◌≡◌, ◌<◌, ◌≤◌, ℕ, List, [], ◌∷◌, map, refl, sym, ap, subst, ◌∙◌, arith, rules, All, true, ◌&&◌, ℤ, pos, ◌≤ℤ◌, FitsSigned, w32, replicate}
+use Rattle.std.proofs.Common.{◌≡◌, ◌≤◌, ℕ, List, [], ◌∷◌, map, refl, arith, rules, All, true, ◌&&◌, ℤ, pos, FitsSigned, w32, replicate}
 use Rattle.std.specs.Prelude.{int_le}
 use Rattle.std.proofs.lemmas.List.Elements.{All-nil, All-cons, All-replicate}
 use Rattle.point_codec.specs.Points.{Region}
 use Rattle.point_codec.specs.Seen.{region_of}
 use Rattle.point_codec.specs.declared.boxes.Cell.{Cell}
 use Rattle.inner_pack.specs.Trees.{IndexTree, Leaf, Split, IsCell, IsInCell, IsTree}
-use Rattle.inner_pack.specs.Parts.{AreParts, ArePartsOf}
+use Rattle.inner_pack.specs.Parts.{AreParts}
 
 -- ---- cells and lengths
 

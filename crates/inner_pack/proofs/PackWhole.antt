@@ -1,8 +1,7 @@
 -- The parts of a whole tree, and its body.
-use Rattle.std.proofs.Common.{◌≡◌, ◌<◌, ◌≤◌, ◌+◌, ◌-◌, ◌*◌, ◌^◌, ℕ, zero, suc, List, [], ◌∷◌, ◌++◌, length, map, take, drop, reverse, get_or, refl, sym, ap, subst, ◌∙◌, arith, All, append_assoc, length-append, ℤ}
-use Rattle.std.proofs.lemmas.List.{length-map, map-append, get_or-map, reverse-append, reverse-reverse, length-reverse}
+use Rattle.std.proofs.Common.{◌≡◌, ◌<◌, ◌≤◌, ◌+◌, ℕ, List, [], ◌∷◌, ◌++◌, length, map, take, drop, reverse, get_or, refl, sym, ap, subst, ◌∙◌, arith, All, ℤ}
+use Rattle.std.proofs.lemmas.List.{length-map, map-append, get_or-map, reverse-append, reverse-reverse}
 use Rattle.std.proofs.lemmas.List.Elements.{All-nil, All-cons, All-append}
-use Rattle.std.proofs.Math.Seq.{take-append_seam, drop-append_seam}
 use Rattle.point_codec.specs.Points.{Region}
 use Rattle.point_codec.specs.Seen.{region_of}
 use Rattle.point_codec.specs.Keys.{key}
@@ -10,11 +9,11 @@ use Rattle.point_codec.specs.Cells.{left_of, right_of}
 use Rattle.point_codec.specs.declared.boxes.Cell.{Cell}
 use Rattle.inner_pack.specs.declared.place.LeafPlace.{LeafPlace}
 use Rattle.inner_pack.specs.Places.{Spot, front, fitted, behind, Placed, placed, end_of}
-use Rattle.inner_pack.specs.Trees.{IndexTree, Leaf, Split, Cut, HasCells, IsShaped, IsTree, leaf_count, cuts_of, lengths_of, own_cells}
-use Rattle.inner_pack.specs.Bodies.{first_length, node_bytes, cell_bytes, body_bytes, SpellsIndex, IsIndex, pages_of}
+use Rattle.inner_pack.specs.Trees.{IndexTree, Leaf, Split, Cut, HasCells, IsShaped, leaf_count, cuts_of}
+use Rattle.inner_pack.specs.Bodies.{first_length, node_bytes, cell_bytes, body_bytes, SpellsIndex, IsIndex}
 use Rattle.inner_pack.specs.Parts.{ArePartsOf, AreParts}
 use Rattle.inner_pack.specs.Packs.{placed_of, AppendsTurned, IsPart}
-use Rattle.inner_pack.proofs.PlaceLemmas.{fitted_here, first_fits, count_shaped, length-lengths_of}
+use Rattle.inner_pack.proofs.PlaceLemmas.{fitted_here, first_fits, length-lengths_of}
 use Rattle.inner_pack.proofs.PackBytes.{turned}
 use Rattle.inner_pack.proofs.PackParts.{length-placed, length-own_cells, length-cuts_of}
 

@@ -1,20 +1,18 @@
 -- Nodes in the bytes of each form.
-use Rattle.std.proofs.Common.{◌≡◌, ℕ, ℤ, zero, suc, ◌+◌, ◌-◌, ◌*◌, ◌/◌, ◌≤◌, ◌<◌, List, [], ◌∷◌, ◌++◌, length, map, take, drop, All, refl, sym, ap, subst, ◌∙◌, arith, cond, eqb, inl, inr, true, int_le, length-append, append_assoc, append-nil, eq-eqb, ne_eqb, slice_set, slice_index_or}
-use Rattle.std.specs.List.{flat_map}
+use Rattle.std.proofs.Common.{◌≡◌, ℕ, ℤ, zero, ◌+◌, ◌-◌, ◌*◌, ◌≤◌, List, [], ◌∷◌, ◌++◌, length, map, drop, refl, sym, ap, subst, ◌∙◌, arith, cond, eqb, true, int_le, length-append, append_assoc, append-nil, eq-eqb, ne_eqb, slice_index_or}
 use Rattle.std.proofs.lemmas.Bool.{cond-true, cond-false}
 use Rattle.std.proofs.lemmas.Int.{ints}
-use Rattle.std.proofs.lemmas.List.Elements.{All-append}
 use Rattle.std.proofs.lemmas.List.Concat.{flat_map-append}
 use Rattle.point_codec.specs.Points.{Region, all_le}
 use Rattle.point_codec.specs.Keys.{key}
-use Rattle.point_codec.specs.Cells.{within, left_of, right_of}
+use Rattle.point_codec.specs.Cells.{within}
 use Rattle.byte_cursor.specs.Vint.{vint}
 use Rattle.inner_pack.specs.Places.{Spot, fitted, front}
-use Rattle.inner_pack.specs.Trees.{IndexTree, Leaf, Split, Cut, IsShaped, IsCell, IsInCell, HasCells, HasPathCells, cell_of, cuts_of, lengths_of, leaf_count}
-use Rattle.inner_pack.specs.Bodies.{cut_bytes, cuts_table, places_table, place_bytes, shared, head_bytes, leaf_bytes, node_bytes, with_children, cell_bytes, first_length, right_begin, body_bytes}
+use Rattle.inner_pack.specs.Trees.{IndexTree, Leaf, Split, IsShaped, IsCell, cuts_of, leaf_count}
+use Rattle.inner_pack.specs.Bodies.{cut_bytes, cuts_table, places_table, place_bytes, shared, head_bytes, leaf_bytes, node_bytes, with_children, cell_bytes, body_bytes}
 use Rattle.inner_pack.specs.Spelled.{spelled_part, told_part, tree_bytes, IsNodeOf}
-use Rattle.inner_pack.specs.Heads.{IsPackedLeaf, IsOwnCell, IsTableLeaf, IsLeafBehind}
-use Rattle.inner_pack.proofs.PlaceLemmas.{AreLengths, fitted_fits, fitted_again, first_fits, length-lengths_of, count_shaped, places_split, length-places}
+use Rattle.inner_pack.specs.Heads.{IsPackedLeaf, IsTableLeaf, IsLeafBehind}
+use Rattle.inner_pack.proofs.PlaceLemmas.{AreLengths, fitted_fits, fitted_again, first_fits, count_shaped, length-places}
 
 -- ---- the forms
 

@@ -1,5 +1,5 @@
 -- What a walk knows at a node.
-use Rattle.std.proofs.Common.{◌≡◌, ℕ, ℤ, zero, suc, ◌+◌, ◌-◌, ◌*◌, ◌/◌, ◌≤◌, ◌<◌, List, length, map, drop, drop_at, length-append, inl, inr, FitsSigned, refl, sym, ap, subst, ◌∙◌, arith, slice_set}
+use Rattle.std.proofs.Common.{◌≡◌, ℕ, ℤ, ◌+◌, ◌-◌, ◌*◌, ◌/◌, ◌≤◌, ◌<◌, List, length, map, drop, drop_at, length-append, inl, inr, FitsSigned, refl, sym, ap, subst, ◌∙◌, arith, slice_set}
 use Rattle.std.specs.Int.{w32}
 use Rattle.std.proofs.lemmas.Bool.{cases_lt}
 use Rattle.std.proofs.lemmas.Grind.{not_there}
@@ -7,8 +7,8 @@ use Rattle.point_codec.specs.Points.{Region}
 use Rattle.point_codec.specs.Keys.{key}
 use Rattle.point_codec.specs.Cells.{left_of, right_of}
 use Rattle.inner_pack.specs.Places.{Spot, spot_at, front}
-use Rattle.inner_pack.specs.Trees.{IndexTree, Leaf, Split, IsCell, IsInCell, cell_of, leaf_count}
-use Rattle.inner_pack.specs.Bodies.{first_length, right_begin, cell_bytes, SpellsIndex}
+use Rattle.inner_pack.specs.Trees.{IndexTree, Leaf, Split, IsCell, IsInCell, cell_of}
+use Rattle.inner_pack.specs.Bodies.{right_begin, cell_bytes, SpellsIndex}
 use Rattle.inner_pack.specs.Spelled.{spelled_part, told_part, tree_bytes, IsNodeOf}
 use Rattle.inner_pack.specs.Nodes.{IsAt}
 use Rattle.inner_pack.specs.declared.node.NodeAt.{NodeAt}

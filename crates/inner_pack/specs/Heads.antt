@@ -1,5 +1,5 @@
 -- What an inner node and a leaf say of themselves, and what a check of a node finds.
-use Rattle.std.specs.Prelude.{ℕ, ◌+◌, ◌-◌, ◌≤◌, ◌<◌, ◌≡◌, if◌then◌else◌, ◌==◌, true, List, [], All, ℤ, slice_set}
+use Rattle.std.specs.Prelude.{ℕ, ◌-◌, ◌≤◌, ◌<◌, ◌≡◌, if◌then◌else◌, ◌==◌, true, List, [], All, ℤ, slice_set}
 use Rattle.point_codec.specs.Points.{Region}
 use Rattle.point_codec.specs.Keys.{key}
 use Rattle.point_codec.specs.Cells.{within}
@@ -41,7 +41,7 @@ pub record IsHead (D form : ℕ) (references : List (List ℕ)) (bytes places : 
   pub dimension : h.dimension < D
   pub key_is : h.key ≡ key h.at
   pub joins : (s : Spot) (l r : IndexTree) → All (λ length. (1 ≤ length) × (length ≤ 4064)) (lengths_of r) → SaysSplit form references s h.dimension h.at l r h
-    → (bytes ≡ spelled_part form references s (Split h.dimension h.at l r)) × (places ≡ told_part form s (Split h.dimension h.at l r))
+      → (bytes ≡ spelled_part form references s (Split h.dimension h.at l r)) × (places ≡ told_part form s (Split h.dimension h.at l r))
 
 abbrev pub placed_of : LeafPlace → Placed
 placed_of p = record { at = record { page = p.page; offset = p.offset }; length = p.length }

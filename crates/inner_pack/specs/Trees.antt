@@ -1,5 +1,5 @@
 -- The tree of an index: how a cell is split over and over, and what each leaf says of itself.
-use Rattle.std.specs.Prelude.{ℕ, zero, suc, ◌+◌, ◌-◌, ◌/◌, ◌*◌, ◌^◌, ◌<◌, ◌≤◌, ◌≡◌, true, List, [], ◌∷◌, ◌++◌, length, All, ℤ, ◌≤ℤ◌, pos, slice_index_or, FitsSigned}
+use Rattle.std.specs.Prelude.{ℕ, ◌+◌, ◌-◌, ◌/◌, ◌<◌, ◌≤◌, ◌≡◌, true, List, [], ◌∷◌, ◌++◌, length, All, ℤ, ◌≤ℤ◌, pos, slice_index_or, FitsSigned}
 use Rattle.std.specs.Int.{w32}
 use Rattle.point_codec.specs.Points.{Region, all_le}
 use Rattle.point_codec.specs.Cells.{within, left_of, right_of}

@@ -23,7 +23,14 @@ pub(crate) struct Span {
 
 /// The span of the leaves next behind the mark, where the part is a node of so many leaves. It calls itself once a node, and at
 /// most 24 deep.
-pub(crate) fn check_node<const D: usize>(form: u8, leaves: u32, path: &Cell<D>, references: &[[u8; 4]; D], part: Part, behind: Mark) -> Option<Span>
+pub(crate) fn check_node<const D: usize>(
+    form: u8,
+    leaves: u32,
+    path: &Cell<D>,
+    references: &[[u8; 4]; D],
+    part: Part,
+    behind: Mark,
+) -> Option<Span>
     requires dims { (1 ≤ D) × (D ≤ 8) }
     requires form { (1 ≤ form) × (form ≤ 3) }
     requires leaves { 1 ≤ leaves }
@@ -45,8 +52,22 @@ pub(crate) fn check_node<const D: usize>(form: u8, leaves: u32, path: &Cell<D>, 
     }
     let (left_path, right_path) = path.split(head.dimension, head.at);
     let references = with_key(references, head.dimension, head.key);
-    let left = check_node(form, leaves - leaves / 2, &left_path, &references, head.left, behind)?;
-    let right = check_node(form, leaves / 2, &right_path, &references, head.right, left.end)?;
+    let left = check_node(
+        form,
+        leaves - leaves / 2,
+        &left_path,
+        &references,
+        head.left,
+        behind,
+    )?;
+    let right = check_node(
+        form,
+        leaves / 2,
+        &right_path,
+        &references,
+        head.right,
+        left.end,
+    )?;
     if !tells(&head, left.begin, right.begin) {
         return None;
     }
@@ -57,7 +78,13 @@ pub(crate) fn check_node<const D: usize>(form: u8, leaves: u32, path: &Cell<D>, 
 }
 
 /// The span of the leaf next behind the mark.
-fn check_leaf<const D: usize>(form: u8, path: &Cell<D>, references: &[[u8; 4]; D], part: Part, behind: Mark) -> Option<Span>
+fn check_leaf<const D: usize>(
+    form: u8,
+    path: &Cell<D>,
+    references: &[[u8; 4]; D],
+    part: Part,
+    behind: Mark,
+) -> Option<Span>
     requires form { (1 ≤ form) × (form ≤ 3) }
     requires room { behind.page < 8388608 }
     requires offset { behind.offset ≤ 4064 }
@@ -88,7 +115,11 @@ pub(crate) fn is_in_cell<const D: usize>(path: &Cell<D>, dimension: usize, at: i
 }
 
 /// The references below a split with this key.
-pub(crate) fn with_key<const D: usize>(references: &[[u8; 4]; D], dimension: usize, key: [u8; 4]) -> [[u8; 4]; D]
+pub(crate) fn with_key<const D: usize>(
+    references: &[[u8; 4]; D],
+    dimension: usize,
+    key: [u8; 4],
+) -> [[u8; 4]; D]
     requires { dimension < D }
     ensures { result ≡ slice_set references.now dimension key }
 {

@@ -37,7 +37,12 @@ pub(crate) struct Head<'a> {
 }
 
 /// The head of an inner node.
-pub(crate) fn read_head<'a, const D: usize>(form: u8, leaves: u32, references: &[[u8; 4]; D], part: Part<'a>) -> Option<Head<'a>>
+pub(crate) fn read_head<'a, const D: usize>(
+    form: u8,
+    leaves: u32,
+    references: &[[u8; 4]; D],
+    part: Part<'a>,
+) -> Option<Head<'a>>
     requires dims { (1 ≤ D) × (D ≤ 8) }
     requires form { (1 ≤ form) × (form ≤ 3) }
     requires leaves { (2 ≤ leaves) × (leaves ≤ 8388608) }

@@ -60,14 +60,26 @@ impl<const D: usize> Index<D> {
         ensures err { IfErr result (λ e. (e.b ≡ b) × ((root : Region) (t : IndexTree) → SpellsIndex D form leaves b root t → ⊥)) }
     {
         let b = match checked::<D>(form, leaves, b.as_slice()) {
-            Some((root, pages)) => return Ok(Index::of_parts(form, leaves, pages, root, b.into_vec())),
+            Some((root, pages)) => return Ok(Index::of_parts(
+                form,
+                leaves,
+                pages,
+                root,
+                b.into_vec(),
+            )),
             None => b,
         };
         Err(NotIndex { b })
     }
 
     /// The index of these parts.
-    pub(crate) fn of_parts(form: u8, leaves: u32, pages: u32, root: Cell<D>, bytes: Vec<u8>) -> Index<D>
+    pub(crate) fn of_parts(
+        form: u8,
+        leaves: u32,
+        pages: u32,
+        root: Cell<D>,
+        bytes: Vec<u8>,
+    ) -> Index<D>
         requires { IsIndex D form leaves bytes.items (region_of root) pages }
         ensures { result ≡ record { form = form; leaves = leaves; bytes = bytes.items } }
     {
@@ -108,6 +120,13 @@ impl<const D: usize> Index<D> {
         self.pages
     }
 
+    /// An index spells a tree: said for proofs, nothing is done.
+    pub fn is_spelled(&self)
+        ensures { ∥ IsSpelled D self.now ∥₁ }
+    {
+        let _form = self.form;
+    }
+
     /// The root.
     pub fn walk(&self) -> NodeAt<'_, D>
         ensures { (root : Region) (t : IndexTree) → HasTree D self.now root t → IsAt result 0 front root t }
@@ -117,7 +136,15 @@ impl<const D: usize> Index<D> {
             unreachable!()
         };
         let front = Mark { page: 0, offset: 0 };
-        NodeAt::new(self.form, self.leaves, 0, front, &self.root, &keys_of(self.root.lo()), part)
+        NodeAt::new(
+            self.form,
+            self.leaves,
+            0,
+            front,
+            &self.root,
+            &keys_of(self.root.lo()),
+            part,
+        )
     }
 
     /// The same index once more.

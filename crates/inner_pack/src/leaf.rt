@@ -10,13 +10,18 @@ ghost use Rattle.inner_pack.specs.Trees.{Leaf};
 ghost use Rattle.inner_pack.specs.Spelled.{IsNodeOf};
 ghost use Rattle.inner_pack.specs.Heads.{IsPackedLeaf, IsOwnCell, IsTableLeaf, IsLeafBehind, spot_of};
 
-use crate::fields::{is_cell, cell_of, take_place, take_vint};
+use crate::fields::{cell_of, is_cell, take_place, take_vint};
 use crate::head::Part;
 use crate::place::Mark;
 use point_codec::{Cell, all_le};
 
 /// The length of the leaf next behind the mark, where the part is that of one leaf.
-pub(crate) fn read_leaf<const D: usize>(form: u8, path: &Cell<D>, part: Part, behind: Mark) -> Option<u16>
+pub(crate) fn read_leaf<const D: usize>(
+    form: u8,
+    path: &Cell<D>,
+    part: Part,
+    behind: Mark,
+) -> Option<u16>
     requires form { (1 ≤ form) × (form ≤ 3) }
     requires room { behind.page < 8388608 }
     requires offset { behind.offset ≤ 4064 }
@@ -66,7 +71,11 @@ fn table_leaf(part: Part, behind: Mark) -> Option<u16>
 }
 
 /// The length and the own cell of a leaf of a packed form.
-pub(crate) fn packed_leaf<const D: usize>(form: u8, path: &Cell<D>, b: &[u8]) -> Option<(u16, Cell<D>)>
+pub(crate) fn packed_leaf<const D: usize>(
+    form: u8,
+    path: &Cell<D>,
+    b: &[u8],
+) -> Option<(u16, Cell<D>)>
     requires form { (2 ≤ form) × (form ≤ 3) }
     ensures found { IfSome result (λ x. IsPackedLeaf D form (region_of path.now) b.now x.0 (region_of x.1)) }
     ensures only { (n : ℕ) (own : Region) → IsPackedLeaf D form (region_of path.now) b.now n own

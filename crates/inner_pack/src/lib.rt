@@ -22,6 +22,8 @@ pub use node::NodeAt;
 pub use place::LeafPlace;
 
 #[cfg(test)]
-mod tests;
+mod byte_tests;
 #[cfg(test)]
 mod pack_tests;
+#[cfg(test)]
+mod tests;

@@ -51,14 +51,16 @@ impl<'a, const D: usize> NodeAt<'a, D> {
 
     /// How many leaves there are at or below the node.
     pub fn leaf_count(&self) -> u32
-        ensures { (first : ℕ) (s : Spot) (path : Region) (t : IndexTree) → IsAt self.now first s path t → result ≡ leaf_count t }
+        ensures count { (first : ℕ) (s : Spot) (path : Region) (t : IndexTree) → IsAt self.now first s path t → result ≡ leaf_count t }
+        ensures field { result ≡ self.now.leaves }
     {
         self.leaves
     }
 
     /// Which of all leaves in order is the first at or below the node, from 0.
     pub fn first_leaf(&self) -> u32
-        ensures { (first : ℕ) (s : Spot) (path : Region) (t : IndexTree) → IsAt self.now first s path t → result ≡ first }
+        ensures number { (first : ℕ) (s : Spot) (path : Region) (t : IndexTree) → IsAt self.now first s path t → result ≡ first }
+        ensures field { result ≡ self.now.first }
     {
         self.first
     }
@@ -67,6 +69,8 @@ impl<'a, const D: usize> NodeAt<'a, D> {
     pub fn children(&self) -> Option<(NodeAt<'a, D>, NodeAt<'a, D>)>
         ensures some { IfSome result (λ c. (first : ℕ) (s : Spot) (path : Region) (t : IndexTree) → IsAt self.now first s path t → AreChildren c.0 c.1 first s path t) }
         ensures none { IsNone result ↔ (self.now.leaves ≡ 1) }
+        ensures fewer { IfSome result (λ c. (c.0.leaves < self.now.leaves) × (c.1.leaves < self.now.leaves)) }
+        ensures sum { IfSome result (λ c. c.0.leaves + c.1.leaves ≡ self.now.leaves) }
     {
         if self.leaves == 1 {
             return None;
@@ -75,10 +79,32 @@ impl<'a, const D: usize> NodeAt<'a, D> {
         let (left_path, right_path) = self.cell.split(head.dimension, head.at);
         let references = with_key(&self.references, head.dimension, head.key);
         let left_leaves = self.leaves - self.leaves / 2;
-        let begin = Mark { page: self.page, offset: self.offset };
-        let right_begin = Mark { page: self.page + head.pages, offset: head.offset };
-        let left = NodeAt::new(self.form, left_leaves, self.first, begin, &left_path, &references, head.left);
-        let right = NodeAt::new(self.form, self.leaves / 2, self.first + left_leaves, right_begin, &right_path, &references, head.right);
+        let begin = Mark {
+            page: self.page,
+            offset: self.offset,
+        };
+        let right_begin = Mark {
+            page: self.page + head.pages,
+            offset: head.offset,
+        };
+        let left = NodeAt::new(
+            self.form,
+            left_leaves,
+            self.first,
+            begin,
+            &left_path,
+            &references,
+            head.left,
+        );
+        let right = NodeAt::new(
+            self.form,
+            self.leaves / 2,
+            self.first + left_leaves,
+            right_begin,
+            &right_path,
+            &references,
+            head.right,
+        );
         Some((left, right))
     }
 
@@ -86,11 +112,17 @@ impl<'a, const D: usize> NodeAt<'a, D> {
     pub fn leaf_place(&self) -> Option<LeafPlace>
         ensures some { IfSome result (λ p. (first : ℕ) (s : Spot) (path : Region) (t : IndexTree) → IsAt self.now first s path t → IsPlaceOf p s t) }
         ensures none { IsSome result ↔ (self.now.leaves ≡ 1) }
+        ensures small { IfSome result (λ p. p.page < 8388608) }
+        ensures fits { IfSome result (λ p. p.offset + p.length ≤ 4064) }
     {
         if self.leaves != 1 {
             return None;
         }
-        Some(LeafPlace { page: self.page, offset: self.offset, length: self.length() })
+        Some(LeafPlace {
+            page: self.page,
+            offset: self.offset,
+            length: self.length(),
+        })
     }
 
     /// What the inner node says of itself.
@@ -102,7 +134,10 @@ impl<'a, const D: usize> NodeAt<'a, D> {
             → SaysTree self.now.form self.now.references (spot_at self.now.page self.now.offset) t result }
     {
         is_cell(&self.cell);
-        let part = Part { bytes: self.bytes, places: self.places };
+        let part = Part {
+            bytes: self.bytes,
+            places: self.places,
+        };
         let Some(head) = read_head(self.form, self.leaves, &self.references, part) else {
             unreachable!()
         };
@@ -128,12 +163,21 @@ impl<'a, const D: usize> NodeAt<'a, D> {
     }
 
     /// The node whose path cell this is.
-    pub(crate) fn new(form: u8, leaves: u32, first: u32, begin: Mark, path: &Cell<D>, references: &[[u8; 4]; D], part: Part<'a>) -> NodeAt<'a, D>
+    pub(crate) fn new(
+        form: u8,
+        leaves: u32,
+        first: u32,
+        begin: Mark,
+        path: &Cell<D>,
+        references: &[[u8; 4]; D],
+        part: Part<'a>,
+    ) -> NodeAt<'a, D>
         requires some { ∥ IsSomeTree D form leaves (spot_of begin) (region_of path.now) references.now part.bytes.now part.places.now ∥₁ }
         requires leaves { 1 ≤ leaves }
         requires last { first + leaves ≤ 8388608 }
         requires page { begin.page ≤ first }
-        ensures { (t : IndexTree) → IsNodeOf D form leaves (spot_of begin) (region_of path.now) references.now part.entry.bytes.now part.entry.places.now t
+        ensures count { result.leaves ≡ leaves }
+        ensures at { (t : IndexTree) → IsNodeOf D form leaves (spot_of begin) (region_of path.now) references.now part.entry.bytes.now part.entry.places.now t
             → IsAt result first (spot_of begin) (region_of path.now) t }
     {
         NodeAt {

@@ -41,7 +41,13 @@ fn line(lo: i32, hi: i32) -> Cell<1>
 #[test]
 fn three_leaves(rt: HostRuntime) -> Result<(), Fail> {
     let cells = [line(5, 7), line(7, 7), line(7, 7)];
-    let index = Index::pack(rt.alloc(), line(5, 7), &[(0, 7), (0, 7)], &[12, 9, 9], &cells)?;
+    let index = Index::pack(
+        rt.alloc(),
+        line(5, 7),
+        &[(0, 7), (0, 7)],
+        &[12, 9, 9],
+        &cells,
+    )?;
     assert_eq!(rt; index.body(), THREE.as_slice());
     assert_eq!(rt; index.leaf_pages(), 1);
     Ok(())
@@ -61,7 +67,13 @@ fn one_leaf(rt: HostRuntime) -> Result<(), Fail> {
 #[test]
 fn pages_end(rt: HostRuntime) -> Result<(), Fail> {
     let cells = [line(0, 0), line(0, 0), line(0, 0), line(0, 0)];
-    let index = Index::pack(rt.alloc(), line(0, 0), &[(0, 0), (0, 0), (0, 0)], &[4064, 1, 4063, 2], &cells)?;
+    let index = Index::pack(
+        rt.alloc(),
+        line(0, 0),
+        &[(0, 0), (0, 0), (0, 0)],
+        &[4064, 1, 4063, 2],
+        &cells,
+    )?;
     assert_eq!(rt; index.body(), PAGES.as_slice());
     assert_eq!(rt; index.leaf_pages(), 3);
     Ok(())

@@ -2,33 +2,137 @@
 
 use super::*;
 use byte_cursor::Bytes;
+use std::process::Abort;
 use std::test::Fail;
 
 /// Three leaves of one dimension, of 12, 9 and 9 bytes, over the cell from 5 to 7, split at 7 twice, in each form.
-const TABLE: [u8; 42] = [
-    0x80, 0, 0, 5, 0x80, 0, 0, 7, 0, 0x80, 0, 0, 7, 0, 0x80, 0, 0, 7, 0, 0, 0, 0, 0, 0, 0, 12, 0, 0, 0, 0, 0, 12, 0, 9,
-    0, 0, 0, 0, 0, 21, 0, 9,
+pub const TABLE: [u8; 42] = [
+    0x80, 0, 0, 5, 0x80, 0, 0, 7, 0, 0x80, 0, 0, 7, 0, 0x80, 0, 0, 7, 0, 0, 0, 0, 0, 0, 0, 12, 0,
+    0, 0, 0, 0, 12, 0, 9, 0, 0, 0, 0, 0, 21, 0, 9,
 ];
-const PACKED: [u8; 20] = [
+
+pub const PACKED: [u8; 20] = [
     0x80, 0, 0, 5, 0x80, 0, 0, 7, 3, 7, 0, 21, 6, 4, 0, 12, 1, 12, 9, 9,
 ];
-const OWN: [u8; 44] = [
-    0x80, 0, 0, 5, 0x80, 0, 0, 7, 3, 7, 0, 21, 22, 4, 0, 12, 9, 12, 0x80, 0, 0, 5, 0x80, 0, 0, 7, 9, 0x80, 0, 0, 7, 0x80, 0,
-    0, 7, 9, 0x80, 0, 0, 7, 0x80, 0, 0, 7,
+
+pub const OWN: [u8; 44] = [
+    0x80, 0, 0, 5, 0x80, 0, 0, 7, 3, 7, 0, 21, 22, 4, 0, 12, 9, 12, 0x80, 0, 0, 5, 0x80, 0, 0, 7,
+    9, 0x80, 0, 0, 7, 0x80, 0, 0, 7, 9, 0x80, 0, 0, 7, 0x80, 0, 0, 7,
+];
+
+/// The form, the number of leaves and bytes that are no index of them: the first leaf's cell outside its path cell; a shared
+/// prefix that is not the greatest; another length of a left child; a byte behind the last field; another offset; a split outside
+/// the cell; another place in the table; another number of leaves.
+const REFUSED: [(u8, u32, &[u8]); 9] = [
+    (
+        3,
+        3,
+        &[
+            0x80, 0, 0, 5, 0x80, 0, 0, 7, 3, 7, 0, 21, 22, 4, 0, 12, 9, 12, 0x80, 0, 0, 4, 0x80, 0,
+            0, 7, 9, 0x80, 0, 0, 7, 0x80, 0, 0, 7, 9, 0x80, 0, 0, 7, 0x80, 0, 0, 7,
+        ],
+    ),
+    (
+        2,
+        3,
+        &[
+            0x80, 0, 0, 5, 0x80, 0, 0, 7, 2, 0, 7, 0, 21, 6, 4, 0, 12, 1, 12, 9, 9,
+        ],
+    ),
+    (
+        2,
+        3,
+        &[
+            0x80, 0, 0, 5, 0x80, 0, 0, 7, 3, 7, 0, 21, 5, 4, 0, 12, 1, 12, 9, 9,
+        ],
+    ),
+    (
+        2,
+        3,
+        &[
+            0x80, 0, 0, 5, 0x80, 0, 0, 7, 3, 7, 0, 21, 6, 4, 0, 12, 1, 12, 9, 9, 0,
+        ],
+    ),
+    (
+        2,
+        3,
+        &[
+            0x80, 0, 0, 5, 0x80, 0, 0, 7, 3, 7, 0, 20, 6, 4, 0, 12, 1, 12, 9, 9,
+        ],
+    ),
+    (
+        2,
+        3,
+        &[
+            0x80, 0, 0, 5, 0x80, 0, 0, 7, 3, 8, 0, 21, 6, 3, 7, 0, 12, 1, 12, 9, 9,
+        ],
+    ),
+    (
+        1,
+        1,
+        &[0x80, 0, 0, 5, 0x80, 0, 0, 7, 0, 0, 0, 0, 0, 1, 0, 12],
+    ),
+    (2, 2, &PACKED),
+    (2, 8_388_608, &PACKED),
 ];
 
 #[test]
 fn vectors_are_read(rt: HostRuntime) -> Result<(), Fail> {
-    let table = read(&rt, 1, &TABLE)?;
-    let packed = read(&rt, 2, &PACKED)?;
-    let own = read(&rt, 3, &OWN)?;
+    let table = read(&rt, 1, 3, &TABLE)?;
+    let packed = read(&rt, 2, 3, &PACKED)?;
+    let own = read(&rt, 3, 3, &OWN)?;
     assert_eq!(rt; table.leaf_pages(), 1);
-    assert_eq!(rt; packed.leaves(), 3);
-    assert_eq!(rt; own.form(), 3);
+    assert_eq!(rt; packed.copy(rt.alloc())?.body(), PACKED.as_slice());
+    shows(&rt, &table.walk());
+    shows(&rt, &packed.walk());
+    shows(&rt, &own.walk());
     Ok(())
 }
 
-fn read(rt: &HostRuntime, form: u8, b: &[u8]) -> Result<Index<1>, Fail> {
+#[test]
+fn others_are_refused(rt: HostRuntime) -> Result<(), Fail> {
+    for (form, leaves, b) in REFUSED {
+        assert!(rt; !is_read(&rt, form, leaves, b)?, "{b:?}");
+    }
+    for n in 0..OWN.len() {
+        assert!(rt; !is_read(&rt, 3, 3, &OWN[..n])?, "{n} bytes");
+    }
+    Ok(())
+}
+
+fn read(rt: &HostRuntime, form: u8, leaves: u32, b: &[u8]) -> Result<Index<1>, Fail> {
     let bytes = Bytes::new(b.to_vec(rt.alloc())?);
-    Ok(Index::<1>::read(form, 3, bytes)?)
+    Ok(Index::<1>::read(form, leaves, bytes)?)
+}
+
+fn is_read(rt: &HostRuntime, form: u8, leaves: u32, b: &[u8]) -> Result<bool, Fail> {
+    let bytes = Bytes::new(b.to_vec(rt.alloc())?);
+    Ok(Index::<1>::read(form, leaves, bytes).is_ok())
+}
+
+/// The last leaf of the three stands at 21, and its cell begins at 7; the one before it stands at 12, and its cell is that value alone.
+fn shows(rt: &impl Abort, root: &NodeAt<'_, 1>) {
+    assert_eq!(rt; root.leaf_count(), 3);
+    let Some((left, last)) = root.children() else {
+        return assert!(rt; false, "no children");
+    };
+    assert_eq!(rt; last.first_leaf(), 2);
+    assert_eq!(rt; last.cell().lo.c, [7]);
+    stands(rt, &last, 21);
+    let Some((_, middle)) = left.children() else {
+        return assert!(rt; false, "no children");
+    };
+    assert_eq!(rt; middle.cell().lo.c, [7]);
+    assert_eq!(rt; left.cell().lo.c, [5]);
+    assert_eq!(rt; middle.cell().hi.c, [7]);
+    stands(rt, &middle, 12);
+}
+
+fn stands(rt: &impl Abort, leaf: &NodeAt<'_, 1>, offset: u16) {
+    let place = LeafPlace {
+        page: 0,
+        offset,
+        length: 9,
+    };
+    assert_eq!(rt; leaf.leaf_place(), Some(place));
 }

@@ -136,3 +136,39 @@ fn read(rt: HostRuntime) -> Result<(), Fail> {
     assert_eq!(rt; shown(&plain, [0, 0], [9, 90], 5), (0, 0));
     Ok(())
 }
+
+/// How many of the byte strings that differ from the leaf in one byte are a leaf of as many entries. No other answer than
+/// that or none is given.
+fn leaves_one_byte_off<const D: usize>(
+    rt: HostRuntime,
+    leaf: &[u8],
+    count: u16,
+) -> Result<u32, Fail>
+    requires { (1 ≤ D) × (D ≤ 8) }
+{
+    let mut found = 0u32;
+    for at in 0..leaf.len() {
+        let mut bytes = leaf.to_vec(rt.alloc())?;
+        for byte in 0..=255 {
+            bytes[at] = byte;
+            let (entries, _) = shown(bytes.as_slice(), [i32::MIN; D], [i32::MAX; D], count);
+            found = found.saturating_add(u32::from(entries == count && byte != leaf[at]));
+        }
+    }
+    Ok(found)
+}
+
+const PLAIN: [u8; 12] = [0, 2, 0, 0, 3, 0x80, 0, 0, 0, 0, 5, 7];
+
+const PIECES: [u8; 29] = [
+    0, 5, 1, 3, 0, 1, 6, 2, 5, 3, 3, 0x80, 0, 0, 0x80, 0, 0, 0, 1, 2, 1, 2, 2, 1, 0x14, 0x1e, 0x0a,
+    0x32, 0x28,
+];
+
+/// The counts come from a reader and a writer of leaves in another language.
+#[test]
+fn one_byte_changed(rt: HostRuntime) -> Result<(), Fail> {
+    assert_eq!(rt; leaves_one_byte_off::<1>(rt, &PLAIN, 2)?, 1147);
+    assert_eq!(rt; leaves_one_byte_off::<2>(rt, &PIECES, 5)?, 3701);
+    Ok(())
+}

@@ -135,3 +135,19 @@ fn greatest_base(rt: HostRuntime) -> Result<(), Fail> {
     }
     Ok(())
 }
+
+/// Of all bytes that differ from the body in one byte, as many are a body as a reader in another language finds.
+#[test]
+fn one_byte_changed(rt: HostRuntime) -> Result<(), Fail> {
+    let mut found = 0u32;
+    for at in 0..BODY.len() {
+        for byte in 0..=255 {
+            let mut bytes = BODY;
+            bytes[at] = byte;
+            let live = live_in(&rt, &bytes)?;
+            found = found.saturating_add(u32::from(live == Some(3) && bytes != BODY));
+        }
+    }
+    assert_eq!(rt; found, 800);
+    Ok(())
+}

@@ -48,14 +48,13 @@ fn pages(rt: HostRuntime) {
 #[test]
 fn changed(rt: HostRuntime) {
     let mut page = seal(1, 2, 3, b"some payload");
-    for at in [0, 11, 12, 4063, 4064, 4095] {
-        assert!(rt; at < PAGE_LEN);
+    for at in 0..PAGE_LEN {
         page.b[at] ^= 0x10;
         assert!(rt;
             PageView::check(1, 2, 3, &page).is_none(),
             "byte {at} changed"
         );
         page.b[at] ^= 0x10;
-        assert!(rt; PageView::check(1, 2, 3, &page).is_some());
     }
+    assert!(rt; PageView::check(1, 2, 3, &page).is_some());
 }

@@ -6,3 +6,9 @@ pub mod LiveLemmas
 pub mod FirstPayloads
 pub mod LiveReads
 pub mod Unique
+pub mod HeadReads
+pub mod Subtrees
+pub mod Entries
+pub mod Paged
+pub mod Laid
+pub mod LaidTree

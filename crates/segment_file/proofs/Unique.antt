@@ -7,7 +7,7 @@ use Rattle.inner_pack.specs.Trees.{IndexTree, Leaf, Split, leaf_count}
 use Rattle.inner_pack.specs.Bodies.{Body, right_begin, pages_of}
 use Rattle.page_cache.specs.FilePages.{page_at, payloads_of}
 use Rattle.page_cache.specs.Bodies.{pages_for, filled}
-use Rattle.segment_file.specs.Heads.{Head, Fields, HasRanges, fields_of, fields_bytes, leaves_for, index_pages, page_of, count_of}
+use Rattle.segment_file.specs.Heads.{Head, Fields, AreFields, HasRanges, fields_of, fields_bytes, leaves_for, index_pages, page_of, count_of}
 use Rattle.segment_file.specs.Segments.{part_of, SpellsHead, IsHeadOf, HoldsLeaf, HoldsTree, IsSegment}
 use Rattle.segment_file.proofs.Lists.{bodies_equal}
 use Rattle.segment_file.specs.FieldsSeen.{AreNarrow}
@@ -15,8 +15,8 @@ use Rattle.segment_file.proofs.FieldBytes.{AreSame, narrow_fields, fields_unique
 
 -- ---- the head
 
-pub narrow_head : (D : ℕ) (head : Head) (said : ℕ) → HasRanges D head → said < 2 ^ 32 → AreNarrow (fields_of D head said)
-narrow_head D head said h fits = narrow_fields (fields_of D head said) (record {
+pub head_fields : (D : ℕ) (head : Head) (said : ℕ) → HasRanges D head → said < 2 ^ 32 → AreFields (fields_of D head said)
+head_fields D head said h fits = record {
   some_dims = h.some_dims;
   few_dims = h.few_dims;
   least_form = h.least_form;
@@ -28,7 +28,10 @@ narrow_head D head said h fits = narrow_fields (fields_of D head said) (record {
   leaves_are = h.leaves_are;
   short = h.short;
   pages_fit = fits;
-})
+}
+
+pub narrow_head : (D : ℕ) (head : Head) (said : ℕ) → HasRanges D head → said < 2 ^ 32 → AreNarrow (fields_of D head said)
+narrow_head D head said h fits = narrow_fields (fields_of D head said) (head_fields D head said h fits)
 
 same_heads : (g h : Head) → g.id ≡ h.id → g.entries ≡ h.entries → g.leaf ≡ h.leaf → g.index.form ≡ h.index.form → g.index.leaves ≡ h.index.leaves → g.index.bytes ≡ h.index.bytes → g ≡ h
 same_heads g h a b c d e f = λ i. record { id = a i; entries = b i; leaf = c i; index = record { form = d i; leaves = e i; bytes = f i } }

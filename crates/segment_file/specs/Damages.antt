@@ -103,6 +103,17 @@ IsBodyDamage name payloads (Unequal file said found) = ⊥
 IsBodyDamage name payloads (Beyond doc next) = ⊥
 IsBodyDamage name payloads (Doubled doc) = ⊥
 
+-- the damage is that these two numbers of the file differ
+abbrev pub IsPairDamage : FileName → (said found : ℕ) → Damage → Type 0
+IsPairDamage name m n (Unequal file said found) = (file ≡ name) × (said ≡ m) × (found ≡ n)
+IsPairDamage name m n (Body file bytes) = ⊥
+IsPairDamage name m n (Page file number bytes) = ⊥
+IsPairDamage name m n (Leaf file number offset len bytes) = ⊥
+IsPairDamage name m n (Missing file) = ⊥
+IsPairDamage name m n (Size file size needed) = ⊥
+IsPairDamage name m n (Beyond doc next) = ⊥
+IsPairDamage name m n (Doubled doc) = ⊥
+
 -- ---- live bits
 
 -- no set's body begins with these payloads

@@ -5,3 +5,5 @@ pub mod LiveFiles
 pub mod Damages
 pub mod Kept
 pub mod FieldsSeen
+pub mod Gathers
+pub mod Pieced

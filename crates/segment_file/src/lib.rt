@@ -14,6 +14,7 @@ mod leaf;
 mod live;
 mod open;
 mod payloads;
+mod pieces;
 mod read;
 mod write;
 

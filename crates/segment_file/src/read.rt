@@ -1,21 +1,27 @@
 //! All live entries of a segment.
 
-ghost use Rattle.std.specs.Prelude.{◌≡◌, ◌≤◌, ◌+◌, ◌⊎◌, ℕ, List, filter, IsTrue, IfOk};
+ghost use Rattle.std.specs.Prelude.{◌≡◌, ◌≤◌, ◌+◌, ◌⊎◌, ◌++◌, ◌∷◌, ◌<◌, ℕ, List, [], Some, length, slice_get, filter, IsTrue, IfOk, OnOk};
 ghost use Rattle.outer_io.specs.Files.{bytes_of};
 ghost use Rattle.outer_io.specs.declared.file_name.FileName.TheVariants.{Segment};
 ghost use Rattle.point_codec.specs.Points.{Item, Region};
 ghost use Rattle.point_codec.specs.Seen.{items_of};
 ghost use Rattle.live_bits.specs.LiveSet.{is_live};
-ghost use Rattle.inner_pack.specs.Places.{front};
-ghost use Rattle.inner_pack.specs.Trees.{IndexTree};
+ghost use Rattle.inner_pack.specs.Places.{Spot, front};
+ghost use Rattle.inner_pack.specs.Nodes.{IsAt};
+ghost use Rattle.inner_pack.specs.Trees.{IndexTree, leaf_count};
 ghost use Rattle.inner_pack.specs.Bodies.{HasTree};
 ghost use Rattle.page_cache.specs.Cache.{KeepsFile, Agrees};
 ghost use Rattle.page_cache.specs.Causes.{HasPageCause};
 ghost use Rattle.page_cache.specs.Evidence.{OnDamage, NotDamaged};
-ghost use Rattle.segment_file.specs.Segments.{IsHeadOf, IsSegment};
+ghost use Rattle.segment_file.specs.Segments.{HoldsTree, IsHeadOf, IsSegment};
+ghost use Rattle.segment_file.specs.Gathers.{Gathers};
 ghost use Rattle.segment_file.specs.Damages.{IsLeafDamage, IsLeafDamageOf};
 
 use crate::head::SegmentHead;
+use crate::leaf::{bad_leaf, leaf_in, load_leaf};
+use byte_cursor::Memory;
+use inner_pack::NodeAt;
+use leaf_codec::LeafView;
 use live_bits::LiveBits;
 use outer_io::Pages;
 use page_cache::{PageCache, PageFault};
@@ -46,5 +52,106 @@ pub fn read_entries<const D: usize, F: Pages>(
     ensures whole { IsTrue F.told → Agrees (F.files folder.old) cache.old → (items : List Item) → IsSegment D (bytes_of (F.files folder.old (Segment head.now.id))) head.now items
         → NotDamaged result }
 {
-    Err(PageFault::Memory)
+    let mut entries = Vec::new(alloc);
+    let root = head.index().walk();
+    gather(alloc, folder, cache, head, live, &root, &mut entries)?;
+    Ok(entries)
+}
+
+/// Appends the live entries of all leaves at or below the node.
+fn gather<const D: usize, F: Pages>(
+    alloc: Global,
+    folder: &mut F,
+    cache: &mut PageCache,
+    head: &SegmentHead<D>,
+    live: &LiveBits,
+    node: &NodeAt<'_, D>,
+    entries: &mut Vec<Entry<D>>,
+) -> Result<(), PageFault>
+    ensures files { IsTrue F.told → F.files folder.new ≡ F.files folder.old }
+    ensures reads { (first : ℕ) (s : Spot) (path : Region) (t : IndexTree) → IsAt node.now first s path t → F.reads folder.new ≤ F.reads folder.old + leaf_count t }
+    ensures cause { HasPageCause (F.faults folder.old) (F.faults folder.new) result }
+    ensures others { (i : ℕ) → KeepsFile cache.new i → KeepsFile cache.old i ⊎ (i ≡ head.now.id) }
+    ensures agrees { IsTrue F.told → Agrees (F.files folder.old) cache.old → Agrees (F.files folder.old) cache.new }
+    ensures gathers { IsTrue F.told → Agrees (F.files folder.old) cache.old → (first : ℕ) (s : Spot) (path : Region) (t : IndexTree) → IsAt node.now first s path t
+        → OnOk result (Gathers D (bytes_of (F.files folder.old (Segment head.now.id))) head.now first s t live.now (items_of entries.old.items) (items_of entries.new.items)) }
+    ensures shown { (first : ℕ) (s : Spot) (path : Region) (t : IndexTree) → IsAt node.now first s path t → OnDamage result (IsLeafDamage D head.now first s t) }
+    ensures damage { IsTrue F.told → Agrees (F.files folder.old) cache.old → OnDamage result (IsLeafDamageOf (F.files folder.old)) }
+    ensures whole { IsTrue F.told → Agrees (F.files folder.old) cache.old → (first : ℕ) (s : Spot) (path : Region) (t : IndexTree) → IsAt node.now first s path t
+        → (items : List Item) → HoldsTree D (bytes_of (F.files folder.old (Segment head.now.id))) head.now first s t items → NotDamaged result }
+{
+    match node.children() {
+        Some((left, right)) => {
+            gather(alloc, folder, cache, head, live, &left, entries)?;
+            gather(alloc, folder, cache, head, live, &right, entries)
+        }
+        None => gather_leaf(alloc, folder, cache, head, live, node, entries),
+    }
+}
+
+/// Appends the live entries of a leaf.
+fn gather_leaf<const D: usize, F: Pages>(
+    alloc: Global,
+    folder: &mut F,
+    cache: &mut PageCache,
+    head: &SegmentHead<D>,
+    live: &LiveBits,
+    node: &NodeAt<'_, D>,
+    entries: &mut Vec<Entry<D>>,
+) -> Result<(), PageFault>
+    requires { node.now.leaves ≡ 1 }
+    ensures files { IsTrue F.told → F.files folder.new ≡ F.files folder.old }
+    ensures reads { (first : ℕ) (s : Spot) (path : Region) (t : IndexTree) → IsAt node.now first s path t → F.reads folder.new ≤ F.reads folder.old + leaf_count t }
+    ensures cause { HasPageCause (F.faults folder.old) (F.faults folder.new) result }
+    ensures others { (i : ℕ) → KeepsFile cache.new i → KeepsFile cache.old i ⊎ (i ≡ head.now.id) }
+    ensures agrees { IsTrue F.told → Agrees (F.files folder.old) cache.old → Agrees (F.files folder.old) cache.new }
+    ensures gathers { IsTrue F.told → Agrees (F.files folder.old) cache.old → (first : ℕ) (s : Spot) (path : Region) (t : IndexTree) → IsAt node.now first s path t
+        → OnOk result (Gathers D (bytes_of (F.files folder.old (Segment head.now.id))) head.now first s t live.now (items_of entries.old.items) (items_of entries.new.items)) }
+    ensures shown { (first : ℕ) (s : Spot) (path : Region) (t : IndexTree) → IsAt node.now first s path t → OnDamage result (IsLeafDamage D head.now first s t) }
+    ensures damage { IsTrue F.told → Agrees (F.files folder.old) cache.old → OnDamage result (IsLeafDamageOf (F.files folder.old)) }
+    ensures whole { IsTrue F.told → Agrees (F.files folder.old) cache.old → (first : ℕ) (s : Spot) (path : Region) (t : IndexTree) → IsAt node.now first s path t
+        → (items : List Item) → HoldsTree D (bytes_of (F.files folder.old (Segment head.now.id))) head.now first s t items → NotDamaged result }
+{
+    let place = load_leaf(alloc, folder, cache, head, node)?;
+    let Some(view) = leaf_in(cache, head, node, place) else {
+        return Err(bad_leaf(cache, head, node, place));
+    };
+    push_live(&view, live, entries)?;
+    Ok(())
+}
+
+/// Appends those of the leaf's entries that are live.
+fn push_live<const D: usize>(
+    view: &LeafView<'_, D>,
+    live: &LiveBits,
+    entries: &mut Vec<Entry<D>>,
+) -> Result<(), Memory>
+    ensures { OnOk result (items_of entries.new.items ≡ items_of entries.old.items ++ filter (λ x. is_live live.now x.doc) view.now) }
+{
+    for i in 0..view.count() {
+        push_if_live(view, i, live, entries)?;
+    }
+    Ok(())
+}
+
+/// Appends entry `i` of the leaf where it is live.
+fn push_if_live<const D: usize>(
+    view: &LeafView<'_, D>,
+    i: u16,
+    live: &LiveBits,
+    entries: &mut Vec<Entry<D>>,
+) -> Result<(), Memory>
+    requires { i < length view.now }
+    ensures { (x : Item) → slice_get view.now i ≡ Some x
+        → OnOk result (items_of entries.new.items ≡ items_of entries.old.items ++ filter (λ y. is_live live.now y.doc) (x ∷ [])) }
+{
+    let doc = view.doc(i);
+    if !live.is_live(doc) {
+        return Ok(());
+    }
+    entries.push(Entry {
+        doc,
+        point: view.point(i),
+    })?;
+    Ok(())
 }

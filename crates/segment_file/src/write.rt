@@ -1,14 +1,20 @@
 //! Writing a segment.
 
-ghost use Rattle.std.specs.Prelude.{◌≡◌, ℕ, List, IsTrue, IfOk, OnOk};
+ghost use Rattle.std.specs.Prelude.{◌≡◌, ◌≤◌, ◌<◌, ◌+◌, ◌^◌, ◌++◌, ◌∷◌, ℕ, List, [], All, length, IsTrue, IfOk, OnOk};
 ghost use Rattle.outer_io.specs.Files.{bytes_of, SameBut};
 ghost use Rattle.outer_io.specs.declared.file_name.FileName.TheVariants.{Segment};
 ghost use Rattle.point_codec.specs.Points.{Item};
+ghost use Rattle.page_cache.specs.Bodies.{filled};
 ghost use Rattle.page_cache.specs.Causes.{HasSegCause};
+ghost use Rattle.segment_file.specs.Heads.{fields_bytes};
+ghost use Rattle.segment_file.specs.FieldsSeen.{fields_said};
+ghost use Rattle.segment_file.specs.Pieced.{piece_id, piece_pages, so_far, IsPaged, laid};
 ghost use Rattle.segment_file.specs.Segments.{IsSegment};
 ghost use Rattle.segment_file.specs.Written.{head_of, FitsSegment, CanWrite};
 
+use crate::fields::HeadFields;
 use crate::head::SegmentHead;
+use crate::pieces::Pieces;
 use byte_cursor::Bytes;
 use inner_pack::Index;
 use outer_io::Folder;
@@ -34,5 +40,105 @@ pub fn write_segment<const D: usize, F: Folder>(
     ensures reads { F.reads folder.new ≡ F.reads folder.old }
     ensures cause { HasSegCause (F.faults folder.old) (F.faults folder.new) result }
 {
-    Err(SegFault::Memory)
+    let Ok(index_length) = u32::try_from(index.body().len()) else {
+        return Err(SegFault::Memory);
+    };
+    let fields = HeadFields {
+        dims: D as u8,
+        form: index.form(),
+        leaf,
+        entries,
+        leaves: index.leaves(),
+        index_length,
+        leaf_pages: index.leaf_pages(),
+    };
+    put_segment(alloc, folder, id, fields, index.body(), leaves)?;
+    Ok(SegmentHead {
+        id,
+        entries,
+        leaf,
+        index,
+    })
+}
+
+/// Writes the pages of a segment with these fields, this index and these leaves.
+fn put_segment<F: Folder>(
+    alloc: Global,
+    folder: &mut F,
+    id: u64,
+    fields: HeadFields,
+    index: &[u8],
+    leaves: &[Bytes],
+) -> Result<(), SegFault>
+    requires short { length index.now < 2 ^ 32 }
+    requires leaves { All (λ b. length b ≤ 4064) leaves.now }
+    requires few { length leaves.now ≤ 8388608 }
+    ensures written { IsTrue F.told → OnOk result ((count : ℕ) × IsPaged (Segment id) count
+        (filled (fields_bytes (fields_said fields)) ++ filled index.now ++ laid [] leaves.now) (bytes_of (F.files folder.new (Segment id)))) }
+    ensures others { IsTrue F.told → SameBut (Segment id) (F.files folder.old) (F.files folder.new) }
+    ensures reads { F.reads folder.new ≡ F.reads folder.old }
+    ensures cause { HasSegCause (F.faults folder.old) (F.faults folder.new) result }
+{
+    let mut pieces = Pieces::new(alloc, id)?;
+    let first = fields.write(alloc)?;
+    pieces.push(folder, first.as_slice())?;
+    pieces.push(folder, index)?;
+    put_leaves(alloc, folder, &mut pieces, leaves)?;
+    pieces.hand_over(folder)?;
+    Ok(())
+}
+
+/// Adds the leaf pages: a leaf stands behind the one before where the page has room, and else on the next page. What
+/// is left of a page is zero.
+fn put_leaves<F: Folder>(
+    alloc: Global,
+    folder: &mut F,
+    pieces: &mut Pieces,
+    leaves: &[Bytes],
+) -> Result<(), SegFault>
+    requires leaves { All (λ b. length b ≤ 4064) leaves.now }
+    requires room { piece_pages pieces.old + length leaves.now + 1 < 2 ^ 32 }
+    ensures id { piece_id pieces.new ≡ piece_id pieces.old }
+    ensures put { IsTrue F.told → OnOk result ((payloads : List ℕ)
+        → IsPaged (Segment (piece_id pieces.old)) (piece_pages pieces.old) payloads (so_far (bytes_of (F.files folder.old (Segment (piece_id pieces.old)))) pieces.old)
+        → IsPaged (Segment (piece_id pieces.old)) (piece_pages pieces.new) (payloads ++ laid [] leaves.now) (so_far (bytes_of (F.files folder.new (Segment (piece_id pieces.old)))) pieces.new)) }
+    ensures others { IsTrue F.told → SameBut (Segment (piece_id pieces.old)) (F.files folder.old) (F.files folder.new) }
+    ensures reads { F.reads folder.new ≡ F.reads folder.old }
+    ensures cause { HasSegCause (F.faults folder.old) (F.faults folder.new) result }
+{
+    let mut page = Vec::with_capacity(alloc, 4064)?;
+    for leaf in leaves {
+        make_room(folder, pieces, &mut page, leaf.as_slice())?;
+        page.extend_from_slice(leaf.as_slice())?;
+    }
+    pieces.push(folder, page.as_slice())
+}
+
+/// Adds the page and empties it, where it has no room for the leaf.
+fn make_room<F: Folder>(
+    folder: &mut F,
+    pieces: &mut Pieces,
+    page: &mut Vec<u8>,
+    leaf: &[u8],
+) -> Result<(), SegFault>
+    requires page { length page.old.items ≤ 4064 }
+    requires leaf { length leaf.now ≤ 4064 }
+    requires room { piece_pages pieces.old + 1 < 2 ^ 32 }
+    ensures id { piece_id pieces.new ≡ piece_id pieces.old }
+    ensures pages { OnOk result (piece_pages pieces.new ≤ piece_pages pieces.old + 1) }
+    ensures fits { OnOk result (length page.new.items + length leaf.now ≤ 4064) }
+    ensures put { IsTrue F.told → OnOk result ((payloads : List ℕ) (leaves : List (List ℕ))
+        → IsPaged (Segment (piece_id pieces.old)) (piece_pages pieces.old) payloads (so_far (bytes_of (F.files folder.old (Segment (piece_id pieces.old)))) pieces.old)
+        → (more : List ℕ) × IsPaged (Segment (piece_id pieces.old)) (piece_pages pieces.new) more (so_far (bytes_of (F.files folder.new (Segment (piece_id pieces.old)))) pieces.new)
+        × (payloads ++ laid page.old.items (leaf.now ∷ leaves) ≡ more ++ laid (page.new.items ++ leaf.now) leaves)) }
+    ensures others { IsTrue F.told → SameBut (Segment (piece_id pieces.old)) (F.files folder.old) (F.files folder.new) }
+    ensures reads { F.reads folder.new ≡ F.reads folder.old }
+    ensures cause { HasSegCause (F.faults folder.old) (F.faults folder.new) result }
+{
+    if page.len() + leaf.len() <= 4064 {
+        return Ok(());
+    }
+    pieces.push(folder, page.as_slice())?;
+    page.clear();
+    Ok(())
 }

@@ -1,12 +1,10 @@
-use Rattle.std.proofs.Common.{◌≡◌, ◌≤◌, ◌<◌, ◌+◌, ◌-◌, ◌/◌, ◌∙◌, ℕ, ℤ, List, refl, sym, ap, subst, arith, true≢false, slice_set, rules, to_z, of_z, to_z-of_z, FitsSigned, w32}
-use Rattle.point_codec.specs.Points.{Region}
+use Rattle.std.proofs.Common.{◌≡◌, ◌≤◌, ◌-◌, ◌/◌, ◌∙◌, ℕ, ℤ, refl, sym, ap, subst, arith, true≢false, slice_set, rules, to_z, of_z, to_z-of_z, FitsSigned, w32}
 use Rattle.point_codec.specs.Keys.{key}
 use Rattle.point_codec.specs.Cells.{left_of, right_of}
 use Rattle.point_codec.specs.Seen.{region_of}
-use Rattle.inner_pack.specs.Places.{Spot, fitted, end_of}
-use Rattle.inner_pack.specs.Trees.{Split, IsInCell, lengths_of}
+use Rattle.inner_pack.specs.Places.{Spot, fitted}
+use Rattle.inner_pack.specs.Trees.{Split, IsInCell}
 use Rattle.inner_pack.specs.Bodies.{first_length, right_begin}
-use Rattle.inner_pack.specs.Spelled.{spelled_part, told_part}
 use Rattle.inner_pack.specs.Heads.{spot_of, SaysSplit}
 use Rattle.inner_pack.proofs.PlaceLemmas.{fitted_to}
 use Rattle.inner_pack.proofs.HeadLemmas.{left_lengths, in_cell_fits}
@@ -235,4 +233,3 @@ returns-clause-only g t c t' h =
     let rspan = c.in_ok-right.ensures.only r rnode in
     let span = split_span e (spot_of c.in_ok-left.left.begin) (spot_of c.in_ok-left.left.end) (spot_of c.in_ok-right.right.end) t' sp.d sp.x l r sp.is lspan.begin lspan.end rspan.end in
     record { begin = span.0; end = span.1 }
-

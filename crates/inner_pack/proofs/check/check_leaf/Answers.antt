@@ -1,4 +1,4 @@
-use Rattle.std.proofs.Common.{◌≡◌, ◌≤◌, ◌+◌, ◌∙◌, ℕ, refl, sym, ap, arith}
+use Rattle.std.proofs.Common.{◌≡◌, ◌+◌, refl, ap, arith}
 use Rattle.point_codec.specs.Seen.{region_of}
 use Rattle.inner_pack.specs.Places.{Spot, fitted}
 use Rattle.inner_pack.specs.Trees.{Leaf}

@@ -1,4 +1,4 @@
-use Rattle.std.proofs.Common.{◌≡◌, ◌<◌, ℕ, get_or, pos, FitsSigned, w32}
+use Rattle.std.proofs.Common.{◌<◌, ℕ, get_or, pos, FitsSigned, w32}
 use Rattle.inner_pack.proofs.fields.are_coordinates.Given as goal
 
 abbrev pub invariant-loop-d : goal.invariant-loop-d

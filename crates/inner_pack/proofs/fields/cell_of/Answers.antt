@@ -1,6 +1,5 @@
-use Rattle.std.proofs.Common.{◌≡◌, ◌∙◌, ◌++◌, ℕ, ℤ, List, sym, ap, arith, length, false, true, true≢false, take-append-drop, ◌*◌}
-use Rattle.point_codec.specs.Points.{Region, all_le}
-use Rattle.point_codec.specs.Seen.{region_of}
+use Rattle.std.proofs.Common.{◌∙◌, ◌++◌, sym, ap, length, true≢false, take-append-drop, ◌*◌}
+use Rattle.point_codec.specs.Points.{all_le}
 use Rattle.inner_pack.specs.Bodies.{cell_bytes}
 use Rattle.inner_pack.proofs.CellLemmas.{cell_read, cell_joined, length-cell, some_and, some_if}
 use Rattle.inner_pack.proofs.fields.cell_of.Goals as goal
@@ -11,7 +10,7 @@ returns-then-b-clause-only g c r h e = c.if-b.true (ap length e ∙ length-cell 
 pub returns-clause-found : goal.returns-clause-found
 returns-clause-found g c =
     let whole = sym (take-append-drop (4 * g.row.D) c.args.b.now) ∙ (λ i. sym c.split_at.ensures.front i ++ sym c.split_at.ensures.back i) ∙ (λ i. sym c.point_of-lo.ensures i ++ sym c.point_of-hi.ensures i)
-        ∙ cell_joined c.point_of-lo.result.c c.point_of-hi.result.c in
+    ∙ cell_joined c.point_of-lo.result.c c.point_of-hi.result.c in
     some_if c.new.result _ _ _ c.new.ensures.cases (λ cell is. whole ∙ ap cell_bytes (sym is))
 
 pub returns-clause-only : goal.returns-clause-only

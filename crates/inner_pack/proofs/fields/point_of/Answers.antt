@@ -1,4 +1,4 @@
-use Rattle.std.proofs.Common.{◌≡◌, ◌∙◌, ◌*◌, sym, ap, take, length, take_all, arith, rules, to_z-of_z, FitsSigned, w32}
+use Rattle.std.proofs.Common.{◌∙◌, ◌*◌, sym, ap, take_all, arith, rules, to_z-of_z, FitsSigned, w32}
 use Rattle.std.specs.List.{flat_map}
 use Rattle.point_codec.specs.Keys.{key}
 use Rattle.inner_pack.proofs.CellLemmas.{key_more, four_at}

@@ -1,4 +1,4 @@
-use Rattle.std.proofs.Common.{◌≡◌, ◌∙◌, ◌-◌, ap, arith, length, length-drop, drop}
+use Rattle.std.proofs.Common.{◌∙◌, ◌-◌, ap, length-drop, drop}
 use Rattle.inner_pack.specs.Bodies.{shared}
 use Rattle.inner_pack.proofs.KeyLemmas.{key_again}
 use Rattle.inner_pack.proofs.fields.take_key.Goals as goal

@@ -1,4 +1,4 @@
-use Rattle.std.proofs.Common.{◌≡◌, ◌∙◌, ◌<◌, ◌^◌, ◌++◌, ℕ, List, sym, ap, Ok, arith, rules}
+use Rattle.std.proofs.Common.{◌≡◌, ◌∙◌, ◌<◌, ◌^◌, ◌++◌, ℕ, List, sym, ap, rules}
 use Rattle.byte_cursor.specs.Vint.{vint}
 use Rattle.byte_cursor.proofs.SpelledVints.{begins, taken}
 use Rattle.inner_pack.proofs.fields.take_vint.Goals as goal

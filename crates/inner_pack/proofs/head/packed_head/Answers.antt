@@ -1,9 +1,8 @@
-use Rattle.std.proofs.Common.{◌≡◌, ◌+◌, ◌-◌, ◌*◌, ◌/◌, ◌%◌, ◌<◌, ◌≤◌, ◌^◌, ◌∷◌, ◌++◌, ◌∙◌, ℕ, ℤ, List, refl, sym, ap, subst, arith, rules, drop, length, slice_set, slice_index_or, [], to_z, of_z, to_z-of_z, FitsSigned, w32}
+use Rattle.std.proofs.Common.{◌≡◌, ◌+◌, ◌-◌, ◌*◌, ◌/◌, ◌%◌, ◌≤◌, ◌∷◌, ◌++◌, ◌∙◌, ℕ, List, refl, sym, ap, arith, rules, drop, length, slice_set, slice_index_or, [], to_z-of_z, FitsSigned, w32}
 use Rattle.point_codec.specs.Keys.{key}
 use Rattle.byte_cursor.specs.Vint.{vint}
-use Rattle.inner_pack.specs.Places.{Spot, Placed}
 use Rattle.inner_pack.specs.Trees.{Split}
-use Rattle.inner_pack.specs.Bodies.{node_bytes, right_begin, first_length, shared}
+use Rattle.inner_pack.specs.Bodies.{node_bytes, right_begin, shared}
 use Rattle.inner_pack.proofs.SpelledLemmas.{spelled_packed, told_packed, no_places}
 use Rattle.inner_pack.proofs.HeadLemmas.{packed_node, joins_packed, key_back, key_long}
 use Rattle.inner_pack.proofs.head.packed_head.Goals as goal
@@ -238,4 +237,3 @@ returns-clause-only g c form leaves s path d x l r packed room fits h =
       right_bytes = lr.1 ∙ sym (spelled_packed form lower right r packed);
       right_places = none ∙ sym (told_packed form right r packed);
     }
-

@@ -1,7 +1,7 @@
-use Rattle.std.proofs.Common.{◌≡◌, ◌+◌, ◌-◌, ◌*◌, ◌/◌, ◌<◌, ◌≤◌, ◌^◌, ◌∷◌, ◌++◌, ◌∙◌, ℕ, ℤ, List, refl, sym, ap, subst, arith, rules, slice_set, to_z-of_z, FitsSigned, w32}
+use Rattle.std.proofs.Common.{◌≡◌, ◌∷◌, ◌++◌, ◌∙◌, ℕ, List, refl, sym, ap, arith, rules, slice_set, to_z-of_z, FitsSigned, w32}
 use Rattle.point_codec.specs.Keys.{key}
-use Rattle.inner_pack.specs.Places.{Spot, Placed}
-use Rattle.inner_pack.specs.Bodies.{cuts_table, places_table, right_begin, first_length}
+use Rattle.inner_pack.specs.Places.{Placed}
+use Rattle.inner_pack.specs.Bodies.{cuts_table, places_table, right_begin}
 use Rattle.inner_pack.proofs.SpelledLemmas.{spelled_one, told_one}
 use Rattle.inner_pack.proofs.HeadLemmas.{table_node, joins_table, key_back, key_long, first_place, tail_places}
 use Rattle.inner_pack.proofs.head.table_head.Goals as goal
@@ -75,4 +75,3 @@ returns-clause-only g c references s path d x l r room fits h =
       right_bytes = b.1 ∙ sym (spelled_one 1 (slice_set references d (key x)) (right_begin s l r) r refl);
       right_places = p.1 ∙ sym (told_one 1 (right_begin s l r) r refl);
     }
-

@@ -1,11 +1,9 @@
-use Rattle.std.proofs.Common.{◌≡◌, ◌≤◌, ◌+◌, ◌∙◌, ℕ, ℤ, List, map, sym, refl, ap, arith}
-use Rattle.point_codec.specs.Points.{Region}
+use Rattle.std.proofs.Common.{◌≡◌, ◌+◌, ◌∙◌, map, sym, refl, ap, arith}
 use Rattle.point_codec.specs.Keys.{key}
 use Rattle.point_codec.specs.Seen.{region_of}
 use Rattle.inner_pack.specs.Places.{Spot, front, fitted}
 use Rattle.inner_pack.specs.Bodies.{first_length}
 use Rattle.inner_pack.specs.Spelled.{spelled_part, told_part}
-use Rattle.inner_pack.specs.Heads.{spot_of}
 use Rattle.inner_pack.proofs.PlaceLemmas.{fitted_here, first_fits}
 use Rattle.inner_pack.proofs.NodeLemmas.{said_otherwise}
 use Rattle.inner_pack.proofs.OneTree.{root_node, with_bytes}

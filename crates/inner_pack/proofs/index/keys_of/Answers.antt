@@ -1,4 +1,4 @@
-use Rattle.std.proofs.Common.{rules, ◌≡◌, ◌<◌, ◌∙◌, length, map, take, take_all, sym, ap, arith, pos, length-set}
+use Rattle.std.proofs.Common.{rules, ◌≡◌, ◌∙◌, length, map, take_all, sym, ap, arith, pos, length-set}
 use Rattle.point_codec.specs.Keys.{key}
 use Rattle.inner_pack.proofs.PackBytes.{keys_more}
 use Rattle.inner_pack.proofs.index.keys_of.Goals as goal

@@ -1,4 +1,4 @@
-use Rattle.std.proofs.Common.{◌≡◌, ◌≤◌, ◌++◌, ◌∙◌, ℕ, List, sym, refl, arith}
+use Rattle.std.proofs.Common.{◌≤◌, ◌++◌, ◌∙◌, sym, arith}
 use Rattle.inner_pack.specs.Places.{front}
 use Rattle.inner_pack.specs.Bodies.{cuts_table, places_table}
 use Rattle.inner_pack.proofs.SpelledLemmas.{spelled_one, told_one, spelled_packed, told_packed, tree_one, tree_packed, cuts_long}

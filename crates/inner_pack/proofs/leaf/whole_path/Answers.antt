@@ -1,4 +1,4 @@
-use Rattle.std.proofs.Common.{◌≡◌, [], refl, arith, length}
+use Rattle.std.proofs.Common.{◌≡◌, refl, arith, length}
 use Rattle.std.proofs.lemmas.Grind.{common_steps}
 use Rattle.point_codec.specs.Seen.{region_of}
 use Rattle.inner_pack.proofs.CellLemmas.{none_long}

@@ -1,4 +1,4 @@
-use Rattle.std.proofs.Common.{◌≡◌, ◌≤◌, ◌∙◌, ℕ, sym, ap, arith}
+use Rattle.std.proofs.Common.{◌≡◌, ◌≤◌, ◌∙◌, sym, ap, arith}
 use Rattle.std.proofs.lemmas.Grind.{not_there}
 use Rattle.point_codec.specs.Seen.{region_of}
 use Rattle.inner_pack.specs.Trees.{cell_of}

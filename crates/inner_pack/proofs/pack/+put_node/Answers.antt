@@ -1,4 +1,4 @@
-use Rattle.std.proofs.Common.{rules, ◌≡◌, ◌≤◌, ◌<◌, ◌+◌, ◌-◌, ◌/◌, ◌*◌, ℕ, List, length, take, drop, get_or, set, refl, ap, arith, ℤ, pos, to_z, of_z, w32}
+use Rattle.std.proofs.Common.{rules, ◌-◌, ℕ, List, get_or, set, refl, ap, arith, pos, to_z, of_z, w32}
 use Rattle.inner_pack.proofs.PackParts.{nowhere, leaf_written, node_written}
 use Rattle.inner_pack.proofs.pack.+put_node.Goals as goal
 

@@ -1,6 +1,5 @@
-use Rattle.std.proofs.Common.{rules, ◌≡◌, ◌∙◌, ℕ, List, [], ◌++◌, reverse, map, ap, refl}
+use Rattle.std.proofs.Common.{rules, ◌∙◌, ℕ, List, ◌++◌, reverse, ap}
 use Rattle.point_codec.specs.Seen.{region_of}
-use Rattle.point_codec.specs.Keys.{key}
 use Rattle.inner_pack.specs.Places.{front}
 use Rattle.inner_pack.specs.Bodies.{node_bytes}
 use Rattle.inner_pack.proofs.PackWhole.{body_turned}

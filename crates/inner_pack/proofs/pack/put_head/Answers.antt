@@ -1,7 +1,6 @@
-use Rattle.std.proofs.Common.{◌≡◌, ◌+◌, ◌-◌, ◌*◌, ◌<◌, ◌^◌, ℕ, List, [], ◌∷◌, ◌++◌, length, take, drop, get_or, refl, sym, ap, ◌∙◌, arith, rules}
+use Rattle.std.proofs.Common.{◌≡◌, ◌+◌, ◌*◌, ℕ, List, [], ◌∷◌, ◌++◌, get_or, refl, ap, ◌∙◌, arith, rules}
 use Rattle.point_codec.specs.Keys.{key}
 use Rattle.inner_pack.specs.Bodies.{shared, head_bytes}
-use Rattle.inner_pack.specs.Packs.{AppendsTurned}
 use Rattle.inner_pack.proofs.PackBytes.{turned, length-turned, head_joined, length-head, key_rest, length-key, vint_appended, shared_key}
 use Rattle.inner_pack.proofs.pack.put_head.Goals as goal
 

@@ -1,4 +1,4 @@
-use Rattle.std.proofs.Common.{◌≡◌, ◌+◌, ◌<◌, ◌^◌, ℕ, List, ◌++◌, length, refl, sym, ap, ◌∙◌, arith, rules, length-append}
+use Rattle.std.proofs.Common.{arith, rules}
 use Rattle.point_codec.specs.Seen.{region_of}
 use Rattle.byte_cursor.specs.Vint.{vint}
 use Rattle.byte_cursor.proofs.SpelledVints.{length-vint}
@@ -22,7 +22,7 @@ returns-clause-room g c =
     let longer = length-turned c.args.out.now.items c.turn.new.out.items (leaf_bytes 3 c.args.size own) (returns-clause-spelled g c) in
     let short = length-leaf c.args.size own (omega arith) in
     let written = grown c.args.out.now.items c.put_vint.new.out.items (vint c.args.size)
-        (vint_appended c.args.out.now.items c.put_vint.new.out.items c.from.result c.args.size (search rules) (omega arith) c.in_ok-put_vint.ensures.ok) in
+    (vint_appended c.args.out.now.items c.put_vint.new.out.items c.from.result c.args.size (search rules) (omega arith) c.in_ok-put_vint.ensures.ok) in
     let cell = grown c.put_vint.new.out.items c.put_cell.new.out.items (cell_bytes own) c.in_ok-put_cell.ensures.spelled in
     omega (arith, c.in_ok-put_cell.ensures.room)
 

@@ -24,7 +24,7 @@ part g c = c.part_of-part.ensures ∙ ap (λ (x : List ℕ). take c.args.place.l
 
 count : (g : given.Over) (c : goal.After-read g) (first : ℕ) (s : Spot) (path : Region) (len : ℕ) (own : Region)
     → IsAt {D = g.row.D} c.args.node.now first s path (Leaf len own) → c.count_of.result ≡ count_of c.args.head.now first
-count g c first s path len own at = c.count_of.ensures ∙ ap (λ (n : ℕ). count_of c.args.head.now n) (c.first_leaf.ensures first s path (Leaf len own) at)
+count g c first s path len own at = c.count_of.ensures ∙ ap (λ (n : ℕ). count_of c.args.head.now n) (c.first_leaf.ensures.number first s path (Leaf len own) at)
 
 of_file : (g : given.Over) (c : goal.After-read g) (files : Files) → Rattle.page_cache.specs.Cache.Agrees files c.args.cache.now
     → c.view-page.result.bytes.now.b ≡ page_at (bytes_of (files (Segment c.args.head.now.id))) (page_of c.args.head.now c.args.place.page)

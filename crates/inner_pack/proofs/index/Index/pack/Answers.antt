@@ -1,4 +1,4 @@
-use Rattle.std.proofs.Common.{rules, arith, ◌≡◌, ◌≤◌, ◌∙◌, ℕ, length, map, refl, sym, ap, subst}
+use Rattle.std.proofs.Common.{rules, arith, ◌≡◌, ◌∙◌, length, map, refl, sym, ap, subst}
 use Rattle.point_codec.specs.Seen.{region_of}
 use Rattle.inner_pack.specs.Bodies.{Body, HasTree, IsSpelled}
 use Rattle.inner_pack.specs.Packs.{placed_of}

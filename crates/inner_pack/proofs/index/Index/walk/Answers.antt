@@ -1,11 +1,11 @@
-use Rattle.std.proofs.Common.{◌≡◌, ◌≤◌, ◌*◌, ◌+◌, ◌∙◌, ℕ, ℤ, List, [], length, map, drop, sym, refl, ap, subst, arith, rules}
+use Rattle.std.proofs.Common.{◌≡◌, ◌*◌, ◌∙◌, [], length, map, drop, sym, ap, subst, arith, rules}
 use Rattle.std.proofs.Props.{props}
 use Rattle.std.proofs.Math.Logic.{∥∥₁_elim, ∥∥₁_prop}
 use Rattle.std.proofs.lemmas.Grind.{merely, not_there}
 use Rattle.point_codec.specs.Points.{Region}
 use Rattle.point_codec.specs.Keys.{key}
 use Rattle.point_codec.specs.Seen.{region_of}
-use Rattle.inner_pack.specs.Places.{Spot, front}
+use Rattle.inner_pack.specs.Places.{front}
 use Rattle.inner_pack.specs.Bodies.{Body, HasTree, SpellsIndex}
 use Rattle.inner_pack.specs.Nodes.{IsAt}
 use Rattle.inner_pack.specs.Spelled.{IsSomeTree}
@@ -61,4 +61,4 @@ returns g c other t h =
     let same : root ≡ other = ∥∥₁_elim i.valid (hlevel props) (λ v. (one_index D i.form i.leaves i.bytes.items root other v.tree t v.spelled here).0) in
     let mine : SpellsIndex D i.form i.leaves i.bytes.items root t = subst (λ (r : Region). SpellsIndex D i.form i.leaves i.bytes.items r t) (sym same) here in
     let parts = c.in-Some.ensures.only (map key root.lo) t mine.tree.shaped (rest ∙ after_cell D i.form i.leaves i.bytes.items root t mine) in
-    subst (λ (r : Region). IsAt c.new.result 0 front r t) same (c.new.ensures t (root_at D i.form i.leaves i.bytes.items [] root t c.keys_of.result c.in-Some.part.bytes.now c.in-Some.part.places.now mine keys parts.0 parts.1))
+    subst (λ (r : Region). IsAt c.new.result 0 front r t) same (c.new.ensures.at t (root_at D i.form i.leaves i.bytes.items [] root t c.keys_of.result c.in-Some.part.bytes.now c.in-Some.part.places.now mine keys parts.0 parts.1))

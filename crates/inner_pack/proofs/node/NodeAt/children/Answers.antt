@@ -1,13 +1,12 @@
-use Rattle.std.proofs.Common.{◌≡◌, ◌≤◌, ◌+◌, ◌-◌, ◌/◌, ◌∙◌, ℕ, ℤ, sym, refl, ap, subst, arith, rules, to_z, of_z, to_z-of_z, FitsSigned, w32}
+use Rattle.std.proofs.Common.{◌≡◌, ◌+◌, ◌-◌, ◌/◌, ◌∙◌, sym, ap, rules, to_z, of_z, to_z-of_z, FitsSigned, w32}
 use Rattle.std.proofs.Math.Logic.{∥∥₁_elim, ∥∥₁_prop}
 use Rattle.std.proofs.lemmas.Grind.{merely}
-use Rattle.point_codec.specs.Points.{Region}
 use Rattle.point_codec.specs.Cells.{left_of, right_of}
 use Rattle.point_codec.specs.Seen.{region_of}
-use Rattle.inner_pack.specs.Places.{Spot, spot_at}
-use Rattle.inner_pack.specs.Trees.{IndexTree, cell_of, leaf_count}
+use Rattle.inner_pack.specs.Places.{spot_at}
+use Rattle.inner_pack.specs.Trees.{cell_of, leaf_count}
 use Rattle.inner_pack.specs.Bodies.{right_begin}
-use Rattle.inner_pack.specs.Spelled.{IsNodeOf, IsSomeTree}
+use Rattle.inner_pack.specs.Spelled.{IsSomeTree}
 use Rattle.inner_pack.proofs.PlaceLemmas.{count_shaped}
 use Rattle.inner_pack.proofs.Walking.{as_inner, begins_at, left_child, right_child, right_spot, at_otherwise}
 use Rattle.inner_pack.proofs.node.NodeAt.children.Goals as goal
@@ -81,6 +80,6 @@ returns-clause-some g c first s path t h =
       l = y.l;
       r = y.r;
       is = y.is;
-      left_is = at_otherwise c.new-left.result N.first first s0 s lp (left_of path y.dimension y.value) y.l (sym h.first_is) same lto (c.new-left.ensures y.l (left_child D N.form N.leaves s0 cell N.references N.bytes.now N.places.now y.dimension y.value y.l y.r head lp moved node y.says lpath c.with_key-references.ensures));
-      right_is = at_otherwise c.new-right.result (N.first + (N.leaves - N.leaves / 2)) (first + leaf_count y.l) (spot_at (N.page + head.pages) head.offset) (right_begin s y.l y.r) rp (right_of path y.dimension y.value) y.r count begin rto (c.new-right.ensures y.r (right_child D N.form N.leaves s0 cell N.references N.bytes.now N.places.now y.dimension y.value y.l y.r head rp moved node y.says rpath c.with_key-references.ensures));
+      left_is = at_otherwise c.new-left.result N.first first s0 s lp (left_of path y.dimension y.value) y.l (sym h.first_is) same lto (c.new-left.ensures.at y.l (left_child D N.form N.leaves s0 cell N.references N.bytes.now N.places.now y.dimension y.value y.l y.r head lp moved node y.says lpath c.with_key-references.ensures));
+      right_is = at_otherwise c.new-right.result (N.first + (N.leaves - N.leaves / 2)) (first + leaf_count y.l) (spot_at (N.page + head.pages) head.offset) (right_begin s y.l y.r) rp (right_of path y.dimension y.value) y.r count begin rto (c.new-right.ensures.at y.r (right_child D N.form N.leaves s0 cell N.references N.bytes.now N.places.now y.dimension y.value y.l y.r head rp moved node y.says rpath c.with_key-references.ensures));
     }

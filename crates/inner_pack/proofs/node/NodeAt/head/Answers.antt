@@ -1,10 +1,10 @@
-use Rattle.std.proofs.Common.{◌≡◌, ◌≤◌, ◌-◌, ◌/◌, ◌∙◌, ℕ, sym, ap, arith, inl, inr}
+use Rattle.std.proofs.Common.{◌≤◌, ◌-◌, ◌/◌, arith, inl, inr}
 use Rattle.std.proofs.Props.{props}
 use Rattle.std.proofs.Math.Logic.{∥∥₁_elim}
 use Rattle.std.proofs.lemmas.Bool.{cases_lt}
 use Rattle.std.proofs.lemmas.Grind.{not_there}
 use Rattle.point_codec.specs.Seen.{region_of}
-use Rattle.inner_pack.specs.Places.{Spot, spot_at}
+use Rattle.inner_pack.specs.Places.{spot_at}
 use Rattle.inner_pack.proofs.Walking.{opened, in_cell_said, pages_said}
 use Rattle.inner_pack.proofs.node.NodeAt.head.Goals as goal
 

@@ -1,6 +1,6 @@
-use Rattle.std.proofs.Common.{◌≡◌, ◌≤◌, ◌+◌, ◌∙◌, ℕ, [], sym, ap, arith, append-nil, cond, eqb}
+use Rattle.std.proofs.Common.{◌≤◌, ◌∙◌, [], sym, ap, arith, append-nil, cond, eqb}
 use Rattle.std.proofs.lemmas.Grind.{not_there}
-use Rattle.inner_pack.specs.Places.{Spot, Placed, spot_at, fitted}
+use Rattle.inner_pack.specs.Places.{Placed, spot_at, fitted}
 use Rattle.inner_pack.specs.Trees.{Leaf}
 use Rattle.inner_pack.specs.Bodies.{place_bytes, cell_bytes, first_length}
 use Rattle.inner_pack.proofs.PlaceLemmas.{fitted_to, fitted_fits}

@@ -1,4 +1,4 @@
-use Rattle.std.proofs.Common.{◌≡◌, ℕ, refl, rules}
+use Rattle.std.proofs.Common.{refl, rules}
 use Rattle.std.proofs.Math.Logic.{∥∥₁_elim, ∥∥₁_prop}
 use Rattle.std.proofs.lemmas.Grind.{merely}
 use Rattle.point_codec.specs.Seen.{region_of}
@@ -21,8 +21,8 @@ invariant_of-result-clause-some g c =
       is = q.is;
     }))
 
-pub returns : goal.returns
-returns g c t h = record {
+pub returns-clause-at : goal.returns-clause-at
+returns-clause-at g c t h = record {
   first_is = refl;
   page_is = refl;
   offset_is = refl;

@@ -1,4 +1,4 @@
-use Rattle.std.proofs.Common.{rules, arith, ℕ, ◌-◌, ◌/◌, ◌<◌, ◌≤◌, length, take, drop, ℤ}
+use Rattle.std.proofs.Common.{arith, ℕ, ◌-◌, ◌/◌, ◌<◌, ◌≤◌, length, drop, ℤ}
 use Rattle.std.proofs.lemmas.List.Elements.{All-take, All-drop}
 use Rattle.inner_pack.specs.declared.place.LeafPlace.{LeafPlace}
 use Rattle.inner_pack.proofs.PackParts.{left_counts}

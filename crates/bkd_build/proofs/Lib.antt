@@ -1,0 +1,15 @@
+pub mod Samples
+pub mod CutLemmas
+pub mod Parting
+pub mod CutEntries
+pub mod ExtentLemmas
+pub mod Sides
+pub mod Ascending
+pub mod OneTree
+pub mod Counts
+pub mod Nodes
+pub mod Shapes
+pub mod Fits
+pub mod Whole
+pub mod Leaves
+pub mod Numbered

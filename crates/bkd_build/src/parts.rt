@@ -1,0 +1,110 @@
+//! What the build of a subtree gives, and how a leaf and two halves come to it.
+
+ghost use Rattle.std.specs.Prelude.{◌≡◌, ◌≤◌, ◌<◌, ◌^◌, ℕ, length, All, OnOk, IfOk, map};
+ghost use Rattle.point_codec.specs.Cells.{IsLeastCell};
+ghost use Rattle.point_codec.specs.Seen.{items_of, region_of};
+
+use crate::halves::Halving;
+use byte_cursor::{Bytes, Memory};
+use leaf_codec::{arrange, encode_leaf};
+use point_codec::{Cell, Entry};
+use std::alloc::Global;
+
+/// The inner nodes of a subtree in preorder, and its leaves from left to right.
+#[derive(Drop)]
+pub(crate) struct Part<const D: usize> {
+    /// Of each inner node the dimension and the value of its split.
+    pub(crate) nodes: Vec<(u8, i32)>,
+    /// Of each leaf how many bytes spell it.
+    pub(crate) lengths: Vec<u16>,
+    /// Of each leaf the least cell round its entries.
+    pub(crate) cells: Vec<Cell<D>>,
+    /// The bytes of each leaf.
+    pub(crate) leaves: Vec<Bytes>,
+}
+
+impl<const D: usize> Part<D> {
+    ghost use Rattle.std.specs.List.Sorted.{IsPermutation};
+    ghost use Rattle.point_codec.specs.Seen.{items_of};
+    ghost use Rattle.leaf_codec.specs.Leaves.{leaf_limit};
+    ghost use Rattle.bkd_build.specs.Parts.{AreEntries, Adds, held, joined, no_pieces, one_node};
+
+    /// A part with nothing in it, and with room for so many leaves and the nodes over them.
+    pub(crate) fn with_room(alloc: Global, leaves: usize) -> Result<Part<D>, Memory>
+        requires { (1 ≤ D) × (D ≤ 8) }
+        ensures { IfOk result (λ part. held part ≡ no_pieces) }
+    {
+        let nodes = Vec::with_capacity(alloc, leaves)?;
+        let lengths = Vec::with_capacity(alloc, leaves)?;
+        let cells = Vec::with_capacity(alloc, leaves)?;
+        let leaves = Vec::with_capacity(alloc, leaves)?;
+        Ok(Part {
+            nodes,
+            lengths,
+            cells,
+            leaves,
+        })
+    }
+
+    /// Adds an inner node.
+    pub(crate) fn put_node(&mut self, node: Halving) -> Result<(), Memory>
+        requires { (1 ≤ D) × (D ≤ 8) }
+        ensures { OnOk result (held self.new ≡ joined (held self.old) (one_node node.dimension node.at)) }
+    {
+        self.nodes.push((node.dimension, node.at))?;
+        Ok(())
+    }
+
+    /// Adds a leaf with these entries, which it puts in leaf order.
+    pub(crate) fn put_leaf(
+        &mut self,
+        alloc: Global,
+        entries: &mut [Entry<D>],
+        leaf: usize,
+    ) -> Result<(), Memory>
+        requires dims { (1 ≤ D) × (D ≤ 8) }
+        requires entries { AreEntries entries.old }
+        requires leaf { leaf ≤ leaf_limit D }
+        requires few { length entries.old ≤ leaf }
+        ensures same { IsPermutation entries.old entries.new }
+        ensures added { OnOk result (Adds D leaf (items_of entries.old) (held self.old) (held self.new)) }
+    {
+        arrange(entries);
+        let bytes = encode_leaf(alloc, entries)?;
+        let cell = cell_round(entries);
+        self.lengths.push(bytes.as_slice().len() as u16)?;
+        self.cells.push(cell)?;
+        self.leaves.push(bytes)?;
+        Ok(())
+    }
+
+    /// Adds what the other part holds.
+    pub(crate) fn append(&mut self, other: Part<D>) -> Result<(), Memory>
+        requires { (1 ≤ D) × (D ≤ 8) }
+        ensures { OnOk result (held self.new ≡ joined (held self.old) (held other.entry)) }
+    {
+        let Part {
+            mut nodes,
+            mut lengths,
+            mut cells,
+            mut leaves,
+        } = other;
+        self.nodes.append(&mut nodes)?;
+        self.lengths.append(&mut lengths)?;
+        self.cells.append(&mut cells)?;
+        self.leaves.append(&mut leaves)?;
+        Ok(())
+    }
+}
+
+/// The least cell round the points of the entries.
+pub(crate) fn cell_round<const D: usize>(entries: &[Entry<D>]) -> Cell<D>
+    requires dims { (1 ≤ D) × (D ≤ 8) }
+    requires some { 1 ≤ length entries.now }
+    ensures { IsLeastCell (map (λ x. x.at) (items_of entries.now)) (region_of result) }
+{
+    match Cell::of(entries) {
+        Some(cell) => cell,
+        None => unreachable!(),
+    }
+}

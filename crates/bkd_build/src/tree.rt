@@ -1,0 +1,166 @@
+//! The recursion over the tree, by one thread or several.
+
+ghost use Rattle.std.specs.Prelude.{◌≡◌, ◌≤◌, ◌<◌, length, OnOk, IfOk};
+ghost use Rattle.std.specs.List.Sorted.{IsPermutation};
+ghost use Rattle.std.specs.Thread.{IsSync};
+ghost use Rattle.point_codec.specs.Seen.{items_of};
+ghost use Rattle.leaf_codec.specs.Leaves.{leaf_limit};
+ghost use Rattle.bkd_build.specs.Canon.{IsCanonSplit};
+ghost use Rattle.bkd_build.specs.Parts.{AreEntries, Adds, AddsBoth, held, joined, no_pieces, one_node};
+
+use crate::gate::Gate;
+use crate::halves::{Halving, halve};
+use crate::parts::Part;
+use byte_cursor::Memory;
+use point_codec::Entry;
+use std::alloc::Global;
+use std::marker::Sync;
+use std::thread::{Threads, join_mut};
+
+/// Adds the tree of the entries to the part.
+#[cycle(sequence)]
+fn grow<const D: usize>(
+    alloc: Global,
+    entries: &mut [Entry<D>],
+    leaf: usize,
+    part: &mut Part<D>,
+) -> Result<(), Memory>
+    requires dims { (1 ≤ D) × (D ≤ 8) }
+    requires leaf { (1 ≤ leaf) × (leaf ≤ leaf_limit D) }
+    requires entries { AreEntries entries.old }
+    ensures same { IsPermutation entries.old entries.new }
+    ensures added { OnOk result (Adds D leaf (items_of entries.old) (held part.old) (held part.new)) }
+{
+    if entries.len() <= leaf {
+        return part.put_leaf(alloc, entries, leaf);
+    }
+    let node = halve(entries, leaf);
+    part.put_node(node)?;
+    let (left, right) = entries.split_at_mut(node.rank);
+    grow_halves(alloc, left, right, leaf, part)?;
+    Ok(())
+}
+
+/// Adds the trees of both halves of a node to the part, the left one first.
+#[cycle(sequence)]
+fn grow_halves<const D: usize>(
+    alloc: Global,
+    left: &mut [Entry<D>],
+    right: &mut [Entry<D>],
+    leaf: usize,
+    part: &mut Part<D>,
+) -> Result<(), Memory>
+    requires dims { (1 ≤ D) × (D ≤ 8) }
+    requires leaf { (1 ≤ leaf) × (leaf ≤ leaf_limit D) }
+    requires left { AreEntries left.old }
+    requires right { AreEntries right.old }
+    ensures left_same { IsPermutation left.old left.new }
+    ensures right_same { IsPermutation right.old right.new }
+    ensures added { OnOk result (AddsBoth D leaf (items_of left.old) (items_of right.old) (held part.old) (held part.new)) }
+{
+    grow(alloc, left, leaf, part)?;
+    grow(alloc, right, leaf, part)?;
+    Ok(())
+}
+
+/// The tree of the entries, built in the caller's thread.
+fn grown<const D: usize>(
+    alloc: Global,
+    entries: &mut [Entry<D>],
+    leaf: usize,
+) -> Result<Part<D>, Memory>
+    requires dims { (1 ≤ D) × (D ≤ 8) }
+    requires leaf { (1 ≤ leaf) × (leaf ≤ leaf_limit D) }
+    requires entries { AreEntries entries.old }
+    ensures same { IsPermutation entries.old entries.new }
+    ensures built { IfOk result (λ part. Adds D leaf (items_of entries.old) no_pieces (held part)) }
+{
+    let mut part = Part::with_room(alloc, entries.len().div_ceil(leaf))?;
+    grow(alloc, entries, leaf, &mut part)?;
+    Ok(part)
+}
+
+/// The tree of an inner node, from those of its halves.
+fn over<const D: usize>(
+    alloc: Global,
+    node: Halving,
+    left: Part<D>,
+    right: Part<D>,
+) -> Result<Part<D>, Memory>
+    requires { (1 ≤ D) × (D ≤ 8) }
+    ensures { IfOk result (λ part. held part ≡ joined (joined (one_node node.dimension node.at) (held left.entry)) (held right.entry)) }
+{
+    let mut part = Part::with_room(alloc, left.leaves.len() + right.leaves.len())?;
+    part.put_node(node)?;
+    part.append(left)?;
+    part.append(right)?;
+    Ok(part)
+}
+
+/// The tree of the entries. The halves of the nodes of its upper `forks` levels are built beside each other.
+#[cycle(parts)]
+pub(crate) fn build_part<const D: usize, R: Threads + Sync, G: Gate>(
+    rt: &R,
+    alloc: Global,
+    entries: &mut [Entry<D>],
+    leaf: usize,
+    forks: u8,
+    gate: &G,
+) -> Result<Part<D>, Memory>
+    requires dims { (1 ≤ D) × (D ≤ 8) }
+    requires leaf { (1 ≤ leaf) × (leaf ≤ leaf_limit D) }
+    requires entries { AreEntries entries.old }
+    ensures same { IsPermutation entries.old entries.new }
+    ensures built { IfOk result (λ part. Adds D leaf (items_of entries.old) no_pieces (held part)) }
+{
+    if forks == 0 || entries.len() <= leaf {
+        return grown(alloc, entries, leaf);
+    }
+    let node = halve(entries, leaf);
+    let (left, right) = entries.split_at_mut(node.rank);
+    let (first, second) = both(rt, alloc, left, right, leaf, forks, gate);
+    let first = first?;
+    let second = second?;
+    let part = over(alloc, node, first, second)?;
+    Ok(part)
+}
+
+/// The trees of both halves, built beside each other.
+#[cycle(parts)]
+fn both<const D: usize, R: Threads + Sync, G: Gate>(
+    rt: &R,
+    alloc: Global,
+    left: &mut [Entry<D>],
+    right: &mut [Entry<D>],
+    leaf: usize,
+    forks: u8,
+    gate: &G,
+) -> (Result<Part<D>, Memory>, Result<Part<D>, Memory>)
+    requires dims { (1 ≤ D) × (D ≤ 8) }
+    requires leaf { (1 ≤ leaf) × (leaf ≤ leaf_limit D) }
+    requires forks { 0 < forks }
+    requires left { AreEntries left.old }
+    requires right { AreEntries right.old }
+    ensures left_same { IsPermutation left.old left.new }
+    ensures right_same { IsPermutation right.old right.new }
+    ensures left_built { IfOk result.0 (λ part. Adds D leaf (items_of left.old) no_pieces (held part)) }
+    ensures right_built { IfOk result.1 (λ part. Adds D leaf (items_of right.old) no_pieces (held part)) }
+{
+    let mut first = || -> Result<Part<D>, Memory>
+        requires { IsSync R.row × IsSync G.row × (0 < forks) × (1 ≤ D) × (D ≤ 8) × (1 ≤ leaf) × (leaf ≤ leaf_limit D) × AreEntries left.now }
+        ensures same { IsPermutation left.entry.now left.exit.now }
+        ensures built { IfOk result (λ part. Adds D leaf (items_of left.entry.now) no_pieces (held part)) }
+    {
+        gate.pass(0);
+        build_part(rt, alloc, left, leaf, forks - 1, gate)
+    };
+    let mut second = || -> Result<Part<D>, Memory>
+        requires { IsSync R.row × IsSync G.row × (0 < forks) × (1 ≤ D) × (D ≤ 8) × (1 ≤ leaf) × (leaf ≤ leaf_limit D) × AreEntries right.now }
+        ensures same { IsPermutation right.entry.now right.exit.now }
+        ensures built { IfOk result (λ part. Adds D leaf (items_of right.entry.now) no_pieces (held part)) }
+    {
+        gate.pass(1);
+        build_part(rt, alloc, right, leaf, forks - 1, gate)
+    };
+    join_mut(rt, &mut first, &mut second)
+}

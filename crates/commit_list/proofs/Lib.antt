@@ -1,0 +1,4 @@
+pub mod Heads
+pub mod Lists
+pub mod Bodies
+pub mod CommitPages

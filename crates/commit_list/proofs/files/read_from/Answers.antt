@@ -1,0 +1,58 @@
+use Rattle.std.proofs.Common.{◌≡◌, ◌*◌, arith, sym, ap, subst, ◌∙◌, refl, ℕ, length}
+use Rattle.std.proofs.lemmas.Result.{err_from_is_err_and, IfOk-weaker}
+use Rattle.outer_io.specs.Files.{bytes_of}
+use Rattle.outer_io.specs.declared.file_name.FileName.{FileName}
+use Rattle.outer_io.specs.declared.file_name.FileName.TheVariants.{Commit}
+use Rattle.page_cache.specs.FilePages.{ArePages, payloads_of}
+use Rattle.commit_list.specs.CommitFiles.{IsCommitFile, SpellsFilled}
+use Rattle.commit_list.proofs.CommitPages.{begins-short, first_begins, file_pages, file_payloads, file_so, first_of}
+use Rattle.commit_list.proofs.files.read_from.Goals as goal
+
+pub returns-in_err-length-clause-whole : goal.returns-in_err-length-clause-whole
+returns-in_err-length-clause-whole g c = λ told first d h.
+    let p = err_from_is_err_and c.from_residual.result c.from_residual.ensures.1 in
+    let f = first_of (g.F.Pages.files c.args.folder.now) c.args.first.now c.requires first in
+    rw (p.1, p.2) (c.in_err-length.ensures.whole (length h.body) (first_begins _ _ d f.payload_is h))
+
+pub returns-in_err-check_size-clause-whole : goal.returns-in_err-check_size-clause-whole
+returns-in_err-check_size-clause-whole g c = λ told first d h.
+    let f = first_of (g.F.Pages.files c.args.folder.now) c.args.first.now c.requires first in
+    let long = file_pages _ _ c.in_ok-length.length d f.payload_is c.in_ok-length.ensures.begins h in
+    let fine = c.in_err-check_size.ensures.ok.1 (f.size_is ∙ long ∙ ap (λ (n : ℕ). 4096 * n) (sym c.pages_for-pages.ensures)) in
+    absurd (cc)
+
+pub returns-in_err-payloads-clause-reads : goal.returns-in_err-payloads-clause-reads
+returns-in_err-payloads-clause-reads g c = let short = begins-short _ _ c.in_ok-length.ensures.begins in omega (arith, short.1, c.pages_for-pages.ensures, c.joined.ensures.reads)
+
+pub returns-clause-reads : goal.returns-clause-reads
+returns-clause-reads g c = let short = begins-short _ _ c.in_ok-length.ensures.begins in omega (arith, short.1, c.pages_for-pages.ensures, c.joined.ensures.reads)
+
+pub returns-clause-found : goal.returns-clause-found
+returns-clause-found g c = λ told first.
+    let files = g.F.Pages.files c.args.folder.now in
+    let pages = c.pages_for-pages.result in
+    let payloads = c.in_ok-payloads.payloads.items in
+    let f = first_of files c.args.first.now c.requires first in
+    let long = sym f.size_is ∙ c.in_ok-check_size.ensures.ok.0 refl in
+    let are = subst (λ (n : FileName). ArePages n (bytes_of (files n)) 0 pages) c.requires (c.in_ok-payloads.ensures.pages told first) in
+    let same = c.in_ok-payloads.ensures.payloads told first ∙ ap (λ (n : FileName). payloads_of (bytes_of (files n)) 0 pages) c.requires in
+    let len : length payloads ≡ 4064 * pages = omega (arith, c.in_ok-payloads.ensures.len, c.in_ok-payloads.payloads.ok.0) in
+    IfOk-weaker c.commit_of.result (SpellsFilled payloads) (IsCommitFile (bytes_of (files Commit))) (λ d h. file_so (bytes_of (files Commit)) payloads pages d long are same len h) c.commit_of.ensures.found
+
+pub returns-clause-damage : goal.returns-clause-damage
+returns-clause-damage g c = λ told first.
+    let files = g.F.Pages.files c.args.folder.now in
+    let pages = c.pages_for-pages.result in
+    let short = begins-short _ _ c.in_ok-length.ensures.begins in
+    let are = subst (λ (n : FileName). ArePages n (bytes_of (files n)) 0 pages) c.requires (c.in_ok-payloads.ensures.pages told first) in
+    let same = c.in_ok-payloads.ensures.payloads told first ∙ ap (λ (n : FileName). payloads_of (bytes_of (files n)) 0 pages) c.requires in
+    c.commit_of.ensures.damage files (record { count = pages; some = omega (arith, short.0, c.pages_for-pages.ensures); pages = are; same = same })
+
+pub returns-clause-whole : goal.returns-clause-whole
+returns-clause-whole g c = λ told first d h.
+    let files = g.F.Pages.files c.args.folder.now in
+    let pages = c.pages_for-pages.result in
+    let f = first_of files c.args.first.now c.requires first in
+    let long = sym f.size_is ∙ c.in_ok-check_size.ensures.ok.0 refl in
+    let same = c.in_ok-payloads.ensures.payloads told first ∙ ap (λ (n : FileName). payloads_of (bytes_of (files n)) 0 pages) c.requires in
+    c.commit_of.ensures.whole d (file_payloads (bytes_of (files Commit)) c.in_ok-payloads.payloads.items pages d long same h)

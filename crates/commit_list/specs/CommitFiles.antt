@@ -1,0 +1,62 @@
+-- The file of a commit, over the bytes of that one file, and what a damage of it shows.
+use Rattle.std.specs.Prelude.{◌≡◌, ◌≢◌, ℕ, ◌⊎◌, List, length, take}
+use Rattle.outer_io.specs.declared.file_name.FileName.TheVariants.{Commit}
+use Rattle.outer_io.specs.Files.{Files}
+use Rattle.page_cache.specs.declared.faults.Damage.{Damage}
+use Rattle.page_cache.specs.declared.faults.Damage.TheVariants.{Page, Leaf, Body, Missing, Size, Unequal, Beyond, Doubled}
+use Rattle.page_cache.specs.Bodies.{filled, IsBodyFile}
+use Rattle.page_cache.specs.Evidence.{IsFileDamage, IsFileDamageOf, ArePayloadsOf}
+use Rattle.commit_list.specs.Commits.{CommitData}
+use Rattle.commit_list.specs.Layout.{commit_body, SpellsCommit}
+
+-- a Commit file of these bytes says this commit: it is one body, and this the commit's, in one of the layouts
+pub record IsCommitFile (bytes : List ℕ) (c : CommitData) : Type 0 where
+  pub body : List ℕ
+  pub file : IsBodyFile Commit bytes body
+  pub spells : SpellsCommit body c
+
+-- it says it in the layout that is written
+pub record IsWrittenCommit (bytes : List ℕ) (c : CommitData) : Type 0 where
+  pub file : IsBodyFile Commit bytes (commit_body c)
+  pub spells : SpellsCommit (commit_body c) c
+
+-- the payloads, one after another, are the body of this commit and zeros
+pub record SpellsFilled (payloads : List ℕ) (c : CommitData) : Type 0 where
+  pub body : List ℕ
+  pub same : payloads ≡ filled body
+  pub spells : SpellsCommit body c
+
+-- the payloads are the body of no commit
+abbrev pub HasNoFilled : List ℕ → Type 0
+HasNoFilled payloads = (c : CommitData) → SpellsFilled payloads c → ⊥
+
+-- no body of a commit begins with this payload of a first page
+pub record BeginsNone (payload : List ℕ) : Type 0 where
+  pub len : length payload ≡ 4064
+  pub none : (c : CommitData) (body : List ℕ) → SpellsCommit body c → payload ≢ take 4064 (filled body)
+
+-- the payloads of a Commit file show that it says no commit: the first begins none, or all together are of none
+abbrev pub IsNoCommitBody : List ℕ → Type 0
+IsNoCommitBody payloads = BeginsNone payloads ⊎ HasNoFilled payloads
+
+-- what a damage of the Commit file carries shows it
+abbrev pub IsCommitDamage : Damage → Type 0
+IsCommitDamage (Page file number bytes) = IsFileDamage Commit (Page file number bytes)
+IsCommitDamage (Missing file) = IsFileDamage Commit (Missing file)
+IsCommitDamage (Size file size needed) = IsFileDamage Commit (Size file size needed)
+IsCommitDamage (Body file bytes) = (file ≡ Commit) × IsNoCommitBody bytes
+IsCommitDamage (Leaf file number offset len bytes) = ⊥
+IsCommitDamage (Unequal file said found) = ⊥
+IsCommitDamage (Beyond doc next) = ⊥
+IsCommitDamage (Doubled doc) = ⊥
+
+-- and it is true of the files
+abbrev pub IsCommitDamageOf : Files → Damage → Type 0
+IsCommitDamageOf files (Page file number bytes) = IsFileDamageOf files (Page file number bytes)
+IsCommitDamageOf files (Missing file) = IsFileDamageOf files (Missing file)
+IsCommitDamageOf files (Size file size needed) = IsFileDamageOf files (Size file size needed)
+IsCommitDamageOf files (Body file bytes) = ArePayloadsOf files file bytes
+IsCommitDamageOf files (Leaf file number offset len bytes) = ⊥
+IsCommitDamageOf files (Unequal file said found) = ⊥
+IsCommitDamageOf files (Beyond doc next) = ⊥
+IsCommitDamageOf files (Doubled doc) = ⊥

@@ -1,0 +1,4 @@
+pub mod Commits
+pub mod Layout
+pub mod CommitFiles
+pub mod Seen

@@ -1,0 +1,177 @@
+//! The file of the commit, read and written.
+
+ghost use Rattle.std.specs.Prelude.{◌≡◌, ◌≤◌, ◌+◌, ◌/◌, ◌⊎◌, ℕ, None, Some, length, IsTrue, IfOk, OnSome, OnOk, OnErr, IsErrOf, MatchOption, replicate, ◌↔◌};
+ghost use Rattle.outer_io.specs.Files.{Files, bytes_of, SameButTwo};
+ghost use Rattle.outer_io.specs.declared.file_name.FileName.TheVariants.{Commit as CommitName, CommitNew};
+ghost use Rattle.page_cache.specs.Causes.{HasPageCause, HasSegCause, IsSteady};
+ghost use Rattle.page_cache.specs.Evidence.{OnDamage, NotDamaged, ArePayloadsOf};
+ghost use Rattle.page_cache.specs.declared.faults.Damage.TheVariants.{Body};
+ghost use Rattle.page_cache.specs.FirstPages.{first_name, first_payload, IsFirstPage};
+ghost use Rattle.page_cache.specs.declared.faults.PageFault.TheVariants as page;
+ghost use Rattle.page_cache.specs.declared.faults.SegFault.TheVariants as seg;
+ghost use Rattle.commit_list.specs.Commits.{CommitData};
+ghost use Rattle.commit_list.specs.Layout.{BeginsBody};
+ghost use Rattle.commit_list.specs.CommitFiles.{IsCommitFile, IsWrittenCommit, SpellsFilled, HasNoFilled, IsCommitDamage, IsCommitDamageOf};
+
+use crate::commits::Commit;
+use crate::reading::{body_length, decode};
+use crate::writing::encode_commit;
+use byte_cursor::{Bytes, Memory};
+use outer_io::{FileName, Folder};
+use page_cache::{Damage, FirstPage, PageFault, SegFault, pages_for, pages_of};
+use std::alloc::Global;
+
+/// The bytes of a page's payload.
+const PAYLOAD_LEN: usize = 4064;
+
+/// The commit of the folder, in either layout. None exactly where the folder has no Commit.
+///
+/// What is out of its format is looked for in this order: the size and the first page; the numbers in front of
+/// the list (Body with the first page's payload); the size that they need; the other page; all else (Body with
+/// all payloads). Each page is read once, so reads rise by at most two. No file is changed.
+pub fn read_commit<F: Folder>(alloc: Global, folder: &mut F) -> Result<Option<Commit>, PageFault>
+    ensures found { IsTrue F.told → IfOk result (λ found. MatchOption found (F.files folder.old CommitName ≡ None)
+        (IsCommitFile (bytes_of (F.files folder.old CommitName)))) }
+    ensures files { IsTrue F.told → F.files folder.new ≡ F.files folder.old }
+    ensures reads { F.reads folder.new ≤ F.reads folder.old + 2 }
+    ensures pages { IsTrue F.told → IfOk result (λ found. OnSome found
+        (F.reads folder.new ≤ F.reads folder.old + length (bytes_of (F.files folder.old CommitName)) / 4096)) }
+    ensures cause { HasPageCause (F.faults folder.old) (F.faults folder.new) result }
+    ensures steady { IsSteady (F.faults folder.old) (F.faults folder.new) result }
+    ensures shown { OnDamage result IsCommitDamage }
+    ensures damage { IsTrue F.told → OnDamage result (IsCommitDamageOf (F.files folder.old)) }
+    ensures absent { IsTrue F.told → F.files folder.old CommitName ≡ None → NotDamaged result }
+    ensures whole { IsTrue F.told → (c : CommitData) → IsCommitFile (bytes_of (F.files folder.old CommitName)) c → NotDamaged result }
+{
+    let Some(first) = FirstPage::find(alloc, folder, &FileName::Commit)? else {
+        return Ok(None);
+    };
+    let commit = read_from(alloc, folder, &first)?;
+    Ok(Some(commit))
+}
+
+/// The commit of the file that has this first page.
+fn read_from<F: Folder>(
+    alloc: Global,
+    folder: &mut F,
+    first: &FirstPage,
+) -> Result<Commit, PageFault>
+    requires { first_name first.now ≡ CommitName }
+    ensures found { IsTrue F.told → IsFirstPage (F.files folder.old) first.now → IfOk result (IsCommitFile (bytes_of (F.files folder.old CommitName))) }
+    ensures files { IsTrue F.told → F.files folder.new ≡ F.files folder.old }
+    ensures reads { F.reads folder.new ≤ F.reads folder.old + 1 }
+    ensures pages { IsTrue F.told → IsFirstPage (F.files folder.old) first.now
+        → OnOk result (F.reads folder.new + 1 ≤ F.reads folder.old + length (bytes_of (F.files folder.old CommitName)) / 4096) }
+    ensures cause { HasPageCause (F.faults folder.old) (F.faults folder.new) result }
+    ensures steady { IsSteady (F.faults folder.old) (F.faults folder.new) result }
+    ensures shown { OnDamage result IsCommitDamage }
+    ensures damage { IsTrue F.told → IsFirstPage (F.files folder.old) first.now → OnDamage result (IsCommitDamageOf (F.files folder.old)) }
+    ensures whole { IsTrue F.told → IsFirstPage (F.files folder.old) first.now
+        → (c : CommitData) → IsCommitFile (bytes_of (F.files folder.old CommitName)) c → NotDamaged result }
+{
+    let length = length_of(alloc, first)?;
+    let pages = pages_for(length);
+    first.check_size(pages)?;
+    let payloads = first.joined(alloc, folder, pages)?;
+    commit_of(alloc, payloads)
+}
+
+/// The length of the body that the file's first page begins.
+fn length_of(alloc: Global, first: &FirstPage) -> Result<u32, PageFault>
+    requires { first_name first.now ≡ CommitName }
+    ensures begins { IfOk result (BeginsBody (first_payload first.now)) }
+    ensures failed { IsErrOf result page.Failed → ⊥ }
+    ensures shown { OnDamage result IsCommitDamage }
+    ensures damage { (files : Files) → IsFirstPage files first.now → OnDamage result (IsCommitDamageOf files) }
+    ensures whole { (n : ℕ) → BeginsBody (first_payload first.now) n → NotDamaged result }
+{
+    match body_length(first.payload()) {
+        Some(length) => Ok(length),
+        None => {
+            let bytes = Vec::from_slice(alloc, first.payload())?;
+            Err(no_commit(bytes))
+        }
+    }
+}
+
+/// The commit that the joined payloads of the file say.
+fn commit_of(alloc: Global, payloads: Vec<u8>) -> Result<Commit, PageFault>
+    ensures found { IfOk result (SpellsFilled payloads.items) }
+    ensures failed { IsErrOf result page.Failed → ⊥ }
+    ensures shown { OnDamage result IsCommitDamage }
+    ensures damage { (files : Files) → ArePayloadsOf files CommitName payloads.items → OnDamage result (IsCommitDamageOf files) }
+    ensures whole { (c : CommitData) → SpellsFilled payloads.items c → NotDamaged result }
+{
+    match decode_filled(alloc, payloads.as_slice())? {
+        Some(commit) => Ok(commit),
+        None => Err(no_commit(payloads)),
+    }
+}
+
+/// The damage of a Commit file whose payloads are of no commit.
+fn no_commit(payloads: Vec<u8>) -> PageFault
+    ensures { result ≡ page.Damaged (Body CommitName payloads.items) }
+{
+    PageFault::Damaged(Damage::Body {
+        file: FileName::Commit,
+        bytes: Bytes::new(payloads),
+    })
+}
+
+/// The commit whose body, filled up with zeros, the payloads are. None exactly where they are that of none.
+fn decode_filled(alloc: Global, payloads: &[u8]) -> Result<Option<Commit>, Memory>
+    ensures { IfOk result (λ found. MatchOption found (HasNoFilled payloads.now) (SpellsFilled payloads.now)) }
+{
+    let Some(length) = body_length(payloads) else {
+        return Ok(None);
+    };
+    if payloads.len() != PAYLOAD_LEN * pages_for(length) as usize {
+        return Ok(None);
+    }
+    let (body, filling) = payloads.split_at(length as usize);
+    if !is_zero(filling) {
+        return Ok(None);
+    }
+    decode(alloc, body)
+}
+
+/// Whether all the bytes are zero.
+fn is_zero(bytes: &[u8]) -> bool
+    ensures { IsTrue result ↔ (bytes.now ≡ replicate (length bytes.now) 0) }
+{
+    bytes.iter().all(|b| *b == 0)
+}
+
+/// Makes the commit the folder's: it is written beside the Commit of before, and then put into its place by its
+/// name. After want of memory the Commit is as before; after a failure it is as before or this one.
+pub fn write_commit<F: Folder>(alloc: Global, folder: &mut F, c: &Commit) -> Result<(), SegFault>
+    ensures written { IsTrue F.told → OnOk result (IsWrittenCommit (bytes_of (F.files folder.new CommitName)) c.now) }
+    ensures commit { IsTrue F.told → OnOk result (IsCommitFile (bytes_of (F.files folder.new CommitName)) c.now) }
+    ensures gone { IsTrue F.told → OnOk result (F.files folder.new CommitNew ≡ None) }
+    ensures kept { IsTrue F.told → OnErr result ((F.files folder.new CommitName ≡ F.files folder.old CommitName)
+        ⊎ IsWrittenCommit (bytes_of (F.files folder.new CommitName)) c.now) }
+    ensures memory { IsTrue F.told → IsErrOf result seg.Memory → F.files folder.new CommitName ≡ F.files folder.old CommitName }
+    ensures others { IsTrue F.told → SameButTwo CommitNew CommitName (F.files folder.old) (F.files folder.new) }
+    ensures reads { F.reads folder.new ≡ F.reads folder.old }
+    ensures cause { HasSegCause (F.faults folder.old) (F.faults folder.new) result }
+{
+    let body = encode_commit(alloc, c)?;
+    let pages = pages_of(alloc, &FileName::Commit, body.as_slice())?;
+    replace(folder, pages.as_slice())
+}
+
+/// Makes the bytes the Commit of the folder, whole or not at all.
+fn replace<F: Folder>(folder: &mut F, bytes: &[u8]) -> Result<(), SegFault>
+    ensures written { IsTrue F.told → OnOk result (F.files folder.new CommitName ≡ Some bytes.now) }
+    ensures gone { IsTrue F.told → OnOk result (F.files folder.new CommitNew ≡ None) }
+    ensures kept { IsTrue F.told → OnErr result ((F.files folder.new CommitName ≡ F.files folder.old CommitName)
+        ⊎ (F.files folder.new CommitName ≡ Some bytes.now)) }
+    ensures memory { IsTrue F.told → IsErrOf result seg.Memory → F.files folder.new CommitName ≡ F.files folder.old CommitName }
+    ensures others { IsTrue F.told → SameButTwo CommitNew CommitName (F.files folder.old) (F.files folder.new) }
+    ensures reads { F.reads folder.new ≡ F.reads folder.old }
+    ensures cause { HasSegCause (F.faults folder.old) (F.faults folder.new) result }
+{
+    folder.write_file(&FileName::CommitNew, bytes)?;
+    folder.rename(&FileName::CommitNew, &FileName::Commit)?;
+    Ok(())
+}

@@ -1,0 +1,83 @@
+-- What is said of a node's children, said of the node.
+use Rattle.std.proofs.Common.{◌≡◌, ◌≤◌, ◌+◌, ◌-◌, ◌/◌, ℕ, List, ◌++◌, refl, sym, ap, subst, ◌∙◌, arith, inl, inr, append_assoc, Result, Ok, Err}
+use Rattle.std.specs.Prelude.{filter, OnOk, ℤ}
+use Rattle.point_codec.specs.Points.{Item, Region}
+use Rattle.live_bits.specs.LiveSet.{LiveSet, is_live}
+use Rattle.inner_pack.specs.Places.{Spot}
+use Rattle.inner_pack.specs.Trees.{IndexTree, Leaf, Split, leaf_count, IsShaped}
+use Rattle.inner_pack.specs.Bodies.{right_begin}
+use Rattle.page_cache.specs.declared.faults.Damage.{Damage}
+use Rattle.page_cache.specs.declared.faults.Damage.TheVariants as damage
+use Rattle.std.proofs.lemmas.List.Elements.{filter-append}
+use Rattle.segment_file.specs.Heads.{Head, page_of}
+use Rattle.outer_io.specs.declared.file_name.FileName.TheVariants.{Segment}
+use Rattle.inner_pack.specs.Nodes.{IsAt}
+use Rattle.inner_pack.specs.declared.node.NodeAt.{NodeAt}
+use Rattle.page_cache.specs.FilePages.{IsFilePage}
+use Rattle.segment_file.specs.Segments.{Joins, HoldsLeaf, HoldsTree, IsLeafOf}
+use Rattle.segment_file.specs.Damages.{IsNoLeaf, IsLeafDamage}
+use Rattle.segment_file.specs.Gathers.{Gathers}
+
+pub count_shaped : (n : ℕ) (t : IndexTree) → IsShaped n t → leaf_count t ≡ n
+count_shaped n (Leaf len own) h = sym h
+count_shaped n (Split d x l r) h =
+    let left = count_shaped (n - n / 2) l h.1 in
+    let right = count_shaped (n / 2) r h.2 in
+    omega (arith, left, right)
+
+pub OnOk-weaker : {A E : Type 0} (r : Result A E) (P Q : Type 0) → (P → Q) → OnOk r P → OnOk r Q
+OnOk-weaker (Ok a) P Q f h = f h
+OnOk-weaker (Err e) P Q f h = tt
+
+no_leaf_left : (D : ℕ) (head : Head) (first : ℕ) (s : Spot) (l r : IndexTree) (k : ℕ) (x : ℤ) (page offset len : ℕ) (part : List ℕ) → IsNoLeaf D head first s l page offset len part → IsNoLeaf D head first s (Split k x l r) page offset len part
+no_leaf_left D head first s l r k x page offset len part h = record { number = h.number; spot = h.spot; own = h.own; is = inl h.is; page_is = h.page_is; offset_is = h.offset_is; none = h.none }
+
+no_leaf_right : (D : ℕ) (head : Head) (first : ℕ) (s : Spot) (l r : IndexTree) (k : ℕ) (x : ℤ) (page offset len : ℕ) (part : List ℕ)
+    → IsNoLeaf D head (first + leaf_count l) (right_begin s l r) r page offset len part → IsNoLeaf D head first s (Split k x l r) page offset len part
+no_leaf_right D head first s l r k x page offset len part h = record { number = h.number; spot = h.spot; own = h.own; is = inr h.is; page_is = h.page_is; offset_is = h.offset_is; none = h.none }
+
+-- a damage of a leaf below a child is one of a leaf below the node
+pub left_damage : (D : ℕ) (head : Head) (first : ℕ) (s : Spot) (l r : IndexTree) (k : ℕ) (x : ℤ) (d : Damage) → IsLeafDamage D head first s l d → IsLeafDamage D head first s (Split k x l r) d
+left_damage D head first s l r k x (damage.Page file number bytes) h = h
+left_damage D head first s l r k x (damage.Size file size needed) h = h
+left_damage D head first s l r k x (damage.Leaf file number offset len bytes) h = (h.0, h.1, no_leaf_left D head first s l r k x number offset len _ h.2)
+left_damage D head first s l r k x (damage.Body file bytes) h = h
+left_damage D head first s l r k x (damage.Missing file) h = h
+left_damage D head first s l r k x (damage.Unequal file said found) h = h
+left_damage D head first s l r k x (damage.Beyond doc next) h = h
+left_damage D head first s l r k x (damage.Doubled doc) h = h
+
+pub right_damage : (D : ℕ) (head : Head) (first : ℕ) (s : Spot) (l r : IndexTree) (k : ℕ) (x : ℤ) (d : Damage) → IsLeafDamage D head (first + leaf_count l) (right_begin s l r) r d
+    → IsLeafDamage D head first s (Split k x l r) d
+right_damage D head first s l r k x (damage.Page file number bytes) h = h
+right_damage D head first s l r k x (damage.Size file size needed) h = h
+right_damage D head first s l r k x (damage.Leaf file number offset len bytes) h = (h.0, h.1, no_leaf_right D head first s l r k x number offset len _ h.2)
+right_damage D head first s l r k x (damage.Body file bytes) h = h
+right_damage D head first s l r k x (damage.Missing file) h = h
+right_damage D head first s l r k x (damage.Unequal file said found) h = h
+right_damage D head first s l r k x (damage.Beyond doc next) h = h
+right_damage D head first s l r k x (damage.Doubled doc) h = h
+
+-- what the leaves of both children give is what those of the node give
+pub gathers_join : (D : ℕ) (bytes : List ℕ) (head : Head) (first : ℕ) (s : Spot) (l r : IndexTree) (k : ℕ) (x : ℤ) (live : LiveSet) (old mid new : List Item)
+    → Gathers D bytes head first s l live old mid → Gathers D bytes head (first + leaf_count l) (right_begin s l r) r live mid new → Gathers D bytes head first s (Split k x l r) live old new
+gathers_join D bytes head first s l r k x live old mid new a b = record {
+  items = a.items ++ b.items;
+  holds = record { front_items = a.items; back_items = b.items; front_holds = a.holds; back_holds = b.holds; joined = refl };
+  grew = b.grew ∙ ap (λ (z : List Item). z ++ filter (λ (y : Item). is_live live y.doc) b.items) a.grew
+      ∙ append_assoc old (filter (λ (y : Item). is_live live y.doc) a.items) (filter (λ (y : Item). is_live live y.doc) b.items)
+      ∙ ap (λ (z : List Item). old ++ z) (sym (filter-append (λ (y : Item). is_live live y.doc) a.items b.items));
+}
+
+-- the page of a leaf whose file has it
+leaf_page : (D : ℕ) (bytes : List ℕ) (head : Head) (first : ℕ) (s : Spot) (len : ℕ) (own : Region) (items : List Item) → HoldsLeaf D bytes head first s len own items → IsFilePage (Segment head.id) bytes (page_of head s.page)
+unfolding HoldsLeaf
+leaf_page D bytes head first s len own items h = h.page
+
+alone : (D : ℕ) (bytes : List ℕ) (head : Head) (first : ℕ) (s : Spot) (t : IndexTree) (items : List Item) → IsShaped 1 t → HoldsTree D bytes head first s t items → IsFilePage (Segment head.id) bytes (page_of head s.page)
+alone D bytes head first s (Leaf len own) items shaped h = leaf_page D bytes head first s len own items h
+alone D bytes head first s (Split d x l r) items shaped h = absurd (let two = shaped.0 in omega arith)
+
+pub page_of_leaf : (D : ℕ) (bytes : List ℕ) (head : Head) (node : NodeAt D) (first : ℕ) (s : Spot) (path : Region) (t : IndexTree) (items : List Item) → IsAt node first s path t → node.leaves ≡ 1
+    → HoldsTree D bytes head first s t items → IsFilePage (Segment head.id) bytes (page_of head s.page)
+page_of_leaf D bytes head node first s path t items at one holds = alone D bytes head first s t items (subst (λ (n : ℕ). IsShaped n t) one at.is.shaped) holds

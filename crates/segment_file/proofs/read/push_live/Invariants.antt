@@ -1,0 +1,8 @@
+use Rattle.std.proofs.Common.{◌≡◌, ◌++◌, take}
+use Rattle.std.specs.Prelude.{filter}
+use Rattle.point_codec.specs.Seen.{items_of}
+use Rattle.live_bits.specs.LiveSet.{is_live}
+use Rattle.segment_file.proofs.read.push_live.Given as goal
+
+abbrev pub invariant-loop-i : goal.invariant-loop-i
+invariant-loop-i g l = items_of l.entries.items ≡ items_of l.initial.entries.items ++ filter (λ x. is_live l.live x.doc) (take l.i l.view)

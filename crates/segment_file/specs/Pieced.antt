@@ -1,0 +1,31 @@
+-- A file that is put together from pages.
+use Rattle.std.specs.Prelude.{◌≡◌, ℕ, ◌+◌, ◌*◌, if◌then◌else◌, nat_le, List, [], ◌∷◌, ◌++◌, length}
+use Rattle.outer_io.specs.declared.file_name.FileName.{FileName}
+use Rattle.page_cache.specs.FilePages.{ArePages, payloads_of}
+use Rattle.page_cache.specs.Bodies.{filled}
+use Rattle.segment_file.specs.declared.pieces.Pieces.{Pieces}
+
+-- the segment whose file it is
+unfoldable pub piece_id : Pieces → ℕ
+piece_id p = p.id
+
+-- how many pages the file has so far
+unfoldable pub piece_pages : Pieces → ℕ
+piece_pages p = p.pages
+
+-- the file so far: what the folder holds of it, once a piece was handed over, and what is still to be
+unfoldable pub so_far : (held : List ℕ) → Pieces → List ℕ
+so_far held p = if p.started then held ++ p.out.items else p.out.items
+
+-- the bytes are so many pages of the file, each for its place, with these payloads one after another
+pub record IsPaged (name : FileName) (count : ℕ) (payloads bytes : List ℕ) : Type 0 where
+  pub len : length bytes ≡ 4096 * count
+  pub pages : ArePages name bytes 0 count
+  pub payloads_are : payloads_of bytes 0 count ≡ payloads
+
+-- the payloads of leaf pages, on the last of which these bytes stand already: a leaf stands behind the one before where the page has room
+-- for it, and else at the front of the next page
+abbrev pub laid : (current : List ℕ) → List (List ℕ) → List ℕ
+laid current [] = filled current
+laid current (leaf ∷ leaves) =
+    if nat_le (length current + length leaf) 4064 then laid (current ++ leaf) leaves else filled current ++ laid leaf leaves
