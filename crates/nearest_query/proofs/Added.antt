@@ -13,7 +13,7 @@ use Rattle.point_codec.specs.declared.entries.Near.{Near}
 use Rattle.point_codec.proofs.LeastCells.{map-more}
 use Rattle.live_bits.specs.LiveSet.{LiveSet, is_live}
 use Rattle.nearest_query.specs.declared.candidates.Candidates.{Candidates}
-use Rattle.nearest_query.specs.Nearest.{near_of, nears_of}
+use Rattle.documents.specs.NearestEntries.{near_of, nears_of}
 use Rattle.nearest_query.specs.Best.{AreBest, AreAdded}
 use Rattle.nearest_query.specs.Segments.{live_items}
 

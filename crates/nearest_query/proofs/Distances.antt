@@ -17,7 +17,7 @@ use Rattle.inner_pack.specs.Trees.{IndexTree, Leaf, Split, HasCells, cell_of, le
 use Rattle.inner_pack.specs.Bodies.{right_begin}
 use Rattle.segment_file.specs.Heads.{Head}
 use Rattle.segment_file.specs.Segments.{HoldsLeaf}
-use Rattle.nearest_query.specs.Nearest.{near_of, nears_of}
+use Rattle.documents.specs.NearestEntries.{near_of, nears_of}
 use Rattle.nearest_query.specs.Segments.{live_items, least_dist2}
 use Rattle.nearest_query.specs.Fronts.{span}
 use Rattle.nearest_query.specs.Search.{World, HasLeaves, nears_at, live_at}

@@ -10,7 +10,7 @@ use Rattle.point_codec.specs.declared.entries.Near.{Near}
 use Rattle.inner_pack.specs.declared.node.NodeAt.{NodeAt}
 use Rattle.nearest_query.specs.declared.candidates.Candidates.{Candidates}
 use Rattle.nearest_query.specs.declared.frontier.Waiting.{Waiting}
-use Rattle.nearest_query.specs.Nearest.{ComesBefore, IsNearest}
+use Rattle.documents.specs.NearestEntries.{ComesBefore, IsNearest}
 use Rattle.nearest_query.specs.Segments.{is_within, bound_of, last_of}
 use Rattle.nearest_query.specs.Fronts.{span, spread}
 use Rattle.nearest_query.specs.Search.{World, IsNode, IsSought, nears_at}

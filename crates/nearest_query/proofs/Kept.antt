@@ -11,7 +11,7 @@ use Rattle.std.specs.BTreeSet.{BTreeSet}
 use Rattle.std.specs.HashMap as hash
 use Rattle.point_codec.specs.declared.entries.Near.{Near}
 use Rattle.nearest_query.specs.declared.candidates.Candidates.{Candidates}
-use Rattle.nearest_query.specs.Nearest.{ComesBefore, IsNearest}
+use Rattle.documents.specs.NearestEntries.{ComesBefore, IsNearest}
 use Rattle.nearest_query.specs.Best.{near_cmp, AreLinked, AreBest, IsPut}
 use Rattle.nearest_query.proofs.Order.{near_total, near_exact, same_near, behind, before_from_less, before_trans, pairs_from_sorted}
 use Rattle.nearest_query.proofs.Offers.{none_nearest, nearest_same, nearest_after}

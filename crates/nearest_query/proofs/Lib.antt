@@ -12,6 +12,4 @@ pub mod Steps
 pub mod Ends
 pub mod Roots
 pub mod Start
-pub mod InOrder
-pub mod OfDocuments
 pub mod Parts

@@ -3,7 +3,7 @@ use Rattle.std.proofs.Common.{◌≡◌, ℕ, ◌≤◌, List, [], ◌∷◌, le
 use Rattle.std.proofs.lemmas.List.Elements.{All-contains, All-contains_itself, All-weaker}
 use Rattle.std.specs.List.{All, AllPairs, Contains}
 use Rattle.point_codec.specs.declared.entries.Near.{Near}
-use Rattle.nearest_query.specs.Nearest.{ComesBefore, HasNumber, IsNearest}
+use Rattle.documents.specs.NearestEntries.{ComesBefore, HasNumber, IsNearest}
 use Rattle.nearest_query.proofs.Order.{cons_cases, cons_head, cons_tail, nil_none}
 
 -- no entry, and none found

@@ -9,7 +9,7 @@ use Rattle.std.specs.declared.cmp.Ordering.TheVariants.{Less, Equal}
 use Rattle.std.specs.Ordering.{nat_cmp, ordering_then, is_lt}
 use Rattle.std.specs.Cmp.{IsTotalOrder, nat_cmp_total, on_total, then_total}
 use Rattle.point_codec.specs.declared.entries.Near.{Near}
-use Rattle.nearest_query.specs.Nearest.{ComesBefore}
+use Rattle.documents.specs.NearestEntries.{ComesBefore}
 use Rattle.nearest_query.specs.Best.{near_cmp}
 
 pub near_total : IsTotalOrder near_cmp

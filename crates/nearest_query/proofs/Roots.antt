@@ -18,7 +18,7 @@ use Rattle.inner_pack.specs.Nodes.{IsAt}
 use Rattle.inner_pack.specs.declared.node.NodeAt.{NodeAt}
 use Rattle.segment_file.specs.Heads.{Head}
 use Rattle.segment_file.specs.Segments.{HoldsTree, HoldsLeaf}
-use Rattle.nearest_query.specs.Nearest.{near_of, nears_of}
+use Rattle.documents.specs.NearestEntries.{near_of, nears_of}
 use Rattle.nearest_query.specs.Segments.{live_items, live_in, least_dist2, is_within, near_leaves, AreNearLeaves}
 use Rattle.nearest_query.specs.Fronts.{Front, IsWaiting, span, spread}
 use Rattle.nearest_query.specs.Search.{World, IsNode, HasLeaves, HasRoots, head_at, live_at, nears_at, one_within, no_live}

@@ -18,7 +18,7 @@ use Rattle.segment_file.specs.Heads.{Head}
 use Rattle.segment_file.specs.Segments.{HoldsTree, IsSegment}
 use Rattle.nearest_query.specs.declared.candidates.Candidates.{Candidates}
 use Rattle.nearest_query.specs.declared.frontier.Waiting.{Waiting}
-use Rattle.nearest_query.specs.Nearest.{near_of, nears_of}
+use Rattle.documents.specs.NearestEntries.{near_of, nears_of}
 use Rattle.nearest_query.specs.Best.{AreAdded}
 use Rattle.nearest_query.specs.Segments.{live_items, live_in, AreSegments, AreNearLeaves}
 use Rattle.nearest_query.specs.Fronts.{span, spread}

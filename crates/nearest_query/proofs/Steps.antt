@@ -24,7 +24,7 @@ use Rattle.segment_file.specs.Heads.{Head}
 use Rattle.segment_file.specs.Segments.{HoldsLeaf}
 use Rattle.nearest_query.specs.declared.candidates.Candidates.{Candidates}
 use Rattle.nearest_query.specs.declared.frontier.Waiting.{Waiting}
-use Rattle.nearest_query.specs.Nearest.{nears_of}
+use Rattle.documents.specs.NearestEntries.{nears_of}
 use Rattle.nearest_query.specs.Best.{AreBest, AreAdded}
 use Rattle.nearest_query.specs.Segments.{live_items, least_dist2, is_within}
 use Rattle.nearest_query.specs.Fronts.{Front, IsWaiting, span, spread}

@@ -10,7 +10,7 @@ use Rattle.std.specs.Ordering.{eq_by_cmp}
 use Rattle.std.specs.Cmp.{eq_by_cmp_equiv}
 use Rattle.point_codec.proofs.Ordered.{in_order_is}
 use Rattle.point_codec.specs.declared.entries.Near.{Near}
-use Rattle.nearest_query.specs.Nearest.{ComesBefore, HasNumber, IsNearest}
+use Rattle.documents.specs.NearestEntries.{ComesBefore, HasNumber, IsNearest}
 use Rattle.nearest_query.specs.Best.{near_cmp}
 use Rattle.nearest_query.proofs.Order.{near_total, near_exact, same_near, less_from_before, before_itself, before_trans, cons_cases, cons_head, cons_tail, nil_none}
 

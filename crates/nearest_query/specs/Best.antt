@@ -6,7 +6,7 @@ use Rattle.std.specs.BTreeSet as sorted
 use Rattle.std.specs.HashMap as hash
 use Rattle.point_codec.specs.declared.entries.Near.{Near}
 use Rattle.nearest_query.specs.declared.candidates.Candidates.{Candidates}
-use Rattle.nearest_query.specs.Nearest.{IsNearest}
+use Rattle.documents.specs.NearestEntries.{IsNearest}
 
 -- by distance, and where that is equal by number
 abbrev pub near_cmp : Near → Near → Ordering

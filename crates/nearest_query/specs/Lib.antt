@@ -1,6 +1,4 @@
-pub mod Nearest
 pub mod Best
 pub mod Segments
 pub mod Fronts
 pub mod Search
-pub mod OfDocuments

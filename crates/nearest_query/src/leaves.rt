@@ -14,7 +14,7 @@ ghost use Rattle.page_cache.specs.Causes.{HasPageCause};
 ghost use Rattle.page_cache.specs.Evidence.{OnDamage, NotDamaged};
 ghost use Rattle.segment_file.specs.Segments.{HoldsLeaf};
 ghost use Rattle.segment_file.specs.Damages.{IsLeafDamage, IsLeafDamageOf};
-ghost use Rattle.nearest_query.specs.Nearest.{nears_of};
+ghost use Rattle.documents.specs.NearestEntries.{nears_of};
 ghost use Rattle.nearest_query.specs.Best.{AreBest, AreAdded};
 ghost use Rattle.nearest_query.specs.Segments.{live_items};
 

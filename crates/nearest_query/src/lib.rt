@@ -10,7 +10,7 @@ mod query;
 mod search;
 mod survey;
 
-pub use laws::{nearest_of_documents, one_nearest};
+pub use laws::one_nearest;
 pub use query::nearest;
 pub use survey::survey_near;
 

@@ -11,7 +11,7 @@ ghost use Rattle.page_cache.specs.Cache.{KeepsFile, Agrees};
 ghost use Rattle.page_cache.specs.Causes.{HasPageCause};
 ghost use Rattle.page_cache.specs.Evidence.{OnDamage, NotDamaged};
 ghost use Rattle.segment_file.specs.Damages.{IsLeafDamageOf};
-ghost use Rattle.nearest_query.specs.Nearest.{IsNearest, nears_of};
+ghost use Rattle.documents.specs.NearestEntries.{IsNearest, nears_of};
 ghost use Rattle.nearest_query.specs.Segments.{AreSegments, AreNearLeaves, HasId, HaveTrees, IsSegmentDamage, live_in, bound_of};
 ghost use Rattle.nearest_query.specs.Fronts.{Front, span, spread};
 ghost use Rattle.nearest_query.specs.Search.{World, IsOver, IsInside, IsPart, IsNode, HasRoots, head_at};

@@ -1,7 +1,7 @@
 use Rattle.std.proofs.Common.{◌∙◌, ap, sym}
 use Rattle.std.proofs.lemmas.List.{take_all}
 use Rattle.point_codec.specs.Seen.{items_of}
-use Rattle.nearest_query.specs.Nearest.{nears_of}
+use Rattle.documents.specs.NearestEntries.{nears_of}
 use Rattle.nearest_query.proofs.Added.{added_more, added_same, entries_more, with_dist}
 use Rattle.nearest_query.proofs.leaves.offer_all.Goals as goal
 

@@ -1,7 +1,7 @@
 use Rattle.std.proofs.Common.{◌≡◌, ◌<◌, ◌∙◌, ap, sym, length, get_or, arith, true, false}
 use Rattle.std.proofs.lemmas.List.{take_all}
 use Rattle.live_bits.specs.LiveSet.{is_live}
-use Rattle.nearest_query.specs.Nearest.{nears_of}
+use Rattle.documents.specs.NearestEntries.{nears_of}
 use Rattle.nearest_query.specs.Segments.{live_items}
 use Rattle.nearest_query.proofs.Added.{added_more, added_same, live_more, dead_more, no_item, read_item, read_same, near_read, near_with}
 use Rattle.nearest_query.proofs.leaves.offer_leaf.Goals as goal

@@ -1,6 +1,6 @@
 use Rattle.std.proofs.Common.{◌≡◌, List, take}
 use Rattle.point_codec.specs.declared.entries.Near.{Near}
-use Rattle.nearest_query.specs.Nearest.{nears_of}
+use Rattle.documents.specs.NearestEntries.{nears_of}
 use Rattle.nearest_query.specs.Best.{AreBest, AreAdded}
 use Rattle.nearest_query.specs.Segments.{live_items}
 use Rattle.nearest_query.proofs.leaves.offer_leaf.Given as goal

@@ -1,7 +1,7 @@
 use Rattle.std.proofs.lemmas.Result.{err_from_is_err_and}
 use Rattle.std.proofs.Common.{subst}
 use Rattle.inner_pack.specs.Trees.{Leaf}
-use Rattle.nearest_query.specs.Nearest.{nears_of}
+use Rattle.documents.specs.NearestEntries.{nears_of}
 use Rattle.nearest_query.specs.Best.{AreAdded}
 use Rattle.nearest_query.specs.Segments.{live_items}
 use Rattle.nearest_query.proofs.Placed.{one_holding, holding_page}

@@ -2,7 +2,7 @@ use Rattle.std.proofs.lemmas.Result.{err_from_is_err_and}
 use Rattle.std.proofs.Common.{◌++◌, [], ap, subst, sym, refl, ◌∙◌, arith}
 use Rattle.std.specs.Prelude.{sum_by}
 use Rattle.point_codec.specs.Seen.{items_of}
-use Rattle.nearest_query.specs.Nearest.{IsNearest, nears_of}
+use Rattle.documents.specs.NearestEntries.{IsNearest, nears_of}
 use Rattle.nearest_query.specs.Segments.{live_in, bound_of}
 use Rattle.nearest_query.specs.Search.{one_within}
 use Rattle.nearest_query.specs.Fronts.{spread}
@@ -71,3 +71,15 @@ returns-in_err-search-clause-shown g c = λ trees have.
     let h = c.in_err-search.ensures.shown trees (c.in_ok-put_roots.ensures.parts trees have) in
     let p = err_from_is_err_and c.from_residual-in_err-search.result c.from_residual-in_err-search.ensures.1 in
     rw (p.1, p.2) h
+
+pub returns-in_err-search-clause-cause : goal.returns-in_err-search-clause-cause
+returns-in_err-search-clause-cause g c =
+    let h = c.in_err-search.ensures.cause in
+    let p = err_from_is_err_and c.from_residual-in_err-search.result c.from_residual-in_err-search.ensures.1 in
+    rw (p.1, p.2) (record { later = h.later; fine = tt; failed = λ e. h.failed cc })
+
+pub returns-in_err-found-clause-cause : goal.returns-in_err-found-clause-cause
+returns-in_err-found-clause-cause g c =
+    let h = c.in_ok-search.ensures.cause in
+    let p = err_from_is_err_and c.from_residual-in_err-found.result c.from_residual-in_err-found.ensures.1 in
+    rw (p.1, p.2) (record { later = h.later; fine = tt; failed = λ e. absurd cc })

@@ -4,7 +4,7 @@ use Rattle.std.specs.Prelude.{All}
 use Rattle.std.proofs.lemmas.List.Sorted.{All-permutation, sum_by_popped}
 use Rattle.std.proofs.lemmas.List.Elements.{All-cons, All-head, All-tail}
 use Rattle.page_cache.specs.Cache.{Agrees}
-use Rattle.nearest_query.specs.Nearest.{IsNearest}
+use Rattle.documents.specs.NearestEntries.{IsNearest}
 use Rattle.nearest_query.specs.Segments.{bound_of}
 use Rattle.nearest_query.specs.Fronts.{spread, work}
 use Rattle.nearest_query.specs.Search.{IsInside, IsPart, IsSought, one_within}

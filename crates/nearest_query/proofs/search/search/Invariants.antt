@@ -3,7 +3,7 @@ use Rattle.std.specs.Prelude.{IsTrue, All, sum_by}
 use Rattle.point_codec.specs.declared.entries.Near.{Near}
 use Rattle.inner_pack.specs.Trees.{IndexTree}
 use Rattle.page_cache.specs.Cache.{KeepsFile, Agrees}
-use Rattle.nearest_query.specs.Nearest.{IsNearest}
+use Rattle.documents.specs.NearestEntries.{IsNearest}
 use Rattle.nearest_query.specs.Segments.{HasId, bound_of}
 use Rattle.nearest_query.specs.Fronts.{spread, work}
 use Rattle.nearest_query.specs.Search.{World, IsOver, IsInside, IsPart, IsSought, one_within}
