@@ -7,7 +7,7 @@ ghost use Rattle.std.specs.declared.boxed.Box.{Box};
 ghost use Rattle.std.specs.declared.alloc.Global.{Global};
 ghost use Rattle.page_file.specs.declared.page.PageBytes.{PageBytes};
 ghost use Rattle.page_cache.specs.declared.key.PageKey.{PageKey};
-ghost use Rattle.page_cache.specs.Keys.{Kept, without, HasKey, KeepsIn, KeepsNoMore, KeepsOneMore, is_of_other};
+ghost use Rattle.page_cache.specs.Keys.{Kept, same_key, without, HasKey, KeepsIn, KeepsNoMore, KeepsOneMore, is_of_other};
 
 use crate::faults::Memory;
 use crate::key::PageKey;

@@ -1,0 +1,15 @@
+pub mod Results
+pub mod Order
+pub mod Offers
+pub mod Links
+pub mod Kept
+pub mod Added
+pub mod Turns
+pub mod Placed
+pub mod Distances
+pub mod Unique
+pub mod Steps
+pub mod Ends
+pub mod Roots
+pub mod Start
+pub mod Parts

@@ -1,0 +1,116 @@
+use Rattle.std.proofs.lemmas.Result.{err_from_is_err_and}
+use Rattle.std.proofs.Common.{◌∷◌, ◌≤◌, inr, ⊎_elim, length, subst, sym, ◌∙◌, arith, rules}
+use Rattle.std.specs.Prelude.{All}
+use Rattle.std.proofs.lemmas.List.Sorted.{All-permutation, sum_by_popped}
+use Rattle.std.proofs.lemmas.List.Elements.{All-cons, All-head, All-tail}
+use Rattle.page_cache.specs.Cache.{Agrees}
+use Rattle.documents.specs.NearestEntries.{IsNearest}
+use Rattle.nearest_query.specs.Segments.{bound_of}
+use Rattle.nearest_query.specs.Fronts.{spread, work}
+use Rattle.nearest_query.specs.Search.{IsInside, IsPart, IsSought, one_within}
+use Rattle.nearest_query.proofs.Steps.{sought_moved}
+use Rattle.nearest_query.proofs.Ends.{stop_nearest, end_nearest, next_node, next_within}
+use Rattle.nearest_query.proofs.search.search.Goals as goal
+
+pub returns-then-ends_before-clause-answer : goal.returns-then-ends_before-clause-answer
+returns-then-ends_before-clause-answer g c = λ told agrees w all over s.
+    let ended = c.ends_before.ensures.yes c.if-ends_before.true in
+    let d = c.in-Some.next.dist2.0 in
+    let far : All (λ t. d ≤ t.dist2.0) (c.in-Some.next ∷ c.pop.new.self.turns) = All-cons (λ t. d ≤ t.dist2.0) c.in-Some.next c.pop.new.self.turns (omega arith) c.in-Some.ensures.least in
+    let here = sought_moved w all c.loop-next.frontier.turns (c.in-Some.next ∷ c.pop.new.self.turns) c.loop-next.frontier.nodes c.loop-next.found c.in-Some.ensures.some (c.loop-next.invariant.sought told agrees w all over s) in
+    subst (λ k. IsNearest k all c.loop-next.found.in_order.keys) c.loop-next.invariant.room
+    (stop_nearest w all (c.in-Some.next ∷ c.pop.new.self.turns) c.loop-next.frontier.nodes c.loop-next.found here d far ended.0 ended.1)
+
+pub returns-then-ends_before-clause-reads : goal.returns-then-ends_before-clause-reads
+returns-then-ends_before-clause-reads g c = λ told agrees w all nearest over s is.
+    let r = c.loop-next.invariant.reads told agrees w all nearest over s is in
+    omega (arith, r)
+
+pub open-requires : goal.open-requires
+open-requires g c = (
+  search rules,
+  (
+    search rules,
+    (
+      search rules,
+      (
+        c.requires.lives,
+        subst (λ ns. IsInside (length c.args.heads.now) ns c.in-Some.next) (sym c.in-Some.ensures.nodes)
+            (All-head (IsInside (length c.args.heads.now) c.loop-next.frontier.nodes) c.in-Some.next c.pop.new.self.turns
+            (All-permutation (IsInside (length c.args.heads.now) c.loop-next.frontier.nodes) c.loop-next.frontier.turns (c.in-Some.next ∷ c.pop.new.self.turns) c.in-Some.ensures.some c.loop-next.invariant.inside)),
+      ),
+    ),
+  ),
+)
+
+pub loop-next-smaller : goal.loop-next-smaller
+loop-next-smaller g c =
+    let p = sum_by_popped work c.in-Some.next c.loop-next.frontier.turns c.pop.new.self.turns c.in-Some.ensures.some in
+    let o = c.in_ok-open.ensures.work in
+    omega (arith, p, o)
+
+pub loop-next-preserved : goal.loop-next-preserved
+loop-next-preserved g c = record {
+  room = c.in_ok-open.ensures.room ∙ c.loop-next.invariant.room;
+  files = λ told. c.in_ok-open.ensures.files told ∙ c.loop-next.invariant.files told;
+  faults = c.in_ok-open.ensures.cause.fine ∙ c.loop-next.invariant.faults;
+  others = λ i h. ⊎_elim (λ k. c.loop-next.invariant.others i k) (λ k. inr k) (c.in_ok-open.ensures.others i h);
+  agrees = λ told a. subst (λ f. Agrees f c.open.new.cache) (c.loop-next.invariant.files told)
+      (c.in_ok-open.ensures.agrees told (subst (λ f. Agrees f c.loop-next.cache) (sym (c.loop-next.invariant.files told)) (c.loop-next.invariant.agrees told a)));
+  inside = c.in_ok-open.ensures.inside
+      (subst (λ ns. All (IsInside (length c.args.heads.now) ns) c.pop.new.self.turns) (sym c.in-Some.ensures.nodes)
+      (All-tail (IsInside (length c.args.heads.now) c.loop-next.frontier.nodes) c.in-Some.next c.pop.new.self.turns
+      (All-permutation (IsInside (length c.args.heads.now) c.loop-next.frontier.nodes) c.loop-next.frontier.turns (c.in-Some.next ∷ c.pop.new.self.turns) c.in-Some.ensures.some c.loop-next.invariant.inside)));
+  parts = λ trees all. c.in_ok-open.ensures.parts trees
+      (subst (λ ns. All (IsPart c.args.heads.now trees ns) (c.in-Some.next ∷ c.pop.new.self.turns)) (sym c.in-Some.ensures.nodes)
+      (All-permutation (IsPart c.args.heads.now trees c.loop-next.frontier.nodes) c.loop-next.frontier.turns (c.in-Some.next ∷ c.pop.new.self.turns) c.in-Some.ensures.some (c.loop-next.invariant.parts trees all)));
+  sought = λ told a w all over s.
+      c.in_ok-open.ensures.sought told (subst (λ f. Agrees f c.loop-next.cache) (sym (c.loop-next.invariant.files told)) (c.loop-next.invariant.agrees told a)) w all
+      (record { at_is = over.at_is; heads_are = over.heads_are; lives_are = over.lives_are; files_are = over.files_are ∙ sym (c.loop-next.invariant.files told) })
+      (subst (λ ns. IsSought g.row.D w all (c.in-Some.next ∷ c.pop.new.self.turns) ns c.loop-next.found) (sym c.in-Some.ensures.nodes)
+      (sought_moved w all c.loop-next.frontier.turns (c.in-Some.next ∷ c.pop.new.self.turns) c.loop-next.frontier.nodes c.loop-next.found c.in-Some.ensures.some (c.loop-next.invariant.sought told a w all over s)));
+  reads = λ told a w all nearest over s is.
+      let r = c.loop-next.invariant.reads told a w all nearest over s is in
+      let here = sought_moved w all c.loop-next.frontier.turns (c.in-Some.next ∷ c.pop.new.self.turns) c.loop-next.frontier.nodes c.loop-next.found c.in-Some.ensures.some (c.loop-next.invariant.sought told a w all over s) in
+      let o = c.in_ok-open.ensures.reads w (bound_of c.args.found.now.room nearest) (next_node w all c.in-Some.next c.pop.new.self.turns c.loop-next.frontier.nodes c.pop.new.self.nodes c.loop-next.found here c.in-Some.ensures.nodes) over.at_is
+      (next_within w all c.in-Some.next c.pop.new.self.turns c.loop-next.frontier.nodes c.loop-next.found here c.args.found.now.room nearest c.loop-next.invariant.room is c.in-Some.ensures.least (c.ends_before.ensures.no c.if-ends_before.false)) in
+      let p = sum_by_popped (spread (one_within w (bound_of c.args.found.now.room nearest))) c.in-Some.next c.loop-next.frontier.turns c.pop.new.self.turns c.in-Some.ensures.some in
+      omega (arith, r, o, p);
+}
+
+pub returns-in_err-open-clause-reads : goal.returns-in_err-open-clause-reads
+returns-in_err-open-clause-reads g c = λ told a w all nearest over s is.
+    let r = c.loop-next.invariant.reads told a w all nearest over s is in
+    let here = sought_moved w all c.loop-next.frontier.turns (c.in-Some.next ∷ c.pop.new.self.turns) c.loop-next.frontier.nodes c.loop-next.found c.in-Some.ensures.some (c.loop-next.invariant.sought told a w all over s) in
+    let o = c.in_err-open.ensures.reads w (bound_of c.args.found.now.room nearest) (next_node w all c.in-Some.next c.pop.new.self.turns c.loop-next.frontier.nodes c.pop.new.self.nodes c.loop-next.found here c.in-Some.ensures.nodes) over.at_is
+    (next_within w all c.in-Some.next c.pop.new.self.turns c.loop-next.frontier.nodes c.loop-next.found here c.args.found.now.room nearest c.loop-next.invariant.room is c.in-Some.ensures.least (c.ends_before.ensures.no c.if-ends_before.false)) in
+    let p = sum_by_popped (spread (one_within w (bound_of c.args.found.now.room nearest))) c.in-Some.next c.loop-next.frontier.turns c.pop.new.self.turns c.in-Some.ensures.some in
+    omega (arith, r, o, p)
+
+pub returns-clause-answer : goal.returns-clause-answer
+returns-clause-answer g c = λ told agrees w all over s.
+    subst (λ k. IsNearest k all c.loop-next.found.in_order.keys) c.loop-next.invariant.room
+    (end_nearest w all c.loop-next.frontier.turns c.loop-next.frontier.nodes c.loop-next.found (c.loop-next.invariant.sought told agrees w all over s) c.in_default.ensures.none)
+
+pub returns-clause-reads : goal.returns-clause-reads
+returns-clause-reads g c = λ told agrees w all nearest over s is.
+    let r = c.loop-next.invariant.reads told agrees w all nearest over s is in
+    omega (arith, r)
+
+pub returns-in_err-open-clause-whole : goal.returns-in_err-open-clause-whole
+returns-in_err-open-clause-whole g c = λ told a w all over s.
+    let here = sought_moved w all c.loop-next.frontier.turns (c.in-Some.next ∷ c.pop.new.self.turns) c.loop-next.frontier.nodes c.loop-next.found c.in-Some.ensures.some (c.loop-next.invariant.sought told a w all over s) in
+    let h = c.in_err-open.ensures.whole told (subst (λ f. Agrees f c.loop-next.cache) (sym (c.loop-next.invariant.files told)) (c.loop-next.invariant.agrees told a)) w
+    (record { at_is = over.at_is; heads_are = over.heads_are; lives_are = over.lives_are; files_are = over.files_are ∙ sym (c.loop-next.invariant.files told) })
+    (next_node w all c.in-Some.next c.pop.new.self.turns c.loop-next.frontier.nodes c.pop.new.self.nodes c.loop-next.found here c.in-Some.ensures.nodes) in
+    let p = err_from_is_err_and c.from_residual.result c.from_residual.ensures.1 in
+    rw (p.1, p.2) h
+
+pub returns-in_err-open-clause-shown : goal.returns-in_err-open-clause-shown
+returns-in_err-open-clause-shown g c = λ trees all.
+    let h = c.in_err-open.ensures.shown trees
+    (subst (λ ns. IsPart c.args.heads.now trees ns c.in-Some.next) (sym c.in-Some.ensures.nodes)
+    (All-head (IsPart c.args.heads.now trees c.loop-next.frontier.nodes) c.in-Some.next c.pop.new.self.turns
+    (All-permutation (IsPart c.args.heads.now trees c.loop-next.frontier.nodes) c.loop-next.frontier.turns (c.in-Some.next ∷ c.pop.new.self.turns) c.in-Some.ensures.some (c.loop-next.invariant.parts trees all)))) in
+    let p = err_from_is_err_and c.from_residual.result c.from_residual.ensures.1 in
+    rw (p.1, p.2) h

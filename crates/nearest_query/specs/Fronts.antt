@@ -1,0 +1,41 @@
+-- What contracts see of the nodes that wait.
+use Rattle.std.specs.Prelude.{ℕ, ◌+◌, ◌-◌, ◌*◌, ◌≡◌, List, [], ◌∷◌, ◌++◌, length, sum_by, ℤ}
+use Rattle.std.specs.List.{range_with_len}
+use Rattle.std.specs.List.Sorted.{IsPermutation}
+use Rattle.std.specs.declared.cmp.Ordering.{Ordering}
+use Rattle.std.specs.Ordering.{nat_cmp}
+use Rattle.point_codec.specs.Points.{Region}
+use Rattle.inner_pack.specs.Places.{Spot}
+use Rattle.inner_pack.specs.Trees.{IndexTree, cell_of, leaf_count}
+use Rattle.inner_pack.specs.Nodes.{IsAt}
+use Rattle.inner_pack.specs.declared.node.NodeAt.{NodeAt}
+use Rattle.nearest_query.specs.declared.frontier.Waiting.{Waiting}
+use Rattle.nearest_query.specs.Segments.{least_dist2}
+
+-- the nearest comes first
+abbrev pub wait_cmp : Waiting → Waiting → Ordering
+wait_cmp a b = nat_cmp b.dist2.0 a.dist2.0
+
+-- the turns of the nodes that wait, in no order, and all nodes that ever waited, told by their places
+pub record Front (D : ℕ) : Type 0 where
+  pub turns : List Waiting
+  pub nodes : List (NodeAt D)
+
+-- the sum of g over so many leaves of segment i
+abbrev pub span : (ℕ → ℕ → ℕ) → (i first count : ℕ) → ℕ
+span g i first count = sum_by (g i) (range_with_len first count)
+
+abbrev pub spread : (ℕ → ℕ → ℕ) → Waiting → ℕ
+spread g t = span g t.segment t.first t.leaves
+
+-- how much is left to do below a node; more than for both children together
+abbrev pub work : Waiting → ℕ
+work t = 2 * t.leaves - 1 + (1 - t.leaves)
+
+-- a node waits now, by its least distance from the point
+pub record IsWaiting {D : ℕ} (at : List ℤ) (segment : ℕ) (node : NodeAt D) (old new : Front D) : Type 0 where
+  pub dist : ℕ
+  pub grown : new.nodes ≡ old.nodes ++ node ∷ []
+  pub moved : IsPermutation (record { dist2 = record { 0 = dist }; segment = segment; first = node.first; leaves = node.leaves; place = length old.nodes } ∷ old.turns) new.turns
+  pub is : (first : ℕ) (s : Spot) (path : Region) (t : IndexTree) → IsAt node first s path t
+      → (dist ≡ least_dist2 at (cell_of path t)) × (node.first ≡ first) × (node.leaves ≡ leaf_count t)

@@ -1,0 +1,4 @@
+pub mod Best
+pub mod Segments
+pub mod Fronts
+pub mod Search

@@ -1,0 +1,104 @@
+//! Entries offered to the candidates: those of a leaf, and those of the buffer.
+
+ghost use Rattle.std.specs.Prelude.{◌≡◌, ◌≤◌, ◌+◌, ◌⊎◌, ℕ, List, [], IsTrue, OnOk, IfOk};
+ghost use Rattle.outer_io.specs.Files.{bytes_of};
+ghost use Rattle.outer_io.specs.declared.file_name.FileName.TheVariants.{Segment};
+ghost use Rattle.point_codec.specs.Points.{Item, Region};
+ghost use Rattle.point_codec.specs.Seen.{items_of};
+ghost use Rattle.point_codec.specs.declared.entries.Near.{Near};
+ghost use Rattle.inner_pack.specs.Places.{Spot};
+ghost use Rattle.inner_pack.specs.Trees.{IndexTree, Leaf};
+ghost use Rattle.inner_pack.specs.Nodes.{IsAt};
+ghost use Rattle.page_cache.specs.Cache.{KeepsFile, Agrees};
+ghost use Rattle.page_cache.specs.Causes.{HasPageCause};
+ghost use Rattle.page_cache.specs.Evidence.{OnDamage, NotDamaged};
+ghost use Rattle.segment_file.specs.Segments.{HoldsLeaf};
+ghost use Rattle.segment_file.specs.Damages.{IsLeafDamage, IsLeafDamageOf};
+ghost use Rattle.documents.specs.NearestEntries.{nears_of};
+ghost use Rattle.nearest_query.specs.Best.{AreBest, AreAdded};
+ghost use Rattle.nearest_query.specs.Segments.{live_items};
+
+use crate::candidates::Candidates;
+use inner_pack::NodeAt;
+use leaf_codec::LeafView;
+use live_bits::LiveBits;
+use outer_io::Pages;
+use page_cache::{PageCache, PageFault};
+use point_codec::{Entry, Near, Point};
+use segment_file::{SegmentHead, bad_leaf, leaf_in, load_leaf};
+use std::alloc::{AllocError, Global};
+
+/// Offers the live entries of a leaf. Its page is read where it isn't kept.
+pub fn open_leaf<const D: usize, F: Pages>(
+    alloc: Global,
+    folder: &mut F,
+    cache: &mut PageCache,
+    head: &SegmentHead<D>,
+    live: &LiveBits,
+    node: &NodeAt<'_, D>,
+    at: &Point<D>,
+    found: &mut Candidates,
+) -> Result<(), PageFault>
+    requires leaf { node.now.leaves ≡ 1 }
+    ensures files { IsTrue F.told → F.files folder.new ≡ F.files folder.old }
+    ensures reads { F.reads folder.new ≤ F.reads folder.old + 1 }
+    ensures cause { HasPageCause (F.faults folder.old) (F.faults folder.new) result }
+    ensures others { (i : ℕ) → KeepsFile cache.new i → KeepsFile cache.old i ⊎ (i ≡ head.now.id) }
+    ensures agrees { IsTrue F.told → Agrees (F.files folder.old) cache.old → Agrees (F.files folder.old) cache.new }
+    ensures room { found.new.room ≡ found.old.room }
+    ensures found { IsTrue F.told → Agrees (F.files folder.old) cache.old → (first : ℕ) (s : Spot) (path : Region) (len : ℕ) (own : Region) (items : List Item) (seen : List Near)
+        → IsAt node.now first s path (Leaf len own) → HoldsLeaf D (bytes_of (F.files folder.old (Segment head.now.id))) head.now first s len own items
+        → AreBest seen found.old → OnOk result (AreAdded seen (nears_of at.now.c (live_items live.now items)) found.new) }
+    ensures damage { IsTrue F.told → Agrees (F.files folder.old) cache.old → OnDamage result (IsLeafDamageOf (F.files folder.old)) }
+    ensures shown { (first : ℕ) (s : Spot) (path : Region) (t : IndexTree) → IsAt node.now first s path t → OnDamage result (IsLeafDamage D head.now first s t) }
+    ensures whole { IsTrue F.told → Agrees (F.files folder.old) cache.old → (first : ℕ) (s : Spot) (path : Region) (len : ℕ) (own : Region) (items : List Item)
+        → IsAt node.now first s path (Leaf len own) → HoldsLeaf D (bytes_of (F.files folder.old (Segment head.now.id))) head.now first s len own items → NotDamaged result }
+{
+    let place = load_leaf(alloc, folder, cache, head, node)?;
+    let Some(view) = leaf_in(cache, head, node, place) else {
+        return Err(bad_leaf(cache, head, node, place));
+    };
+    offer_leaf(&view, live, at, found)?;
+    Ok(())
+}
+
+/// Offers the live entries of a leaf that is read in place.
+fn offer_leaf<const D: usize>(
+    view: &LeafView<'_, D>,
+    live: &LiveBits,
+    at: &Point<D>,
+    found: &mut Candidates,
+) -> Result<(), AllocError>
+    ensures room { found.new.room ≡ found.old.room }
+    ensures found { (seen : List Near) → AreBest seen found.old → OnOk result (AreAdded seen (nears_of at.now.c (live_items live.now view.now)) found.new) }
+{
+    for i in 0..view.count() {
+        let doc = view.doc(i);
+        if !live.is_live(doc) {
+            continue;
+        }
+        found.offer(Near {
+            dist2: view.point(i).dist2(at),
+            doc,
+        })?;
+    }
+    Ok(())
+}
+
+/// Offers all of the entries.
+pub fn offer_all<const D: usize>(
+    entries: &[Entry<D>],
+    at: &Point<D>,
+    found: &mut Candidates,
+) -> Result<(), AllocError>
+    ensures room { found.new.room ≡ found.old.room }
+    ensures found { (seen : List Near) → AreBest seen found.old → OnOk result (AreAdded seen (nears_of at.now.c (items_of entries.now)) found.new) }
+{
+    for entry in entries {
+        found.offer(Near {
+            dist2: entry.point.dist2(at),
+            doc: entry.doc,
+        })?;
+    }
+    Ok(())
+}

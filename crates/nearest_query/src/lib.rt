@@ -1,0 +1,18 @@
+//! The k nearest documents of segments and a buffer, found best first: nodes wait in a queue by their least distance, and a
+//! leaf is read only where it may hold one of the k.
+#![tactic(auto)]
+
+mod candidates;
+mod frontier;
+mod laws;
+mod leaves;
+mod query;
+mod search;
+mod survey;
+
+pub use laws::one_nearest;
+pub use query::nearest;
+pub use survey::survey_near;
+
+#[cfg(test)]
+mod tests;

@@ -1,0 +1,130 @@
+//! The search, best first.
+
+ghost use Rattle.std.specs.Prelude.{◌≡◌, ◌≤◌, ◌<◌, ◌+◌, ◌⊎◌, ℕ, List, [], ◌∷◌, length, All, IsTrue, true, OnOk, sum_by, Option};
+ghost use Rattle.point_codec.specs.Points.{Region};
+ghost use Rattle.point_codec.specs.declared.entries.Near.{Near};
+ghost use Rattle.inner_pack.specs.Places.{Spot};
+ghost use Rattle.inner_pack.specs.Trees.{IndexTree, leaf_count};
+ghost use Rattle.inner_pack.specs.Nodes.{IsAt};
+ghost use Rattle.page_cache.specs.Cache.{KeepsFile, Agrees};
+ghost use Rattle.page_cache.specs.Causes.{HasPageCause};
+ghost use Rattle.page_cache.specs.Evidence.{OnDamage, NotDamaged};
+ghost use Rattle.segment_file.specs.Damages.{IsLeafDamageOf};
+ghost use Rattle.documents.specs.NearestEntries.{IsNearest};
+ghost use Rattle.nearest_query.specs.Segments.{HasId, IsSegmentDamage, is_within, bound_of};
+ghost use Rattle.nearest_query.specs.Fronts.{Front, IsWaiting, span, spread, work};
+ghost use Rattle.nearest_query.specs.Search.{World, IsOver, IsInside, IsPart, IsNode, IsSought, one_within};
+
+use crate::candidates::Candidates;
+use crate::frontier::{Frontier, Waiting};
+use crate::leaves::open_leaf;
+use inner_pack::NodeAt;
+use live_bits::LiveBits;
+use outer_io::Pages;
+use page_cache::{PageCache, PageFault};
+use point_codec::Point;
+use segment_file::SegmentHead;
+use std::alloc::{AllocError, Global};
+
+/// Lets both children of a node wait.
+fn fork<'a, const D: usize>(
+    frontier: &mut Frontier<'a, D>,
+    segment: usize,
+    left: &NodeAt<'a, D>,
+    right: &NodeAt<'a, D>,
+    at: &Point<D>,
+) -> Result<(), AllocError>
+    ensures put { OnOk result ((mid : Front D) × IsWaiting at.now.c segment left.now frontier.old mid × IsWaiting at.now.c segment right.now mid frontier.new) }
+    ensures counted { (first : ℕ) (s : Spot) (path : Region) (t : IndexTree) → IsAt left.now first s path t → left.now.leaves ≡ leaf_count t }
+    ensures most { (g : ℕ → ℕ → ℕ) → sum_by (spread g) frontier.new.turns
+        ≤ span g segment left.now.first left.now.leaves + span g segment right.now.first right.now.leaves + sum_by (spread g) frontier.old.turns }
+{
+    frontier.put(segment, left, at)?;
+    frontier.put(segment, right, at)?;
+    Ok(())
+}
+
+/// Opens a node that was taken out: its children wait then, and the entries of a leaf are offered to the candidates.
+fn open<'a, const D: usize, F: Pages>(
+    alloc: Global,
+    folder: &mut F,
+    cache: &mut PageCache,
+    heads: &'a [SegmentHead<D>],
+    lives: &[LiveBits],
+    at: &Point<D>,
+    next: Waiting,
+    frontier: &mut Frontier<'a, D>,
+    found: &mut Candidates,
+) -> Result<(), PageFault>
+    requires lives { length lives.now ≡ length heads.now }
+    requires inside { IsInside (length heads.now) frontier.old.nodes next }
+    ensures files { IsTrue F.told → F.files folder.new ≡ F.files folder.old }
+    ensures cause { HasPageCause (F.faults folder.old) (F.faults folder.new) result }
+    ensures others { (i : ℕ) → KeepsFile cache.new i → KeepsFile cache.old i ⊎ HasId heads.now i }
+    ensures agrees { IsTrue F.told → Agrees (F.files folder.old) cache.old → Agrees (F.files folder.old) cache.new }
+    ensures room { found.new.room ≡ found.old.room }
+    ensures work { OnOk result (sum_by work frontier.new.turns < work next + sum_by work frontier.old.turns) }
+    ensures inside { All (IsInside (length heads.now) frontier.old.nodes) frontier.old.turns → OnOk result (All (IsInside (length heads.now) frontier.new.nodes) frontier.new.turns) }
+    ensures sought { IsTrue F.told → Agrees (F.files folder.old) cache.old → (w : World) (all : List Near) → IsOver w at.now.c heads.now lives.now (F.files folder.old)
+        → IsSought D w all (next ∷ frontier.old.turns) frontier.old.nodes found.old → OnOk result (IsSought D w all frontier.new.turns frontier.new.nodes found.new) }
+    ensures reads { (w : World) (bound : Option ℕ) → IsNode D w frontier.old.nodes next → w.at ≡ at.now.c → is_within bound next.dist2.0 ≡ true
+        → F.reads folder.new + sum_by (spread (one_within w bound)) frontier.new.turns
+        ≤ F.reads folder.old + spread (one_within w bound) next + sum_by (spread (one_within w bound)) frontier.old.turns }
+    ensures damage { IsTrue F.told → Agrees (F.files folder.old) cache.old → OnDamage result (IsLeafDamageOf (F.files folder.old)) }
+    ensures parts { (trees : ℕ → IndexTree) → All (IsPart heads.now trees frontier.old.nodes) (next ∷ frontier.old.turns) → OnOk result (All (IsPart heads.now trees frontier.new.nodes) frontier.new.turns) }
+    ensures shown { (trees : ℕ → IndexTree) → IsPart heads.now trees frontier.old.nodes next → OnDamage result (IsSegmentDamage D heads.now trees) }
+    ensures whole { IsTrue F.told → Agrees (F.files folder.old) cache.old → (w : World) → IsOver w at.now.c heads.now lives.now (F.files folder.old)
+        → IsNode D w frontier.old.nodes next → NotDamaged result }
+{
+    match frontier.node(next.place).children() {
+        Some((left, right)) => Ok(fork(frontier, next.segment, &left, &right, at)?),
+        None => open_leaf(
+            alloc,
+            folder,
+            cache,
+            &heads[next.segment],
+            &lives[next.segment],
+            frontier.node(next.place),
+            at,
+            found,
+        ),
+    }
+}
+
+/// Opens nodes, the nearest first, until no node can have an entry that is among the nearest.
+pub fn search<'a, const D: usize, F: Pages>(
+    alloc: Global,
+    folder: &mut F,
+    cache: &mut PageCache,
+    heads: &'a [SegmentHead<D>],
+    lives: &[LiveBits],
+    at: &Point<D>,
+    frontier: &mut Frontier<'a, D>,
+    found: &mut Candidates,
+) -> Result<(), PageFault>
+    requires lives { length lives.now ≡ length heads.now }
+    requires inside { All (IsInside (length heads.now) frontier.old.nodes) frontier.old.turns }
+    ensures files { IsTrue F.told → F.files folder.new ≡ F.files folder.old }
+    ensures cause { HasPageCause (F.faults folder.old) (F.faults folder.new) result }
+    ensures others { (i : ℕ) → KeepsFile cache.new i → KeepsFile cache.old i ⊎ HasId heads.now i }
+    ensures agrees { IsTrue F.told → Agrees (F.files folder.old) cache.old → Agrees (F.files folder.old) cache.new }
+    ensures answer { IsTrue F.told → Agrees (F.files folder.old) cache.old → (w : World) (all : List Near) → IsOver w at.now.c heads.now lives.now (F.files folder.old)
+        → IsSought D w all frontier.old.turns frontier.old.nodes found.old → OnOk result (IsNearest found.old.room all found.new.in_order.keys) }
+    ensures reads { IsTrue F.told → Agrees (F.files folder.old) cache.old → (w : World) (all nearest : List Near) → IsOver w at.now.c heads.now lives.now (F.files folder.old)
+        → IsSought D w all frontier.old.turns frontier.old.nodes found.old → IsNearest found.old.room all nearest
+        → F.reads folder.new ≤ F.reads folder.old + sum_by (spread (one_within w (bound_of found.old.room nearest))) frontier.old.turns }
+    ensures damage { IsTrue F.told → Agrees (F.files folder.old) cache.old → OnDamage result (IsLeafDamageOf (F.files folder.old)) }
+    ensures shown { (trees : ℕ → IndexTree) → All (IsPart heads.now trees frontier.old.nodes) frontier.old.turns → OnDamage result (IsSegmentDamage D heads.now trees) }
+    ensures whole { IsTrue F.told → Agrees (F.files folder.old) cache.old → (w : World) (all : List Near) → IsOver w at.now.c heads.now lives.now (F.files folder.old)
+        → IsSought D w all frontier.old.turns frontier.old.nodes found.old → NotDamaged result }
+{
+    while let Some(next) = frontier.pop() {
+        if found.ends_before(next.dist2.0) {
+            return Ok(());
+        }
+        open(
+            alloc, folder, cache, heads, lives, at, next, frontier, found,
+        )?;
+    }
+    Ok(())
+}
