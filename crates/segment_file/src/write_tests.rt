@@ -1,11 +1,20 @@
 //! Files as they are written: those of live bits, and those of segments.
 
-use super::{read_live, write_live};
-use crate::tests::{Told, fault_told, folder_with, front};
+ghost use Rattle.std.specs.Prelude.{◌≡◌, ◌≤ℤ◌, ◌∷◌, List, [], length, IfOk};
+ghost use Rattle.point_codec.specs.Points.{Item};
+ghost use Rattle.point_codec.specs.Seen.{region_of};
+ghost use Rattle.leaf_codec.specs.Leaves.{SpellsLeafIn};
+
+use super::{SegmentHead, read_live, write_live, write_segment};
+use crate::tests::{LEAVES, OWN, OWN_HEAD, Told, fault_told, file, folder_with, front};
+use byte_cursor::Bytes;
+use inner_pack::Index;
+use leaf_codec::LeafView;
 use live_bits::LiveBits;
 use outer_io::{FileName, MemFolder};
 use page_cache::SegFault;
 use page_file::seal;
+use point_codec::{Cell, Point};
 use std::test::Fail;
 
 /// The body of segment 2, generation 1 with the numbers 3, 4 and 9.
@@ -89,5 +98,73 @@ fn a_body_of_live_bits_that_is_none_is_told(rt: HostRuntime) -> Result<(), Fail>
     let mut folder = MemFolder::new(rt.alloc(), Vec::new(rt.alloc()));
     let missing = read_live(rt.alloc(), &mut folder, 2, 1);
     assert!(rt; missing.is_err_and(|fault| fault_told(&fault) == Told::Missing));
+    Ok(())
+}
+
+/// The three leaves, of two entries and two and one.
+const FIRST: [u8; 12] = [0, 2, 0, 0, 3, 0x80, 0, 0, 0, 0, 5, 7];
+
+const SECOND: [u8; 9] = [0, 2, 0, 2, 4, 0x80, 0, 0, 7];
+
+const THIRD: [u8; 9] = [0, 1, 0, 4, 4, 0x80, 0, 0, 7];
+
+/// The cell from `lo` to `hi` in one dimension.
+fn line(lo: i32, hi: i32) -> Cell<1>
+    requires { lo ≤ℤ hi }
+    ensures { region_of result ≡ record { lo = lo ∷ []; hi = hi ∷ [] } }
+{
+    Cell {
+        lo: Point { c: [lo] },
+        hi: Point { c: [hi] },
+    }
+}
+
+/// The bytes of a leaf, which are found to spell so many entries in the cell.
+fn leaf(rt: &HostRuntime, bytes: &[u8], cell: &Cell<1>, count: u16) -> Result<Bytes, Fail>
+    ensures long { IfOk result (λ b. length b ≡ length bytes.now) }
+    ensures spells { IfOk result (λ b. (items : List Item) × SpellsLeafIn 1 b count (region_of cell.now) items) }
+{
+    let _view = LeafView::read(bytes, cell, count).ok_or("no leaf")?;
+    Ok(Bytes::new(bytes.to_vec(rt.alloc())?))
+}
+
+/// Writes segment 7 of the three leaves.
+fn write_three(
+    rt: &HostRuntime,
+    folder: &mut MemFolder,
+) -> Result<Result<SegmentHead<1>, SegFault>, Fail> {
+    let wide = line(5, 7);
+    let narrow = line(7, 7);
+    let index = Index::pack(
+        rt.alloc(),
+        wide,
+        &[(0, 7), (0, 7)],
+        &[12, 9, 9],
+        &[wide, narrow, narrow],
+    )?;
+    let leaves = [
+        leaf(rt, &FIRST, &wide, 2)?,
+        leaf(rt, &SECOND, &narrow, 2)?,
+        leaf(rt, &THIRD, &narrow, 1)?,
+    ];
+    Ok(write_segment(rt.alloc(), folder, 7, 2, 5, index, &leaves))
+}
+
+#[test]
+fn three_leaves_are_written_behind_their_index(rt: HostRuntime) -> Result<(), Fail> {
+    let expected = file(&rt, 7, &OWN_HEAD, &OWN, &LEAVES)?;
+    let mut folder = folder_with(&rt, FileName::Commit, b"as before")?;
+    folder.plan([0].to_vec(rt.alloc())?, None);
+    let failed = write_three(&rt, &mut folder)?;
+    assert!(rt; failed.is_err_and(|fault| fault == SegFault::Failed));
+    assert!(rt; write_three(&rt, &mut folder)?.is_ok_and(|head| head.entries() == 5));
+    assert_eq!(rt;
+        folder.get(&FileName::Segment(7)),
+        Some(expected.as_slice())
+    );
+    assert_eq!(rt;
+        folder.get(&FileName::Commit),
+        Some(b"as before".as_slice())
+    );
     Ok(())
 }
