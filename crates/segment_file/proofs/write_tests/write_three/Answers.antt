@@ -1,8 +1,5 @@
-use Rattle.std.proofs.Common.{rules, ◌≡◌, List, [], ◌∷◌, map, length, refl, pos}
-use Rattle.point_codec.specs.Points.{Item}
+use Rattle.std.proofs.Common.{rules, ◌≡◌, [], ◌∷◌, map}
 use Rattle.point_codec.specs.Seen.{region_of}
-use Rattle.leaf_codec.specs.Leaves.{SpellsLeafIn}
-use Rattle.inner_pack.specs.Bodies.{HasTree}
 use Rattle.inner_pack.proofs.PackTests.{three}
 use Rattle.segment_file.proofs.WriteTests.{wide, narrow, parts_of_three, can_write_three}
 use Rattle.segment_file.proofs.write_tests.write_three.Goals as goal
