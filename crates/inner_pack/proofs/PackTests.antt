@@ -6,7 +6,7 @@ use Rattle.point_codec.specs.Points.{Region}
 use Rattle.point_codec.specs.Seen.{region_of}
 use Rattle.point_codec.specs.declared.boxes.Cell.{Cell}
 use Rattle.inner_pack.specs.Trees.{IndexTree, Leaf, Split, IsCell, IsInCell, IsTree}
-use Rattle.inner_pack.specs.Parts.{AreParts}
+use Rattle.inner_pack.specs.Parts.{ArePartsOf, AreParts}
 
 -- ---- cells and lengths
 
@@ -37,12 +37,12 @@ no_more = All-nil (λ (n : ℕ). (1 ≤ n) × (n ≤ 4064))
 
 -- ---- three leaves
 
-abbrev three : IndexTree
+abbrev pub three : IndexTree
 three = Split 0 (pos 7) (Split 0 (pos 7) (Leaf 12 (line (pos 5) (pos 7))) (Leaf 9 (line (pos 7) (pos 7)))) (Leaf 9 (line (pos 7) (pos 7)))
 
-pub three_parts : (cells : List (Cell 1)) → map region_of cells ≡ line (pos 5) (pos 7) ∷ line (pos 7) (pos 7) ∷ line (pos 7) (pos 7) ∷ []
-    → AreParts 1 (line (pos 5) (pos 7)) ((0, pos 7) ∷ (0, pos 7) ∷ []) (12 ∷ 9 ∷ 9 ∷ []) cells
-three_parts cells e =
+pub are_three_parts : (cells : List (Cell 1)) → map region_of cells ≡ line (pos 5) (pos 7) ∷ line (pos 7) (pos 7) ∷ line (pos 7) (pos 7) ∷ []
+    → ArePartsOf 1 (line (pos 5) (pos 7)) ((0, pos 7) ∷ (0, pos 7) ∷ []) (12 ∷ 9 ∷ 9 ∷ []) cells three
+are_three_parts cells e =
     let five : IsCell 1 (line (pos 5) (pos 7)) = is_line (pos 5) (pos 7) (search rules) (search rules) refl in
     let seven : IsCell 1 (line (pos 7) (pos 7)) = is_line (pos 7) (pos 7) (search rules) (search rules) refl in
     let cut : IsInCell 1 (line (pos 5) (pos 7)) 0 (pos 7) = record { dimension = omega arith; from = search rules; to = search rules } in
@@ -56,7 +56,11 @@ three_parts cells e =
       cells = (cut, (cut, (five, refl), (seven, refl)), (seven, refl));
       lengths = in_page 12 (9 ∷ 9 ∷ []) (omega arith) (omega arith) (in_page 9 (9 ∷ []) (omega arith) (omega arith) (in_page 9 [] (omega arith) (omega arith) no_more));
     } in
-    record { tree = three; are = record { tree = tree; nodes_are = refl; lengths_are = refl; cells_are = e } }
+    record { tree = tree; nodes_are = refl; lengths_are = refl; cells_are = e }
+
+pub three_parts : (cells : List (Cell 1)) → map region_of cells ≡ line (pos 5) (pos 7) ∷ line (pos 7) (pos 7) ∷ line (pos 7) (pos 7) ∷ []
+    → AreParts 1 (line (pos 5) (pos 7)) ((0, pos 7) ∷ (0, pos 7) ∷ []) (12 ∷ 9 ∷ 9 ∷ []) cells
+three_parts cells e = record { tree = three; are = are_three_parts cells e }
 
 -- ---- one leaf in two dimensions
 

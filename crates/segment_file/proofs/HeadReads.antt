@@ -1,5 +1,5 @@
 -- Opening a segment: what each step says of the file.
-use Rattle.std.proofs.Common.{◌≡◌, ◌≢◌, ◌≤◌, ◌<◌, ◌^◌, ◌+◌, ◌-◌, ◌*◌, ◌/◌, ℕ, List, [], ◌∷◌, ◌++◌, length, replicate, refl, sym, ap, subst, ◌∙◌, arith, append_assoc, append-nil, inl, inr}
+use Rattle.std.proofs.Common.{◌≡◌, ◌≢◌, ◌≤◌, ◌<◌, ◌^◌, ◌+◌, ◌*◌, ℕ, List, [], ◌∷◌, ◌++◌, length, refl, sym, ap, subst, ◌∙◌, arith, append_assoc, append-nil}
 use Rattle.std.specs.Prelude.{slice_index, ◌==◌, Bool, true, false}
 use Rattle.outer_io.specs.Files.{Files, bytes_of}
 use Rattle.outer_io.specs.declared.file_name.FileName.{FileName}
@@ -7,7 +7,7 @@ use Rattle.outer_io.specs.declared.file_name.FileName.TheVariants.{Segment}
 use Rattle.point_codec.specs.Points.{Region}
 use Rattle.leaf_codec.specs.Leaves.{leaf_limit}
 use Rattle.inner_pack.specs.Trees.{IndexTree}
-use Rattle.inner_pack.specs.Bodies.{Body as IndexBody, SpellsIndex, HasTree, IsSpelled, pages_of}
+use Rattle.inner_pack.specs.Bodies.{Body as IndexBody, SpellsIndex, HasTree, pages_of}
 use Rattle.page_file.specs.Page.{payload_of}
 use Rattle.page_cache.specs.FilePages.{page_at, IsFilePage, ArePages, payloads_of}
 use Rattle.page_cache.specs.Bodies.{pages_for, filled}
@@ -15,13 +15,13 @@ use Rattle.page_cache.specs.Evidence.{ArePayloadsOf, IsFileDamageOf}
 use Rattle.page_cache.specs.declared.faults.Damage.{Damage}
 use Rattle.page_cache.specs.declared.faults.Damage.TheVariants.{Page, Leaf, Body, Missing, Size, Unequal, Beyond, Doubled}
 use Rattle.page_cache.proofs.PageRuns.{payloads_join, payloads_of_one, pages_from_first}
-use Rattle.segment_file.specs.Heads.{Head, Fields, AreFields, HasRanges, IsHead, magic, numbers_bytes, fields_bytes, fields_of, index_pages}
+use Rattle.segment_file.specs.Heads.{Head, Fields, AreFields, HasRanges, IsHead, fields_bytes, fields_of, index_pages}
 use Rattle.segment_file.specs.Segments.{SpellsHead, IsHeadOf}
 use Rattle.segment_file.specs.Written.{head_of}
 use Rattle.segment_file.specs.FieldsSeen.{fields_said, HasFields, IsIndexOf}
 use Rattle.segment_file.specs.declared.fields.HeadFields.{HeadFields}
 use Rattle.segment_file.specs.Damages.{AreHeadPair, IsBodyDamage, IsPairDamage, IsHeadDamage, IsHeadDamageOf}
-use Rattle.segment_file.proofs.Lists.{fronts_equal, backs_equal, bodies_equal, filled_length, are_filled}
+use Rattle.segment_file.proofs.Lists.{fronts_equal, backs_equal, bodies_equal, filled_length}
 use Rattle.segment_file.proofs.FieldBytes.{word, zeros, fields_parts, fields_length, narrow_fields, fields_unique, same_fields}
 use Rattle.segment_file.proofs.Unique.{head_fields}
 

@@ -1,14 +1,12 @@
 -- Leaves that are laid into pages are where the tree says.
-use Rattle.std.proofs.Common.{◌≡◌, ◌≤◌, ◌<◌, ◌+◌, ◌-◌, ◌*◌, ◌/◌, ℕ, zero, suc, List, [], ◌∷◌, ◌++◌, length, take, drop, replicate, Bool, true, false, refl, sym, ap, subst, ◌∙◌, arith, append_assoc, append-nil, length-append, length-drop, map, inl, inr, All}
+use Rattle.std.proofs.Common.{◌≡◌, ◌≤◌, ◌<◌, ◌+◌, ◌-◌, ◌*◌, ℕ, zero, suc, List, [], ◌∷◌, ◌++◌, length, take, drop, replicate, Bool, true, false, refl, sym, ap, subst, ◌∙◌, arith, append_assoc, length-append, length-drop, map, inl, inr}
 use Rattle.std.specs.Prelude.{if◌then◌else◌, nat_le}
 use Rattle.std.proofs.lemmas.Bool.{lt-leb, le-leb, cases_lt}
 use Rattle.std.proofs.lemmas.List.{take_at, drop_at, take-append-le, drop-append-le, length-take}
 use Rattle.std.proofs.Math.Seq.{drop-append-add}
-use Rattle.std.proofs.Math.ListN.{drop_of_length-le}
 use Rattle.outer_io.specs.declared.file_name.FileName.{FileName}
-use Rattle.point_codec.specs.Points.{Item, Region}
 use Rattle.inner_pack.specs.Places.{Spot, front, fitted, behind, end_of}
-use Rattle.inner_pack.proofs.PlaceLemmas.{AreLengths, head_length, tail_lengths, fitted_here, fitted_next, fitted_fits, fitted_again}
+use Rattle.inner_pack.proofs.PlaceLemmas.{AreLengths, head_length, tail_lengths, fitted_here, fitted_next}
 use Rattle.page_file.specs.Page.{payload_of}
 use Rattle.page_file.proofs.Pages.{payload_of-length}
 use Rattle.page_cache.specs.FilePages.{kind_of, number_of, page_at, IsFilePage, ArePages, payloads_of}

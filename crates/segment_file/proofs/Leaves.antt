@@ -1,6 +1,5 @@
 -- A leaf in its page: from what the page spells to what the file holds, and back.
-use Rattle.std.proofs.Common.{◌≡◌, ℕ, List, refl, sym, ap, subst, ◌∙◌, inl, inr}
-use Rattle.outer_io.specs.declared.file_name.FileName.TheVariants.{Segment}
+use Rattle.std.proofs.Common.{◌≡◌, ℕ, List, refl, sym, ap, subst}
 use Rattle.point_codec.specs.Points.{Item, Region}
 use Rattle.leaf_codec.specs.Leaves.{SpellsLeafIn}
 use Rattle.inner_pack.specs.Places.{Spot}

@@ -1,15 +1,14 @@
 -- A file of live bits has one set.
-use Rattle.std.proofs.Common.{◌≡◌, ◌≤◌, ◌<◌, ◌^◌, ◌+◌, ◌-◌, ◌*◌, ◌/◌, ℕ, List, [], ◌++◌, length, replicate, refl, sym, ap, subst, ◌∙◌, arith, append_assoc, length-append}
+use Rattle.std.proofs.Common.{◌≡◌, ◌<◌, ◌^◌, ◌+◌, ◌-◌, ◌*◌, ◌/◌, ℕ, List, [], ◌++◌, length, replicate, sym, ap, subst, ◌∙◌, arith, append_assoc, length-append}
 use Rattle.std.specs.Int.{w32, to_be_bytes}
 use Rattle.std.proofs.lemmas.List.{append_cancel_left}
-use Rattle.outer_io.specs.declared.file_name.FileName.TheVariants.{Live}
 use Rattle.byte_cursor.proofs.Numbers.{spelling_unique}
 use Rattle.live_bits.specs.LiveSet.{LiveSet}
 use Rattle.live_bits.specs.LiveBody.{head, IsLiveBody}
 use Rattle.live_bits.proofs.Heads.{name, sizes, head-parts, head-length, live_in-length}
 use Rattle.live_bits.proofs.Bodies.{one_set}
 use Rattle.page_cache.specs.FilePages.{payloads_of}
-use Rattle.page_cache.specs.Bodies.{pages_for, filled, IsBodyFile}
+use Rattle.page_cache.specs.Bodies.{pages_for, filled}
 use Rattle.segment_file.specs.LiveFiles.{IsLiveFile}
 use Rattle.segment_file.proofs.Lists.{bodies_equal}
 

@@ -1,23 +1,20 @@
 -- Reading a file of live bits: what each step says of the file.
-use Rattle.std.proofs.Common.{◌≡◌, ◌≤◌, ◌<◌, ◌+◌, ◌-◌, ◌*◌, ◌/◌, ℕ, List, [], ◌++◌, length, replicate, sym, ap, subst, ◌∙◌, arith, append-nil}
-use Rattle.outer_io.specs.Files.{Files, bytes_of}
+use Rattle.std.proofs.Common.{◌≡◌, ◌≤◌, ◌+◌, ◌-◌, ◌*◌, ℕ, List, [], ◌++◌, length, replicate, sym, ap, subst, ◌∙◌, arith, append-nil}
+use Rattle.outer_io.specs.Files.{Files}
 use Rattle.outer_io.specs.declared.file_name.FileName.{FileName}
 use Rattle.outer_io.specs.declared.file_name.FileName.TheVariants.{Live}
 use Rattle.live_bits.specs.LiveSet.{LiveSet, IsLiveSet}
 use Rattle.live_bits.specs.LiveBody.{IsLiveBody, live_set}
 use Rattle.live_bits.proofs.LiveNumbers.{live_set_is}
 use Rattle.page_cache.specs.FilePages.{page_at, IsFilePage, ArePages, payloads_of}
-use Rattle.page_cache.specs.Bodies.{pages_for, filled, IsBodyFile}
+use Rattle.page_cache.specs.Bodies.{pages_for, filled}
 use Rattle.page_cache.specs.Evidence.{ArePayloadsOf, IsFileDamageOf}
 use Rattle.page_file.specs.Page.{payload_of}
-use Rattle.page_cache.specs.declared.first_page.FirstPage.{FirstPage}
-use Rattle.page_cache.specs.FirstPages.{first_name, first_payload, first_size, IsFirstPage}
 use Rattle.page_cache.proofs.PageRuns.{payloads_join, payloads_of_one}
-use Rattle.segment_file.proofs.FirstPayloads.{first_payload_is, first_size_is, first_payloads}
 use Rattle.page_cache.specs.declared.faults.Damage.{Damage}
 use Rattle.page_cache.specs.declared.faults.Damage.TheVariants.{Page, Leaf, Body, Missing, Size, Unequal, Beyond, Doubled}
 use Rattle.segment_file.specs.LiveFiles.{IsLiveFile, IsSetOf}
-use Rattle.segment_file.specs.Damages.{BeginsNoSet, IsBodyDamage, IsLiveDamage, IsLiveDamageOf}
+use Rattle.segment_file.specs.Damages.{IsBodyDamage, IsLiveDamage, IsLiveDamageOf}
 use Rattle.segment_file.proofs.Lists.{filled_length}
 use Rattle.segment_file.proofs.LiveLemmas.{body_length}
 

@@ -1,9 +1,9 @@
 -- A file that grows by whole pages.
-use Rattle.std.proofs.Common.{◌≡◌, ◌≤◌, ◌<◌, ◌+◌, ◌*◌, ℕ, List, [], ◌++◌, length, Bool, true, false, refl, sym, ap, subst, ◌∙◌, arith, append_assoc, length-append, zero-add, inl, inr}
+use Rattle.std.proofs.Common.{◌≡◌, ◌+◌, ℕ, List, [], ◌++◌, length, Bool, true, false, refl, sym, ap, ◌∙◌, arith, append_assoc, length-append, zero-add, inl, inr}
 use Rattle.std.proofs.lemmas.Bool.{cases_lt}
 use Rattle.std.specs.Prelude.{if◌then◌else◌}
 use Rattle.outer_io.specs.declared.file_name.FileName.{FileName}
-use Rattle.page_cache.specs.FilePages.{IsFilePage, ArePages, payloads_of}
+use Rattle.page_cache.specs.FilePages.{payloads_of}
 use Rattle.page_cache.specs.Bodies.{pages_for, filled, ArePagesOf}
 use Rattle.page_cache.proofs.PageRuns.{payloads_join, pages_front, pages_behind, payloads_stay, payloads_back}
 use Rattle.segment_file.specs.Pieced.{IsPaged}

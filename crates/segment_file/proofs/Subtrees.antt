@@ -1,5 +1,5 @@
 -- What is said of a node's children, said of the node.
-use Rattle.std.proofs.Common.{◌≡◌, ◌≤◌, ◌+◌, ◌-◌, ◌/◌, ℕ, List, ◌++◌, refl, sym, ap, subst, ◌∙◌, arith, inl, inr, append_assoc, Result, Ok, Err}
+use Rattle.std.proofs.Common.{◌≡◌, ◌+◌, ◌-◌, ◌/◌, ℕ, List, ◌++◌, refl, sym, ap, subst, ◌∙◌, arith, inl, inr, append_assoc, Result, Ok, Err}
 use Rattle.std.specs.Prelude.{filter, OnOk, ℤ}
 use Rattle.point_codec.specs.Points.{Item, Region}
 use Rattle.live_bits.specs.LiveSet.{LiveSet, is_live}
@@ -14,7 +14,7 @@ use Rattle.outer_io.specs.declared.file_name.FileName.TheVariants.{Segment}
 use Rattle.inner_pack.specs.Nodes.{IsAt}
 use Rattle.inner_pack.specs.declared.node.NodeAt.{NodeAt}
 use Rattle.page_cache.specs.FilePages.{IsFilePage}
-use Rattle.segment_file.specs.Segments.{Joins, HoldsLeaf, HoldsTree, IsLeafOf}
+use Rattle.segment_file.specs.Segments.{HoldsLeaf, HoldsTree}
 use Rattle.segment_file.specs.Damages.{IsNoLeaf, IsLeafDamage}
 use Rattle.segment_file.specs.Gathers.{Gathers}
 

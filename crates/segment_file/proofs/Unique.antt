@@ -1,17 +1,17 @@
 -- A file has one head, and one list of entries.
-use Rattle.std.proofs.Common.{◌≡◌, ◌≤◌, ◌<◌, ◌^◌, ◌+◌, ◌-◌, ◌*◌, ◌/◌, ℕ, List, ◌∷◌, ◌++◌, length, replicate, refl, sym, ap, subst, ◌∙◌, arith}
+use Rattle.std.proofs.Common.{◌≡◌, ◌<◌, ◌^◌, ◌+◌, ℕ, List, ◌++◌, length, sym, ap, ◌∙◌}
 use Rattle.point_codec.specs.Points.{Item, Region}
 use Rattle.leaf_codec.proofs.ReadLeaf.{one_leaf}
-use Rattle.inner_pack.specs.Places.{Spot, front}
+use Rattle.inner_pack.specs.Places.{Spot}
 use Rattle.inner_pack.specs.Trees.{IndexTree, Leaf, Split, leaf_count}
-use Rattle.inner_pack.specs.Bodies.{Body, right_begin, pages_of}
+use Rattle.inner_pack.specs.Bodies.{right_begin, pages_of}
 use Rattle.page_cache.specs.FilePages.{page_at, payloads_of}
 use Rattle.page_cache.specs.Bodies.{pages_for, filled}
-use Rattle.segment_file.specs.Heads.{Head, Fields, AreFields, HasRanges, fields_of, fields_bytes, leaves_for, index_pages, page_of, count_of}
+use Rattle.segment_file.specs.Heads.{Head, AreFields, HasRanges, fields_of, index_pages, page_of}
 use Rattle.segment_file.specs.Segments.{part_of, SpellsHead, IsHeadOf, HoldsLeaf, HoldsTree, IsSegment}
 use Rattle.segment_file.proofs.Lists.{bodies_equal}
 use Rattle.segment_file.specs.FieldsSeen.{AreNarrow}
-use Rattle.segment_file.proofs.FieldBytes.{AreSame, narrow_fields, fields_unique}
+use Rattle.segment_file.proofs.FieldBytes.{narrow_fields, fields_unique}
 
 -- ---- the head
 

@@ -1,5 +1,5 @@
 -- The file that is written is that of its segment.
-use Rattle.std.proofs.Common.{◌≡◌, ◌≤◌, ◌<◌, ◌^◌, ◌+◌, ◌-◌, ◌*◌, ◌/◌, ℕ, List, [], ◌∷◌, ◌++◌, length, refl, sym, ap, subst, ◌∙◌, arith, append_assoc, length-append, map, All}
+use Rattle.std.proofs.Common.{◌≡◌, ◌≤◌, ◌<◌, ◌^◌, ◌+◌, ◌*◌, ℕ, List, [], ◌∷◌, ◌++◌, length, refl, sym, ap, subst, ◌∙◌, arith, append_assoc, length-append, map, All}
 use Rattle.std.proofs.lemmas.List.{map-append, length-map}
 use Rattle.std.proofs.lemmas.List.Elements.{All-cons}
 use Rattle.outer_io.specs.declared.file_name.FileName.TheVariants.{Segment}
@@ -7,19 +7,18 @@ use Rattle.point_codec.specs.Points.{Item, Region}
 use Rattle.leaf_codec.specs.Leaves.{SpellsLeafIn}
 use Rattle.inner_pack.specs.Places.{Spot, front, fitted, behind, end_of}
 use Rattle.inner_pack.specs.Trees.{IndexTree, Leaf, Split, leaf_count, lengths_of}
-use Rattle.inner_pack.specs.Bodies.{Body, HasTree, right_begin, first_length, pages_of}
-use Rattle.inner_pack.proofs.PlaceLemmas.{AreLengths, head_length, tail_lengths, fitted_here, fitted_fits, right_first, lengths_first, rest_lengths, length-lengths_of, count_shaped, first_fits}
-use Rattle.page_file.specs.Page.{payload_of}
+use Rattle.inner_pack.specs.Bodies.{Body, first_length, pages_of}
+use Rattle.inner_pack.proofs.PlaceLemmas.{AreLengths, head_length, tail_lengths, fitted_here, fitted_fits, right_first, lengths_first, length-lengths_of, count_shaped, first_fits}
 use Rattle.page_cache.specs.FilePages.{page_at, payloads_of}
-use Rattle.page_cache.specs.Bodies.{pages_for, filled}
+use Rattle.page_cache.specs.Bodies.{filled}
 use Rattle.page_cache.proofs.PageRuns.{payloads_join, payloads_of_one}
 use Rattle.segment_file.specs.Heads.{Head, Fields, HasRanges, fields_bytes, fields_of, index_pages, page_of, count_of}
-use Rattle.segment_file.specs.Segments.{part_of, SpellsHead, IsHeadOf, HoldsLeaf, HoldsTree, IsSegment}
+use Rattle.segment_file.specs.Segments.{part_of, IsHeadOf, HoldsLeaf, HoldsTree, IsSegment}
 use Rattle.segment_file.specs.Written.{SpellsLeaves, head_of, FitsSegment}
 use Rattle.segment_file.specs.Pieced.{IsPaged, laid}
 use Rattle.segment_file.proofs.Lists.{fronts_equal, backs_equal, filled_length}
 use Rattle.segment_file.proofs.HeadReads.{first_length as page_length}
-use Rattle.segment_file.proofs.LaidTree.{Stands, AllStand, AreLaid, laid_first, payloads_long, StandsIn, stands_in}
+use Rattle.segment_file.proofs.LaidTree.{Stands, AllStand, AreLaid, laid_first, payloads_long, stands_in}
 
 pub spelled_lengths : (D : ℕ) (head : Head) (first : ℕ) (t : IndexTree) (leaves : List (List ℕ)) (items : List Item) → SpellsLeaves D head first t leaves items → map length leaves ≡ lengths_of t
 spelled_lengths D head first (Leaf len own) leaves items h = ap (λ (l : List (List ℕ)). map length l) h.1 ∙ ap (λ (n : ℕ). n ∷ []) h.2

@@ -1,5 +1,5 @@
 -- What a damage of a segment's file or of a file of live bits shows: by what it carries alone, and of the files where those are told.
-use Rattle.std.specs.Prelude.{◌≡◌, ◌≢◌, ℕ, ◌+◌, ◌^◌, ◌<◌, ◌⊎◌, List, ◌++◌, None, slice_index}
+use Rattle.std.specs.Prelude.{◌≡◌, ◌≢◌, ℕ, ◌^◌, ◌<◌, ◌⊎◌, List, ◌++◌, None, slice_index}
 use Rattle.outer_io.specs.declared.file_name.FileName.{FileName}
 use Rattle.outer_io.specs.declared.file_name.FileName.TheVariants.{Segment, Live}
 use Rattle.outer_io.specs.Files.{Files, bytes_of}

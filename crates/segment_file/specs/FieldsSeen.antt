@@ -1,5 +1,5 @@
 -- What contracts see of the fields of a head as they are read.
-use Rattle.std.specs.Prelude.{◌≡◌, ◌<◌, ◌^◌, ℕ, List, ◌++◌, length}
+use Rattle.std.specs.Prelude.{◌≡◌, ◌<◌, ◌^◌, ℕ, List, length}
 use Rattle.inner_pack.specs.Bodies.{Body, IsSpelled}
 use Rattle.page_cache.specs.Bodies.{filled}
 use Rattle.segment_file.specs.Heads.{Fields, AreFields, fields_bytes}

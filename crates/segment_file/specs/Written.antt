@@ -1,8 +1,8 @@
 -- What a segment is written from.
-use Rattle.std.specs.Prelude.{ℕ, ◌+◌, ◌≤◌, ◌≡◌, List, [], ◌∷◌, ◌++◌, map, length}
+use Rattle.std.specs.Prelude.{ℕ, ◌+◌, ◌≤◌, ◌≡◌, List, [], ◌∷◌, ◌++◌, length}
 use Rattle.point_codec.specs.Points.{Item, Region}
 use Rattle.leaf_codec.specs.Leaves.{leaf_limit, SpellsLeafIn}
-use Rattle.inner_pack.specs.Trees.{IndexTree, Leaf, Split, leaf_count, lengths_of}
+use Rattle.inner_pack.specs.Trees.{IndexTree, Leaf, Split, leaf_count}
 use Rattle.inner_pack.specs.Bodies.{Body, HasTree}
 use Rattle.segment_file.specs.Heads.{Head, leaves_for, count_of}
 

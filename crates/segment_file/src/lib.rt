@@ -27,4 +27,8 @@ pub use read::read_entries;
 pub use write::write_segment;
 
 #[cfg(test)]
+mod leaf_tests;
+#[cfg(test)]
 mod tests;
+#[cfg(test)]
+mod write_tests;

@@ -1,4 +1,4 @@
-use Rattle.std.proofs.Common.{◌≡◌, sym, subst, List, ℕ}
+use Rattle.std.proofs.Common.{subst}
 use Rattle.inner_pack.specs.Places.{front}
 use Rattle.inner_pack.specs.Trees.{IndexTree}
 use Rattle.segment_file.specs.Segments.{IsSegment, HoldsTree}

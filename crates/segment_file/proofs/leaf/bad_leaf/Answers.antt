@@ -1,6 +1,5 @@
-use Rattle.std.proofs.Common.{◌≡◌, ℕ, List, ap, sym, subst, ◌∙◌, refl}
+use Rattle.std.proofs.Common.{ℕ, ap}
 use Rattle.outer_io.specs.declared.file_name.FileName.TheVariants.{Segment}
-use Rattle.page_file.specs.Page.{IsPage}
 use Rattle.page_cache.specs.Cache.{Keeps}
 use Rattle.segment_file.specs.Heads.{page_of}
 use Rattle.segment_file.proofs.Leaves.{no_leaf}

@@ -1,9 +1,7 @@
-use Rattle.std.proofs.Common.{◌≡◌, ℕ, List, ap, sym, subst, ◌∙◌, take, drop}
+use Rattle.std.proofs.Common.{◌≡◌, ℕ, List, ap, sym, ◌∙◌, take, drop}
 use Rattle.outer_io.specs.Files.{Files, bytes_of}
 use Rattle.outer_io.specs.declared.file_name.FileName.TheVariants.{Segment}
-use Rattle.point_codec.specs.Points.{Item, Region}
-use Rattle.point_codec.specs.Seen.{region_of}
-use Rattle.leaf_codec.specs.Leaves.{SpellsLeafIn}
+use Rattle.point_codec.specs.Points.{Region}
 use Rattle.inner_pack.specs.Places.{Spot}
 use Rattle.inner_pack.specs.Trees.{Leaf}
 use Rattle.inner_pack.specs.Nodes.{IsAt}

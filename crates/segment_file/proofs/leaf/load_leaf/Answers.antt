@@ -1,10 +1,8 @@
-use Rattle.std.proofs.Common.{◌≡◌, ℕ, ap, sym, ◌∙◌}
 use Rattle.std.proofs.lemmas.Result.{err_from_is_err_and}
 use Rattle.page_cache.specs.Cache.{IsKept}
 use Rattle.page_cache.specs.FilePages.{IsFilePage}
 use Rattle.outer_io.specs.Files.{bytes_of}
 use Rattle.outer_io.specs.declared.file_name.FileName.TheVariants.{Segment}
-use Rattle.segment_file.specs.Heads.{page_of}
 use Rattle.segment_file.proofs.leaf.load_leaf.Goals as goal
 
 pub returns-clause-hit : goal.returns-clause-hit

@@ -1,8 +1,5 @@
-use Rattle.std.proofs.Common.{arith, sym, subst, ap, ◌≡◌, ◌∙◌, List, ℕ}
+use Rattle.std.proofs.Common.{arith}
 use Rattle.std.proofs.lemmas.Result.{IfOk-weaker}
-use Rattle.outer_io.specs.declared.file_name.FileName.TheVariants.{Live}
-use Rattle.live_bits.specs.LiveBody.{IsLiveBody}
-use Rattle.page_cache.specs.Bodies.{IsBodyFile}
 use Rattle.segment_file.specs.LiveFiles.{IsLiveFile}
 use Rattle.segment_file.proofs.LiveReads.{body_short}
 use Rattle.segment_file.proofs.live.live_pages.Goals as goal

@@ -1,13 +1,13 @@
-use Rattle.std.proofs.Common.{arith, sym, ap, refl, subst, append_assoc, ◌≡◌, ◌∙◌, ◌+◌, ◌*◌, ◌++◌, List, [], ℕ, length}
+use Rattle.std.proofs.Common.{arith, sym, ap, refl, append_assoc, ◌≡◌, ◌∙◌, ◌*◌, ◌++◌, List, [], ℕ, length}
 use Rattle.std.proofs.lemmas.Result.{err_from_is_err_and, IfOk-weaker}
-use Rattle.outer_io.specs.Files.{Files, bytes_of}
+use Rattle.outer_io.specs.Files.{bytes_of}
 use Rattle.outer_io.specs.declared.file_name.FileName.TheVariants.{Live}
 use Rattle.page_file.specs.Page.{payload_of}
-use Rattle.page_cache.specs.FilePages.{page_at, payloads_of, ArePages}
+use Rattle.page_cache.specs.FilePages.{page_at, ArePages}
 use Rattle.page_cache.specs.Bodies.{pages_for}
-use Rattle.page_cache.specs.FirstPages.{first_name, first_payload, first_size, IsFirstPage}
+use Rattle.page_cache.specs.FirstPages.{first_payload, first_size, IsFirstPage}
 use Rattle.page_cache.specs.Evidence.{IsFileDamageOf}
-use Rattle.page_cache.proofs.Damages.{fault_weaker, fault_both, on_damage_weaker, on_damage_both}
+use Rattle.page_cache.proofs.Damages.{fault_weaker, fault_both, on_damage_both}
 use Rattle.segment_file.specs.Damages.{IsBodyDamage, IsLiveDamage, IsLiveDamageOf}
 use Rattle.segment_file.proofs.Options.{IfOk-both}
 use Rattle.segment_file.proofs.FirstPayloads.{first_payload_is, first_size_is, first_payloads}

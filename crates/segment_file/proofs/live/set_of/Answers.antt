@@ -1,4 +1,4 @@
-use Rattle.std.proofs.Common.{arith, sym, ap, refl, ◌≡◌, ◌∙◌, ◌-◌, ◌*◌, ◌++◌, List, ℕ, length, take, drop, replicate}
+use Rattle.std.proofs.Common.{sym, ap, refl, ◌≡◌, ◌∙◌, ◌-◌, ◌*◌, ◌++◌, List, ℕ, length, take, drop, replicate}
 use Rattle.page_cache.specs.Bodies.{pages_for, filled}
 use Rattle.segment_file.proofs.Lists.{are_filled, front_of_filled, back_of_filled, filled_from}
 use Rattle.segment_file.proofs.live.set_of.Goals as goal

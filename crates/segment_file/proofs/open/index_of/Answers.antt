@@ -1,6 +1,6 @@
-use Rattle.std.proofs.Common.{sym, ap, refl, ◌≡◌, ◌∙◌, ◌*◌, ◌++◌, List, ℕ, length, take, drop, replicate}
-use Rattle.page_cache.specs.Bodies.{pages_for, filled}
-use Rattle.segment_file.specs.Heads.{Fields, fields_bytes, fields_of}
+use Rattle.std.proofs.Common.{sym, ap, ◌≡◌, ◌∙◌, ◌*◌, ◌++◌, List, ℕ, length, take, drop, replicate}
+use Rattle.page_cache.specs.Bodies.{pages_for}
+use Rattle.segment_file.specs.Heads.{Fields}
 use Rattle.segment_file.proofs.Lists.{are_filled, front_of_filled, back_of_filled}
 use Rattle.segment_file.proofs.HeadReads.{index_begins, spells_as}
 use Rattle.segment_file.proofs.open.index_of.Goals as goal

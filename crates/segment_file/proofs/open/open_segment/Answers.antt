@@ -1,17 +1,16 @@
-use Rattle.std.proofs.Common.{arith, sym, ap, refl, subst, inr, ◌≡◌, ◌∙◌, ◌+◌, ◌*◌, ◌++◌, List, [], ℕ, length}
+use Rattle.std.proofs.Common.{arith, sym, ap, refl, subst, inr, ◌≡◌, ◌∙◌, ℕ, length}
 use Rattle.std.proofs.lemmas.Result.{err_from_is_err_and}
-use Rattle.outer_io.specs.Files.{Files, bytes_of}
+use Rattle.outer_io.specs.Files.{bytes_of}
 use Rattle.outer_io.specs.declared.file_name.FileName.TheVariants.{Segment}
-use Rattle.inner_pack.specs.Bodies.{pages_of, IsSpelled}
+use Rattle.inner_pack.specs.Bodies.{pages_of}
 use Rattle.page_file.specs.Page.{payload_of}
-use Rattle.page_cache.specs.FilePages.{page_at, payloads_of, IsFilePage}
-use Rattle.page_cache.specs.Bodies.{pages_for, filled}
-use Rattle.page_cache.specs.FirstPages.{first_name, first_payload, first_size, IsFirstPage}
+use Rattle.page_cache.specs.FilePages.{page_at, IsFilePage}
+use Rattle.page_cache.specs.Bodies.{pages_for}
+use Rattle.page_cache.specs.FirstPages.{first_payload}
 use Rattle.page_cache.proofs.Damages.{fault_weaker}
-use Rattle.segment_file.specs.Heads.{Fields, fields_bytes, fields_of}
+use Rattle.segment_file.specs.Heads.{Fields}
 use Rattle.segment_file.specs.Segments.{SpellsHead, IsHeadOf}
 use Rattle.segment_file.specs.Written.{head_of}
-use Rattle.segment_file.specs.FieldsSeen.{HasFields, IsIndexOf}
 use Rattle.segment_file.specs.Damages.{IsPairDamage, IsHeadDamageOf}
 use Rattle.segment_file.proofs.FirstPayloads.{first_payload_is, first_size_is}
 use Rattle.segment_file.proofs.HeadReads.{head_pair_of, head_parts, head_said, spells_head, index_same}

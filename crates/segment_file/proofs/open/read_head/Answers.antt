@@ -1,15 +1,15 @@
-use Rattle.std.proofs.Common.{arith, sym, ap, refl, subst, append-nil, inl, ◌≡◌, ◌∙◌, ◌+◌, ◌*◌, ◌++◌, List, [], ℕ, length}
+use Rattle.std.proofs.Common.{arith, sym, ap, refl, inl, ◌≡◌, ◌∙◌, ◌+◌, ◌*◌, ◌++◌, List, ℕ}
 use Rattle.std.specs.Prelude.{slice_index}
 use Rattle.std.proofs.lemmas.Result.{err_from_is_err_and}
-use Rattle.outer_io.specs.Files.{Files, bytes_of}
+use Rattle.outer_io.specs.Files.{bytes_of}
 use Rattle.outer_io.specs.declared.file_name.FileName.TheVariants.{Segment}
 use Rattle.inner_pack.specs.Bodies.{pages_of}
 use Rattle.page_file.specs.Page.{payload_of}
 use Rattle.page_cache.specs.FilePages.{page_at}
 use Rattle.page_cache.specs.Bodies.{pages_for, filled}
-use Rattle.page_cache.specs.FirstPages.{first_payload, first_size, IsFirstPage}
+use Rattle.page_cache.specs.FirstPages.{first_payload, first_size}
 use Rattle.page_cache.proofs.Damages.{fault_weaker, fault_both}
-use Rattle.segment_file.specs.Heads.{Fields, fields_bytes, fields_of}
+use Rattle.segment_file.specs.Heads.{Fields}
 use Rattle.segment_file.specs.FieldsSeen.{fields_said}
 use Rattle.segment_file.specs.Damages.{IsBodyDamage, IsPairDamage, IsHeadDamage, IsHeadDamageOf}
 use Rattle.segment_file.proofs.FirstPayloads.{first_payload_is, first_size_is, first_payloads}

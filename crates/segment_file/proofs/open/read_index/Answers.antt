@@ -1,9 +1,9 @@
-use Rattle.std.proofs.Common.{arith, sym, ap, refl, subst, append-nil, append_assoc, ◌≡◌, ◌∙◌, ◌+◌, ◌*◌, ◌++◌, List, [], ℕ, length}
+use Rattle.std.proofs.Common.{arith, sym, ap, append-nil, ◌≡◌, ◌∙◌, ◌+◌, ◌++◌, List, [], ℕ, length}
 use Rattle.std.proofs.lemmas.Result.{err_from_is_err_and}
-use Rattle.outer_io.specs.Files.{Files, bytes_of}
+use Rattle.outer_io.specs.Files.{bytes_of}
 use Rattle.outer_io.specs.declared.file_name.FileName.TheVariants.{Segment}
 use Rattle.inner_pack.specs.Bodies.{pages_of}
-use Rattle.page_cache.specs.FilePages.{page_at, payloads_of, ArePages}
+use Rattle.page_cache.specs.FilePages.{payloads_of, ArePages}
 use Rattle.page_cache.specs.Bodies.{pages_for, filled}
 use Rattle.page_cache.proofs.Damages.{on_damage_weaker, on_damage_both}
 use Rattle.segment_file.specs.Heads.{Fields, fields_bytes, fields_of}

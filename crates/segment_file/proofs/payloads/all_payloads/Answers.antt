@@ -1,4 +1,4 @@
-use Rattle.std.proofs.Common.{sym, ap, ◌∙◌, ◌≡◌, List, ℕ}
+use Rattle.std.proofs.Common.{◌∙◌}
 use Rattle.outer_io.specs.Files.{bytes_of}
 use Rattle.segment_file.proofs.FirstPayloads.{first_payload_is, with_rest}
 use Rattle.segment_file.proofs.payloads.all_payloads.Goals as goal

@@ -1,16 +1,12 @@
-use Rattle.std.proofs.Common.{◌≡◌, ◌≤◌, ◌+◌, ℕ, List, ap, sym, subst, refl, arith, ◌∙◌}
+use Rattle.std.proofs.Common.{◌≡◌, ◌+◌, ap, sym, subst, arith}
 use Rattle.std.proofs.lemmas.Result.{err_from_is_err_and}
 use Rattle.outer_io.specs.Files.{bytes_of}
 use Rattle.outer_io.specs.declared.file_name.FileName.TheVariants.{Segment}
-use Rattle.point_codec.specs.Points.{Item, Region}
 use Rattle.point_codec.specs.Seen.{items_of}
 use Rattle.point_codec.specs.Cells.{left_of, right_of}
-use Rattle.inner_pack.specs.Places.{Spot}
-use Rattle.inner_pack.specs.Trees.{IndexTree, Split, leaf_count}
+use Rattle.inner_pack.specs.Trees.{IndexTree, leaf_count}
 use Rattle.inner_pack.specs.Bodies.{right_begin}
 use Rattle.page_cache.specs.Cache.{Agrees}
-use Rattle.page_cache.specs.declared.faults.Damage.{Damage}
-use Rattle.page_cache.specs.Evidence.{OnDamage}
 use Rattle.page_cache.proofs.Damages.{fault_weaker, on_damage_weaker}
 use Rattle.segment_file.specs.Segments.{HoldsTree}
 use Rattle.segment_file.specs.Damages.{IsLeafDamage}

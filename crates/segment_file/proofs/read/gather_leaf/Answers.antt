@@ -1,15 +1,10 @@
-use Rattle.std.proofs.Common.{◌≡◌, ◌≤◌, ◌+◌, ℕ, List, ap, sym, subst, refl, arith, ◌∙◌}
+use Rattle.std.proofs.Common.{sym, subst}
 use Rattle.std.proofs.lemmas.Result.{err_from_is_err_and}
 use Rattle.outer_io.specs.Files.{bytes_of}
 use Rattle.outer_io.specs.declared.file_name.FileName.TheVariants.{Segment}
-use Rattle.point_codec.specs.Points.{Item, Region}
-use Rattle.point_codec.specs.Seen.{items_of}
-use Rattle.inner_pack.specs.Places.{Spot}
-use Rattle.inner_pack.specs.Trees.{IndexTree, Leaf, leaf_count}
+use Rattle.inner_pack.specs.Trees.{IndexTree}
 use Rattle.inner_pack.specs.Nodes.{IsAt, IsPlaceOf}
-use Rattle.page_cache.specs.Cache.{Agrees}
-use Rattle.segment_file.specs.Segments.{HoldsTree, HoldsLeaf}
-use Rattle.segment_file.specs.Gathers.{Gathers}
+use Rattle.segment_file.specs.Segments.{HoldsTree}
 use Rattle.segment_file.proofs.Subtrees.{page_of_leaf}
 use Rattle.segment_file.proofs.read.gather_leaf.Goals as goal
 

@@ -1,17 +1,14 @@
-use Rattle.std.proofs.Common.{◌≡◌, ◌≤◌, ◌+◌, ◌++◌, ℕ, List, ap, sym, subst, refl, arith, ◌∙◌}
+use Rattle.std.proofs.Common.{◌++◌, List, ap, ◌∙◌}
 use Rattle.std.specs.Prelude.{filter}
 use Rattle.std.proofs.lemmas.Result.{err_from_is_err_and}
 use Rattle.outer_io.specs.Files.{bytes_of}
 use Rattle.outer_io.specs.declared.file_name.FileName.TheVariants.{Segment}
-use Rattle.point_codec.specs.Points.{Item, Region}
+use Rattle.point_codec.specs.Points.{Item}
 use Rattle.point_codec.specs.Seen.{items_of}
 use Rattle.live_bits.specs.LiveSet.{is_live}
 use Rattle.inner_pack.specs.Places.{front}
-use Rattle.inner_pack.specs.Trees.{IndexTree, leaf_count}
-use Rattle.inner_pack.specs.Nodes.{IsAt}
-use Rattle.inner_pack.specs.Bodies.{Body, HasTree}
-use Rattle.segment_file.specs.Segments.{IsHeadOf, IsSegment, HoldsTree}
-use Rattle.segment_file.specs.Gathers.{Gathers}
+use Rattle.inner_pack.specs.Bodies.{HasTree}
+use Rattle.segment_file.specs.Segments.{IsHeadOf, IsSegment}
 use Rattle.segment_file.proofs.Unique.{tree_once}
 use Rattle.segment_file.proofs.Subtrees.{count_shaped}
 use Rattle.segment_file.proofs.read.read_entries.Goals as goal

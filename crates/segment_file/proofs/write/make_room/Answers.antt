@@ -1,4 +1,4 @@
-use Rattle.std.proofs.Common.{◌≡◌, ◌<◌, ◌+◌, ◌++◌, ℕ, List, [], length, ap, sym, subst, arith, ◌∙◌}
+use Rattle.std.proofs.Common.{◌<◌, ◌+◌, ◌++◌, ℕ, List, length, ap, sym, arith, ◌∙◌}
 use Rattle.page_cache.specs.Bodies.{filled}
 use Rattle.segment_file.specs.Pieced.{laid}
 use Rattle.segment_file.proofs.Laid.{lay_next}

@@ -1,8 +1,5 @@
-use Rattle.std.proofs.Common.{◌≡◌, ◌≤◌, ◌<◌, ◌+◌, ◌++◌, ℕ, List, [], length, drop, get_or, ap, sym, subst, arith, ◌∙◌, length-append, rules}
-use Rattle.outer_io.specs.Files.{bytes_of}
-use Rattle.outer_io.specs.declared.file_name.FileName.TheVariants.{Segment}
-use Rattle.page_cache.specs.Bodies.{filled}
-use Rattle.segment_file.specs.Pieced.{piece_id, piece_pages, so_far, IsPaged, laid}
+use Rattle.std.proofs.Common.{◌≡◌, ◌+◌, ◌++◌, ℕ, List, [], length, drop, get_or, ap, sym, subst, arith, ◌∙◌, length-append}
+use Rattle.segment_file.specs.Pieced.{laid}
 use Rattle.segment_file.proofs.Subtrees.{OnOk-weaker}
 use Rattle.segment_file.proofs.Laid.{laid_more, laid_all}
 use Rattle.segment_file.proofs.write.put_leaves.Goals as goal

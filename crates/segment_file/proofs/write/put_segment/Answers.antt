@@ -1,9 +1,9 @@
-use Rattle.std.proofs.Common.{◌≡◌, ◌≤◌, ◌<◌, ◌+◌, ◌++◌, ℕ, List, [], length, ap, sym, subst, arith, ◌∙◌}
+use Rattle.std.proofs.Common.{◌≡◌, ◌++◌, ℕ, List, [], length, ap, arith, ◌∙◌}
 use Rattle.outer_io.specs.Files.{bytes_of}
 use Rattle.outer_io.specs.declared.file_name.FileName.TheVariants.{Segment}
 use Rattle.page_cache.specs.Bodies.{filled}
 use Rattle.segment_file.specs.FieldsSeen.{fields_said}
-use Rattle.segment_file.specs.Pieced.{piece_id, piece_pages, so_far, IsPaged, laid}
+use Rattle.segment_file.specs.Pieced.{piece_id, piece_pages, so_far, IsPaged}
 use Rattle.segment_file.proofs.FieldBytes.{fields_length}
 use Rattle.segment_file.proofs.Paged.{no_pages}
 use Rattle.segment_file.proofs.write.put_segment.Goals as goal

@@ -1,7 +1,6 @@
-use Rattle.std.proofs.Common.{◌≡◌, ◌≤◌, ◌<◌, ◌^◌, ◌++◌, ℕ, List, arith, refl, sym, ap, subst, ◌∙◌, length}
+use Rattle.std.proofs.Common.{◌≡◌, ℕ, List, arith, ap, ◌∙◌, length}
 use Rattle.inner_pack.specs.Bodies.{pages_of}
-use Rattle.page_cache.specs.Bodies.{filled}
-use Rattle.segment_file.specs.Heads.{Fields, HasRanges, fields_of, fields_bytes}
+use Rattle.segment_file.specs.Heads.{Fields, HasRanges, fields_of}
 use Rattle.segment_file.specs.Written.{head_of}
 use Rattle.segment_file.proofs.WrittenTree.{short_leaves, few_leaves, written}
 use Rattle.segment_file.proofs.write.write_segment.Goals as goal

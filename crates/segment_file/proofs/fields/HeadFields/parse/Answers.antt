@@ -1,9 +1,9 @@
-use Rattle.std.proofs.Common.{refl, sym, ap, subst, ◌∙◌, ◌≡◌, ◌++◌, List, ℕ, length, replicate}
+use Rattle.std.proofs.Common.{refl, sym, subst, ◌∙◌, ◌++◌}
 use Rattle.std.specs.Prelude.{◌==◌}
 use Rattle.byte_cursor.specs.Cursor.{cursor_rest}
-use Rattle.segment_file.specs.Heads.{AreFields, Fields, numbers_bytes, fields_bytes}
+use Rattle.segment_file.specs.Heads.{AreFields, numbers_bytes}
 use Rattle.segment_file.specs.FieldsSeen.{fields_said}
-use Rattle.segment_file.proofs.FieldBytes.{IsFound, fields_parts, zeros, found, has_fields, differ, agree}
+use Rattle.segment_file.proofs.FieldBytes.{fields_parts, zeros, found, has_fields, differ, agree}
 use Rattle.segment_file.proofs.fields.HeadFields.parse.Goals as goal
 
 pub returns-in_err-own_cells-clause-none : goal.returns-in_err-own_cells-clause-none

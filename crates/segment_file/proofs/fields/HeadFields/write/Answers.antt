@@ -1,4 +1,4 @@
-use Rattle.std.proofs.Common.{refl, append_assoc}
+use Rattle.std.proofs.Common.{append_assoc}
 use Rattle.segment_file.specs.Heads.{fields_bytes}
 use Rattle.segment_file.proofs.fields.HeadFields.write.Goals as goal
 

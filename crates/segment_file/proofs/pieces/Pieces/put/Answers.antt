@@ -1,8 +1,8 @@
-use Rattle.std.proofs.Common.{◌≡◌, ◌+◌, ◌++◌, ℕ, List, length, ap, sym, ◌∙◌}
+use Rattle.std.proofs.Common.{◌≡◌, ◌++◌, length}
 use Rattle.std.specs.Prelude.{if◌then◌else◌}
 use Rattle.outer_io.specs.declared.file_name.FileName.TheVariants.{Segment}
-use Rattle.page_cache.specs.Bodies.{pages_for, filled}
-use Rattle.segment_file.specs.Pieced.{piece_id, piece_pages, so_far, IsPaged}
+use Rattle.page_cache.specs.Bodies.{pages_for}
+use Rattle.segment_file.specs.Pieced.{piece_id, piece_pages, so_far}
 use Rattle.segment_file.proofs.Paged.{behind, more_pages}
 use Rattle.segment_file.proofs.pieces.Pieces.put.Goals as goal
 
