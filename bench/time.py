@@ -1,8 +1,9 @@
 #!/usr/bin/env python3
 """Times the program crates/bench, which has to be built (rt run in its folder), and prints ratios of one run.
 
-usage: bench/time.py csv | rings | partition
+usage: bench/time.py csv | rings | leaves | partition | build
 """
+import hashlib
 import os
 import random
 import subprocess
@@ -119,8 +120,82 @@ def partition():
     print("  ratio                                  %6.2f" % (ours / theirs))
 
 
+def key(x):
+    return (x + 2**31).to_bytes(4, "big")
+
+
+def spelled(entries):
+    """The leaf of entries with numbers in no row and below 65,536 apart, of which no point is twice: see docs/FORMATS.md."""
+    dims, least = len(entries[0][1]), min(doc for doc, _ in entries)
+    prefixes, spreads = [], []
+    for d in range(dims):
+        keys = [key(point[d]) for _, point in entries]
+        shared = len(os.path.commonprefix(keys))
+        prefixes.append(keys[0][:shared])
+        spreads.append(len({k[shared] for k in keys}))
+    s = spreads.index(min(spreads))
+    entries = sorted(entries, key=lambda entry: (entry[1][s], entry[0]))
+    lengths = [len(prefix) for prefix in prefixes]
+    sorted_bytes = bytes(key(point[s])[lengths[s]] for _, point in entries)
+    pieces = []
+    for byte in sorted_bytes:
+        if pieces and pieces[-1][0] == byte and pieces[-1][1] < 255:
+            pieces[-1][1] += 1
+        else:
+            pieces.append([byte, 0])
+    out = len(entries).to_bytes(2, "big") + bytes([2]) + vint(least)
+    out += b"".join((doc - least).to_bytes(2, "big") for doc, _ in entries)
+    out += bytes(lengths) + b"".join(prefixes) + bytes([s])
+    if 2 * len(pieces) < len(entries):
+        out += bytes([1, len(pieces)]) + b"".join(map(bytes, pieces))
+    else:
+        out += bytes([0]) + sorted_bytes
+    for _, point in entries:
+        out += b"".join(key(point[d])[lengths[d] + (d == s):] for d in range(dims))
+    return out
+
+
+def vint(n):
+    out = b""
+    while n >= 128:
+        out += bytes([128 + n % 128])
+        n //= 128
+    return out + bytes([n])
+
+
+def leaves():
+    draw = random.Random(1)
+    side = 3_000
+    points = [(draw.randint(0, side), draw.randint(0, side)) for _ in range(333)]
+    leaf = spelled(list(zip(draw.sample(range(60_000), 333), points)))
+    times = 100_000
+    empty, _ = best([PROGRAM, "leaves", "333", "0"], leaf)
+    ours, said = best([PROGRAM, "leaves", "333", str(times)], leaf)
+    if not said.startswith("leaves %d " % times):
+        sys.exit("not read: %s" % said)
+    begun = time.perf_counter()
+    for _ in range(20_000):
+        hashlib.sha256(leaf + bytes(4077 - len(leaf))).digest()
+    digest = (time.perf_counter() - begun) / 20_000
+    each = (ours - empty) / times
+    print("leaves: one of 333 entries of two dimensions, %d bytes, read and each entry looked at" % len(leaf))
+    print("  LeafView::read and all entries %6.2f us, %.1f ns an entry" % (each * 1e6, each / 333 * 1e9))
+    print("  SHA-256 of a page (OpenSSL)    %6.2f us" % (digest * 1e6))
+    print("  ratio                          %6.2f" % (each / digest))
+
+
+def build():
+    rounds = 5
+    print("build: a million drawn entries of two dimensions, leaves of 333; drawing counted in")
+    alone = None
+    for forks in (0, 1, 2, 3):
+        spent, said = best([PROGRAM, "build", str(forks), "1000000", str(rounds)], times=3)
+        alone = spent if alone is None else alone
+        print("  forks %d %7.1f ms a tree  ratio %5.2f  %s" % (forks, spent / rounds * 1000, spent / alone, said))
+
+
 if __name__ == "__main__":
-    kinds = {"csv": csv, "rings": rings, "partition": partition}
+    kinds = {"csv": csv, "rings": rings, "leaves": leaves, "partition": partition, "build": build}
     if len(sys.argv) != 2 or sys.argv[1] not in kinds:
         sys.exit(__doc__)
     kinds[sys.argv[1]]()

@@ -12,3 +12,4 @@ pub mod Entries
 pub mod Paged
 pub mod Laid
 pub mod LaidTree
+pub mod WrittenTree

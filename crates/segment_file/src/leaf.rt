@@ -11,7 +11,7 @@ ghost use Rattle.page_cache.specs.Cache.{IsKept, KeepsFile, Agrees, order_of};
 ghost use Rattle.page_cache.specs.Causes.{HasPageCause};
 ghost use Rattle.page_cache.specs.Evidence.{OnDamage, NotDamaged};
 ghost use Rattle.page_cache.specs.FilePages.{IsFilePage};
-ghost use Rattle.segment_file.specs.Heads.{page_of};
+ghost use Rattle.segment_file.specs.Heads.{page_of, count_of};
 ghost use Rattle.segment_file.specs.Segments.{HoldsLeaf};
 ghost use Rattle.segment_file.specs.Damages.{IsLeafDamage, IsLeafDamageOf};
 ghost use Rattle.segment_file.specs.Kept.{SpellsNoLeaf, IsLeafFault, OnFault};
@@ -73,6 +73,8 @@ pub fn leaf_in<'a, const D: usize>(
     ensures none { IfNone result ((files : Files) (first : ℕ) (s : Spot) (path : Region) (len : ℕ) (own : Region)
         → Agrees files cache.now → IsAt node.now first s path (Leaf len own) → IsPlaceOf place s (Leaf len own)
         → (items : List Item) → HoldsLeaf D (bytes_of (files (Segment head.now.id))) head.now first s len own items → ⊥) }
+    // As many as the head says, over every folder.
+    ensures count { IfSome result (λ view. (first : ℕ) (s : Spot) (path : Region) (t : IndexTree) → IsAt node.now first s path t → length view ≡ count_of head.now first) }
     ensures bad { IfNone result (SpellsNoLeaf cache.now head.now node.now place) }
 {
     let page = cache.view(head.id(), head.page_of(place));

@@ -25,3 +25,6 @@ pub use live::{read_live, write_live};
 pub use open::open_segment;
 pub use read::read_entries;
 pub use write::write_segment;
+
+#[cfg(test)]
+mod tests;

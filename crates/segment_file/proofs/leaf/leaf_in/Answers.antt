@@ -41,6 +41,12 @@ returns-clause-some g c =
     (rw (part g c, count g c first s path len own at, c.cell.ensures first s path (Leaf len own) at) at h))
     c.read.ensures.some
 
+pub returns-clause-count : goal.returns-clause-count
+returns-clause-count g c =
+    some_weaker c.read.result _ _
+    (λ view h first s path t at. h.counted ∙ c.count_of.ensures ∙ ap (λ (n : ℕ). count_of c.args.head.now n) (c.first_leaf.ensures.number first s path t at))
+    c.read.ensures.some
+
 pub returns-clause-none : goal.returns-clause-none
 returns-clause-none g c =
     none_weaker c.read.result _ _

@@ -1,0 +1,71 @@
+-- The cells of a subtree, each within that of the node above.
+use Rattle.std.proofs.Common.{◌≡◌, ℕ, zero, suc, Bool, true, false, List, [], ◌∷◌, get_or, set, ℤ, pos, ◌≤ℤ◌, refl, subst, arith}
+use Rattle.std.proofs.lemmas.Int.{ints}
+use Rattle.point_codec.specs.Points.{Region, all_le}
+use Rattle.point_codec.specs.Cells.{within, left_of, right_of}
+use Rattle.cell_relate.specs.Relations.{AllAnswer, IsUncrossed}
+use Rattle.cell_relate.proofs.Corners.{all_le-refl}
+use Rattle.cell_relate.proofs.RelationLemmas.{AllAnswer-within, is_outside-all}
+use Rattle.inner_pack.specs.Trees.{IndexTree, Leaf, Split, HasCells, cell_of, leaf_count}
+use Rattle.bkd_reader.specs.Counts.{tested, touched}
+
+set_below : (h : List ℤ) (d : ℕ) (x : ℤ) → x ≤ℤ get_or h d (pos 0) → all_le (set h d x) h ≡ true
+set_below [] d x le = refl
+set_below (y ∷ ys) zero x le = rw (all_le-refl ys) (grind (arith, ints))
+set_below (y ∷ ys) (suc d) x le = rw (set_below ys d x le) (grind (arith, ints))
+
+set_above : (h : List ℤ) (d : ℕ) (x : ℤ) → get_or h d (pos 0) ≤ℤ x → all_le h (set h d x) ≡ true
+set_above [] d x le = refl
+set_above (y ∷ ys) zero x le = rw (all_le-refl ys) (grind (arith, ints))
+set_above (y ∷ ys) (suc d) x le = rw (set_above ys d x le) (grind (arith, ints))
+
+left_within : (path : Region) (d : ℕ) (x : ℤ) → x ≤ℤ get_or path.hi d (pos 0) → within (left_of path d x) path ≡ true
+left_within path d x le = rw (all_le-refl path.lo, set_below path.hi d x le) refl
+
+right_within : (path : Region) (d : ℕ) (x : ℤ) → get_or path.lo d (pos 0) ≤ℤ x → within (right_of path d x) path ≡ true
+right_within path d x le = rw (set_above path.lo d x le, all_le-refl path.hi) refl
+
+-- what the shape answers on all of the path cell, it answers on the paths of both children
+pub all_left : (D : ℕ) (has : List ℤ → Bool) (b : Bool) (path : Region) (d : ℕ) (x : ℤ) (l r : IndexTree) → HasCells D path (Split d x l r) → AllAnswer has b path → AllAnswer has b (left_of path d x)
+all_left D has b path d x l r cells all = AllAnswer-within has b (left_of path d x) path (left_within path d x cells.0.to) all
+
+pub all_right : (D : ℕ) (has : List ℤ → Bool) (b : Bool) (path : Region) (d : ℕ) (x : ℤ) (l r : IndexTree) → HasCells D path (Split d x l r) → AllAnswer has b path → AllAnswer has b (right_of path d x)
+all_right D has b path d x l r cells all = AllAnswer-within has b (right_of path d x) path (right_within path d x cells.0.from) all
+
+-- and on the cell of the node itself
+pub all_cell : (D : ℕ) (has : List ℤ → Bool) (b : Bool) (path : Region) (t : IndexTree) → HasCells D path t → AllAnswer has b path → AllAnswer has b (cell_of path t)
+all_cell D has b path (Leaf len own) cells all = AllAnswer-within has b own path cells.1 all
+all_cell D has b path (Split d x l r) cells all = all
+
+one_touched : (D : ℕ) (has : List ℤ → Bool) (crosses : Region → Bool) (path : Region) (len : ℕ) (own : Region) → HasCells D path (Leaf len own) → AllAnswer has true own → touched has crosses (Leaf len own) ≡ 1
+one_touched D has crosses path len own cells all = rw (is_outside-all has crosses own cells.0.ordered all) refl
+
+touched_below : (D : ℕ) (has : List ℤ → Bool) (crosses : Region → Bool) (path : Region) (t : IndexTree) → HasCells D path t → AllAnswer has true path → touched has crosses t ≡ leaf_count t
+touched_below D has crosses path (Leaf len own) cells all = one_touched D has crosses path len own cells (AllAnswer-within has true own path cells.1 all)
+touched_below D has crosses path (Split d x l r) cells all =
+    let a = touched_below D has crosses (left_of path d x) l cells.1 (all_left D has true path d x l r cells all) in
+    let b = touched_below D has crosses (right_of path d x) r cells.2 (all_right D has true path d x l r cells all) in
+    omega (arith, a, b)
+
+-- below a node all of whose points are the shape's each leaf is touched
+pub touched_all : (D : ℕ) (has : List ℤ → Bool) (crosses : Region → Bool) (path : Region) (t : IndexTree) → HasCells D path t → AllAnswer has true (cell_of path t) → touched has crosses t ≡ leaf_count t
+touched_all D has crosses path (Leaf len own) cells all = one_touched D has crosses path len own cells all
+touched_all D has crosses path (Split d x l r) cells all = touched_below D has crosses path (Split d x l r) cells all
+
+-- ---- what a leaf costs, by the answer on its own cell
+
+module _ (has : List ℤ → Bool) (crosses : Region → Bool) (count : ℕ → ℕ) (first len : ℕ) (seen own : Region) (same : seen ≡ own) where
+  pub uncrossed_tested : (b : Bool) → IsUncrossed has crosses seen b → 0 ≡ tested crosses count first (Leaf len own)
+  uncrossed_tested b u = subst (λ r. 0 ≡ tested crosses count first (Leaf len r)) same (rw u.uncrossed refl)
+
+  pub outside_touched : IsUncrossed has crosses seen false → 0 ≡ touched has crosses (Leaf len own)
+  outside_touched u = subst (λ r. 0 ≡ touched has crosses (Leaf len r)) same (rw (u.uncrossed, u.corner) refl)
+
+  pub inside_touched : IsUncrossed has crosses seen true → 1 ≡ touched has crosses (Leaf len own)
+  inside_touched u = subst (λ r. 1 ≡ touched has crosses (Leaf len r)) same (rw (u.uncrossed, u.corner) refl)
+
+  pub crossed_tested : crosses seen ≡ true → count first ≡ tested crosses count first (Leaf len own)
+  crossed_tested e = subst (λ r. count first ≡ tested crosses count first (Leaf len r)) same (rw e refl)
+
+  pub crossed_touched : crosses seen ≡ true → 1 ≡ touched has crosses (Leaf len own)
+  crossed_touched e = subst (λ r. 1 ≡ touched has crosses (Leaf len r)) same (rw e refl)

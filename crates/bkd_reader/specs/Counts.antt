@@ -1,0 +1,15 @@
+-- What a walk over an index costs at most, leaf by leaf; each leaf is judged by its own cell (Apache Lucene's points).
+use Rattle.std.specs.Prelude.{ℕ, ◌+◌, Bool, if◌then◌else◌, List, ℤ}
+use Rattle.point_codec.specs.Points.{Region}
+use Rattle.cell_relate.specs.Relations.{is_outside}
+use Rattle.inner_pack.specs.Trees.{IndexTree, Leaf, Split, leaf_count}
+
+-- how many entries, live or dead, are in leaves whose own cell the shape crosses; the subtree's first leaf has this number
+abbrev pub tested : (crosses : Region → Bool) (count : ℕ → ℕ) (first : ℕ) → IndexTree → ℕ
+tested crosses count first (Leaf len own) = if crosses own then count first else 0
+tested crosses count first (Split d x l r) = tested crosses count first l + tested crosses count (first + leaf_count l) r
+
+-- how many leaves are not outside: their own cell is crossed, or has all its points in the shape
+abbrev pub touched : (has : List ℤ → Bool) (crosses : Region → Bool) → IndexTree → ℕ
+touched has crosses (Leaf len own) = if is_outside has crosses own then 0 else 1
+touched has crosses (Split d x l r) = touched has crosses l + touched has crosses r

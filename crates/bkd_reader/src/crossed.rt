@@ -1,0 +1,91 @@
+//! A leaf whose cell the shape crosses.
+
+ghost use Rattle.std.specs.Prelude.{◌≡◌, ◌≤◌, ◌+◌, ◌++◌, ◌⊎◌, ℕ, List, length, ℤ, Bool, true, IsTrue, OnOk};
+ghost use Rattle.outer_io.specs.Files.{bytes_of};
+ghost use Rattle.outer_io.specs.declared.file_name.FileName.TheVariants.{Segment};
+ghost use Rattle.point_codec.specs.Points.{Item, Region};
+ghost use Rattle.inner_pack.specs.Places.{Spot};
+ghost use Rattle.inner_pack.specs.Trees.{IndexTree, cell_of};
+ghost use Rattle.inner_pack.specs.Nodes.{IsAt};
+ghost use Rattle.page_cache.specs.Cache.{KeepsFile, Agrees};
+ghost use Rattle.page_cache.specs.Causes.{HasPageCause};
+ghost use Rattle.page_cache.specs.Evidence.{OnDamage, NotDamaged};
+ghost use Rattle.segment_file.specs.Heads.{count_of};
+ghost use Rattle.segment_file.specs.Segments.{HoldsTree};
+ghost use Rattle.segment_file.specs.Damages.{IsLeafDamage, IsLeafDamageOf};
+ghost use Rattle.bkd_reader.specs.Counts.{tested};
+ghost use Rattle.bkd_reader.specs.Hits.{AreHits, Appends, Begins, hits_in};
+
+use cell_relate::Shape;
+use inner_pack::NodeAt;
+use leaf_codec::LeafView;
+use live_bits::LiveBits;
+use outer_io::Pages;
+use page_cache::{PageCache, PageFault};
+use segment_file::{SegmentHead, bad_leaf, leaf_in, load_leaf};
+use std::alloc::{AllocError, Global};
+
+/// Appends the numbers of the live entries of a leaf that the shape has, each of which it is asked for.
+pub fn test_leaf<const D: usize, S: Shape<D>, F: Pages>(
+    alloc: Global,
+    head: &SegmentHead<D>,
+    node: &NodeAt<'_, D>,
+    cache: &mut PageCache,
+    folder: &mut F,
+    shape: &mut S,
+    live: &LiveBits,
+    hits: &mut Vec<u32>,
+) -> Result<(), PageFault>
+    requires leaf { node.now.leaves ≡ 1 }
+    ensures begins { Begins hits.old.items hits.new.items }
+    ensures hits { IsTrue F.told → Agrees (F.files folder.old) cache.old → (first : ℕ) (s : Spot) (path : Region) (t : IndexTree) → IsAt node.now first s path t
+        → OnOk result (Appends hits.old.items hits.new.items (AreHits D (bytes_of (F.files folder.old (Segment head.now.id))) head.now (S.has shape.old) live.now first s t)) }
+    ensures tests { (first : ℕ) (s : Spot) (path : Region) (t : IndexTree) → IsAt node.now first s path t → S.crosses shape.old (cell_of path t) ≡ true
+        → S.tests shape.new ≤ S.tests shape.old + tested (S.crosses shape.old) (count_of head.now) first t }
+    ensures compares { S.compares shape.new ≡ S.compares shape.old }
+    ensures reads { F.reads folder.new ≤ F.reads folder.old + 1 }
+    ensures has { S.has shape.new ≡ S.has shape.old }
+    ensures crosses { S.crosses shape.new ≡ S.crosses shape.old }
+    ensures files { IsTrue F.told → F.files folder.new ≡ F.files folder.old }
+    ensures others { (i : ℕ) → KeepsFile cache.new i → KeepsFile cache.old i ⊎ (i ≡ head.now.id) }
+    ensures agrees { IsTrue F.told → Agrees (F.files folder.old) cache.old → Agrees (F.files folder.old) cache.new }
+    ensures cause { HasPageCause (F.faults folder.old) (F.faults folder.new) result }
+    ensures shown { (first : ℕ) (s : Spot) (path : Region) (t : IndexTree) → IsAt node.now first s path t → OnDamage result (IsLeafDamage D head.now first s t) }
+    ensures damage { IsTrue F.told → Agrees (F.files folder.old) cache.old → OnDamage result (IsLeafDamageOf (F.files folder.old)) }
+    ensures whole { IsTrue F.told → Agrees (F.files folder.old) cache.old → (first : ℕ) (s : Spot) (path : Region) (t : IndexTree) (items : List Item) → IsAt node.now first s path t
+        → HoldsTree D (bytes_of (F.files folder.old (Segment head.now.id))) head.now first s t items → NotDamaged result }
+{
+    let place = load_leaf(alloc, folder, cache, head, node)?;
+    let Some(leaf) = leaf_in(cache, head, node, place) else {
+        return Err(bad_leaf(cache, head, node, place));
+    };
+    push_tested(&leaf, shape, live, hits)?;
+    Ok(())
+}
+
+/// Appends the numbers of the leaf's live entries that the shape has.
+fn push_tested<const D: usize, S: Shape<D>>(
+    leaf: &LeafView<'_, D>,
+    shape: &mut S,
+    live: &LiveBits,
+    hits: &mut Vec<u32>,
+) -> Result<(), AllocError>
+    ensures begins { Begins hits.old.items hits.new.items }
+    ensures hits { OnOk result (hits.new.items ≡ hits.old.items ++ hits_in (S.has shape.old) live.now leaf.now) }
+    ensures tests { S.tests shape.new ≤ S.tests shape.old + length leaf.now }
+    ensures compares { S.compares shape.new ≡ S.compares shape.old }
+    ensures has { S.has shape.new ≡ S.has shape.old }
+    ensures crosses { S.crosses shape.new ≡ S.crosses shape.old }
+{
+    for i in 0..leaf.count() {
+        let doc = leaf.doc(i);
+        if !live.is_live(doc) {
+            continue;
+        }
+        if !shape.contains(&leaf.point(i)) {
+            continue;
+        }
+        hits.push(doc)?;
+    }
+    Ok(())
+}

@@ -1,0 +1,155 @@
+//! The walk.
+
+ghost use Rattle.std.specs.Prelude.{◌≡◌, ◌≤◌, ◌+◌, ◌*◌, ◌++◌, ◌⊎◌, ℕ, List, ℤ, Bool, true, IsTrue, OnOk};
+ghost use Rattle.outer_io.specs.Files.{bytes_of};
+ghost use Rattle.outer_io.specs.declared.file_name.FileName.TheVariants.{Segment};
+ghost use Rattle.point_codec.specs.Points.{Item, Region};
+ghost use Rattle.cell_relate.specs.Relations.{AllAnswer};
+ghost use Rattle.inner_pack.specs.Places.{Spot, front};
+ghost use Rattle.inner_pack.specs.Trees.{IndexTree, leaf_count, cell_of};
+ghost use Rattle.inner_pack.specs.Bodies.{HasTree};
+ghost use Rattle.inner_pack.specs.Nodes.{IsAt};
+ghost use Rattle.page_cache.specs.Cache.{KeepsFile, Agrees};
+ghost use Rattle.page_cache.specs.Causes.{HasPageCause};
+ghost use Rattle.page_cache.specs.Evidence.{OnDamage, NotDamaged};
+ghost use Rattle.segment_file.specs.Heads.{count_of};
+ghost use Rattle.segment_file.specs.Segments.{HoldsTree, IsSegment};
+ghost use Rattle.segment_file.specs.Damages.{IsLeafDamage, IsLeafDamageOf};
+ghost use Rattle.bkd_reader.specs.Below.{IsRoot};
+ghost use Rattle.bkd_reader.specs.Counts.{tested, touched};
+ghost use Rattle.bkd_reader.specs.Hits.{AreHits, Appends, Begins, hits_in};
+
+use crate::crossed::test_leaf;
+use crate::inside::take_leaf;
+use cell_relate::{Relation, Shape};
+use inner_pack::NodeAt;
+use live_bits::LiveBits;
+use outer_io::Pages;
+use page_cache::{PageCache, PageFault};
+use segment_file::SegmentHead;
+use std::alloc::Global;
+
+/// Appends the numbers of the live entries of the segment that the shape has, in the order of the leaves.
+///
+/// A number stands there once for each of its entries that the shape has. Only entries of leaves whose own cell the shape
+/// crosses are tested, only leaves whose own cell is not outside are read, and a kept page is found without a read. No page
+/// is looked at that the answer doesn't need: a damage elsewhere in the segment is not met. After an error the hits begin
+/// with what they held, and may have more behind it.
+pub fn intersect<const D: usize, S: Shape<D>, F: Pages>(
+    alloc: Global,
+    head: &SegmentHead<D>,
+    cache: &mut PageCache,
+    folder: &mut F,
+    shape: &mut S,
+    live: &LiveBits,
+    hits: &mut Vec<u32>,
+) -> Result<(), PageFault>
+    // What is found.
+    ensures begins { Begins hits.old.items hits.new.items }
+    ensures found { IsTrue F.told → Agrees (F.files folder.old) cache.old → (items : List Item) → IsSegment D (bytes_of (F.files folder.old (Segment head.now.id))) head.now items
+        → OnOk result (hits.new.items ≡ hits.old.items ++ hits_in (S.has shape.old) live.now items) }
+    ensures hits { IsTrue F.told → Agrees (F.files folder.old) cache.old → (root : Region) (t : IndexTree) → HasTree D head.now.index root t
+        → OnOk result (Appends hits.old.items hits.new.items (AreHits D (bytes_of (F.files folder.old (Segment head.now.id))) head.now (S.has shape.old) live.now 0 front t)) }
+    // What it costs, over every folder.
+    ensures tests { (root : Region) (t : IndexTree) → HasTree D head.now.index root t → S.tests shape.new ≤ S.tests shape.old + tested (S.crosses shape.old) (count_of head.now) 0 t }
+    ensures compares { (root : Region) (t : IndexTree) → HasTree D head.now.index root t → S.compares shape.new ≤ S.compares shape.old + 2 * leaf_count t }
+    ensures reads { (root : Region) (t : IndexTree) → HasTree D head.now.index root t → F.reads folder.new ≤ F.reads folder.old + touched (S.has shape.old) (S.crosses shape.old) t }
+    // What stays.
+    ensures has { S.has shape.new ≡ S.has shape.old }
+    ensures crosses { S.crosses shape.new ≡ S.crosses shape.old }
+    ensures files { IsTrue F.told → F.files folder.new ≡ F.files folder.old }
+    ensures others { (i : ℕ) → KeepsFile cache.new i → KeepsFile cache.old i ⊎ (i ≡ head.now.id) }
+    ensures agrees { IsTrue F.told → Agrees (F.files folder.old) cache.old → Agrees (F.files folder.old) cache.new }
+    // What an error says.
+    ensures cause { HasPageCause (F.faults folder.old) (F.faults folder.new) result }
+    ensures shown { (root : Region) (t : IndexTree) → HasTree D head.now.index root t → OnDamage result (IsLeafDamage D head.now 0 front t) }
+    ensures damage { IsTrue F.told → Agrees (F.files folder.old) cache.old → OnDamage result (IsLeafDamageOf (F.files folder.old)) }
+    ensures whole { IsTrue F.told → Agrees (F.files folder.old) cache.old → (items : List Item) → IsSegment D (bytes_of (F.files folder.old (Segment head.now.id))) head.now items → NotDamaged result }
+{
+    visit(
+        alloc,
+        head,
+        &head.index().walk(),
+        cache,
+        folder,
+        shape,
+        live,
+        hits,
+    )
+}
+
+/// The same of a node.
+fn visit<const D: usize, S: Shape<D>, F: Pages>(
+    alloc: Global,
+    head: &SegmentHead<D>,
+    node: &NodeAt<'_, D>,
+    cache: &mut PageCache,
+    folder: &mut F,
+    shape: &mut S,
+    live: &LiveBits,
+    hits: &mut Vec<u32>,
+) -> Result<(), PageFault>
+    ensures begins { Begins hits.old.items hits.new.items }
+    ensures hits { IsTrue F.told → Agrees (F.files folder.old) cache.old → (first : ℕ) (s : Spot) (path : Region) (t : IndexTree) → IsRoot node.now first s path t
+        → OnOk result (Appends hits.old.items hits.new.items (AreHits D (bytes_of (F.files folder.old (Segment head.now.id))) head.now (S.has shape.old) live.now first s t)) }
+    ensures tests { (first : ℕ) (s : Spot) (path : Region) (t : IndexTree) → IsRoot node.now first s path t
+        → S.tests shape.new ≤ S.tests shape.old + tested (S.crosses shape.old) (count_of head.now) first t }
+    ensures compares { (first : ℕ) (s : Spot) (path : Region) (t : IndexTree) → IsAt node.now first s path t → S.compares shape.new + 1 ≤ S.compares shape.old + 2 * leaf_count t }
+    ensures reads { (first : ℕ) (s : Spot) (path : Region) (t : IndexTree) → IsRoot node.now first s path t
+        → F.reads folder.new ≤ F.reads folder.old + touched (S.has shape.old) (S.crosses shape.old) t }
+    ensures has { S.has shape.new ≡ S.has shape.old }
+    ensures crosses { S.crosses shape.new ≡ S.crosses shape.old }
+    ensures files { IsTrue F.told → F.files folder.new ≡ F.files folder.old }
+    ensures others { (i : ℕ) → KeepsFile cache.new i → KeepsFile cache.old i ⊎ (i ≡ head.now.id) }
+    ensures agrees { IsTrue F.told → Agrees (F.files folder.old) cache.old → Agrees (F.files folder.old) cache.new }
+    ensures cause { HasPageCause (F.faults folder.old) (F.faults folder.new) result }
+    ensures shown { (first : ℕ) (s : Spot) (path : Region) (t : IndexTree) → IsAt node.now first s path t → OnDamage result (IsLeafDamage D head.now first s t) }
+    ensures damage { IsTrue F.told → Agrees (F.files folder.old) cache.old → OnDamage result (IsLeafDamageOf (F.files folder.old)) }
+    ensures whole { IsTrue F.told → Agrees (F.files folder.old) cache.old → (first : ℕ) (s : Spot) (path : Region) (t : IndexTree) (items : List Item) → IsAt node.now first s path t
+        → HoldsTree D (bytes_of (F.files folder.old (Segment head.now.id))) head.now first s t items → NotDamaged result }
+{
+    match shape.compare(&node.cell()) {
+        Relation::Outside => Ok(()),
+        Relation::Inside => take(alloc, head, node, cache, folder, live, hits),
+        Relation::Crosses => match node.children() {
+            Some((left, right)) => {
+                visit(alloc, head, &left, cache, folder, shape, live, hits)?;
+                visit(alloc, head, &right, cache, folder, shape, live, hits)
+            }
+            None => test_leaf(alloc, head, node, cache, folder, shape, live, hits),
+        },
+    }
+}
+
+/// Appends the numbers of the live entries below a node all points of whose cell the shape has. The shape is not asked.
+fn take<const D: usize, F: Pages>(
+    alloc: Global,
+    head: &SegmentHead<D>,
+    node: &NodeAt<'_, D>,
+    cache: &mut PageCache,
+    folder: &mut F,
+    live: &LiveBits,
+    hits: &mut Vec<u32>,
+) -> Result<(), PageFault>
+    ensures begins { Begins hits.old.items hits.new.items }
+    ensures hits { IsTrue F.told → Agrees (F.files folder.old) cache.old → (first : ℕ) (s : Spot) (path : Region) (t : IndexTree) → IsRoot node.now first s path t
+        → (has : List ℤ → Bool) → AllAnswer has true (cell_of path t)
+        → OnOk result (Appends hits.old.items hits.new.items (AreHits D (bytes_of (F.files folder.old (Segment head.now.id))) head.now has live.now first s t)) }
+    ensures reads { F.reads folder.new ≤ F.reads folder.old + node.now.leaves }
+    ensures files { IsTrue F.told → F.files folder.new ≡ F.files folder.old }
+    ensures others { (i : ℕ) → KeepsFile cache.new i → KeepsFile cache.old i ⊎ (i ≡ head.now.id) }
+    ensures agrees { IsTrue F.told → Agrees (F.files folder.old) cache.old → Agrees (F.files folder.old) cache.new }
+    ensures cause { HasPageCause (F.faults folder.old) (F.faults folder.new) result }
+    ensures shown { (first : ℕ) (s : Spot) (path : Region) (t : IndexTree) → IsAt node.now first s path t → OnDamage result (IsLeafDamage D head.now first s t) }
+    ensures damage { IsTrue F.told → Agrees (F.files folder.old) cache.old → OnDamage result (IsLeafDamageOf (F.files folder.old)) }
+    ensures whole { IsTrue F.told → Agrees (F.files folder.old) cache.old → (first : ℕ) (s : Spot) (path : Region) (t : IndexTree) (items : List Item) → IsAt node.now first s path t
+        → HoldsTree D (bytes_of (F.files folder.old (Segment head.now.id))) head.now first s t items → NotDamaged result }
+{
+    match node.children() {
+        Some((left, right)) => {
+            take(alloc, head, &left, cache, folder, live, hits)?;
+            take(alloc, head, &right, cache, folder, live, hits)
+        }
+        None => take_leaf(alloc, head, node, cache, folder, live, hits),
+    }
+}
