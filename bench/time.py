@@ -1,11 +1,12 @@
 #!/usr/bin/env python3
 """Times the program crates/bench, which has to be built (rt run in its folder), and prints ratios of one run.
 
-usage: bench/time.py csv | rings | leaves | partition | build
+usage: bench/time.py csv | rings | leaves | partition | build | walks
 """
 import hashlib
 import os
 import random
+import resource
 import subprocess
 import sys
 import tempfile
@@ -194,8 +195,43 @@ def build():
         print("  forks %d %7.1f ms a tree  ratio %5.2f  %s" % (forks, spent / rounds * 1000, spent / alone, said))
 
 
+def processor_time(words):
+    """The processor time of a run of one thread, in seconds, and what it printed."""
+    before = resource.getrusage(resource.RUSAGE_CHILDREN)
+    run = subprocess.run(words, capture_output=True, check=True)
+    after = resource.getrusage(resource.RUSAGE_CHILDREN)
+    return after.ru_utime + after.ru_stime - before.ru_utime - before.ru_stime, run.stdout.decode().strip()
+
+
+def walks():
+    count, scanned = 1_000_000, 200
+    with tempfile.TemporaryDirectory() as folder:
+        plain = os.path.join(folder, "scan")
+        subprocess.run(["rustc", "-O", "-o", plain, os.path.join(HERE, "scan.rs")], check=True)
+        ours = {"inside": 100, "tested": 50, "boxes": 100_000, "near": 100_000}
+        runs = [([PROGRAM] + (["walk"] if kind != "near" else []) + [kind, str(count)], times) for kind, times in ours.items()]
+        runs += [([plain, kind, str(count)], scanned) for kind in ("boxes", "near")]
+        spent, said = {}, {}
+        # in turns, so that all meet the same spells of the machine
+        for _ in range(3):
+            for words, times in runs:
+                kind, program = words[-2], words[0]
+                for rounds in {0, times} if kind in ("inside", "tested") else {0, scanned, times}:
+                    seconds, said[kind, program, rounds] = processor_time(words + [str(rounds)])
+                    spent[kind, program, rounds] = min(spent.get((kind, program, rounds), seconds), seconds)
+    each = {kind: (spent[kind, PROGRAM, times] - spent[kind, PROGRAM, 0]) / times for kind, times in ours.items()}
+    print("walks: a million drawn entries of two dimensions in memory, leaves of 333, all pages kept; processor time, the building taken off")
+    for kind, name in (("inside", "a walk that takes all leaves  "), ("tested", "a walk that tests all entries")):
+        print("  %s %7.2f ns an entry" % (name, each[kind] / count * 1e9))
+    for kind, name in (("boxes", "a box of a width of 1,000     "), ("near", "the ten nearest              ")):
+        if said[kind, PROGRAM, scanned] != said[kind, plain, scanned]:
+            sys.exit("the answers differ: %s, %s" % (said[kind, PROGRAM, scanned], said[kind, plain, scanned]))
+        scan = (spent[kind, plain, scanned] - spent[kind, plain, 0]) / scanned
+        print("  %s %7.2f us, a plain scan (Rust) %.0f us, ratio %.0f" % (name, each[kind] * 1e6, scan * 1e6, scan / each[kind]))
+
+
 if __name__ == "__main__":
-    kinds = {"csv": csv, "rings": rings, "leaves": leaves, "partition": partition, "build": build}
+    kinds = {"csv": csv, "rings": rings, "leaves": leaves, "partition": partition, "build": build, "walks": walks}
     if len(sys.argv) != 2 or sys.argv[1] not in kinds:
         sys.exit(__doc__)
     kinds[sys.argv[1]]()

@@ -3,6 +3,7 @@
 ghost use Rattle.std.specs.Prelude.{◌≡◌, ◌≤◌, ◌^◌, vec_len, IfOk};
 ghost use Rattle.bkd_build.specs.Parts.{AreEntries};
 
+use crate::draws::{coordinate, next};
 use bkd_build::{Built, OpenGate, build};
 use point_codec::{Entry, Point};
 use std::alloc::{AllocError, Global};
@@ -10,19 +11,7 @@ use std::marker::Sync;
 use std::thread::Threads;
 
 /// The most entries in a leaf of two dimensions.
-const LEAF: u16 = 333;
-
-/// The next draw of the minimal standard generator of Park and Miller.
-fn next(draw: u64) -> u64 {
-    draw % 2_147_483_647 * 48_271 % 2_147_483_647
-}
-
-/// A coordinate from -100,000 to 100,000.
-fn coordinate(draw: u64) -> i32 {
-    i32::try_from(draw % 200_001)
-        .unwrap_or(0)
-        .saturating_sub(100_000)
-}
+pub const LEAF: u16 = 333;
 
 /// So many entries at drawn points, with the numbers from 0 on.
 #[tactic(auto, using(bkd_build::proofs::Numbered::none_numbered, bkd_build::proofs::Numbered::numbered_push, bkd_build::proofs::Numbered::numbered_entries))]

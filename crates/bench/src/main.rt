@@ -2,14 +2,19 @@
 #![tactic(auto)]
 
 mod builds;
+mod crossed;
+mod draws;
 mod leaves;
 mod partition;
+mod queries;
 mod rings;
+mod stored;
 
 use byte_cursor::Bytes;
 use csv_load::read_points;
 use number_text::number;
 use outer_io::{StdSource, read_all};
+use queries::Walk;
 use std::alloc::Global;
 use std::io::Lock;
 use std::{env, io};
@@ -22,7 +27,10 @@ use std::{env, io};
 /// was one and what the numbers sum up to;
 /// `build FORKS COUNT ROUNDS` draws so many entries and builds their tree so many times, the upper levels by two threads each, and
 /// sums up its bytes;
-/// `partition draw|tree COUNT ROUNDS` draws so many entries and parts them into leaves so many times, and sums up their order.
+/// `partition draw|tree COUNT ROUNDS` draws so many entries and parts them into leaves so many times, and sums up their order;
+/// `walk inside|tested|boxes COUNT TIMES` writes a segment of so many drawn entries and walks over it so many times, with a box that
+/// has all cells, with a shape that tests each entry or with small drawn boxes, and sums up the numbers that it finds;
+/// `near COUNT TIMES` does the same with queries for the ten nearest to a drawn point.
 fn main(rt: HostRuntime) -> io::Result<()> {
     let alloc = rt.alloc();
     let mut words = Vec::new(alloc);
@@ -75,8 +83,33 @@ fn main(rt: HostRuntime) -> io::Result<()> {
                 Err(_) => println!(rt; "no memory"),
             }
         }
+        [command, kind, count, times] if command.as_str() == "walk" => {
+            let kind = match kind.as_str() {
+                "inside" => Walk::Inside,
+                "tested" => Walk::Tested,
+                _ => Walk::Boxes,
+            };
+            let count = number(count.as_bytes())
+                .unwrap_or(1000)
+                .clamp(1, 16_777_216);
+            let times = number(times.as_bytes()).unwrap_or(1);
+            match queries::walked(&rt, alloc, kind, count, times) {
+                Some(sum) => println!(rt; "hits {sum}"),
+                None => println!(rt; "no memory"),
+            }
+        }
+        [command, count, times] if command.as_str() == "near" => {
+            let count = number(count.as_bytes())
+                .unwrap_or(1000)
+                .clamp(1, 16_777_216);
+            let times = number(times.as_bytes()).unwrap_or(1);
+            match queries::near(&rt, alloc, count, times) {
+                Some(sum) => println!(rt; "near {sum}"),
+                None => println!(rt; "no memory"),
+            }
+        }
         _ => println!(rt;
-            "csv A B | rings plain|tree POSITIONS QUERIES | leaves COUNT TIMES | build FORKS COUNT ROUNDS | partition draw|tree COUNT ROUNDS"
+            "csv A B | rings plain|tree POSITIONS QUERIES | leaves COUNT TIMES | build FORKS COUNT ROUNDS | partition draw|tree COUNT ROUNDS | walk inside|tested|boxes COUNT TIMES | near COUNT TIMES"
         ),
     }
 }

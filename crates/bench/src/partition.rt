@@ -2,6 +2,7 @@
 
 ghost use Rattle.std.specs.Prelude.{◌<◌};
 
+use crate::draws::{coordinate, next};
 use bkd_build::{cut, widest};
 use leaf_codec::arrange;
 use point_codec::{Entry, Point};
@@ -10,25 +11,13 @@ use std::alloc::{AllocError, Global};
 /// How many entries a leaf has.
 const LEAF: usize = 333;
 
-/// The next draw of the minimal standard generator of Park and Miller.
-fn drawn(draw: u64) -> u64 {
-    draw % 2_147_483_647 * 48_271 % 2_147_483_647
-}
-
-/// A coordinate from -100,000 to 100,000.
-fn coordinate(draw: u64) -> i32 {
-    i32::try_from(draw % 200_001)
-        .unwrap_or(0)
-        .saturating_sub(100_000)
-}
-
 /// So many entries at drawn points.
 fn entries(alloc: Global, count: u32) -> Result<Vec<Entry<2>>, AllocError> {
     let mut draw = 1;
     let mut entries = Vec::new(alloc);
     for doc in 0..count {
-        let first = drawn(draw);
-        draw = drawn(first);
+        let first = next(draw);
+        draw = next(first);
         let point = Point {
             c: [coordinate(first), coordinate(draw)],
         };

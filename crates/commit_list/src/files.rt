@@ -36,6 +36,10 @@ pub fn read_commit<F: Folder>(alloc: Global, folder: &mut F) -> Result<Option<Co
     ensures reads { F.reads folder.new ≤ F.reads folder.old + 2 }
     ensures pages { IsTrue F.told → IfOk result (λ found. OnSome found
         (F.reads folder.new ≤ F.reads folder.old + length (bytes_of (F.files folder.old CommitName)) / 4096)) }
+    // and where the file says a commit, or isn't there, whatever is answered
+    ensures most { IsTrue F.told → (c : CommitData) → IsCommitFile (bytes_of (F.files folder.old CommitName)) c
+        → F.reads folder.new ≤ F.reads folder.old + length (bytes_of (F.files folder.old CommitName)) / 4096 }
+    ensures unread { IsTrue F.told → F.files folder.old CommitName ≡ None → F.reads folder.new ≡ F.reads folder.old }
     ensures cause { HasPageCause (F.faults folder.old) (F.faults folder.new) result }
     ensures steady { IsSteady (F.faults folder.old) (F.faults folder.new) result }
     ensures shown { OnDamage result IsCommitDamage }
@@ -62,6 +66,9 @@ fn read_from<F: Folder>(
     ensures reads { F.reads folder.new ≤ F.reads folder.old + 1 }
     ensures pages { IsTrue F.told → IsFirstPage (F.files folder.old) first.now
         → OnOk result (F.reads folder.new + 1 ≤ F.reads folder.old + length (bytes_of (F.files folder.old CommitName)) / 4096) }
+    ensures most { IsTrue F.told → IsFirstPage (F.files folder.old) first.now
+        → (c : CommitData) → IsCommitFile (bytes_of (F.files folder.old CommitName)) c
+        → F.reads folder.new + 1 ≤ F.reads folder.old + length (bytes_of (F.files folder.old CommitName)) / 4096 }
     ensures cause { HasPageCause (F.faults folder.old) (F.faults folder.new) result }
     ensures steady { IsSteady (F.faults folder.old) (F.faults folder.new) result }
     ensures shown { OnDamage result IsCommitDamage }

@@ -50,6 +50,8 @@ impl FirstPage {
         ensures needed { OnDamage result (SizeNeeds 4096) }
         ensures damage { IsTrue F.told → OnDamage result (IsFileDamageOf (F.files folder.old)) }
         ensures absent { IsTrue F.told → F.files folder.old name.now ≡ None → NotDamaged result }
+        // a file that isn't there is not read
+        ensures unread { IsTrue F.told → F.files folder.old name.now ≡ None → F.reads folder.new ≡ F.reads folder.old }
         ensures whole { IsTrue F.told → IsFilePage name.now (bytes_of (F.files folder.old name.now)) 0 → NotDamaged result }
     {
         let Some(size) = folder.size(name)? else {

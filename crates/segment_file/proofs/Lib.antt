@@ -1,6 +1,7 @@
 pub mod Options
 pub mod Leaves
 pub mod Lists
+pub mod Counted
 pub mod FieldBytes
 pub mod LiveLemmas
 pub mod FirstPayloads

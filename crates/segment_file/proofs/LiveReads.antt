@@ -84,6 +84,7 @@ live_file segment generation bytes payloads s len h long size pages same =
 pub record FirstOf (segment generation : ℕ) (bytes : List ℕ) (live : LiveSet) : Type 0 where
   pub body : List ℕ
   pub set : IsLiveBody segment generation live body
+  pub some : 1 ≤ pages_for (length body)
   pub size : length bytes ≡ 4096 * pages_for (length body)
   pub page : IsFilePage (Live segment generation) bytes 0
   pub pages : ArePages (Live segment generation) bytes 0 (pages_for (length body))
@@ -100,6 +101,7 @@ first_of segment generation bytes live p =
     record {
       body = p.body;
       set = p.set;
+      some = some;
       size = p.file.len;
       page = p.file.pages 0 (omega arith) (omega arith);
       pages = p.file.pages;

@@ -1,9 +1,9 @@
 //! Laws of the files of segments. Each function has an empty body: its contract is the law.
 
-ghost use Rattle.std.specs.Prelude.{◌≡◌, ℕ, List};
+ghost use Rattle.std.specs.Prelude.{◌≡◌, ℕ, List, length};
 ghost use Rattle.point_codec.specs.Points.{Item};
 ghost use Rattle.live_bits.specs.LiveSet.{LiveSet};
-ghost use Rattle.segment_file.specs.Heads.{Head};
+ghost use Rattle.segment_file.specs.Heads.{Head, HasRanges};
 ghost use Rattle.segment_file.specs.Segments.{IsHeadOf, IsSegment};
 ghost use Rattle.segment_file.specs.LiveFiles.{IsLiveFile};
 
@@ -25,4 +25,10 @@ pub fn one_segment()
 /// A file has one set of live numbers at most.
 pub fn one_live_set()
     ensures { (segment generation : ℕ) (bytes : List ℕ) (s t : LiveSet) → IsLiveFile segment generation bytes s → IsLiveFile segment generation bytes t → s ≡ t }
+{}
+
+/// A segment has as many entries as its head says, and the numbers of its head are in range.
+pub fn segments_are_counted()
+    ensures entries { (D : ℕ) (bytes : List ℕ) (h : Head) (items : List Item) → IsSegment D bytes h items → length items ≡ h.entries }
+    ensures ranges { (D : ℕ) (bytes : List ℕ) (h : Head) (items : List Item) → IsSegment D bytes h items → HasRanges D h }
 {}

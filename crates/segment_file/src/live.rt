@@ -1,6 +1,6 @@
 //! Files of live bits.
 
-ghost use Rattle.std.specs.Prelude.{◌≡◌, ◌≢◌, ◌≤◌, ◌+◌, ◌*◌, ◌++◌, ℕ, List, length, vec_len, IsTrue, IfOk, OnOk, IsErrOf};
+ghost use Rattle.std.specs.Prelude.{◌≡◌, ◌≢◌, ◌≤◌, ◌+◌, ◌*◌, ◌/◌, ◌++◌, ℕ, List, length, vec_len, IsTrue, IfOk, OnOk, IsErrOf};
 ghost use Rattle.outer_io.specs.Files.{bytes_of, SameBut};
 ghost use Rattle.outer_io.specs.declared.file_name.FileName.TheVariants.{Live};
 ghost use Rattle.live_bits.specs.LiveSet.{LiveSet, IsLiveSet};
@@ -66,6 +66,9 @@ pub fn read_live<F: Pages>(
     ensures files { IsTrue F.told → F.files folder.new ≡ F.files folder.old }
     ensures live { IsTrue F.told → IfOk result (IsLiveFile id generation (bytes_of (F.files folder.old (Live id generation)))) }
     ensures set { IfOk result IsLiveSet }
+    // a file that has a set is read page by page once, whatever is answered
+    ensures reads { IsTrue F.told → (live : LiveSet) → IsLiveFile id generation (bytes_of (F.files folder.old (Live id generation))) live
+        → F.reads folder.new ≤ F.reads folder.old + length (bytes_of (F.files folder.old (Live id generation))) / 4096 }
     ensures cause { HasPageCause (F.faults folder.old) (F.faults folder.new) result }
     ensures shown { OnDamage result (IsLiveDamage id generation) }
     ensures damage { IsTrue F.told → OnDamage result (IsLiveDamageOf (F.files folder.old)) }

@@ -5,7 +5,7 @@ use Rattle.outer_io.specs.declared.file_name.FileName.{FileName}
 use Rattle.outer_io.specs.declared.file_name.FileName.TheVariants.{Commit}
 use Rattle.page_cache.specs.FilePages.{ArePages, payloads_of}
 use Rattle.commit_list.specs.CommitFiles.{IsCommitFile, SpellsFilled}
-use Rattle.commit_list.proofs.CommitPages.{begins-short, first_begins, file_pages, file_payloads, file_so, first_of}
+use Rattle.commit_list.proofs.CommitPages.{begins-short, first_begins, file_long, file_pages, file_payloads, file_so, first_of}
 use Rattle.commit_list.proofs.files.read_from.Goals as goal
 
 pub returns-in_err-length-clause-whole : goal.returns-in_err-length-clause-whole
@@ -56,3 +56,11 @@ returns-clause-whole g c = λ told first d h.
     let long = sym f.size_is ∙ c.in_ok-check_size.ensures.ok.0 refl in
     let same = c.in_ok-payloads.ensures.payloads told first ∙ ap (λ (n : FileName). payloads_of (bytes_of (files n)) 0 pages) c.requires in
     c.commit_of.ensures.whole d (file_payloads (bytes_of (files Commit)) c.in_ok-payloads.payloads.items pages d long same h)
+
+-- ---- how much is read
+
+pub returns-in_err-length-clause-most : goal.returns-in_err-length-clause-most
+returns-in_err-length-clause-most g c = λ told first d h. omega (arith, file_long (bytes_of (g.F.Pages.files c.args.folder.now Commit)) d h)
+
+pub returns-in_err-check_size-clause-most : goal.returns-in_err-check_size-clause-most
+returns-in_err-check_size-clause-most g c = λ told first d h. omega (arith, file_long (bytes_of (g.F.Pages.files c.args.folder.now Commit)) d h)

@@ -1,0 +1,9 @@
+pub mod Pairwise
+pub mod Parts
+pub mod Places
+pub mod BySegment
+pub mod Whole
+pub mod KeptFiles
+pub mod Pages
+pub mod Damaged
+pub mod Listing

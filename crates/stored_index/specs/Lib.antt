@@ -1,0 +1,4 @@
+pub mod Segments
+pub mod Stored
+pub mod Kept
+pub mod Opening
