@@ -1,3 +1,4 @@
+mod Few
 mod Front
 mod Levels
 mod Only

@@ -3,7 +3,7 @@
 //! are worth a merge, the lowest level first. Segments that are in use elsewhere are pinned.
 #![tactic(auto)]
 
-ghost use Rattle.std.specs.Prelude.{◌≡◌, ℕ, suc, ◌+◌, ◌<◌, ◌≤◌, ◌↔◌, List, length, IsNone, IfNone, IfSome};
+ghost use Rattle.std.specs.Prelude.{◌≡◌, ℕ, suc, ◌+◌, ◌^◌, ◌<◌, ◌≤◌, ◌↔◌, Bool, List, length, count_by, All, IsNone, IfNone, IfSome};
 ghost use Rattle.merge_policy.specs.Choice.{least_size, is_of_level, free_count, AreFirstTen, IsChoice};
 
 use arrayvec::ArrayVec;
@@ -27,6 +27,13 @@ pub fn choose(sizes: &[u32], pinned: &[bool]) -> Option<ArrayVec<u32, 10>>
     }
     None
 }
+
+/// A law, with an empty body: where nothing is left to merge, at most nine sizes of each of the eight levels are left, and those
+/// that are pinned.
+pub fn few_are_left()
+    ensures { (sizes : List ℕ) (pinned : List Bool) → length sizes ≡ length pinned → All (λ size. size < 2 ^ 32) sizes
+        → ((level : ℕ) → free_count level sizes pinned < 10) → length sizes ≤ 72 + count_by (λ pin. pin) pinned }
+{}
 
 /// The first ten free positions of a level, if it has ten.
 fn first_ten(level: Level, sizes: &[u32], pinned: &[bool]) -> Option<ArrayVec<u32, 10>>
