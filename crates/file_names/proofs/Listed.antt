@@ -1,16 +1,23 @@
 -- Which names a list has, after each change of the list.
-use Rattle.std.proofs.Common.{◌≡◌, ◌≢◌, ℕ, zero, suc, ◌<◌, ◌≤◌, Bool, true, false, not, cond, ◌&&◌, ◌||◌, List, [], ◌∷◌, ◌++◌, length, refl, sym, ap, subst, ◌∙◌, inl, inr, ⊎_elim, arith}
+use Rattle.std.proofs.Common.{◌≡◌, ◌≢◌, ℕ, zero, suc, ◌≤◌, Bool, true, false, not, cond, ◌&&◌, ◌||◌, List, [], ◌∷◌, ◌++◌, refl, sym, ap, subst, ◌∙◌, ⊎_elim, arith}
 use Rattle.std.specs.Prelude.{◌↔◌}
-use Rattle.std.specs.List.{Contains, filter, list_any, items_where_true}
+use Rattle.std.specs.List.{Contains, filter, items_where_true}
 use Rattle.std.specs.List.Retain.{IsFiltered}
 use Rattle.std.proofs.lemmas.Bool.{or_cases, or_left, or_right, cases_Bool, both_ways, false_from_ne_true}
 use Rattle.std.proofs.lemmas.List.Folds.{list_any-append}
-use Rattle.std.proofs.lemmas.Map.Made.{Contains-tail}
 use Rattle.outer_io.specs.declared.file_name.FileName.{FileName}
-use Rattle.outer_io.specs.declared.file_name.FileName.TheVariants.{Segment, Live}
+use Rattle.outer_io.specs.declared.file_name.FileName.TheVariants.{Segment}
 use Rattle.outer_io.specs.Names.{same_name}
-use Rattle.outer_io.proofs.Names.{same_name-refl, same_name-true, same_name-other}
+use Rattle.outer_io.proofs.Names.{same_name-refl, same_name-true, same_name-other, same_name-false}
 use Rattle.file_names.specs.Names.{is_named, NameList, AreBelow, IsBelow}
+
+-- the test goes either way
+pub same_name-swapped : (a b : FileName) → same_name a b ≡ same_name b a
+same_name-swapped a b =
+    ⊎_elim
+    (λ (same : same_name a b ≡ true). rw (same_name-true a b same))
+    (λ (apart : same_name a b ≡ false). apart ∙ sym (same_name-other b a (λ e. same_name-false a b apart (sym e))))
+    (cases_Bool (same_name a b))
 
 -- ---- the parts of a list
 
@@ -72,6 +79,13 @@ joins ns name = is_named-push ns name name ∙ or_right (is_named ns name) (same
 pub stays : (ns : List FileName) (name other : FileName) → is_named ns other ≡ true → is_named (ns ++ name ∷ []) other ≡ true
 stays ns name other h = is_named-push ns name other ∙ or_left (is_named ns other) (same_name name other) h
 
+-- the same of a list that was made so
+pub joins_as : (ns ms : List FileName) (name : FileName) → ms ≡ ns ++ name ∷ [] → is_named ms name ≡ true
+joins_as ns ms name is = rw is (joins ns name)
+
+pub stays_as : (old ns ms : List FileName) (name : FileName) → ns ≡ old → ms ≡ ns ++ name ∷ [] → (other : FileName) → is_named old other ≡ true → is_named ms other ≡ true
+stays_as old ns ms name was is other h = rw (is, was) (stays old name other h)
+
 pub others_stay : (ns : List FileName) (name other : FileName) → other ≢ name → is_named (ns ++ name ∷ []) other ≡ is_named ns other
 others_stay ns name other h =
     is_named-push ns name other ∙ ap (λ b. is_named ns other || b) (same_name-other name other (λ e. h (sym e))) ∙ none (is_named ns other)
@@ -87,12 +101,12 @@ is_named-filter keep [] name = is_named-none name ∙ sym (ap (λ b. b && keep n
 is_named-filter keep (n ∷ ns) name =
     ⊎_elim
     (λ (same : same_name n name ≡ true).
-      let is = same_name-true n name same in
-      subst (λ (m : FileName). is_named (cond (keep m) (m ∷ filter keep ns) (filter keep ns)) name ≡ (is_named (m ∷ ns) name && keep name)) (sym is)
-      (found (keep name) (is_named-filter keep ns name)))
+    let is = same_name-true n name same in
+    subst (λ (m : FileName). is_named (cond (keep m) (m ∷ filter keep ns) (filter keep ns)) name ≡ (is_named (m ∷ ns) name && keep name)) (sym is)
+    (found (keep name) (is_named-filter keep ns name)))
     (λ (apart : same_name n name ≡ false).
-      passed (keep n) apart (is_named-filter keep ns name)
-      ∙ ap (λ b. b && keep name) (sym (is_named-first n name ns ∙ ap (λ b. b || is_named ns name) apart)))
+    passed (keep n) apart (is_named-filter keep ns name)
+    ∙ ap (λ b. b && keep name) (sym (is_named-first n name ns ∙ ap (λ b. b || is_named ns name) apart)))
     (cases_Bool (same_name n name))
   where
     found : (b : Bool) → is_named (filter keep ns) name ≡ (is_named ns name && b)

@@ -1,8 +1,8 @@
 -- The numbers that a list has in a series of names: no more of them are taken than there are names.
-use Rattle.std.proofs.Common.{◌≡◌, ℕ, zero, suc, ◌+◌, ◌<◌, ◌≤◌, max, Bool, true, false, cond, ◌&&◌, ◌||◌, ◌==◌, ◌^◌, eqb, List, [], ◌∷◌, length, Option, None, Some, refl, sym, ap, subst, ◌∙◌, ◌⊎◌, inl, inr, ⊎_elim, below_more, arith}
-use Rattle.std.specs.List.{list_any, filter_map, cons_option, fold, reduce}
+use Rattle.std.proofs.Common.{◌≡◌, ℕ, ◌+◌, ◌<◌, ◌≤◌, max, Bool, true, false, cond, ◌&&◌, ◌||◌, ◌==◌, ◌^◌, eqb, List, [], ◌∷◌, length, Option, None, Some, refl, sym, ap, subst, ◌∙◌, ◌⊎◌, inl, inr, ⊎_elim, below_more, arith}
+use Rattle.std.specs.List.{list_any, cons_option, fold, reduce}
 use Rattle.std.specs.Option.{MatchOption}
-use Rattle.std.proofs.lemmas.Bool.{cases_Bool, cases_lt, both_ways, eqb-true, eq-eqb, or_cases, or_left, or_right, false_from_ne_true}
+use Rattle.std.proofs.lemmas.Bool.{cases_lt, both_ways, eqb-true, eq-eqb, or_cases, or_left, or_right, false_from_ne_true}
 use Rattle.std.proofs.lemmas.Bool.Decides.{nat_tests}
 use Rattle.std.proofs.lemmas.Map.Steps.{le-length_from_below}
 use Rattle.outer_io.specs.declared.file_name.FileName.{FileName}
@@ -75,9 +75,9 @@ reached a (x ∷ xs) =
     let f : ℕ = fold max (max a x) xs in
     ⊎_elim
     (λ (e : f ≡ max a x). ⊎_elim
-      (λ (lt : a < x). inr (or_left (eqb f x) (list_any (eqb f) xs) (eq-eqb f x (omega (arith, e, lt)))))
-      (λ (ge : x ≤ a). inl (omega (arith, e, ge)))
-      (cases_lt a x))
+    (λ (lt : a < x). inr (or_left (eqb f x) (list_any (eqb f) xs) (eq-eqb f x (omega (arith, e, lt)))))
+    (λ (ge : x ≤ a). inl (omega (arith, e, ge)))
+    (cases_lt a x))
     (λ (r : list_any (eqb f) xs ≡ true). inr (or_right (eqb f x) (list_any (eqb f) xs) r))
     (reached (max a x) xs)
 

@@ -12,6 +12,8 @@ pub fn names_are_apart()
     ensures itself { (name : FileName) → same_name name name ≡ true }
     ensures equal { (a b : FileName) → same_name a b ≡ true → a ≡ b }
     ensures other { (a b : FileName) → a ≢ b → same_name a b ≡ false }
+    ensures apart { (a b : FileName) → same_name a b ≡ false → a ≢ b }
+    ensures either_way { (a b : FileName) → same_name a b ≡ same_name b a }
     ensures segments { (a b : ℕ) → same_name (Segment a) (Segment b) ≡ (a == b) }
     ensures generations { (a m b n : ℕ) → same_name (Live a m) (Live b n) ≡ ((a == b) && (m == n)) }
     ensures kinds { (id segment generation : ℕ) → Segment id ≢ Live segment generation }

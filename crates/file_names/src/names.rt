@@ -1,8 +1,9 @@
 //! The list of names.
 
-ghost use Rattle.std.specs.Prelude.{◌≡◌, ◌<◌, ◌≤◌, [], ◌∷◌, ◌++◌, false, not, filter, IfOk, OnOk, OnErr};
+ghost use Rattle.std.specs.Prelude.{◌≡◌, ◌<◌, ◌≤◌, [], ◌∷◌, ◌++◌, true, false, not, filter, IfOk, OnOk, OnErr};
 ghost use Rattle.std.specs.Fn.{CalledAt};
 ghost use Rattle.std.specs.List.Retain.{IsFiltered};
+ghost use Rattle.outer_io.specs.declared.file_name.FileName.{FileName};
 ghost use Rattle.outer_io.specs.declared.file_name.FileName.TheVariants.{Segment, Live};
 ghost use Rattle.outer_io.specs.Names.{same_name};
 ghost use Rattle.file_names.specs.Names.{is_named, AreBelow, IsBelow, IsNextId, IsNextGeneration};
@@ -77,6 +78,8 @@ impl FileNames {
     pub fn add(&mut self, name: FileName) -> Result<(), Memory>
         requires { IsBelow self.old.next_segment name }
         ensures named { OnOk result (self.new.names ≡ self.old.names ++ name ∷ []) }
+        ensures joins { OnOk result (is_named self.new.names name ≡ true) }
+        ensures stays { (other : FileName) → is_named self.old.names other ≡ true → is_named self.new.names other ≡ true }
         ensures next { self.new.next_segment ≡ self.old.next_segment }
         ensures refused { OnErr result (self.new ≡ self.old) }
     {
@@ -89,6 +92,8 @@ impl FileNames {
     pub fn name_segment(&mut self) -> Result<u64, Memory>
         ensures fresh { IfOk result (λ id. is_named self.old.names (Segment id) ≡ false) }
         ensures named { IfOk result (λ id. self.new.names ≡ self.old.names ++ Segment id ∷ []) }
+        ensures joins { IfOk result (λ id. is_named self.new.names (Segment id) ≡ true) }
+        ensures stays { (other : FileName) → is_named self.old.names other ≡ true → is_named self.new.names other ≡ true }
         ensures next { IfOk result (λ id. IsNextId self.old id self.new.next_segment) }
         ensures below { IfOk result (λ id. id < self.new.next_segment) }
         ensures later { self.old.next_segment ≤ self.new.next_segment }
@@ -106,6 +111,8 @@ impl FileNames {
     pub fn name_live(&mut self, segment: u64) -> Result<u64, Memory>
         ensures fresh { IfOk result (λ generation. is_named self.old.names (Live segment generation) ≡ false) }
         ensures named { IfOk result (λ generation. self.new.names ≡ self.old.names ++ Live segment generation ∷ []) }
+        ensures joins { IfOk result (λ generation. is_named self.new.names (Live segment generation) ≡ true) }
+        ensures stays { (other : FileName) → is_named self.old.names other ≡ true → is_named self.new.names other ≡ true }
         ensures rule { IfOk result (IsNextGeneration (λ n. is_named self.old.names (Live segment n))) }
         ensures next { self.new.next_segment ≡ self.old.next_segment }
         ensures refused { OnErr result (self.new ≡ self.old) }

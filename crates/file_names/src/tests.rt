@@ -43,7 +43,10 @@ fn names_in_turn(rt: HostRuntime) -> Result<(), Fail> {
     assert_eq!(rt; names.as_slice(), NAMES.as_slice());
 
     names.remove(&live(0, 1));
-    assert_eq!(rt; (names.has(&live(0, 1)), names.has(&live(0, 2))), (false, true));
+    assert_eq!(rt;
+        (names.has(&live(0, 1)), names.has(&live(0, 2))),
+        (false, true)
+    );
     names.retain(|name| *name != FileName::Segment(1));
     names.remove(&live(0, 2));
     assert_eq!(rt; names.as_slice(), [NAMES[0], NAMES[4]].as_slice());
@@ -62,7 +65,10 @@ fn names_at_the_ends(rt: HostRuntime) -> Result<(), Fail> {
     names.add(live(8, 1))?;
     assert_eq!(rt; names.name_segment()?, u64::MAX - 1);
     for id in [2, 4, 5] {
-        assert_eq!(rt; (names.name_segment()?, names.next_segment()), (id, u64::MAX));
+        assert_eq!(rt;
+            (names.name_segment()?, names.next_segment()),
+            (id, u64::MAX)
+        );
     }
     for generation in [1, 2] {
         assert_eq!(rt; names.name_live(7)?, generation);

@@ -45,9 +45,9 @@ free_in-some (suc n) l size h is =
     ⊎_elim
     (λ lt. omega (arith, free_in-some n l size lt is))
     (λ ge.
-      let same : l ≡ n = omega (arith, h, ge) in
-      let one : ◌≡◌ {A = ℕ} (cond (is_of_level n size && true) 1 0) 1 = ap (λ b. cond (b && true) 1 0) (subst (λ (k : ℕ). is_of_level k size ≡ true) same is) in
-      omega (arith, one))
+    let same : l ≡ n = omega (arith, h, ge) in
+    let one : ◌≡◌ {A = ℕ} (cond (is_of_level n size && true) 1 0) 1 = ap (λ b. cond (b && true) 1 0) (subst (λ (k : ℕ). is_of_level k size ≡ true) same is) in
+    omega (arith, one))
     (cases_lt l n)
 
 -- each size is free in a level below n, or pinned

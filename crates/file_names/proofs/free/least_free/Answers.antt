@@ -1,5 +1,4 @@
-use Rattle.std.proofs.Common.{◌≡◌, true, sym, ap, ◌∙◌, arith}
-use Rattle.outer_io.specs.declared.file_name.FileName.{FileName}
+use Rattle.std.proofs.Common.{sym, ap, ◌∙◌, arith}
 use Rattle.file_names.specs.Names.{is_named}
 use Rattle.file_names.proofs.Numbers.{few_taken, one_more}
 use Rattle.file_names.proofs.free.least_free.Goals as goal

@@ -1,6 +1,5 @@
-use Rattle.std.proofs.Common.{◌≡◌, List, not, filter, ap, ◌∙◌, rules}
+use Rattle.std.proofs.Common.{not, filter, ap, ◌∙◌, rules}
 use Rattle.std.proofs.lemmas.Fn.{filter_same}
-use Rattle.outer_io.specs.declared.file_name.FileName.{FileName}
 use Rattle.outer_io.specs.Names.{same_name}
 use Rattle.file_names.specs.Names.{NameList}
 use Rattle.file_names.proofs.Listed.{below_filter}
