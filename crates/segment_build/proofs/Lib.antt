@@ -1,0 +1,4 @@
+mod Writable
+mod Numbers
+mod OneList
+mod OneIndex
