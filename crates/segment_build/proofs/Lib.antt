@@ -1,4 +1,4 @@
-mod Writable
-mod Numbers
-mod OneList
-mod OneIndex
+pub mod Writable
+pub mod Numbers
+pub mod OneList
+pub mod OneIndex
