@@ -3,7 +3,7 @@
 ghost use Rattle.std.specs.Prelude.{◌≤◌, ◌^◌};
 
 use crate::builds::{LEAF, drawn};
-use bkd_build::{OpenGate, build};
+use bkd_build::OpenGate;
 use bkd_reader::intersect;
 use cell_relate::{BoxShape, Shape};
 use live_bits::LiveBits;
@@ -11,7 +11,8 @@ use nearest_query::nearest;
 use outer_io::MemFolder;
 use page_cache::PageCache;
 use point_codec::Point;
-use segment_file::{SegmentHead, write_segment};
+use segment_build::build_segment;
+use segment_file::SegmentHead;
 use std::alloc::Global;
 use std::marker::Sync;
 use std::slice::from_ref;
@@ -36,12 +37,14 @@ impl Stored {
         requires few { count ≤ 2 ^ 24 }
     {
         let mut folder = MemFolder::new(alloc, Vec::new(alloc));
-        let head = written(rt, alloc, &mut folder, count)?;
+        let Some((head, live)) = written(rt, alloc, &mut folder, count) else {
+            return None;
+        };
         let mut stored = Stored {
             folder,
             cache: PageCache::new(alloc, PAGES).ok()?,
             head,
-            live: all_live(alloc, count)?,
+            live,
         };
         let mut hits = Vec::new(alloc);
         let _all = stored.walk(alloc, &mut everywhere(), &mut hits)?;
@@ -99,34 +102,24 @@ pub fn everywhere() -> BoxShape<2> {
     BoxShape::new(Point { c: [i32::MIN; 2] }, Point { c: [i32::MAX; 2] })
 }
 
-#[tactic(auto, using(crate::proofs::Writable::can_write))]
-/// Writes the segment of so many drawn entries.
+/// Writes the segment of so many drawn entries, and answers its head and its live numbers.
 fn written<R: Threads + Sync>(
     rt: &R,
     alloc: Global,
     folder: &mut MemFolder,
     count: u32,
-) -> Option<SegmentHead<2>>
+) -> Option<(SegmentHead<2>, LiveBits)>
     requires some { 1 ≤ count }
     requires few { count ≤ 2 ^ 24 }
 {
     let Ok(mut entries) = drawn(alloc, count) else {
         return None;
     };
-    let Ok(built) = build(rt, alloc, entries.as_mut_slice(), LEAF, 0, &OpenGate) else {
+    let Ok(segment) = build_segment(rt, alloc, entries.as_mut_slice(), LEAF, 0, &OpenGate) else {
         return None;
     };
-    let (index, leaves) = built.into_parts();
-    write_segment(alloc, folder, 1, LEAF, count, index, leaves.as_slice()).ok()
-}
-
-/// All numbers below `count`.
-fn all_live(alloc: Global, count: u32) -> Option<LiveBits>
-    requires { count ≤ 2 ^ 24 }
-{
-    let mut docs = Vec::new(alloc);
-    for doc in 0..count {
-        docs.push(doc).ok()?;
-    }
-    LiveBits::of_docs(alloc, docs.as_slice()).ok()
+    let Ok(head) = segment.write(alloc, folder, 1) else {
+        return None;
+    };
+    Some((head, segment.into_live()))
 }

@@ -1,0 +1,4 @@
+pub mod Writable
+pub mod Numbers
+pub mod OneList
+pub mod OneIndex
