@@ -4,7 +4,7 @@ use Rattle.std.specs.List.{insert, remove, filter, list_any, slice_get}
 use Rattle.std.proofs.lemmas.List.{length-take}
 use Rattle.live_bits.specs.LiveSet.{LiveSet, is_live, without}
 use Rattle.segment_file.specs.Heads.{Head}
-use Rattle.segment_view.specs.Parts.{Part, part_of, parts_of, heads_of, lives_of, ids_of, cleared, is_live_in}
+use Rattle.segment_view.specs.Parts.{Part, part_of, parts_of, heads_of, lives_of, ids_of, cleared, has_live}
 
 pub heads_parts : (heads : List Head) (lives : List LiveSet) → length lives ≡ length heads → heads_of (parts_of heads lives) ≡ heads
 heads_parts [] lives e = refl
@@ -85,7 +85,7 @@ parts-without number (h ∷ hs) [] = refl
 parts-without number (h ∷ hs) (l ∷ ls) = ap (λ zs. part_of h (without number l) ∷ zs) (parts-without number hs ls)
 
 pub live_parts : (number : ℕ) (heads : List Head) (lives : List LiveSet) → length lives ≡ length heads
-    → list_any (λ (s : LiveSet). is_live s number) lives ≡ is_live_in number (parts_of heads lives)
+    → list_any (λ (s : LiveSet). is_live s number) lives ≡ has_live number (parts_of heads lives)
 live_parts number [] [] e = refl
 live_parts number [] (l ∷ ls) e = absurd (omega (arith, e))
 live_parts number (h ∷ hs) [] e = absurd (omega (arith, e))

@@ -2,11 +2,12 @@
 use Rattle.std.proofs.Common.{◌≡◌, ℕ, ◌+◌, ◌*◌, ◌≤◌, Bool, true, false, cond, not, ◌&&◌, Option, List, [], ◌∷◌, ◌++◌, ℤ, refl, sym, ap, subst, ◌∙◌, arith}
 use Rattle.std.specs.List.{sum_by}
 use Rattle.std.proofs.lemmas.List.{take-append-drop}
+use Rattle.std.proofs.Math.Bridge.{le_prop}
 use Rattle.std.proofs.Math.Logic.{∥∥₁_elim}
 use Rattle.point_codec.specs.Points.{Region}
 use Rattle.cell_relate.specs.Relations.{is_outside}
 use Rattle.inner_pack.specs.Trees.{IndexTree, Leaf, Split, leaf_count}
-use Rattle.inner_pack.specs.Bodies.{HasTree, IsSpelled}
+use Rattle.inner_pack.specs.Bodies.{Body, HasTree, IsSpelled}
 use Rattle.segment_file.specs.Heads.{Head}
 use Rattle.bkd_reader.specs.Counts.{tested, touched}
 use Rattle.nearest_query.specs.Segments.{AreNearLeaves, near_leaves, is_within, least_dist2}
@@ -40,6 +41,15 @@ counted_one D count h n is = (n, 0, is, refl, omega arith)
 
 pub one_counted : (D : ℕ) (count : Head → IndexTree → ℕ) (h : Head) (n : ℕ) (root : Region) (t : IndexTree) → AreCounted D count (h ∷ []) n → HasTree D h.index root t → n ≡ count h t
 one_counted D count h n root t c has = let e = c.2 root t has in omega (arith, e, c.3, c.4)
+
+-- ---- an index has a tree
+
+-- what each tree tells of an index holds
+pub le_by_tree : (D : ℕ) (index seen : Body) → seen ≡ index → ∥ IsSpelled D seen ∥₁ → (a b : ℕ) → ((root : Region) (t : IndexTree) → HasTree D index root t → a ≤ b) → a ≤ b
+le_by_tree D index seen e spelled a b f = ∥∥₁_elim spelled le_prop (λ q. f q.root q.tree (subst (λ i. HasTree D i q.root q.tree) e q.has))
+
+pub same_by_tree : (D : ℕ) (index seen : Body) → seen ≡ index → ∥ IsSpelled D seen ∥₁ → (a b : ℕ) → ((root : Region) (t : IndexTree) → HasTree D index root t → a ≡ b) → a ≡ b
+same_by_tree D index seen e spelled a b f = ∥∥₁_elim spelled (hlevel props) (λ q. f q.root q.tree (subst (λ i. HasTree D i q.root q.tree) e q.has))
 
 -- ---- no more than all leaves
 

@@ -3,4 +3,5 @@ pub mod Beside
 pub mod Living
 pub mod Reading
 pub mod Counting
+pub mod Stepwise
 pub mod Hits

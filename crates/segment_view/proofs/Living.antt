@@ -18,7 +18,7 @@ use Rattle.documents.proofs.Lists.{cons_head, cons_tail, filter_alike, filter_tw
 use Rattle.segment_file.specs.Heads.{Head}
 use Rattle.segment_file.specs.Segments.{IsSegment}
 use Rattle.nearest_query.specs.Segments.{live_in, AreSegments}
-use Rattle.segment_view.specs.Parts.{Part, part_of, Contents, IsRead, AreRead, IsPlaced, heads_of, lives_of, ids_of, live_in_parts, parts_among, parts_but, is_live_in, cleared}
+use Rattle.segment_view.specs.Parts.{Part, part_of, Contents, IsRead, AreRead, IsPlaced, heads_of, lives_of, ids_of, live_in_parts, parts_among, parts_but, has_live, cleared}
 
 abbrev pub live_of : Contents → Part → List Item
 live_of c p = filter (λ x. is_live p.live x.doc) (c p.head.id)
@@ -80,12 +80,12 @@ or_and true false true = refl
 or_and true false false = refl
 or_and false b c = refl
 
-pub any_cleared : (number m : ℕ) (parts : List Part) → is_live_in m (cleared number parts) ≡ (is_live_in m parts && not (eqb m number))
+pub any_cleared : (number m : ℕ) (parts : List Part) → has_live m (cleared number parts) ≡ (has_live m parts && not (eqb m number))
 any_cleared number m [] = refl
 any_cleared number m (p ∷ ps) =
-    ap (λ b. b || is_live_in m (cleared number ps)) (is_live-without p.live number m)
+    ap (λ b. b || has_live m (cleared number ps)) (is_live-without p.live number m)
     ∙ ap (λ b. (is_live p.live m && not (eqb m number)) || b) (any_cleared number m ps)
-    ∙ or_and (is_live p.live m) (is_live_in m ps) (not (eqb m number))
+    ∙ or_and (is_live p.live m) (has_live m ps) (not (eqb m number))
 
 -- ---- by totals
 
@@ -196,10 +196,10 @@ all_live keeps number (x ∷ xs) live = by (keeps x.doc) refl
     by true e = ap (λ b. eqb x.doc number || b) (all_live keeps number xs live)
     by false e = all_live keeps number xs live ∙ ap (λ b. b || has_entry number xs) (sym (other e (eqb x.doc number) refl))
 
-pub live_numbers : (D : ℕ) (files : Files) (c : Contents) (number : ℕ) (parts : List Part) → AreRead D files c parts → is_live_in number parts ≡ has_entry number (live_in_parts c parts)
+pub live_numbers : (D : ℕ) (files : Files) (c : Contents) (number : ℕ) (parts : List Part) → AreRead D files c parts → has_live number parts ≡ has_entry number (live_in_parts c parts)
 live_numbers D files c number [] all = refl
 live_numbers D files c number (p ∷ ps) all =
-    ap (λ b. b || is_live_in number ps) (one (is_live p.live number) refl)
+    ap (λ b. b || has_live number ps) (one (is_live p.live number) refl)
     ∙ ap (λ b. has_entry number (live_of c p) || b) (live_numbers D files c number ps (All-tail (IsRead D files c) p ps all))
     ∙ sym (list_any-append (λ (x : Item). eqb x.doc number) (live_of c p) (live_in_parts c ps))
   where

@@ -56,8 +56,8 @@ abbrev pub parts_but : List ℕ → List Part → List Part
 parts_but ids parts = filter (λ p. not (is_among ids p.head.id)) parts
 
 -- the number is live in one of them
-abbrev pub is_live_in : ℕ → List Part → Bool
-is_live_in number parts = list_any (λ p. is_live p.live number) parts
+abbrev pub has_live : ℕ → List Part → Bool
+has_live number parts = list_any (λ p. is_live p.live number) parts
 
 -- the number is taken out of the live ones of each
 abbrev pub cleared : ℕ → List Part → List Part

@@ -6,7 +6,7 @@ ghost use Rattle.outer_io.specs.declared.file_name.FileName.TheVariants.{Segment
 ghost use Rattle.page_cache.specs.declared.cache.PageCache.{PageCache};
 ghost use Rattle.documents.specs.Entries.{SameTotals, entries_but, has_entry};
 ghost use Rattle.nearest_query.specs.Segments.{live_in};
-ghost use Rattle.segment_view.specs.Parts.{Part, Contents, IsRead, AreRead, IsPlaced, heads_of, lives_of, ids_of, live_in_parts, parts_among, parts_but, is_live_in, cleared};
+ghost use Rattle.segment_view.specs.Parts.{Part, Contents, IsRead, AreRead, IsPlaced, heads_of, lives_of, ids_of, live_in_parts, parts_among, parts_but, has_live, cleared};
 ghost use Rattle.segment_view.specs.Calm.{IsCalm};
 
 /// The live entries of segments are those of each, however the list is told; in whatever order they stand, where the clause is by totals
@@ -25,12 +25,12 @@ pub fn clearing_takes_entries_out()
     ensures entries { (c : Contents) (number : ℕ) (parts : List Part) → live_in_parts c (cleared number parts) ≡ entries_but number (live_in_parts c parts) }
     ensures heads { (number : ℕ) (parts : List Part) → heads_of (cleared number parts) ≡ heads_of parts }
     ensures ids { (number : ℕ) (parts : List Part) → ids_of (cleared number parts) ≡ ids_of parts }
-    ensures live { (number m : ℕ) (parts : List Part) → is_live_in m (cleared number parts) ≡ (is_live_in m parts && not (nat_eq m number)) }
+    ensures live { (number m : ℕ) (parts : List Part) → has_live m (cleared number parts) ≡ (has_live m parts && not (nat_eq m number)) }
 {}
 
 /// A number is live in one of the segments exactly where it is that of a live entry.
 pub fn live_numbers_have_entries()
-    ensures { (D : ℕ) (files : Files) (c : Contents) (number : ℕ) (parts : List Part) → AreRead D files c parts → is_live_in number parts ≡ has_entry number (live_in_parts c parts) }
+    ensures { (D : ℕ) (files : Files) (c : Contents) (number : ℕ) (parts : List Part) → AreRead D files c parts → has_live number parts ≡ has_entry number (live_in_parts c parts) }
 {}
 
 /// Segments that are read stay read: where their files and their entries stay, where numbers are taken out, where another comes, and where

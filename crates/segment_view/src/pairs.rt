@@ -36,6 +36,32 @@ pub(crate) fn copy_lives(alloc: Global, lives: &[LiveBits]) -> Result<Vec<LiveBi
     Ok(copies)
 }
 
+/// How many entries each segment has.
+pub(crate) fn sizes_of<const D: usize>(
+    alloc: Global,
+    heads: &[SegmentHead<D>],
+) -> Result<Vec<u32>, AllocError>
+    ensures { IfOk result (λ v. v.items ≡ map (λ h. h.entries) heads.now) }
+{
+    let mut sizes = Vec::with_capacity(alloc, heads.len())?;
+    for head in heads {
+        sizes.push(head.entries())?;
+    }
+    Ok(sizes)
+}
+
+/// Whether one of the heads has this id.
+pub(crate) fn has_id<const D: usize>(heads: &[SegmentHead<D>], id: u64) -> bool
+    ensures { result ≡ is_among (map (λ h. h.id) heads.now) id }
+{
+    for head in heads {
+        if head.id() == id {
+            return true;
+        }
+    }
+    false
+}
+
 /// Whether the number is live in one of the sets.
 pub(crate) fn is_live_in(lives: &[LiveBits], doc: u32) -> bool
     ensures { result ≡ list_any (λ s. is_live s doc) lives.now }
@@ -108,9 +134,10 @@ pub(crate) fn take_out<const D: usize>(
     ensures same { length lives.new.items ≡ length heads.new.items }
 {
     for i in (0..heads.len()).rev() {
-        if ids.contains(&heads[i].id()) {
-            heads.remove(i);
-            lives.remove(i);
+        if !ids.contains(&heads[i].id()) {
+            continue;
         }
+        heads.remove(i);
+        lives.remove(i);
     }
 }

@@ -1,6 +1,6 @@
 //! Segments with their live bits.
 
-use crate::pairs::{clear_in, copy_heads, copy_lives, is_live_in, place_of, put, take_out};
+use crate::pairs::{clear_in, copy_heads, copy_lives, has_id, is_live_in, place_of, put, sizes_of, take_out};
 use live_bits::LiveBits;
 use segment_file::SegmentHead;
 use std::alloc::{AllocError, Global};
@@ -35,7 +35,7 @@ impl<const D: usize> Segments<D> {
     ghost use Rattle.std.specs.Prelude.{◌≡◌, ◌<◌, ◌≤◌, ◌↔◌, [], Some, false, length, map, slice_get, IsTrue, IfOk, OnOk, OnErr};
     ghost use Rattle.std.specs.List.Sorted.{IsStrictlyIncreasing};
     ghost use Rattle.documents.specs.Entries.{is_among};
-    ghost use Rattle.segment_view.specs.Parts.{part_of, heads_of, lives_of, ids_of, parts_but, is_live_in, cleared, IsPlaced};
+    ghost use Rattle.segment_view.specs.Parts.{part_of, heads_of, lives_of, ids_of, parts_but, has_live, cleared, IsPlaced};
 
     /// No segments.
     pub fn new(alloc: Global) -> Segments<D>
@@ -78,6 +78,13 @@ impl<const D: usize> Segments<D> {
         self.lives.as_slice()
     }
 
+    /// Whether one of them has this id.
+    pub fn has(&self, id: u64) -> bool
+        ensures { result ≡ is_among (ids_of self.now) id }
+    {
+        has_id(self.heads.as_slice(), id)
+    }
+
     /// The head and the live bits at a place.
     pub fn part(&self, i: usize) -> (&SegmentHead<D>, &LiveBits)
         requires { i < length self.now }
@@ -90,23 +97,19 @@ impl<const D: usize> Segments<D> {
     pub fn sizes(&self, alloc: Global) -> Result<Vec<u32>, Memory>
         ensures { IfOk result (λ v. v.items ≡ map (λ p. p.head.entries) self.now) }
     {
-        let mut sizes = Vec::new(alloc);
-        for head in &self.heads {
-            sizes.push(head.entries())?;
-        }
-        Ok(sizes)
+        sizes_of(alloc, self.heads.as_slice())
     }
 
     /// Whether the number is live in one of them.
     pub fn is_live(&self, doc: u32) -> bool
-        ensures { result ≡ is_live_in doc self.now }
+        ensures { result ≡ has_live doc self.now }
     {
         is_live_in(self.lives.as_slice(), doc)
     }
 
     /// Takes the number out of the live ones, and answers whether it was one. Takes no memory.
     pub fn clear(&mut self, doc: u32) -> bool
-        ensures answer { result ≡ is_live_in doc self.old }
+        ensures answer { result ≡ has_live doc self.old }
         ensures after { self.new ≡ cleared doc self.old }
     {
         clear_in(&mut self.lives, doc)
