@@ -1,20 +1,23 @@
 -- The live entries of segments.
-use Rattle.std.proofs.Common.{◌≡◌, ℕ, ◌+◌, ◌<◌, Bool, true, false, not, ◌||◌, ◌&&◌, eqb, cond, List, [], ◌∷◌, ◌++◌, map, take, refl, sym, ap, subst, ◌∙◌, ◌⊎◌, inl, inr, ⊎_elim, arith, Some}
+use Rattle.std.proofs.Common.{◌≡◌, ℕ, ◌+◌, ◌<◌, ◌≤◌, ◌^◌, Bool, true, false, not, ◌||◌, ◌&&◌, eqb, cond, List, [], ◌∷◌, ◌++◌, length, map, take, refl, sym, ap, subst, ◌∙◌, ◌⊎◌, inl, inr, ⊎_elim, arith, Some}
 use Rattle.std.specs.List.{All, Contains, filter, flat_map, list_any, slice_get, sum_by}
 use Rattle.std.proofs.lemmas.Bool.{cases_Bool, eqb-true}
 use Rattle.std.proofs.lemmas.List.{take_more, append-nil}
 use Rattle.std.proofs.lemmas.List.Concat.{flat_map-append}
 use Rattle.std.proofs.lemmas.List.Elements.{All-append, All-cons, All-contains, All-filter, All-head, All-map, All-nil, All-tail, All-weaker, Contains-get_or, filter-append}
-use Rattle.std.proofs.lemmas.List.Folds.{list_any-append}
+use Rattle.std.proofs.lemmas.List.Folds.{list_any-append, list_any_at}
 use Rattle.std.proofs.lemmas.List.Sums.{sum_by-append}
 use Rattle.std.proofs.lemmas.Option.{get_or_from_slice_get, slice_get_within}
 use Rattle.outer_io.specs.Files.{Files, bytes_of}
 use Rattle.outer_io.specs.declared.file_name.FileName.TheVariants.{Segment}
 use Rattle.point_codec.specs.Points.{Item}
-use Rattle.live_bits.specs.LiveSet.{LiveSet, is_live, without}
-use Rattle.live_bits.proofs.LiveNumbers.{is_live-without}
+use Rattle.point_codec.specs.Seen.{items_of}
+use Rattle.point_codec.specs.declared.entries.Entry.{Entry}
+use Rattle.live_bits.specs.LiveSet.{LiveSet, IsLiveSet, is_live, without}
+use Rattle.live_bits.proofs.LiveNumbers.{is_live-without, none_live}
 use Rattle.documents.specs.Entries.{SameTotals, entries_but, has_entry, is_among}
-use Rattle.documents.proofs.Lists.{cons_head, cons_tail, filter_alike, filter_twice, in_map}
+use Rattle.documents.proofs.Lists.{cons_head, cons_tail, filter_alike, filter_twice, in_filter}
+use Rattle.documents.proofs.Kept.{among_to}
 use Rattle.segment_file.specs.Heads.{Head}
 use Rattle.segment_file.specs.Segments.{IsSegment}
 use Rattle.nearest_query.specs.Segments.{live_in, AreSegments}
@@ -102,16 +105,15 @@ parted_sums : (c : Contents) (ids : List ℕ) (f : Item → ℕ) (parts : List P
     → sum_by f (live_in_parts c (parts_among ids parts)) + sum_by f (live_in_parts c (parts_but ids parts)) ≡ sum_by f (live_in_parts c parts)
 parted_sums c ids f [] = refl
 parted_sums c ids f (p ∷ ps) =
-    by (is_among ids p.head.id)
+    by (is_among ids p.head.id) (parted_sums c ids f ps)
   where
-    by : (b : Bool) → sum_by f (live_in_parts c (cond b (p ∷ parts_among ids ps) (parts_among ids ps))) + sum_by f (live_in_parts c (cond (not b) (p ∷ parts_but ids ps) (parts_but ids ps))) ≡ sum_by f (live_in_parts c (p ∷ ps))
-    by true =
-        let rest = parted_sums c ids f ps in
+    by : (b : Bool) → sum_by f (live_in_parts c (parts_among ids ps)) + sum_by f (live_in_parts c (parts_but ids ps)) ≡ sum_by f (live_in_parts c ps)
+        → sum_by f (live_in_parts c (cond b (p ∷ parts_among ids ps) (parts_among ids ps))) + sum_by f (live_in_parts c (cond (not b) (p ∷ parts_but ids ps) (parts_but ids ps))) ≡ sum_by f (live_in_parts c (p ∷ ps))
+    by true rest =
         let here = sum_by-append f (live_of c p) (live_in_parts c (parts_among ids ps)) in
         let all = sum_by-append f (live_of c p) (live_in_parts c ps) in
         omega (arith, rest, here, all)
-    by false =
-        let rest = parted_sums c ids f ps in
+    by false rest =
         let here = sum_by-append f (live_of c p) (live_in_parts c (parts_but ids ps)) in
         let all = sum_by-append f (live_of c p) (live_in_parts c ps) in
         omega (arith, rest, here, all)
@@ -131,8 +133,8 @@ read_segments D files c parts all =
 
 pub read_cleared : (D : ℕ) (files : Files) (c : Contents) (number : ℕ) (parts : List Part) → AreRead D files c parts → AreRead D files c (cleared number parts)
 read_cleared D files c number parts all =
-    All-map (IsRead D files c) (λ (p : Part). record p { live = without number p.live }) parts
-    (All-weaker (IsRead D files c) (λ (p : Part). IsRead D files c (record p { live = without number p.live }))
+    All-map (IsRead D files c) (λ (p : Part). part_of p.head (without number p.live)) parts
+    (All-weaker (IsRead D files c) (λ (p : Part). IsRead D files c (part_of p.head (without number p.live)))
     (λ p r. record { held = r.held; found = λ m live. r.found m (first (is_live p.live m) (not (eqb m number)) (sym (is_live-without p.live number m) ∙ live)) }) parts all)
   where
     first : (a b : Bool) → (a && b) ≡ true → a ≡ true
@@ -174,27 +176,29 @@ read_placed D files c p old new put r all =
 
 none_dead : (keeps : ℕ → Bool) (number : ℕ) (xs : List Item) → keeps number ≡ false → has_entry number (filter (λ (x : Item). keeps x.doc) xs) ≡ false
 none_dead keeps number [] dead = refl
-none_dead keeps number (x ∷ xs) dead = by (keeps x.doc) refl
+none_dead keeps number (x ∷ xs) dead = by (none_dead keeps number xs dead) (keeps x.doc) refl
   where
     other : keeps x.doc ≡ true → (b : Bool) → eqb x.doc number ≡ b → b ≡ false
     other live true e = sym live ∙ ap keeps (eqb-true x.doc number e) ∙ dead
     other live false e = refl
 
-    by : (b : Bool) → keeps x.doc ≡ b → has_entry number (cond b (x ∷ filter (λ (y : Item). keeps y.doc) xs) (filter (λ (y : Item). keeps y.doc) xs)) ≡ false
-    by true e = ap (λ b. b || has_entry number (filter (λ (y : Item). keeps y.doc) xs)) (other e (eqb x.doc number) refl) ∙ none_dead keeps number xs dead
-    by false e = none_dead keeps number xs dead
+    by : has_entry number (filter (λ (y : Item). keeps y.doc) xs) ≡ false
+        → (b : Bool) → keeps x.doc ≡ b → has_entry number (cond b (x ∷ filter (λ (y : Item). keeps y.doc) xs) (filter (λ (y : Item). keeps y.doc) xs)) ≡ false
+    by rest true e = ap (λ b. b || has_entry number (filter (λ (y : Item). keeps y.doc) xs)) (other e (eqb x.doc number) refl) ∙ rest
+    by rest false e = rest
 
 all_live : (keeps : ℕ → Bool) (number : ℕ) (xs : List Item) → keeps number ≡ true → has_entry number (filter (λ (x : Item). keeps x.doc) xs) ≡ has_entry number xs
 all_live keeps number [] live = refl
-all_live keeps number (x ∷ xs) live = by (keeps x.doc) refl
+all_live keeps number (x ∷ xs) live = by (all_live keeps number xs live) (keeps x.doc) refl
   where
     other : keeps x.doc ≡ false → (b : Bool) → eqb x.doc number ≡ b → b ≡ false
     other dead true e = sym live ∙ ap keeps (sym (eqb-true x.doc number e)) ∙ dead
     other dead false e = refl
 
-    by : (b : Bool) → keeps x.doc ≡ b → has_entry number (cond b (x ∷ filter (λ (y : Item). keeps y.doc) xs) (filter (λ (y : Item). keeps y.doc) xs)) ≡ has_entry number (x ∷ xs)
-    by true e = ap (λ b. eqb x.doc number || b) (all_live keeps number xs live)
-    by false e = all_live keeps number xs live ∙ ap (λ b. b || has_entry number xs) (sym (other e (eqb x.doc number) refl))
+    by : has_entry number (filter (λ (y : Item). keeps y.doc) xs) ≡ has_entry number xs
+        → (b : Bool) → keeps x.doc ≡ b → has_entry number (cond b (x ∷ filter (λ (y : Item). keeps y.doc) xs) (filter (λ (y : Item). keeps y.doc) xs)) ≡ has_entry number (x ∷ xs)
+    by rest true e = ap (λ b. eqb x.doc number || b) rest
+    by rest false e = rest ∙ ap (λ b. b || has_entry number xs) (sym (other e (eqb x.doc number) refl))
 
 pub live_numbers : (D : ℕ) (files : Files) (c : Contents) (number : ℕ) (parts : List Part) → AreRead D files c parts → has_live number parts ≡ has_entry number (live_in_parts c parts)
 live_numbers D files c number [] all = refl
@@ -206,3 +210,58 @@ live_numbers D files c number (p ∷ ps) all =
     one : (b : Bool) → is_live p.live number ≡ b → b ≡ has_entry number (live_of c p)
     one true e = sym (all_live (is_live p.live) number (c p.head.id) e ∙ (All-head (IsRead D files c) p ps all).found number e)
     one false e = sym (none_dead (is_live p.live) number (c p.head.id) e)
+
+-- ---- entries that are read
+
+pub live_below : (s : LiveSet) (number : ℕ) → IsLiveSet s → is_live s number ≡ true → number < 2 ^ 24
+unfolding is_live
+live_below s number set live =
+    let within = All-contains (λ n. (s.base ≤ n) × (n < s.base + s.span)) s.live number set.within (among_to s.live number live) in
+    omega (arith, within.1, set.limit)
+
+pub numbers_below : {D : ℕ} (s : LiveSet) (entries : List (Entry D)) → IsLiveSet s → All (λ (x : Item). is_live s x.doc ≡ true) (items_of entries) → All (λ (e : Entry D). e.doc < 2 ^ 24) entries
+numbers_below {D} s [] set all = All-nil (λ (e : Entry D). e.doc < 2 ^ 24)
+numbers_below {D} s (e ∷ es) set all =
+    All-cons (λ (x : Entry D). x.doc < 2 ^ 24) e es
+    (live_below s e.doc set (All-head (λ (x : Item). is_live s x.doc ≡ true) (record { doc = e.doc; at = e.point.c }) (items_of es) all))
+    (numbers_below s es set (All-tail (λ (x : Item). is_live s x.doc ≡ true) (record { doc = e.doc; at = e.point.c }) (items_of es) all))
+
+-- where nothing is live there is nothing
+none_kept : (xs : List Item) → filter (λ (x : Item). false) xs ≡ []
+none_kept [] = refl
+none_kept (x ∷ xs) = none_kept xs
+
+pub nothing_live : (c : Contents) (ids : List ℕ) (p : Part) → length p.live.live ≡ 0 → live_in_parts c (parts_among ids (p ∷ [])) ≡ []
+nothing_live c ids p none = by (is_among ids p.head.id)
+  where
+    dead : live_of c p ≡ []
+    dead = ap (λ (f : ℕ → Bool). filter (λ (x : Item). f x.doc) (c p.head.id)) ((none_live p.live).0 none) ∙ none_kept (c p.head.id)
+
+    by : (b : Bool) → live_in_parts c (cond b (p ∷ []) []) ≡ []
+    by true = live_one c p ∙ dead
+    by false = refl
+
+-- a number that is live in a segment is so in those among which it is
+pub live_in_one : (ids : List ℕ) (p : Part) (number : ℕ) → is_among ids p.head.id ≡ true → is_live p.live number ≡ true → has_live number (parts_among ids (p ∷ [])) ≡ true
+live_in_one ids p number e live = ap (λ b. has_live number (cond b (p ∷ []) [])) e ∙ ap (λ b. b || false) live
+
+any_in : (test : Part → Bool) (parts : List Part) (p : Part) → Contains parts p → test p ≡ true → list_any test parts ≡ true
+any_in test parts p (k, h, e) t = list_any_at test parts k p h (ap test e ∙ t)
+
+pub live_widens : (ids : List ℕ) (parts : List Part) (p : Part) (number : ℕ) → Contains parts p → has_live number (parts_among ids (p ∷ [])) ≡ true → has_live number (parts_among ids parts) ≡ true
+live_widens ids parts p number there h = by (is_among ids p.head.id) refl h
+  where
+    by : (b : Bool) → is_among ids p.head.id ≡ b → has_live number (cond b (p ∷ []) []) ≡ true → has_live number (parts_among ids parts) ≡ true
+    by true e k =
+        any_in (λ (q : Part). is_live q.live number) (parts_among ids parts) p (in_filter (λ (q : Part). is_among ids q.head.id) parts p there e) (or_false (is_live p.live number) k)
+      where
+        or_false : (b : Bool) → (b || false) ≡ true → b ≡ true
+        or_false true e = refl
+        or_false false e = e
+    by false e k = cc
+
+pub all_widen : (ids : List ℕ) (parts : List Part) (p : Part) (xs more : List Item) → Contains parts p → All (λ (x : Item). has_live x.doc (parts_among ids parts) ≡ true) xs
+    → All (λ (x : Item). has_live x.doc (parts_among ids (p ∷ [])) ≡ true) more → All (λ (x : Item). has_live x.doc (parts_among ids parts) ≡ true) (xs ++ more)
+all_widen ids parts p xs more there all new =
+    All-append (λ (x : Item). has_live x.doc (parts_among ids parts) ≡ true) xs more all
+    (All-weaker (λ (x : Item). has_live x.doc (parts_among ids (p ∷ [])) ≡ true) (λ (x : Item). has_live x.doc (parts_among ids parts) ≡ true) (λ x h. live_widens ids parts p x.doc there h) more new)

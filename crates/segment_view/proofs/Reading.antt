@@ -1,5 +1,5 @@
 -- Calls that only read, one after another.
-use Rattle.std.proofs.Common.{◌≡◌, ℕ, ◌<◌, Bool, true, false, cond, length, List, [], ◌∷◌, ◌++◌, get_or, refl, sym, ap, subst, ◌∙◌, ◌⊎◌, inl, inr, ⊎_elim, Some, Result}
+use Rattle.std.proofs.Common.{◌≡◌, ℕ, ◌<◌, Bool, true, false, cond, length, List, [], ◌∷◌, ◌++◌, get_or, refl, sym, ap, subst, ◌∙◌, ◌⊎◌, inl, inr, ⊎_elim, Some, Err}
 use Rattle.std.specs.Prelude.{IsTrue}
 use Rattle.std.specs.List.{Contains, filter, slice_get}
 use Rattle.std.proofs.lemmas.Option.{get_or_from_slice_get, slice_get_within}
@@ -12,11 +12,11 @@ use Rattle.point_codec.specs.Points.{Region}
 use Rattle.page_cache.specs.declared.cache.PageCache.{PageCache}
 use Rattle.page_cache.specs.declared.faults.PageFault.{PageFault}
 use Rattle.page_cache.specs.Cache.{KeepsFile, Agrees}
-use Rattle.page_cache.specs.Evidence.{OnDamage}
+use Rattle.page_cache.specs.Evidence.{FaultShows}
 use Rattle.segment_file.specs.Heads.{Head}
 use Rattle.segment_file.specs.Damages.{IsLeafDamage}
 use Rattle.documents.specs.Entries.{is_among}
-use Rattle.documents.proofs.Lists.{cons_cases, in_filter, in_map, nil_none, of_filter}
+use Rattle.documents.proofs.Lists.{cons_cases, cons_head, in_filter, in_map, nil_none, of_filter}
 use Rattle.nearest_query.specs.Segments.{HaveTrees, IsSegmentDamage, HasId, no_head}
 use Rattle.nearest_query.proofs.Parts.{on_damage}
 use Rattle.segment_view.specs.Parts.{Part, part_of, heads_of, ids_of, parts_among}
@@ -64,15 +64,37 @@ head_at parts i p is =
     ∙ ap (λ (q : Part). q.head) (get_or_from_slice_get parts i p p is)
 
 -- a damage of the segment at a place is one of the segments
-pub shown_at : {T : Type 0} (D : ℕ) (parts : List Part) (i : ℕ) (p : Part) (trees : ℕ → IndexTree) (r : Result T PageFault) → slice_get parts i ≡ Some p → HaveTrees D (heads_of parts) trees
-    → ((root : Region) (t : IndexTree) → HasTree D p.head.index root t → OnDamage r (IsLeafDamage D p.head 0 front t)) → OnDamage r (IsSegmentDamage D (heads_of parts) trees)
-shown_at D parts i p trees r is have shown =
+pub shown_at : (D : ℕ) (parts : List Part) (i : ℕ) (p : Part) (trees : ℕ → IndexTree) (fault : PageFault) → slice_get parts i ≡ Some p → HaveTrees D (heads_of parts) trees
+    → ((root : Region) (t : IndexTree) → HasTree D p.head.index root t → FaultShows (IsLeafDamage D p.head 0 front t) fault) → FaultShows (IsSegmentDamage D (heads_of parts) trees) fault
+shown_at D parts i p trees fault is have shown =
     let within : i < length (heads_of parts) = subst (λ n. i < n) (sym (length-map parts (λ (q : Part). q.head))) (slice_get_within parts i p is) in
     let tree = have i within in
-    on_damage (IsLeafDamage D p.head 0 front (trees i)) (IsSegmentDamage D (heads_of parts) trees) r
+    on_damage {T = Unit {0}} (IsLeafDamage D p.head 0 front (trees i)) (IsSegmentDamage D (heads_of parts) trees) (Err fault)
     (λ d h. (i, within, subst (λ (x : Head). IsLeafDamage D x 0 front (trees i) d) (sym (head_at parts i p is)) h))
     (shown tree.0 (trees i) (subst (λ (x : Head). HasTree D x.index tree.0 (trees i)) (head_at parts i p is) tree.1))
 
 -- told by ids, as the nearest query tells it by heads
 pub id_of : (parts : List Part) (id : ℕ) → HasId (heads_of parts) id → Contains (ids_of parts) id
 id_of parts id h = subst (Contains (ids_of parts)) h.2 (subst (λ (ns : List ℕ). Contains ns h.0.id) (sym (ids_heads parts)) (in_map (λ (x : Head). x.id) (heads_of parts) h.0 h.1))
+
+-- ---- one segment, whose id is among some
+
+pub among_one : (ids : List ℕ) (p : Part) → is_among ids p.head.id ≡ true → parts_among ids (p ∷ []) ≡ p ∷ []
+among_one ids p e = ap (λ b. cond b (p ∷ []) []) e
+
+-- what a walk over its file keeps to
+pub calm_one : (told : Bool) (old new : Files) (before after : PageCache) (ids : List ℕ) (p : Part) → is_among ids p.head.id ≡ true → (IsTrue told → new ≡ old) → (IsTrue told → Agrees old before → Agrees old after)
+    → ((id : ℕ) → KeepsFile after id → KeepsFile before id ⊎ (id ≡ p.head.id)) → IsCalm told old new before after (ids_of (parts_among ids (p ∷ [])))
+calm_one told old new before after ids p e files agrees others = record {
+  files = files;
+  agrees = agrees;
+  others = λ id h. ⊎_elim (λ k. inl k) (λ k. inr (subst (λ (ps : List Part). Contains (ids_of ps) id) (sym (among_one ids p e)) (subst (Contains (p.head.id ∷ [])) (sym k) (cons_head p.head.id [])))) (others id h);
+}
+
+pub calm_alone : (told : Bool) (old new : Files) (before after : PageCache) (id : ℕ) → (IsTrue told → new ≡ old) → (IsTrue told → Agrees old before → Agrees old after)
+    → ((i : ℕ) → KeepsFile after i → KeepsFile before i ⊎ (i ≡ id)) → IsCalm told old new before after (id ∷ [])
+calm_alone told old new before after id files agrees others = record {
+  files = files;
+  agrees = agrees;
+  others = λ i h. ⊎_elim (λ k. inl k) (λ k. inr (subst (Contains (id ∷ [])) (sym k) (cons_head id []))) (others i h);
+}

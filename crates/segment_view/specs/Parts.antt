@@ -61,7 +61,7 @@ has_live number parts = list_any (λ p. is_live p.live number) parts
 
 -- the number is taken out of the live ones of each
 abbrev pub cleared : ℕ → List Part → List Part
-cleared number parts = map (λ p. record p { live = without number p.live }) parts
+cleared number parts = map (λ p. part_of p.head (without number p.live)) parts
 
 -- the segment came to the others, which stay in their order
 pub record IsPlaced (p : Part) (old new : List Part) : Type 0 where
@@ -79,7 +79,8 @@ parts_of [] lives = []
 parts_of (h ∷ hs) [] = []
 
 -- heads and live sets of one number, not above 16,777,216, in ascending order of their ids
-pub record AreInStep (heads : List Head) (lives : List LiveSet) : Type 0 where
+pub record AreInStep (D : ℕ) (heads : List Head) (lives : List LiveSet) : Type 0 where
+  pub few_dims : D ≤ 8
   pub same : length lives ≡ length heads
   pub ascend : IsStrictlyIncreasing (map (λ h. h.id) heads)
   pub few : length heads ≤ 16777216

@@ -1,7 +1,7 @@
 //! The live entries of some of the segments.
 
-ghost use Rattle.std.specs.Prelude.{◌≡◌, ◌≤◌, ◌<◌, ◌+◌, ◌^◌, ◌++◌, ℕ, [], ◌∷◌, All, IsTrue, IfOk, OnOk};
-ghost use Rattle.point_codec.specs.Points.{Region};
+ghost use Rattle.std.specs.Prelude.{◌≡◌, ◌≤◌, ◌<◌, ◌+◌, ◌^◌, ◌++◌, ℕ, List, [], ◌∷◌, true, All, IsTrue, IfOk, OnOk};
+ghost use Rattle.point_codec.specs.Points.{Item, Region};
 ghost use Rattle.point_codec.specs.Seen.{items_of};
 ghost use Rattle.inner_pack.specs.Places.{front};
 ghost use Rattle.inner_pack.specs.Trees.{IndexTree};
@@ -11,7 +11,7 @@ ghost use Rattle.page_cache.specs.Causes.{HasPageCause};
 ghost use Rattle.page_cache.specs.Evidence.{OnDamage, NotDamaged};
 ghost use Rattle.segment_file.specs.Damages.{IsLeafDamage, IsLeafDamageOf};
 ghost use Rattle.nearest_query.specs.Segments.{HaveTrees, IsSegmentDamage};
-ghost use Rattle.segment_view.specs.Parts.{Contents, IsRead, AreRead, part_of, heads_of, ids_of, live_in_parts, parts_among};
+ghost use Rattle.segment_view.specs.Parts.{Contents, IsRead, AreRead, part_of, heads_of, ids_of, live_in_parts, parts_among, has_live};
 ghost use Rattle.segment_view.specs.Costs.{leaves_in};
 ghost use Rattle.segment_view.specs.Calm.{IsCalm};
 
@@ -38,6 +38,7 @@ pub fn gather<const D: usize, F: Pages>(
     ensures entries { IsTrue F.told → Agrees (F.files folder.old) cache.old → (c : Contents) → AreRead D (F.files folder.old) c segments.now
         → IfOk result (λ v. items_of v.items ≡ live_in_parts c (parts_among ids.now segments.now)) }
     // Over every folder.
+    ensures live { IfOk result (λ v. All (λ x. has_live x.doc (parts_among ids.now segments.now) ≡ true) (items_of v.items)) }
     ensures numbers { IfOk result (λ v. All (λ e. e.doc < 2 ^ 24) v.items) }
     ensures reads { F.reads folder.new ≤ F.reads folder.old + leaves_in (heads_of (parts_among ids.now segments.now)) }
     ensures calm { IsCalm F.told (F.files folder.old) (F.files folder.new) cache.old cache.new (ids_of (parts_among ids.now segments.now)) }
@@ -67,6 +68,7 @@ fn gather_one<const D: usize, F: Pages>(
 ) -> Result<(), PageFault>
     ensures entries { IsTrue F.told → Agrees (F.files folder.old) cache.old → (c : Contents) → IsRead D (F.files folder.old) c (part_of head.now live.now)
         → OnOk result (items_of entries.new.items ≡ items_of entries.old.items ++ live_in_parts c (parts_among ids.now (part_of head.now live.now ∷ []))) }
+    ensures live { OnOk result ((more : List Item) × (items_of entries.new.items ≡ items_of entries.old.items ++ more) × All (λ x. has_live x.doc (parts_among ids.now (part_of head.now live.now ∷ [])) ≡ true) more) }
     ensures numbers { All (λ e. e.doc < 2 ^ 24) entries.old.items → OnOk result (All (λ e. e.doc < 2 ^ 24) entries.new.items) }
     ensures reads { F.reads folder.new ≤ F.reads folder.old + leaves_in (heads_of (parts_among ids.now (part_of head.now live.now ∷ []))) }
     ensures calm { IsCalm F.told (F.files folder.old) (F.files folder.new) cache.old cache.new (ids_of (parts_among ids.now (part_of head.now live.now ∷ []))) }

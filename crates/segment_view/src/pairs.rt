@@ -16,6 +16,7 @@ pub(crate) fn copy_heads<const D: usize>(
     alloc: Global,
     heads: &[SegmentHead<D>],
 ) -> Result<Vec<SegmentHead<D>>, AllocError>
+    requires { D ≤ 8 }
     ensures { IfOk result (λ v. v.items ≡ heads.now) }
 {
     let mut copies = Vec::with_capacity(alloc, heads.len())?;
@@ -110,6 +111,7 @@ pub(crate) fn put<const D: usize>(
     head: SegmentHead<D>,
     live: LiveBits,
 ) -> Result<(), AllocError>
+    requires dims { D ≤ 8 }
     requires place { place ≤ length heads.old.items }
     requires same { length lives.old.items ≡ length heads.old.items }
     ensures heads { OnOk result (heads.new.items ≡ insert heads.old.items place head.entry) }
@@ -129,7 +131,8 @@ pub(crate) fn take_out<const D: usize>(
     lives: &mut Vec<LiveBits>,
     ids: &[u64],
 )
-    requires { length lives.old.items ≡ length heads.old.items }
+    requires dims { D ≤ 8 }
+    requires same { length lives.old.items ≡ length heads.old.items }
     ensures rest { parts_of heads.new.items lives.new.items ≡ parts_but ids.now (parts_of heads.old.items lives.old.items) }
     ensures same { length lives.new.items ≡ length heads.new.items }
 {

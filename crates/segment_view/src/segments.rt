@@ -28,7 +28,7 @@ impl<const D: usize> Model for Segments<D> {
 
     ghost view = { λ s. parts_of s.heads.items s.lives.items };
 
-    ghost invariant = { λ s. AreInStep s.heads.items s.lives.items };
+    ghost invariant = { λ s. AreInStep D s.heads.items s.lives.items };
 }
 
 impl<const D: usize> Segments<D> {
@@ -39,6 +39,7 @@ impl<const D: usize> Segments<D> {
 
     /// No segments.
     pub fn new(alloc: Global) -> Segments<D>
+        requires { D ≤ 8 }
         ensures { result ≡ [] }
     {
         Segments {
@@ -51,6 +52,7 @@ impl<const D: usize> Segments<D> {
     pub fn len(&self) -> usize
         ensures value { result ≡ length self.now }
         ensures few { result ≤ 16777216 }
+        ensures dims { D ≤ 8 }
     {
         self.heads.len()
     }
@@ -126,7 +128,7 @@ impl<const D: usize> Segments<D> {
 
     /// Puts a segment at the place that its id gives. For want of memory nothing changes.
     pub fn insert(&mut self, head: SegmentHead<D>, live: LiveBits) -> Result<(), Memory>
-        requires { is_among (ids_of self.old) head.entry.id ≡ false }
+        requires { is_among (ids_of self.old) head.id ≡ false }
         ensures placed { OnOk result (IsPlaced (part_of head.entry live) self.old self.new) }
         ensures ascend { IsStrictlyIncreasing (ids_of self.new) }
         ensures refused { OnErr result (self.new ≡ self.old) }

@@ -1,6 +1,6 @@
 //! What queries would cost, without a page read.
 
-ghost use Rattle.std.specs.Prelude.{◌≡◌, ◌≤◌, ◌+◌, [], ◌∷◌};
+ghost use Rattle.std.specs.Prelude.{◌≡◌, ◌≤◌, ◌+◌, ◌*◌, [], ◌∷◌};
 ghost use Rattle.nearest_query.specs.Segments.{AreNearLeaves};
 ghost use Rattle.segment_view.specs.Parts.{heads_of};
 ghost use Rattle.segment_view.specs.Costs.{leaves_in, AreTested, AreTouched};
@@ -26,7 +26,8 @@ pub fn survey<const D: usize, S: Shape<D>>(segments: &Segments<D>, shape: &mut S
         touched: 0,
         leaves: 0,
     };
-    for head in segments.heads() {
+    for i in 0..segments.len() {
+        let (head, _) = segments.part(i);
         let one = survey_one(head, shape);
         all = Tally {
             tested: all.tested + one.tested,

@@ -5,6 +5,6 @@ use Rattle.segment_view.proofs.pairs.clear_in.Given as goal
 
 abbrev pub invariant-loop-live : goal.invariant-loop-live
 invariant-loop-live l = record {
-  lives : l.lives.items ≡ map (without l.doc) (take l.live-index l.initial.lives.items) ++ drop l.live-index l.initial.lives.items;
-  was : l.was_live ≡ list_any (λ s. is_live s l.doc) (take l.live-index l.initial.lives.items);
+  lives : l.live-items ≡ map (without l.doc) (take l.live-index l.initial.live-items) ++ drop l.live-index l.initial.live-items;
+  was : l.was_live ≡ list_any (λ s. is_live s l.doc) (take l.live-index l.initial.live-items);
 }
