@@ -1,6 +1,7 @@
 -- What is built can be written as a segment.
 use Rattle.std.proofs.Common.{◌≡◌, ℕ, ◌+◌, ◌-◌, ◌*◌, ◌/◌, ◌%◌, ◌<◌, ◌≤◌, min, true, List, [], ◌++◌, length, map, get_or, refl, sym, ap, ◌∙◌, subst, arith, ℤ}
 use Rattle.std.specs.List.{flat_map}
+use Rattle.std.proofs.lemmas.Grind.{merely}
 use Rattle.std.proofs.lemmas.Nat.{div-add-mod', mod_below}
 use Rattle.std.proofs.lemmas.List.{length-append, length-map, map-append, get_or_append_left, get_or-append_right}
 use Rattle.std.proofs.lemmas.List.Sorted.{length_permutation}
@@ -108,11 +109,11 @@ built_can_write D id leaf items b two limit some few h =
 -- the same of entries and parts as a program has them
 pub can_write : {D : ℕ} (id leaf count : ℕ) (es : List (Entry D)) (b : BuiltValue) (index : Body) (leaves : List (List ℕ))
     → 2 ≤ leaf → leaf ≤ leaf_limit D → 1 ≤ count → count ≤ 16777216 → length es ≡ count → IsBuilt D leaf (items_of es) b → index ≡ b.index → leaves ≡ b.leaves
-    → CanWrite D id leaf count index leaves
+    → ∥ CanWrite D id leaf count index leaves ∥₁
 can_write {D} id leaf count es b index leaves two limit some few counted h same_index same_leaves =
     let all : length (items_of es) ≡ count = length-map es (λ (e : Entry D). record { doc = e.doc; at = e.point.c }) ∙ counted in
     let written : CanWrite D id leaf (length (items_of es)) b.index b.leaves =
     built_can_write D id leaf (items_of es) b two limit (omega (arith, all, some)) (omega (arith, all, few)) h in
-    subst (λ (n : ℕ). CanWrite D id leaf n index leaves) all
+    merely (subst (λ (n : ℕ). CanWrite D id leaf n index leaves) all
     (subst (λ (i : Body). CanWrite D id leaf (length (items_of es)) i leaves) (sym same_index)
-    (subst (λ (bs : List (List ℕ)). CanWrite D id leaf (length (items_of es)) b.index bs) (sym same_leaves) written))
+    (subst (λ (bs : List (List ℕ)). CanWrite D id leaf (length (items_of es)) b.index bs) (sym same_leaves) written)))

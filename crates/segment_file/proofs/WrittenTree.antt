@@ -167,3 +167,24 @@ few_leaves D id leaf entries index leaves items fits =
     let same = spelled_lengths D (head_of id entries leaf index) 0 fits.tree leaves items fits.spells in
     let count = count_shaped index.leaves fits.tree tree.shaped in
     omega (arith, ap (λ (ns : List ℕ). length ns) same, length-map leaves (λ (b : List ℕ). length b), length-lengths_of fits.tree, count, few)
+
+-- ---- its head
+
+pub head_ranges : (D id leaf entries : ℕ) (index : Body) (leaves : List (List ℕ)) (items : List Item) → id < 2 ^ 64 → length index.bytes < 2 ^ 32
+    → FitsSegment D id leaf entries index leaves items → HasRanges D (head_of id entries leaf index)
+head_ranges D id leaf entries index leaves items small short fits =
+    let has = fits.has in
+    let tree = has.tree in
+    record {
+      some_dims = tree.some_dims;
+      few_dims = tree.few_dims;
+      id_fits = small;
+      least_form = has.least_form;
+      greatest_form = has.greatest_form;
+      least_leaf = fits.least_leaf;
+      greatest_leaf = fits.greatest_leaf;
+      some = fits.some;
+      few = fits.few;
+      leaves_are = fits.leaves_are;
+      short = short;
+    }

@@ -1,6 +1,6 @@
 //! All live entries of a segment.
 
-ghost use Rattle.std.specs.Prelude.{◌≡◌, ◌≤◌, ◌+◌, ◌⊎◌, ◌++◌, ◌∷◌, ◌<◌, ℕ, List, [], Some, length, slice_get, filter, IsTrue, IfOk, OnOk};
+ghost use Rattle.std.specs.Prelude.{◌≡◌, ◌≤◌, ◌+◌, ◌⊎◌, ◌++◌, ◌∷◌, ◌<◌, ℕ, List, [], Some, length, slice_get, filter, true, All, IsTrue, IfOk, OnOk};
 ghost use Rattle.outer_io.specs.Files.{bytes_of};
 ghost use Rattle.outer_io.specs.declared.file_name.FileName.TheVariants.{Segment};
 ghost use Rattle.point_codec.specs.Points.{Item, Region};
@@ -47,6 +47,8 @@ pub fn read_entries<const D: usize, F: Pages>(
         × (items_of v.items ≡ filter (λ x. is_live live.now x.doc) items)) }
     ensures entries { IsTrue F.told → Agrees (F.files folder.old) cache.old → (items : List Item) → IsSegment D (bytes_of (F.files folder.old (Segment head.now.id))) head.now items
         → IfOk result (λ v. items_of v.items ≡ filter (λ x. is_live live.now x.doc) items) }
+    // whatever the folder gives
+    ensures live { IfOk result (λ v. All (λ x. is_live live.now x.doc ≡ true) (items_of v.items)) }
     ensures shown { (root : Region) (t : IndexTree) → HasTree D head.now.index root t → OnDamage result (IsLeafDamage D head.now 0 front t) }
     ensures damage { IsTrue F.told → Agrees (F.files folder.old) cache.old → OnDamage result (IsLeafDamageOf (F.files folder.old)) }
     ensures whole { IsTrue F.told → Agrees (F.files folder.old) cache.old → (items : List Item) → IsSegment D (bytes_of (F.files folder.old (Segment head.now.id))) head.now items
@@ -75,6 +77,7 @@ fn gather<const D: usize, F: Pages>(
     ensures agrees { IsTrue F.told → Agrees (F.files folder.old) cache.old → Agrees (F.files folder.old) cache.new }
     ensures gathers { IsTrue F.told → Agrees (F.files folder.old) cache.old → (first : ℕ) (s : Spot) (path : Region) (t : IndexTree) → IsAt node.now first s path t
         → OnOk result (Gathers D (bytes_of (F.files folder.old (Segment head.now.id))) head.now first s t live.now (items_of entries.old.items) (items_of entries.new.items)) }
+    ensures live { All (λ x. is_live live.now x.doc ≡ true) (items_of entries.old.items) → All (λ x. is_live live.now x.doc ≡ true) (items_of entries.new.items) }
     ensures shown { (first : ℕ) (s : Spot) (path : Region) (t : IndexTree) → IsAt node.now first s path t → OnDamage result (IsLeafDamage D head.now first s t) }
     ensures damage { IsTrue F.told → Agrees (F.files folder.old) cache.old → OnDamage result (IsLeafDamageOf (F.files folder.old)) }
     ensures whole { IsTrue F.told → Agrees (F.files folder.old) cache.old → (first : ℕ) (s : Spot) (path : Region) (t : IndexTree) → IsAt node.now first s path t
@@ -107,6 +110,7 @@ fn gather_leaf<const D: usize, F: Pages>(
     ensures agrees { IsTrue F.told → Agrees (F.files folder.old) cache.old → Agrees (F.files folder.old) cache.new }
     ensures gathers { IsTrue F.told → Agrees (F.files folder.old) cache.old → (first : ℕ) (s : Spot) (path : Region) (t : IndexTree) → IsAt node.now first s path t
         → OnOk result (Gathers D (bytes_of (F.files folder.old (Segment head.now.id))) head.now first s t live.now (items_of entries.old.items) (items_of entries.new.items)) }
+    ensures live { All (λ x. is_live live.now x.doc ≡ true) (items_of entries.old.items) → All (λ x. is_live live.now x.doc ≡ true) (items_of entries.new.items) }
     ensures shown { (first : ℕ) (s : Spot) (path : Region) (t : IndexTree) → IsAt node.now first s path t → OnDamage result (IsLeafDamage D head.now first s t) }
     ensures damage { IsTrue F.told → Agrees (F.files folder.old) cache.old → OnDamage result (IsLeafDamageOf (F.files folder.old)) }
     ensures whole { IsTrue F.told → Agrees (F.files folder.old) cache.old → (first : ℕ) (s : Spot) (path : Region) (t : IndexTree) → IsAt node.now first s path t
@@ -126,7 +130,8 @@ fn push_live<const D: usize>(
     live: &LiveBits,
     entries: &mut Vec<Entry<D>>,
 ) -> Result<(), Memory>
-    ensures { OnOk result (items_of entries.new.items ≡ items_of entries.old.items ++ filter (λ x. is_live live.now x.doc) view.now) }
+    ensures all { OnOk result (items_of entries.new.items ≡ items_of entries.old.items ++ filter (λ x. is_live live.now x.doc) view.now) }
+    ensures live { All (λ x. is_live live.now x.doc ≡ true) (items_of entries.old.items) → All (λ x. is_live live.now x.doc ≡ true) (items_of entries.new.items) }
 {
     for i in 0..view.count() {
         push_if_live(view, i, live, entries)?;
@@ -142,8 +147,9 @@ fn push_if_live<const D: usize>(
     entries: &mut Vec<Entry<D>>,
 ) -> Result<(), Memory>
     requires { i < length view.now }
-    ensures { (x : Item) → slice_get view.now i ≡ Some x
+    ensures one { (x : Item) → slice_get view.now i ≡ Some x
         → OnOk result (items_of entries.new.items ≡ items_of entries.old.items ++ filter (λ y. is_live live.now y.doc) (x ∷ [])) }
+    ensures live { All (λ x. is_live live.now x.doc ≡ true) (items_of entries.old.items) → All (λ x. is_live live.now x.doc ≡ true) (items_of entries.new.items) }
 {
     let doc = view.doc(i);
     if !live.is_live(doc) {

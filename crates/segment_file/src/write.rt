@@ -32,7 +32,7 @@ pub fn write_segment<const D: usize, F: Folder>(
     index: Index<D>,
     leaves: &[Bytes],
 ) -> Result<SegmentHead<D>, SegFault>
-    requires { CanWrite D id leaf entries index leaves.now }
+    requires { ∥ CanWrite D id leaf entries index leaves.now ∥₁ }
     ensures head { IfOk result (λ h. h ≡ head_of id entries leaf index.entry) }
     ensures written { IsTrue F.told → (items : List Item) → FitsSegment D id leaf entries index.entry leaves.now items
         → IfOk result (λ h. IsSegment D (bytes_of (F.files folder.new (Segment id))) h items) }

@@ -73,3 +73,6 @@ returns-in_ok-gather-in-Some-clause-gathers g t c = λ told agrees first s path 
     (λ r. subst (λ (v : IndexTree). Gathers g.row.D bytes c.args.head.now first s v c.args.live.now (items_of c.args.entries.now.items) (items_of c.gather-in-Some.new.entries.items)) (sym k.is)
     (gathers_join g.row.D bytes c.args.head.now first s k.l k.r k.dimension k.value c.args.live.now (items_of c.args.entries.now.items) (items_of c.gather.new.entries.items) (items_of c.gather-in-Some.new.entries.items) left (rw (c.gather.ensures.files told) at r)))
     right
+
+pub returns-in_ok-gather-in-Some-clause-live : goal.returns-in_ok-gather-in-Some-clause-live
+returns-in_ok-gather-in-Some-clause-live g t c = λ h. c.gather-in-Some.ensures.live (c.gather.ensures.live h)

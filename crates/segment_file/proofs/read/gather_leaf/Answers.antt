@@ -42,5 +42,5 @@ returns-clause-gathers g c = λ told agrees first s path t at.
     record {
       items = c.in-Some.view;
       holds = subst (λ (u : IndexTree). HoldsTree g.row.D bytes c.args.head.now first s u c.in-Some.view) (sym leaf) holds;
-      grew = c.in_ok-push_live.ensures;
+      grew = c.in_ok-push_live.ensures.all;
     }

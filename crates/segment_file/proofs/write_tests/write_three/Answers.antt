@@ -1,4 +1,5 @@
 use Rattle.std.proofs.Common.{rules, ◌≡◌, [], ◌∷◌, map}
+use Rattle.std.proofs.lemmas.Grind.{merely}
 use Rattle.point_codec.specs.Seen.{region_of}
 use Rattle.inner_pack.proofs.PackTests.{three}
 use Rattle.segment_file.proofs.WriteTests.{wide, narrow, parts_of_three, can_write_three}
@@ -21,7 +22,7 @@ write_segment-requires c =
       search rules,
       (
         search rules,
-        can_write_three c.in_ok-index.index (region_of c.line-wide.result) (region_of c.line-narrow.result) c.in_ok-leaf.field-0 c.in_ok-leaf-2.field-0 c.in_ok-leaf-3.field-0
-            xs ys zs leaves has c.line-wide.ensures c.line-narrow.ensures c.in_ok-leaf.ensures.long c.in_ok-leaf-2.ensures.long c.in_ok-leaf-3.ensures.long first second third,
+        merely (can_write_three c.in_ok-index.index (region_of c.line-wide.result) (region_of c.line-narrow.result) c.in_ok-leaf.field-0 c.in_ok-leaf-2.field-0 c.in_ok-leaf-3.field-0
+            xs ys zs leaves has c.line-wide.ensures c.line-narrow.ensures c.in_ok-leaf.ensures.long c.in_ok-leaf-2.ensures.long c.in_ok-leaf-3.ensures.long first second third),
       ),
     )
