@@ -5,11 +5,12 @@ use Rattle.std.proofs.lemmas.List.{take-append-drop}
 use Rattle.std.proofs.Math.Bridge.{le_prop}
 use Rattle.std.proofs.Props.{props}
 use Rattle.std.proofs.Math.Logic.{∥∥₁_elim}
+use Rattle.std.proofs.Math.Nat.{div-le_self}
 use Rattle.point_codec.specs.Points.{Region}
 use Rattle.cell_relate.specs.Relations.{is_outside}
 use Rattle.inner_pack.specs.Trees.{IndexTree, Leaf, Split, leaf_count}
 use Rattle.inner_pack.specs.Bodies.{Body, HasTree, IsSpelled}
-use Rattle.segment_file.specs.Heads.{Head}
+use Rattle.segment_file.specs.Heads.{Head, HasRanges, count_of}
 use Rattle.bkd_reader.specs.Counts.{tested, touched}
 use Rattle.nearest_query.specs.Segments.{AreNearLeaves, near_leaves, is_within, least_dist2}
 use Rattle.segment_view.specs.Costs.{AreCounted}
@@ -69,6 +70,10 @@ tested-le crosses count most few first (Leaf len own) = by (crosses own)
     by true = omega (arith, few first)
     by false = omega arith
 tested-le crosses count most few first (Split d x l r) = omega (arith, tested-le crosses count most few first l, tested-le crosses count most few (first + leaf_count l) r)
+
+-- a leaf has no more entries than fit into a page
+pub count-le : (D : ℕ) (head : Head) (n : ℕ) → HasRanges D head → count_of head n ≤ 4000
+count-le D head n r = omega (arith, r.greatest_leaf, div-le_self 4000 (4 + 4 * D))
 
 pub near-le : (at : List ℤ) (bound : Option ℕ) (t : IndexTree) → near_leaves at bound t ≤ leaf_count t
 unfolding near_leaves

@@ -19,6 +19,9 @@ use Rattle.segment_view.proofs.Counting.{halves}
 pub split_at : (parts : List Part) (i : ℕ) (p : Part) → slice_get parts i ≡ Some p → (take i parts ++ p ∷ []) ++ drop (i + 1) parts ≡ parts
 split_at parts i p is = ap (λ (ps : List Part). ps ++ drop (i + 1) parts) (sym (parts_more parts i p is)) ∙ take-append-drop (i + 1) parts
 
+pub heads_more : (parts : List Part) (i : ℕ) (p : Part) → slice_get parts i ≡ Some p → heads_of (take (i + 1) parts) ≡ heads_of (take i parts) ++ p.head ∷ []
+heads_more parts i p is = ap heads_of (parts_more parts i p is) ∙ map-append (λ (q : Part). q.head) (take i parts) (p ∷ [])
+
 -- ---- leaves
 
 pub leaves-append : (xs ys : List Part) → leaves_in (heads_of (xs ++ ys)) ≡ leaves_in (heads_of xs) + leaves_in (heads_of ys)
@@ -36,6 +39,9 @@ leaves_upto parts i p is =
     omega (arith, whole, front)
 
 -- ---- of the segments of some ids
+
+pub leaves_among_one : (ids : List ℕ) (p : Part) → is_among ids p.head.id ≡ true → leaves_in (heads_of (parts_among ids (p ∷ []))) ≡ p.head.index.leaves
+leaves_among_one ids p e = ap (λ b. leaves_in (heads_of (cond b (p ∷ []) []))) e ∙ omega arith
 
 pub among_more : (ids : List ℕ) (parts : List Part) (i : ℕ) (p : Part) → slice_get parts i ≡ Some p → parts_among ids (take (i + 1) parts) ≡ parts_among ids (take i parts) ++ parts_among ids (p ∷ [])
 among_more ids parts i p is = ap (parts_among ids) (parts_more parts i p is) ∙ filter-append (λ (q : Part). is_among ids q.head.id) (take i parts) (p ∷ [])

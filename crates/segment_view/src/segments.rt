@@ -137,7 +137,8 @@ impl<const D: usize> Segments<D> {
             return Err(AllocError);
         }
         let place = place_of(self.heads.as_slice(), head.id());
-        put(&mut self.heads, &mut self.lives, place, head, live)
+        put(&mut self.heads, &mut self.lives, place, head, live)?;
+        Ok(())
     }
 
     /// Takes out the segments of these ids. Takes no memory.

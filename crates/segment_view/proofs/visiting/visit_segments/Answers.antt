@@ -91,7 +91,7 @@ returns-in_err-visit_one-clause-calm g c =
 pub returns-in_err-visit_one-clause-shown : goal.returns-in_err-visit_one-clause-shown
 returns-in_err-visit_one-clause-shown g c = λ trees have.
     let e = err_from_is_err_and c.from_residual.result c.from_residual.ensures.1 in
-    rw (e.1, e.2) (shown_at g.row.D c.args.segments.now c.loop-i.i (part_of c.part.result.0.now c.part.result.1.now) trees c.in_err-visit_one.field-0 c.part.ensures have c.in_err-visit_one.ensures.shown)
+    rw (e.1, e.2) (shown_at g.row.D c.args.segments.now c.loop-i.i (part_of c.part.result.0.now c.part.result.1.now) trees c.in_err-visit_one.field-0.0 c.part.ensures have c.in_err-visit_one.ensures.shown)
 
 pub returns-in_err-visit_one-clause-whole : goal.returns-in_err-visit_one-clause-whole
 returns-in_err-visit_one-clause-whole g c = λ told agrees es read.
