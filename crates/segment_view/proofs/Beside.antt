@@ -3,6 +3,7 @@ use Rattle.std.proofs.Common.{◌≡◌, ℕ, ◌<◌, ◌≤◌, ◌+◌, zero,
 use Rattle.std.specs.Prelude.{IsTrue, ◌↔◌}
 use Rattle.std.specs.List.{All, insert, remove, filter, list_any, slice_get}
 use Rattle.std.specs.List.Sorted.{IsStrictlyIncreasing}
+use Rattle.std.proofs.lemmas.Bool.{eqb-true}
 use Rattle.std.proofs.lemmas.List.{length-take, take-append-drop, length-map, length-take-le, drop_more, get_or_at}
 use Rattle.std.proofs.lemmas.List.Edits.{length-insert}
 use Rattle.std.proofs.lemmas.List.Filters.{length-filter_both}
@@ -105,10 +106,9 @@ entries_parts (h ∷ hs) [] e = absurd (omega (arith, e))
 entries_parts (h ∷ hs) (l ∷ ls) e = ap (λ ns. h.entries ∷ ns) (entries_parts hs ls (omega (arith, e)))
 
 pub empty_iff : (heads : List Head) (lives : List LiveSet) → length lives ≡ length heads → (b : Bool) → b ≡ eqb (length heads) 0 → IsTrue b ↔ (parts_of heads lives ≡ [])
-empty_iff [] [] e b is = (λ _. refl, λ _. rw is tt)
-empty_iff [] (l ∷ ls) e b is = absurd (omega (arith, e))
+empty_iff [] lives e b is = (λ _. refl, λ _. is)
 empty_iff (h ∷ hs) [] e b is = absurd (omega (arith, e))
-empty_iff (h ∷ hs) (l ∷ ls) e b is = (λ t. absurd (subst IsTrue is t), λ k. cc)
+empty_iff (h ∷ hs) (l ∷ ls) e b is = (λ t. absurd (omega (arith, eqb-true (length (h ∷ hs)) 0 (sym is ∙ t))), λ k. cc)
 
 -- ---- a segment comes
 

@@ -1,19 +1,22 @@
 -- What a loop over segments has come to, one segment at a time.
 use Rattle.std.proofs.Common.{◌≡◌, ℕ, ◌+◌, ◌<◌, ◌≤◌, suc, Bool, true, false, not, cond, List, [], ◌∷◌, ◌++◌, length, map, take, drop, get_or, refl, sym, ap, subst, ◌∙◌, arith, Some, ℤ}
 use Rattle.std.specs.List.{filter, remove, slice_get, sum_by}
-use Rattle.std.proofs.lemmas.List.{map-append, take-append-drop, take_more, drop_more, append_assoc, take_at, drop_at, length-take-le, length_push}
+use Rattle.std.proofs.lemmas.List.{map-append, take-append-drop, take_more, drop_more, append_assoc, take_at, drop_at, length-take-le, length_push, length-append, get_or_append_left, get_or-take, get_or-map}
 use Rattle.std.proofs.lemmas.List.Elements.{filter-append}
 use Rattle.std.proofs.lemmas.List.Sums.{sum_by-append}
-use Rattle.std.proofs.lemmas.Option.{get_or_from_slice_get, slice_get_within}
+use Rattle.std.proofs.lemmas.Option.{get_or_from_slice_get, slice_get_within, slice_get-get_or}
 use Rattle.point_codec.specs.Points.{Item}
 use Rattle.documents.specs.Entries.{is_among, numbers_found}
 use Rattle.documents.proofs.HitNumbers.{found_append}
 use Rattle.inner_pack.specs.Trees.{IndexTree}
 use Rattle.segment_file.specs.Heads.{Head}
-use Rattle.segment_view.specs.Parts.{Part, Contents, heads_of, live_in_parts, parts_among, parts_but}
+use Rattle.live_bits.specs.LiveSet.{LiveSet}
+use Rattle.nearest_query.specs.Search.{no_live}
+use Rattle.segment_view.specs.Parts.{Part, part_of, parts_of, Contents, heads_of, live_in_parts, parts_among, parts_but}
 use Rattle.segment_view.specs.Costs.{leaves_in, AreCounted}
 use Rattle.segment_view.proofs.Living.{live-append, parts_more}
 use Rattle.segment_view.proofs.Counting.{halves}
+use Rattle.segment_view.proofs.Beside.{heads_parts}
 
 -- the list up to a place, that place, and what is behind
 pub split_at : (parts : List Part) (i : ℕ) (p : Part) → slice_get parts i ≡ Some p → (take i parts ++ p ∷ []) ++ drop (i + 1) parts ≡ parts
@@ -128,3 +131,28 @@ out_taken ids parts i p is gone =
     ap (λ (ps : List Part). remove (ps ++ parts_but ids (drop (i + 1) parts)) i) (parts_more parts i p is)
     ∙ remove_at (take i parts) (parts_but ids (drop (i + 1) parts)) p i (length-take-le i parts (omega (arith, within)))
     ∙ ap (λ (ps : List Part). take i parts ++ ps) (sym (ap (parts_but ids) (drop_place parts i p is) ∙ one_but ids p (drop (i + 1) parts) true gone))
+
+-- what is read of the heads at a place that isn't passed yet is the head of that place
+pub record OutPlace (parts : List Part) (i : ℕ) (head : Head) : Type 0 where
+  pub part : Part
+  pub is : slice_get parts i ≡ Some part
+  pub has : part.head ≡ head
+
+pub out_place : (ids : List ℕ) (parts : List Part) (heads : List Head) (lives : List LiveSet) (i : ℕ) (head : Head) → length lives ≡ length heads
+    → parts_of heads lives ≡ take (i + 1) parts ++ parts_but ids (drop (i + 1) parts) → i < length parts → head ≡ get_or heads i head → OutPlace parts i head
+out_place ids parts heads lives i head same now within read =
+    let d : Part = part_of head no_live in
+    let front : i < length (take (i + 1) parts) = omega (arith, length-take-le (i + 1) parts (omega (arith, within))) in
+    let here : get_or (parts_of heads lives) i d ≡ get_or parts i d =
+    ap (λ (ps : List Part). get_or ps i d) now
+    ∙ get_or_append_left (take (i + 1) parts) (parts_but ids (drop (i + 1) parts)) d i front
+    ∙ get_or-take (i + 1) parts i d (omega arith) in
+    let inside : i < length (parts_of heads lives) = omega (arith, front, ap length now, length-append (take (i + 1) parts) (parts_but ids (drop (i + 1) parts))) in
+    record {
+      part = get_or parts i d;
+      is = slice_get-get_or parts i d within;
+      has = ap (λ (q : Part). q.head) (sym here) ∙ sym (get_or-map (λ (q : Part). q.head) (parts_of heads lives) i d head inside) ∙ ap (λ (hs : List Head). get_or hs i head) (heads_parts heads lives same) ∙ sym read;
+    }
+
+pub out_room : (ids : List ℕ) (parts now : List Part) (i : ℕ) → now ≡ take i parts ++ parts_but ids (drop i parts) → i ≤ length parts → i ≤ length now
+out_room ids parts now i is within = omega (arith, ap length is, length-append (take i parts) (parts_but ids (drop i parts)), length-take-le i parts within)
