@@ -1,0 +1,100 @@
+-- Calls that only read, one after another.
+use Rattle.std.proofs.Common.{◌≡◌, ℕ, ◌<◌, Bool, true, false, cond, length, List, [], ◌∷◌, ◌++◌, get_or, refl, sym, ap, subst, ◌∙◌, ◌⊎◌, inl, inr, ⊎_elim, Some, Err}
+use Rattle.std.specs.Prelude.{IsTrue}
+use Rattle.std.specs.List.{Contains, filter, slice_get}
+use Rattle.std.proofs.lemmas.Option.{get_or_from_slice_get, slice_get_within}
+use Rattle.std.proofs.lemmas.List.{get_or-map, length-map}
+use Rattle.outer_io.specs.Files.{Files}
+use Rattle.inner_pack.specs.Places.{front}
+use Rattle.inner_pack.specs.Trees.{IndexTree}
+use Rattle.inner_pack.specs.Bodies.{HasTree}
+use Rattle.point_codec.specs.Points.{Region}
+use Rattle.page_cache.specs.declared.cache.PageCache.{PageCache}
+use Rattle.page_cache.specs.declared.faults.PageFault.{PageFault}
+use Rattle.page_cache.specs.Cache.{KeepsFile, Agrees}
+use Rattle.page_cache.specs.Evidence.{FaultShows}
+use Rattle.segment_file.specs.Heads.{Head}
+use Rattle.segment_file.specs.Damages.{IsLeafDamage}
+use Rattle.documents.specs.Entries.{is_among}
+use Rattle.documents.proofs.Lists.{cons_cases, cons_head, in_filter, in_map, nil_none, of_filter}
+use Rattle.nearest_query.specs.Segments.{HaveTrees, IsSegmentDamage, HasId, no_head}
+use Rattle.nearest_query.proofs.Parts.{on_damage}
+use Rattle.segment_view.specs.Parts.{Part, part_of, heads_of, ids_of, parts_among}
+use Rattle.segment_view.specs.Calm.{IsCalm}
+use Rattle.segment_view.proofs.Beside.{ids_heads}
+
+pub calm_none : (told : Bool) (files : Files) (cache : PageCache) (ids : List ℕ) → IsCalm told files files cache cache ids
+calm_none told files cache ids = record { files = λ _. refl; agrees = λ _ h. h; others = λ id h. inl h }
+
+pub calm_then : (told : Bool) (old mid new : Files) (before between after : PageCache) (ids : List ℕ) → IsCalm told old mid before between ids → IsCalm told mid new between after ids
+    → IsCalm told old new before after ids
+calm_then told old mid new before between after ids a b = record {
+  files = λ t. b.files t ∙ a.files t;
+  agrees = λ t h. subst (λ f. Agrees f after) (a.files t) (b.agrees t (subst (λ f. Agrees f between) (sym (a.files t)) (a.agrees t h)));
+  others = λ id h. ⊎_elim (λ k. a.others id k) (λ k. inr k) (b.others id h);
+}
+
+pub calm_more : (told : Bool) (old new : Files) (before after : PageCache) (ids more : List ℕ) → ((id : ℕ) → Contains ids id → Contains more id) → IsCalm told old new before after ids
+    → IsCalm told old new before after more
+calm_more told old new before after ids more f a = record { files = a.files; agrees = a.agrees; others = λ id h. ⊎_elim (λ k. inl k) (λ k. inr (f id k)) (a.others id h) }
+
+-- the cache agrees with the files that a calm call left
+pub agrees_after : (told : Bool) (old new : Files) (before after : PageCache) (ids : List ℕ) → IsCalm told old new before after ids → IsTrue told → Agrees old before → Agrees new after
+agrees_after told old new before after ids a t h = subst (λ f. Agrees f after) (sym (a.files t)) (a.agrees t h)
+
+-- ---- a segment of a list
+
+pub id_in : (parts : List Part) (p : Part) → Contains parts p → (id : ℕ) → Contains (p.head.id ∷ []) id → Contains (ids_of parts) id
+id_in parts p there id h = ⊎_elim
+    (λ e. subst (Contains (ids_of parts)) e (in_map (λ (q : Part). q.head.id) parts p there))
+    (λ k. nil_none id (Contains (ids_of parts) id) k)
+    (cons_cases p.head.id [] id h)
+
+-- the segment's id, where it is among some, is among those of the list
+pub among_in : (ids : List ℕ) (parts : List Part) (p : Part) → Contains parts p → (id : ℕ) → Contains (ids_of (parts_among ids (p ∷ []))) id → Contains (ids_of (parts_among ids parts)) id
+among_in ids parts p there id h = by (is_among ids p.head.id) refl h
+  where
+    by : (b : Bool) → is_among ids p.head.id ≡ b → Contains (ids_of (cond b (p ∷ []) [])) id → Contains (ids_of (parts_among ids parts)) id
+    by true e k = id_in (parts_among ids parts) p (in_filter (λ (q : Part). is_among ids q.head.id) parts p there e) id k
+    by false e k = nil_none id (Contains (ids_of (parts_among ids parts)) id) k
+
+pub head_at : (parts : List Part) (i : ℕ) (p : Part) → slice_get parts i ≡ Some p → get_or (heads_of parts) i no_head ≡ p.head
+head_at parts i p is =
+    get_or-map (λ (q : Part). q.head) parts i p no_head (slice_get_within parts i p is)
+    ∙ ap (λ (q : Part). q.head) (get_or_from_slice_get parts i p p is)
+
+-- a damage of the segment at a place is one of the segments
+pub shown_at : (D : ℕ) (parts : List Part) (i : ℕ) (p : Part) (trees : ℕ → IndexTree) (fault : PageFault) → slice_get parts i ≡ Some p → HaveTrees D (heads_of parts) trees
+    → ((root : Region) (t : IndexTree) → HasTree D p.head.index root t → FaultShows (IsLeafDamage D p.head 0 front t) fault) → FaultShows (IsSegmentDamage D (heads_of parts) trees) fault
+shown_at D parts i p trees fault is have shown =
+    let within : i < length (heads_of parts) = subst (λ n. i < n) (sym (length-map parts (λ (q : Part). q.head))) (slice_get_within parts i p is) in
+    let tree = have i within in
+    on_damage {T = Unit {0}} (IsLeafDamage D p.head 0 front (trees i)) (IsSegmentDamage D (heads_of parts) trees) (Err fault)
+    (λ d h. (i, within, subst (λ (x : Head). IsLeafDamage D x 0 front (trees i) d) (sym (head_at parts i p is)) h))
+    (shown tree.0 (trees i) (subst (λ (x : Head). HasTree D x.index tree.0 (trees i)) (head_at parts i p is) tree.1))
+
+-- told by ids, as the nearest query tells it by heads
+pub id_of : (parts : List Part) (id : ℕ) → HasId (heads_of parts) id → Contains (ids_of parts) id
+id_of parts id h = subst (Contains (ids_of parts)) h.2 (subst (λ (ns : List ℕ). Contains ns h.0.id) (sym (ids_heads parts)) (in_map (λ (x : Head). x.id) (heads_of parts) h.0 h.1))
+
+-- ---- one segment, whose id is among some
+
+pub among_one : (ids : List ℕ) (p : Part) → is_among ids p.head.id ≡ true → parts_among ids (p ∷ []) ≡ p ∷ []
+among_one ids p e = ap (λ b. cond b (p ∷ []) []) e
+
+-- what a walk over its file keeps to
+pub calm_one : (told : Bool) (old new : Files) (before after : PageCache) (ids : List ℕ) (p : Part) → is_among ids p.head.id ≡ true → (IsTrue told → new ≡ old) → (IsTrue told → Agrees old before → Agrees old after)
+    → ((id : ℕ) → KeepsFile after id → KeepsFile before id ⊎ (id ≡ p.head.id)) → IsCalm told old new before after (ids_of (parts_among ids (p ∷ [])))
+calm_one told old new before after ids p e files agrees others = record {
+  files = files;
+  agrees = agrees;
+  others = λ id h. ⊎_elim (λ k. inl k) (λ k. inr (subst (λ (ps : List Part). Contains (ids_of ps) id) (sym (among_one ids p e)) (subst (Contains (p.head.id ∷ [])) (sym k) (cons_head p.head.id [])))) (others id h);
+}
+
+pub calm_alone : (told : Bool) (old new : Files) (before after : PageCache) (id : ℕ) → (IsTrue told → new ≡ old) → (IsTrue told → Agrees old before → Agrees old after)
+    → ((i : ℕ) → KeepsFile after i → KeepsFile before i ⊎ (i ≡ id)) → IsCalm told old new before after (id ∷ [])
+calm_alone told old new before after id files agrees others = record {
+  files = files;
+  agrees = agrees;
+  others = λ i h. ⊎_elim (λ k. inl k) (λ k. inr (subst (Contains (id ∷ [])) (sym k) (cons_head id []))) (others i h);
+}

@@ -1,0 +1,72 @@
+use Rattle.std.proofs.Common.{◌≡◌, ◌≤◌, ◌+◌, ◌++◌, ℕ, List, [], ◌∷◌, true, ap, sym, subst, ◌∙◌, arith}
+use Rattle.std.specs.List.{All}
+use Rattle.std.proofs.lemmas.List.Elements.{All-contains}
+use Rattle.std.proofs.lemmas.Result.{err_from_is_err_and}
+use Rattle.point_codec.specs.Points.{Item}
+use Rattle.point_codec.specs.Seen.{items_of}
+use Rattle.segment_view.specs.Parts.{IsRead, part_of, ids_of, live_in_parts, parts_among, has_live}
+use Rattle.segment_view.proofs.Living.{part_in, all_widen}
+use Rattle.segment_view.proofs.Reading.{calm_then, calm_more, agrees_after, among_in, shown_at}
+use Rattle.segment_view.proofs.Stepwise.{leaves_among_more, leaves_among_upto, live_among_more}
+use Rattle.segment_view.proofs.gathering.gather.Goals as goal
+
+pub loop-i-preserved : goal.loop-i-preserved
+loop-i-preserved g c =
+    let was = c.loop-i.invariant in
+    let one = c.in_ok-gather_one.ensures in
+    let parts = c.args.segments.now in
+    let ids = c.args.ids.now in
+    let p = part_of c.part.result.0.now c.part.result.1.now in
+    let is = c.part.ensures in
+    let there = part_in parts c.loop-i.i p is in
+    let files = g.F.Pages.files c.args.folder.now in
+    let more = one.live in
+    record {
+      calm = calm_then g.F.Pages.told files (g.F.Pages.files c.loop-i.folder) (g.F.Pages.files c.gather_one.new.folder) c.args.cache.now c.loop-i.cache c.gather_one.new.cache (ids_of (parts_among ids parts)) was.calm
+          (calm_more g.F.Pages.told (g.F.Pages.files c.loop-i.folder) (g.F.Pages.files c.gather_one.new.folder) c.loop-i.cache c.gather_one.new.cache (ids_of (parts_among ids (p ∷ []))) (ids_of (parts_among ids parts)) (among_in ids parts p there) one.calm);
+      faults = one.cause.fine ∙ was.faults;
+      live = subst (λ (xs : List Item). All (λ (x : Item). has_live x.doc (parts_among ids parts) ≡ true) xs) (sym more.1) (all_widen ids parts p (items_of c.loop-i.entries.items) more.0 there was.live more.2);
+      numbers = one.numbers was.numbers;
+      reads =
+          let step = leaves_among_more ids parts c.loop-i.i p is in
+          let before = was.reads in
+          let here = one.reads in
+          omega (arith, step, before, here);
+      entries = λ told agrees es read.
+          one.entries told (agrees_after g.F.Pages.told files (g.F.Pages.files c.loop-i.folder) c.args.cache.now c.loop-i.cache (ids_of (parts_among ids parts)) was.calm told agrees) es
+          (subst (λ f. IsRead g.row.D f es p) (sym (was.calm.files told)) (All-contains (IsRead g.row.D files es) parts p read there))
+          ∙ ap (λ (xs : List Item). xs ++ live_in_parts es (parts_among ids (p ∷ []))) (was.entries told agrees es read)
+          ∙ sym (live_among_more es ids parts c.loop-i.i p is);
+    }
+
+pub returns-in_err-gather_one-clause-reads : goal.returns-in_err-gather_one-clause-reads
+returns-in_err-gather_one-clause-reads g c =
+    let most = leaves_among_upto c.args.ids.now c.args.segments.now c.loop-i.i (part_of c.part.result.0.now c.part.result.1.now) c.part.ensures in
+    let before = c.loop-i.invariant.reads in
+    let here = c.in_err-gather_one.ensures.reads in
+    omega (arith, most, before, here)
+
+pub returns-in_err-gather_one-clause-calm : goal.returns-in_err-gather_one-clause-calm
+returns-in_err-gather_one-clause-calm g c =
+    let parts = c.args.segments.now in
+    let ids = c.args.ids.now in
+    let p = part_of c.part.result.0.now c.part.result.1.now in
+    calm_then g.F.Pages.told (g.F.Pages.files c.args.folder.now) (g.F.Pages.files c.loop-i.folder) (g.F.Pages.files c.gather_one.new.folder) c.args.cache.now c.loop-i.cache c.gather_one.new.cache (ids_of (parts_among ids parts)) c.loop-i.invariant.calm
+    (calm_more g.F.Pages.told (g.F.Pages.files c.loop-i.folder) (g.F.Pages.files c.gather_one.new.folder) c.loop-i.cache c.gather_one.new.cache (ids_of (parts_among ids (p ∷ []))) (ids_of (parts_among ids parts)) (among_in ids parts p (part_in parts c.loop-i.i p c.part.ensures))
+    c.in_err-gather_one.ensures.calm)
+
+pub returns-in_err-gather_one-clause-shown : goal.returns-in_err-gather_one-clause-shown
+returns-in_err-gather_one-clause-shown g c = λ trees have.
+    let e = err_from_is_err_and c.from_residual.result c.from_residual.ensures.1 in
+    rw (e.1, e.2) (shown_at g.row.D c.args.segments.now c.loop-i.i (part_of c.part.result.0.now c.part.result.1.now) trees c.in_err-gather_one.field-0.0 c.part.ensures have c.in_err-gather_one.ensures.shown)
+
+pub returns-in_err-gather_one-clause-whole : goal.returns-in_err-gather_one-clause-whole
+returns-in_err-gather_one-clause-whole g c = λ told agrees es read.
+    let parts = c.args.segments.now in
+    let p = part_of c.part.result.0.now c.part.result.1.now in
+    let calm = c.loop-i.invariant.calm in
+    let files = g.F.Pages.files c.args.folder.now in
+    let e = err_from_is_err_and c.from_residual.result c.from_residual.ensures.1 in
+    rw (e.1, e.2)
+    (c.in_err-gather_one.ensures.whole told (agrees_after g.F.Pages.told files (g.F.Pages.files c.loop-i.folder) c.args.cache.now c.loop-i.cache (ids_of (parts_among c.args.ids.now parts)) calm told agrees) es
+    (subst (λ f. IsRead g.row.D f es p) (sym (calm.files told)) (All-contains (IsRead g.row.D files es) parts p read (part_in parts c.loop-i.i p c.part.ensures))))

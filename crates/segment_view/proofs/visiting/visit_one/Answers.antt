@@ -1,0 +1,48 @@
+use Rattle.std.proofs.Common.{◌≡◌, ◌≤◌, ◌+◌, ◌*◌, ◌++◌, List, [], ◌∷◌, ap, sym, subst, ◌∙◌, arith, ℕ}
+use Rattle.std.specs.Prelude.{OnOk}
+use Rattle.inner_pack.specs.Trees.{IndexTree}
+use Rattle.segment_file.specs.Heads.{Head, count_of}
+use Rattle.bkd_reader.specs.Counts.{tested, touched}
+use Rattle.bkd_reader.proofs.Trees.{tree_count}
+use Rattle.documents.specs.Entries.{numbers_found}
+use Rattle.segment_view.specs.Parts.{part_of}
+use Rattle.segment_view.proofs.Living.{live_one}
+use Rattle.segment_view.proofs.Reading.{calm_alone}
+use Rattle.segment_view.proofs.Counting.{le_by_tree, one_counted}
+use Rattle.segment_view.proofs.Hits.{hits_live}
+use Rattle.segment_view.proofs.visiting.visit_one.Goals as goal
+
+pub returns-clause-found : goal.returns-clause-found
+returns-clause-found g c = λ told agrees es r.
+    let has = g.S.Shape.has c.args.shape.now in
+    let same = hits_live has c.args.live.now (es c.args.head.now.id) ∙ ap (numbers_found has) (sym (live_one es (part_of c.args.head.now c.args.live.now))) in
+    subst (λ (ys : List ℕ). OnOk c.intersect.result (c.intersect.new.hits.items ≡ c.args.hits.now.items ++ ys)) same (c.intersect.ensures.found told agrees (es c.args.head.now.id) r.held)
+
+pub returns-clause-tests : goal.returns-clause-tests
+returns-clause-tests g c = λ n all.
+    le_by_tree g.row.D c.args.head.now.index c.index.result.now c.index.ensures.value c.is_spelled.ensures _ _
+    (λ root t has.
+    let e = one_counted g.row.D (λ (h : Head) (u : IndexTree). tested (g.S.Shape.crosses c.args.shape.now) (count_of h) 0 u) c.args.head.now n root t all has in
+    let m = c.intersect.ensures.tests root t has in
+    omega (arith, e, m))
+
+pub returns-clause-compares : goal.returns-clause-compares
+returns-clause-compares g c =
+    le_by_tree g.row.D c.args.head.now.index c.index.result.now c.index.ensures.value c.is_spelled.ensures _ _
+    (λ root t has.
+    let e = tree_count g.row.D c.args.head.now.index root t has in
+    let m = c.intersect.ensures.compares root t has in
+    omega (arith, e, m))
+
+pub returns-clause-reads : goal.returns-clause-reads
+returns-clause-reads g c = λ n all.
+    le_by_tree g.row.D c.args.head.now.index c.index.result.now c.index.ensures.value c.is_spelled.ensures _ _
+    (λ root t has.
+    let e = one_counted g.row.D (λ (h : Head) (u : IndexTree). touched (g.S.Shape.has c.args.shape.now) (g.S.Shape.crosses c.args.shape.now) u) c.args.head.now n root t all has in
+    let m = c.intersect.ensures.reads root t has in
+    omega (arith, e, m))
+
+pub returns-clause-calm : goal.returns-clause-calm
+returns-clause-calm g c =
+    calm_alone g.F.Pages.told (g.F.Pages.files c.args.folder.now) (g.F.Pages.files c.intersect.new.folder) c.args.cache.now c.intersect.new.cache c.args.head.now.id
+    c.intersect.ensures.files c.intersect.ensures.agrees c.intersect.ensures.others

@@ -1,0 +1,105 @@
+use Rattle.std.proofs.Common.{◌≡◌, ◌≤◌, ◌+◌, ◌*◌, ◌++◌, ℕ, List, [], ◌∷◌, ap, sym, subst, ◌∙◌, arith, take}
+use Rattle.std.proofs.lemmas.List.{append_assoc}
+use Rattle.std.proofs.lemmas.List.Elements.{All-contains}
+use Rattle.std.proofs.lemmas.Result.{err_from_is_err_and}
+use Rattle.inner_pack.specs.Trees.{IndexTree}
+use Rattle.segment_file.specs.Heads.{Head, count_of}
+use Rattle.bkd_reader.specs.Counts.{tested, touched}
+use Rattle.documents.specs.Entries.{numbers_found}
+use Rattle.segment_view.specs.Parts.{IsRead, part_of, ids_of, live_in_parts}
+use Rattle.segment_view.specs.Costs.{AreTested, AreTouched}
+use Rattle.segment_view.proofs.Living.{part_in}
+use Rattle.segment_view.proofs.Reading.{calm_then, calm_more, agrees_after, id_in, shown_at}
+use Rattle.segment_view.proofs.Stepwise.{counted_more, counted_upto, leaves_more, leaves_upto, found_parts_more}
+use Rattle.segment_view.proofs.visiting.visit_segments.Goals as goal
+
+pub loop-i-preserved : goal.loop-i-preserved
+loop-i-preserved g c =
+    let was = c.loop-i.invariant in
+    let one = c.in_ok-visit_one.ensures in
+    let parts = c.args.segments.now in
+    let p = part_of c.part.result.0.now c.part.result.1.now in
+    let is = c.part.ensures in
+    let there = part_in parts c.loop-i.i p is in
+    let has = g.S.Shape.has c.args.shape.now in
+    let crosses = g.S.Shape.crosses c.args.shape.now in
+    let files = g.F.Pages.files c.args.folder.now in
+    record {
+      calm = calm_then g.F.Pages.told files (g.F.Pages.files c.loop-i.folder) (g.F.Pages.files c.visit_one.new.folder) c.args.cache.now c.loop-i.cache c.visit_one.new.cache (ids_of parts) was.calm
+          (calm_more g.F.Pages.told (g.F.Pages.files c.loop-i.folder) (g.F.Pages.files c.visit_one.new.folder) c.loop-i.cache c.visit_one.new.cache (p.head.id ∷ []) (ids_of parts) (id_in parts p there) one.calm);
+      faults = one.cause.fine ∙ was.faults;
+      has = one.has ∙ was.has;
+      crosses = one.crosses ∙ was.crosses;
+      tests = λ n all.
+          let u = counted_more g.row.D (λ (h : Head) (t : IndexTree). tested crosses (count_of h) 0 t) parts c.loop-i.i p n is all in
+          let before = was.tests u.before u.of_before in
+          let here = one.tests u.here (subst (λ f. AreTested g.row.D f (p.head ∷ []) u.here) (sym was.crosses) u.of_here) in
+          omega (arith, before, here, u.within);
+      compares =
+          let more = leaves_more parts c.loop-i.i p is in
+          let before = was.compares in
+          let here = one.compares in
+          omega (arith, more, before, here);
+      reads = λ n all.
+          let u = counted_more g.row.D (λ (h : Head) (t : IndexTree). touched has crosses t) parts c.loop-i.i p n is all in
+          let before = was.reads u.before u.of_before in
+          let here = one.reads u.here (subst (λ k. AreTouched g.row.D k (g.S.Shape.crosses c.loop-i.shape) (p.head ∷ []) u.here) (sym was.has) (subst (λ f. AreTouched g.row.D has f (p.head ∷ []) u.here) (sym was.crosses) u.of_here)) in
+          omega (arith, before, here, u.within);
+      found = λ told agrees es read.
+          let here = one.found told (agrees_after g.F.Pages.told files (g.F.Pages.files c.loop-i.folder) c.args.cache.now c.loop-i.cache (ids_of parts) was.calm told agrees) es
+          (subst (λ f. IsRead g.row.D f es p) (sym (was.calm.files told)) (All-contains (IsRead g.row.D files es) parts p read there)) in
+          here
+          ∙ ap (λ k. c.loop-i.hits.items ++ numbers_found k (live_in_parts es (p ∷ []))) was.has
+          ∙ ap (λ (ns : List ℕ). ns ++ numbers_found has (live_in_parts es (p ∷ []))) (was.found told agrees es read)
+          ∙ append_assoc c.args.hits.now.items (numbers_found has (live_in_parts es (take c.loop-i.i parts))) (numbers_found has (live_in_parts es (p ∷ [])))
+          ∙ ap (λ (ns : List ℕ). c.args.hits.now.items ++ ns) (sym (found_parts_more has es parts c.loop-i.i p is));
+    }
+
+pub returns-in_err-visit_one-clause-tests : goal.returns-in_err-visit_one-clause-tests
+returns-in_err-visit_one-clause-tests g c = λ n all.
+    let p = part_of c.part.result.0.now c.part.result.1.now in
+    let was = c.loop-i.invariant in
+    let u = counted_upto g.row.D (λ (h : Head) (t : IndexTree). tested (g.S.Shape.crosses c.args.shape.now) (count_of h) 0 t) c.args.segments.now c.loop-i.i p n c.part.ensures all in
+    let before = was.tests u.before u.of_before in
+    let here = c.in_err-visit_one.ensures.tests u.here (subst (λ f. AreTested g.row.D f (p.head ∷ []) u.here) (sym was.crosses) u.of_here) in
+    omega (arith, before, here, u.within)
+
+pub returns-in_err-visit_one-clause-compares : goal.returns-in_err-visit_one-clause-compares
+returns-in_err-visit_one-clause-compares g c =
+    let most = leaves_upto c.args.segments.now c.loop-i.i (part_of c.part.result.0.now c.part.result.1.now) c.part.ensures in
+    let before = c.loop-i.invariant.compares in
+    let here = c.in_err-visit_one.ensures.compares in
+    omega (arith, most, before, here)
+
+pub returns-in_err-visit_one-clause-reads : goal.returns-in_err-visit_one-clause-reads
+returns-in_err-visit_one-clause-reads g c = λ n all.
+    let p = part_of c.part.result.0.now c.part.result.1.now in
+    let was = c.loop-i.invariant in
+    let has = g.S.Shape.has c.args.shape.now in
+    let u = counted_upto g.row.D (λ (h : Head) (t : IndexTree). touched has (g.S.Shape.crosses c.args.shape.now) t) c.args.segments.now c.loop-i.i p n c.part.ensures all in
+    let before = was.reads u.before u.of_before in
+    let here = c.in_err-visit_one.ensures.reads u.here (subst (λ k. AreTouched g.row.D k (g.S.Shape.crosses c.loop-i.shape) (p.head ∷ []) u.here) (sym was.has) (subst (λ f. AreTouched g.row.D has f (p.head ∷ []) u.here) (sym was.crosses) u.of_here)) in
+    omega (arith, before, here, u.within)
+
+pub returns-in_err-visit_one-clause-calm : goal.returns-in_err-visit_one-clause-calm
+returns-in_err-visit_one-clause-calm g c =
+    let parts = c.args.segments.now in
+    let p = part_of c.part.result.0.now c.part.result.1.now in
+    calm_then g.F.Pages.told (g.F.Pages.files c.args.folder.now) (g.F.Pages.files c.loop-i.folder) (g.F.Pages.files c.visit_one.new.folder) c.args.cache.now c.loop-i.cache c.visit_one.new.cache (ids_of parts) c.loop-i.invariant.calm
+    (calm_more g.F.Pages.told (g.F.Pages.files c.loop-i.folder) (g.F.Pages.files c.visit_one.new.folder) c.loop-i.cache c.visit_one.new.cache (p.head.id ∷ []) (ids_of parts) (id_in parts p (part_in parts c.loop-i.i p c.part.ensures)) c.in_err-visit_one.ensures.calm)
+
+pub returns-in_err-visit_one-clause-shown : goal.returns-in_err-visit_one-clause-shown
+returns-in_err-visit_one-clause-shown g c = λ trees have.
+    let e = err_from_is_err_and c.from_residual.result c.from_residual.ensures.1 in
+    rw (e.1, e.2) (shown_at g.row.D c.args.segments.now c.loop-i.i (part_of c.part.result.0.now c.part.result.1.now) trees c.in_err-visit_one.field-0.0 c.part.ensures have c.in_err-visit_one.ensures.shown)
+
+pub returns-in_err-visit_one-clause-whole : goal.returns-in_err-visit_one-clause-whole
+returns-in_err-visit_one-clause-whole g c = λ told agrees es read.
+    let parts = c.args.segments.now in
+    let p = part_of c.part.result.0.now c.part.result.1.now in
+    let calm = c.loop-i.invariant.calm in
+    let files = g.F.Pages.files c.args.folder.now in
+    let e = err_from_is_err_and c.from_residual.result c.from_residual.ensures.1 in
+    rw (e.1, e.2)
+    (c.in_err-visit_one.ensures.whole told (agrees_after g.F.Pages.told files (g.F.Pages.files c.loop-i.folder) c.args.cache.now c.loop-i.cache (ids_of parts) calm told agrees) es
+    (subst (λ f. IsRead g.row.D f es p) (sym (calm.files told)) (All-contains (IsRead g.row.D files es) parts p read (part_in parts c.loop-i.i p c.part.ensures))))

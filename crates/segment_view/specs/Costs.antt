@@ -1,0 +1,25 @@
+-- What reading of segments costs: sums over the trees of their indexes.
+use Rattle.std.specs.Prelude.{ℕ, ◌+◌, ◌≡◌, Bool, List, [], ◌∷◌, sum_by, ℤ}
+use Rattle.point_codec.specs.Points.{Region}
+use Rattle.inner_pack.specs.Trees.{IndexTree}
+use Rattle.inner_pack.specs.Bodies.{HasTree}
+use Rattle.segment_file.specs.Heads.{Head, count_of}
+use Rattle.bkd_reader.specs.Counts.{tested, touched}
+
+-- all leaves
+abbrev pub leaves_in : List Head → ℕ
+leaves_in heads = sum_by (λ h. h.index.leaves) heads
+
+-- so many together, where `count` is what a segment's tree comes to
+abbrev pub AreCounted : (D : ℕ) → (count : Head → IndexTree → ℕ) → List Head → ℕ → Type 0
+AreCounted D count [] n = n ≡ 0
+AreCounted D count (h ∷ hs) n =
+    (m : ℕ) × (rest : ℕ) × ((root : Region) (t : IndexTree) → HasTree D h.index root t → m ≡ count h t) × AreCounted D count hs rest × (n ≡ m + rest)
+
+-- the entries, live or dead, of leaves whose own cell is crossed
+abbrev pub AreTested : (D : ℕ) → (crosses : Region → Bool) → List Head → ℕ → Type 0
+AreTested D crosses heads n = AreCounted D (λ h t. tested crosses (count_of h) 0 t) heads n
+
+-- the leaves whose own cell is not outside
+abbrev pub AreTouched : (D : ℕ) → (has : List ℤ → Bool) → (crosses : Region → Bool) → List Head → ℕ → Type 0
+AreTouched D has crosses heads n = AreCounted D (λ h t. touched has crosses t) heads n

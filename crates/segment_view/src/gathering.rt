@@ -1,0 +1,90 @@
+//! The live entries of some of the segments.
+
+ghost use Rattle.std.specs.Prelude.{◌≡◌, ◌≤◌, ◌<◌, ◌+◌, ◌^◌, ◌++◌, ℕ, List, [], ◌∷◌, true, All, IsTrue, IfOk, OnOk};
+ghost use Rattle.point_codec.specs.Points.{Item, Region};
+ghost use Rattle.point_codec.specs.Seen.{items_of};
+ghost use Rattle.inner_pack.specs.Places.{front};
+ghost use Rattle.inner_pack.specs.Trees.{IndexTree};
+ghost use Rattle.inner_pack.specs.Bodies.{HasTree};
+ghost use Rattle.page_cache.specs.Cache.{Agrees};
+ghost use Rattle.page_cache.specs.Causes.{HasPageCause};
+ghost use Rattle.page_cache.specs.Evidence.{OnDamage, NotDamaged};
+ghost use Rattle.segment_file.specs.Damages.{IsLeafDamage, IsLeafDamageOf};
+ghost use Rattle.nearest_query.specs.Segments.{HaveTrees, IsSegmentDamage};
+ghost use Rattle.segment_view.specs.Parts.{Contents, IsRead, AreRead, part_of, heads_of, ids_of, live_in_parts, parts_among, has_live};
+ghost use Rattle.segment_view.specs.Costs.{leaves_in};
+ghost use Rattle.segment_view.specs.Calm.{IsCalm};
+
+use crate::segments::Segments;
+use live_bits::LiveBits;
+use outer_io::Pages;
+use page_cache::{PageCache, PageFault};
+use point_codec::Entry;
+use segment_file::{SegmentHead, read_entries};
+use std::alloc::Global;
+
+/// The live entries of the segments of these ids, one segment after another in ascending order of their ids. An id that no segment has
+/// counts for nothing.
+///
+/// Each leaf of these segments is read once at most, by way of the cache; where no number of a segment is live nothing of it is read. The
+/// answer may be a damage of a leaf that had to be read, Failed and Memory.
+pub fn gather<const D: usize, F: Pages>(
+    alloc: Global,
+    segments: &Segments<D>,
+    ids: &[u64],
+    cache: &mut PageCache,
+    folder: &mut F,
+) -> Result<Vec<Entry<D>>, PageFault>
+    ensures entries { IsTrue F.told → Agrees (F.files folder.old) cache.old → (c : Contents) → AreRead D (F.files folder.old) c segments.now
+        → IfOk result (λ v. items_of v.items ≡ live_in_parts c (parts_among ids.now segments.now)) }
+    // Over every folder.
+    ensures live { IfOk result (λ v. All (λ x. has_live x.doc (parts_among ids.now segments.now) ≡ true) (items_of v.items)) }
+    ensures numbers { IfOk result (λ v. All (λ e. e.doc < 2 ^ 24) v.items) }
+    ensures reads { F.reads folder.new ≤ F.reads folder.old + leaves_in (heads_of (parts_among ids.now segments.now)) }
+    ensures calm { IsCalm F.told (F.files folder.old) (F.files folder.new) cache.old cache.new (ids_of (parts_among ids.now segments.now)) }
+    // What an error says.
+    ensures cause { HasPageCause (F.faults folder.old) (F.faults folder.new) result }
+    ensures shown { (trees : ℕ → IndexTree) → HaveTrees D (heads_of segments.now) trees → OnDamage result (IsSegmentDamage D (heads_of segments.now) trees) }
+    ensures damage { IsTrue F.told → Agrees (F.files folder.old) cache.old → OnDamage result (IsLeafDamageOf (F.files folder.old)) }
+    ensures whole { IsTrue F.told → Agrees (F.files folder.old) cache.old → (c : Contents) → AreRead D (F.files folder.old) c segments.now → NotDamaged result }
+{
+    let mut entries = Vec::new(alloc);
+    for i in 0..segments.len() {
+        let (head, live) = segments.part(i);
+        gather_one(alloc, head, live, ids, cache, folder, &mut entries)?;
+    }
+    Ok(entries)
+}
+
+/// Appends the live entries of a segment, where its id is one of these.
+fn gather_one<const D: usize, F: Pages>(
+    alloc: Global,
+    head: &SegmentHead<D>,
+    live: &LiveBits,
+    ids: &[u64],
+    cache: &mut PageCache,
+    folder: &mut F,
+    entries: &mut Vec<Entry<D>>,
+) -> Result<(), PageFault>
+    ensures entries { IsTrue F.told → Agrees (F.files folder.old) cache.old → (c : Contents) → IsRead D (F.files folder.old) c (part_of head.now live.now)
+        → OnOk result (items_of entries.new.items ≡ items_of entries.old.items ++ live_in_parts c (parts_among ids.now (part_of head.now live.now ∷ []))) }
+    ensures live { OnOk result ((more : List Item) × (items_of entries.new.items ≡ items_of entries.old.items ++ more) × All (λ x. has_live x.doc (parts_among ids.now (part_of head.now live.now ∷ [])) ≡ true) more) }
+    ensures numbers { All (λ e. e.doc < 2 ^ 24) entries.old.items → OnOk result (All (λ e. e.doc < 2 ^ 24) entries.new.items) }
+    ensures reads { F.reads folder.new ≤ F.reads folder.old + leaves_in (heads_of (parts_among ids.now (part_of head.now live.now ∷ []))) }
+    ensures calm { IsCalm F.told (F.files folder.old) (F.files folder.new) cache.old cache.new (ids_of (parts_among ids.now (part_of head.now live.now ∷ []))) }
+    ensures cause { HasPageCause (F.faults folder.old) (F.faults folder.new) result }
+    ensures shown { (root : Region) (t : IndexTree) → HasTree D head.now.index root t → OnDamage result (IsLeafDamage D head.now 0 front t) }
+    ensures damage { IsTrue F.told → Agrees (F.files folder.old) cache.old → OnDamage result (IsLeafDamageOf (F.files folder.old)) }
+    ensures whole { IsTrue F.told → Agrees (F.files folder.old) cache.old → (c : Contents) → IsRead D (F.files folder.old) c (part_of head.now live.now) → NotDamaged result }
+{
+    if !ids.contains(&head.id()) {
+        return Ok(());
+    }
+    if live.live_count() == 0 {
+        return Ok(());
+    }
+    head.index().is_spelled();
+    let mut more = read_entries(alloc, folder, cache, head, live)?;
+    entries.append(&mut more)?;
+    Ok(())
+}

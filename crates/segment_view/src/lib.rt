@@ -1,0 +1,23 @@
+//! Segments with their live bits, and what queries and merges read of them.
+//!
+//! A view of an index is a list of segments beside a buffer of entries that are in no segment yet. Here stand the queries over
+//! both, which read leaf pages by way of the cache, and the gathering of the live entries of some segments, from which a merge
+//! builds another.
+#![tactic(auto)]
+
+mod gathering;
+mod laws;
+mod nearby;
+mod pairs;
+mod segments;
+mod surveys;
+mod visiting;
+
+pub use gathering::gather;
+pub use nearby::nearest;
+pub use segments::{Memory, Segments};
+pub use surveys::{survey, survey_near};
+pub use visiting::visit;
+
+#[cfg(test)]
+mod tests;

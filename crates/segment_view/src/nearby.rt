@@ -1,0 +1,61 @@
+//! The documents nearest to a point.
+
+ghost use Rattle.std.specs.Prelude.{◌≡◌, ◌≤◌, ◌+◌, ◌++◌, ℕ, List, IsTrue, IfOk};
+ghost use Rattle.point_codec.specs.declared.entries.Near.{Near};
+ghost use Rattle.point_codec.specs.Seen.{items_of};
+ghost use Rattle.inner_pack.specs.Trees.{IndexTree};
+ghost use Rattle.page_cache.specs.Cache.{Agrees};
+ghost use Rattle.page_cache.specs.Causes.{HasPageCause};
+ghost use Rattle.page_cache.specs.Evidence.{OnDamage, NotDamaged};
+ghost use Rattle.segment_file.specs.Damages.{IsLeafDamageOf};
+ghost use Rattle.documents.specs.NearestEntries.{IsNearest, nears_of};
+ghost use Rattle.nearest_query.specs.Segments.{AreNearLeaves, HaveTrees, IsSegmentDamage, bound_of};
+ghost use Rattle.segment_view.specs.Parts.{Contents, AreRead, heads_of, ids_of, live_in_parts};
+ghost use Rattle.segment_view.specs.Calm.{IsCalm};
+
+use crate::segments::Segments;
+use outer_io::Pages;
+use page_cache::{PageCache, PageFault};
+use point_codec::{Entry, Near, Point};
+use std::alloc::Global;
+
+/// The `k` numbers that are nearest to a point among the live entries of the segments and those of the buffer, the nearest
+/// first, each with the least squared distance of its entries: all numbers, where there are fewer than `k`. Of equally near
+/// ones the smaller comes first. `k` is 1 to 10,000.
+///
+/// Only leaves whose cell is as near as the last number found are read. The answer may be a damage of a leaf that had to be read, Failed
+/// and Memory.
+pub fn nearest<const D: usize, F: Pages>(
+    alloc: Global,
+    segments: &Segments<D>,
+    buffer: &[Entry<D>],
+    cache: &mut PageCache,
+    folder: &mut F,
+    at: &Point<D>,
+    k: u16,
+) -> Result<Vec<Near>, PageFault>
+    requires some { 1 ≤ k }
+    requires few { k ≤ 10000 }
+    ensures answer { IsTrue F.told → Agrees (F.files folder.old) cache.old → (c : Contents) → AreRead D (F.files folder.old) c segments.now
+        → IfOk result (λ v. IsNearest k (nears_of at.now.c (live_in_parts c segments.now ++ items_of buffer.now)) v.items) }
+    ensures reads { IsTrue F.told → Agrees (F.files folder.old) cache.old → (c : Contents) → AreRead D (F.files folder.old) c segments.now
+        → (found : List Near) → IsNearest k (nears_of at.now.c (live_in_parts c segments.now ++ items_of buffer.now)) found
+        → (leaves : ℕ) → AreNearLeaves D at.now.c (bound_of k found) (heads_of segments.now) leaves → F.reads folder.new ≤ F.reads folder.old + leaves }
+    ensures calm { IsCalm F.told (F.files folder.old) (F.files folder.new) cache.old cache.new (ids_of segments.now) }
+    // What an error says.
+    ensures cause { HasPageCause (F.faults folder.old) (F.faults folder.new) result }
+    ensures shown { (trees : ℕ → IndexTree) → HaveTrees D (heads_of segments.now) trees → OnDamage result (IsSegmentDamage D (heads_of segments.now) trees) }
+    ensures damage { IsTrue F.told → Agrees (F.files folder.old) cache.old → OnDamage result (IsLeafDamageOf (F.files folder.old)) }
+    ensures whole { IsTrue F.told → Agrees (F.files folder.old) cache.old → (c : Contents) → AreRead D (F.files folder.old) c segments.now → NotDamaged result }
+{
+    nearest_query::nearest(
+        alloc,
+        segments.heads(),
+        segments.lives(),
+        buffer,
+        cache,
+        folder,
+        at,
+        k,
+    )
+}

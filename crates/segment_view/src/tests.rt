@@ -1,0 +1,265 @@
+//! Three segments of one dimension beside a buffer, with answers that were reckoned by hand.
+
+use super::{Segments, gather, nearest, survey, survey_near, visit};
+use bkd_reader::Tally;
+use cell_relate::BoxShape;
+use live_bits::LiveBits;
+use outer_io::{FileName, MemFolder};
+use page_cache::{PageCache, PageFault, pages_of};
+use point_codec::{Entry, Near, Point};
+use segment_file::open_segment;
+use std::test::Fail;
+
+/// A segment with leaves of two entries: its id, the head's fields, the index, the leaves and the live numbers.
+struct Stored {
+    id: u64,
+    fields: [u8; 28],
+    index: &'static [u8],
+    leaves: &'static [u8],
+    live: &'static [u32],
+}
+
+/// 0 at 5 and 1 at 7; 2 and 3 at 7; 4 at 7.
+const FIVE: Stored = Stored {
+    id: 7,
+    fields: [
+        0x42, 0x4b, 0x44, 0x50, 0x53, 0x45, 0x47, 0x32, 1, 3, 0, 2, 0, 0, 0, 5, 0, 0, 0, 3, 0, 0,
+        0, 44, 0, 0, 0, 1,
+    ],
+    index: &[
+        0x80, 0, 0, 5, 0x80, 0, 0, 7, 3, 7, 0, 21, 22, 4, 0, 12, 9, 12, 0x80, 0, 0, 5, 0x80, 0, 0,
+        7, 9, 0x80, 0, 0, 7, 0x80, 0, 0, 7, 9, 0x80, 0, 0, 7, 0x80, 0, 0, 7,
+    ],
+    leaves: &[
+        0, 2, 0, 0, 3, 0x80, 0, 0, 0, 0, 5, 7, 0, 2, 0, 2, 4, 0x80, 0, 0, 7, 0, 1, 0, 4, 4, 0x80,
+        0, 0, 7,
+    ],
+    live: &[0, 1, 2, 3, 4],
+};
+
+/// 6 at 10.
+const ONE: Stored = Stored {
+    id: 8,
+    fields: [
+        0x42, 0x4b, 0x44, 0x50, 0x53, 0x45, 0x47, 0x32, 1, 3, 0, 2, 0, 0, 0, 1, 0, 0, 0, 1, 0, 0,
+        0, 17, 0, 0, 0, 1,
+    ],
+    index: &[
+        0x80, 0, 0, 10, 0x80, 0, 0, 10, 9, 0x80, 0, 0, 10, 0x80, 0, 0, 10,
+    ],
+    leaves: &[0, 1, 0, 6, 4, 0x80, 0, 0, 10],
+    live: &[6],
+};
+
+/// 5 at 1 and at 9.
+const TWICE: Stored = Stored {
+    id: 9,
+    fields: [
+        0x42, 0x4b, 0x44, 0x50, 0x53, 0x45, 0x47, 0x32, 1, 3, 0, 2, 0, 0, 0, 2, 0, 0, 0, 1, 0, 0,
+        0, 17, 0, 0, 0, 1,
+    ],
+    index: &[
+        0x80, 0, 0, 1, 0x80, 0, 0, 9, 14, 0x80, 0, 0, 1, 0x80, 0, 0, 9,
+    ],
+    leaves: &[0, 2, 1, 5, 0, 0, 3, 0x80, 0, 0, 0, 0, 1, 9],
+    live: &[5],
+};
+
+/// 7 at 6, and 8 at 20.
+const BUFFER: [Entry<1>; 2] = [
+    Entry {
+        doc: 7,
+        point: Point { c: [6] },
+    },
+    Entry {
+        doc: 8,
+        point: Point { c: [20] },
+    },
+];
+
+/// The ends of a box, the hits, how often it is asked for a point, and what a survey tells of it.
+type Row = ((i32, i32), &'static [u32], u64, Tally);
+
+const ROWS: [Row; 3] = [
+    (
+        (0, 10),
+        &[0, 1, 2, 3, 4, 5, 6, 7],
+        2,
+        Tally {
+            tested: 0,
+            touched: 5,
+            leaves: 5,
+        },
+    ),
+    (
+        (6, 9),
+        &[1, 2, 3, 4, 5, 7],
+        6,
+        Tally {
+            tested: 4,
+            touched: 4,
+            leaves: 5,
+        },
+    ),
+    (
+        (11, 12),
+        &[],
+        2,
+        Tally {
+            tested: 0,
+            touched: 0,
+            leaves: 5,
+        },
+    ),
+];
+
+/// Puts the segment into the folder and among the others.
+fn store(
+    rt: &HostRuntime,
+    folder: &mut MemFolder,
+    segments: &mut Segments<1>,
+    segment: &Stored,
+) -> Result<(), Fail> {
+    let mut body = segment.fields.to_vec(rt.alloc())?;
+    body.resize(4064, 0)?;
+    body.extend_from_slice(segment.index)?;
+    body.resize(8128, 0)?;
+    body.extend_from_slice(segment.leaves)?;
+    body.resize(12192, 0)?;
+    let name = FileName::Segment(segment.id);
+    let bytes = pages_of(rt.alloc(), &name, body.as_slice())?;
+    folder.put(name, bytes)?;
+    let head = open_segment(rt.alloc(), folder, segment.id)?;
+    let live = LiveBits::of_docs(rt.alloc(), segment.live)?;
+    assert_eq!(rt; segments.has(head.id()), false);
+    Ok(segments.insert(head, live)?)
+}
+
+/// The three segments and the folder that holds them.
+fn three(rt: &HostRuntime) -> Result<(MemFolder, Segments<1>), Fail> {
+    let mut folder = MemFolder::new(rt.alloc(), Vec::new(rt.alloc()));
+    let mut segments = Segments::new(rt.alloc());
+    store(rt, &mut folder, &mut segments, &TWICE)?;
+    store(rt, &mut folder, &mut segments, &FIVE)?;
+    store(rt, &mut folder, &mut segments, &ONE)?;
+    Ok((folder, segments))
+}
+
+/// The ids of the segments.
+fn ids(rt: &HostRuntime, segments: &Segments<1>) -> Result<Vec<u64>, Fail> {
+    let mut ids = Vec::new(rt.alloc());
+    for head in segments.heads() {
+        ids.push(head.id())?;
+    }
+    Ok(ids)
+}
+
+#[test]
+fn segments_stand_by_their_ids(rt: HostRuntime) -> Result<(), Fail> {
+    let (_, mut segments) = three(&rt)?;
+    assert_eq!(rt; ids(&rt, &segments)?.as_slice(), [7, 8, 9].as_slice());
+    let sizes = segments.sizes(rt.alloc())?;
+    assert_eq!(rt; sizes.as_slice(), [5, 1, 2].as_slice());
+    let before = segments.copy(rt.alloc())?;
+    assert_eq!(rt; (segments.clear(2), segments.clear(2)), (true, false));
+    assert_eq!(rt; (segments.is_live(2), before.is_live(2)), (false, true));
+    segments.remove(&[8, 3]);
+    assert_eq!(rt; ids(&rt, &segments)?.as_slice(), [7, 9].as_slice());
+    assert_eq!(rt; ids(&rt, &before)?.as_slice(), [7, 8, 9].as_slice());
+    Ok(())
+}
+
+#[test]
+fn what_a_box_has_and_costs(rt: HostRuntime) -> Result<(), Fail> {
+    let (mut folder, segments) = three(&rt)?;
+    let mut cache = PageCache::new(rt.alloc(), 4)?;
+    for (ends, expected, tests, tally) in ROWS {
+        let mut shape = BoxShape::new(Point { c: [ends.0] }, Point { c: [ends.1] });
+        let hits = visit(
+            rt.alloc(),
+            &segments,
+            &BUFFER,
+            &mut cache,
+            &mut folder,
+            &mut shape,
+        )?;
+        assert_eq!(rt; hits.as_slice(), expected, "{ends:?}");
+        assert_eq!(rt; shape.tests(), tests, "{ends:?}");
+        assert_eq!(rt; survey(&segments, &mut shape), tally, "{ends:?}");
+        assert_eq!(rt; shape.tests(), tests, "a survey of {ends:?} tests");
+    }
+    Ok(())
+}
+
+#[test]
+fn live_entries_of_some(rt: HostRuntime) -> Result<(), Fail> {
+    let (mut folder, mut segments) = three(&rt)?;
+    let mut cache = PageCache::new(rt.alloc(), 4)?;
+    segments.clear(2);
+    segments.clear(6);
+    // segment 8 has nothing live, so it isn't read
+    folder.plan([2].to_vec(rt.alloc())?, None);
+    let entries = gather(
+        rt.alloc(),
+        &segments,
+        &[9, 8, 7, 99],
+        &mut cache,
+        &mut folder,
+    )?;
+    let mut told = Vec::new(rt.alloc());
+    for entry in &entries {
+        told.push((entry.doc, entry.point.c[0]))?;
+    }
+    assert_eq!(rt;
+        told.as_slice(),
+        [(0, 5), (1, 7), (3, 7), (4, 7), (5, 1), (5, 9)].as_slice()
+    );
+    Ok(())
+}
+
+#[test]
+fn the_nearest_of_segments_and_buffer(rt: HostRuntime) -> Result<(), Fail> {
+    let (mut folder, segments) = three(&rt)?;
+    let mut cache = PageCache::new(rt.alloc(), 4)?;
+    let at = Point { c: [8] };
+    let found = nearest(
+        rt.alloc(),
+        &segments,
+        &BUFFER,
+        &mut cache,
+        &mut folder,
+        &at,
+        3,
+    )?;
+    let expected = [
+        Near { doc: 1, dist2: 1 },
+        Near { doc: 2, dist2: 1 },
+        Near { doc: 3, dist2: 1 },
+    ];
+    assert_eq!(rt; found.as_slice(), expected.as_slice());
+    assert_eq!(rt; survey_near(&segments, &at, Some(1)), 4);
+    assert_eq!(rt; survey_near(&segments, &at, None), 5);
+    Ok(())
+}
+
+#[test]
+fn a_folder_that_fails(rt: HostRuntime) -> Result<(), Fail> {
+    let (mut folder, segments) = three(&rt)?;
+    let mut cache = PageCache::new(rt.alloc(), 4)?;
+    folder.plan([1].to_vec(rt.alloc())?, None);
+    let mut shape = BoxShape::new(Point { c: [0] }, Point { c: [10] });
+    let hits = visit(
+        rt.alloc(),
+        &segments,
+        &BUFFER,
+        &mut cache,
+        &mut folder,
+        &mut shape,
+    );
+    let failed = match hits {
+        Err(PageFault::Failed) => true,
+        _ => false,
+    };
+    assert_eq!(rt; failed, true);
+    Ok(())
+}

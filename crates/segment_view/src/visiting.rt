@@ -1,0 +1,143 @@
+//! The documents that a shape has.
+
+ghost use Rattle.std.specs.Prelude.{◌≡◌, ◌≤◌, ◌+◌, ◌*◌, ◌++◌, ℕ, [], ◌∷◌, length, IsTrue, IfOk, OnOk};
+ghost use Rattle.std.specs.List.Sorted.{IsStrictlyIncreasing};
+ghost use Rattle.point_codec.specs.Points.{Region};
+ghost use Rattle.point_codec.specs.Seen.{items_of};
+ghost use Rattle.inner_pack.specs.Places.{front};
+ghost use Rattle.inner_pack.specs.Trees.{IndexTree};
+ghost use Rattle.inner_pack.specs.Bodies.{HasTree};
+ghost use Rattle.page_cache.specs.Cache.{Agrees};
+ghost use Rattle.page_cache.specs.Causes.{HasPageCause};
+ghost use Rattle.page_cache.specs.Evidence.{OnDamage, NotDamaged};
+ghost use Rattle.segment_file.specs.Damages.{IsLeafDamage, IsLeafDamageOf};
+ghost use Rattle.documents.specs.Entries.{numbers_found};
+ghost use Rattle.nearest_query.specs.Segments.{HaveTrees, IsSegmentDamage};
+ghost use Rattle.segment_view.specs.Parts.{Contents, IsRead, AreRead, part_of, heads_of, ids_of, live_in_parts};
+ghost use Rattle.segment_view.specs.Costs.{leaves_in, AreTested, AreTouched};
+ghost use Rattle.segment_view.specs.Found.{AreFound};
+ghost use Rattle.segment_view.specs.Calm.{IsCalm};
+
+use crate::segments::Segments;
+use bkd_reader::intersect;
+use cell_relate::Shape;
+use live_bits::LiveBits;
+use outer_io::Pages;
+use page_cache::{PageCache, PageFault};
+use point_codec::Entry;
+use segment_file::SegmentHead;
+use std::alloc::{AllocError, Global};
+
+/// The numbers of the live entries of the segments and of the entries of the buffer that the shape has, each once and ascending.
+///
+/// Only entries of the buffer and of leaves whose own cell the shape crosses are tested, only leaves whose own cell is not outside are read,
+/// and a kept page is found without a read. The answer may be a damage of a leaf that had to be read, Failed and Memory.
+pub fn visit<const D: usize, S: Shape<D>, F: Pages>(
+    alloc: Global,
+    segments: &Segments<D>,
+    buffer: &[Entry<D>],
+    cache: &mut PageCache,
+    folder: &mut F,
+    shape: &mut S,
+) -> Result<Vec<u32>, PageFault>
+    ensures found { IsTrue F.told → Agrees (F.files folder.old) cache.old → (c : Contents) → AreRead D (F.files folder.old) c segments.now
+        → IfOk result (λ v. AreFound (S.has shape.old) (live_in_parts c segments.now ++ items_of buffer.now) v.items) }
+    ensures rises { IfOk result (λ v. IsStrictlyIncreasing v.items) }
+    // What it costs, over every folder.
+    ensures tests { (n : ℕ) → AreTested D (S.crosses shape.old) (heads_of segments.now) n → S.tests shape.new ≤ S.tests shape.old + n + length buffer.now }
+    ensures compares { S.compares shape.new ≤ S.compares shape.old + 2 * leaves_in (heads_of segments.now) }
+    ensures reads { (n : ℕ) → AreTouched D (S.has shape.old) (S.crosses shape.old) (heads_of segments.now) n → F.reads folder.new ≤ F.reads folder.old + n }
+    // What stays.
+    ensures has { S.has shape.new ≡ S.has shape.old }
+    ensures crosses { S.crosses shape.new ≡ S.crosses shape.old }
+    ensures calm { IsCalm F.told (F.files folder.old) (F.files folder.new) cache.old cache.new (ids_of segments.now) }
+    // What an error says.
+    ensures cause { HasPageCause (F.faults folder.old) (F.faults folder.new) result }
+    ensures shown { (trees : ℕ → IndexTree) → HaveTrees D (heads_of segments.now) trees → OnDamage result (IsSegmentDamage D (heads_of segments.now) trees) }
+    ensures damage { IsTrue F.told → Agrees (F.files folder.old) cache.old → OnDamage result (IsLeafDamageOf (F.files folder.old)) }
+    ensures whole { IsTrue F.told → Agrees (F.files folder.old) cache.old → (c : Contents) → AreRead D (F.files folder.old) c segments.now → NotDamaged result }
+{
+    let mut hits = Vec::new(alloc);
+    visit_segments(alloc, segments, cache, folder, shape, &mut hits)?;
+    visit_buffer(buffer, shape, &mut hits)?;
+    hits.sort_unstable();
+    hits.dedup();
+    Ok(hits)
+}
+
+/// Appends the numbers of the live entries of the segments that the shape has.
+fn visit_segments<const D: usize, S: Shape<D>, F: Pages>(
+    alloc: Global,
+    segments: &Segments<D>,
+    cache: &mut PageCache,
+    folder: &mut F,
+    shape: &mut S,
+    hits: &mut Vec<u32>,
+) -> Result<(), PageFault>
+    ensures found { IsTrue F.told → Agrees (F.files folder.old) cache.old → (c : Contents) → AreRead D (F.files folder.old) c segments.now
+        → OnOk result (hits.new.items ≡ hits.old.items ++ numbers_found (S.has shape.old) (live_in_parts c segments.now)) }
+    ensures tests { (n : ℕ) → AreTested D (S.crosses shape.old) (heads_of segments.now) n → S.tests shape.new ≤ S.tests shape.old + n }
+    ensures compares { S.compares shape.new ≤ S.compares shape.old + 2 * leaves_in (heads_of segments.now) }
+    ensures reads { (n : ℕ) → AreTouched D (S.has shape.old) (S.crosses shape.old) (heads_of segments.now) n → F.reads folder.new ≤ F.reads folder.old + n }
+    ensures has { S.has shape.new ≡ S.has shape.old }
+    ensures crosses { S.crosses shape.new ≡ S.crosses shape.old }
+    ensures calm { IsCalm F.told (F.files folder.old) (F.files folder.new) cache.old cache.new (ids_of segments.now) }
+    ensures cause { HasPageCause (F.faults folder.old) (F.faults folder.new) result }
+    ensures shown { (trees : ℕ → IndexTree) → HaveTrees D (heads_of segments.now) trees → OnDamage result (IsSegmentDamage D (heads_of segments.now) trees) }
+    ensures damage { IsTrue F.told → Agrees (F.files folder.old) cache.old → OnDamage result (IsLeafDamageOf (F.files folder.old)) }
+    ensures whole { IsTrue F.told → Agrees (F.files folder.old) cache.old → (c : Contents) → AreRead D (F.files folder.old) c segments.now → NotDamaged result }
+{
+    for i in 0..segments.len() {
+        let (head, live) = segments.part(i);
+        visit_one(alloc, head, live, cache, folder, shape, hits)?;
+    }
+    Ok(())
+}
+
+/// Appends the numbers of the live entries of a segment that the shape has.
+fn visit_one<const D: usize, S: Shape<D>, F: Pages>(
+    alloc: Global,
+    head: &SegmentHead<D>,
+    live: &LiveBits,
+    cache: &mut PageCache,
+    folder: &mut F,
+    shape: &mut S,
+    hits: &mut Vec<u32>,
+) -> Result<(), PageFault>
+    ensures found { IsTrue F.told → Agrees (F.files folder.old) cache.old → (c : Contents) → IsRead D (F.files folder.old) c (part_of head.now live.now)
+        → OnOk result (hits.new.items ≡ hits.old.items ++ numbers_found (S.has shape.old) (live_in_parts c (part_of head.now live.now ∷ []))) }
+    ensures tests { (n : ℕ) → AreTested D (S.crosses shape.old) (head.now ∷ []) n → S.tests shape.new ≤ S.tests shape.old + n }
+    ensures compares { S.compares shape.new ≤ S.compares shape.old + 2 * head.now.index.leaves }
+    ensures reads { (n : ℕ) → AreTouched D (S.has shape.old) (S.crosses shape.old) (head.now ∷ []) n → F.reads folder.new ≤ F.reads folder.old + n }
+    ensures has { S.has shape.new ≡ S.has shape.old }
+    ensures crosses { S.crosses shape.new ≡ S.crosses shape.old }
+    ensures calm { IsCalm F.told (F.files folder.old) (F.files folder.new) cache.old cache.new (head.now.id ∷ []) }
+    ensures cause { HasPageCause (F.faults folder.old) (F.faults folder.new) result }
+    ensures shown { (root : Region) (t : IndexTree) → HasTree D head.now.index root t → OnDamage result (IsLeafDamage D head.now 0 front t) }
+    ensures damage { IsTrue F.told → Agrees (F.files folder.old) cache.old → OnDamage result (IsLeafDamageOf (F.files folder.old)) }
+    ensures whole { IsTrue F.told → Agrees (F.files folder.old) cache.old → (c : Contents) → IsRead D (F.files folder.old) c (part_of head.now live.now) → NotDamaged result }
+{
+    head.index().is_spelled();
+    intersect(alloc, head, cache, folder, shape, live, hits)
+}
+
+/// Appends the numbers of the buffer's entries that the shape has, for each of which it is asked.
+fn visit_buffer<const D: usize, S: Shape<D>>(
+    buffer: &[Entry<D>],
+    shape: &mut S,
+    hits: &mut Vec<u32>,
+) -> Result<(), AllocError>
+    ensures found { OnOk result (hits.new.items ≡ hits.old.items ++ numbers_found (S.has shape.old) (items_of buffer.now)) }
+    ensures tests { S.tests shape.new ≤ S.tests shape.old + length buffer.now }
+    ensures compares { S.compares shape.new ≡ S.compares shape.old }
+    ensures has { S.has shape.new ≡ S.has shape.old }
+    ensures crosses { S.crosses shape.new ≡ S.crosses shape.old }
+{
+    for entry in buffer {
+        if !shape.contains(&entry.point) {
+            continue;
+        }
+        hits.push(entry.doc)?;
+    }
+    Ok(())
+}
