@@ -21,18 +21,22 @@ dead s n are out =
     let within = are.within k d lt in
     ne_eqb (get_or s.live k d) n (λ e. elim out [ inl below ↦ omega (arith, within.0, e) | inr past ↦ omega (arith, within.1, e) ]))
 
+-- numbers have 24 bits
+pub dead_above : (s : LiveSet) (n : ℕ) → IsLiveSet s → 2 ^ 24 ≤ n → is_live s n ≡ false
+dead_above s n are high = let limit = are.limit in dead s n are (inr (omega arith))
+
 -- ---- words
 
 no_bit : (word k : ℕ) → word ≡ 0 → has_bit word k ≡ false
 no_bit word k e = ap (λ (w : ℕ). has_bit w k) e ∙ ap (λ (x : ℕ). nat_eq x 1) (bit_at-zero k)
 
 -- what a word that isn't zero has first
-pub record IsFirstBit (word k : ℕ) : Type 0 where
+record IsFirstBit (word k : ℕ) : Type 0 where
   pub within : k < 64
   pub is_set : has_bit word k ≡ true
   pub before : (j : ℕ) → j < k → has_bit word j ≡ false
 
-pub first_bit : (word : ℕ) → 0 < word → word < 2 ^ 64 → IsFirstBit word (trailing_zeros w64 word)
+first_bit : (word : ℕ) → 0 < word → word < 2 ^ 64 → IsFirstBit word (trailing_zeros w64 word)
 first_bit word some fits =
     let zeros = bit_at-trailing_zeros w64 word some fits in
     record {
@@ -57,17 +61,19 @@ pub record IsMarked (old new : List ℕ) (s : LiveSet) (to : ℕ) : Type 0 where
   pub joined : (n : ℕ) → is_marked new n ≡ (is_marked old n || (nat_lt n to && is_live s n))
   pub once : (n : ℕ) → n < to → (is_marked old n && is_live s n) ≡ false
 
--- one more word
-pub record IsMarkedWord (old new : List ℕ) (at word both : ℕ) : Type 0 where
-  pub were : (k : ℕ) → k < 64 → has_bit both k ≡ (is_marked old (64 * at + k) && has_bit word k)
-  pub after : (n : ℕ) → is_marked new n ≡ (is_marked old n || (nat_eq (n / 64) at && has_bit word (n % 64)))
+-- what marking one more word meets and leaves
+abbrev Met : List ℕ → ℕ → ℕ → ℕ → Type 0
+Met marks at word both = (k : ℕ) → k < 64 → has_bit both k ≡ (is_marked marks (64 * at + k) && has_bit word k)
+
+abbrev Joined : List ℕ → List ℕ → ℕ → ℕ → Type 0
+Joined marks new at word = (n : ℕ) → is_marked new n ≡ (is_marked marks n || (nat_eq (n / 64) at && has_bit word (n % 64)))
 
 module _ (old marks : List ℕ) (s : LiveSet) (at : ℕ) (h : IsMarked old marks s (64 * at)) where
   -- the marks from a place on are as before
   still : (n : ℕ) → 64 * at ≤ n → is_marked marks n ≡ is_marked old n
   still n high = h.joined n ∙ ap (λ (b : Bool). is_marked old n || (b && is_live s n)) (le-ltb n (64 * at) high) ∙ or-false (is_marked old n)
 
-  module _ (new : List ℕ) (word both : ℕ) (is : IsWord s (64 * at) word) (w : IsMarkedWord marks new at word both) where
+  module _ (new : List ℕ) (word both : ℕ) (is : IsWord s (64 * at) word) (were : Met marks at word both) (after : Joined marks new at word) where
     word_of : (n : ℕ) → 64 * at ≤ n → n < 64 * (at + 1) → has_bit word (n % 64) ≡ is_live s n
     word_of n high low =
         let bit : n % 64 ≡ n - 64 * at = omega arith in
@@ -78,13 +84,13 @@ module _ (old marks : List ℕ) (s : LiveSet) (at : ℕ) (h : IsMarked old marks
     met n high low =
         let bit : n - 64 * at ≡ n % 64 = omega arith in
         let same : 64 * at + (n - 64 * at) ≡ n = omega arith in
-        w.were (n - 64 * at) (omega arith)
+        were (n - 64 * at) (omega arith)
         ∙ (λ i. is_marked marks (same i) && has_bit word (bit i))
         ∙ (λ i. still n high i && word_of n high low i)
 
     joined_more : (n : ℕ) → is_marked new n ≡ (is_marked old n || (nat_lt n (64 * (at + 1)) && is_live s n))
     joined_more n =
-        w.after n
+        after n
         ∙ elim (cases_lt n (64 * at)) [
           | inl low ↦
               let apart : nat_eq (n / 64) at ≡ false = ne_eqb (n / 64) at (λ e. omega (arith, low, e)) in
@@ -113,7 +119,10 @@ module _ (old marks : List ℕ) (s : LiveSet) (at : ℕ) (h : IsMarked old marks
     }
 
     -- where numbers are met the first of them is answered, if it is below the limit
-    module _ (first : IsFirstBit both (trailing_zeros w64 both)) where
+    module _ (some : 0 < both) (fits : both < 2 ^ 64) where
+      first : IsFirstBit both (trailing_zeros w64 both)
+      first = first_bit both some fits
+
       pub once_before : (n : ℕ) → n < 64 * at + trailing_zeros w64 both → (is_marked old n && is_live s n) ≡ false
       once_before n lt = elim (cases_lt n (64 * at)) [
         | inl low ↦ h.once n low
@@ -179,16 +188,17 @@ dead_more s from at word h is none n le lt = elim (cases_lt n at) [
   | inr high ↦ live_at s at word n is high lt ∙ no_bit word (n - at) none
 ]
 
-pub dead_before : (s : LiveSet) (from at word : ℕ) → AreDead s from at → IsWord s at word → IsFirstBit word (trailing_zeros w64 word) → AreDead s from (at + trailing_zeros w64 word)
-dead_before s from at word h is first n le lt = elim (cases_lt n at) [
+pub dead_before : (s : LiveSet) (from at word : ℕ) → AreDead s from at → IsWord s at word → 0 < word → word < 2 ^ 64 → AreDead s from (at + trailing_zeros w64 word)
+dead_before s from at word h is some fits n le lt = elim (cases_lt n at) [
   | inl low ↦ h n le low
   | inr high ↦
+      let first = first_bit word some fits in
       let within = first.within in
       live_at s at word n is high (omega arith) ∙ first.before (n - at) (omega arith)
 ]
 
-pub live_there : (s : LiveSet) (at word : ℕ) → IsWord s at word → IsFirstBit word (trailing_zeros w64 word) → is_live s (at + trailing_zeros w64 word) ≡ true
-live_there s at word is first = sym (is (trailing_zeros w64 word) first.within) ∙ first.is_set
+pub live_there : (s : LiveSet) (at word : ℕ) → IsWord s at word → 0 < word → word < 2 ^ 64 → is_live s (at + trailing_zeros w64 word) ≡ true
+live_there s at word is some fits = let first = first_bit word some fits in sym (is (trailing_zeros w64 word) first.within) ∙ first.is_set
 
 pub dead_all : (s : LiveSet) (from to limit : ℕ) → IsLiveSet s → AreDead s from to → min limit (s.base + s.span) ≤ to → AreDead s from limit
 dead_all s from to limit are h end n le lt = elim (cases_lt n to) [
@@ -197,6 +207,9 @@ dead_all s from to limit are h end n le lt = elim (cases_lt n to) [
 ]
 
 -- ---- sets one after another
+
+abbrev one_if : Bool → ℕ
+one_if b = cond b 1 0
 
 pub places_more : (n : ℕ) (sets : List LiveSet) (i : ℕ) (s : LiveSet) → i < length sets → s ≡ get_or sets i s → places n (take (i + 1) sets) ≡ places n (take i sets) + cond (is_live s n) 1 0
 places_more n sets i s lt is =
@@ -234,7 +247,7 @@ counted_more sets i next limit r s old new lt is h le once found after = record 
   found = λ under. elim (cases_lt r limit) [
     | inl low ↦
         let both = and_parts (is_marked old r) (is_live s r) (found low) in
-        omega (arith, places_more r sets i s lt is, h.counts r low, ap (λ (b : Bool). cond b 1 0) both.0, ap (λ (b : Bool). cond b 1 0) both.1)
+        omega (arith, places_more r sets i s lt is, h.counts r low, ap one_if both.0, ap one_if both.1)
     | inr high ↦
         let same : limit ≡ r = omega arith in
         let before : 2 ≤ places r (take i sets) = subst (λ (m : ℕ). 2 ≤ places m (take i sets)) same (h.found (omega arith)) in
@@ -272,7 +285,7 @@ beyond_more sets i next limit r s lt is h le none found above = record {
   found = λ under. elim (cases_lt r limit) [
     | inl low ↦
         let there = found low in
-        (there.0, omega (arith, places_more r sets i s lt is, ap (λ (b : Bool). cond b 1 0) there.1))
+        (there.0, omega (arith, places_more r sets i s lt is, ap one_if there.1))
     | inr high ↦
         let same : limit ≡ r = omega arith in
         let before : (next ≤ r) × (1 ≤ places r (take i sets)) = subst (λ (m : ℕ). (next ≤ m) × (1 ≤ places m (take i sets))) same (h.found (omega arith)) in

@@ -1,5 +1,5 @@
 -- What holds of those entries whose numbers others have too, in any order, and of all entries.
-use Rattle.std.proofs.Common.{◌≡◌, ℕ, ◌+◌, ◌-◌, ◌<◌, ◌≤◌, Bool, true, false, eqb, cond, List, [], ◌∷◌, length, map, refl, sym, ap, subst, ◌∙◌, inl, inr, arith}
+use Rattle.std.proofs.Common.{◌≡◌, ℕ, ◌+◌, ◌-◌, ◌<◌, ◌≤◌, Bool, true, false, eqb, cond, List, [], ◌∷◌, length, map, refl, sym, ap, subst, ◌∙◌, inl, inr, arith, Option, Some, None, IfNone}
 use Rattle.std.specs.List.{filter, sum_by, count_by}
 use Rattle.std.specs.List.Sorted.{IsPermutation}
 use Rattle.std.proofs.lemmas.Bool.{cases_Bool, cases_lt, eq-eqb}
@@ -31,7 +31,7 @@ fewer p q xs =
 as_many : (p q : Item → Bool) (xs : List Item) → ((x : Item) → q x ≡ true → p x ≡ true) → count_by q (filter p xs) ≡ count_by q xs
 as_many p q xs passes = sum_by-filter (λ (x : Item). one_if (q x)) p xs ∙ (λ i. sum_by (λ x. each x i) xs)
   where
-    none : (b : Bool) → cond b 0 0 ≡ 0
+    none : (b : Bool) → ◌≡◌ {A = ℕ} (cond b 0 0) 0
     none true = refl
     none false = refl
 
@@ -65,29 +65,40 @@ pub lone : (xs : List Item) → ((n : ℕ) → count_of n xs ≤ 1) → NoneTwic
 unfolding NoneTwice
 lone xs one = (λ x. omega (arith, no_more x xs, one x.doc), λ n. omega (arith, one n))
 
-module _ (p : Item → Bool) (xs ys : List Item) (moved : IsPermutation (filter p xs) ys) where
-  same_count : (q : Item → Bool) → count_by q ys ≡ count_by q (filter p xs)
-  same_count q = sum_by-IsPermutation (λ (x : Item). one_if (q x)) (filter p xs) ys moved
+-- entries in another order
+module _ (xs ys : List Item) (moved : IsPermutation xs ys) where
+  same_count : (q : Item → Bool) → count_by q ys ≡ count_by q xs
+  same_count q = sum_by-IsPermutation (λ (x : Item). one_if (q x)) xs ys moved
 
-  pub crowded_among : (n : ℕ) → IsCrowded n ys → IsCrowded n xs
-  crowded_among n (inl many) = inl (omega (arith, many, same_count (λ x. eqb x.doc n), fewer p (λ x. eqb x.doc n) xs))
-  crowded_among n (inr (x, is, two)) = inr (x, is, omega (arith, two, same_count (same_item x), fewer p (same_item x) xs))
+  pub crowded_back : (n : ℕ) → IsCrowded n ys → IsCrowded n xs
+  crowded_back n (inl many) = inl (omega (arith, many, same_count (λ x. eqb x.doc n)))
+  crowded_back n (inr (x, is, two)) = inr (x, is, omega (arith, two, same_count (same_item x)))
+
+  pub once_back : NoneTwice ys × AreFew ys → NoneTwice xs × AreFew xs
+  unfolding NoneTwice
+  once_back (once, few) = (λ x. omega (arith, once x, same_count (same_item x)), λ n. omega (arith, few n, same_count (λ x. eqb x.doc n)))
+
+-- those that p keeps
+module _ (p : Item → Bool) (xs : List Item) where
+  pub crowded_among : (n : ℕ) → IsCrowded n (filter p xs) → IsCrowded n xs
+  crowded_among n (inl many) = inl (omega (arith, many, fewer p (λ x. eqb x.doc n) xs))
+  crowded_among n (inr (x, is, two)) = inr (x, is, omega (arith, two, fewer p (same_item x) xs))
 
   -- where p keeps the entries of each number that two have
-  pub all_fit : ((n : ℕ) → 2 ≤ count_of n xs → (x : Item) → eqb x.doc n ≡ true → p x ≡ true) → NoneTwice ys → AreFew ys → NoneTwice xs × AreFew xs
+  pub all_fit : ((n : ℕ) → 2 ≤ count_of n xs → (x : Item) → eqb x.doc n ≡ true → p x ≡ true) → NoneTwice (filter p xs) × AreFew (filter p xs) → NoneTwice xs × AreFew xs
   unfolding NoneTwice
-  all_fit keeps once few = (alone, at_most)
+  all_fit keeps (once, few) = (alone, at_most)
     where
       alone : (x : Item) → count_by (same_item x) xs ≤ 1
       alone x = elim (cases_lt 1 (count_of x.doc xs)) [
         | inr one ↦ omega (arith, no_more x xs, one)
-        | inl two ↦ omega (arith, once x, same_count (same_item x), as_many p (same_item x) xs (λ y e. keeps x.doc two y (same_number x y e)))
+        | inl two ↦ omega (arith, once x, as_many p (same_item x) xs (λ y e. keeps x.doc two y (same_number x y e)))
       ]
 
       at_most : (n : ℕ) → count_of n xs ≤ 16
       at_most n = elim (cases_lt 1 (count_of n xs)) [
         | inr one ↦ omega (arith, one)
-        | inl two ↦ omega (arith, few n, same_count (λ x. eqb x.doc n), as_many p (λ x. eqb x.doc n) xs (keeps n two))
+        | inl two ↦ omega (arith, few n, as_many p (λ x. eqb x.doc n) xs (keeps n two))
       ]
 
 -- ---- entries as items
@@ -107,3 +118,9 @@ count_entries {D} n (x ∷ xs) =
     sum_by-cons (λ (y : Item). one_if (eqb y.doc n)) (item_of x) (items_of xs)
     ∙ ap (λ (m : ℕ). one_if (eqb x.doc n) + m) (count_entries n xs)
     ∙ sym (sum_by-cons (λ (e : Entry D). one_if (eqb e.doc n)) x xs)
+
+-- ---- over answers
+
+pub IfNone_then : {X : Type 0} (r : Option X) {P Q : Type 0} → IfNone r P → (P → Q) → IfNone r Q
+IfNone_then None h f = f h
+IfNone_then (Some x) h f = h

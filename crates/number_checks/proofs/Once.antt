@@ -11,7 +11,9 @@ use Rattle.std.proofs.lemmas.List.Sums.{get_or-le-sum_by, sum_by-take-drop}
 use Rattle.point_codec.specs.Points.{Item}
 use Rattle.leaf_codec.specs.LeafOrder.{same_item, NoneTwice}
 use Rattle.leaf_codec.proofs.OrderLemmas.{count-cons}
+use Rattle.documents.specs.Entries.{MakeDocs}
 use Rattle.documents.proofs.Lists.{pairs_after, pairs_tail}
+use Rattle.number_checks.specs.Crowded.{IsCrowded}
 
 abbrev one_if : Bool → ℕ
 one_if b = cond b 1 0
@@ -77,3 +79,9 @@ pairs_from xs once i j d lt long e =
       once (get_or xs i d),
       twice (same_item (get_or xs i d)) xs i j d lt long (is_same (get_or xs i d) (get_or xs i d) refl) (is_same (get_or xs i d) (get_or xs j d) e)
     ))
+
+-- ---- documents have neither an entry twice nor too many
+
+pub never_crowded : (next n : ℕ) (xs : List Item) → IsCrowded n xs → MakeDocs next xs → ⊥
+never_crowded next n xs (inl many) make = omega (arith, many, make.few n)
+never_crowded next n xs (inr (x, is, two)) make = omega (arith, two, at_most_once xs make.once x)

@@ -124,11 +124,15 @@ fn entries_again<const D: usize>(
 
 /// A number of which one entry stands twice in the list, or of which there are more than 16 entries.
 fn crowded<const D: usize>(list: Vec<Entry<D>>) -> Option<u32>
-    ensures none { IfNone result (NoneTwice (items_of list.items) × AreFew (items_of list.items)) }
-    ensures some { IfSome result (λ number. IsCrowded number (items_of list.items)) }
+    ensures none { IfNone result (NoneTwice (items_of list.entry.items) × AreFew (items_of list.entry.items)) }
+    ensures some { IfSome result (λ number. IsCrowded number (items_of list.entry.items)) }
 {
     let mut list = list;
-    list.sort_unstable_by(|a, b| by_number(a, b));
+    list.sort_unstable_by(
+        |a, b| -> Ordering
+            ensures { result ≡ by_number (item_of a.entry.now) (item_of b.entry.now) }
+        { by_number(a, b) },
+    );
     first_crowded(list.as_slice())
 }
 

@@ -80,6 +80,7 @@ fn least_beyond(lives: &[LiveBits], next: u32) -> u32
     ensures within { result ≤ 2 ^ 24 }
     ensures before { (n : ℕ) → next ≤ n → n < result → places n lives.now ≡ 0 }
     ensures found { result < 2 ^ 24 → (next ≤ result) × (1 ≤ places result lives.now) }
+    ensures above { (n : ℕ) → 2 ^ 24 ≤ n → places n lives.now ≡ 0 }
 {
     let mut limit = LIMIT;
     for live in lives {
@@ -93,6 +94,7 @@ fn first_live(live: &LiveBits, from: u32, limit: u32) -> u32
     ensures within { result ≤ limit }
     ensures before { (n : ℕ) → from ≤ n → n < result → is_live live.now n ≡ false }
     ensures found { result < limit → (from ≤ result) × (is_live live.now result ≡ true) }
+    ensures above { (n : ℕ) → 2 ^ 24 ≤ n → is_live live.now n ≡ false }
 {
     let first = from.max(live.base());
     let end = limit.min(live.base() + live.span());
