@@ -7,3 +7,4 @@ pub mod Heads
 pub mod Bodies
 pub mod Made
 pub mod Fronts
+pub mod WordBits

@@ -25,12 +25,12 @@ and_digit zero (suc (suc v)) p q = absurd (omega arith)
 and_digit (suc zero) (suc (suc v)) p q = absurd (omega arith)
 and_digit (suc (suc u)) v p q = absurd (omega arith)
 
-or_bit : (a b j : ℕ) → nat_eq (bit_or a b / 2 ^ j % 2) 1 ≡ (nat_eq (a / 2 ^ j % 2) 1 || nat_eq (b / 2 ^ j % 2) 1)
+pub or_bit : (a b j : ℕ) → nat_eq (bit_or a b / 2 ^ j % 2) 1 ≡ (nat_eq (a / 2 ^ j % 2) 1 || nat_eq (b / 2 ^ j % 2) 1)
 or_bit a b j =
     ap (λ (x : ℕ). nat_eq (x % 2) 1) (or_shr a b j) ∙ ap (λ (x : ℕ). nat_eq x 1) (or_mod (a / 2 ^ j) (b / 2 ^ j) 1)
     ∙ or_digit (a / 2 ^ j % 2) (b / 2 ^ j % 2) (omega arith) (omega arith)
 
-and_bit : (a b j : ℕ) → nat_eq (bit_and a b / 2 ^ j % 2) 1 ≡ (nat_eq (a / 2 ^ j % 2) 1 && nat_eq (b / 2 ^ j % 2) 1)
+pub and_bit : (a b j : ℕ) → nat_eq (bit_and a b / 2 ^ j % 2) 1 ≡ (nat_eq (a / 2 ^ j % 2) 1 && nat_eq (b / 2 ^ j % 2) 1)
 and_bit a b j =
     ap (λ (x : ℕ). nat_eq (x % 2) 1) (and_shr a b j) ∙ ap (λ (x : ℕ). nat_eq x 1) (and_mod (a / 2 ^ j) (b / 2 ^ j) 1)
     ∙ and_digit (a / 2 ^ j % 2) (b / 2 ^ j % 2) (omega arith) (omega arith)

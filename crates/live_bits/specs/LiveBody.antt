@@ -7,6 +7,10 @@ use Rattle.live_bits.specs.LiveSet.{LiveSet}
 abbrev pub is_set : List ℕ → ℕ → Bool
 is_set bits i = slice_index bits (i / 8) / 2 ^ (i % 8) % 2 == 1
 
+-- bit k of the number, the lowest bit first
+abbrev pub has_bit : ℕ → ℕ → Bool
+has_bit word k = word / 2 ^ k % 2 == 1
+
 -- so many numbers from the first on
 abbrev pub numbers_from : ℕ → ℕ → List ℕ
 numbers_from first zero = []

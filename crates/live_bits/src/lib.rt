@@ -13,6 +13,7 @@ mod fault;
 mod front;
 mod laws;
 mod live;
+mod words;
 
 pub use fault::{BitsFault, Memory};
 pub use front::body_len;

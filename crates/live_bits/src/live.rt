@@ -1,15 +1,16 @@
 //! The set of live numbers.
 
-ghost use Rattle.std.specs.Prelude.{◌≡◌, ◌<◌, All, IfOk, IfErr, length, nat_eq};
+ghost use Rattle.std.specs.Prelude.{◌≡◌, ◌<◌, ◌+◌, ℕ, All, IfOk, IfErr, length, nat_eq};
 ghost use Rattle.std.specs.List.{list_any};
 ghost use Rattle.live_bits.specs.LiveSet.{is_live, without, IsLiveSet, Spans};
-ghost use Rattle.live_bits.specs.LiveBody.{IsLiveBody};
+ghost use Rattle.live_bits.specs.LiveBody.{IsLiveBody, has_bit};
 ghost use Rattle.live_bits.specs.Refusal.{Refuses};
 
 use crate::bits::{bit_at, clear_bit, count_set};
 use crate::body::{Sizes, parse, spell};
 use crate::docs::{reach, set_docs};
 use crate::fault::{BitsFault, Memory};
+use crate::words::{word_after, word_from};
 use byte_cursor::Bytes;
 use std::alloc::Global;
 use std::marker::Model;
@@ -136,6 +137,16 @@ impl LiveBits {
             None => false,
             Some(i) if i >= self.span => false,
             Some(i) => bit_at(self.bits.as_slice(), i),
+        }
+    }
+
+    /// Which of the 64 numbers from `first` on are live: bit `k` of the answer is that of `first + k`.
+    pub fn word(&self, first: u32) -> u64
+        ensures { (k : ℕ) → k < 64 → has_bit result k ≡ is_live self.now (first + k) }
+    {
+        match first.checked_sub(self.base) {
+            Some(i) => word_from(self.bits.as_slice(), i),
+            None => word_after(self.bits.as_slice(), self.base - first),
         }
     }
 

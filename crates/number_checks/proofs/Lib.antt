@@ -1,0 +1,6 @@
+pub mod Marking
+pub mod LivePlaces
+pub mod Once
+pub mod InOrder
+pub mod Moved
+pub mod Again

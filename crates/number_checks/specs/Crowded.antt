@@ -1,0 +1,31 @@
+-- Numbers with too many entries, or with one of them twice.
+use Rattle.std.specs.Prelude.{ℕ, ◌≡◌, ◌≤◌, ◌-◌, ◌⊎◌, ◌&&◌, ◌||◌, Bool, List, nat_eq, nat_le, slice_index_or}
+use Rattle.std.specs.List.{count_by}
+use Rattle.std.specs.declared.cmp.Ordering.{Ordering}
+use Rattle.std.specs.Ordering.{int_cmp, nat_cmp, is_eq, ordering_then}
+use Rattle.std.specs.Cmp.Lexicographic.{slice_cmp}
+use Rattle.point_codec.specs.Points.{Item}
+use Rattle.point_codec.specs.declared.entries.Entry.{Entry}
+use Rattle.leaf_codec.specs.LeafOrder.{item_of, same_item}
+
+-- how many of the entries have the number
+abbrev pub count_of : ℕ → List Item → ℕ
+count_of number items = count_by (λ x. nat_eq x.doc number) items
+
+-- at most 16 entries of each number, as many as a document has points
+abbrev pub AreFew : List Item → Type 0
+AreFew items = (number : ℕ) → count_of number items ≤ 16
+
+-- more than 16 entries have the number, or one of them stands twice
+abbrev pub IsCrowded : ℕ → List Item → Type 0
+IsCrowded number items = (17 ≤ count_of number items) ⊎ ((x : Item) × (x.doc ≡ number) × (2 ≤ count_by (same_item x) items))
+
+-- the order by number, and then by coordinates
+abbrev pub by_number : Item → Item → Ordering
+by_number x y = ordering_then (nat_cmp x.doc y.doc) (slice_cmp int_cmp x.at y.at)
+
+-- entry k of the list is the one before it, or has the number of the sixteenth before it
+abbrev pub repeats_at : {D : ℕ} → Entry D → List (Entry D) → ℕ → Bool
+repeats_at d xs k =
+    is_eq (by_number (item_of (slice_index_or xs (k - 1) d)) (item_of (slice_index_or xs k d)))
+    || (nat_le 16 k && nat_eq (slice_index_or xs (k - 16) d).doc (slice_index_or xs k d).doc)
