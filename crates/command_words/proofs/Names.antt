@@ -7,7 +7,7 @@ use Rattle.std.proofs.lemmas.List.{get_or-map, length-map, take_more}
 use Rattle.std.proofs.lemmas.List.Elements.{All-cons, All-nil}
 use Rattle.std.proofs.lemmas.List.Folds.{list_all-map}
 use Rattle.std.proofs.lemmas.List.Splits.{length-slice_split}
-use Rattle.command_words.specs.Commands.{are_names, checked_names, names_of}
+use Rattle.command_words.specs.Commands.{AreColumns, are_names, checked_names, names_of}
 
 abbrev pub texts : List (Bor (List ℕ)) → List (List ℕ)
 texts parts = map (λ part. part.now) parts
@@ -48,7 +48,7 @@ names_refused text names is bad =
     ap checked_names (sym is) ∙ cond-false (are_names names) (Some names) None bad
 
 pub names_within : (text : List ℕ) (names : List (List ℕ)) → names ≡ slice_split (λ b. b == 44) text → are_names names ≡ true
-    → (1 ≤ length names) × (length names ≤ 8) × All (λ name. 1 ≤ length name) names
+    → AreColumns names
 unfolding are_names
 names_within text names is good =
     let parts = and_parts _ _ good in

@@ -1,5 +1,5 @@
 -- What the words of the command line ask for: a folder, the name of a command, and the command's options, which `clap` reads.
-use Rattle.std.specs.Prelude.{ℕ, ◌==◌, ◌&&◌, Bool, true, not, nat_le, if◌then◌else◌, List, [], ◌∷◌, length, fold, find, Option, Some, None, unwrap_or, option_and_then, option_map, codes, pos}
+use Rattle.std.specs.Prelude.{ℕ, ◌≤◌, ◌==◌, ◌&&◌, Bool, true, not, nat_le, if◌then◌else◌, List, [], ◌∷◌, length, fold, find, Option, Some, None, unwrap_or, option_and_then, option_map, codes, pos, All}
 use Rattle.std.specs.List.{list_all, slice_split}
 use Rattle.std.specs.Str.{bytes_eq}
 use Rattle.std.specs.Str.Parse.{digits_value, without_leading_sign}
@@ -153,3 +153,16 @@ said (words.Load columns forks) = Load columns.items forks
 said (words.Explain cache_pages) = Explain cache_pages
 said words.Check = Check
 said (words.Generate docs seed forks) = Generate docs seed forks
+
+-- ---- the ranges
+
+abbrev pub AreColumns : List (List ℕ) → Type 0
+AreColumns names = (1 ≤ length names) × (length names ≤ 8) × All (λ name. 1 ≤ length name) names
+
+-- what is answered lies within the ranges of its options
+abbrev pub IsWithin : Words → Type 0
+IsWithin (words.Run cache_pages forks) = (1 ≤ cache_pages) × (cache_pages ≤ 65536) × (forks ≤ 6)
+IsWithin (words.Load columns forks) = AreColumns columns.items × (forks ≤ 6)
+IsWithin (words.Explain cache_pages) = (1 ≤ cache_pages) × (cache_pages ≤ 65536)
+IsWithin words.Check = Unit {0}
+IsWithin (words.Generate docs seed forks) = (1 ≤ docs) × (docs ≤ 1000000) × (1 ≤ seed) × (seed ≤ 2147483646) × (forks ≤ 6)

@@ -1,14 +1,12 @@
 -- What a parse has found for an option whose values pass a parser.
-use Rattle.std.specs.Prelude.{◌≡◌, ◌⊎◌, ◌≤◌, ℕ, List, Some, None, All, length, Bool, true, false, [], ◌∷◌, ◌&&◌, not, map, codes, is_some}
+use Rattle.std.specs.Prelude.{◌≡◌, ◌⊎◌, ℕ, List, Some, None, All, Bool, true, [], ◌∷◌, ◌&&◌, not, map, codes, is_some}
 use Rattle.std.specs.List.{list_any}
 use Rattle.std.specs.Str.{bytes_eq}
-use Rattle.clap.specs.Words.{App, Rule, Accepts, first_value, one_text, read_as, reading_of, is_simple}
+use Rattle.clap.specs.Words.{App, Rule, Accepts, first_value, one_text, read_as, reading_of}
 use Rattle.clap.specs.Faults.{is_simple_and_free}
 use Rattle.clap.specs.Facts.{parser_of_value}
 use Rattle.clap.specs.declared.builder.value_parser.ValueParser.{ValueParser}
 use Rattle.clap.specs.declared.parser.matches.Found.{Found}
-use Rattle.command_words.specs.declared.Words.{Words}
-use Rattle.command_words.specs.declared.Words.TheVariants as words
 
 -- a text that passes the parser, and is read as the parser says
 pub record HasText (found : Found) (id : List ℕ) (ignore_case : Bool) (parser : ValueParser) : Type 0 where
@@ -35,11 +33,3 @@ are_distinct (x ∷ xs) = not (list_any (bytes_eq x) xs) && are_distinct xs
 -- the command is one of which `clap` tells all, and each of its options is known by a name of its own
 abbrev pub is_plain : App → Bool
 is_plain command = is_simple_and_free command && are_distinct (codes "" ∷ codes "help" ∷ codes "version" ∷ map (λ option. option.id) command.top.rules)
-
--- what is answered is within the ranges
-abbrev pub IsWithin : Words → Type 0
-IsWithin (words.Run cache_pages forks) = (1 ≤ cache_pages) × (cache_pages ≤ 65536) × (forks ≤ 6)
-IsWithin (words.Load columns forks) = (1 ≤ length columns.items) × (length columns.items ≤ 8) × All (λ name. 1 ≤ length name) columns.items × (forks ≤ 6)
-IsWithin (words.Explain cache_pages) = (1 ≤ cache_pages) × (cache_pages ≤ 65536)
-IsWithin words.Check = Unit {0}
-IsWithin (words.Generate docs seed forks) = (1 ≤ docs) × (docs ≤ 1000000) × (1 ≤ seed) × (seed ≤ 2147483646) × (forks ≤ 6)

@@ -8,8 +8,7 @@ mod reading;
 mod tests;
 
 ghost use Rattle.std.specs.Prelude.{◌≡◌, Some, None, IfOk, Err, map, string_bytes};
-ghost use Rattle.command_words.specs.Commands.{asked, said};
-ghost use Rattle.command_words.specs.Found.{IsWithin};
+ghost use Rattle.command_words.specs.Commands.{IsWithin, asked, said};
 
 use byte_cursor::Bytes;
 use reading::{read_check, read_explain, read_generate, read_load, read_run};

@@ -1,9 +1,9 @@
 //! The options of the commands.
 
-ghost use Rattle.std.specs.Prelude.{◌≡◌, ◌≢◌, ◌≤◌, ◌==◌, false, Some, None, IfOk, IfSome, Err, All, option_map, length, map};
+ghost use Rattle.std.specs.Prelude.{◌≡◌, ◌≢◌, ◌≤◌, ◌==◌, false, Some, None, IfOk, IfSome, Err, option_map, map};
 ghost use Rattle.std.specs.List.{slice_split};
-ghost use Rattle.clap.specs.Words.{IsPlainArg, first_of, found_of, rows_of, rule_of};
-ghost use Rattle.command_words.specs.Commands.{text_option, number_option, number_of, are_names, columns_by, names_of};
+ghost use Rattle.clap.specs.Words.{first_of, found_of, rows_of, rule_of};
+ghost use Rattle.command_words.specs.Commands.{AreColumns, text_option, number_option, number_of, are_names, columns_by, names_of};
 ghost use Rattle.command_words.specs.Found.{IsFound};
 
 use crate::WordsFault;
@@ -81,7 +81,7 @@ pub(crate) fn text_option<'a>(alloc: Global, name: &'a str) -> Arg<'a>
 pub(crate) fn columns_by(alloc: Global, matches: &ArgMatches<'_>) -> Result<Vec<Bytes>, WordsFault>
     ensures names { IfOk result (λ names. columns_by (rows_of (found_of matches.now)) ≡ Some names.items) }
     ensures usage { result ≡ Err WordsFault.Usage → columns_by (rows_of (found_of matches.now)) ≡ None }
-    ensures range { IfOk result (λ names. (1 ≤ length names.items) × (length names.items ≤ 8) × All (λ name. 1 ≤ length name) names.items) }
+    ensures range { IfOk result (λ names. AreColumns names.items) }
 {
     match matches.get_str(COLUMNS) {
         Some(text) => names_of(alloc, text),
@@ -93,7 +93,7 @@ pub(crate) fn columns_by(alloc: Global, matches: &ArgMatches<'_>) -> Result<Vec<
 fn names_of(alloc: Global, text: &str) -> Result<Vec<Bytes>, WordsFault>
     ensures names { IfOk result (λ names. names_of text.now ≡ Some names.items) }
     ensures usage { result ≡ Err WordsFault.Usage → names_of text.now ≡ None }
-    ensures range { IfOk result (λ names. (1 ≤ length names.items) × (length names.items ≤ 8) × All (λ name. 1 ≤ length name) names.items) }
+    ensures range { IfOk result (λ names. AreColumns names.items) }
 {
     let parts = parts_of(alloc, text)?;
     if are_names(parts.as_slice()) {

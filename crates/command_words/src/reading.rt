@@ -2,8 +2,8 @@
 
 ghost use Rattle.std.specs.Prelude.{◌≡◌, ◌≢◌, Some, None, true, IfOk, Err, map, string_bytes};
 ghost use Rattle.clap.specs.Words.{app_of, found_of, kind_of, rows_of};
-ghost use Rattle.command_words.specs.Commands.{asked_by, command_of, said, found_by, run, load, explain, check, generate};
-ghost use Rattle.command_words.specs.Found.{AreFound, IsWithin, is_plain};
+ghost use Rattle.command_words.specs.Commands.{IsWithin, asked_by, command_of, said, found_by, run, load, explain, check, generate};
+ghost use Rattle.command_words.specs.Found.{AreFound, is_plain};
 
 use crate::options::{CACHE, DOCS, FORKS, SEED, COLUMNS, columns_by, text_option};
 use crate::{Words, WordsFault};
