@@ -1,0 +1,5 @@
+mod Finds
+mod Names
+mod Numbers
+mod Ranges
+mod Refusals

@@ -1,0 +1,168 @@
+-- What the words of the command line ask for: a folder, the name of a command, and the command's options, which `clap` reads.
+use Rattle.std.specs.Prelude.{ℕ, ◌≤◌, ◌==◌, ◌&&◌, Bool, true, not, nat_le, if◌then◌else◌, List, [], ◌∷◌, length, fold, find, Option, Some, None, unwrap_or, option_and_then, option_map, codes, pos, All}
+use Rattle.std.specs.List.{list_all, slice_split}
+use Rattle.std.specs.Str.{bytes_eq}
+use Rattle.std.specs.Str.Parse.{digits_value, without_leading_sign}
+use Rattle.clap.specs.Words.{App, Row, Rule, Kinds, new_app, new_rule, with_rule, first_of, matches_of, fault_of}
+use Rattle.clap.specs.declared.builder.value_parser.ValueParser.TheVariants as parser
+use Rattle.command_words.specs.declared.Words.{Words}
+use Rattle.command_words.specs.declared.Words.TheVariants as words
+
+-- what can be asked for
+pub data Asked : Type 0 where
+  Run : (cache forks : ℕ) → Asked
+  Load : (columns : List (List ℕ)) (forks : ℕ) → Asked
+  Explain : (cache : ℕ) → Asked
+  Check : Asked
+  Generate : (docs seed forks : ℕ) → Asked
+
+-- ---- the options
+
+-- `--name TEXT`
+abbrev pub text_option : List ℕ → Rule
+text_option name = record (new_rule name) { long = Some name }
+
+-- `--name N`, where N is a number in the range
+abbrev pub number_option : List ℕ → ℕ → ℕ → Rule
+number_option name least greatest = record (text_option name) { parser = Some (parser.Signed (pos least) (pos greatest)) }
+
+-- an option that may not be left out
+abbrev pub required : Rule → Rule
+required option = record option { required = true }
+
+abbrev pub cache : Rule
+cache = number_option (codes "cache") 1 65536
+
+abbrev pub forks : Rule
+forks = number_option (codes "forks") 0 6
+
+abbrev pub columns : Rule
+columns = required (text_option (codes "columns"))
+
+abbrev pub docs : Rule
+docs = required (number_option (codes "docs") 1 1000000)
+
+abbrev pub seed : Rule
+seed = required (number_option (codes "seed") 1 2147483646)
+
+-- ---- what is found for them
+
+-- the number that is read from a text, where the range has no negative number
+abbrev pub number_of : List ℕ → ℕ
+number_of text = digits_value 10 (without_leading_sign text)
+
+-- the number given by an option
+abbrev pub number_by : Rule → List Row → Option ℕ
+number_by option found = option_map number_of (first_of option.id found)
+
+abbrev pub cache_by : List Row → ℕ
+cache_by found = unwrap_or (number_by cache found) 1024
+
+abbrev pub forks_by : List Row → ℕ
+forks_by found = unwrap_or (number_by forks found) 1
+
+-- the names between the commas of a text: 1 to 8, none of them empty
+unfoldable pub are_names : List (List ℕ) → Bool
+are_names names = nat_le (length names) 8 && list_all (λ name. not (length name == 0)) names
+
+abbrev pub checked_names : List (List ℕ) → Option (List (List ℕ))
+checked_names names = if are_names names then Some names else None
+
+unfoldable pub names_of : List ℕ → Option (List (List ℕ))
+names_of text = checked_names (slice_split (λ b. b == 44) text)
+
+abbrev pub columns_by : List Row → Option (List (List ℕ))
+columns_by found = option_and_then names_of (first_of columns.id found)
+
+-- ---- the commands
+
+-- a command: its name, its options, and what is asked for by what is found for them
+pub record Form : Type 0 where
+  pub name : List ℕ
+  pub options : List Rule
+  pub asks : List Row → Option Asked
+
+abbrev pub run : Form
+run = record {
+  name = codes "run";
+  options = cache ∷ forks ∷ [];
+  asks = λ found. Some (Run (cache_by found) (forks_by found));
+}
+
+abbrev pub load : Form
+load = record {
+  name = codes "load";
+  options = columns ∷ forks ∷ [];
+  asks = λ found. option_map (λ names. Load names (forks_by found)) (columns_by found);
+}
+
+abbrev pub explain : Form
+explain = record {
+  name = codes "explain";
+  options = cache ∷ [];
+  asks = λ found. Some (Explain (cache_by found));
+}
+
+abbrev pub check : Form
+check = record {
+  name = codes "check";
+  options = [];
+  asks = λ found. Some Check;
+}
+
+abbrev pub generate : Form
+generate = record {
+  name = codes "generate";
+  options = docs ∷ seed ∷ forks ∷ [];
+  asks = λ found. option_and_then (λ n. option_map (λ s. Generate n s (forks_by found)) (number_by seed found)) (number_by docs found);
+}
+
+abbrev pub forms : List Form
+forms = run ∷ load ∷ explain ∷ check ∷ generate ∷ []
+
+-- ---- the words
+
+-- the form as a simple command of `clap`
+abbrev pub command_of : Form → App
+command_of form = fold with_rule (new_app form.name) form.options
+
+-- what is found, where there is no kind of error
+abbrev pub unless_refused : Kinds → List Row → Option (List Row)
+unless_refused [] found = Some found
+unless_refused (kind ∷ kinds) found = None
+
+-- what `clap` finds in the words by a command, whose own name they begin with; None where it refuses them
+unfoldable pub found_by : App → List (List ℕ) → Option (List Row)
+found_by command words = unless_refused (fault_of command words) (matches_of command words)
+
+-- what the words of a command ask for
+abbrev pub asked_by : Form → List (List ℕ) → Option Asked
+asked_by form words = option_and_then form.asks (found_by (command_of form) words)
+
+-- what the words after the program's own name ask for; None where they are those of no command
+abbrev pub asked : List (List ℕ) → Option Asked
+asked [] = None
+asked (folder ∷ []) = None
+asked (folder ∷ name ∷ options) =
+    option_and_then (λ form. asked_by form (name ∷ options)) (find (λ form. bytes_eq name form.name) forms)
+
+-- what is answered
+abbrev pub said : Words → Asked
+said (words.Run cache_pages forks) = Run cache_pages forks
+said (words.Load columns forks) = Load columns.items forks
+said (words.Explain cache_pages) = Explain cache_pages
+said words.Check = Check
+said (words.Generate docs seed forks) = Generate docs seed forks
+
+-- ---- the ranges
+
+abbrev pub AreColumns : List (List ℕ) → Type 0
+AreColumns names = (1 ≤ length names) × (length names ≤ 8) × All (λ name. 1 ≤ length name) names
+
+-- what is answered lies within the ranges of its options
+abbrev pub IsWithin : Words → Type 0
+IsWithin (words.Run cache_pages forks) = (1 ≤ cache_pages) × (cache_pages ≤ 65536) × (forks ≤ 6)
+IsWithin (words.Load columns forks) = AreColumns columns.items × (forks ≤ 6)
+IsWithin (words.Explain cache_pages) = (1 ≤ cache_pages) × (cache_pages ≤ 65536)
+IsWithin words.Check = Unit {0}
+IsWithin (words.Generate docs seed forks) = (1 ≤ docs) × (docs ≤ 1000000) × (1 ≤ seed) × (seed ≤ 2147483646) × (forks ≤ 6)

@@ -1,0 +1,87 @@
+//! The words of the command line: which command they name, and what its options say. They are read by a simple command of
+//! `clap`, and what it refuses for another cause than memory is wrong use, `--help` and `--version` among it.
+#![tactic(auto)]
+
+mod options;
+mod reading;
+#[cfg(test)]
+mod tests;
+
+ghost use Rattle.std.specs.Prelude.{◌≡◌, Some, None, IfOk, Err, map, string_bytes};
+ghost use Rattle.command_words.specs.Commands.{IsWithin, asked, said};
+
+use byte_cursor::Bytes;
+use reading::{read_check, read_explain, read_generate, read_load, read_run};
+use std::alloc::{AllocError, AllocFailed, Global};
+
+/// A command with what its options say. Every number and list is within the range of its option.
+#[derive(Debug, Drop)]
+pub enum Words {
+    /// Does the lines of a script: pages that are kept at most, 1 to 65,536, and levels of a build that fork, 0 to 6.
+    Run { cache_pages: u32, forks: u8 },
+    /// Adds the points in these columns of a CSV file: 1 to 8 names, none of them empty.
+    Load { columns: Vec<Bytes>, forks: u8 },
+    /// Counts what queries would touch.
+    Explain { cache_pages: u32 },
+    /// Looks at every file.
+    Check,
+    /// Makes an index of 1 to 1,000,000 drawn points, from a seed of 1 to 2,147,483,646.
+    Generate { docs: u32, seed: u32, forks: u8 },
+}
+
+/// Why words are no command.
+#[derive(Clone, Copy, PartialEq, Eq, Debug)]
+pub enum WordsFault {
+    /// They are not those of a command.
+    Usage,
+    /// There was not enough memory.
+    Memory,
+}
+
+impl From<AllocError> for WordsFault {
+    ghost use Rattle.command_words.specs.declared.WordsFault.TheVariants as fault;
+
+    ghost from_gives = { λ _ e. e ≡ fault.Memory };
+
+    fn from(_failed: AllocError) -> WordsFault {
+        WordsFault::Memory
+    }
+}
+
+impl<T: Drop> From<AllocFailed<T>> for WordsFault {
+    ghost use Rattle.command_words.specs.declared.WordsFault.TheVariants as fault;
+
+    ghost from_gives = { λ _ e. e ≡ fault.Memory };
+
+    fn from(_failed: AllocFailed<T>) -> WordsFault {
+        WordsFault::Memory
+    }
+}
+
+/// What the words after the program's own name ask for: `FOLDER COMMAND [options]`. Usage exactly where they ask for nothing.
+///
+/// | Words | Left out |
+/// |---|---|
+/// | `FOLDER run [--cache N] [--forks N]` | cache 1,024; forks 1 |
+/// | `FOLDER load --columns A,B [--forks N]` | forks 1 |
+/// | `FOLDER explain [--cache N]` | cache 1,024 |
+/// | `FOLDER check` | |
+/// | `FOLDER generate --docs N --seed N [--forks N]` | forks 1 |
+pub fn read_words(alloc: Global, words: &[String]) -> Result<Words, WordsFault>
+    ensures words { IfOk result (λ w. asked (map string_bytes words.now) ≡ Some (said w)) }
+    ensures usage { result ≡ Err WordsFault.Usage → asked (map string_bytes words.now) ≡ None }
+    ensures ranges { IfOk result IsWithin }
+{
+    let [_folder, name, ..] = words else {
+        return Err(WordsFault::Usage);
+    };
+    let command = &words[1..];
+    match name.as_str() {
+        "run" => read_run(alloc, command),
+        "load" => read_load(alloc, command),
+        "explain" => read_explain(alloc, command),
+        "check" => read_check(alloc, command),
+        "generate" => read_generate(alloc, command),
+        _ => Err(WordsFault::Usage),
+    }
+}
