@@ -158,7 +158,7 @@ module _ (c : Command) (m : ArgMatches) (p : IsParsedFrom c m) (plain : is_plain
           let first : PassesArg p.built got.0.0.now v.now = elim got.3.0 [
             | inl g ↦ absurd (no_group g)
             | inr all ↦ head_of (λ w. PassesArg p.built got.0.0.now w.now) got.0.1.vals.items v vs
-            (ap (λ (y : MatchedArg). y.vals.items) got.1 ∙ vals) all
+                (ap (λ (y : MatchedArg). y.vals.items) got.1 ∙ vals) all
           ] in
           let how : got.0.1.reading ≡ reading_of (parser_of (option_at c k d)) = elim got.3.4 [
             | inl g ↦ absurd (no_group g)

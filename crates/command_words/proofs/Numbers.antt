@@ -55,8 +55,7 @@ module _ (E : Type 0) (G : List ℕ → Result ℕ E → Type 0) (parses : (u : 
       (nothing ∙ ap (option_map number_of) (sym first), subst (λ o. IfSome o (λ n. (low ≤ n) × (n ≤ high))) (sym nothing) tt)
   number_found f id low high small (inr has) r absent present =
       let number : r ≡ Some (number_of has.text) = number_read has.text low high small has.passes r (present _ has.read) in
-      let first : first_of id (rows_of f) ≡ Some has.text = sym (first_value-rows f id) ∙ has.first in
-      (
+      let first : first_of id (rows_of f) ≡ Some has.text = sym (first_value-rows f id) ∙ has.first in (
         number ∙ ap (option_map number_of) (sym first),
         subst (λ o. IfSome o (λ n. (low ≤ n) × (n ≤ high))) (sym number) (within has.text low high has.passes),
       )

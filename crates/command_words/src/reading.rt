@@ -5,7 +5,7 @@ ghost use Rattle.clap.specs.Words.{app_of, found_of, kind_of, rows_of};
 ghost use Rattle.command_words.specs.Commands.{IsWithin, asked_by, command_of, said, found_by, run, load, explain, check, generate};
 ghost use Rattle.command_words.specs.Found.{AreFound, is_plain};
 
-use crate::options::{CACHE, DOCS, FORKS, SEED, COLUMNS, columns_by, text_option};
+use crate::options::{CACHE, COLUMNS, DOCS, FORKS, SEED, columns_by, text_option};
 use crate::{Words, WordsFault};
 use clap::error::ErrorKind;
 use clap::{ArgMatches, Command, Error};

@@ -119,7 +119,11 @@ fn refuses_other_words(rt: HostRuntime) -> Result<(), Fail> {
     assert_eq!(rt; read_words(alloc, &[]).err(), Some(WordsFault::Usage));
     for line in REFUSED {
         let words = words_of(alloc, line)?;
-        assert_eq!(rt; read_words(alloc, words.as_slice()).err(), Some(WordsFault::Usage), "{line}");
+        assert_eq!(rt;
+            read_words(alloc, words.as_slice()).err(),
+            Some(WordsFault::Usage),
+            "{line}"
+        );
     }
     Ok(())
 }
@@ -136,6 +140,9 @@ fn takes_eight_columns(rt: HostRuntime) -> Result<(), Fail> {
     assert_eq!(rt; names.len(), 8);
     assert_eq!(rt; names[7].as_slice(), b"a".as_slice());
     let words = words_of(alloc, ". load --columns a,b,c,d,e,f,g,h,i")?;
-    assert_eq!(rt; read_words(alloc, words.as_slice()).err(), Some(WordsFault::Usage));
+    assert_eq!(rt;
+        read_words(alloc, words.as_slice()).err(),
+        Some(WordsFault::Usage)
+    );
     Ok(())
 }

@@ -68,7 +68,7 @@ twice p xs i j d lt long first second =
       get_or-le-sum_by f (take j xs) i d (omega (arith, length-take-le j xs (omega arith))),
       get_or-le-sum_by f (drop j xs) 0 d (omega (arith, length-drop j xs)),
       ap f front ∙ ap one_if first,
-      ap f back ∙ ap one_if second
+      ap f back ∙ ap one_if second,
     )
 
 pub pairs_from : (xs : List Item) → NoneTwice xs → AllPairs (λ (x y : Item). x ≢ y) xs
@@ -77,7 +77,7 @@ pairs_from xs once i j d lt long e =
     absurd (omega (
       arith,
       once (get_or xs i d),
-      twice (same_item (get_or xs i d)) xs i j d lt long (is_same (get_or xs i d) (get_or xs i d) refl) (is_same (get_or xs i d) (get_or xs j d) e)
+      twice (same_item (get_or xs i d)) xs i j d lt long (is_same (get_or xs i d) (get_or xs i d) refl) (is_same (get_or xs i d) (get_or xs j d) e),
     ))
 
 -- ---- documents have neither an entry twice nor too many

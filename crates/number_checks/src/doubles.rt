@@ -19,10 +19,7 @@ const MOST_POINTS: usize = 16;
 /// A number of which one entry stands twice in the list, or of which there are more than 16 entries, if there is one. Entries
 /// may stand in any order. Where no two entries have one number, nothing is sorted, and the call takes memory of two bits for
 /// each number from the least of the entries to the greatest; else also that of the entries whose number another one has.
-pub fn doubled<const D: usize>(
-    alloc: Global,
-    entries: &[Entry<D>],
-) -> Result<Option<u32>, Memory>
+pub fn doubled<const D: usize>(alloc: Global, entries: &[Entry<D>]) -> Result<Option<u32>, Memory>
     ensures none { IfOk result (λ r. IfNone r (NoneTwice (items_of entries.now) × AreFew (items_of entries.now))) }
     ensures some { IfOk result (λ r. IfSome r (λ number. IsCrowded number (items_of entries.now))) }
 {

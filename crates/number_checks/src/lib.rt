@@ -11,9 +11,8 @@ mod told;
 pub use doubles::doubled;
 pub use laws::{fits_docs, none_twice};
 pub use placing::misplaced;
-pub use told::Misplaced;
-
 use std::alloc::AllocError;
+pub use told::Misplaced;
 
 /// Memory is wanting.
 pub type Memory = AllocError;

@@ -18,11 +18,7 @@ const LIMIT: u32 = 1 << 24;
 /// The least live number that isn't below `next` or is live in two of the sets, if there is one. A number of which both
 /// hold is told as Beyond. The sets are gone through once, a word of their bits at a time, and the call takes memory of a bit
 /// for each number below `next`.
-pub fn misplaced(
-    alloc: Global,
-    lives: &[LiveBits],
-    next: u32,
-) -> Result<Option<Misplaced>, Memory>
+pub fn misplaced(alloc: Global, lives: &[LiveBits], next: u32) -> Result<Option<Misplaced>, Memory>
     requires { next ≤ 2 ^ 24 }
     ensures none { IfOk result (λ r. IfNone r ((number : ℕ) → IsPlaced next lives.now number)) }
     ensures some { IfOk result (λ r. IfSome r (IsLeastMisplaced next lives.now)) }

@@ -25,9 +25,17 @@ fn tells_the_least(rt: HostRuntime) -> Result<(), Fail> {
     let table: [(&[&[u32]], u32, Option<Misplaced>); 12] = [
         (&[], 0, None),
         (&[&[0, 1, 2], &[], &[3, 4]], 5, None),
-        (&[&[0, 5, 100], &[1, 100, 200]], 300, Some(Misplaced::Doubled(100))),
+        (
+            &[&[0, 5, 100], &[1, 100, 200]],
+            300,
+            Some(Misplaced::Doubled(100)),
+        ),
         // over the ends of words
-        (&[&[63, 64, 127, 128], &[65, 126, 128]], 129, Some(Misplaced::Doubled(128))),
+        (
+            &[&[63, 64, 127, 128], &[65, 126, 128]],
+            129,
+            Some(Misplaced::Doubled(128)),
+        ),
         (&[&[63, 64, 127, 128], &[62, 65, 126]], 129, None),
         // the least one comes last
         (&[&[10, 20], &[20], &[10]], 30, Some(Misplaced::Doubled(10))),
@@ -37,11 +45,19 @@ fn tells_the_least(rt: HostRuntime) -> Result<(), Fail> {
         (&[&[9], &[9], &[3]], 9, Some(Misplaced::Beyond(9))),
         (&[&[9], &[9], &[3]], 10, Some(Misplaced::Doubled(9))),
         (&[&[3, 9], &[3]], 5, Some(Misplaced::Doubled(3))),
-        (&[&[16_777_215]], 16_777_215, Some(Misplaced::Beyond(16_777_215))),
+        (
+            &[&[16_777_215]],
+            16_777_215,
+            Some(Misplaced::Beyond(16_777_215)),
+        ),
     ];
     for (lists, next, answer) in table {
         let sets = sets_of(rt.alloc(), lists)?;
-        assert_eq!(rt; misplaced(rt.alloc(), sets.as_slice(), next)?, answer, "next {next}");
+        assert_eq!(rt;
+            misplaced(rt.alloc(), sets.as_slice(), next)?,
+            answer,
+            "next {next}"
+        );
     }
     let last = sets_of(rt.alloc(), &[&[16_777_215]])?;
     assert_eq!(rt; misplaced(rt.alloc(), last.as_slice(), 1 << 24)?, None);
@@ -68,7 +84,10 @@ fn finds_doubled_entries(rt: HostRuntime) -> Result<(), Fail> {
         (&[(9, 1), (3, 1), (9, 2), (9, -1)], None),
         (&[(9, 1), (3, 1), (9, 2), (9, 1)], Some(9)),
         (&[(5, 1), (3, 1), (5, 2), (3, 1)], Some(3)),
-        (&[(16_777_215, 0), (0, 0), (16_777_215, 0)], Some(16_777_215)),
+        (
+            &[(16_777_215, 0), (0, 0), (16_777_215, 0)],
+            Some(16_777_215),
+        ),
         (&[(0, 0), (0, 0)], Some(0)),
     ];
     for (pairs, answer) in table {

@@ -22,8 +22,8 @@ pub sorted_found : (test : List ℤ → Bool) (entries : List Item) (hits sorted
 sorted_found test entries hits sorted is moved up = record {
   rises = IsStrictlyIncreasing-dedup sorted up;
   each = λ m. (
-      λ h. subst (λ (ms : List ℕ). Contains ms m) is (Contains-permutation sorted hits m (IsPermutation-sym hits sorted moved) (Contains-from_dedup eqb sorted m h)),
-      λ h. Contains-dedup_nat sorted m (Contains-permutation hits sorted m moved (subst (λ (ms : List ℕ). Contains ms m) (sym is) h)),
+    λ h. subst (λ (ms : List ℕ). Contains ms m) is (Contains-permutation sorted hits m (IsPermutation-sym hits sorted moved) (Contains-from_dedup eqb sorted m h)),
+    λ h. Contains-dedup_nat sorted m (Contains-permutation hits sorted m moved (subst (λ (ms : List ℕ). Contains ms m) (sym is) h)),
   );
 }
 

@@ -231,15 +231,8 @@ none_kept : (xs : List Item) → filter (λ (x : Item). false) xs ≡ []
 none_kept [] = refl
 none_kept (x ∷ xs) = none_kept xs
 
-pub nothing_live : (c : Contents) (ids : List ℕ) (p : Part) → length p.live.live ≡ 0 → live_in_parts c (parts_among ids (p ∷ [])) ≡ []
-nothing_live c ids p none = by (is_among ids p.head.id)
-  where
-    dead : live_of c p ≡ []
-    dead = ap (λ (f : ℕ → Bool). filter (λ (x : Item). f x.doc) (c p.head.id)) ((none_live p.live).0 none) ∙ none_kept (c p.head.id)
-
-    by : (b : Bool) → live_in_parts c (cond b (p ∷ []) []) ≡ []
-    by true = live_one c p ∙ dead
-    by false = refl
+pub nothing_live : (c : Contents) (p : Part) → length p.live.live ≡ 0 → live_in_parts c (p ∷ []) ≡ []
+nothing_live c p none = live_one c p ∙ ap (λ (f : ℕ → Bool). filter (λ (x : Item). f x.doc) (c p.head.id)) ((none_live p.live).0 none) ∙ none_kept (c p.head.id)
 
 -- a number that is live in a segment is so in those among which it is
 pub live_in_one : (ids : List ℕ) (p : Part) (number : ℕ) → is_among ids p.head.id ≡ true → is_live p.live number ≡ true → has_live number (parts_among ids (p ∷ [])) ≡ true

@@ -83,14 +83,6 @@ pub among_one : (ids : List ℕ) (p : Part) → is_among ids p.head.id ≡ true 
 among_one ids p e = ap (λ b. cond b (p ∷ []) []) e
 
 -- what a walk over its file keeps to
-pub calm_one : (told : Bool) (old new : Files) (before after : PageCache) (ids : List ℕ) (p : Part) → is_among ids p.head.id ≡ true → (IsTrue told → new ≡ old) → (IsTrue told → Agrees old before → Agrees old after)
-    → ((id : ℕ) → KeepsFile after id → KeepsFile before id ⊎ (id ≡ p.head.id)) → IsCalm told old new before after (ids_of (parts_among ids (p ∷ [])))
-calm_one told old new before after ids p e files agrees others = record {
-  files = files;
-  agrees = agrees;
-  others = λ id h. ⊎_elim (λ k. inl k) (λ k. inr (subst (λ (ps : List Part). Contains (ids_of ps) id) (sym (among_one ids p e)) (subst (Contains (p.head.id ∷ [])) (sym k) (cons_head p.head.id [])))) (others id h);
-}
-
 pub calm_alone : (told : Bool) (old new : Files) (before after : PageCache) (id : ℕ) → (IsTrue told → new ≡ old) → (IsTrue told → Agrees old before → Agrees old after)
     → ((i : ℕ) → KeepsFile after i → KeepsFile before i ⊎ (i ≡ id)) → IsCalm told old new before after (id ∷ [])
 calm_alone told old new before after id files agrees others = record {

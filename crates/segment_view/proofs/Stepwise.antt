@@ -43,9 +43,6 @@ leaves_upto parts i p is =
 
 -- ---- of the segments of some ids
 
-pub leaves_among_one : (ids : List ℕ) (p : Part) → is_among ids p.head.id ≡ true → leaves_in (heads_of (parts_among ids (p ∷ []))) ≡ p.head.index.leaves
-leaves_among_one ids p e = ap (λ b. leaves_in (heads_of (cond b (p ∷ []) []))) e ∙ omega arith
-
 pub among_more : (ids : List ℕ) (parts : List Part) (i : ℕ) (p : Part) → slice_get parts i ≡ Some p → parts_among ids (take (i + 1) parts) ≡ parts_among ids (take i parts) ++ parts_among ids (p ∷ [])
 among_more ids parts i p is = ap (parts_among ids) (parts_more parts i p is) ∙ filter-append (λ (q : Part). is_among ids q.head.id) (take i parts) (p ∷ [])
 

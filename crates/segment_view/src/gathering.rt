@@ -3,6 +3,7 @@
 ghost use Rattle.std.specs.Prelude.{◌≡◌, ◌≤◌, ◌<◌, ◌+◌, ◌^◌, ◌++◌, ℕ, List, [], ◌∷◌, true, All, IsTrue, IfOk, OnOk};
 ghost use Rattle.point_codec.specs.Points.{Item, Region};
 ghost use Rattle.point_codec.specs.Seen.{items_of};
+ghost use Rattle.live_bits.specs.LiveSet.{is_live};
 ghost use Rattle.inner_pack.specs.Places.{front};
 ghost use Rattle.inner_pack.specs.Trees.{IndexTree};
 ghost use Rattle.inner_pack.specs.Bodies.{HasTree};
@@ -80,6 +81,29 @@ fn gather_one<const D: usize, F: Pages>(
     if !ids.contains(&head.id()) {
         return Ok(());
     }
+    append_live(alloc, head, live, cache, folder, entries)
+}
+
+/// Appends the live entries of a segment.
+fn append_live<const D: usize, F: Pages>(
+    alloc: Global,
+    head: &SegmentHead<D>,
+    live: &LiveBits,
+    cache: &mut PageCache,
+    folder: &mut F,
+    entries: &mut Vec<Entry<D>>,
+) -> Result<(), PageFault>
+    ensures entries { IsTrue F.told → Agrees (F.files folder.old) cache.old → (c : Contents) → IsRead D (F.files folder.old) c (part_of head.now live.now)
+        → OnOk result (items_of entries.new.items ≡ items_of entries.old.items ++ live_in_parts c (part_of head.now live.now ∷ [])) }
+    ensures live { OnOk result ((more : List Item) × (items_of entries.new.items ≡ items_of entries.old.items ++ more) × All (λ x. is_live live.now x.doc ≡ true) more) }
+    ensures numbers { All (λ e. e.doc < 2 ^ 24) entries.old.items → OnOk result (All (λ e. e.doc < 2 ^ 24) entries.new.items) }
+    ensures reads { F.reads folder.new ≤ F.reads folder.old + head.now.index.leaves }
+    ensures calm { IsCalm F.told (F.files folder.old) (F.files folder.new) cache.old cache.new (head.now.id ∷ []) }
+    ensures cause { HasPageCause (F.faults folder.old) (F.faults folder.new) result }
+    ensures shown { (root : Region) (t : IndexTree) → HasTree D head.now.index root t → OnDamage result (IsLeafDamage D head.now 0 front t) }
+    ensures damage { IsTrue F.told → Agrees (F.files folder.old) cache.old → OnDamage result (IsLeafDamageOf (F.files folder.old)) }
+    ensures whole { IsTrue F.told → Agrees (F.files folder.old) cache.old → (c : Contents) → IsRead D (F.files folder.old) c (part_of head.now live.now) → NotDamaged result }
+{
     if live.live_count() == 0 {
         return Ok(());
     }

@@ -1,6 +1,8 @@
 //! Segments with their live bits.
 
-use crate::pairs::{clear_in, copy_heads, copy_lives, has_id, is_live_in, place_of, put, sizes_of, take_out};
+use crate::pairs::{
+    clear_in, copy_heads, copy_lives, has_id, is_live_in, place_of, put, sizes_of, take_out,
+};
 use live_bits::LiveBits;
 use segment_file::SegmentHead;
 use std::alloc::{AllocError, Global};

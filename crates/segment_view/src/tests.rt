@@ -10,13 +10,12 @@ use point_codec::{Entry, Near, Point};
 use segment_file::open_segment;
 use std::test::Fail;
 
-/// A segment with leaves of two entries: its id, the head's fields, the index, the leaves and the live numbers.
+/// A segment with leaves of two entries: its id, the head's fields, the index and the leaves.
 struct Stored {
     id: u64,
     fields: [u8; 28],
     index: &'static [u8],
     leaves: &'static [u8],
-    live: &'static [u32],
 }
 
 /// 0 at 5 and 1 at 7; 2 and 3 at 7; 4 at 7.
@@ -34,7 +33,6 @@ const FIVE: Stored = Stored {
         0, 2, 0, 0, 3, 0x80, 0, 0, 0, 0, 5, 7, 0, 2, 0, 2, 4, 0x80, 0, 0, 7, 0, 1, 0, 4, 4, 0x80,
         0, 0, 7,
     ],
-    live: &[0, 1, 2, 3, 4],
 };
 
 /// 6 at 10.
@@ -48,7 +46,6 @@ const ONE: Stored = Stored {
         0x80, 0, 0, 10, 0x80, 0, 0, 10, 9, 0x80, 0, 0, 10, 0x80, 0, 0, 10,
     ],
     leaves: &[0, 1, 0, 6, 4, 0x80, 0, 0, 10],
-    live: &[6],
 };
 
 /// 5 at 1 and at 9.
@@ -62,7 +59,6 @@ const TWICE: Stored = Stored {
         0x80, 0, 0, 1, 0x80, 0, 0, 9, 14, 0x80, 0, 0, 1, 0x80, 0, 0, 9,
     ],
     leaves: &[0, 2, 1, 5, 0, 0, 3, 0x80, 0, 0, 0, 0, 1, 9],
-    live: &[5],
 };
 
 /// 7 at 6, and 8 at 20.
@@ -113,12 +109,13 @@ const ROWS: [Row; 3] = [
     ),
 ];
 
-/// Puts the segment into the folder and among the others.
+/// Puts the segment into the folder and among the others, with these live bits.
 fn store(
     rt: &HostRuntime,
     folder: &mut MemFolder,
     segments: &mut Segments<1>,
     segment: &Stored,
+    live: LiveBits,
 ) -> Result<(), Fail> {
     let mut body = segment.fields.to_vec(rt.alloc())?;
     body.resize(4064, 0)?;
@@ -130,8 +127,9 @@ fn store(
     let bytes = pages_of(rt.alloc(), &name, body.as_slice())?;
     folder.put(name, bytes)?;
     let head = open_segment(rt.alloc(), folder, segment.id)?;
-    let live = LiveBits::of_docs(rt.alloc(), segment.live)?;
-    assert_eq!(rt; segments.has(head.id()), false);
+    if segments.has(head.id()) {
+        return Err("an id twice".into());
+    }
     Ok(segments.insert(head, live)?)
 }
 
@@ -139,9 +137,12 @@ fn store(
 fn three(rt: &HostRuntime) -> Result<(MemFolder, Segments<1>), Fail> {
     let mut folder = MemFolder::new(rt.alloc(), Vec::new(rt.alloc()));
     let mut segments = Segments::new(rt.alloc());
-    store(rt, &mut folder, &mut segments, &TWICE)?;
-    store(rt, &mut folder, &mut segments, &FIVE)?;
-    store(rt, &mut folder, &mut segments, &ONE)?;
+    let live = LiveBits::of_docs(rt.alloc(), &[5])?;
+    store(rt, &mut folder, &mut segments, &TWICE, live)?;
+    let live = LiveBits::of_docs(rt.alloc(), &[0, 1, 2, 3, 4])?;
+    store(rt, &mut folder, &mut segments, &FIVE, live)?;
+    let live = LiveBits::of_docs(rt.alloc(), &[6])?;
+    store(rt, &mut folder, &mut segments, &ONE, live)?;
     Ok((folder, segments))
 }
 

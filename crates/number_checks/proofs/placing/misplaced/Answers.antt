@@ -7,13 +7,16 @@ use Rattle.number_checks.proofs.placing.misplaced.Goals as goal
 pub returns-then-beyond-lt-LIMIT-clause-some : goal.returns-then-beyond-lt-LIMIT-clause-some
 returns-then-beyond-lt-LIMIT-clause-some c =
     let found = c.least_beyond-beyond.ensures.found c.if-beyond-lt-LIMIT.true in
-    let lives = c.args.lives.now in
-    (found.0, found.1, λ m lt. elim (cases_lt m c.args.next) [
-      | inl low ↦ (c.least_doubled-doubled.ensures.before m (omega arith), λ high. absurd (omega arith))
-      | inr high ↦ (
-          let none : places m lives ≡ 0 = c.least_beyond-beyond.ensures.before m high lt in
-          (omega (arith, none), λ _. none))
-    ])
+    let lives = c.args.lives.now in (
+      found.0,
+      found.1,
+      λ m lt. elim (cases_lt m c.args.next) [
+        | inl low ↦ (c.least_doubled-doubled.ensures.before m (omega arith), λ high. absurd (omega arith))
+        | inr high ↦ (
+            let none : places m lives ≡ 0 = c.least_beyond-beyond.ensures.before m high lt in
+            (omega (arith, none), λ _. none))
+      ],
+    )
 
 pub returns-clause-none : goal.returns-clause-none
 returns-clause-none c m = elim (cases_lt m c.args.next) [
