@@ -36,6 +36,9 @@ fn one_set(rt: HostRuntime) -> Result<(), Fail> {
     ] {
         assert_eq!(rt; read.is_live(doc), live, "at {doc}");
     }
+    for (first, word) in [(0, 0x218), (3, 0x43), (4, 0x21), (10, 0), (u32::MAX, 0)] {
+        assert_eq!(rt; read.word(first), word, "from {first}");
+    }
 
     let before = set.copy(rt.alloc())?;
     for (doc, was) in [

@@ -100,10 +100,10 @@ fn finds_doubled_entries(rt: HostRuntime) -> Result<(), Fail> {
 #[test]
 fn counts_to_sixteen(rt: HostRuntime) -> Result<(), Fail> {
     let mut entries = entries_of(rt.alloc(), &[(8, 1), (4, 1)])?;
-    for x in 0..15 {
+    for x in 20..35 {
         entries.push(Entry {
             doc: 4,
-            point: Point { c: [-x, 7] },
+            point: Point { c: [x, 7] },
         })?;
     }
     assert_eq!(rt; doubled(rt.alloc(), entries.as_slice())?, None);
