@@ -1,0 +1,22 @@
+-- Two draws a point.
+use Rattle.std.proofs.Common.{◌≡◌, ◌∙◌, ◌+◌, ◌*◌, suc, ap, ap₂, sym, ℕ, List, [], ◌∷◌, arith, add-one}
+use Rattle.drawn_points.specs.Draws.{coordinate, draw, next, point}
+
+one_more : (seed i : ℕ) → draw seed (i + 1) ≡ next (draw seed i)
+unfolding draw
+one_more seed i = ap (draw seed) (add-one i)
+
+module _ (seed i : ℕ) where
+  pub first : draw seed (2 * i + 1) ≡ next (draw seed (2 * i))
+  first = one_more seed (2 * i)
+
+  pub second : draw seed (2 * i + 2) ≡ next (next (draw seed (2 * i)))
+  second =
+      let place : 2 * i + 2 ≡ (2 * i + 1) + 1 = omega arith in
+      ap (draw seed) place ∙ (one_more seed (2 * i + 1) ∙ ap next first)
+
+  -- where the draws stand after the point
+  pub behind : draw seed (2 * (i + 1)) ≡ next (next (draw seed (2 * i)))
+  behind =
+      let place : 2 * (i + 1) ≡ 2 * i + 2 = omega arith in
+      ap (draw seed) place ∙ second

@@ -1,0 +1,35 @@
+use super::*;
+
+/// Seeds with the number of a draw and the draw. The first are this generator's own; the 10,000th is the one that the C++
+/// standard gives for its `minstd_rand`.
+const DRAWN: [(u32, u32, u32); 5] = [
+    (1, 1, 48_271),
+    (1, 2, 182_605_794),
+    (1, 3, 1_291_394_886),
+    (1, 10_000, 399_268_537),
+    (2_147_483_646, 1, 2_147_435_376),
+];
+
+#[test]
+fn draws_as_published(rt: HostRuntime) {
+    for (seed, number, drawn) in DRAWN {
+        let mut draws = Draws::new(seed);
+        let mut last = seed;
+        for _ in 0..number {
+            last = draws.draw();
+        }
+        assert_eq!(rt; last, drawn, "draw {number} of {seed}");
+    }
+}
+
+#[test]
+fn draws_points_and_boxes(rt: HostRuntime) {
+    assert_eq!(rt; Draws::new(1).coordinate(), -51_729);
+    let mut draws = Draws::new(1);
+    let point = draws.point();
+    assert_eq!(rt; point.c, [-51_729, -95_119]);
+    // the next two draws are those behind the point's
+    let (lo, hi) = draws.corners();
+    assert_eq!(rt; lo.c, [83_430, 6_064]);
+    assert_eq!(rt; hi.c, [93_430, 16_064]);
+}
