@@ -97,7 +97,7 @@ rank-lt (pos n) h = omega arith
 rank-lt (negsuc n) h = omega arith
 
 -- the coordinate of a rank
-abbrev at_rank : ℕ → ℤ
+abbrev pub at_rank : ℕ → ℤ
 at_rank n = cond (ltb n (2 ^ 31)) (negsuc (2 ^ 31 - 1 - n)) (pos (n - 2 ^ 31))
 
 at_rank-rank : (x : ℤ) → FitsSigned w32 x → at_rank (rank x) ≡ x

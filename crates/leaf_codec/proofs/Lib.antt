@@ -27,4 +27,5 @@ pub mod ViewLemmas
 pub mod SpreadLemmas
 pub mod DimensionsFound
 pub mod ReadLeaf
+pub mod OrderedKeys
 pub mod Apart

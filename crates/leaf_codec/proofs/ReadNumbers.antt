@@ -1,14 +1,14 @@
 -- Reading numbers from words.
-use Rattle.std.proofs.Common.{◌≡◌, ◌≢◌, ◌<◌, ◌≤◌, ◌+◌, ◌-◌, ◌*◌, ◌^◌, ℕ, zero, suc, min, max, Bool, true≢false, below_more, ◌⊎◌, true, false, List, [], ◌∷◌, ◌++◌, length, get_or, take, drop, refl, sym, ap, ◌∙◌, arith, cond, eqb, inl, inr, length-take, length-drop, length-append, mul-le-mul_right, drop-drop, drop_at}
+use Rattle.std.proofs.Common.{◌≡◌, ◌≢◌, ◌<◌, ◌≤◌, ◌+◌, ◌-◌, ◌*◌, ◌^◌, ℕ, zero, suc, min, max, Bool, below_more, ◌⊎◌, true, false, List, [], ◌∷◌, ◌++◌, length, get_or, take, drop, refl, sym, ap, ◌∙◌, arith, cond, eqb, inl, inr, length-take, length-drop, length-append, mul-le-mul_right, drop-drop, drop_at}
 use Rattle.std.specs.Prelude.{bit_and, All}
 use Rattle.std.specs.List.{fold}
-use Rattle.std.proofs.lemmas.Bool.{cases_eq, cases_lt, eq-eqb, ne_eqb, false≢true}
+use Rattle.std.proofs.lemmas.Bool.{cases_eq, cases_lt, eq-eqb, eqb-true, ne_eqb, false≢true}
 use Rattle.std.proofs.lemmas.List.Elements.{All-take, All-drop, All-from_get_or}
 use Rattle.std.proofs.lemmas.List.FromFn.{get_or-map-range_with_len, length-map-range_with_len}
 use Rattle.leaf_codec.specs.Spelling.{least, greatest, is_row, form, width}
 use Rattle.leaf_codec.specs.Words.{number_of, AreBytes}
 use Rattle.leaf_codec.specs.Raw.{RawNumbers, AreRawNumbers, offset_at, raw_docs}
-use Rattle.leaf_codec.specs.Views.{IsSpan, AreCanonical}
+use Rattle.leaf_codec.specs.Views.{IsSpan, AreEnds, AreCanonical}
 use Rattle.leaf_codec.proofs.Bytes.{word_masked, number_of-lt}
 use Rattle.leaf_codec.proofs.NumbersLemmas.{least-le, le-greatest, row_true, row_false, form_row, form_other}
 use Rattle.std.proofs.lemmas.List.{get_or_default, drop-take}
@@ -67,49 +67,57 @@ offset_at-lt count r i h few lt =
     short (suc (suc (suc zero))) w le under = omega arith
     short (suc (suc (suc (suc k)))) w le under = absurd (omega arith)
 
--- ---- a span, number by number
+-- the same without a step, where the numbers are no row
+pub wide_read : (count : ℕ) (r : RawNumbers) (words : List ℕ) (step mask i : ℕ) → ReadsWords count r words step mask → r.width ≢ 0 → i < count
+    → bit_and (number_of (take 4 (drop (r.width * (i + 1)) words))) mask ≡ offset_at r i
+wide_read count r words step mask i h wide lt =
+    let none : step ≡ 0 = h.steps ∙ ap (λ (b : Bool). cond {A = ℕ} b 1 0) (ne_eqb r.width 0 wide) in
+    let still : i * step ≡ 0 = ap (λ n. i * n) none ∙ omega arith in
+    omega (arith, offset_read count r words step mask i h lt, still)
 
-pub span_none : (r : RawNumbers) → IsSpan 0 r 0 false true
-span_none r = record {
-  above = λ i lt. absurd (omega arith);
-  reached = inl refl;
-  some_zero = λ e. absurd (false≢true e);
-  no_zero = λ e i lt. absurd (omega arith);
-  in_row = λ e i lt. absurd (omega arith);
-  out_of_row = λ e. absurd (true≢false e);
+-- ---- the ends and the span
+
+pub ends_one : (r : RawNumbers) (m : ℕ) → m ≡ offset_at r 0 → AreEnds 1 r m m
+ends_one r m is = record {
+  below = λ i lt. first i lt (λ k. m ≤ offset_at r k) (omega (arith, is));
+  reached_low = (0, omega arith, sym is);
+  above = λ i lt. first i lt (λ k. offset_at r k ≤ m) (omega (arith, is));
+  reached_top = (0, omega arith, sym is);
 }
+  where
+    first : (i : ℕ) → i < 1 → (P : ℕ → Type 0) → P 0 → P i
+    first zero lt P h = h
+    first (suc i) lt P h = absurd (omega arith)
 
 -- a fact of one more number
 one_more : (P : ℕ → Type 0) (n : ℕ) → ((i : ℕ) → i < n → P i) → P n → (i : ℕ) → i < n + 1 → P i
 one_more P n below here i lt = below_more P n below here i lt
 
-pub span_more : (n : ℕ) (r : RawNumbers) (top m new : ℕ) (z w z' w' : Bool) → IsSpan n r top z w → offset_at r n ≡ m → new ≡ max top m
-    → ((m ≡ 0) × (z' ≡ true)) ⊎ ((m ≢ 0) × (z' ≡ z)) → ((m ≢ n) × (w' ≡ false)) ⊎ ((m ≡ n) × (w' ≡ w)) → IsSpan (n + 1) r new z' w'
-span_more n r top m new z w z' w' s is top_is nought row = record {
-  above = one_more (λ i. offset_at r i ≤ new) n (λ i lt. omega (arith, s.above i lt)) (omega arith);
-  reached = elim (cases_lt top m) [
-    | inl less ↦ inr (n, omega arith, omega arith)
-    | inr more ↦ elim s.reached [
-      | inl nothing ↦ inl (omega arith)
-      | inr before ↦ inr (before.0, omega (arith, before.1), omega (arith, before.2))
-    ]
+pub ends_more : (n : ℕ) (r : RawNumbers) (low top m low' top' : ℕ) → AreEnds n r low top → m ≡ offset_at r n → low' ≡ min low m → top' ≡ max top m → AreEnds (n + 1) r low' top'
+ends_more n r low top m low' top' e is low_is top_is = record {
+  below = one_more (λ i. low' ≤ offset_at r i) n (λ i lt. omega (arith, e.below i lt)) (omega arith);
+  reached_low = elim (cases_lt m low) [
+    | inl less ↦ (n, omega arith, omega arith)
+    | inr more ↦ (e.reached_low.0, omega (arith, e.reached_low.1), omega (arith, e.reached_low.2))
   ];
-  some_zero = λ e. elim nought [
-    | inl now ↦ (n, omega arith, is ∙ now.0)
-    | inr later ↦ (let a = s.some_zero (sym later.1 ∙ e) in (a.0, omega (arith, a.1), a.2))
+  above = one_more (λ i. offset_at r i ≤ top') n (λ i lt. omega (arith, e.above i lt)) (omega arith);
+  reached_top = elim (cases_lt top m) [
+    | inl less ↦ (n, omega arith, omega arith)
+    | inr more ↦ (e.reached_top.0, omega (arith, e.reached_top.1), omega (arith, e.reached_top.2))
   ];
-  no_zero = λ e. elim nought [
-    | inl now ↦ absurd (true≢false (sym now.1 ∙ e))
-    | inr later ↦ one_more (λ i. offset_at r i ≢ 0) n (s.no_zero (sym later.1 ∙ e)) (λ z. later.0 (sym is ∙ z))
-  ];
-  in_row = λ e. elim row [
-    | inl now ↦ absurd (false≢true (sym now.1 ∙ e))
-    | inr later ↦ one_more (λ i. offset_at r i ≡ i) n (s.in_row (sym later.1 ∙ e)) (is ∙ later.0)
-  ];
-  out_of_row = λ e. elim row [
-    | inl now ↦ (n, omega arith, λ z. now.0 (sym is ∙ z))
-    | inr later ↦ (let a = s.out_of_row (sym later.1 ∙ e) in (a.0, omega (arith, a.1), a.2))
-  ];
+}
+
+pub span_of : (n : ℕ) (r : RawNumbers) (low top : ℕ) (row : Bool) → AreEnds n r low top
+    → (row ≡ true → (i : ℕ) → i < n → offset_at r i ≡ i) → (row ≡ false → (i : ℕ) × (i < n) × (offset_at r i ≢ i)) → IsSpan n r top (eqb low 0) row
+span_of n r low top row e each other = record {
+  above = e.above;
+  reached = inr e.reached_top;
+  some_zero = λ is. (e.reached_low.0, e.reached_low.1, e.reached_low.2 ∙ eqb-true low 0 is);
+  no_zero = λ is i lt nought.
+      let none : low ≡ 0 = omega (arith, e.below i lt, nought) in
+      false≢true (sym is ∙ eq-eqb low 0 none);
+  in_row = each;
+  out_of_row = other;
 }
 
 -- ---- what the span says of the numbers

@@ -1,12 +1,12 @@
 -- What the sorted bytes begin with tells how they are spelled.
-use Rattle.std.proofs.Common.{◌≡◌, ◌≢◌, ◌<◌, ◌≤◌, ◌*◌, ℕ, List, [], ◌∷◌, ◌++◌, length, take, refl, sym, ap, take_at, ◌∙◌, arith, inl, inr, ltb, length-append}
+use Rattle.std.proofs.Common.{◌≡◌, ◌<◌, ◌≤◌, ◌*◌, ℕ, List, ◌∷◌, ◌++◌, length, take, refl, sym, ap, take_at, ◌∙◌, arith, inl, inr, ltb, length-append}
 use Rattle.std.specs.List.{flat_map}
 use Rattle.std.proofs.lemmas.Bool.{cases_lt, lt-ltb, le-ltb, cond-true, cond-false}
 use Rattle.leaf_codec.specs.Spelling.{pieces, piece_bytes, sorted_bytes}
 use Rattle.leaf_codec.specs.Words.{pairs_expanded}
 use Rattle.leaf_codec.proofs.Chunks.{split_same}
 use Rattle.leaf_codec.proofs.Lengths.{length-pieces}
-use Rattle.leaf_codec.proofs.Pieces.{pairs_of_pieces, pieces_nil}
+use Rattle.leaf_codec.proofs.Pieces.{pairs_of_pieces}
 
 pub plain_is : (bs : List ℕ) → length bs ≤ 2 * length (pieces bs) → sorted_bytes bs ≡ 0 ∷ bs
 unfolding sorted_bytes
@@ -105,13 +105,3 @@ sorted_some bs tail = elim (cases_lt (2 * length (pieces bs)) (length bs)) [
 
 pub cut_some : (b bs tail : List ℕ) → 1 ∷ b ≡ sorted_bytes bs ++ tail → 1 ≤ length b
 cut_some b bs tail e = omega (arith, ap length ((in_form 1 b bs tail e).cut refl).1)
-
-pub spelled_nil : flat_map piece_bytes (pieces []) ≡ []
-spelled_nil = ap (flat_map piece_bytes) pieces_nil
-
-pub spelled_some : (bs : List ℕ) → length bs ≢ 0 → 2 ≤ length (flat_map piece_bytes (pieces bs))
-spelled_some bs some = by (pieces bs) refl
-  where
-    by : (ps : List (ℕ × ℕ)) → pieces bs ≡ ps → 2 ≤ length (flat_map piece_bytes ps)
-    by [] e = absurd (some (ap length (sym (pairs_of_pieces bs) ∙ ap (λ (t : List (ℕ × ℕ)). pairs_expanded (flat_map piece_bytes t)) e)))
-    by (p ∷ ps) e = omega (arith, length-pieces (p ∷ ps))

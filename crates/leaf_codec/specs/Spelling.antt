@@ -1,6 +1,6 @@
 -- The bytes of a leaf, part by part in the order of the format (after Lucene's leaf blocks of points: shared
 -- prefixes, one sorted dimension in runs, and the rest of each key). The spelling is a function of the items.
-use Rattle.std.specs.Prelude.{ℕ, ◌+◌, ◌-◌, ◌*◌, ◌/◌, ◌%◌, min, max, suc, zero, Bool, if◌then◌else◌, List, [], ◌∷◌, ◌++◌, map, length, take, drop, replicate, Option, Some, None, nat_eq, nat_lt, ◌==◌}
+use Rattle.std.specs.Prelude.{ℕ, ◌+◌, ◌-◌, ◌*◌, ◌/◌, ◌%◌, min, max, Bool, if◌then◌else◌, List, [], ◌∷◌, ◌++◌, map, length, take, drop, replicate, Option, Some, None, nat_eq, nat_lt, ◌==◌}
 use Rattle.std.specs.List.{flat_map, fold, range_with_len}
 use Rattle.std.specs.Int.{w16, w32, to_be_bytes}
 use lib.Pointwise.{pointwise}

@@ -39,7 +39,14 @@ pub record BeginsWithNumbers (leaf : List ℕ) (count : ℕ) (n : Numbers) (at :
   pub within : at ≤ length leaf
   pub parts : leaf ≡ to_be_bytes w16 count ++ (numbers_bytes (raw_numbers_of n) ++ drop at leaf)
 
--- the first n numbers less the least, as a loop finds them: the greatest, whether 0 is among them, and whether each is its place
+-- the least and the greatest of the first n numbers, each less the one that is said to be the least
+pub record AreEnds (n : ℕ) (r : RawNumbers) (low top : ℕ) : Type 0 where
+  pub below : (i : ℕ) → i < n → low ≤ offset_at r i
+  pub reached_low : (i : ℕ) × (i < n) × (offset_at r i ≡ low)
+  pub above : (i : ℕ) → i < n → offset_at r i ≤ top
+  pub reached_top : (i : ℕ) × (i < n) × (offset_at r i ≡ top)
+
+-- the first n numbers less the least: the greatest of them, whether 0 is among them, and whether each is its place
 pub record IsSpan (n : ℕ) (r : RawNumbers) (top : ℕ) (from_least row : Bool) : Type 0 where
   pub above : (i : ℕ) → i < n → offset_at r i ≤ top
   pub reached : (top ≡ 0) ⊎ ((i : ℕ) × (i < n) × (offset_at r i ≡ top))

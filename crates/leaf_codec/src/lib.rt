@@ -6,6 +6,7 @@
 mod byte_set;
 mod dimensions;
 mod encode;
+mod in_order;
 mod keys;
 mod laws;
 mod order;

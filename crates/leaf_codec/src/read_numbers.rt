@@ -1,10 +1,10 @@
 //! Reading the numbers of a leaf.
 
-ghost use Rattle.std.specs.Prelude.{◌≡◌, ◌≤◌, ◌<◌, ◌^◌, ◌*◌, ◌+◌, ◌++◌, ◌∷◌, ◌↔◌, ℕ, List, length, IfSome, IsSome, IsTrue};
+ghost use Rattle.std.specs.Prelude.{◌≡◌, ◌≢◌, false, ◌≤◌, ◌<◌, ◌^◌, ◌*◌, ◌+◌, ◌++◌, ◌∷◌, ◌↔◌, ℕ, List, length, IfSome, IsSome, IsTrue};
 ghost use Rattle.std.specs.Int.{w16, to_be_bytes};
 ghost use Rattle.byte_cursor.specs.Vint.{vint};
 ghost use Rattle.leaf_codec.specs.Raw.{RawNumbers, AreRawNumbers, numbers_bytes, offset_at};
-ghost use Rattle.leaf_codec.specs.Views.{raw_numbers_of, IsNumbers, AreCanonical, BeginsWithNumbers, IsSpan};
+ghost use Rattle.leaf_codec.specs.Views.{raw_numbers_of, IsNumbers, AreCanonical, BeginsWithNumbers, IsSpan, AreEnds};
 
 use crate::words::{mask, word};
 use crate::write_numbers::width;
@@ -74,28 +74,62 @@ impl<'a> Numbers<'a> {
         self.least + span.greatest < 1 << 24 && self.width == width(span.greatest) as usize
     }
 
-    /// Which numbers there are, less the least.
+    /// The same where the numbers are no row.
+    fn wide_offset(&self, i: usize) -> u32
+        requires numbers { IsNumbers self.now }
+        requires wide { self.now.width ≢ 0 }
+        requires within { i < self.now.count }
+        ensures { result ≡ offset_at (raw_numbers_of self.now) i }
+    {
+        word(self.words, self.width * (i + 1)) & self.mask
+    }
+
+    /// Which numbers there are, less the least, where they are no row.
     fn span(&self) -> Span
         requires numbers { IsNumbers self.now }
+        requires wide { self.now.width ≢ 0 }
         requires some { 1 ≤ self.now.count }
         ensures { IsSpan self.now.count (raw_numbers_of self.now) result.greatest result.from_least result.row }
     {
-        let mut span = Span {
-            greatest: 0,
-            from_least: false,
-            row: true,
-        };
+        let (least, greatest) = self.ends();
+        Span {
+            greatest,
+            from_least: least == 0,
+            row: self.is_row(),
+        }
+    }
+
+    /// The least and the greatest of the numbers, less the one that is said to be the least.
+    fn ends(&self) -> (u32, u32)
+        requires numbers { IsNumbers self.now }
+        requires wide { self.now.width ≢ 0 }
+        requires some { 1 ≤ self.now.count }
+        ensures { AreEnds self.now.count (raw_numbers_of self.now) result.0 result.1 }
+    {
+        let first = self.wide_offset(0);
+        let mut least = first;
+        let mut greatest = first;
+        for i in 1..self.count {
+            let offset = self.wide_offset(i);
+            least = least.min(offset);
+            greatest = greatest.max(offset);
+        }
+        (least, greatest)
+    }
+
+    /// Whether each number, less the least, is its place. Mostly the first one tells that they aren't.
+    fn is_row(&self) -> bool
+        requires numbers { IsNumbers self.now }
+        requires wide { self.now.width ≢ 0 }
+        ensures yes { IsTrue result → (i : ℕ) → i < self.now.count → offset_at (raw_numbers_of self.now) i ≡ i }
+        ensures no { result ≡ false → (i : ℕ) × (i < self.now.count) × (offset_at (raw_numbers_of self.now) i ≢ i) }
+    {
         for i in 0..self.count {
-            let offset = self.offset(i);
-            span.greatest = span.greatest.max(offset);
-            if offset == 0 {
-                span.from_least = true;
-            }
-            if offset != i as u32 {
-                span.row = false;
+            if self.wide_offset(i) != i as u32 {
+                return false;
             }
         }
-        span
+        true
     }
 
     /// The numbers with which the leaf begins, `count` of them, and where the bytes behind them begin.

@@ -225,7 +225,7 @@ impl<const D: usize> Slots<D> {
     }
 
     /// The key of entry `i` in dimension `d`, as a number.
-    fn rank(&self, parts: &Parts, i: usize, d: usize) -> u32
+    pub fn rank(&self, parts: &Parts, i: usize, d: usize) -> u32
         requires dims { (1 ≤ D) × (D ≤ 8) }
         requires parts { IsParts D parts.now }
         requires slots { AreSlots D parts.now self.now }

@@ -1,11 +1,11 @@
 //! Reading the sorted bytes of a leaf.
 
-ghost use Rattle.std.specs.Prelude.{◌≡◌, ◌≤◌, ◌<◌, ◌*◌, ◌+◌, ◌-◌, ◌++◌, ◌∷◌, ◌↔◌, ℕ, List, length, IfSome, IsSome, IsTrue, take, replicate};
+ghost use Rattle.std.specs.Prelude.{◌≡◌, ◌≤◌, ◌<◌, ◌%◌, ◌*◌, ◌+◌, ◌-◌, ◌++◌, ◌∷◌, ◌↔◌, ℕ, List, length, IfSome, IsSome, IsTrue, take, replicate};
 ghost use Rattle.std.specs.List.{flat_map};
 ghost use Rattle.leaf_codec.specs.Spelling.{pieces, piece_bytes, sorted_bytes};
 ghost use Rattle.leaf_codec.specs.Words.{pairs_expanded};
 
-use crate::runs::{count_pieces, first_piece};
+use crate::runs::count_pieces;
 
 /// A byte for each entry of a leaf, from the front on.
 pub type Table = [u8; 500];
@@ -52,10 +52,10 @@ fn take_pieces(b: &[u8], count: usize) -> Option<(Table, &[u8])>
         return None;
     }
     let (pieces, rest) = rest.split_at(size);
-    let table = filled(pieces, count)?;
-    if !are_pieces(&table[..count], pieces) {
+    if !are_cut(pieces) {
         return None;
     }
+    let table = filled(pieces, count)?;
     Some((table, rest))
 }
 
@@ -102,25 +102,19 @@ fn fill(table: &mut Table, at: usize, end: usize, byte: u8)
     }
 }
 
-/// Whether the pieces of the bytes are spelled so.
-fn are_pieces(bytes: &[u8], spelled: &[u8]) -> bool
-    ensures { IsTrue result ↔ (flat_map piece_bytes (pieces bytes.now) ≡ spelled.now) }
+/// Whether the bytes that these pieces say would be cut so: each piece begins another byte, or goes on behind 256 of its own.
+fn are_cut(spelled: &[u8]) -> bool
+    requires { length spelled.now % 2 ≡ 0 }
+    ensures { IsTrue result ↔ (flat_map piece_bytes (pieces (pairs_expanded spelled.now)) ≡ spelled.now) }
 {
-    let mut rest = bytes;
-    let mut left = spelled;
-    while !rest.is_empty() {
-        if left.len() < 2 {
+    let mut rest = spelled;
+    while rest.len() >= 4 {
+        let whole = rest[1] == 255;
+        let other = rest[0] != rest[2];
+        if !(whole | other) {
             return false;
         }
-        let n = first_piece(rest);
-        if left[0] != rest[0] {
-            return false;
-        }
-        if left[1] as usize + 1 != n {
-            return false;
-        }
-        rest = &rest[n..];
-        left = &left[2..];
+        rest = &rest[2..];
     }
-    left.is_empty()
+    true
 }

@@ -12,11 +12,11 @@ ghost use Rattle.leaf_codec.specs.Views.{IsParts, IsReadable, AreDimensionsOf, A
 
 use crate::byte_set::ByteSet;
 use crate::dimensions::narrowest;
-use crate::order::by_leaf_order;
+use crate::in_order::are_in_order;
 use crate::read_numbers::Numbers;
 use crate::read_parts::{Parts, Slots};
 use crate::size::greatest_leaf;
-use point_codec::{Cell, Entry, Point};
+use point_codec::{Cell, Point};
 use std::marker::Model;
 
 /// The entries of a leaf, read in its bytes. Contracts see the list of them.
@@ -139,54 +139,4 @@ fn different(bytes: &[u8], start: usize, stride: usize, count: usize) -> usize
         seen.insert(bytes[start + i * stride]);
     }
     seen.count()
-}
-
-/// Entry `i`.
-fn entry<const D: usize>(numbers: &Numbers, parts: &Parts, slots: &Slots<D>, i: usize) -> Entry<D>
-    requires readable { IsReadable D numbers.now parts.now slots.now }
-    requires within { i < numbers.now.count }
-    ensures { item_of result ≡ raw_item D (raw_numbers_of numbers.now) (raw_keys_of parts.now) i }
-{
-    Entry {
-        doc: numbers.number(i),
-        point: slots.point(parts, i),
-    }
-}
-
-/// The dimension that leads in leaf order.
-fn leading<const D: usize>(parts: &Parts) -> usize
-    requires { 1 ≤ D }
-    ensures value { result ≡ if nat_lt parts.now.sorted D then parts.now.sorted else 0 }
-    ensures within { result < D }
-{
-    if parts.sorted < D { parts.sorted } else { 0 }
-}
-
-/// Whether the entries ascend strictly in leaf order and lie inside the cell.
-fn are_in_order<const D: usize>(
-    numbers: &Numbers,
-    parts: &Parts,
-    slots: &Slots<D>,
-    cell: &Cell<D>,
-) -> bool
-    requires readable { IsReadable D numbers.now parts.now slots.now }
-    requires some { 1 ≤ numbers.now.count }
-    ensures { IsTrue result ↔ AscendInside (if nat_lt parts.now.sorted D then parts.now.sorted else 0) (region_of cell.now) (items_said D numbers.now parts.now) }
-{
-    let d = leading::<D>(parts);
-    let mut last = entry(numbers, parts, slots, 0);
-    if !cell.has(&last.point) {
-        return false;
-    }
-    for i in 1..numbers.count {
-        let next = entry(numbers, parts, slots, i);
-        if !cell.has(&next.point) {
-            return false;
-        }
-        if !by_leaf_order(d, &last, &next).is_lt() {
-            return false;
-        }
-        last = next;
-    }
-    true
 }

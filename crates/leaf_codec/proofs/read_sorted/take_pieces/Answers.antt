@@ -23,17 +23,17 @@ returns-in_err-table-clause-only c bytes tail long e =
     let f = cut_front c.in_ok-number.number.now c.in_ok-number.rest.now bytes tail (ap (λ (t : List ℕ). 1 ∷ t) (sym c.in_ok-number.ensures.cases.0) ∙ e) in
     absurd (true≢false (sym (c.in_err-table.ensures.only (ap length (ap pairs_expanded c.split_at.ensures.front ∙ f.expanded) ∙ long))))
 
-pub returns-then-not-are_pieces-clause-only : goal.returns-then-not-are_pieces-clause-only
-returns-then-not-are_pieces-clause-only c bytes tail long e =
+pub returns-then-not-are_cut-clause-only : goal.returns-then-not-are_cut-clause-only
+returns-then-not-are_cut-clause-only c bytes tail long e =
     let f = cut_front c.in_ok-number.number.now c.in_ok-number.rest.now bytes tail (ap (λ (t : List ℕ). 1 ∷ t) (sym c.in_ok-number.ensures.cases.0) ∙ e) in
-    let same : take c.args.count c.in_ok-table.table ≡ bytes = c.in_ok-table.ensures.found ∙ ap pairs_expanded c.split_at.ensures.front ∙ f.expanded in
+    let same : pairs_expanded c.split_at.result.0.now ≡ bytes = ap pairs_expanded c.split_at.ensures.front ∙ f.expanded in
     let spelled = ap (λ (t : List ℕ). flat_map piece_bytes (pieces t)) same ∙ sym f.spelled ∙ sym c.split_at.ensures.front in
-    absurd (true≢false (sym (c.are_pieces.ensures.1 spelled) ∙ c.if-not-are_pieces.true))
+    absurd (true≢false (sym (c.are_cut.ensures.1 spelled) ∙ c.if-not-are_cut.true))
 
 pub returns-clause-found : goal.returns-clause-found
 returns-clause-found c =
     let bs = take c.args.count c.in_ok-table.table in
-    let is = c.are_pieces.ensures.0 c.if-not-are_pieces.false in
+    let is = ap (λ (t : List ℕ). flat_map piece_bytes (pieces t)) c.in_ok-table.ensures.found ∙ c.are_cut.ensures.0 c.if-not-are_cut.false in
     let long = c.split_at.ensures.front_len in
     ap (λ (t : List ℕ). 1 ∷ t) c.in_ok-number.ensures.cases.0
     ∙ ap (λ (t : List ℕ). 1 ∷ c.in_ok-number.number.now ∷ t) (sym (take-append-drop (2 * c.in_ok-number.number.now) c.in_ok-number.rest.now) ∙ (λ i. sym c.split_at.ensures.front i ++ sym c.split_at.ensures.back i))
