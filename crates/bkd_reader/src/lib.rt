@@ -13,4 +13,8 @@ pub use costs::{Tally, survey};
 pub use walk::intersect;
 
 #[cfg(test)]
+mod form_tests;
+#[cfg(test)]
+mod row_tests;
+#[cfg(test)]
 mod tests;

@@ -55,13 +55,19 @@ const ROWS: [Row; 6] = [
     ((5, 7), &[3], (&[3], 0, 1), (0, 3)),
 ];
 
-/// A folder with the segment, and its head.
-fn stored(rt: &HostRuntime, leaves: &[u8]) -> Result<(MemFolder, SegmentHead<1>), Fail>
-    requires { length leaves.now ≤ 4064 }
+/// A folder with the segment of these fields, this index and these leaves, and its head.
+pub fn stored<const D: usize>(
+    rt: &HostRuntime,
+    fields: &[u8],
+    index: &[u8],
+    leaves: &[u8],
+) -> Result<(MemFolder, SegmentHead<D>), Fail>
+    requires dims { (1 ≤ D) × (D ≤ 8) }
+    requires few { length leaves.now ≤ 4064 }
 {
-    let mut body = FIELDS.to_vec(rt.alloc())?;
+    let mut body = fields.to_vec(rt.alloc())?;
     body.resize(4064, 0)?;
-    body.extend_from_slice(&INDEX)?;
+    body.extend_from_slice(index)?;
     body.resize(8128, 0)?;
     body.extend_from_slice(leaves)?;
     let bytes = pages_of(rt.alloc(), &SEGMENT, body.as_slice())?;
@@ -73,13 +79,14 @@ fn stored(rt: &HostRuntime, leaves: &[u8]) -> Result<(MemFolder, SegmentHead<1>)
     }
 }
 
-fn line(ends: (i32, i32)) -> BoxShape<1> {
+/// The box from one end to the other.
+pub fn line(ends: (i32, i32)) -> BoxShape<1> {
     BoxShape::new(Point { c: [ends.0] }, Point { c: [ends.1] })
 }
 
 #[test]
 fn hits_and_costs(rt: HostRuntime) -> Result<(), Fail> {
-    let (mut folder, head) = stored(&rt, &LEAVES)?;
+    let (mut folder, head) = stored(&rt, &FIELDS, &INDEX, &LEAVES)?;
     let mut cache = PageCache::new(rt.alloc(), 4)?;
     for (ends, docs, (expected, tests, compares), (tested, touched)) in ROWS {
         let live = LiveBits::of_docs(rt.alloc(), docs)?;
@@ -120,39 +127,61 @@ fn hits_and_costs(rt: HostRuntime) -> Result<(), Fail> {
     Ok(())
 }
 
-/// Whether the walk with this box is done where call number `fail` of the folder fails, over a cache that keeps no page.
-fn done(rt: &HostRuntime, ends: (i32, i32), fail: u64) -> Result<bool, Fail> {
-    let (mut folder, head) = stored(rt, &LEAVES)?;
-    folder.plan(vec![in rt.alloc(); fail]?, None);
+/// The numbers that a walk with the box finds, over a cache that keeps no page.
+pub fn walked<const D: usize>(
+    rt: &HostRuntime,
+    folder: &mut MemFolder,
+    head: &SegmentHead<D>,
+    live: &LiveBits,
+    shape: &mut BoxShape<D>,
+) -> Result<Result<Vec<u32>, PageFault>, Fail> {
     let mut cache = PageCache::new(rt.alloc(), 4)?;
-    let live = LiveBits::of_docs(rt.alloc(), &[0, 1, 2, 3, 4])?;
     let mut hits = Vec::new(rt.alloc());
-    let mut shape = line(ends);
-    let done = intersect(
-        rt.alloc(),
-        &head,
-        &mut cache,
-        &mut folder,
-        &mut shape,
-        &live,
-        &mut hits,
-    );
-    Ok(done.is_ok())
+    let done = intersect(rt.alloc(), head, &mut cache, folder, shape, live, &mut hits);
+    Ok(match done {
+        Ok(()) => Ok(hits),
+        Err(fault) => Err(fault),
+    })
+}
+
+/// How many pages a walk with the box reads, over a cache that keeps none: its first read is made to fail, then its second and so on
+/// until the walk is done. Each that fails is answered, and leaves the file.
+pub fn reads<const D: usize>(
+    rt: &HostRuntime,
+    folder: &mut MemFolder,
+    head: &SegmentHead<D>,
+    live: &LiveBits,
+    shape: &mut BoxShape<D>,
+) -> Result<u64, Fail> {
+    let name = FileName::Segment(head.id());
+    let file = folder.get(&name).unwrap_or(&[]).to_vec(rt.alloc())?;
+    for call in 0..9 {
+        folder.plan(vec![in rt.alloc(); call]?, None);
+        match walked(rt, folder, head, live, shape)? {
+            Ok(_) => {
+                folder.plan(Vec::new(rt.alloc()), None);
+                return Ok(call);
+            }
+            Err(PageFault::Failed) => {}
+            Err(_) => Err("another fault")?,
+        }
+        if folder.get(&name) != Some(file.as_slice()) {
+            Err("another file")?;
+        }
+    }
+    Err("too many reads")?
 }
 
 #[test]
 fn three_leaves_of_a_page_are_read_once_and_none_is_read_outside(
     rt: HostRuntime,
 ) -> Result<(), Fail> {
-    assert_eq!(rt;
-        (done(&rt, (0, 10), 0)?, done(&rt, (0, 10), 1)?),
-        (false, true)
-    );
-    assert_eq!(rt;
-        (done(&rt, (0, 5), 0)?, done(&rt, (0, 5), 1)?),
-        (false, true)
-    );
-    assert_eq!(rt; done(&rt, (8, 9), 0)?, true);
+    let (mut folder, head) = stored(&rt, &FIELDS, &INDEX, &LEAVES)?;
+    let live = LiveBits::of_docs(rt.alloc(), &[0, 1, 2, 3, 4])?;
+    for (ends, expected) in [((0, 10), 1), ((0, 5), 1), ((8, 9), 0)] {
+        let read = reads(&rt, &mut folder, &head, &live, &mut line(ends))?;
+        assert_eq!(rt; read, expected, "{ends:?}");
+    }
     Ok(())
 }
 
@@ -173,7 +202,7 @@ fn place(fault: &PageFault) -> Option<(u32, u16, u16)> {
 
 #[test]
 fn a_leaf_astray(rt: HostRuntime) -> Result<(), Fail> {
-    let (mut folder, head) = stored(&rt, &ASTRAY)?;
+    let (mut folder, head) = stored(&rt, &FIELDS, &INDEX, &ASTRAY)?;
     let mut cache = PageCache::new(rt.alloc(), 4)?;
     let live = LiveBits::of_docs(rt.alloc(), &[0, 1, 2, 3, 4])?;
     for (ends, hits_then, damage) in [

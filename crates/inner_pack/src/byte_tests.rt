@@ -44,10 +44,24 @@ const ONE_LEAF: [u8; 129] = [
 ];
 
 /// Whether the bytes are an index. Those that are none come back as they were.
-fn is_index<const D: usize>(form: u8, leaves: u32, bytes: Vec<u8>) -> bool
+fn is_index<const D: usize>(
+    alloc: Global,
+    form: u8,
+    leaves: u32,
+    bytes: &[u8],
+) -> Result<bool, Fail>
     requires { (1 ≤ D) × (D ≤ 8) }
 {
-    Index::<D>::read(form, leaves, Bytes::new(bytes)).is_ok()
+    let handed = Bytes::new(bytes.to_vec(alloc)?);
+    match Index::<D>::read(form, leaves, handed) {
+        Ok(_) => Ok(true),
+        Err(NotIndex { b }) => {
+            if b.as_slice() != bytes {
+                Err("other bytes come back")?;
+            }
+            Ok(false)
+        }
+    }
 }
 
 /// How many of the byte strings that differ from the body in one byte, by one of these changes, are an index too.
@@ -65,7 +79,8 @@ fn one_byte_off<const D: usize>(
         for change in changes {
             let mut bytes = body.to_vec(alloc)?;
             bytes[at] ^= *change;
-            found = found.saturating_add(u32::from(is_index::<D>(form, leaves, bytes)));
+            let is_index = is_index::<D>(alloc, form, leaves, bytes.as_slice())?;
+            found = found.saturating_add(u32::from(is_index));
         }
     }
     Ok(found)
@@ -77,8 +92,8 @@ fn fronts<const D: usize>(alloc: Global, form: u8, leaves: u32, body: &[u8]) -> 
 {
     let mut found = 0u32;
     for n in 0..body.len() {
-        let front = body[..n].to_vec(alloc)?;
-        found = found.saturating_add(u32::from(is_index::<D>(form, leaves, front)));
+        let is_index = is_index::<D>(alloc, form, leaves, &body[..n])?;
+        found = found.saturating_add(u32::from(is_index));
     }
     Ok(found)
 }

@@ -148,12 +148,53 @@ fn a_file_is_that_of_a_segment_or_its_damage_is_told(rt: HostRuntime) -> Result<
 }
 
 #[test]
+fn each_call_of_opening_that_fails_is_told(rt: HostRuntime) -> Result<(), Fail> {
+    let bytes = file(&rt, 7, &OWN_HEAD, &OWN, &LEAVES)?;
+    let mut folder = folder_with(&rt, FileName::Segment(7), bytes.as_slice())?;
+    // the size, the head and the index
+    for (call, expected) in [
+        (0, Told::Failed),
+        (1, Told::Failed),
+        (2, Told::Failed),
+        (3, Told::Fine),
+    ] {
+        folder.plan([call].to_vec(rt.alloc())?, None);
+        let told = match open_segment::<1, MemFolder>(rt.alloc(), &mut folder, 7) {
+            Ok(_) => Told::Fine,
+            Err(fault) => fault_told(&fault),
+        };
+        assert_eq!(rt; told, expected, "call {call}");
+        assert_eq!(rt; folder.get(&FileName::Segment(7)), Some(bytes.as_slice()));
+    }
+    Ok(())
+}
+
+#[test]
 fn a_page_that_was_moved_is_told(rt: HostRuntime) -> Result<(), Fail> {
     let mut bytes = Vec::new(rt.alloc());
     put_page(&mut bytes, 7, 0, &OWN_HEAD)?;
     put_page(&mut bytes, 7, 2, &LEAVES)?;
     put_page(&mut bytes, 7, 1, &OWN)?;
     assert_eq!(rt; opened(&rt, bytes.as_slice())?, Told::Page(1));
+    Ok(())
+}
+
+/// The bytes with the lowest bit of one of them changed.
+fn flipped(rt: &HostRuntime, bytes: &[u8], at: usize) -> Result<Vec<u8>, Fail> {
+    let mut bad = bytes.to_vec(rt.alloc())?;
+    if at < bad.len() {
+        bad[at] ^= 1;
+    }
+    Ok(bad)
+}
+
+#[test]
+fn each_byte_of_the_first_page_counts(rt: HostRuntime) -> Result<(), Fail> {
+    let bytes = file(&rt, 7, &OWN_HEAD, &OWN, &LEAVES)?;
+    for at in 0..4096 {
+        let bad = flipped(&rt, bytes.as_slice(), at)?;
+        assert_eq!(rt; opened(&rt, bad.as_slice())?, Told::Page(0), "byte {at}");
+    }
     Ok(())
 }
 

@@ -79,6 +79,18 @@ fn a_file_of_live_bits_that_is_none_is_told(rt: HostRuntime) -> Result<(), Fail>
 }
 
 #[test]
+fn each_byte_of_the_page_of_live_bits_counts(rt: HostRuntime) -> Result<(), Fail> {
+    let mut page = seal(2, 2, 0, &BODY).b;
+    for at in 0..4096 {
+        page[at] ^= 1;
+        assert_eq!(rt; read(&rt, &page)?, Told::Page(0), "byte {at}");
+        page[at] ^= 1;
+    }
+    assert_eq!(rt; read(&rt, &page)?, Told::Fine);
+    Ok(())
+}
+
+#[test]
 fn a_body_of_live_bits_that_is_none_is_told(rt: HostRuntime) -> Result<(), Fail> {
     // another segment, another generation, a span, a count, a bit
     for (at, byte) in [(15, 3), (23, 2), (31, 6), (35, 2), (36, 0x42)] {
@@ -98,6 +110,30 @@ fn a_body_of_live_bits_that_is_none_is_told(rt: HostRuntime) -> Result<(), Fail>
     let mut folder = MemFolder::new(rt.alloc(), Vec::new(rt.alloc()));
     let missing = read_live(rt.alloc(), &mut folder, 2, 1);
     assert!(rt; missing.is_err_and(|fault| fault_told(&fault) == Told::Missing));
+    Ok(())
+}
+
+#[test]
+fn each_call_of_reading_live_bits_that_fails_is_told(rt: HostRuntime) -> Result<(), Fail> {
+    let mut folder = MemFolder::new(rt.alloc(), Vec::new(rt.alloc()));
+    let live = LiveBits::of_docs(rt.alloc(), &[3, 40_003])?;
+    assert!(rt; write_live(rt.alloc(), &mut folder, 2, 1, &live).is_ok());
+    let bytes = folder.get(&LIVE_FILE).unwrap_or(&[]).to_vec(rt.alloc())?;
+    // the size and two pages
+    for (call, expected) in [
+        (0, Told::Failed),
+        (1, Told::Failed),
+        (2, Told::Failed),
+        (3, Told::Fine),
+    ] {
+        folder.plan([call].to_vec(rt.alloc())?, None);
+        let told = match read_live(rt.alloc(), &mut folder, 2, 1) {
+            Ok(_) => Told::Fine,
+            Err(fault) => fault_told(&fault),
+        };
+        assert_eq!(rt; told, expected, "call {call}");
+        assert_eq!(rt; folder.get(&LIVE_FILE), Some(bytes.as_slice()));
+    }
     Ok(())
 }
 
