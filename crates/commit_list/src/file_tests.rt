@@ -103,23 +103,31 @@ fn flipped(rt: &impl AllocGlobal, bytes: &[u8], at: usize) -> Result<Vec<u8>, Fa
     Ok(bad)
 }
 
-/// Bytes of the file of 200 segments that are changed, and what is wrong then.
-const PAGES: [(usize, &str); 4] = [
-    (0, "commit.bkd page 0"),
-    (4095, "commit.bkd page 0"),
-    (4096, "commit.bkd page 1"),
-    (8191, "commit.bkd page 1"),
-];
-
 #[test]
-fn bad_pages(rt: HostRuntime) -> Result<(), Fail> {
+fn each_byte_of_a_page_counts(rt: HostRuntime) -> Result<(), Fail> {
     let body = long_body(rt.alloc(), 200)?;
     let file = file_of(&rt, body.as_slice())?;
-    for (at, want) in PAGES {
+    for at in 0..8192 {
         let bad = flipped(&rt, file.as_slice(), at)?;
+        let want = if at < 4096 {
+            "commit.bkd page 0"
+        } else {
+            "commit.bkd page 1"
+        };
         says(&rt, bad.as_slice(), want)?;
     }
     Ok(())
+}
+
+#[test]
+fn pages_that_change_places(rt: HostRuntime) -> Result<(), Fail> {
+    let body = long_body(rt.alloc(), 200)?;
+    let file = file_of(&rt, body.as_slice())?;
+    assert_eq!(rt; file.len(), 8192);
+    let (first, second) = file.as_slice().split_at(4096);
+    let mut bad = second.to_vec(rt.alloc())?;
+    bad.extend_from_slice(first)?;
+    says(&rt, bad.as_slice(), "commit.bkd page 0")
 }
 
 /// The Commit file of the body with one byte changed, or put behind it.
