@@ -1,6 +1,6 @@
 -- Numbers in ascending order.
-use Rattle.std.proofs.Common.{◌≡◌, ℕ, ◌<◌, ◌≤◌, ◌+◌, Bool, true, false, ◌≢◌, eqb, List, [], ◌∷◌, ◌++◌, length, get_or, take, drop, map, refl, sym, ap, subst, ◌∙◌, ◌⊎◌, inl, inr, arith}
-use Rattle.std.specs.List.{All, AllPairs, Contains, filter, insert}
+use Rattle.std.proofs.Common.{◌≡◌, ℕ, ◌<◌, ◌≤◌, ◌+◌, true, false, ◌≢◌, eqb, List, [], ◌∷◌, ◌++◌, length, get_or, take, drop, map, sym, ap, subst, ◌∙◌, ◌⊎◌, inl, inr, arith}
+use Rattle.std.specs.List.{All, AllPairs, Contains, insert}
 use Rattle.std.specs.List.Sorted.{IsStrictlyIncreasing}
 use Rattle.std.proofs.lemmas.Bool.{eq-eqb}
 use Rattle.std.proofs.lemmas.List.{take-append-drop, take-map, drop-map, map-append, get_or-map, get_or-drop, length-map, length-drop}
@@ -10,7 +10,7 @@ use Rattle.std.proofs.lemmas.List.Elements.{All-map, All-contains, All-contains_
 use Rattle.std.proofs.lemmas.List.Kept.{AllPairs-cons, AllPairs-from_increasing}
 use Rattle.documents.specs.Entries.{is_among}
 use Rattle.segment_file.specs.Heads.{Head}
-use Rattle.documents.proofs.Lists.{cons_cases, cons_head, pairs_append, pairs_head, pairs_none, pairs_tail}
+use Rattle.documents.proofs.Lists.{cons_cases, pairs_append, pairs_head, pairs_none, pairs_tail}
 
 pub pairs_left : {X : Type 0} (R : X → X → Type 0) (xs ys : List X) → AllPairs R (xs ++ ys) → AllPairs R xs
 pairs_left R [] ys h = pairs_none R

@@ -1,7 +1,7 @@
 -- Calls that only read, one after another.
-use Rattle.std.proofs.Common.{◌≡◌, ℕ, ◌<◌, Bool, true, false, cond, length, List, [], ◌∷◌, ◌++◌, get_or, refl, sym, ap, subst, ◌∙◌, ◌⊎◌, inl, inr, ⊎_elim, Some, Err}
+use Rattle.std.proofs.Common.{◌≡◌, ℕ, ◌<◌, Bool, true, false, cond, length, List, [], ◌∷◌, get_or, refl, sym, ap, subst, ◌∙◌, ◌⊎◌, inl, inr, ⊎_elim, Some, Result, Ok, Err}
 use Rattle.std.specs.Prelude.{IsTrue}
-use Rattle.std.specs.List.{Contains, filter, slice_get}
+use Rattle.std.specs.List.{Contains, slice_get}
 use Rattle.std.proofs.lemmas.Option.{get_or_from_slice_get, slice_get_within}
 use Rattle.std.proofs.lemmas.List.{get_or-map, length-map}
 use Rattle.outer_io.specs.Files.{Files}
@@ -12,15 +12,17 @@ use Rattle.point_codec.specs.Points.{Region}
 use Rattle.page_cache.specs.declared.cache.PageCache.{PageCache}
 use Rattle.page_cache.specs.declared.faults.PageFault.{PageFault}
 use Rattle.page_cache.specs.Cache.{KeepsFile, Agrees}
-use Rattle.page_cache.specs.Evidence.{FaultShows}
+use Rattle.page_cache.specs.declared.faults.PageFault.TheVariants.{Failed, Damaged, Memory}
+use Rattle.page_cache.specs.Evidence.{FaultShows, OnDamage}
 use Rattle.segment_file.specs.Heads.{Head}
 use Rattle.segment_file.specs.Damages.{IsLeafDamage}
 use Rattle.documents.specs.Entries.{is_among}
 use Rattle.documents.proofs.Lists.{cons_cases, cons_head, in_filter, in_map, nil_none, of_filter}
 use Rattle.nearest_query.specs.Segments.{HaveTrees, IsSegmentDamage, HasId, no_head}
 use Rattle.nearest_query.proofs.Parts.{on_damage}
-use Rattle.segment_view.specs.Parts.{Part, part_of, heads_of, ids_of, parts_among}
+use Rattle.segment_view.specs.Parts.{Part, heads_of, ids_of, parts_among}
 use Rattle.segment_view.specs.Calm.{IsCalm}
+use Rattle.segment_view.specs.Damages.{IsReadDamage, IsPartDamage}
 use Rattle.segment_view.proofs.Beside.{ids_heads}
 
 pub calm_none : (told : Bool) (files : Files) (cache : PageCache) (ids : List ℕ) → IsCalm told files files cache cache ids
@@ -90,3 +92,21 @@ calm_alone told old new before after id files agrees others = record {
   agrees = agrees;
   others = λ i h. ⊎_elim (λ k. inl k) (λ k. inr (subst (Contains (id ∷ [])) (sym k) (cons_head id []))) (others i h);
 }
+
+-- ---- damages
+
+-- what is shown of each tree is shown of all
+pub shown_each : {T : Type 0} (D : ℕ) (head : Head) (r : Result T PageFault) → ((root : Region) (t : IndexTree) → HasTree D head.index root t → OnDamage r (IsLeafDamage D head 0 front t)) → OnDamage r (IsReadDamage D head)
+shown_each D head (Ok v) shown = tt
+shown_each D head (Err Failed) shown = tt
+shown_each D head (Err (Damaged d)) shown = shown
+shown_each D head (Err Memory) shown = tt
+
+-- a damage of a segment, where its id is among some, is one of those of the list
+pub part_among : {T : Type 0} (D : ℕ) (ids : List ℕ) (parts : List Part) (p : Part) → Contains parts p → (r : Result T PageFault) → OnDamage r (IsPartDamage D (parts_among ids (p ∷ []))) → OnDamage r (IsPartDamage D (parts_among ids parts))
+part_among D ids parts p there r = on_damage (IsPartDamage D (parts_among ids (p ∷ []))) (IsPartDamage D (parts_among ids parts)) r (λ d h. (h.0, here h.0 h.1, h.2))
+  where
+    here : (q : Part) → Contains (parts_among ids (p ∷ [])) q → Contains (parts_among ids parts) q
+    here q is =
+        let of = of_filter (λ (x : Part). is_among ids x.head.id) (p ∷ []) q is in
+        in_filter (λ (x : Part). is_among ids x.head.id) parts q (⊎_elim (λ e. subst (Contains parts) e there) (λ k. nil_none q (Contains parts q) k) (cons_cases p [] q of.0)) of.1

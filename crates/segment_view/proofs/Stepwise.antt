@@ -1,11 +1,10 @@
 -- What a loop over segments has come to, one segment at a time.
-use Rattle.std.proofs.Common.{◌≡◌, ℕ, ◌+◌, ◌<◌, ◌≤◌, suc, Bool, true, false, not, cond, List, [], ◌∷◌, ◌++◌, length, map, take, drop, get_or, refl, sym, ap, subst, ◌∙◌, arith, Some, ℤ}
-use Rattle.std.specs.List.{filter, remove, slice_get, sum_by}
-use Rattle.std.proofs.lemmas.List.{map-append, take-append-drop, take_more, drop_more, append_assoc, take_at, drop_at, length-take-le, length_push, length-append, get_or_append_left, get_or-take, get_or-map}
+use Rattle.std.proofs.Common.{◌≡◌, ℕ, ◌+◌, ◌<◌, ◌≤◌, suc, Bool, true, false, not, cond, List, [], ◌∷◌, ◌++◌, length, take, drop, get_or, sym, ap, subst, ◌∙◌, arith, Some, ℤ}
+use Rattle.std.specs.List.{remove, slice_get}
+use Rattle.std.proofs.lemmas.List.{map-append, take-append-drop, drop_more, append_assoc, take_at, drop_at, length-take-le, length_push, length-append, get_or_append_left, get_or-take, get_or-map}
 use Rattle.std.proofs.lemmas.List.Elements.{filter-append}
 use Rattle.std.proofs.lemmas.List.Sums.{sum_by-append}
 use Rattle.std.proofs.lemmas.Option.{get_or_from_slice_get, slice_get_within, slice_get-get_or}
-use Rattle.point_codec.specs.Points.{Item}
 use Rattle.documents.specs.Entries.{is_among, numbers_found}
 use Rattle.documents.proofs.HitNumbers.{found_append}
 use Rattle.inner_pack.specs.Trees.{IndexTree}

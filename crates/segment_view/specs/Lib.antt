@@ -2,3 +2,4 @@ pub mod Parts
 pub mod Costs
 pub mod Found
 pub mod Calm
+pub mod Damages

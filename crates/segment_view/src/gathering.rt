@@ -11,10 +11,10 @@ ghost use Rattle.page_cache.specs.Cache.{Agrees};
 ghost use Rattle.page_cache.specs.Causes.{HasPageCause};
 ghost use Rattle.page_cache.specs.Evidence.{OnDamage, NotDamaged};
 ghost use Rattle.segment_file.specs.Damages.{IsLeafDamage, IsLeafDamageOf};
-ghost use Rattle.nearest_query.specs.Segments.{HaveTrees, IsSegmentDamage};
 ghost use Rattle.segment_view.specs.Parts.{Contents, IsRead, AreRead, part_of, heads_of, ids_of, live_in_parts, parts_among, has_live};
 ghost use Rattle.segment_view.specs.Costs.{leaves_in};
 ghost use Rattle.segment_view.specs.Calm.{IsCalm};
+ghost use Rattle.segment_view.specs.Damages.{IsPartDamage};
 
 use crate::segments::Segments;
 use live_bits::LiveBits;
@@ -45,7 +45,7 @@ pub fn gather<const D: usize, F: Pages>(
     ensures calm { IsCalm F.told (F.files folder.old) (F.files folder.new) cache.old cache.new (ids_of (parts_among ids.now segments.now)) }
     // What an error says.
     ensures cause { HasPageCause (F.faults folder.old) (F.faults folder.new) result }
-    ensures shown { (trees : ℕ → IndexTree) → HaveTrees D (heads_of segments.now) trees → OnDamage result (IsSegmentDamage D (heads_of segments.now) trees) }
+    ensures shown { OnDamage result (IsPartDamage D (parts_among ids.now segments.now)) }
     ensures damage { IsTrue F.told → Agrees (F.files folder.old) cache.old → OnDamage result (IsLeafDamageOf (F.files folder.old)) }
     ensures whole { IsTrue F.told → Agrees (F.files folder.old) cache.old → (c : Contents) → AreRead D (F.files folder.old) c segments.now → NotDamaged result }
 {
@@ -74,7 +74,7 @@ fn gather_one<const D: usize, F: Pages>(
     ensures reads { F.reads folder.new ≤ F.reads folder.old + leaves_in (heads_of (parts_among ids.now (part_of head.now live.now ∷ []))) }
     ensures calm { IsCalm F.told (F.files folder.old) (F.files folder.new) cache.old cache.new (ids_of (parts_among ids.now (part_of head.now live.now ∷ []))) }
     ensures cause { HasPageCause (F.faults folder.old) (F.faults folder.new) result }
-    ensures shown { (root : Region) (t : IndexTree) → HasTree D head.now.index root t → OnDamage result (IsLeafDamage D head.now 0 front t) }
+    ensures shown { OnDamage result (IsPartDamage D (parts_among ids.now (part_of head.now live.now ∷ []))) }
     ensures damage { IsTrue F.told → Agrees (F.files folder.old) cache.old → OnDamage result (IsLeafDamageOf (F.files folder.old)) }
     ensures whole { IsTrue F.told → Agrees (F.files folder.old) cache.old → (c : Contents) → IsRead D (F.files folder.old) c (part_of head.now live.now) → NotDamaged result }
 {

@@ -1,4 +1,4 @@
-use Rattle.std.proofs.Common.{◌≡◌, ◌≤◌, ◌+◌, ◌++◌, ℕ, List, [], ◌∷◌, true, ap, sym, subst, ◌∙◌, arith}
+use Rattle.std.proofs.Common.{◌≡◌, ◌++◌, List, [], ◌∷◌, true, Err, ap, sym, subst, ◌∙◌, arith}
 use Rattle.std.specs.List.{All}
 use Rattle.std.proofs.lemmas.List.Elements.{All-contains}
 use Rattle.std.proofs.lemmas.Result.{err_from_is_err_and}
@@ -6,7 +6,7 @@ use Rattle.point_codec.specs.Points.{Item}
 use Rattle.point_codec.specs.Seen.{items_of}
 use Rattle.segment_view.specs.Parts.{IsRead, part_of, ids_of, live_in_parts, parts_among, has_live}
 use Rattle.segment_view.proofs.Living.{part_in, all_widen}
-use Rattle.segment_view.proofs.Reading.{calm_then, calm_more, agrees_after, among_in, shown_at}
+use Rattle.segment_view.proofs.Reading.{calm_then, calm_more, agrees_after, among_in, part_among}
 use Rattle.segment_view.proofs.Stepwise.{leaves_among_more, leaves_among_upto, live_among_more}
 use Rattle.segment_view.proofs.gathering.gather.Goals as goal
 
@@ -56,9 +56,10 @@ returns-in_err-gather_one-clause-calm g c =
     c.in_err-gather_one.ensures.calm)
 
 pub returns-in_err-gather_one-clause-shown : goal.returns-in_err-gather_one-clause-shown
-returns-in_err-gather_one-clause-shown g c = λ trees have.
+returns-in_err-gather_one-clause-shown g c =
     let e = err_from_is_err_and c.from_residual.result c.from_residual.ensures.1 in
-    rw (e.1, e.2) (shown_at g.row.D c.args.segments.now c.loop-i.i (part_of c.part.result.0.now c.part.result.1.now) trees c.in_err-gather_one.field-0.0 c.part.ensures have c.in_err-gather_one.ensures.shown)
+    let p = part_of c.part.result.0.now c.part.result.1.now in
+    rw (e.1, e.2) (part_among {T = Unit {0}} g.row.D c.args.ids.now c.args.segments.now p (part_in c.args.segments.now c.loop-i.i p c.part.ensures) (Err c.in_err-gather_one.field-0.0) c.in_err-gather_one.ensures.shown)
 
 pub returns-in_err-gather_one-clause-whole : goal.returns-in_err-gather_one-clause-whole
 returns-in_err-gather_one-clause-whole g c = λ told agrees es read.

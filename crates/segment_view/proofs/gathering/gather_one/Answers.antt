@@ -1,17 +1,21 @@
-use Rattle.std.proofs.Common.{◌≡◌, ◌≤◌, ◌+◌, ◌++◌, ℕ, List, [], ◌∷◌, true, eqb, ap, sym, subst, ◌∙◌, arith, rules}
+use Rattle.std.proofs.Common.{◌≡◌, ◌≤◌, ◌+◌, ◌++◌, List, [], ◌∷◌, true, eqb, ap, sym, subst, ◌∙◌, arith}
 use Rattle.std.specs.Prelude.{OnOk}
-use Rattle.std.specs.List.{All, list_any}
+use Rattle.std.specs.List.{list_any}
 use Rattle.std.proofs.lemmas.List.Elements.{All-weaker}
 use Rattle.std.proofs.lemmas.Result.{on_ok_weaker}
 use Rattle.point_codec.specs.Points.{Item}
 use Rattle.point_codec.specs.Seen.{items_of}
 use Rattle.live_bits.specs.LiveSet.{is_live}
+use Rattle.page_cache.specs.Evidence.{OnDamage}
 use Rattle.documents.specs.Entries.{is_among}
+use Rattle.documents.proofs.Lists.{cons_head}
+use Rattle.nearest_query.proofs.Parts.{on_damage}
 use Rattle.segment_view.specs.Parts.{Part, part_of, heads_of, ids_of, live_in_parts, parts_among, has_live}
 use Rattle.segment_view.specs.Costs.{leaves_in}
 use Rattle.segment_view.specs.Calm.{IsCalm}
+use Rattle.segment_view.specs.Damages.{IsReadDamage, IsPartDamage}
 use Rattle.segment_view.proofs.Living.{live_in_one}
-use Rattle.segment_view.proofs.Reading.{among_one}
+use Rattle.segment_view.proofs.Reading.{among_one, shown_each}
 use Rattle.segment_view.proofs.gathering.gather_one.Goals as goal
 
 -- a segment whose id is one of these is read
@@ -35,7 +39,8 @@ returns g c =
           subst (λ (ps : List Part). g.F.Pages.reads c.append_live.new.folder ≤ g.F.Pages.reads c.args.folder.now + leaves_in (heads_of ps)) same (omega (arith, few));
       calm = subst (λ (ps : List Part). IsCalm g.F.Pages.told (g.F.Pages.files c.args.folder.now) (g.F.Pages.files c.append_live.new.folder) c.args.cache.now c.append_live.new.cache (ids_of ps)) same one.calm;
       cause = one.cause;
-      shown = one.shown;
+      shown = subst (λ (ps : List Part). OnDamage c.append_live.result (IsPartDamage g.row.D ps)) same
+          (on_damage (IsReadDamage g.row.D p.head) (IsPartDamage g.row.D (p ∷ [])) c.append_live.result (λ d h. (p, cons_head p [], h)) (shown_each g.row.D p.head c.append_live.result one.shown));
       damage = one.damage;
       whole = one.whole;
     }

@@ -1,4 +1,4 @@
-use Rattle.std.proofs.Common.{◌≡◌, ◌<◌, ◌++◌, ◌||◌, ◌∙◌, ap, sym, drop, map, take, length, arith, set}
+use Rattle.std.proofs.Common.{◌<◌, ◌||◌, ◌∙◌, ap, sym, length, arith, set}
 use Rattle.std.proofs.lemmas.List.Edits.{map_over_more}
 use Rattle.live_bits.specs.LiveSet.{is_live, without}
 use Rattle.segment_view.proofs.Beside.{cleared_more}

@@ -1,4 +1,4 @@
-use Rattle.std.proofs.Common.{◌≡◌, ℕ, ◌+◌, ◌-◌, ◌<◌, ◌≤◌, ◌++◌, List, length, take, drop, true, false, eqb, ap, sym, subst, ◌∙◌, arith, vec_len}
+use Rattle.std.proofs.Common.{◌≡◌, ◌+◌, ◌-◌, ◌≤◌, ◌++◌, List, length, take, drop, true, false, eqb, ap, sym, subst, ◌∙◌, arith}
 use Rattle.std.specs.List.{list_any, remove}
 use Rattle.std.proofs.lemmas.List.{take_all, drop_all, append-nil}
 use Rattle.std.proofs.lemmas.List.Edits.{length-remove}

@@ -1,4 +1,4 @@
-use Rattle.std.proofs.Common.{◌≤◌, arith}
+use Rattle.std.proofs.Common.{arith}
 use Rattle.bkd_reader.proofs.Trees.{tree_count}
 use Rattle.segment_view.proofs.Counting.{le_by_tree, near-le}
 use Rattle.segment_view.proofs.surveys.near_one.Goals as goal

@@ -1,4 +1,4 @@
-use Rattle.std.proofs.Common.{◌≡◌, ◌≤◌, ◌+◌, ◌*◌, ◌∙◌, ◌++◌, List, [], ◌∷◌, ap, sym, subst, take, arith}
+use Rattle.std.proofs.Common.{◌≡◌, ◌+◌, ◌∙◌, ◌++◌, List, [], ◌∷◌, ap, sym, subst, take, arith}
 use Rattle.std.proofs.lemmas.List.{take_more}
 use Rattle.segment_file.specs.Heads.{Head}
 use Rattle.nearest_query.specs.Segments.{AreNearLeaves}

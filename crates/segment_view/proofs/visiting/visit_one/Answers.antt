@@ -1,4 +1,4 @@
-use Rattle.std.proofs.Common.{◌≡◌, ◌≤◌, ◌+◌, ◌*◌, ◌++◌, List, [], ◌∷◌, ap, sym, subst, ◌∙◌, arith, ℕ}
+use Rattle.std.proofs.Common.{◌≡◌, ◌++◌, List, ap, sym, subst, ◌∙◌, arith, ℕ}
 use Rattle.std.specs.Prelude.{OnOk}
 use Rattle.inner_pack.specs.Trees.{IndexTree}
 use Rattle.segment_file.specs.Heads.{Head, count_of}

@@ -1,8 +1,7 @@
-use Rattle.std.proofs.Common.{◌≡◌, ◌<◌, ℕ, List, length, map, ap, sym, subst, ◌∙◌, arith, rules}
+use Rattle.std.proofs.Common.{◌<◌, ℕ, List, length, map, ap, sym, subst, ◌∙◌, arith, rules}
 use Rattle.std.specs.List.Sorted.{IsStrictlyIncreasing}
 use Rattle.documents.specs.Entries.{is_among}
 use Rattle.segment_file.specs.Heads.{Head}
-use Rattle.live_bits.specs.LiveSet.{LiveSet}
 use Rattle.segment_view.specs.Parts.{Part, parts_of, ids_of}
 use Rattle.segment_view.proofs.Beside.{ids_parts, ids_in_step, in_step_put, placed_put}
 use Rattle.segment_view.proofs.segments.Segments.insert.Goals as goal

@@ -1,0 +1,79 @@
+-- A set without documents.
+use Rattle.std.proofs.Common.{◌≡◌, ℕ, ◌≤◌, false, List, [], length, Option, Some, None, refl, arith}
+use Rattle.std.specs.List.{All}
+use Rattle.std.proofs.lemmas.List.Elements.{All-nil}
+use Rattle.outer_io.specs.declared.file_name.FileName.TheVariants.{Commit}
+use Rattle.outer_io.specs.Files.{Files}
+use Rattle.point_codec.specs.Points.{Item}
+use Rattle.leaf_codec.specs.Leaves.{leaf_limit}
+use Rattle.leaf_codec.specs.LeafOrder.{NoneTwice}
+use Rattle.documents.proofs.Kept.{no_docs}
+use Rattle.page_cache.specs.declared.cache.PageCache.{PageCache}
+use Rattle.page_cache.specs.Cache.{Agrees, KeepsFile}
+use Rattle.index_model.specs.State.{new_index}
+use Rattle.segment_view.specs.Parts.{Part}
+use Rattle.file_names.specs.Names.{NameList, is_named}
+use Rattle.segment_set.specs.Sets.{IsWell, NamedView, SetData}
+use Rattle.segment_set.specs.Seen.{Sees}
+
+abbrev pub empty_set : ℕ → NameList → PageCache → SetData
+empty_set leaf names cache = record {
+  leaf = leaf;
+  next = 0;
+  given = 0;
+  names = names;
+  parts = [];
+  buffer = [];
+  snapshots = [];
+  begun = None;
+  cache = cache;
+  saved = None;
+}
+
+-- its fields
+pub empty_is : (leaf : ℕ) (names : NameList) (cache : PageCache) (parts : List Part) (buffer : List Item) (snapshots : List NamedView) → parts ≡ [] → buffer ≡ [] → snapshots ≡ []
+    → record (empty_set leaf names cache) { parts = parts; buffer = buffer; snapshots = snapshots } ≡ empty_set leaf names cache
+empty_is leaf names cache parts buffer snapshots p b s = λ i. record (empty_set leaf names cache) { parts = p i; buffer = b i; snapshots = s i }
+
+none_twice_empty : NoneTwice []
+unfolding NoneTwice
+none_twice_empty x = omega arith
+
+pub well_empty : (D leaf : ℕ) (names : NameList) (cache : PageCache) → 1 ≤ D → D ≤ 8 → 2 ≤ leaf → leaf ≤ leaf_limit D → ((id : ℕ) → KeepsFile cache id → ⊥) → is_named names.names Commit ≡ false → IsWell D (empty_set leaf names cache)
+well_empty D leaf names cache some few least greatest none own = record {
+  some_dims = some;
+  few_dims = few;
+  least_leaf = least;
+  greatest_leaf = greatest;
+  numbered = omega arith;
+  most_given = omega arith;
+  spread = record { alone = λ number. omega arith; below = λ number le. (refl, refl) };
+  room = omega arith;
+  ordered = λ i j d le lt. absurd (omega (arith, lt));
+  once = none_twice_empty;
+  few = omega arith;
+  leaf_size = All-nil _;
+  live_fits = All-nil _;
+  named = All-nil _;
+  kept = All-nil _;
+  own = own;
+  few_snapshots = omega arith;
+  inputs = All-nil _;
+  few_inputs = omega arith;
+  built = λ n is. absurd cc;
+  cached = λ id kept. absurd (none id kept);
+}
+
+pub sees_empty : (D leaf : ℕ) (names : NameList) (cache : PageCache) (files : Files) → Agrees files cache → Sees D files (empty_set leaf names cache) (new_index D leaf)
+sees_empty D leaf names cache files agrees = record {
+  contents = λ id. [];
+  stands = record { now = All-nil _; kept = All-nil _; begun = tt; agrees = agrees };
+  dims = refl;
+  leaf = refl;
+  next = refl;
+  given = refl;
+  begun = refl;
+  docs = no_docs 0;
+  few = omega arith;
+  snapshots = tt;
+}

@@ -1,0 +1,109 @@
+-- Segments of which each entry is live.
+use Rattle.std.proofs.Common.{◌≡◌, ℕ, ◌+◌, ◌≤◌, Bool, true, false, not, cond, List, [], ◌∷◌, length, Option, None, Some, refl, sym, ap, subst, ◌∙◌, arith}
+use Rattle.std.proofs.Math.Logic.{∥∥₁_elim}
+use Rattle.std.proofs.Props.{props}
+use Rattle.std.specs.List.{All, Contains, filter}
+use Rattle.std.proofs.lemmas.List.Elements.{All-cons, All-contains, All-contains_itself, All-head, All-nil, All-tail, All-weaker, Contains-append_right}
+use Rattle.std.proofs.lemmas.List.Filters.{length-filter_both}
+use Rattle.outer_io.specs.declared.file_name.FileName.TheVariants.{Segment}
+use Rattle.outer_io.specs.Files.{Files, bytes_of}
+use Rattle.point_codec.specs.Points.{Item}
+use Rattle.live_bits.specs.LiveSet.{is_live}
+use Rattle.documents.specs.Entries.{has_entry}
+use Rattle.documents.proofs.Lists.{cons_head, in_filter, nil_none}
+use Rattle.inner_pack.specs.Places.{front}
+use Rattle.inner_pack.specs.Trees.{IndexTree}
+use Rattle.inner_pack.proofs.OneTree.{one_index}
+use Rattle.page_cache.specs.declared.cache.PageCache.{PageCache}
+use Rattle.segment_file.specs.Heads.{Head}
+use Rattle.segment_file.specs.Segments.{IsSegment, HoldsTree}
+use Rattle.segment_file.proofs.Counted.{segment_counted}
+use Rattle.segment_file.proofs.Unique.{tree_once}
+use Rattle.stored_index.proofs.Listing.{live_fit}
+use Rattle.stored_index.proofs.Places.{entry_there, some_entry}
+use Rattle.segment_view.specs.Parts.{Part, Contents, IsRead, AreRead, ids_of, parts_among, parts_but}
+use Rattle.segment_build.specs.NewSegments.{NewSegmentData}
+use Rattle.file_names.specs.Names.{NameList}
+use Rattle.segment_set.specs.Merged.{IsWhole}
+use Rattle.segment_set.specs.Merges.{HasLiveEntries, IsGathered, IsMerged, IsPut, Replaces, part_at}
+use Rattle.segment_set.proofs.Carried.{placed_cases}
+use Rattle.segment_set.proofs.Wholes.{among_all, but_all}
+
+-- a file is that of one list of entries
+pub entries_once : (D : ℕ) (bytes : List ℕ) (h : Head) (xs ys : List Item) → IsSegment D bytes h xs → IsSegment D bytes h ys → xs ≡ ys
+unfolding IsSegment
+entries_once D bytes h xs ys p q =
+    let same = one_index D h.index.form h.index.leaves h.index.bytes p.root q.root p.tree q.tree p.has q.has in
+    tree_once D bytes h 0 front q.tree xs ys (subst (λ (t : IndexTree). HoldsTree D bytes h 0 front t xs) same.1 p.holds) q.holds
+
+-- ---- lists
+
+filter_few : (p : Item → Bool) (xs : List Item) → length (filter p xs) ≤ length xs
+filter_few p xs = omega (arith, length-filter_both p (λ x. not (p x)) (λ x. refl) xs)
+
+pub all_pass : (p : Item → Bool) (xs : List Item) → length xs ≤ length (filter p xs) → All (λ x. p x ≡ true) xs
+all_pass p [] few = All-nil (λ (x : Item). p x ≡ true)
+all_pass p (x ∷ xs) few = by (p x) refl (λ le. all_pass p xs le)
+  where
+    by : (b : Bool) → p x ≡ b → (length xs ≤ length (filter p xs) → All (λ y. p y ≡ true) xs) → All (λ y. p y ≡ true) (x ∷ xs)
+    by true is rest = All-cons (λ (y : Item). p y ≡ true) x xs is (rest (omega (arith, few, ap (λ (b : Bool). length (cond b (x ∷ filter p xs) (filter p xs))) is)))
+    by false is rest = absurd (omega (arith, few, ap (λ (b : Bool). length (cond b (x ∷ filter p xs) (filter p xs))) is, filter_few p xs))
+
+-- ---- segments
+
+-- as many numbers are live as there are entries, and each is that of one of them
+pub whole_lives : (D : ℕ) (files : Files) (c : Contents) (p : Part) → IsWhole p → IsRead D files c p → All (λ x. is_live p.live x.doc ≡ true) (c p.head.id)
+whole_lives D files c p whole read =
+    let entries = c p.head.id in
+    let live = filter (λ (x : Item). is_live p.live x.doc) entries in
+    all_pass (λ (x : Item). is_live p.live x.doc) entries
+    (omega (arith, live_fit p.live live whole.set (λ number is. there number is), whole.live, segment_counted D (bytes_of (files (Segment p.head.id))) p.head entries read.held))
+  where
+    there : (number : ℕ) → is_live p.live number ≡ true → has_entry number (filter (λ (x : Item). is_live p.live x.doc) (c p.head.id)) ≡ true
+    there number is =
+        let found = some_entry number (c p.head.id) (read.found number is) in
+        let passes : is_live p.live found.0.doc ≡ true = ap (is_live p.live) found.2 ∙ is in
+        subst (λ (n : ℕ). has_entry n (filter (λ (x : Item). is_live p.live x.doc) (c p.head.id)) ≡ true) found.2
+        (entry_there (filter (λ (x : Item). is_live p.live x.doc) (c p.head.id)) found.0 (in_filter (λ (x : Item). is_live p.live x.doc) (c p.head.id) found.0 found.1 passes))
+
+-- a segment that was built of what was live
+pub built_lives : (D : ℕ) (told : Type 0) (before after : NameList) (files : Files) (ids : List ℕ) (n : NewSegmentData) (old new : List Part) (c : Contents) → told → ∥ HasLiveEntries D n ∥₁
+    → (put : IsPut D told before after files ids n old new) → IsRead D files c (part_at put.id n) → All (λ x. is_live n.live x.doc ≡ true) (c put.id)
+built_lives D told before after files ids n old new c is_told all put read k d lt = ∥∥₁_elim all (hlevel props) (λ h.
+    subst (λ (xs : List Item). All (λ x. is_live n.live x.doc ≡ true) xs)
+    (entries_once D (bytes_of (files (Segment put.id))) (part_at put.id n).head h.items (c put.id) (put.written is_told h.items h.has) read.held) h.all k d lt)
+
+-- ---- a merge of all segments
+
+abbrev pub AllLive : Contents → List Part → Type 0
+AllLive c parts = All (λ p. All (λ x. is_live p.live x.doc ≡ true) (c p.head.id)) parts
+
+-- one that changes nothing
+pub settled_lives : (D : ℕ) (files : Files) (c : Contents) (ids : List ℕ) (parts : List Part) → ids ≡ ids_of parts → All IsWhole (parts_among ids parts) → AreRead D files c parts → AllLive c parts
+settled_lives D files c ids parts is whole reads =
+    let all : All IsWhole parts = subst (All IsWhole) (ap (λ ns. parts_among ns parts) is ∙ among_all parts) whole in
+    λ k p lt. whole_lives D files c _ (all k p lt) (reads k p lt)
+
+-- one that builds a segment
+pub merged_lives : (D : ℕ) (told : Type 0) (leaf : ℕ) (before after : NameList) (files new_files : Files) (cache : PageCache) (ids : List ℕ) (old new : List Part) (c : Contents) → told → ids ≡ ids_of old
+    → IsMerged D told leaf before after files new_files cache ids old new → AreRead D new_files c new → AllLive c new
+merged_lives D told leaf before after files new_files cache ids old new c is_told is m reads = by m.built m.replaces m.gathered
+  where
+    none : parts_but ids old ≡ []
+    none = ap (λ ns. parts_but ns old) is ∙ but_all old
+
+    by : (built : Option NewSegmentData) → Replaces D told before after new_files ids built old new → ((n : NewSegmentData) → built ≡ Some n → IsGathered D leaf (parts_among ids old) n) → AllLive c new
+    by None r gathered = subst (AllLive c) (sym (r ∙ none)) (All-nil (λ (p : Part). All (λ x. is_live p.live x.doc ≡ true) (c p.head.id)))
+    by (Some n) r gathered = All-weaker (Contains new) (λ (p : Part). All (λ x. is_live p.live x.doc ≡ true) (c p.head.id)) each new (All-contains_itself new)
+      where
+        here : Contains new (part_at r.id n)
+        here = subst (λ (ps : List Part). Contains ps (part_at r.id n)) (sym r.placed.after) (Contains-append_right r.placed.front (part_at r.id n ∷ r.placed.back) (part_at r.id n) (cons_head (part_at r.id n) r.placed.back))
+
+        alive : All (λ x. is_live n.live x.doc ≡ true) (c r.id)
+        alive = built_lives D told before after new_files ids n old new c is_told (gathered n refl).all r (All-contains (IsRead D new_files c) new (part_at r.id n) reads here)
+
+        each : (q : Part) → Contains new q → All (λ x. is_live q.live x.doc ≡ true) (c q.head.id)
+        each q there =
+            placed_cases (part_at r.id n) (parts_but ids old) new r.placed q there
+            (λ e. subst (λ (s : Part). All (λ x. is_live s.live x.doc ≡ true) (c s.head.id)) e alive)
+            (λ h. nil_none q _ (subst (λ (ps : List Part). Contains ps q) none h))

@@ -1,0 +1,154 @@
+-- Snapshots that are taken and let go.
+use Rattle.std.proofs.Common.{◌≡◌, ℕ, ◌+◌, ◌≤◌, ◌<◌, Bool, true, false, not, cond, List, [], ◌∷◌, ◌++◌, length, refl, sym, ap, subst, ◌∙◌, arith}
+use Rattle.std.specs.List.{All, AllZip, filter}
+use Rattle.std.specs.Str.{bytes_eq}
+use Rattle.std.proofs.lemmas.List.{length_push}
+use Rattle.std.proofs.lemmas.List.Elements.{All-filter, All-push}
+use Rattle.std.proofs.lemmas.List.Sums.{count_by-le-length, length-filter}
+use Rattle.outer_io.specs.Files.{Files}
+use Rattle.index_model.specs.State.{Index, Snapshot}
+use Rattle.point_codec.specs.Points.{Item}
+use Rattle.segment_view.specs.Parts.{AreRead, Contents, Part}
+use Rattle.file_names.specs.Names.{NameList}
+use Rattle.segment_set.specs.Sets.{IsNamed, IsWell, NamedView, SetData}
+use Rattle.segment_set.specs.Seen.{Sees, ShowsSnapshot, StandsOver}
+
+-- a pair more at the end of two lists
+pub zip_push : {A B : Type 0} (R : A → B → Type 0) (xs : List A) (ys : List B) (x : A) (y : B) → AllZip R xs ys → R x y → AllZip R (xs ++ x ∷ []) (ys ++ y ∷ [])
+zip_push R [] [] x y all r = (r, tt)
+zip_push R [] (b ∷ ys) x y all r = absurd all
+zip_push R (a ∷ xs) [] x y all r = absurd all
+zip_push R (a ∷ xs) (b ∷ ys) x y all r = (all.0, zip_push R xs ys x y all.1 r)
+
+-- ---- one more
+
+abbrev pub set_snapped : List ℕ → SetData → SetData
+set_snapped name s = record s { snapshots = s.snapshots ++ record { name = name; parts = s.parts; buffer = s.buffer } ∷ [] }
+
+pub sees_snapped : (D : ℕ) (files : Files) (s : SetData) (i : Index) (name : List ℕ) → Sees D files s i
+    → Sees D files (set_snapped name s) (record i { snapshots = i.snapshots ++ record { name = name; docs = i.docs } ∷ [] })
+sees_snapped D files s i name seen = record {
+  contents = seen.contents;
+  stands = record {
+    now = seen.stands.now;
+    kept = All-push (λ (v : NamedView). AreRead D files seen.contents v.parts) s.snapshots (record { name = name; parts = s.parts; buffer = s.buffer }) seen.stands.kept seen.stands.now;
+    begun = seen.stands.begun;
+    agrees = seen.stands.agrees;
+  };
+  dims = seen.dims;
+  leaf = seen.leaf;
+  next = seen.next;
+  given = seen.given;
+  begun = seen.begun;
+  docs = seen.docs;
+  few = seen.few;
+  snapshots = zip_push (ShowsSnapshot seen.contents s.next) s.snapshots i.snapshots (record { name = name; parts = s.parts; buffer = s.buffer }) (record { name = name; docs = i.docs }) seen.snapshots
+      (record { name = refl; docs = seen.docs });
+}
+
+pub well_snapped : (D : ℕ) (s : SetData) (name : List ℕ) → length s.snapshots < 16 → IsWell D s → IsWell D (set_snapped name s)
+well_snapped D s name few well = record {
+  some_dims = well.some_dims;
+  few_dims = well.few_dims;
+  least_leaf = well.least_leaf;
+  greatest_leaf = well.greatest_leaf;
+  numbered = well.numbered;
+  most_given = well.most_given;
+  spread = well.spread;
+  room = well.room;
+  ordered = well.ordered;
+  once = well.once;
+  few = well.few;
+  leaf_size = well.leaf_size;
+  live_fits = well.live_fits;
+  named = well.named;
+  kept = All-push (λ (v : NamedView). All (IsNamed s.names) v.parts) s.snapshots (record { name = name; parts = s.parts; buffer = s.buffer }) well.kept well.named;
+  own = well.own;
+  few_snapshots = omega (arith, few, length_push s.snapshots (record { name = name; parts = s.parts; buffer = s.buffer }));
+  inputs = well.inputs;
+  few_inputs = well.few_inputs;
+  built = well.built;
+  cached = well.cached;
+}
+
+-- ---- those of a name go
+
+abbrev is_other : List ℕ → NamedView → Bool
+is_other name v = not (bytes_eq v.name name)
+
+abbrev is_other_shown : List ℕ → Snapshot → Bool
+is_other_shown name t = not (bytes_eq t.name name)
+
+abbrev pub set_released : List ℕ → SetData → SetData
+set_released name s = record s { snapshots = filter (λ (v : NamedView). not (bytes_eq v.name name)) s.snapshots }
+
+released : (c : Contents) (next : ℕ) (name : List ℕ) (views : List NamedView) (ts : List Snapshot) → AllZip (ShowsSnapshot c next) views ts
+    → AllZip (ShowsSnapshot c next) (filter (is_other name) views) (filter (is_other_shown name) ts)
+released c next name [] [] shown = tt
+released c next name [] (t ∷ ts) shown = absurd shown
+released c next name (v ∷ vs) [] shown = absurd shown
+released c next name (v ∷ vs) (t ∷ ts) shown = by (is_other name v) (is_other_shown name t) (ap (λ n. not (bytes_eq n name)) shown.0.name) (released c next name vs ts shown.1)
+  where
+    by : (a b : Bool) → a ≡ b → AllZip (ShowsSnapshot c next) (filter (is_other name) vs) (filter (is_other_shown name) ts)
+        → AllZip (ShowsSnapshot c next) (cond a (v ∷ filter (is_other name) vs) (filter (is_other name) vs)) (cond b (t ∷ filter (is_other_shown name) ts) (filter (is_other_shown name) ts))
+    by true true e rest = (shown.0, rest)
+    by true false e rest = absurd cc
+    by false true e rest = absurd cc
+    by false false e rest = rest
+
+pub sees_released : (D : ℕ) (files : Files) (s : SetData) (i : Index) (name : List ℕ) → Sees D files s i
+    → Sees D files (set_released name s) (record i { snapshots = filter (λ (t : Snapshot). not (bytes_eq t.name name)) i.snapshots })
+sees_released D files s i name seen = record {
+  contents = seen.contents;
+  stands = record {
+    now = seen.stands.now;
+    kept = All-filter (is_other name) (λ (v : NamedView). AreRead D files seen.contents v.parts) s.snapshots seen.stands.kept;
+    begun = seen.stands.begun;
+    agrees = seen.stands.agrees;
+  };
+  dims = seen.dims;
+  leaf = seen.leaf;
+  next = seen.next;
+  given = seen.given;
+  begun = seen.begun;
+  docs = seen.docs;
+  few = seen.few;
+  snapshots = released seen.contents s.next name s.snapshots i.snapshots seen.snapshots;
+}
+
+pub well_released : (D : ℕ) (s : SetData) (name : List ℕ) → IsWell D s → IsWell D (set_released name s)
+well_released D s name well = record {
+  some_dims = well.some_dims;
+  few_dims = well.few_dims;
+  least_leaf = well.least_leaf;
+  greatest_leaf = well.greatest_leaf;
+  numbered = well.numbered;
+  most_given = well.most_given;
+  spread = well.spread;
+  room = well.room;
+  ordered = well.ordered;
+  once = well.once;
+  few = well.few;
+  leaf_size = well.leaf_size;
+  live_fits = well.live_fits;
+  named = well.named;
+  kept = All-filter (is_other name) (λ (v : NamedView). All (IsNamed s.names) v.parts) s.snapshots well.kept;
+  own = well.own;
+  few_snapshots = omega (arith, well.few_snapshots, length-filter (is_other name) s.snapshots, count_by-le-length (is_other name) s.snapshots);
+  inputs = well.inputs;
+  few_inputs = well.few_inputs;
+  built = well.built;
+  cached = well.cached;
+}
+
+-- ---- the set from its fields
+
+pub snapped_is : (s : SetData) (name : List ℕ) (before now : List NamedView) (parts : List Part) (buffer : List Item) → before ≡ s.snapshots → parts ≡ s.parts → buffer ≡ s.buffer
+    → now ≡ before ++ record { name = name; parts = parts; buffer = buffer } ∷ [] → record s { snapshots = now } ≡ set_snapped name s
+snapped_is s name before now parts buffer b p x is = λ i. record s { snapshots = whole i }
+  where
+    whole : now ≡ s.snapshots ++ record { name = name; parts = s.parts; buffer = s.buffer } ∷ []
+    whole = is ∙ (λ i. b i ++ record { name = name; parts = p i; buffer = x i } ∷ [])
+
+pub released_is : (s : SetData) (name : List ℕ) (now : List NamedView) → now ≡ filter (λ (v : NamedView). not (bytes_eq v.name name)) s.snapshots → record s { snapshots = now } ≡ set_released name s
+released_is s name now is = λ i. record s { snapshots = is i }

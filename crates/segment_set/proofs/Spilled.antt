@@ -1,0 +1,104 @@
+-- What a flush of the buffer does to a set.
+use Rattle.std.proofs.Common.{◌≡◌, ℕ, ◌+◌, ◌≤◌, ◌<◌, Bool, true, false, List, [], ◌∷◌, ◌++◌, length, Option, None, Some, Result, Err, is_some, refl, sym, ap, subst, ◌∙◌, ◌⊎◌, inl, inr, arith}
+use Rattle.std.specs.Result.{OnOk, OnErr}
+use Rattle.std.specs.List.{All, count_by, sum_by}
+use Rattle.std.specs.List.Sorted.{IsNonDecreasingBy}
+use Rattle.std.proofs.lemmas.List.{append-nil}
+use Rattle.std.proofs.lemmas.List.Sums.{sum_by-append}
+use Rattle.outer_io.specs.declared.file_name.FileName.TheVariants.{Segment}
+use Rattle.outer_io.specs.Files.{Files}
+use Rattle.point_codec.specs.Points.{Item}
+use Rattle.leaf_codec.specs.LeafOrder.{NoneTwice}
+use Rattle.live_bits.specs.LiveSet.{is_live}
+use Rattle.documents.specs.Entries.{SameTotals, has_entry, is_among}
+use Rattle.page_cache.specs.declared.cache.PageCache.{PageCache}
+use Rattle.page_cache.specs.Cache.{Agrees, KeepsFile}
+use Rattle.index_model.specs.State.{Index}
+use Rattle.segment_view.specs.Parts.{Part, Contents, live_in_parts, parts_among}
+use Rattle.segment_build.specs.NewSegments.{NewSegmentData}
+use Rattle.file_names.specs.Names.{NameList, is_named}
+use Rattle.segment_set.specs.Sets.{SetData, IsBuiltOf, IsWell, inputs_of}
+use Rattle.segment_set.specs.Seen.{Sees}
+use Rattle.segment_set.specs.Kept.{KeepsNamed, StaysAlone, Follows, AreCanonical}
+use Rattle.segment_set.specs.Merges.{IsMade, IsSpilled}
+use Rattle.segment_set.proofs.Standing.{sees_same}
+use Rattle.segment_set.proofs.Replaced.{one_if, place_in, ids_stay}
+use Rattle.segment_set.proofs.Weller.{length_replaced}
+use Rattle.segment_set.proofs.Moved.{Moves, moved, inputs_stay, well_moved, stays_moved, follows_moved, canon_moved, seen_moved, begun_moved}
+use Rattle.segment_set.proofs.Steps.{IsAfter, merge_after, none_among, ok_or_err}
+
+none_twice_none : NoneTwice []
+unfolding NoneTwice
+none_twice_none x = omega arith
+
+pub some_is : {X : Type 0} (x y : X) → Some x ≡ Some y → x ≡ y
+some_is x y h = cc
+
+module _ (D : ℕ) (told : Type 0) (files new_files : Files) {s : SetData} (names : NameList) (parts : List Part) (kept : KeepsNamed told s.names names files new_files)
+    (sp : IsSpilled D told s.leaf s.names names new_files s.buffer s.parts parts) (well : IsWell D s) where
+  spill_moves : Moves D told files new_files s names [] parts []
+  spill_moves = record {
+    kept = kept;
+    built = Some sp.n;
+    replaces = sp.put;
+    made = λ n is. subst (IsMade D s.leaf) (some_is sp.n n is) sp.made;
+    fewer = λ number.
+        let same : one_if (is_live sp.n.live number) ≡ one_if (has_entry number s.buffer) = ap (λ (f : ℕ → Bool). one_if (f number)) sp.live in
+        omega arith;
+  }
+
+  apart_none : (id : ℕ) → is_among [] id ≡ true → is_among (inputs_of s.begun) id ≡ false
+  apart_none id h = cc
+
+  pub spill_well : length s.parts < 200 → IsWell D (moved s names parts [] s.begun s.cache)
+  spill_well few =
+      let stay : parts_among (inputs_of s.begun) parts ≡ parts_among (inputs_of s.begun) s.parts = inputs_stay D told files new_files s names [] parts [] spill_moves well apart_none in
+      well_moved D told files new_files s names [] parts [] spill_moves well s.begun s.cache
+      (omega (arith, few, length_replaced D told s.names names new_files [] s.parts parts (Some sp.n) sp.put)) (omega arith) (λ i j d le lt. absurd (omega (arith, lt))) none_twice_none
+      (ids_stay (inputs_of s.begun) s.parts parts stay well.inputs) well.few_inputs
+      (λ n is. subst (λ (ps : List Part). IsBuiltOf D s.leaf ps n) (sym stay) (well.built n is)) well.cached
+
+  pub spill_stays : StaysAlone s (moved s names parts [] s.begun s.cache)
+  spill_stays = stays_moved D told files new_files s names [] parts [] spill_moves s.begun s.cache refl
+
+  pub spill_follows : Follows s.names s.parts parts
+  spill_follows = follows_moved D told files new_files s names [] parts [] spill_moves
+
+  pub spill_canon : told → AreCanonical D new_files s.names parts
+  spill_canon is_told = canon_moved D told files new_files s names [] parts [] spill_moves is_told well
+
+  pub spill_seen : told → (i : Index) → Sees D files s i → Sees D new_files (moved s names parts [] s.begun s.cache) i
+  unfolding spill_moves
+  spill_seen is_told i h =
+      sees_same D new_files (moved s names parts [] s.begun s.cache) i (is_some s.begun) (sym h.begun)
+      (seen_moved D told files new_files s names [] parts [] spill_moves is_told well i h s.buffer sp.holds same s.begun s.cache
+      (λ d alike. begun_moved D told files new_files s names [] parts [] spill_moves well apart_none h.contents d alike h.stands.begun)
+      well.cached h.stands.agrees)
+    where
+      same : SameTotals (live_in_parts h.contents (parts_among [] s.parts) ++ s.buffer) (s.buffer ++ [])
+      same f =
+          let none : sum_by f (live_in_parts h.contents (parts_among [] s.parts)) ≡ 0 = ap (λ (ps : List Part). sum_by f (live_in_parts h.contents ps)) (none_among s.parts) in
+          omega (arith, none, sum_by-append f (live_in_parts h.contents (parts_among [] s.parts)) s.buffer, ap (sum_by f) (append-nil s.buffer))
+
+-- nothing was written but perhaps a file under a new name, and the set is as it was
+pub refused_after : (D : ℕ) (told : Type 0) (files new_files : Files) {s : SetData} (well : IsWell D s) (names : NameList) → KeepsNamed told s.names names files new_files
+    → IsAfter D told files new_files s (moved s names s.parts s.buffer s.begun s.cache)
+refused_after D told files new_files {s} well names kept =
+    merge_after D told files new_files well names [] s.parts s.cache kept (λ id h. cc) (λ t agrees. agrees) (λ id h. inl h) {T = ℕ} {E = ℕ} (Err 0) tt refl
+
+pub spill_after : (D : ℕ) (told : Type 0) (files new_files : Files) {s : SetData} (well : IsWell D s) (names : NameList) (parts : List Part) (left : List Item) → length s.parts < 200
+    → KeepsNamed told s.names names files new_files → {T E : Type 0} (r : Result T E)
+    → OnOk r (IsSpilled D told s.leaf s.names names new_files s.buffer s.parts parts × (left ≡ [])) → OnErr r ((parts ≡ s.parts) × (left ≡ s.buffer))
+    → IsAfter D told files new_files s (moved s names parts left s.begun s.cache)
+spill_after D told files new_files {s} well names parts left few kept r spilled refused = elim (ok_or_err r spilled refused) [
+  | inl sp ↦ subst (λ (es : List Item). IsAfter D told files new_files s (moved s names parts es s.begun s.cache)) (sym sp.1) (record {
+    well = spill_well D told files new_files names parts kept sp.0 well few;
+    seen = λ t i h. spill_seen D told files new_files names parts kept sp.0 well t i h;
+    stays = spill_stays D told files new_files names parts kept sp.0 well;
+    follows = spill_follows D told files new_files names parts kept sp.0 well;
+    canon = spill_canon D told files new_files names parts kept sp.0 well;
+  })
+  | inr same ↦
+      subst (λ (es : List Item). IsAfter D told files new_files s (moved s names parts es s.begun s.cache)) (sym same.1)
+      (subst (λ (ps : List Part). IsAfter D told files new_files s (moved s names ps s.buffer s.begun s.cache)) (sym same.0) (refused_after D told files new_files well names kept))
+]

@@ -1,0 +1,10 @@
+use Rattle.std.proofs.Common.{◌≡◌, ◌+◌, ◌-◌, ◌≤◌, ◌++◌, map, length, take, vec_len, vec_capacity}
+use Rattle.point_codec.specs.Seen.{coordinates_of, items_of}
+use Rattle.documents.specs.Entries.{entry_of}
+use Rattle.segment_set.proofs.buffer.put_document.Given as goal
+
+abbrev pub invariant-loop-point : goal.invariant-loop-point
+invariant-loop-point g l = record {
+  items : items_of l.buffer.items ≡ items_of l.initial.buffer.items ++ map (entry_of l.number) (coordinates_of (take l.point-index l.points));
+  room : vec_len l.buffer + (length l.points - l.point-index) ≤ vec_capacity l.buffer;
+}

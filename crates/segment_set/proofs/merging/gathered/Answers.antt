@@ -1,0 +1,94 @@
+use Rattle.std.proofs.Common.{◌≡◌, ◌≤◌, ℕ, List, length, All, true, Err, ap, sym, subst, ◌∙◌, inl, inr, arith}
+use Rattle.std.proofs.lemmas.Bool.Decides.{nat_tests}
+use Rattle.std.proofs.lemmas.Result.{err_from_is_err_and}
+use Rattle.point_codec.specs.Points.{Item}
+use Rattle.point_codec.specs.Seen.{items_of}
+use Rattle.point_codec.specs.declared.entries.Entry.{Entry}
+use Rattle.documents.specs.Entries.{MakeDocs}
+use Rattle.segment_file.specs.Damages.{IsLeafDamageOf}
+use Rattle.nearest_query.proofs.Parts.{on_damage}
+use Rattle.segment_view.specs.Parts.{live_in_parts, parts_among, has_live}
+use Rattle.segment_view.specs.Damages.{IsPartDamage}
+use Rattle.segment_build.specs.NewSegments.{NewSegmentData}
+use Rattle.segment_set.specs.Merges.{HoldsLive, IsGathered}
+use Rattle.segment_set.specs.Damages.{IsDoubt, IsMergeDamage, IsMergeDamageOf, Doubt}
+use Rattle.segment_set.proofs.Doubted.{doubt_among, part_shown, whole_shows}
+use Rattle.segment_set.proofs.Fresh.{gathered_of, holds_live, items_length}
+use Rattle.segment_set.proofs.Spilled.{some_is}
+use Rattle.segment_set.proofs.merging.gathered.Goals as goal
+
+pub returns-in_err-entries-clause-whole : goal.returns-in_err-entries-clause-whole
+returns-in_err-entries-clause-whole g c =
+    let p = err_from_is_err_and c.from_residual.result c.from_residual.ensures.1 in
+    λ told agrees contents reads next make few. rw (p.1, p.2) (c.in_err-entries.ensures.whole told agrees contents reads)
+
+pub returns-in_err-build_of-clause-whole : goal.returns-in_err-build_of-clause-whole
+returns-in_err-build_of-clause-whole g c =
+    let p = err_from_is_err_and c.from_residual-in_err-build_of.result c.from_residual-in_err-build_of.ensures.1 in
+    λ told agrees contents reads next make few.
+    let same : items_of c.as_mut_slice.result.now ≡ live_in_parts contents (parts_among c.args.ids.now c.args.segments.now) =
+    ap items_of c.as_mut_slice.ensures.value ∙ c.in_ok-entries.ensures.entries told agrees contents reads in
+    rw (p.1, p.2) (c.in_err-build_of.ensures.whole next (subst (MakeDocs next) (sym same) make) (omega (arith, few, ap length same, items_length c.as_mut_slice.result.now)))
+
+pub returns-clause-gathered : goal.returns-clause-gathered
+returns-clause-gathered g c = λ n is.
+    let has = c.in_ok-build_of.ensures.has in
+    let live = c.in_ok-build_of.ensures.live in
+    let long : 1 ≤ length c.in_ok-entries.entries.items = grind (arith, nat_tests, c.in_ok-entries.entries.ok.0, c.is_empty.ensures, c.if-is_empty.false) in
+    subst (IsGathered g.row.D c.args.plan.now.leaf (parts_among c.args.ids.now c.args.segments.now)) (some_is c.in_ok-build_of.field-0 n is)
+    (gathered_of g.row.D c.args.plan.now.leaf (items_of c.as_mut_slice.result.now) has.0 c.in_ok-build_of.field-0 (parts_among c.args.ids.now c.args.segments.now) has.1 has.2 live.1
+    c.in_ok-build_of.ensures.leaf live.0 (omega (arith, long, items_length c.as_mut_slice.result.now, ap length c.as_mut_slice.ensures.value))
+    (subst (λ (es : List (Entry g.row.D)). All (λ (x : Item). has_live x.doc (parts_among c.args.ids.now c.args.segments.now) ≡ true) (items_of es)) (sym c.as_mut_slice.ensures.value) c.in_ok-entries.ensures.live))
+
+pub returns-clause-makes : goal.returns-clause-makes
+returns-clause-makes g c = λ told agrees contents reads.
+    let has = c.in_ok-build_of.ensures.has in
+    subst (λ (es : List Item). HoldsLive g.row.D es c.in_ok-build_of.field-0) (ap items_of c.as_mut_slice.ensures.value ∙ c.in_ok-entries.ensures.entries told agrees contents reads)
+    (holds_live g.row.D (items_of c.as_mut_slice.result.now) has.0 c.in_ok-build_of.field-0 has.1 has.2 c.in_ok-build_of.ensures.live.1)
+
+pub returns-clause-cause : goal.returns-clause-cause
+returns-clause-cause g c = record { later = c.in_ok-entries.ensures.cause.later; fine = c.in_ok-entries.ensures.cause.fine; failed = λ h. cc }
+
+pub returns-in_err-entries-clause-shown : goal.returns-in_err-entries-clause-shown
+returns-in_err-entries-clause-shown g c =
+    let p = err_from_is_err_and c.from_residual.result c.from_residual.ensures.1 in
+    λ names. rw (p.1, p.2)
+    (on_damage {T = Unit {0}} (IsPartDamage g.row.D (parts_among c.args.ids.now c.args.segments.now)) (IsMergeDamage g.row.D c.args.plan.now.given names c.args.segments.now) (Err c.in_err-entries.field-0.0)
+    (part_shown g.row.D c.args.plan.now.given names c.args.ids.now c.args.segments.now) c.in_err-entries.ensures.shown)
+
+pub returns-in_err-entries-clause-damage : goal.returns-in_err-entries-clause-damage
+returns-in_err-entries-clause-damage g c =
+    let p = err_from_is_err_and c.from_residual.result c.from_residual.ensures.1 in
+    λ told agrees. rw (p.1, p.2)
+    (on_damage {T = Unit {0}} (IsLeafDamageOf (g.F.Pages.files c.args.folder.now)) (IsMergeDamageOf (g.F.Pages.files c.gather.new.folder) c.args.plan.now.given) (Err c.in_err-entries.field-0.0)
+    (λ d h. inl (subst (λ f. IsLeafDamageOf f d) (sym (c.in_err-entries.ensures.calm.files told)) h)) (c.in_err-entries.ensures.damage told agrees))
+
+pub returns-in_err-entries-clause-doubled : goal.returns-in_err-entries-clause-doubled
+returns-in_err-entries-clause-doubled g c =
+    let p = err_from_is_err_and c.from_residual.result c.from_residual.ensures.1 in
+    λ told agrees contents reads. rw (p.1, p.2)
+    (whole_shows {T = Unit {0}} (IsDoubt c.args.plan.now.given (live_in_parts contents c.args.segments.now)) (Err c.in_err-entries.field-0.0) (c.in_err-entries.ensures.whole told agrees contents reads))
+
+pub returns-in_err-build_of-clause-shown : goal.returns-in_err-build_of-clause-shown
+returns-in_err-build_of-clause-shown g c =
+    let p = err_from_is_err_and c.from_residual-in_err-build_of.result c.from_residual-in_err-build_of.ensures.1 in
+    λ names. rw (p.1, p.2)
+    (on_damage {T = Unit {0}} (IsDoubt c.args.plan.now.given (items_of c.as_mut_slice.result.now)) (IsMergeDamage g.row.D c.args.plan.now.given names c.args.segments.now) (Err c.in_err-build_of.field-0.0)
+    (λ d h. Doubt (items_of c.as_mut_slice.result.now) h) c.in_err-build_of.ensures.shown)
+
+pub returns-in_err-build_of-clause-damage : goal.returns-in_err-build_of-clause-damage
+returns-in_err-build_of-clause-damage g c =
+    let p = err_from_is_err_and c.from_residual-in_err-build_of.result c.from_residual-in_err-build_of.ensures.1 in
+    λ told agrees. rw (p.1, p.2)
+    (on_damage {T = Unit {0}} (IsDoubt c.args.plan.now.given (items_of c.as_mut_slice.result.now)) (IsMergeDamageOf (g.F.Pages.files c.gather.new.folder) c.args.plan.now.given) (Err c.in_err-build_of.field-0.0)
+    (λ d h. inr (items_of c.as_mut_slice.result.now, h)) c.in_err-build_of.ensures.shown)
+
+pub returns-in_err-build_of-clause-doubled : goal.returns-in_err-build_of-clause-doubled
+returns-in_err-build_of-clause-doubled g c =
+    let p = err_from_is_err_and c.from_residual-in_err-build_of.result c.from_residual-in_err-build_of.ensures.1 in
+    λ told agrees contents reads.
+    let same : items_of c.as_mut_slice.result.now ≡ live_in_parts contents (parts_among c.args.ids.now c.args.segments.now) =
+    ap items_of c.as_mut_slice.ensures.value ∙ c.in_ok-entries.ensures.entries told agrees contents reads in
+    rw (p.1, p.2)
+    (on_damage {T = Unit {0}} (IsDoubt c.args.plan.now.given (items_of c.as_mut_slice.result.now)) (IsDoubt c.args.plan.now.given (live_in_parts contents c.args.segments.now)) (Err c.in_err-build_of.field-0.0)
+    (λ d h. doubt_among c.args.plan.now.given contents c.args.ids.now c.args.segments.now d (subst (λ (xs : List Item). IsDoubt c.args.plan.now.given xs d) same h)) c.in_err-build_of.ensures.shown)

@@ -1,0 +1,46 @@
+use Rattle.std.proofs.Common.{◌≡◌, ◌≤◌, ◌+◌, ◌-◌, ◌++◌, ◌∙◌, List, [], ◌∷◌, length, take, sym, subst, rules, arith}
+use Rattle.std.specs.Prelude.{IsTrue}
+use Rattle.std.specs.List.{AllZip}
+use Rattle.std.proofs.lemmas.List.Elements.{All-contains}
+use Rattle.outer_io.specs.declared.file_name.FileName.TheVariants.{Segment}
+use Rattle.commit_list.specs.declared.listed.Listed.{Listed}
+use Rattle.segment_view.specs.Parts.{Part, part_of}
+use Rattle.segment_view.proofs.Living.{part_in, parts_more}
+use Rattle.segment_set.specs.Sets.{IsNamed}
+use Rattle.segment_set.specs.Saved.{IsSaved}
+use Rattle.segment_set.proofs.Carried.{keeps_then}
+use Rattle.segment_set.proofs.Saving.{saved_more, take_whole}
+use Rattle.segment_set.proofs.save.write_lives.Goals as goal
+
+pub write_one-requires : goal.write_one-requires
+write_one-requires g c =
+    let p = part_of c.part.result.0.now c.part.result.1.now in
+    let there = part_in c.args.segments.now c.loop-i.i p c.part.ensures in
+    let dims = c.len-i-end.ensures.dims in (
+      search rules,
+      (
+        c.loop-i.invariant.kept.more (Segment p.head.id) (All-contains (IsNamed c.args.names.now) c.args.segments.now p c.requires.named there),
+        All-contains (λ (q : Part). length q.live.live ≤ q.head.entries) c.args.segments.now p c.requires.fits there,
+      ),
+    )
+
+pub loop-i-preserved : goal.loop-i-preserved
+loop-i-preserved g c =
+    let p = part_of c.part.result.0.now c.part.result.1.now in
+    let parts = c.args.segments.now in
+    let was = c.loop-i.invariant in
+    let one = c.in_ok-one.ensures in
+    record {
+      kept = keeps_then (IsTrue g.F.Pages.told) c.args.names.now c.loop-i.names c.write_one.new.names (g.F.Pages.files c.args.folder.now) (g.F.Pages.files c.loop-i.folder) (g.F.Pages.files c.write_one.new.folder) was.kept one.kept;
+      next = one.next ∙ was.next;
+      faults = one.cause.fine ∙ was.faults;
+      room = omega (arith, was.room, c.push_reserved.ensures.len, c.push_reserved.ensures.capacity, c.loop-i-test.true, c.len-i-end.ensures.value);
+      listed = subst (λ (ls : List Listed). AllZip (IsSaved (IsTrue g.F.Pages.told) c.args.names.now c.write_one.new.names (g.F.Pages.files c.write_one.new.folder)) ls (take (c.loop-i.i + 1) parts)) (sym c.push_reserved.ensures.items)
+          (saved_more (IsTrue g.F.Pages.told) c.args.names.now c.loop-i.names c.write_one.new.names (g.F.Pages.files c.loop-i.folder) (g.F.Pages.files c.write_one.new.folder) c.loop-i.listed.items (take c.loop-i.i parts) (take (c.loop-i.i + 1) parts)
+          c.in_ok-one.one p one.kept was.kept.more one.next (parts_more parts c.loop-i.i p c.part.ensures) was.listed one.listed);
+    }
+
+pub returns-clause-listed : goal.returns-clause-listed
+returns-clause-listed g c =
+    let long : length c.args.segments.now ≤ c.loop-i.i = omega (arith, c.loop-i-test.false, c.len-i-end.ensures.value) in
+    subst (AllZip (IsSaved (IsTrue g.F.Pages.told) c.args.names.now c.loop-i.names (g.F.Pages.files c.loop-i.folder)) c.loop-i.listed.items) (take_whole c.args.segments.now c.loop-i.i long) c.loop-i.invariant.listed

@@ -1,0 +1,121 @@
+-- The set is the commit's, and what an error says of the files is so.
+use Rattle.std.proofs.Common.{◌≡◌, ◌∙◌, ◌+◌, ◌≤◌, ◌↔◌, ℕ, List, [], Some, sym, ap, subst, arith}
+use Rattle.std.specs.Prelude.{Contains, IsTrue}
+use Rattle.std.proofs.lemmas.Result.{err_from_is_err_and}
+use Rattle.point_codec.specs.Seen.{items_of}
+use Rattle.live_bits.specs.LiveSet.{LiveSet}
+use Rattle.page_cache.specs.declared.faults.Damage.{Damage}
+use Rattle.page_cache.specs.Evidence.{FaultShows}
+use Rattle.page_cache.proofs.Damages.{fault_weaker}
+use Rattle.commit_list.specs.declared.listed.Listed.{Listed}
+use Rattle.stored_index.specs.Segments.{places}
+use Rattle.stored_index.specs.Stored.{HaveLive}
+use Rattle.segment_view.specs.Parts.{lives_of}
+use Rattle.file_names.specs.Names.{is_named}
+use Rattle.segment_set.specs.Sets.{IsWell, SetData}
+use Rattle.segment_set.specs.Seen.{Sees}
+use Rattle.segment_set.specs.Kept.{IsAtRest}
+use Rattle.segment_set.specs.Damages.{IsAttachDamage, IsAttachDamageOf, IsMisplaced}
+use Rattle.segment_set.specs.Opened.{IsListedDamage, IsListedDamageOf}
+use Rattle.segment_set.proofs.Attaching.{at_rest_attached, attached, attached_is, listed_of, listed_shown, misplaced_of, misplaced_shown, opened_heads, opened_lives, sees_attached, undefined_fault, well_attached, whole_listed, whole_placed}
+use Rattle.segment_set.proofs.Saving.{done_cause}
+use Rattle.segment_set.proofs.set.SegmentSet.attach.Goals as goal
+
+pub returns-in_err-segments-clause-whole : goal.returns-in_err-segments-clause-whole
+returns-in_err-segments-clause-whole g c = λ told says state stored.
+    let e = err_from_is_err_and c.from_residual-in_err-segments.result c.from_residual-in_err-segments.ensures.1 in
+    rw (e.1, e.2) (whole_listed (g.F.Pages.files c.args.folder.now) c.args.c.now c.in_err-segments.field-0.0 (c.in_err-segments.ensures.whole told) says state stored)
+
+pub returns-in_err-segments-clause-undefined : goal.returns-in_err-segments-clause-undefined
+returns-in_err-segments-clause-undefined g c = λ told says.
+    let files = g.F.Pages.files c.args.folder.now in
+    let e = err_from_is_err_and c.from_residual-in_err-segments.result c.from_residual-in_err-segments.ensures.1 in
+    rw (e.1, e.2) (undefined_fault files c.in_err-segments.field-0.0 (whole_listed files c.args.c.now c.in_err-segments.field-0.0 (c.in_err-segments.ensures.whole told) says))
+
+pub returns-in_err-segments-clause-shown : goal.returns-in_err-segments-clause-shown
+returns-in_err-segments-clause-shown g c =
+    let e = err_from_is_err_and c.from_residual-in_err-segments.result c.from_residual-in_err-segments.ensures.1 in
+    rw (e.1, e.2)
+    (fault_weaker c.in_err-segments.field-0.0 (λ (d : Damage). (s : Listed) × Contains c.args.c.now.listed s × IsListedDamage s d) (IsAttachDamage c.args.c.now) (listed_shown c.args.c.now) c.in_err-segments.ensures.shown)
+
+pub returns-in_err-segments-clause-damage : goal.returns-in_err-segments-clause-damage
+returns-in_err-segments-clause-damage g c = λ told.
+    let files = g.F.Pages.files c.args.folder.now in
+    let e = err_from_is_err_and c.from_residual-in_err-segments.result c.from_residual-in_err-segments.ensures.1 in
+    rw (e.1, e.2)
+    (fault_weaker c.in_err-segments.field-0.0 (λ (d : Damage). (s : Listed) × Contains c.args.c.now.listed s × IsListedDamageOf files c.args.c.now s d) (IsAttachDamageOf files c.args.c.now) (listed_of files c.args.c.now)
+    (c.in_err-segments.ensures.damage told))
+
+pub returns-in_err-check_numbers-clause-shown : goal.returns-in_err-check_numbers-clause-shown
+returns-in_err-check_numbers-clause-shown g c =
+    let e = err_from_is_err_and c.from_residual-in_err-check_numbers.result c.from_residual-in_err-check_numbers.ensures.1 in
+    let shown = subst (λ (n : ℕ). FaultShows (IsMisplaced (λ doc. 1 ≤ places doc c.lives.result.now) (λ doc. 2 ≤ places doc c.lives.result.now) n) c.in_err-check_numbers.field-0.0) c.next.ensures.value c.in_err-check_numbers.ensures.shown in
+    rw (e.1, e.2)
+    (fault_weaker c.in_err-check_numbers.field-0.0 (IsMisplaced (λ doc. 1 ≤ places doc c.lives.result.now) (λ doc. 2 ≤ places doc c.lives.result.now) c.args.c.now.next) (IsAttachDamage c.args.c.now)
+    (misplaced_shown (λ doc. 1 ≤ places doc c.lives.result.now) (λ doc. 2 ≤ places doc c.lives.result.now) c.args.c.now) shown)
+
+pub returns-in_err-check_numbers-clause-damage : goal.returns-in_err-check_numbers-clause-damage
+returns-in_err-check_numbers-clause-damage g c = λ told.
+    let files = g.F.Pages.files c.args.folder.now in
+    let sets = lives_of c.in_ok-segments.segments in
+    let e = err_from_is_err_and c.from_residual-in_err-check_numbers.result c.from_residual-in_err-check_numbers.ensures.1 in
+    let shown = subst (λ (n : ℕ). FaultShows (IsMisplaced (λ doc. 1 ≤ places doc sets) (λ doc. 2 ≤ places doc sets) n) c.in_err-check_numbers.field-0.0) c.next.ensures.value
+    (subst (λ (ss : List LiveSet). FaultShows (IsMisplaced (λ doc. 1 ≤ places doc ss) (λ doc. 2 ≤ places doc ss) c.next.result) c.in_err-check_numbers.field-0.0) c.lives.ensures c.in_err-check_numbers.ensures.shown) in
+    rw (e.1, e.2) (misplaced_of files c.args.c.now sets c.in_err-check_numbers.field-0.0 (opened_lives (IsTrue g.F.Pages.told) files c.args.c.now c.in_ok-segments.segments told c.in_ok-segments.ensures.opened) shown)
+
+pub returns-in_err-check_numbers-clause-whole : goal.returns-in_err-check_numbers-clause-whole
+returns-in_err-check_numbers-clause-whole g c = λ told says state stored.
+    let files = g.F.Pages.files c.args.folder.now in
+    let parts = c.in_ok-segments.segments in
+    let sets = lives_of parts in
+    let e = err_from_is_err_and c.from_residual-in_err-check_numbers.result c.from_residual-in_err-check_numbers.ensures.1 in
+    let shown = subst (λ (n : ℕ). FaultShows (IsMisplaced (λ doc. 1 ≤ places doc sets) (λ doc. 2 ≤ places doc sets) n) c.in_err-check_numbers.field-0.0) c.next.ensures.value
+    (subst (λ (ss : List LiveSet). FaultShows (IsMisplaced (λ doc. 1 ≤ places doc ss) (λ doc. 2 ≤ places doc ss) c.next.result) c.in_err-check_numbers.field-0.0) c.lives.ensures c.in_err-check_numbers.ensures.shown) in
+    rw (e.1, e.2)
+    (whole_placed files c.args.c.now parts c.in_err-check_numbers.field-0.0 (opened_heads (IsTrue g.F.Pages.told) files c.args.c.now parts told c.in_ok-segments.ensures.opened)
+    (opened_lives (IsTrue g.F.Pages.told) files c.args.c.now parts told c.in_ok-segments.ensures.opened) shown says state stored)
+
+pub returns-in_err-check_numbers-clause-undefined : goal.returns-in_err-check_numbers-clause-undefined
+returns-in_err-check_numbers-clause-undefined g c = λ told says.
+    let files = g.F.Pages.files c.args.folder.now in
+    let parts = c.in_ok-segments.segments in
+    let sets = lives_of parts in
+    let e = err_from_is_err_and c.from_residual-in_err-check_numbers.result c.from_residual-in_err-check_numbers.ensures.1 in
+    let shown = subst (λ (n : ℕ). FaultShows (IsMisplaced (λ doc. 1 ≤ places doc sets) (λ doc. 2 ≤ places doc sets) n) c.in_err-check_numbers.field-0.0) c.next.ensures.value
+    (subst (λ (ss : List LiveSet). FaultShows (IsMisplaced (λ doc. 1 ≤ places doc ss) (λ doc. 2 ≤ places doc ss) c.next.result) c.in_err-check_numbers.field-0.0) c.lives.ensures c.in_err-check_numbers.ensures.shown) in
+    rw (e.1, e.2)
+    (undefined_fault files c.in_err-check_numbers.field-0.0
+    (whole_placed files c.args.c.now parts c.in_err-check_numbers.field-0.0 (opened_heads (IsTrue g.F.Pages.told) files c.args.c.now parts told c.in_ok-segments.ensures.opened)
+    (opened_lives (IsTrue g.F.Pages.told) files c.args.c.now parts told c.in_ok-segments.ensures.opened) shown says))
+
+pub invariant_of-result : goal.invariant_of-result
+invariant_of-result g c =
+    subst (IsWell g.row.D)
+    (sym (attached_is c.args.c.now c.in_ok-names.names c.in_ok-segments.segments c.in_ok-cache.cache _ _ _ _ _ c.leaf.ensures.value c.next-2.ensures.value c.given.ensures.value (ap items_of c.new-2.ensures.items) c.new-3.ensures.items))
+    (well_attached g.row.D (IsTrue g.F.Pages.told) (g.F.Pages.files c.args.folder.now) c.args.c.now c.in_ok-names.names c.in_ok-segments.segments c.in_ok-cache.cache c.requires c.leaf.ensures.commit c.in_ok-segments.ensures.opened
+    (λ number.
+    let placed = c.in_ok-check_numbers.ensures.alone number in
+    let one = subst (λ (ss : List LiveSet). places number ss ≤ 1) c.lives.ensures placed.0 in
+    (one, λ le. subst (λ (ss : List LiveSet). places number ss ≡ 0) c.lives.ensures (placed.1 (subst (λ (n : ℕ). n ≤ number) (sym c.next.ensures.value) le))))
+    c.in_ok-names.ensures.names c.in_ok-names.ensures.own c.in_ok-cache.ensures.empty)
+
+pub returns-clause-seen : goal.returns-clause-seen
+returns-clause-seen g c = λ told says i stored.
+    let files = g.F.Pages.files c.args.folder.now in
+    let parts = c.in_ok-segments.segments in
+    subst (λ (s : SetData). Sees g.row.D files s i)
+    (sym (attached_is c.args.c.now c.in_ok-names.names parts c.in_ok-cache.cache _ _ _ _ _ c.leaf.ensures.value c.next-2.ensures.value c.given.ensures.value (ap items_of c.new-2.ensures.items) c.new-3.ensures.items))
+    (sees_attached g.row.D files c.args.c.now c.in_ok-names.names parts c.in_ok-cache.cache i c.requires says stored (opened_heads (IsTrue g.F.Pages.told) files c.args.c.now parts told c.in_ok-segments.ensures.opened)
+    (opened_lives (IsTrue g.F.Pages.told) files c.args.c.now parts told c.in_ok-segments.ensures.opened) (c.in_ok-cache.ensures.agrees files))
+
+pub returns-clause-commit : goal.returns-clause-commit
+returns-clause-commit g c =
+    subst (λ (s : SetData). IsAtRest s c.args.c.now)
+    (sym (attached_is c.args.c.now c.in_ok-names.names c.in_ok-segments.segments c.in_ok-cache.cache _ _ _ _ _ c.leaf.ensures.value c.next-2.ensures.value c.given.ensures.value (ap items_of c.new-2.ensures.items) c.new-3.ensures.items))
+    (at_rest_attached (IsTrue g.F.Pages.told) (g.F.Pages.files c.args.folder.now) c.args.c.now c.in_ok-names.names c.in_ok-segments.segments c.in_ok-cache.cache c.in_ok-segments.ensures.opened c.in_ok-names.ensures.next)
+
+pub returns-clause-live : goal.returns-clause-live
+returns-clause-live g c = λ told. opened_lives (IsTrue g.F.Pages.told) (g.F.Pages.files c.args.folder.now) c.args.c.now c.in_ok-segments.segments told c.in_ok-segments.ensures.opened
+
+pub returns-clause-cause : goal.returns-clause-cause
+returns-clause-cause g c = done_cause (g.F.Pages.faults c.args.folder.now) (g.F.Pages.faults c.open_all.new.folder) _ c.in_ok-segments.ensures.cause.fine

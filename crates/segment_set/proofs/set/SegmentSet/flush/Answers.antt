@@ -1,0 +1,70 @@
+use Rattle.std.proofs.Common.{◌≡◌, ◌≤◌, ◌+◌, ℕ, IsTrue, subst, ◌∙◌, arith}
+use Rattle.std.proofs.lemmas.Result.{err_from_is_err_and, on_ok_weaker}
+use Rattle.page_cache.specs.Causes.{HasPageCause}
+use Rattle.page_cache.proofs.Damages.{on_damage_weaker}
+use Rattle.segment_view.specs.Parts.{live_in_parts}
+use Rattle.segment_set.specs.Merged.{Rearranges}
+use Rattle.segment_set.specs.Damages.{IsDoubt, IsMergeDamage, IsMergeDamageOf}
+use Rattle.segment_set.proofs.Rearranged.{rearranges_then}
+use Rattle.segment_set.proofs.set.SegmentSet.flush.Given as given
+use Rattle.segment_set.proofs.set.SegmentSet.flush.Goals as goal
+
+settled : (g : given.Over) (c : goal.After-spill g) → Rearranges g.row.D (IsTrue g.F.Pages.told) (g.F.Pages.files c.args.folder.now) (g.F.Pages.files c.merge_settle.new.folder) c.args.self.now c.merge_settle.new.self
+settled g c =
+    let done = c.in_ok-merge_settle.ensures in
+    record { seen = done.seen; stays = done.stays; kept = done.kept; follows = done.follows; canon = done.canon; begun = done.begun; saved = done.saved }
+
+all : (g : given.Over) (c : goal.After-spill g) → Rearranges g.row.D (IsTrue g.F.Pages.told) (g.F.Pages.files c.args.folder.now) (g.F.Pages.files c.spill.new.folder) c.args.self.now c.spill.new.self
+all g c =
+    rearranges_then g.row.D (IsTrue g.F.Pages.told) (g.F.Pages.files c.args.folder.now) (g.F.Pages.files c.merge_settle.new.folder) (g.F.Pages.files c.spill.new.folder) c.args.self.now c.merge_settle.new.self c.spill.new.self
+    c.spill.ensures.well.named (settled g c) c.spill.ensures.moves
+
+pub returns-clause-seen : goal.returns-clause-seen
+returns-clause-seen g c = (all g c).seen
+
+pub returns-clause-levels : goal.returns-clause-levels
+returns-clause-levels g c = on_ok_weaker c.spill.result (λ emptied level. let more = c.spill.ensures.one_more level in let few = c.in_ok-merge_settle.ensures.levels level in omega (arith, more, few)) c.spill.ensures.emptied
+
+pub returns-clause-stays : goal.returns-clause-stays
+returns-clause-stays g c = (all g c).stays
+
+pub returns-clause-kept : goal.returns-clause-kept
+returns-clause-kept g c = (all g c).kept
+
+pub returns-clause-follows : goal.returns-clause-follows
+returns-clause-follows g c = (all g c).follows
+
+pub returns-clause-saved : goal.returns-clause-saved
+returns-clause-saved g c = (all g c).saved
+
+pub returns-clause-begun : goal.returns-clause-begun
+returns-clause-begun g c = (all g c).begun
+
+pub returns-clause-canon : goal.returns-clause-canon
+returns-clause-canon g c = (all g c).canon
+
+pub returns-clause-cause : goal.returns-clause-cause
+returns-clause-cause g c = subst (λ n. HasPageCause n (g.F.Pages.faults c.spill.new.folder) c.spill.result) c.in_ok-merge_settle.ensures.cause.fine c.spill.ensures.cause
+
+pub returns-clause-whole : goal.returns-clause-whole
+returns-clause-whole g c = λ told i seen. c.spill.ensures.whole
+
+pub returns-clause-shown : goal.returns-clause-shown
+returns-clause-shown g c = on_damage_weaker c.spill.result (λ _. ⊥) (IsMergeDamage g.row.D c.args.self.now.given c.args.self.now.names c.args.self.now.parts) (λ d h. absurd h) c.spill.ensures.whole
+
+pub returns-clause-damage : goal.returns-clause-damage
+returns-clause-damage g c = λ told agrees. on_damage_weaker c.spill.result (λ _. ⊥) (IsMergeDamageOf (g.F.Pages.files c.spill.new.folder) c.args.self.now.given) (λ d h. absurd h) c.spill.ensures.whole
+
+pub returns-clause-doubled : goal.returns-clause-doubled
+returns-clause-doubled g c = λ told agrees contents reads.
+    on_damage_weaker c.spill.result (λ _. ⊥) (IsDoubt c.args.self.now.given (live_in_parts contents c.args.self.now.parts)) (λ d h. absurd h) c.spill.ensures.whole
+
+pub returns-in_err-merge_settle-clause-whole : goal.returns-in_err-merge_settle-clause-whole
+returns-in_err-merge_settle-clause-whole g c = λ told i seen.
+    let e = err_from_is_err_and c.from_residual.result c.from_residual.ensures.1 in
+    rw (e.1, e.2) (c.in_err-merge_settle.ensures.whole told i seen)
+
+pub returns-in_err-merge_settle-clause-doubled : goal.returns-in_err-merge_settle-clause-doubled
+returns-in_err-merge_settle-clause-doubled g c = λ told agrees contents reads.
+    let e = err_from_is_err_and c.from_residual.result c.from_residual.ensures.1 in
+    rw (e.1, e.2) (c.in_err-merge_settle.ensures.doubled told agrees contents reads)

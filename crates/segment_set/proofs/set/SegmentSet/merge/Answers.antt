@@ -1,0 +1,137 @@
+use Rattle.std.proofs.Common.{◌≡◌, ◌≤◌, length, lit<, ℕ, true, false, IsTrue, List, sym, ap, subst, ◌∙◌}
+use Rattle.std.specs.Result.{OnOk}
+use Rattle.std.proofs.lemmas.Result.{on_ok_weaker}
+use Rattle.outer_io.specs.declared.file_name.FileName.TheVariants.{Segment}
+use Rattle.point_codec.specs.Seen.{items_of}
+use Rattle.documents.specs.Entries.{is_among}
+use Rattle.documents.proofs.Kept.{among_to}
+use Rattle.page_cache.specs.Cache.{Agrees}
+use Rattle.page_cache.specs.Evidence.{OnDamage}
+use Rattle.segment_view.specs.Parts.{AreRead, ids_of, live_in_parts, parts_among}
+use Rattle.file_names.specs.Names.{is_named}
+use Rattle.segment_set.specs.Sets.{IsWell, SetData, inputs_of}
+use Rattle.segment_set.specs.Seen.{Sees}
+use Rattle.segment_set.specs.Damages.{IsDoubt, IsMergeDamage, IsMergeDamageOf}
+use Rattle.segment_set.specs.Merged.{IsApart, KeepsEntries, Rearranges}
+use Rattle.segment_set.specs.Merges.{IsMerged}
+use Rattle.segment_set.proofs.Moved.{moved}
+use Rattle.segment_set.proofs.Rearranged.{entries_merged, rearranges_after}
+use Rattle.segment_set.proofs.Sizes.{set_fits}
+use Rattle.segment_set.proofs.Sources.{merge_docs, merge_few}
+use Rattle.segment_set.proofs.Standing.{ids_named}
+use Rattle.segment_set.proofs.Steps.{IsAfter, merge_after}
+use Rattle.segment_set.proofs.Weller.{length_replaced}
+use Rattle.segment_set.proofs.set.SegmentSet.merge.Given as given
+use Rattle.segment_set.proofs.set.SegmentSet.merge.Goals as goal
+
+-- the set as it was, by its fields
+abbrev was : (g : given.Over) (c : goal.After-merge g) → SetData
+was g c = record {
+  leaf = c.self.inside.leaf;
+  next = c.self.inside.next;
+  given = c.self.inside.given;
+  names = c.self.inside.names;
+  parts = c.self.inside.segments;
+  buffer = items_of c.self.inside.buffer.items;
+  snapshots = c.self.inside.snapshots.items;
+  begun = c.self.inside.begun;
+  cache = c.self.inside.cache;
+  saved = c.self.inside.saved;
+}
+
+-- and as it is
+abbrev is : (g : given.Over) (c : goal.After-merge g) → SetData
+is g c = moved (was g c) c.merge.new.names c.merge.new.segments (items_of c.self.inside.buffer.items) c.self.inside.begun c.merge.new.cache
+
+apart : (g : given.Over) (c : goal.After-merge g) → IsApart c.args.ids.now (inputs_of c.self.inside.begun) c.self.inside.segments
+apart g c = subst (λ (s : SetData). IsApart c.args.ids.now (inputs_of s.begun) s.parts) (sym c.self.view_is) c.requires
+
+merged : (g : given.Over) (c : goal.After-merge g)
+    → OnOk c.merge.result (IsMerged g.row.D (IsTrue g.F.Pages.told) c.self.inside.leaf c.self.inside.names c.merge.new.names (g.F.Pages.files c.args.folder.now) (g.F.Pages.files c.merge.new.folder) c.self.inside.cache c.args.ids.now
+    c.self.inside.segments c.merge.new.segments)
+merged g c =
+    subst (λ n. OnOk c.merge.result (IsMerged g.row.D (IsTrue g.F.Pages.told) n c.self.inside.names c.merge.new.names (g.F.Pages.files c.args.folder.now) (g.F.Pages.files c.merge.new.folder) c.self.inside.cache c.args.ids.now
+    c.self.inside.segments c.merge.new.segments))
+    (c.plan-plan.ensures.leaf ∙ sym (ap (λ (s : SetData). s.leaf) c.self.view_is)) c.merge.ensures.merged
+
+after : (g : given.Over) (c : goal.After-merge g) → IsAfter g.row.D (IsTrue g.F.Pages.told) (g.F.Pages.files c.args.folder.now) (g.F.Pages.files c.merge.new.folder) (was g c) (is g c)
+after g c =
+    merge_after g.row.D (IsTrue g.F.Pages.told) (g.F.Pages.files c.args.folder.now) (g.F.Pages.files c.merge.new.folder) {s = was g c} c.self.invariant c.merge.new.names c.args.ids.now c.merge.new.segments c.merge.new.cache
+    c.merge.ensures.kept (apart g c).apart c.merge.ensures.agrees c.merge.ensures.others c.merge.result (merged g c) c.merge.ensures.refused
+
+pub plan-plan-requires : goal.plan-plan-requires
+plan-plan-requires g c = (set_fits g.row.D c.self.invariant.few_dims, lit< tt)
+
+pub merge-requires-after_bounds : goal.merge-requires-after_bounds
+merge-requires-after_bounds g c = λ lifetimes outlive. (
+  lit< tt,
+  (
+    lit< tt,
+    (
+      c.self.invariant.few_dims,
+      (
+        c.self.invariant.named,
+        λ id there.
+            ids_named c.self.inside.names c.self.inside.segments c.self.invariant.named id
+            (among_to (ids_of c.self.inside.segments) id ((subst (λ (s : SetData). IsApart c.args.ids.now (inputs_of s.begun) s.parts) (sym c.self.view_is) c.requires).among id there)),
+      ),
+    ),
+  ),
+)
+
+pub invariant_of-self : goal.invariant_of-self
+invariant_of-self g c = (after g c).well
+
+pub returns-clause-moves : goal.returns-clause-moves
+returns-clause-moves g c =
+    subst (λ (s : SetData). Rearranges g.row.D (IsTrue g.F.Pages.told) (g.F.Pages.files c.args.folder.now) (g.F.Pages.files c.merge.new.folder) s (is g c)) c.self.view_is
+    (rearranges_after g.row.D (IsTrue g.F.Pages.told) (g.F.Pages.files c.args.folder.now) (g.F.Pages.files c.merge.new.folder) {s = was g c} c.merge.new.names c.merge.new.segments (items_of c.self.inside.buffer.items) c.merge.new.cache
+    c.merge.ensures.kept (after g c))
+
+pub returns-clause-entries : goal.returns-clause-entries
+returns-clause-entries g c =
+    subst (λ (s : SetData). KeepsEntries g.row.D (IsTrue g.F.Pages.told) (g.F.Pages.files c.args.folder.now) (g.F.Pages.files c.merge.new.folder) s (is g c)) c.self.view_is
+    (entries_merged g.row.D (IsTrue g.F.Pages.told) (g.F.Pages.files c.args.folder.now) (g.F.Pages.files c.merge.new.folder) {s = was g c} c.self.invariant c.merge.new.names c.args.ids.now c.merge.new.segments c.merge.new.cache
+    c.merge.ensures.kept c.merge.ensures.agrees c.merge.ensures.others c.merge.result (merged g c) c.merge.ensures.refused)
+
+pub returns-clause-buffer : goal.returns-clause-buffer
+returns-clause-buffer g c = ap (λ (s : SetData). s.buffer) c.self.view_is
+
+pub returns-clause-merged : goal.returns-clause-merged
+returns-clause-merged g c =
+    subst (λ (s : SetData). OnOk c.merge.result (IsMerged g.row.D (IsTrue g.F.Pages.told) s.leaf s.names c.merge.new.names (g.F.Pages.files c.args.folder.now) (g.F.Pages.files c.merge.new.folder) s.cache c.args.ids.now s.parts c.merge.new.segments))
+    c.self.view_is (merged g c)
+
+pub returns-clause-fewer : goal.returns-clause-fewer
+returns-clause-fewer g c =
+    let s = c.args.self.now in
+    on_ok_weaker c.merge.result
+    (λ m. length_replaced g.row.D (IsTrue g.F.Pages.told) s.names c.merge.new.names (g.F.Pages.files c.merge.new.folder) c.args.ids.now s.parts c.merge.new.segments m.built m.replaces)
+    (returns-clause-merged g c)
+
+pub returns-clause-whole : goal.returns-clause-whole
+returns-clause-whole g c = λ told i seen.
+    let s = was g c in
+    let h = subst (λ (u : SetData). Sees g.row.D (g.F.Pages.files c.args.folder.now) u i) (sym c.self.view_is) seen in
+    c.merge.ensures.whole told h.stands.agrees h.contents h.stands.now s.next (merge_docs g.row.D (g.F.Pages.files c.args.folder.now) s i h c.args.ids.now)
+    (subst (λ n. length (live_in_parts h.contents (parts_among c.args.ids.now s.parts)) ≤ n) (ap (λ (u : SetData). u.given) c.self.view_is ∙ sym c.plan-plan.ensures.given) (merge_few g.row.D (g.F.Pages.files c.args.folder.now) s i h c.args.ids.now))
+
+given_is : (g : given.Over) (c : goal.After-merge g) → c.plan-plan.result.given ≡ c.self.inside.given
+given_is g c = c.plan-plan.ensures.given ∙ sym (ap (λ (s : SetData). s.given) c.self.view_is)
+
+pub returns-clause-shown : goal.returns-clause-shown
+returns-clause-shown g c =
+    subst (λ (s : SetData). OnDamage c.merge.result (IsMergeDamage g.row.D s.given s.names s.parts)) c.self.view_is
+    (subst (λ n. OnDamage c.merge.result (IsMergeDamage g.row.D n c.self.inside.names c.self.inside.segments)) (given_is g c) c.merge.ensures.shown)
+
+pub returns-clause-damage : goal.returns-clause-damage
+returns-clause-damage g c = λ told agrees.
+    subst (λ n. OnDamage c.merge.result (IsMergeDamageOf (g.F.Pages.files c.merge.new.folder) n)) c.plan-plan.ensures.given
+    (c.merge.ensures.damage told (subst (λ (s : SetData). Agrees (g.F.Pages.files c.args.folder.now) s.cache) (sym c.self.view_is) agrees))
+
+pub returns-clause-doubled : goal.returns-clause-doubled
+returns-clause-doubled g c = λ told agrees contents reads.
+    subst (λ (s : SetData). OnDamage c.merge.result (IsDoubt s.given (live_in_parts contents s.parts))) c.self.view_is
+    (subst (λ n. OnDamage c.merge.result (IsDoubt n (live_in_parts contents c.self.inside.segments))) (given_is g c)
+    (c.merge.ensures.doubled told (subst (λ (s : SetData). Agrees (g.F.Pages.files c.args.folder.now) s.cache) (sym c.self.view_is) agrees) contents
+    (subst (λ (s : SetData). AreRead g.row.D (g.F.Pages.files c.args.folder.now) contents s.parts) (sym c.self.view_is) reads)))

@@ -1,0 +1,138 @@
+use Rattle.std.proofs.Common.{◌≡◌, ℕ, true, false, IsTrue, List, Option, None, Some, refl, sym, ap, subst, ◌∙◌, lit<}
+use Rattle.std.specs.List.{All}
+use Rattle.std.proofs.lemmas.List.Elements.{All-contains}
+use Rattle.std.proofs.lemmas.Result.{err_from_is_err_and}
+use Rattle.outer_io.specs.declared.file_name.FileName.TheVariants.{Segment}
+use Rattle.point_codec.specs.Seen.{items_of}
+use Rattle.documents.specs.Entries.{is_among}
+use Rattle.documents.proofs.Kept.{among_to}
+use Rattle.index_model.specs.State.{Index}
+use Rattle.segment_view.specs.Parts.{Part, ids_of}
+use Rattle.segment_build.specs.NewSegments.{NewSegmentData}
+use Rattle.file_names.specs.Names.{is_named}
+use Rattle.segment_set.specs.declared.set.SegmentSet.TheInside.{Inside}
+use Rattle.segment_set.specs.Sets.{BegunMerge, IsWell, SetData, inputs_of}
+use Rattle.segment_set.specs.Seen.{Sees}
+use Rattle.segment_set.specs.Kept.{AreCanonical, Follows, StaysAlone}
+use Rattle.segment_set.specs.Merged.{IsEnded}
+use Rattle.segment_set.specs.Merges.{Replaces, living}
+use Rattle.segment_set.proofs.Ended.{end_canon, end_follows, end_parts, end_seen, end_stays, end_well}
+use Rattle.segment_set.proofs.Faulted.{ended_cause}
+use Rattle.segment_set.proofs.Moved.{moved}
+use Rattle.segment_set.proofs.Sizes.{built_fits}
+use Rattle.segment_set.proofs.Spilled.{refused_after, some_is}
+use Rattle.segment_set.proofs.Standing.{ids_named}
+use Rattle.segment_set.proofs.Steps.{IsAfter}
+use Rattle.segment_set.proofs.set.SegmentSet.merge_end.Given as given
+use Rattle.segment_set.proofs.set.SegmentSet.merge_end.Goals as goal
+
+-- a set, by its fields
+abbrev set_of : {D : ℕ} → Inside D → SetData
+set_of s = record {
+  leaf = s.leaf;
+  next = s.next;
+  given = s.given;
+  names = s.names;
+  parts = s.segments;
+  buffer = items_of s.buffer.items;
+  snapshots = s.snapshots.items;
+  begun = s.begun;
+  cache = s.cache;
+  saved = s.saved;
+}
+
+abbrev WasReplaced : (g : given.Over) (c : goal.Joined-self-2 g) → Option NewSegmentData → List ℕ → Type 0
+WasReplaced g c o ids = Replaces g.row.D (IsTrue g.F.Pages.told) c.self.inside.names c.replace.new.names (g.F.Pages.files c.replace.new.folder) ids o c.self.inside.segments c.replace.new.segments
+
+-- a refusal leaves the set
+refused : (g : given.Over) (c : goal.After-from_residual g) → IsAfter g.row.D (IsTrue g.F.Pages.told) (g.F.Pages.files c.args.folder.now) (g.F.Pages.files c.replace.new.folder) (set_of c.self.inside)
+    (moved (set_of c.self.inside) c.replace.new.names c.self.inside.segments (items_of c.self.inside.buffer.items) c.self.inside.begun c.self.inside.cache)
+refused g c = refused_after g.row.D (IsTrue g.F.Pages.told) (g.F.Pages.files c.args.folder.now) (g.F.Pages.files c.replace.new.folder) {s = set_of c.self.inside} c.self.invariant c.replace.new.names c.in_err-replace.ensures.kept
+
+pub replace-requires : goal.replace-requires
+replace-requires g c =
+    let inputs : c.as_slice.result.now ≡ inputs_of c.self.inside.begun = c.as_slice.ensures.value ∙ ap (λ (b : BegunMerge). b.inputs) c.begun.view_is ∙ sym (ap inputs_of c.in-Some.is) in
+    let well = c.self.invariant in
+    let ids = ids_of c.self.inside.segments in (
+      lit< tt,
+      (
+        built_fits g.row.D well.few_dims,
+        (
+          well.few_dims,
+          (
+            well.named,
+            λ id there.
+                ids_named c.self.inside.names c.self.inside.segments well.named id
+                (among_to ids id (All-contains (λ n. is_among ids n ≡ true) (inputs_of c.self.inside.begun) id well.inputs (among_to (inputs_of c.self.inside.begun) id (subst (λ (ns : List ℕ). is_among ns id ≡ true) inputs there)))),
+          ),
+        ),
+      ),
+    )
+
+pub invariant_of-self : goal.invariant_of-self
+invariant_of-self g c =
+    subst (λ (ps : List Part). IsWell g.row.D (moved (set_of c.self.inside) c.replace.new.names ps (items_of c.self.inside.buffer.items) c.self.inside.begun c.self.inside.cache)) (sym c.in_err-replace.ensures.refused) (refused g c).well
+
+pub returns-in_err-replace-clause-refused : goal.returns-in_err-replace-clause-refused
+returns-in_err-replace-clause-refused g c = λ told i seen.
+    let p = err_from_is_err_and c.from_residual.result c.from_residual.ensures.1 in
+    rw p.1
+    (subst (λ (ps : List Part). Sees g.row.D (g.F.Pages.files c.replace.new.folder) (moved (set_of c.self.inside) c.replace.new.names ps (items_of c.self.inside.buffer.items) c.self.inside.begun c.self.inside.cache) i) (sym c.in_err-replace.ensures.refused)
+    ((refused g c).seen told i (subst (λ (s : SetData). Sees g.row.D (g.F.Pages.files c.args.folder.now) s i) (sym c.self.view_is) seen)))
+
+pub returns-in_err-replace-clause-stays : goal.returns-in_err-replace-clause-stays
+returns-in_err-replace-clause-stays g c =
+    subst (λ (s : SetData). StaysAlone s (moved (set_of c.self.inside) c.replace.new.names c.replace.new.segments (items_of c.self.inside.buffer.items) s.begun c.self.inside.cache)) c.self.view_is
+    (subst (λ (ps : List Part). StaysAlone (set_of c.self.inside) (moved (set_of c.self.inside) c.replace.new.names ps (items_of c.self.inside.buffer.items) c.self.inside.begun c.self.inside.cache)) (sym c.in_err-replace.ensures.refused) (refused g c).stays)
+
+pub returns-in_err-replace-clause-follows : goal.returns-in_err-replace-clause-follows
+returns-in_err-replace-clause-follows g c =
+    subst (λ (s : SetData). Follows s.names s.parts c.replace.new.segments) c.self.view_is
+    (subst (Follows c.self.inside.names c.self.inside.segments) (sym c.in_err-replace.ensures.refused) (refused g c).follows)
+
+pub returns-in_err-replace-clause-cause : goal.returns-in_err-replace-clause-cause
+returns-in_err-replace-clause-cause g c =
+    let p = err_from_is_err_and c.from_residual.result c.from_residual.ensures.1 in
+    rw (p.1, p.2) (ended_cause {T = Unit {0}} {U = Unit {0}} (g.F.Pages.faults c.args.folder.now) (g.F.Pages.faults c.replace.new.folder) c.in_err-replace.field-0.0 c.in_err-replace.ensures.cause)
+
+-- what was built took the place of the inputs
+replaced : (g : given.Over) (c : goal.Joined-self-2 g) → WasReplaced g c (living c.in-Some.begun.built) c.in-Some.begun.inputs
+replaced g c =
+    subst (WasReplaced g c (living c.in-Some.begun.built)) (c.as_slice.ensures.value ∙ ap (λ (b : BegunMerge). b.inputs) c.begun.view_is)
+    (subst (λ (o : Option NewSegmentData). WasReplaced g c o c.as_slice.result.now) (ap living (c.as_ref.ensures.value ∙ ap (λ (b : BegunMerge). b.built) c.begun.view_is)) c.in_ok-replace.ensures.replaced)
+
+pub invariant_of-self-2 : goal.invariant_of-self-2
+invariant_of-self-2 g c =
+    end_well g.row.D (IsTrue g.F.Pages.told) (g.F.Pages.files c.args.folder.now) (g.F.Pages.files c.replace.new.folder) {s = set_of c.self.inside} c.replace.new.names c.replace.new.segments c.in_ok-replace.ensures.kept c.in-Some.begun c.in-Some.is (replaced g c)
+    c.self.invariant
+
+pub returns-clause-seen : goal.returns-clause-seen
+returns-clause-seen g c = λ told i seen.
+    end_seen g.row.D (IsTrue g.F.Pages.told) (g.F.Pages.files c.args.folder.now) (g.F.Pages.files c.replace.new.folder) {s = set_of c.self.inside} c.replace.new.names c.replace.new.segments c.in_ok-replace.ensures.kept c.in-Some.begun c.in-Some.is (replaced g c)
+    c.self.invariant told i (subst (λ (s : SetData). Sees g.row.D (g.F.Pages.files c.args.folder.now) s i) (sym c.self.view_is) seen)
+
+pub returns-clause-parts : goal.returns-clause-parts
+returns-clause-parts g c = λ b is.
+    let same : c.in-Some.begun ≡ b = some_is c.in-Some.begun b (sym c.in-Some.is ∙ ap (λ (s : SetData). s.begun) c.self.view_is ∙ is) in
+    subst (λ (m : BegunMerge). IsEnded m c.args.self.now.parts c.replace.new.segments) same
+    (subst (λ (s : SetData). IsEnded c.in-Some.begun s.parts c.replace.new.segments) c.self.view_is
+    (end_parts g.row.D (IsTrue g.F.Pages.told) (g.F.Pages.files c.args.folder.now) (g.F.Pages.files c.replace.new.folder) {s = set_of c.self.inside} c.replace.new.names c.replace.new.segments c.in_ok-replace.ensures.kept c.in-Some.begun c.in-Some.is (replaced g c)
+    c.self.invariant))
+
+pub returns-clause-stays : goal.returns-clause-stays
+returns-clause-stays g c =
+    subst (λ (s : SetData). StaysAlone s (moved (set_of c.self.inside) c.replace.new.names c.replace.new.segments (items_of c.self.inside.buffer.items) s.begun c.self.inside.cache)) c.self.view_is
+    (end_stays g.row.D (IsTrue g.F.Pages.told) (g.F.Pages.files c.args.folder.now) (g.F.Pages.files c.replace.new.folder) {s = set_of c.self.inside} c.replace.new.names c.replace.new.segments c.in_ok-replace.ensures.kept c.in-Some.begun c.in-Some.is (replaced g c)
+    c.self.invariant)
+
+pub returns-clause-follows : goal.returns-clause-follows
+returns-clause-follows g c =
+    subst (λ (s : SetData). Follows s.names s.parts c.replace.new.segments) c.self.view_is
+    (end_follows g.row.D (IsTrue g.F.Pages.told) (g.F.Pages.files c.args.folder.now) (g.F.Pages.files c.replace.new.folder) {s = set_of c.self.inside} c.replace.new.names c.replace.new.segments c.in_ok-replace.ensures.kept c.in-Some.begun c.in-Some.is (replaced g c)
+    c.self.invariant)
+
+pub returns-clause-canon : goal.returns-clause-canon
+returns-clause-canon g c = λ told.
+    subst (λ (s : SetData). AreCanonical g.row.D (g.F.Pages.files c.replace.new.folder) s.names c.replace.new.segments) c.self.view_is
+    (end_canon g.row.D (IsTrue g.F.Pages.told) (g.F.Pages.files c.args.folder.now) (g.F.Pages.files c.replace.new.folder) {s = set_of c.self.inside} c.replace.new.names c.replace.new.segments c.in_ok-replace.ensures.kept c.in-Some.begun c.in-Some.is (replaced g c)
+    c.self.invariant told)

@@ -1,0 +1,77 @@
+use Rattle.std.proofs.Common.{◌≡◌, ◌≤◌, ◌+◌, ◌∙◌, ℕ, IsTrue, List, Err, length, refl, sym, ap, subst, arith}
+use Rattle.std.proofs.lemmas.Result.{err_from_is_err_and}
+use Rattle.page_cache.specs.declared.faults.Damage.{Damage}
+use Rattle.page_cache.proofs.Damages.{on_damage_weaker}
+use Rattle.segment_view.specs.Parts.{live_in_parts, parts_among}
+use Rattle.segment_set.specs.Damages.{IsDoubt, IsMergeDamage}
+use Rattle.segment_set.proofs.Rearranged.{damage_before, doubt_same, entries_none, entries_then, rearranges_none, rearranges_then}
+use Rattle.segment_set.proofs.set.SegmentSet.merge_settle.Goals as goal
+
+pub loop-ids-init : goal.loop-ids-init
+loop-ids-init g c = record {
+  moves = λ well. rearranges_none g.row.D (IsTrue g.F.Pages.told) (g.F.Pages.files c.args.folder.now) c.args.self.now well.named;
+  entries = entries_none g.row.D (IsTrue g.F.Pages.told) (g.F.Pages.files c.args.folder.now) c.args.self.now;
+  buffer = refl;
+  faults = refl;
+}
+
+pub loop-ids-preserved : goal.loop-ids-preserved
+loop-ids-preserved g c = record {
+  moves = λ well. rearranges_then g.row.D (IsTrue g.F.Pages.told) (g.F.Pages.files c.args.folder.now) (g.F.Pages.files c.loop-ids.folder) (g.F.Pages.files c.merge.new.folder) c.args.self.now c.loop-ids.self c.merge.new.self c.next_merge.ensures.well.named (c.loop-ids.invariant.moves c.next_merge.ensures.well) c.merge.ensures.moves;
+  entries = entries_then g.row.D (IsTrue g.F.Pages.told) (g.F.Pages.files c.args.folder.now) (g.F.Pages.files c.loop-ids.folder) (g.F.Pages.files c.merge.new.folder) c.args.self.now c.loop-ids.self c.merge.new.self c.loop-ids.invariant.entries c.merge.ensures.entries;
+  buffer = c.merge.ensures.buffer ∙ c.loop-ids.invariant.buffer;
+  faults = c.in_ok-merge.ensures.cause.fine ∙ c.loop-ids.invariant.faults;
+}
+
+pub loop-ids-smaller : goal.loop-ids-smaller
+loop-ids-smaller g c =
+    let parts = c.loop-ids.self.parts in
+    let chosen : 2 ≤ length (parts_among c.in-Some.ids.items parts) = rw c.in-Some.is at c.in_ok-ids.ensures.some in
+    let two = subst (λ (ids : List ℕ). 2 ≤ length (parts_among ids parts)) (sym c.as_slice.ensures.value) chosen in
+    let few = c.in_ok-merge.ensures.fewer in
+    omega (arith, two, few)
+
+pub returns-in_err-ids-clause-canon : goal.returns-in_err-ids-clause-canon
+returns-in_err-ids-clause-canon g c = (c.loop-ids.invariant.moves c.next_merge.ensures.well).canon
+
+pub returns-clause-canon : goal.returns-clause-canon
+returns-clause-canon g c = (c.loop-ids.invariant.moves c.next_merge.ensures.well).canon
+
+pub returns-in_err-merge-clause-stays : goal.returns-in_err-merge-clause-stays
+returns-in_err-merge-clause-stays g c =
+    (rearranges_then g.row.D (IsTrue g.F.Pages.told) (g.F.Pages.files c.args.folder.now) (g.F.Pages.files c.loop-ids.folder) (g.F.Pages.files c.merge.new.folder) c.args.self.now c.loop-ids.self c.merge.new.self c.next_merge.ensures.well.named (c.loop-ids.invariant.moves c.next_merge.ensures.well) c.merge.ensures.moves).stays
+
+pub returns-in_err-merge-clause-kept : goal.returns-in_err-merge-clause-kept
+returns-in_err-merge-clause-kept g c =
+    (rearranges_then g.row.D (IsTrue g.F.Pages.told) (g.F.Pages.files c.args.folder.now) (g.F.Pages.files c.loop-ids.folder) (g.F.Pages.files c.merge.new.folder) c.args.self.now c.loop-ids.self c.merge.new.self c.next_merge.ensures.well.named (c.loop-ids.invariant.moves c.next_merge.ensures.well) c.merge.ensures.moves).kept
+
+pub returns-in_err-merge-clause-follows : goal.returns-in_err-merge-clause-follows
+returns-in_err-merge-clause-follows g c =
+    (rearranges_then g.row.D (IsTrue g.F.Pages.told) (g.F.Pages.files c.args.folder.now) (g.F.Pages.files c.loop-ids.folder) (g.F.Pages.files c.merge.new.folder) c.args.self.now c.loop-ids.self c.merge.new.self c.next_merge.ensures.well.named (c.loop-ids.invariant.moves c.next_merge.ensures.well) c.merge.ensures.moves).follows
+
+pub returns-in_err-merge-clause-canon : goal.returns-in_err-merge-clause-canon
+returns-in_err-merge-clause-canon g c =
+    (rearranges_then g.row.D (IsTrue g.F.Pages.told) (g.F.Pages.files c.args.folder.now) (g.F.Pages.files c.loop-ids.folder) (g.F.Pages.files c.merge.new.folder) c.args.self.now c.loop-ids.self c.merge.new.self c.next_merge.ensures.well.named (c.loop-ids.invariant.moves c.next_merge.ensures.well) c.merge.ensures.moves).canon
+
+pub returns-in_err-merge-clause-whole : goal.returns-in_err-merge-clause-whole
+returns-in_err-merge-clause-whole g c = λ told i seen.
+    let e = err_from_is_err_and c.from_residual-in_err-merge.result c.from_residual-in_err-merge.ensures.1 in
+    rw (e.1, e.2) (c.in_err-merge.ensures.whole told i ((c.loop-ids.invariant.moves c.next_merge.ensures.well).seen told i seen))
+
+pub returns-in_err-merge-clause-shown : goal.returns-in_err-merge-clause-shown
+returns-in_err-merge-clause-shown g c =
+    let e = err_from_is_err_and c.from_residual-in_err-merge.result c.from_residual-in_err-merge.ensures.1 in
+    rw (e.1, e.2)
+    (on_damage_weaker {T = Unit {0}} (Err c.in_err-merge.field-0.0) (IsMergeDamage g.row.D c.loop-ids.self.given c.loop-ids.self.names c.loop-ids.self.parts) (IsMergeDamage g.row.D c.args.self.now.given c.args.self.now.names c.args.self.now.parts)
+    (damage_before g.row.D (IsTrue g.F.Pages.told) (g.F.Pages.files c.args.folder.now) (g.F.Pages.files c.loop-ids.folder) c.args.self.now c.loop-ids.self (c.loop-ids.invariant.moves c.next_merge.ensures.well)) c.in_err-merge.ensures.shown)
+
+pub returns-in_err-merge-clause-doubled : goal.returns-in_err-merge-clause-doubled
+returns-in_err-merge-clause-doubled g c = λ told agrees contents reads.
+    let e = err_from_is_err_and c.from_residual-in_err-merge.result c.from_residual-in_err-merge.ensures.1 in
+    let kept = c.loop-ids.invariant.entries in
+    let now = kept.entries told agrees contents reads in
+    rw (e.1, e.2)
+    (on_damage_weaker {T = Unit {0}} (Err c.in_err-merge.field-0.0) (IsDoubt c.loop-ids.self.given (live_in_parts now.0 c.loop-ids.self.parts)) (IsDoubt c.args.self.now.given (live_in_parts contents c.args.self.now.parts))
+    (λ d h. doubt_same c.args.self.now.given (live_in_parts contents c.args.self.now.parts) (live_in_parts now.0 c.loop-ids.self.parts) now.2 d
+    (subst (λ n. IsDoubt n (live_in_parts now.0 c.loop-ids.self.parts) d) (c.loop-ids.invariant.moves c.next_merge.ensures.well).stays.given h))
+    (c.in_err-merge.ensures.doubled told (kept.agrees told agrees) now.0 now.1))

@@ -1,0 +1,16 @@
+use Rattle.std.proofs.Common.{◌≡◌, IsTrue, length}
+use Rattle.segment_set.specs.Sets.{IsWell}
+use Rattle.segment_set.specs.Merged.{KeepsEntries, Rearranges}
+use Rattle.segment_set.proofs.set.SegmentSet.merge_settle.Given as goal
+
+abbrev pub invariant-loop-ids : goal.invariant-loop-ids
+invariant-loop-ids g l = record {
+  moves : IsWell g.row.D l.self → Rearranges g.row.D (IsTrue g.F.Pages.told) (g.F.Pages.files l.initial.folder) (g.F.Pages.files l.folder) l.initial.self l.self;
+  entries : KeepsEntries g.row.D (IsTrue g.F.Pages.told) (g.F.Pages.files l.initial.folder) (g.F.Pages.files l.folder) l.initial.self l.self;
+  buffer : l.self.buffer ≡ l.initial.self.buffer;
+  faults : g.F.Pages.faults l.folder ≡ g.F.Pages.faults l.initial.folder;
+}
+
+-- each merge takes the place of two segments at least
+abbrev pub decreases-loop-ids : goal.decreases-loop-ids
+decreases-loop-ids g l = length l.self.parts

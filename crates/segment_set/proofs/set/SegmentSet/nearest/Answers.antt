@@ -1,0 +1,68 @@
+-- What is found are the nearest documents that the view shows.
+use Rattle.std.proofs.Common.{◌≡◌, ℕ, List, sym, ap, subst, ◌∙◌, lit<}
+use Rattle.point_codec.specs.Points.{Item}
+use Rattle.point_codec.specs.Seen.{items_of}
+use Rattle.inner_pack.specs.Trees.{IndexTree}
+use Rattle.page_cache.specs.Cache.{Agrees}
+use Rattle.page_cache.specs.Evidence.{OnDamage}
+use Rattle.documents.specs.NearestEntries.{IsNearest, nears_of}
+use Rattle.nearest_query.specs.Segments.{AreNearLeaves, HaveTrees, IsSegmentDamage, bound_of}
+use Rattle.script_lang.specs.Seen.{viewed}
+use Rattle.segment_view.specs.Parts.{AreRead, Part, heads_of}
+use Rattle.index_model.specs.State.{Index}
+use Rattle.segment_set.specs.Sets.{SetData, buffer_at, parts_at, viewed_buffer, viewed_parts}
+use Rattle.segment_set.specs.Seen.{Sees, entries_seen}
+use Rattle.segment_set.proofs.Sizes.{entry_fits, point_fits}
+use Rattle.segment_set.proofs.Viewed.{looked_buffer, looked_nearest, looked_parts, looked_read, looked_sees, looked_well, viewed_read}
+use Rattle.segment_set.proofs.set.SegmentSet.nearest.Given as given
+use Rattle.segment_set.proofs.set.SegmentSet.nearest.Goals as goal
+
+here : (g : given.Over) (c : goal.After-nearest g) → c.view_of.result.0.now ≡ parts_at (viewed c.args.view.now) c.self.inside.segments c.self.inside.snapshots.items
+here g c = c.view_of.ensures.segments ∙ ap (parts_at (viewed c.args.view.now) c.self.inside.segments) c.as_slice-2.ensures.value
+
+parts_are : (g : given.Over) (c : goal.After-nearest g) → c.view_of.result.0.now ≡ viewed_parts (viewed c.args.view.now) c.args.self.now
+parts_are g c = looked_parts _ _ (viewed c.args.view.now) _ c.self.view_is (here g c)
+
+buffer_is : (g : given.Over) (c : goal.After-nearest g) → items_of c.view_of.result.1.now ≡ viewed_buffer (viewed c.args.view.now) c.args.self.now
+buffer_is g c =
+    looked_buffer _ _ (viewed c.args.view.now) _ c.self.view_is
+    (c.view_of.ensures.buffer
+    ∙ ap (λ xs. buffer_at (viewed c.args.view.now) (items_of xs) c.as_slice-2.result.now) c.as_slice.ensures.value
+    ∙ ap (buffer_at (viewed c.args.view.now) (items_of c.self.inside.buffer.items)) c.as_slice-2.ensures.value)
+
+agreed : (g : given.Over) (c : goal.After-nearest g) (i : Index) → Sees g.row.D (g.F.Pages.files c.args.folder.now) c.args.self.now i → Agrees (g.F.Pages.files c.args.folder.now) c.self.inside.cache
+agreed g c i seen = subst (λ (u : SetData). Agrees (g.F.Pages.files c.args.folder.now) u.cache) (sym c.self.view_is) seen.stands.agrees
+
+pub invariant_of-self : goal.invariant_of-self
+invariant_of-self g c = looked_well _ _ _ _ _ (viewed c.args.view.now) _ _ c.self.invariant (here g c) c.nearest.ensures.calm
+
+pub nearest-requires : goal.nearest-requires
+nearest-requires g c =
+    let dims = c.self.invariant.few_dims in
+    (lit< tt, (entry_fits g.row.D dims, (point_fits g.row.D dims, (c.requires.some, c.requires.few))))
+
+pub returns-clause-found : goal.returns-clause-found
+returns-clause-found g c told i seen docs is =
+    looked_nearest (λ v. v.items) _ _ _ i (viewed c.args.view.now) _ _ _ _ docs (parts_are g c) (buffer_is g c) seen is _
+    (c.nearest.ensures.answer told (agreed g c i seen) seen.contents (looked_read _ _ _ i _ _ (parts_are g c) seen))
+
+pub returns-clause-seen : goal.returns-clause-seen
+returns-clause-seen g c told i seen = looked_sees _ _ _ _ _ _ _ _ c.self.view_is c.nearest.ensures.calm told i seen
+
+pub returns-clause-reads : goal.returns-clause-reads
+returns-clause-reads g c told contents stands found is leaves are =
+    c.nearest.ensures.reads told (subst (λ (u : SetData). Agrees (g.F.Pages.files c.args.folder.now) u.cache) (sym c.self.view_is) stands.agrees) contents
+    (subst (AreRead g.row.D (g.F.Pages.files c.args.folder.now) contents) (sym (parts_are g c)) (viewed_read _ _ contents (viewed c.args.view.now) _ stands))
+    found
+    (subst (λ (ps : List Part). IsNearest c.args.k (nears_of c.args.at.now.c (entries_seen contents ps (items_of c.view_of.result.1.now))) found) (sym (parts_are g c))
+    (subst (λ (xs : List Item). IsNearest c.args.k (nears_of c.args.at.now.c (entries_seen contents (viewed_parts (viewed c.args.view.now) c.args.self.now) xs)) found) (sym (buffer_is g c)) is))
+    leaves
+    (subst (λ (ps : List Part). AreNearLeaves g.row.D c.args.at.now.c (bound_of c.args.k found) (heads_of ps) leaves) (sym (parts_are g c)) are)
+
+pub returns-clause-whole : goal.returns-clause-whole
+returns-clause-whole g c told i seen =
+    c.nearest.ensures.whole told (agreed g c i seen) seen.contents (looked_read _ _ _ i _ _ (parts_are g c) seen)
+
+pub returns-clause-shown : goal.returns-clause-shown
+returns-clause-shown g c =
+    subst (λ (ps : List Part). (trees : ℕ → IndexTree) → HaveTrees g.row.D (heads_of ps) trees → OnDamage c.nearest.result (IsSegmentDamage g.row.D (heads_of ps) trees)) (parts_are g c) c.nearest.ensures.shown

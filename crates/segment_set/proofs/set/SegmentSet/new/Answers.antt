@@ -1,0 +1,27 @@
+-- A set without documents keeps to its rules, and is seen as a new index.
+use Rattle.std.proofs.Common.{◌≡◌, [], sym, ap, subst, ◌∙◌}
+use Rattle.outer_io.specs.declared.file_name.FileName.TheVariants.{Commit}
+use Rattle.point_codec.specs.Seen.{items_of}
+use Rattle.index_model.specs.State.{new_index}
+use Rattle.file_names.specs.Names.{NameList, is_named}
+use Rattle.file_names.proofs.Listed.{is_named-none}
+use Rattle.segment_set.specs.Sets.{IsWell, SetData}
+use Rattle.segment_set.specs.Seen.{Sees}
+use Rattle.segment_set.proofs.Empty.{empty_is, empty_set, sees_empty, well_empty}
+use Rattle.segment_set.proofs.set.SegmentSet.new.Given as given
+use Rattle.segment_set.proofs.set.SegmentSet.new.Goals as goal
+
+fields : (g : given.Over) (c : goal.In_ok-new g)
+    → record (empty_set c.args.leaf c.new.result c.in_ok-new.field-0) { parts = c.new-2.result; buffer = items_of c.new-3.result.items; snapshots = c.new-4.result.items } ≡ empty_set c.args.leaf c.new.result c.in_ok-new.field-0
+fields g c = empty_is _ _ _ _ _ _ c.new-2.ensures (ap items_of c.new-3.ensures.items) c.new-4.ensures.items
+
+pub invariant_of-result : goal.invariant_of-result
+invariant_of-result g c =
+    subst (IsWell g.row.D) (sym (fields g c))
+    (well_empty g.row.D c.args.leaf c.new.result c.in_ok-new.field-0 c.requires.dims.0 c.requires.dims.1 c.requires.least_leaf c.requires.greatest_leaf c.in_ok-new.ensures.empty
+    (ap (λ (n : NameList). is_named n.names Commit) c.new.ensures ∙ is_named-none Commit))
+
+pub returns-clause-seen : goal.returns-clause-seen
+returns-clause-seen g c files =
+    subst (λ (s : SetData). Sees g.row.D files s (new_index g.row.D c.args.leaf)) (sym (fields g c))
+    (sees_empty g.row.D c.args.leaf c.new.result c.in_ok-new.field-0 files (c.in_ok-new.ensures.agrees files))

@@ -1,0 +1,117 @@
+use Rattle.std.proofs.Common.{◌≡◌, ◌≤◌, ◌∙◌, ℕ, true, false, List, [], length, Option, Some, sym, subst}
+use Rattle.std.specs.Prelude.{All, IsTrue}
+use Rattle.std.specs.List.{AllZip}
+use Rattle.std.proofs.lemmas.Result.{err_from_is_err_and}
+use Rattle.outer_io.specs.declared.file_name.FileName.{FileName}
+use Rattle.outer_io.specs.declared.file_name.FileName.TheVariants.{Commit, Live}
+use Rattle.outer_io.specs.Files.{Files, bytes_of}
+use Rattle.page_cache.specs.declared.faults.Damage.{Damage}
+use Rattle.commit_list.specs.declared.listed.Listed.{Listed}
+use Rattle.commit_list.specs.Commits.{CommitData}
+use Rattle.commit_list.specs.CommitFiles.{IsCommitFile}
+use Rattle.segment_file.specs.LiveFiles.{IsLiveFile}
+use Rattle.merge_policy.specs.Choice.{free_count}
+use Rattle.stored_index.specs.Kept.{ListsFile}
+use Rattle.stored_index.specs.Stored.{IsStored}
+use Rattle.index_model.specs.State.{at_rest}
+use Rattle.segment_view.specs.Parts.{Part, live_in_parts}
+use Rattle.file_names.specs.Names.{is_named}
+use Rattle.segment_set.specs.Sets.{BegunMerge, pins_of, sizes_of}
+use Rattle.segment_set.specs.Kept.{Follows, IsCommitOf}
+use Rattle.segment_set.specs.Damages.{IsDoubt, IsMergeDamage, IsMergeDamageOf}
+use Rattle.segment_set.specs.Saved.{IsSaved}
+use Rattle.segment_set.proofs.Carried.{keeps_then, stays_then}
+use Rattle.segment_set.proofs.Saving.{all_fresh, all_written, canon_saved, cause_after, if_ok_both, if_ok_map, no_damage, ok_always, saved_is_stored, sees_saved, stays_saved, well_saved}
+use Rattle.segment_set.proofs.set.SegmentSet.save.Goals as goal
+
+pub returns-in_err-flush-clause-whole : goal.returns-in_err-flush-clause-whole
+returns-in_err-flush-clause-whole g c = λ told i seen.
+    let e = err_from_is_err_and c.from_residual.result c.from_residual.ensures.1 in rw (e.1, e.2) (c.in_err-flush.ensures.whole told i seen)
+
+pub returns-in_err-flush-clause-doubled : goal.returns-in_err-flush-clause-doubled
+returns-in_err-flush-clause-doubled g c = λ told agrees es read.
+    let e = err_from_is_err_and c.from_residual.result c.from_residual.ensures.1 in rw (e.1, e.2) (c.in_err-flush.ensures.doubled told agrees es read)
+
+pub returns-clause-seen : goal.returns-clause-seen
+returns-clause-seen g c = λ told i seen.
+    let m = c.list_segments.ensures in
+    sees_saved g.row.D (IsTrue g.F.Pages.told) (g.F.Pages.files c.flush.new.folder) (g.F.Pages.files c.list_segments.new.folder) c.flush.new.self c.list_segments.new.self i told m.well m.kept m.alone (c.in_ok-flush.ensures.seen told i seen)
+
+pub returns-clause-emptied : goal.returns-clause-emptied
+returns-clause-emptied g c = ok_always c.list_segments.result _ (c.list_segments.ensures.alone.buffer ∙ c.in_ok-flush.ensures.emptied)
+
+pub returns-clause-levels : goal.returns-clause-levels
+returns-clause-levels g c =
+    let s = c.flush.new.self in
+    let t = c.list_segments.new.self in
+    let alone = c.list_segments.ensures.alone in
+    ok_always c.list_segments.result ((level : ℕ) → free_count level (sizes_of t.parts) (pins_of t.begun t.parts) ≤ 10) (λ level.
+    subst (λ (ps : List Part). free_count level (sizes_of ps) (pins_of t.begun ps) ≤ 10) (sym alone.parts)
+    (subst (λ (b : Option BegunMerge). free_count level (sizes_of s.parts) (pins_of b s.parts) ≤ 10) (sym alone.begun) (c.in_ok-flush.ensures.levels level)))
+
+pub returns-clause-fresh : goal.returns-clause-fresh
+returns-clause-fresh g c =
+    let s = c.flush.new.self in
+    let t = c.list_segments.new.self in
+    let files = g.F.Pages.files c.list_segments.new.folder in
+    if_ok_map c.list_segments.result (λ (k : CommitData). AllZip (IsSaved (IsTrue g.F.Pages.told) s.names t.names files) k.listed s.parts)
+    (λ (k : CommitData). All (λ (l : Listed). is_named c.args.self.now.names.names (Live l.segment l.generation) ≡ false) k.listed)
+    (λ k all. all_fresh (IsTrue g.F.Pages.told) c.args.self.now.names s.names t.names files k.listed s.parts c.in_ok-flush.ensures.kept.more all) c.list_segments.ensures.listed
+
+pub returns-clause-live : goal.returns-clause-live
+returns-clause-live g c = λ told.
+    let s = c.flush.new.self in
+    let t = c.list_segments.new.self in
+    let files = g.F.Pages.files c.list_segments.new.folder in
+    if_ok_map c.list_segments.result (λ (k : CommitData). AllZip (IsSaved (IsTrue g.F.Pages.told) s.names t.names files) k.listed s.parts)
+    (λ (k : CommitData). AllZip (λ (l : Listed) (p : Part). IsLiveFile l.segment l.generation (bytes_of (files (Live l.segment l.generation))) p.live) k.listed t.parts)
+    (λ k all. all_written (IsTrue g.F.Pages.told) s.names t.names files k.listed s.parts t.parts told c.list_segments.ensures.alone.parts all) c.list_segments.ensures.listed
+
+pub returns-clause-stored : goal.returns-clause-stored
+returns-clause-stored g c = λ told i seen.
+    let s = c.flush.new.self in
+    let t = c.list_segments.new.self in
+    let m = c.list_segments.ensures in
+    let mid = g.F.Pages.files c.flush.new.folder in
+    let now = g.F.Pages.files c.list_segments.new.folder in
+    let there = sees_saved g.row.D (IsTrue g.F.Pages.told) mid now s t i told m.well m.kept m.alone (c.in_ok-flush.ensures.seen told i seen) in
+    if_ok_both c.list_segments.result (λ (k : CommitData). IsCommitOf g.row.D t k) (λ (k : CommitData). AllZip (IsSaved (IsTrue g.F.Pages.told) s.names t.names now) k.listed s.parts)
+    (λ (k : CommitData). (files : Files) → IsCommitFile (bytes_of (files Commit)) k → ((m : FileName) → ListsFile k m → files m ≡ now m) → IsStored files (Some (at_rest i)))
+    (λ k commit all. saved_is_stored g.row.D (IsTrue g.F.Pages.told) s.names now t k i told (well_saved g.row.D (IsTrue g.F.Pages.told) mid now s t m.well m.kept m.alone)
+    (m.alone.buffer ∙ c.in_ok-flush.ensures.emptied) commit (subst (AllZip (IsSaved (IsTrue g.F.Pages.told) s.names t.names now) k.listed) (sym m.alone.parts) all) there)
+    m.commit m.listed
+
+pub returns-clause-stays : goal.returns-clause-stays
+returns-clause-stays g c = stays_then c.args.self.now c.flush.new.self c.list_segments.new.self c.in_ok-flush.ensures.stays (stays_saved c.flush.new.self c.list_segments.new.self c.list_segments.ensures.alone)
+
+pub returns-clause-kept : goal.returns-clause-kept
+returns-clause-kept g c =
+    keeps_then (IsTrue g.F.Pages.told) c.args.self.now.names c.flush.new.self.names c.list_segments.new.self.names (g.F.Pages.files c.args.folder.now) (g.F.Pages.files c.flush.new.folder) (g.F.Pages.files c.list_segments.new.folder)
+    c.in_ok-flush.ensures.kept c.list_segments.ensures.kept
+
+pub returns-clause-follows : goal.returns-clause-follows
+returns-clause-follows g c = subst (Follows c.args.self.now.names c.args.self.now.parts) (sym c.list_segments.ensures.alone.parts) c.in_ok-flush.ensures.follows
+
+pub returns-clause-begun : goal.returns-clause-begun
+returns-clause-begun g c = c.list_segments.ensures.alone.begun ∙ c.in_ok-flush.ensures.begun
+
+pub returns-clause-canon : goal.returns-clause-canon
+returns-clause-canon g c = λ told.
+    canon_saved g.row.D (IsTrue g.F.Pages.told) c.args.self.now.names (g.F.Pages.files c.flush.new.folder) (g.F.Pages.files c.list_segments.new.folder) c.flush.new.self c.list_segments.new.self told
+    c.list_segments.ensures.well c.list_segments.ensures.kept c.in_ok-flush.ensures.kept.more c.list_segments.ensures.alone (c.in_ok-flush.ensures.canon told)
+
+pub returns-clause-cause : goal.returns-clause-cause
+returns-clause-cause g c =
+    cause_after (g.F.Pages.faults c.args.folder.now) (g.F.Pages.faults c.flush.new.folder) (g.F.Pages.faults c.list_segments.new.folder) c.list_segments.result c.in_ok-flush.ensures.cause.fine c.list_segments.ensures.cause
+
+pub returns-clause-whole : goal.returns-clause-whole
+returns-clause-whole g c = λ told i seen. c.list_segments.ensures.whole
+
+pub returns-clause-shown : goal.returns-clause-shown
+returns-clause-shown g c = no_damage c.list_segments.result (IsMergeDamage g.row.D c.args.self.now.given c.args.self.now.names c.args.self.now.parts) c.list_segments.ensures.whole
+
+pub returns-clause-damage : goal.returns-clause-damage
+returns-clause-damage g c = λ told agrees. no_damage c.list_segments.result (IsMergeDamageOf (g.F.Pages.files c.list_segments.new.folder) c.args.self.now.given) c.list_segments.ensures.whole
+
+pub returns-clause-doubled : goal.returns-clause-doubled
+returns-clause-doubled g c = λ told agrees es read. no_damage c.list_segments.result (IsDoubt c.args.self.now.given (live_in_parts es c.args.self.now.parts)) c.list_segments.ensures.whole

@@ -1,0 +1,56 @@
+use Rattle.std.proofs.Common.{◌≡◌, ◌∙◌, ◌<◌, ◌≤◌, ◌-◌, length, take, refl, sym, ap, subst, arith}
+use Rattle.std.specs.Prelude.{IsTrue}
+use Rattle.std.proofs.lemmas.List.Elements.{All-nil}
+use Rattle.segment_set.specs.Sets.{SetData}
+use Rattle.segment_set.specs.Kept.{IsNeeded}
+use Rattle.segment_set.proofs.Sweeping.{all_needed, front_before, front_still, gone_all, needed_still, saved_still, swept_none, swept_then}
+use Rattle.segment_set.proofs.set.SegmentSet.sweep.Goals as goal
+
+pub names-init : goal.names-init
+names-init g c = record {
+  seen = λ told i seen. seen;
+  swept = swept_none (IsTrue g.F.Pages.told) c.args.self.now (g.F.Pages.files c.args.folder.now);
+  front = λ k saved. All-nil (IsNeeded c.args.self.now k);
+  reads = refl;
+  faults = refl;
+}
+
+pub names-preserved : goal.names-preserved
+names-preserved g c =
+    let was = c.names.invariant in
+    let one = c.in_ok-place.ensures in
+    record {
+      seen = λ told i seen. one.seen told i (was.seen told i seen);
+      swept = swept_then (IsTrue g.F.Pages.told) c.args.self.now c.names.self c.sweep_at.new.self (g.F.Pages.files c.args.folder.now) (g.F.Pages.files c.names.folder) (g.F.Pages.files c.sweep_at.new.folder) was.swept one.swept;
+      front = λ k saved.
+          front_before c.args.self.now c.names.self k (take c.in_ok-place.place c.sweep_at.new.self.names.names) was.swept.alone
+          (one.front k (saved_still c.args.self.now c.names.self was.swept.alone ∙ saved) (front_still c.args.self.now c.names.self k (take c.names.place c.names.self.names.names) was.swept.alone (was.front k saved)));
+      reads = one.unread ∙ was.reads;
+      faults = one.cause.fine ∙ was.faults;
+    }
+
+pub returns-clause-swept : goal.returns-clause-swept
+returns-clause-swept g c = λ k saved m there.
+    let le : length c.names.self.names.names ≤ c.names.place = omega (arith, c.names-test.false, ap length (c.as_slice.ensures ∙ ap (λ (u : SetData). u.names.names) c.self.view_is)) in
+    all_needed c.args.self.now k c.names.self.names.names c.names.place le (c.names.invariant.front k saved) m there
+
+pub returns-clause-gone : goal.returns-clause-gone
+returns-clause-gone g c = λ told k saved m there not_so.
+    let le : length c.names.self.names.names ≤ c.names.place = omega (arith, c.names-test.false, ap length (c.as_slice.ensures ∙ ap (λ (u : SetData). u.names.names) c.self.view_is)) in
+    gone_all (IsTrue g.F.Pages.told) c.args.self.now c.names.self (g.F.Pages.files c.args.folder.now) (g.F.Pages.files c.names.folder) k c.names.invariant.swept told
+    (all_needed c.args.self.now k c.names.self.names.names c.names.place le (c.names.invariant.front k saved)) m there not_so
+
+pub returns-in_err-place-clause-needed : goal.returns-in_err-place-clause-needed
+returns-in_err-place-clause-needed g c = λ told k saved m need.
+    c.in_err-place.ensures.swept.needed told k (saved_still c.args.self.now c.names.self c.names.invariant.swept.alone ∙ saved) m (needed_still c.args.self.now c.names.self k m c.names.invariant.swept.alone need)
+    ∙ c.names.invariant.swept.needed told k saved m need
+
+pub returns-in_err-place-clause-others : goal.returns-in_err-place-clause-others
+returns-in_err-place-clause-others g c = λ told m none.
+    (swept_then (IsTrue g.F.Pages.told) c.args.self.now c.names.self c.sweep_at.new.self (g.F.Pages.files c.args.folder.now) (g.F.Pages.files c.names.folder) (g.F.Pages.files c.sweep_at.new.folder)
+    c.names.invariant.swept c.in_err-place.ensures.swept).others told m none
+
+pub returns-in_err-place-clause-named : goal.returns-in_err-place-clause-named
+returns-in_err-place-clause-named g c = λ k saved m need there.
+    c.in_err-place.ensures.swept.named k (saved_still c.args.self.now c.names.self c.names.invariant.swept.alone ∙ saved) m (needed_still c.args.self.now c.names.self k m c.names.invariant.swept.alone need)
+    (c.names.invariant.swept.named k saved m need there)

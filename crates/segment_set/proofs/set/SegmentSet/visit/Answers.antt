@@ -1,0 +1,65 @@
+-- What is found are the documents that the view shows.
+use Rattle.std.proofs.Common.{◌≡◌, ℕ, ◌+◌, ◌*◌, ◌≤◌, List, length, refl, sym, ap, subst, ◌∙◌, arith}
+use Rattle.std.proofs.lemmas.List.{length-map}
+use Rattle.point_codec.specs.Points.{Item}
+use Rattle.point_codec.specs.Seen.{items_of}
+use Rattle.inner_pack.specs.Trees.{IndexTree}
+use Rattle.page_cache.specs.Cache.{Agrees}
+use Rattle.page_cache.specs.Evidence.{OnDamage}
+use Rattle.nearest_query.specs.Segments.{HaveTrees, IsSegmentDamage}
+use Rattle.script_lang.specs.Seen.{viewed}
+use Rattle.segment_view.specs.Parts.{Part, heads_of}
+use Rattle.segment_view.specs.Costs.{AreTested, AreTouched, leaves_in}
+use Rattle.index_model.specs.State.{Index}
+use Rattle.segment_set.specs.Sets.{SetData, buffer_at, parts_at, viewed_buffer, viewed_parts}
+use Rattle.segment_set.specs.Seen.{Sees}
+use Rattle.segment_set.proofs.Viewed.{looked_buffer, looked_found, looked_parts, looked_read, looked_sees, looked_well}
+use Rattle.segment_set.proofs.set.SegmentSet.visit.Given as given
+use Rattle.segment_set.proofs.set.SegmentSet.visit.Goals as goal
+
+here : (g : given.Over) (c : goal.After-visit g) → c.view_of.result.0.now ≡ parts_at (viewed c.args.view.now) c.self.inside.segments c.self.inside.snapshots.items
+here g c = c.view_of.ensures.segments ∙ ap (parts_at (viewed c.args.view.now) c.self.inside.segments) c.as_slice-2.ensures.value
+
+parts_are : (g : given.Over) (c : goal.After-visit g) → c.view_of.result.0.now ≡ viewed_parts (viewed c.args.view.now) c.args.self.now
+parts_are g c = looked_parts _ _ (viewed c.args.view.now) _ c.self.view_is (here g c)
+
+buffer_is : (g : given.Over) (c : goal.After-visit g) → items_of c.view_of.result.1.now ≡ viewed_buffer (viewed c.args.view.now) c.args.self.now
+buffer_is g c =
+    looked_buffer _ _ (viewed c.args.view.now) _ c.self.view_is
+    (c.view_of.ensures.buffer
+    ∙ ap (λ xs. buffer_at (viewed c.args.view.now) (items_of xs) c.as_slice-2.result.now) c.as_slice.ensures.value
+    ∙ ap (buffer_at (viewed c.args.view.now) (items_of c.self.inside.buffer.items)) c.as_slice-2.ensures.value)
+
+agreed : (g : given.Over) (c : goal.After-visit g) (i : Index) → Sees g.row.D (g.F.Pages.files c.args.folder.now) c.args.self.now i → Agrees (g.F.Pages.files c.args.folder.now) c.self.inside.cache
+agreed g c i seen = subst (λ (u : SetData). Agrees (g.F.Pages.files c.args.folder.now) u.cache) (sym c.self.view_is) seen.stands.agrees
+
+pub invariant_of-self : goal.invariant_of-self
+invariant_of-self g c = looked_well _ _ _ _ _ (viewed c.args.view.now) _ _ c.self.invariant (here g c) c.visit.ensures.calm
+
+pub returns-clause-found : goal.returns-clause-found
+returns-clause-found g c told i seen docs is =
+    looked_found (λ v. v.items) _ _ _ i (viewed c.args.view.now) _ _ _ docs (parts_are g c) (buffer_is g c) seen is _
+    (c.visit.ensures.found told (agreed g c i seen) seen.contents (looked_read _ _ _ i _ _ (parts_are g c) seen))
+
+pub returns-clause-seen : goal.returns-clause-seen
+returns-clause-seen g c told i seen = looked_sees _ _ _ _ _ _ _ _ c.self.view_is c.visit.ensures.calm told i seen
+
+pub returns-clause-tests : goal.returns-clause-tests
+returns-clause-tests g c n are =
+    let most = c.visit.ensures.tests n (subst (λ (ps : List Part). AreTested g.row.D (g.S.Shape.crosses c.args.shape.now) (heads_of ps) n) (sym (parts_are g c)) are) in
+    let long : length (viewed_buffer (viewed c.args.view.now) c.args.self.now) ≡ length c.view_of.result.1.now = ap length (sym (buffer_is g c)) ∙ length-map c.view_of.result.1.now _ in
+    omega (arith, most, long)
+
+pub returns-clause-compares : goal.returns-clause-compares
+returns-clause-compares g c = subst (λ (ps : List Part). g.S.Shape.compares c.visit.new.shape ≤ g.S.Shape.compares c.args.shape.now + 2 * leaves_in (heads_of ps)) (parts_are g c) c.visit.ensures.compares
+
+pub returns-clause-reads : goal.returns-clause-reads
+returns-clause-reads g c n are = c.visit.ensures.reads n (subst (λ (ps : List Part). AreTouched g.row.D (g.S.Shape.has c.args.shape.now) (g.S.Shape.crosses c.args.shape.now) (heads_of ps) n) (sym (parts_are g c)) are)
+
+pub returns-clause-whole : goal.returns-clause-whole
+returns-clause-whole g c told i seen =
+    c.visit.ensures.whole told (agreed g c i seen) seen.contents (looked_read _ _ _ i _ _ (parts_are g c) seen)
+
+pub returns-clause-shown : goal.returns-clause-shown
+returns-clause-shown g c =
+    subst (λ (ps : List Part). (trees : ℕ → IndexTree) → HaveTrees g.row.D (heads_of ps) trees → OnDamage c.visit.result (IsSegmentDamage g.row.D (heads_of ps) trees)) (parts_are g c) c.visit.ensures.shown

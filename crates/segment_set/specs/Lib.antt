@@ -1,0 +1,11 @@
+pub mod Faults
+pub mod Sets
+pub mod Seen
+pub mod Kept
+pub mod Merged
+pub mod Damages
+pub mod Merges
+pub mod Runs
+pub mod Saved
+pub mod Swept
+pub mod Opened

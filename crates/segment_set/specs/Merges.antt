@@ -1,0 +1,88 @@
+-- What is built of entries, and how it takes the place of segments.
+use Rattle.std.specs.Prelude.{◌≡◌, ◌≤◌, ℕ, true, false, List, [], ◌∷◌, length, filter, All, Option, None, Some}
+use Rattle.outer_io.specs.declared.file_name.FileName.TheVariants.{Segment}
+use Rattle.outer_io.specs.Files.{Files, bytes_of}
+use Rattle.point_codec.specs.Points.{Item}
+use Rattle.live_bits.specs.LiveSet.{is_live}
+use Rattle.documents.specs.Entries.{SameTotals, has_entry}
+use Rattle.page_cache.specs.declared.cache.PageCache.{PageCache}
+use Rattle.page_cache.specs.Cache.{Agrees}
+use Rattle.segment_file.specs.Segments.{IsSegment}
+use Rattle.segment_file.specs.Written.{head_of}
+use Rattle.segment_view.specs.Parts.{Part, Contents, AreRead, part_of, parts_among, parts_but, live_in_parts, has_live, IsPlaced}
+use Rattle.segment_build.specs.NewSegments.{NewSegmentData, HasEntries, HasSomeEntries}
+use Rattle.file_names.specs.Names.{NameList, is_named}
+
+-- the live ones of the entries that the segment was built of are these, and each live number is that of one of them
+pub record HoldsLive (D : ℕ) (entries : List Item) (n : NewSegmentData) : Type 0 where
+  pub items : List Item
+  pub has : HasEntries D items n
+  pub found : (number : ℕ) → is_live n.live number ≡ true → has_entry number items ≡ true
+  pub same : SameTotals entries (filter (λ x. is_live n.live x.doc) items)
+
+-- what was built has these live entries; where there are none, nothing was
+abbrev pub MakesLive : ℕ → List Item → Option NewSegmentData → Type 0
+MakesLive D entries None = entries ≡ []
+MakesLive D entries (Some n) = HoldsLive D entries n
+
+-- a segment was built with this leaf size: it is the canonical tree of some entries, and has some live numbers, no more than entries
+pub record IsMade (D leaf : ℕ) (n : NewSegmentData) : Type 0 where
+  pub leaf_size : n.leaf ≡ leaf
+  pub has : ∥ HasSomeEntries D n ∥₁
+  pub fits : length n.live.live ≤ n.entries
+  pub some : 1 ≤ length n.live.live
+
+-- the segment as it is under this id
+abbrev pub part_at : ℕ → NewSegmentData → Part
+part_at id n = part_of (head_of id n.entries n.leaf n.index) n.live
+
+-- The segment was written under a name that wasn't in the list and is in it now, and stands in the place of its id among those that are not
+-- of these ids, which went.
+pub record IsPut (D : ℕ) (told : Type 0) (before after : NameList) (files : Files) (ids : List ℕ) (n : NewSegmentData) (old new : List Part) : Type 0 where
+  pub id : ℕ
+  pub fresh : is_named before.names (Segment id) ≡ false
+  pub named : is_named after.names (Segment id) ≡ true
+  pub placed : IsPlaced (part_at id n) (parts_but ids old) new
+  pub written : told → (items : List Item) → HasEntries D items n → IsSegment D (bytes_of (files (Segment id))) (part_at id n).head items
+
+-- what was built took the place of the segments of these ids; where nothing was, they only went
+abbrev pub Replaces : (D : ℕ) (told : Type 0) (before after : NameList) → Files → (ids : List ℕ) → Option NewSegmentData → (old new : List Part) → Type 0
+Replaces D told before after files ids None old new = new ≡ parts_but ids old
+Replaces D told before after files ids (Some n) old new = IsPut D told before after files ids n old new
+
+-- what is built has all its entries live
+pub record HasLiveEntries (D : ℕ) (n : NewSegmentData) : Type 0 where
+  pub items : List Item
+  pub has : HasEntries D items n
+  pub all : All (λ x. is_live n.live x.doc ≡ true) items
+
+-- a segment was built of what is live in these: each of its numbers is live in one of them
+pub record IsGathered (D leaf : ℕ) (inputs : List Part) (n : NewSegmentData) : Type 0 where
+  pub made : IsMade D leaf n
+  pub all : ∥ HasLiveEntries D n ∥₁
+  pub within : (number : ℕ) → is_live n.live number ≡ true → has_live number inputs ≡ true
+
+-- The live entries of the segments of these ids were read and a segment was built of them, which took their place; where there were none,
+-- the segments only went.
+pub record IsMerged (D : ℕ) (told : Type 0) (leaf : ℕ) (before after : NameList) (files new_files : Files) (cache : PageCache) (ids : List ℕ) (old new : List Part) : Type 0 where
+  pub built : Option NewSegmentData
+  pub replaces : Replaces D told before after new_files ids built old new
+  pub gathered : (n : NewSegmentData) → built ≡ Some n → IsGathered D leaf (parts_among ids old) n
+  pub makes : told → Agrees files cache → (c : Contents) → AreRead D files c old → MakesLive D (live_in_parts c (parts_among ids old)) built
+
+-- what was built, where any number of it is live
+abbrev pub with_live : List ℕ → NewSegmentData → Option NewSegmentData
+with_live [] n = None
+with_live (number ∷ numbers) n = Some n
+
+abbrev pub living : Option NewSegmentData → Option NewSegmentData
+living None = None
+living (Some n) = with_live n.live.live n
+
+-- the buffer went to a segment
+pub record IsSpilled (D : ℕ) (told : Type 0) (leaf : ℕ) (before after : NameList) (new_files : Files) (buffer : List Item) (old new : List Part) : Type 0 where
+  pub n : NewSegmentData
+  pub made : IsMade D leaf n
+  pub put : IsPut D told before after new_files [] n old new
+  pub live : is_live n.live ≡ (λ number. has_entry number buffer)
+  pub holds : HoldsLive D buffer n

@@ -1,0 +1,31 @@
+-- What is written of segments when they are saved.
+use Rattle.std.specs.Prelude.{◌≡◌, ℕ, true, false, length}
+use Rattle.outer_io.specs.declared.file_name.FileName.TheVariants.{Live}
+use Rattle.outer_io.specs.Files.{Files, bytes_of}
+use Rattle.commit_list.specs.declared.listed.Listed.{Listed}
+use Rattle.commit_list.specs.Commits.{IsListed}
+use Rattle.segment_file.specs.LiveFiles.{IsLiveFile}
+use Rattle.segment_view.specs.Parts.{Part}
+use Rattle.file_names.specs.Names.{NameList, is_named}
+use Rattle.segment_set.specs.Sets.{SetData}
+
+-- A commit may list the segment so: its live bits are in a file of their own, whose name wasn't in the list and is in it now.
+pub record IsSaved (told : Type 0) (before after : NameList) (files : Files) (l : Listed) (p : Part) : Type 0 where
+  pub segment : l.segment ≡ p.head.id
+  pub entries : l.entries ≡ p.head.entries
+  pub live : l.live ≡ length p.live.live
+  pub may : IsListed after.next_segment l
+  pub fresh : is_named before.names (Live l.segment l.generation) ≡ false
+  pub named : is_named after.names (Live l.segment l.generation) ≡ true
+  pub written : told → IsLiveFile l.segment l.generation (bytes_of (files (Live l.segment l.generation))) p.live
+
+-- all but the list of names and the saved commit is as before
+pub record StaysButSaved (old new : SetData) : Type 0 where
+  pub leaf : new.leaf ≡ old.leaf
+  pub next : new.next ≡ old.next
+  pub given : new.given ≡ old.given
+  pub parts : new.parts ≡ old.parts
+  pub buffer : new.buffer ≡ old.buffer
+  pub snapshots : new.snapshots ≡ old.snapshots
+  pub begun : new.begun ≡ old.begun
+  pub cache : new.cache ≡ old.cache

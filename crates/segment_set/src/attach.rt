@@ -1,0 +1,98 @@
+//! A set over an index that is stored.
+
+ghost use Rattle.std.specs.Prelude.{◌≡◌, ◌≤◌, ◌+◌, ◌↔◌, ℕ, List, true, [], None, Some, length, IsTrue, IfOk};
+ghost use Rattle.std.specs.List.{AllZip};
+ghost use Rattle.outer_io.specs.Files.{bytes_of};
+ghost use Rattle.outer_io.specs.declared.file_name.FileName.{FileName};
+ghost use Rattle.outer_io.specs.declared.file_name.FileName.TheVariants.{Commit as CommitName};
+ghost use Rattle.live_bits.specs.LiveSet.{LiveSet};
+ghost use Rattle.page_cache.specs.Causes.{HasPageCause};
+ghost use Rattle.page_cache.specs.Evidence.{OnDamage, NotDamaged};
+ghost use Rattle.commit_list.specs.CommitFiles.{IsCommitFile};
+ghost use Rattle.segment_file.specs.Heads.{Head};
+ghost use Rattle.stored_index.specs.Kept.{ListsFile};
+ghost use Rattle.stored_index.specs.Opening.{segments_pages};
+ghost use Rattle.stored_index.specs.Stored.{HasLive, HaveHeads, HaveLive, IsStored, IsUndefined};
+ghost use Rattle.index_model.specs.State.{Index, State};
+ghost use Rattle.segment_view.specs.Parts.{lives_of};
+ghost use Rattle.file_names.specs.Names.{is_named};
+
+use crate::opening::{check_numbers, open_all};
+use crate::set::SegmentSet;
+use crate::settings::Settings;
+use commit_list::Commit;
+use file_names::FileNames;
+use outer_io::{FileName, Folder};
+use page_cache::{Memory, PageCache, PageFault};
+use std::alloc::Global;
+
+impl<const D: usize> SegmentSet<D> {
+    ghost use Rattle.segment_set.specs.Sets.{SetData};
+    ghost use Rattle.segment_set.specs.Seen.{Sees};
+    ghost use Rattle.segment_set.specs.Kept.{IsAtRest};
+    ghost use Rattle.segment_set.specs.Damages.{IsAttachDamage, IsAttachDamageOf};
+
+    /// The set of a commit's segments. It reads their heads, indexes and live bits, no leaf, and answers Unequal, Beyond or Doubled where
+    /// these show it.
+    pub fn attach<F: Folder>(
+        alloc: Global,
+        folder: &mut F,
+        c: &Commit,
+        settings: Settings,
+    ) -> Result<SegmentSet<D>, PageFault>
+        requires { c.now.dims ≡ D }
+        ensures seen { IsTrue F.told → IsCommitFile (bytes_of (F.files folder.old CommitName)) c.now → (i : Index) → IsStored (F.files folder.old) (Some i)
+            → IfOk result (λ s. Sees D (F.files folder.old) s i) }
+        // the set is as the commit says, and its list of names has just the files that this lists
+        ensures commit { IfOk result (λ s. IsAtRest s c.now) }
+        ensures names { IfOk result (λ s. (m : FileName) → (is_named s.names.names m ≡ true) ↔ ListsFile c.now m) }
+        ensures live { IsTrue F.told → IfOk result (λ s. HaveLive (F.files folder.old) c.now (lives_of s.parts)) }
+        ensures files { IsTrue F.told → F.files folder.new ≡ F.files folder.old }
+        ensures reads { IsTrue F.told → (heads : List Head) (sets : List LiveSet) → HaveHeads (F.files folder.old) c.now heads → HaveLive (F.files folder.old) c.now sets
+            → F.reads folder.new ≤ F.reads folder.old + segments_pages (F.files folder.old) c.now.listed heads }
+        // what an error says: where a state is stored there is no damage, and where there is one none is
+        ensures cause { HasPageCause (F.faults folder.old) (F.faults folder.new) result }
+        ensures whole { IsTrue F.told → IsCommitFile (bytes_of (F.files folder.old CommitName)) c.now → (state : State) → IsStored (F.files folder.old) state → NotDamaged result }
+        ensures undefined { IsTrue F.told → IsCommitFile (bytes_of (F.files folder.old CommitName)) c.now → OnDamage result (λ _. IsUndefined (F.files folder.old)) }
+        ensures shown { OnDamage result (IsAttachDamage c.now) }
+        ensures damage { IsTrue F.told → OnDamage result (IsAttachDamageOf (F.files folder.old) c.now) }
+    {
+        let names = names_of(alloc, c)?;
+        let segments = open_all::<D, F>(alloc, folder, c)?;
+        check_numbers(alloc, segments.lives(), c.next())?;
+        let cache = PageCache::new(alloc, settings.cache_pages)?;
+        Ok(SegmentSet {
+            leaf: c.leaf(),
+            forks: settings.forks,
+            next: c.next(),
+            given: c.given(),
+            names,
+            segments,
+            buffer: Vec::new(alloc),
+            snapshots: Vec::new(alloc),
+            begun: None,
+            cache,
+            saved: None,
+        })
+    }
+}
+
+ghost use Rattle.std.specs.Prelude.{false};
+
+/// The names of the files that the commit lists.
+fn names_of(alloc: Global, c: &Commit) -> Result<FileNames, Memory>
+    ensures names { IfOk result (λ n. (m : FileName) → (is_named n.names m ≡ true) ↔ ListsFile c.now m) }
+    ensures next { IfOk result (λ n. n.next_segment ≡ c.now.next_segment) }
+    ensures own { IfOk result (λ n. is_named n.names CommitName ≡ false) }
+{
+    let mut names = FileNames::of_commit(alloc, c.next_segment());
+    let listed = c.listed();
+    for s in listed {
+        names.add(FileName::Segment(s.segment))?;
+        names.add(FileName::Live {
+            segment: s.segment,
+            generation: s.generation,
+        })?;
+    }
+    Ok(names)
+}

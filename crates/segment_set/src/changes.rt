@@ -1,0 +1,241 @@
+//! Documents that come and go.
+
+ghost use Rattle.std.specs.Prelude.{◌≡◌, ◌≤◌, ◌<◌, ◌+◌, ◌^◌, ◌++◌, ◌∷◌, ◌&&◌, ◌↔◌, ℕ, [], not, nat_eq, length, filter, All, IsTrue, IsOk, IfOk, OnOk, OnErr, IsErrOf};
+ghost use Rattle.outer_io.specs.Files.{Files};
+ghost use Rattle.point_codec.specs.Points.{ArePoints, in_box};
+ghost use Rattle.inner_pack.specs.Trees.{IndexTree};
+ghost use Rattle.cell_relate.specs.Boxes.{crosses};
+ghost use Rattle.page_cache.specs.Cache.{Agrees};
+ghost use Rattle.page_cache.specs.Causes.{HasPageCause};
+ghost use Rattle.page_cache.specs.Evidence.{OnDamage, NotDamaged};
+ghost use Rattle.segment_file.specs.Damages.{IsLeafDamageOf};
+ghost use Rattle.nearest_query.specs.Segments.{HaveTrees, IsSegmentDamage};
+ghost use Rattle.documents.specs.Documents.{deleted, hits, is_live, without};
+ghost use Rattle.documents.specs.Entries.{is_among};
+ghost use Rattle.index_model.specs.State.{Index};
+ghost use Rattle.segment_view.specs.Parts.{Contents, AreRead, heads_of, live_in_parts};
+ghost use Rattle.segment_view.specs.Costs.{AreTouched};
+
+use crate::buffer::{put_document, take_document};
+use crate::faults::AddFault;
+use crate::set::{Begun, SegmentSet};
+use bkd_build::Gate;
+use cell_relate::BoxShape;
+use outer_io::Folder;
+use page_cache::PageFault;
+use point_codec::{Point, Points, View};
+use std::alloc::{AllocError, Global};
+use std::marker::Sync;
+use std::thread::Threads;
+
+/// The greatest number of points that are ever given.
+const MOST_POINTS: u32 = 1 << 24;
+
+/// The greatest number of entries in the buffer.
+const MOST_BUFFERED: usize = 16384;
+
+impl<const D: usize> SegmentSet<D> {
+    ghost use Rattle.segment_set.specs.Faults.{HasCauseOf, OnAddDamage};
+    ghost use Rattle.segment_set.specs.Sets.{IsNamed, is_live_in, set_but, set_with};
+    ghost use Rattle.segment_set.specs.Seen.{Sees};
+    ghost use Rattle.segment_set.specs.Kept.{AreCanonical, Follows, KeepsNamed, StaysAlone};
+    ghost use Rattle.segment_set.specs.Damages.{IsDoubt, IsMergeDamage, IsMergeDamageOf};
+    ghost use Rattle.segment_set.specs.declared.faults.AddFault.TheVariants.{Full, Failed};
+
+    /// Adds a document with these points, and answers its number. Full exactly where more than 16,777,216 points would be given. Where the
+    /// buffer would hold more than 16,384 entries it is flushed first. All points of a document go into one segment.
+    pub fn add<R: Threads + Sync, F: Folder, G: Gate>(
+        &mut self,
+        rt: &R,
+        alloc: Global,
+        folder: &mut F,
+        points: &Points<D>,
+        gate: &G,
+    ) -> Result<u32, AddFault>
+        ensures seen { IsTrue F.told → (i : Index) → Sees D (F.files folder.old) self.old i → OnOk result (Sees D (F.files folder.new) self.new
+            (record i { next = i.next + 1; given = i.given + length points.now; docs = i.docs ++ record { number = i.next; points = points.now } ∷ [] })) }
+        ensures refused { IsTrue F.told → (i : Index) → Sees D (F.files folder.old) self.old i → OnErr result (Sees D (F.files folder.new) self.new i) }
+        ensures number { IfOk result (λ n. n ≡ self.old.next) }
+        ensures given { OnOk result ((self.new.next ≡ self.old.next + 1) × (self.new.given ≡ self.old.given + length points.now)) }
+        ensures full { IsErrOf result Full ↔ (2 ^ 24 < self.old.given + length points.now) }
+        // what stays
+        ensures stays { OnErr result (StaysAlone self.old self.new) }
+        ensures kept { KeepsNamed (IsTrue F.told) self.old.names self.new.names (F.files folder.old) (F.files folder.new) }
+        ensures follows { Follows self.old.names self.old.parts self.new.parts }
+        ensures saved { self.new.saved ≡ self.old.saved }
+        ensures begun { self.new.begun ≡ self.old.begun }
+        ensures snapshots { self.new.snapshots ≡ self.old.snapshots }
+        ensures leaf { self.new.leaf ≡ self.old.leaf }
+        ensures canon { IsTrue F.told → AreCanonical D (F.files folder.new) self.old.names self.new.parts }
+        // where the buffer has room nothing is read or written
+        ensures unread { length self.old.buffer + length points.now ≤ 16384 → F.reads folder.new ≡ F.reads folder.old }
+        ensures files { IsTrue F.told → length self.old.buffer + length points.now ≤ 16384 → F.files folder.new ≡ F.files folder.old }
+        ensures room { length self.old.buffer + length points.now ≤ 16384 → OnAddDamage result (λ _. ⊥) }
+        // what an error says
+        ensures cause { HasCauseOf Failed (F.faults folder.old) (F.faults folder.new) result }
+        ensures whole { IsTrue F.told → (i : Index) → Sees D (F.files folder.old) self.old i → OnAddDamage result (λ _. ⊥) }
+        ensures shown { OnAddDamage result (IsMergeDamage D self.old.given self.old.names self.old.parts) }
+        ensures damage { IsTrue F.told → Agrees (F.files folder.old) self.old.cache → OnAddDamage result (IsMergeDamageOf (F.files folder.new) self.old.given) }
+        ensures doubled { IsTrue F.told → Agrees (F.files folder.old) self.old.cache → (c : Contents) → AreRead D (F.files folder.old) c self.old.parts
+            → OnAddDamage result (IsDoubt self.old.given (live_in_parts c self.old.parts)) }
+    {
+        let count = points.as_slice().len() as u32;
+        if self.is_full(count) {
+            return Err(AddFault::Full);
+        }
+        self.make_room(rt, alloc, folder, count, gate)?;
+        Ok(self.put(points)?)
+    }
+
+    /// Puts a document of the next number at the end of the buffer, and answers the number. For want of memory nothing changes.
+    fn put(&mut self, points: &Points<D>) -> Result<u32, AllocError>
+        requires room { length self.old.buffer + length points.now ≤ 16384 }
+        requires given { self.old.given + length points.now ≤ 2 ^ 24 }
+        ensures put { OnOk result (self.new ≡ set_with points.now self.old) }
+        ensures number { IfOk result (λ n. n ≡ self.old.next) }
+        ensures refused { OnErr result (self.new ≡ self.old) }
+        ensures points { ArePoints points.now }
+    {
+        let count = points.as_slice().len() as u32;
+        let number = self.next;
+        put_document(&mut self.buffer, number, points)?;
+        self.next += 1;
+        self.given += count;
+        Ok(number)
+    }
+
+    /// Flushes, where the buffer has no room for so many entries more.
+    fn make_room<R: Threads + Sync, F: Folder, G: Gate>(
+        &mut self,
+        rt: &R,
+        alloc: Global,
+        folder: &mut F,
+        count: u32,
+        gate: &G,
+    ) -> Result<(), PageFault>
+        requires { count ≤ 16 }
+        ensures room { OnOk result (length self.new.buffer + count ≤ 16384) }
+        ensures roomy { length self.old.buffer + count ≤ 16384 → IsOk result × (self.new ≡ self.old) × (F.reads folder.new ≡ F.reads folder.old) }
+        ensures files { IsTrue F.told → length self.old.buffer + count ≤ 16384 → F.files folder.new ≡ F.files folder.old }
+        ensures seen { IsTrue F.told → (i : Index) → Sees D (F.files folder.old) self.old i → Sees D (F.files folder.new) self.new i }
+        // what stays
+        ensures stays { StaysAlone self.old self.new }
+        ensures kept { KeepsNamed (IsTrue F.told) self.old.names self.new.names (F.files folder.old) (F.files folder.new) }
+        ensures follows { Follows self.old.names self.old.parts self.new.parts }
+        ensures saved { self.new.saved ≡ self.old.saved }
+        ensures begun { self.new.begun ≡ self.old.begun }
+        ensures canon { IsTrue F.told → AreCanonical D (F.files folder.new) self.old.names self.new.parts }
+        // what an error says
+        ensures cause { HasPageCause (F.faults folder.old) (F.faults folder.new) result }
+        ensures whole { IsTrue F.told → (i : Index) → Sees D (F.files folder.old) self.old i → NotDamaged result }
+        ensures shown { OnDamage result (IsMergeDamage D self.old.given self.old.names self.old.parts) }
+        ensures damage { IsTrue F.told → Agrees (F.files folder.old) self.old.cache → OnDamage result (IsMergeDamageOf (F.files folder.new) self.old.given) }
+        ensures doubled { IsTrue F.told → Agrees (F.files folder.old) self.old.cache → (c : Contents) → AreRead D (F.files folder.old) c self.old.parts
+            → OnDamage result (IsDoubt self.old.given (live_in_parts c self.old.parts)) }
+    {
+        if self.has_room(count) {
+            return Ok(());
+        }
+        self.flush(rt, alloc, folder, gate)
+    }
+
+    /// Whether so many points more would be too many.
+    fn is_full(&self, count: u32) -> bool
+        requires { count ≤ 16 }
+        ensures full { IsTrue result ↔ (2 ^ 24 < self.now.given + count) }
+        ensures named { All (IsNamed self.now.names) self.now.parts }
+    {
+        self.given + count > MOST_POINTS
+    }
+
+    /// Whether the buffer has room for so many entries more.
+    fn has_room(&self, count: u32) -> bool
+        requires { count ≤ 16 }
+        ensures room { IsTrue result ↔ (length self.now.buffer + count ≤ 16384) }
+        ensures named { All (IsNamed self.now.names) self.now.parts }
+    {
+        self.buffer.len() + count as usize <= MOST_BUFFERED
+    }
+
+    /// Takes a document out. True exactly where it was live. It takes no memory and no folder.
+    pub fn delete(&mut self, doc: u32) -> bool
+        ensures answer { result ≡ is_live_in self.old doc }
+        ensures seen { (files : Files) (i : Index) → Sees D files self.old i → Sees D files self.new (record i { docs = deleted doc i.docs }) }
+        ensures live { (files : Files) (i : Index) → Sees D files self.old i → result ≡ is_live doc i.docs }
+        ensures alone { self.new ≡ set_but doc self.old }
+        ensures dead { is_live_in self.new ≡ (λ n. is_live_in self.old n && not (nat_eq n doc)) }
+        ensures follows { Follows self.old.names self.old.parts self.new.parts }
+    {
+        let in_segment = self.segments.clear(doc);
+        clear_begun(&mut self.begun, doc);
+        let in_buffer = take_document(&mut self.buffer, doc);
+        in_segment | in_buffer
+    }
+
+    /// Takes the documents with a point in the box out, and answers how many. After a refusal none is.
+    pub fn delete_box<F: Folder>(
+        &mut self,
+        alloc: Global,
+        folder: &mut F,
+        lo: &Point<D>,
+        hi: &Point<D>,
+    ) -> Result<u32, PageFault>
+        ensures seen { IsTrue F.told → (i : Index) → Sees D (F.files folder.old) self.old i
+            → OnOk result (Sees D (F.files folder.new) self.new (record i { docs = without (in_box (record { lo = lo.now.c; hi = hi.now.c })) i.docs })) }
+        ensures count { IsTrue F.told → (i : Index) → Sees D (F.files folder.old) self.old i
+            → IfOk result (λ n. n ≡ length (hits (in_box (record { lo = lo.now.c; hi = hi.now.c })) i.docs)) }
+        ensures refused { IsTrue F.told → (i : Index) → Sees D (F.files folder.old) self.old i → OnErr result (Sees D (F.files folder.new) self.new i) }
+        // what stays
+        ensures files { IsTrue F.told → F.files folder.new ≡ F.files folder.old }
+        ensures stays { StaysAlone self.old self.new }
+        ensures follows { Follows self.old.names self.old.parts self.new.parts }
+        ensures names { self.new.names ≡ self.old.names }
+        ensures saved { self.new.saved ≡ self.old.saved }
+        // what it costs, and what an error says
+        ensures reads { (n : ℕ) → AreTouched D (in_box (record { lo = lo.now.c; hi = hi.now.c })) (crosses (record { lo = lo.now.c; hi = hi.now.c })) (heads_of self.old.parts) n
+            → F.reads folder.new ≤ F.reads folder.old + n }
+        ensures cause { HasPageCause (F.faults folder.old) (F.faults folder.new) result }
+        ensures whole { IsTrue F.told → (i : Index) → Sees D (F.files folder.old) self.old i → NotDamaged result }
+        ensures shown { (trees : ℕ → IndexTree) → HaveTrees D (heads_of self.old.parts) trees → OnDamage result (IsSegmentDamage D (heads_of self.old.parts) trees) }
+        ensures damage { IsTrue F.told → Agrees (F.files folder.old) self.old.cache → OnDamage result (IsLeafDamageOf (F.files folder.old)) }
+    {
+        let mut shape = BoxShape::new(*lo, *hi);
+        let hits = self.visit(alloc, folder, &View::Now, &mut shape)?;
+        let Ok(count) = u32::try_from(hits.len()) else {
+            return Err(PageFault::Memory);
+        };
+        self.delete_all(hits.as_slice());
+        Ok(count)
+    }
+
+    /// Takes the documents of these numbers out.
+    pub fn delete_all(&mut self, docs: &[u32])
+        ensures seen { (files : Files) (i : Index) → Sees D files self.old i
+            → Sees D files self.new (record i { docs = filter (λ d. not (is_among docs.now d.number)) i.docs }) }
+        ensures stays { StaysAlone self.old self.new }
+        ensures follows { Follows self.old.names self.old.parts self.new.parts }
+        ensures names { self.new.names ≡ self.old.names }
+        ensures saved { self.new.saved ≡ self.old.saved }
+    {
+        for doc in docs {
+            self.delete(*doc);
+        }
+    }
+}
+
+ghost use Rattle.segment_set.specs.Sets.{begun_but};
+
+/// Takes a number out of the live ones of what a begun merge has built.
+fn clear_begun<const D: usize>(begun: &mut Option<Begun<D>>, doc: u32)
+    ensures { begun.new ≡ begun_but doc begun.old }
+{
+    if let Some(
+        Begun {
+            inputs: _,
+            built: Some(built),
+        },
+    ) = begun
+    {
+        built.clear(doc);
+    }
+}

@@ -1,0 +1,327 @@
+//! The buffer goes to a segment, and segments are merged.
+
+ghost use Rattle.std.specs.Prelude.{◌≡◌, ◌≤◌, ◌<◌, ◌+◌, ◌↔◌, ℕ, true, false, [], None, Some, is_some, length, All, IsTrue, IfOk, IfNone, IfSome, OnOk, OnErr, IsErrOf};
+ghost use Rattle.live_bits.specs.LiveSet.{is_live};
+ghost use Rattle.page_cache.specs.Cache.{Agrees};
+ghost use Rattle.page_cache.specs.Causes.{HasPageCause};
+ghost use Rattle.page_cache.specs.Evidence.{OnDamage, NotDamaged};
+ghost use Rattle.merge_policy.specs.Choice.{free_count};
+ghost use Rattle.index_model.specs.State.{Index};
+ghost use Rattle.segment_view.specs.Parts.{Contents, AreRead, ids_of, live_in_parts, parts_among};
+
+use crate::choosing::{chosen, first_places, ids_at, inputs_of, is_settled, unpinned};
+use crate::faults::{BeginFault, EndFault};
+use crate::merging::{BuildPlan, gathered, merge, replace, spill};
+use crate::set::{Begun, SegmentSet};
+use bkd_build::Gate;
+use outer_io::Folder;
+use page_cache::{Memory, PageFault};
+use std::alloc::Global;
+use std::marker::Sync;
+use std::thread::Threads;
+
+impl<const D: usize> SegmentSet<D> {
+    ghost use Rattle.segment_set.specs.Faults.{HasCauseOf, OnBeginDamage, OnEndDamage};
+    ghost use Rattle.segment_set.specs.Sets.{BegunMerge, IsWell, inputs_of, pins_of, sizes_of};
+    ghost use Rattle.segment_set.specs.Seen.{Sees, StandsOver};
+    ghost use Rattle.segment_set.specs.Kept.{AreCanonical, Follows, KeepsNamed, StaysAlone, StaysButCache, StaysButMerge};
+    ghost use Rattle.segment_set.specs.Merged.{IsApart, IsEnded, IsWhole, KeepsEntries, Rearranges, chosen_ids};
+    ghost use Rattle.segment_set.specs.Merges.{IsMerged};
+    ghost use Rattle.segment_set.specs.Damages.{IsDoubt, IsMergeDamage, IsMergeDamageOf};
+    ghost use Rattle.segment_set.specs.declared.faults.BeginFault.TheVariants as begin;
+    ghost use Rattle.segment_set.specs.declared.faults.EndFault.TheVariants as end;
+
+    /// Settles, then writes the buffer as a new segment unless it is empty.
+    pub fn flush<R: Threads + Sync, F: Folder, G: Gate>(
+        &mut self,
+        rt: &R,
+        alloc: Global,
+        folder: &mut F,
+        gate: &G,
+    ) -> Result<(), PageFault>
+        ensures seen { IsTrue F.told → (i : Index) → Sees D (F.files folder.old) self.old i → Sees D (F.files folder.new) self.new i }
+        ensures emptied { OnOk result (self.new.buffer ≡ []) }
+        ensures levels { OnOk result ((level : ℕ) → free_count level (sizes_of self.new.parts) (pins_of self.new.begun self.new.parts) ≤ 10) }
+        // what stays
+        ensures stays { StaysAlone self.old self.new }
+        ensures kept { KeepsNamed (IsTrue F.told) self.old.names self.new.names (F.files folder.old) (F.files folder.new) }
+        ensures follows { Follows self.old.names self.old.parts self.new.parts }
+        ensures saved { self.new.saved ≡ self.old.saved }
+        ensures begun { self.new.begun ≡ self.old.begun }
+        ensures canon { IsTrue F.told → AreCanonical D (F.files folder.new) self.old.names self.new.parts }
+        // what an error says
+        ensures cause { HasPageCause (F.faults folder.old) (F.faults folder.new) result }
+        ensures whole { IsTrue F.told → (i : Index) → Sees D (F.files folder.old) self.old i → NotDamaged result }
+        ensures shown { OnDamage result (IsMergeDamage D self.old.given self.old.names self.old.parts) }
+        ensures damage { IsTrue F.told → Agrees (F.files folder.old) self.old.cache → OnDamage result (IsMergeDamageOf (F.files folder.new) self.old.given) }
+        ensures doubled { IsTrue F.told → Agrees (F.files folder.old) self.old.cache → (c : Contents) → AreRead D (F.files folder.old) c self.old.parts
+            → OnDamage result (IsDoubt self.old.given (live_in_parts c self.old.parts)) }
+    {
+        self.merge_settle(rt, alloc, folder, gate)?;
+        self.spill(rt, alloc, folder, gate)
+    }
+
+    /// Merges what the policy chooses until it chooses none. Inputs of a begun merge are pinned.
+    pub fn merge_settle<R: Threads + Sync, F: Folder, G: Gate>(
+        &mut self,
+        rt: &R,
+        alloc: Global,
+        folder: &mut F,
+        gate: &G,
+    ) -> Result<(), PageFault>
+        ensures seen { IsTrue F.told → (i : Index) → Sees D (F.files folder.old) self.old i → Sees D (F.files folder.new) self.new i }
+        ensures buffer { self.new.buffer ≡ self.old.buffer }
+        ensures levels { OnOk result ((level : ℕ) → free_count level (sizes_of self.new.parts) (pins_of self.new.begun self.new.parts) < 10) }
+        ensures room { OnOk result (length self.new.parts < 200) }
+        // what stays
+        ensures stays { StaysAlone self.old self.new }
+        ensures kept { KeepsNamed (IsTrue F.told) self.old.names self.new.names (F.files folder.old) (F.files folder.new) }
+        ensures follows { Follows self.old.names self.old.parts self.new.parts }
+        ensures saved { self.new.saved ≡ self.old.saved }
+        ensures begun { self.new.begun ≡ self.old.begun }
+        ensures canon { IsTrue F.told → AreCanonical D (F.files folder.new) self.old.names self.new.parts }
+        // what an error says
+        ensures cause { HasPageCause (F.faults folder.old) (F.faults folder.new) result }
+        ensures whole { IsTrue F.told → (i : Index) → Sees D (F.files folder.old) self.old i → NotDamaged result }
+        ensures shown { OnDamage result (IsMergeDamage D self.old.given self.old.names self.old.parts) }
+        ensures damage { IsTrue F.told → Agrees (F.files folder.old) self.old.cache → OnDamage result (IsMergeDamageOf (F.files folder.new) self.old.given) }
+        ensures doubled { IsTrue F.told → Agrees (F.files folder.old) self.old.cache → (c : Contents) → AreRead D (F.files folder.old) c self.old.parts
+            → OnDamage result (IsDoubt self.old.given (live_in_parts c self.old.parts)) }
+    {
+        while let Some(ids) = self.next_merge(alloc)? {
+            self.merge(rt, alloc, folder, ids.as_slice(), gate)?;
+        }
+        Ok(())
+    }
+
+    /// Merges all segments that are no inputs of a begun merge into one. On a single such segment it does nothing exactly where that has index
+    /// form 3 and as many live numbers as entries. A merge whose entries are all dead leaves no segment.
+    pub fn merge_all<R: Threads + Sync, F: Folder, G: Gate>(
+        &mut self,
+        rt: &R,
+        alloc: Global,
+        folder: &mut F,
+        gate: &G,
+    ) -> Result<(), PageFault>
+        ensures seen { IsTrue F.told → (i : Index) → Sees D (F.files folder.old) self.old i → Sees D (F.files folder.new) self.new i }
+        ensures buffer { self.new.buffer ≡ self.old.buffer }
+        ensures one { self.old.begun ≡ None → OnOk result ((length self.new.parts ≤ 1) × All (λ p. p.head.index.form ≡ 3) self.new.parts) }
+        ensures all_live { IsTrue F.told → self.old.begun ≡ None → (i : Index) → Sees D (F.files folder.old) self.old i
+            → OnOk result ((c : Contents) → StandsOver D (F.files folder.new) c self.new
+            → All (λ p. All (λ x. is_live p.live x.doc ≡ true) (c p.head.id)) self.new.parts) }
+        // what stays
+        ensures stays { StaysAlone self.old self.new }
+        ensures kept { KeepsNamed (IsTrue F.told) self.old.names self.new.names (F.files folder.old) (F.files folder.new) }
+        ensures follows { Follows self.old.names self.old.parts self.new.parts }
+        ensures saved { self.new.saved ≡ self.old.saved }
+        ensures begun { self.new.begun ≡ self.old.begun }
+        ensures canon { IsTrue F.told → AreCanonical D (F.files folder.new) self.old.names self.new.parts }
+        // what an error says
+        ensures cause { HasPageCause (F.faults folder.old) (F.faults folder.new) result }
+        ensures whole { IsTrue F.told → (i : Index) → Sees D (F.files folder.old) self.old i → NotDamaged result }
+        ensures shown { OnDamage result (IsMergeDamage D self.old.given self.old.names self.old.parts) }
+        ensures damage { IsTrue F.told → Agrees (F.files folder.old) self.old.cache → OnDamage result (IsMergeDamageOf (F.files folder.new) self.old.given) }
+        ensures doubled { IsTrue F.told → Agrees (F.files folder.old) self.old.cache → (c : Contents) → AreRead D (F.files folder.old) c self.old.parts
+            → OnDamage result (IsDoubt self.old.given (live_in_parts c self.old.parts)) }
+    {
+        let ids = self.unpinned(alloc)?;
+        if self.is_settled(ids.as_slice()) {
+            return Ok(());
+        }
+        self.merge(rt, alloc, folder, ids.as_slice(), gate)
+    }
+
+    /// Begins a merge of the segments at these positions, counted from 0 in ascending order of their ids. Positions that name no segment,
+    /// repeats and all after the first 64 that count are ignored. Begun exactly where one is begun. The merged segment is built now of what is
+    /// live now.
+    pub fn merge_begin<R: Threads + Sync, F: Folder, G: Gate>(
+        &mut self,
+        rt: &R,
+        alloc: Global,
+        folder: &mut F,
+        which: &[u32],
+        gate: &G,
+    ) -> Result<(), BeginFault>
+        ensures seen { IsTrue F.told → (i : Index) → Sees D (F.files folder.old) self.old i
+            → OnOk result (Sees D (F.files folder.new) self.new (record i { begun = true })) }
+        ensures refused { IsTrue F.told → (i : Index) → Sees D (F.files folder.old) self.old i → OnErr result (Sees D (F.files folder.new) self.new i) }
+        ensures begun { IsErrOf result begin.Begun ↔ (is_some self.old.begun ≡ true) }
+        ensures inputs { OnOk result ((b : BegunMerge) × (self.new.begun ≡ Some b) × (b.inputs ≡ chosen_ids which.now (ids_of self.old.parts))) }
+        // what stays
+        ensures files { IsTrue F.told → F.files folder.new ≡ F.files folder.old }
+        ensures alone { StaysButMerge self.old self.new }
+        ensures stays { OnErr result (StaysButCache self.old self.new) }
+        // what an error says
+        ensures cause { HasCauseOf begin.Failed (F.faults folder.old) (F.faults folder.new) result }
+        ensures whole { IsTrue F.told → (i : Index) → Sees D (F.files folder.old) self.old i → OnBeginDamage result (λ _. ⊥) }
+        ensures shown { OnBeginDamage result (IsMergeDamage D self.old.given self.old.names self.old.parts) }
+        ensures damage { IsTrue F.told → Agrees (F.files folder.old) self.old.cache → OnBeginDamage result (IsMergeDamageOf (F.files folder.new) self.old.given) }
+        ensures doubled { IsTrue F.told → Agrees (F.files folder.old) self.old.cache → (c : Contents) → AreRead D (F.files folder.old) c self.old.parts
+            → OnBeginDamage result (IsDoubt self.old.given (live_in_parts c self.old.parts)) }
+    {
+        if self.begun.is_some() {
+            return Err(BeginFault::Begun);
+        }
+        let plan = self.plan();
+        let places = first_places(which, self.segments.len());
+        let inputs = ids_at(alloc, &self.segments, places.as_slice())?;
+        let built = gathered(
+            rt,
+            alloc,
+            &self.segments,
+            inputs.as_slice(),
+            &mut self.cache,
+            folder,
+            &plan,
+            gate,
+        )?;
+        self.begun = Some(Begun { inputs, built });
+        Ok(())
+    }
+
+    /// Ends the begun merge: the merged segment replaces its inputs, and deletions since the begin are carried over. Where none of its entries
+    /// is live any more the inputs only go. NotBegun exactly where none is begun. Nothing is read, so it answers no damage.
+    pub fn merge_end<F: Folder>(&mut self, alloc: Global, folder: &mut F) -> Result<(), EndFault>
+        ensures seen { IsTrue F.told → (i : Index) → Sees D (F.files folder.old) self.old i
+            → OnOk result (Sees D (F.files folder.new) self.new (record i { begun = false })) }
+        ensures refused { IsTrue F.told → (i : Index) → Sees D (F.files folder.old) self.old i → OnErr result (Sees D (F.files folder.new) self.new i) }
+        ensures not_begun { IsErrOf result end.NotBegun ↔ (is_some self.old.begun ≡ false) }
+        ensures ended { OnOk result (self.new.begun ≡ None) }
+        ensures parts { (b : BegunMerge) → self.old.begun ≡ Some b → OnOk result (IsEnded b self.old.parts self.new.parts) }
+        ensures buffer { self.new.buffer ≡ self.old.buffer }
+        // what stays
+        ensures stays { StaysAlone self.old (record self.new { begun = self.old.begun }) }
+        ensures begun { OnErr result (self.new.begun ≡ self.old.begun) }
+        ensures kept { KeepsNamed (IsTrue F.told) self.old.names self.new.names (F.files folder.old) (F.files folder.new) }
+        ensures follows { Follows self.old.names self.old.parts self.new.parts }
+        ensures saved { self.new.saved ≡ self.old.saved }
+        ensures canon { IsTrue F.told → AreCanonical D (F.files folder.new) self.old.names self.new.parts }
+        ensures unread { F.reads folder.new ≡ F.reads folder.old }
+        // what an error says
+        ensures cause { HasCauseOf end.Failed (F.faults folder.old) (F.faults folder.new) result }
+        ensures whole { OnEndDamage result (λ _. ⊥) }
+    {
+        let Some(begun) = &self.begun else {
+            return Err(EndFault::NotBegun);
+        };
+        replace(
+            alloc,
+            folder,
+            &mut self.names,
+            &mut self.segments,
+            begun.built.as_ref(),
+            begun.inputs.as_slice(),
+        )?;
+        self.begun = None;
+        Ok(())
+    }
+
+    /// How segments are built.
+    fn plan(&self) -> BuildPlan<D>
+        ensures leaf { result.leaf ≡ self.now.leaf }
+        ensures given { result.given ≡ self.now.given }
+    {
+        BuildPlan {
+            leaf: self.leaf,
+            forks: self.forks,
+            given: self.given,
+        }
+    }
+
+    /// The ids of the segments that the policy chooses for the next merge, if it chooses some.
+    fn next_merge(&self, alloc: Global) -> Result<Option<Vec<u64>>, Memory>
+        ensures none { IfOk result (λ o. IfNone o ((level : ℕ) → free_count level (sizes_of self.now.parts) (pins_of self.now.begun self.now.parts) < 10)) }
+        ensures apart { IfOk result (λ o. IfSome o (λ ids. IsApart ids.items (inputs_of self.now.begun) self.now.parts)) }
+        ensures some { IfOk result (λ o. IfSome o (λ ids. 2 ≤ length (parts_among ids.items self.now.parts))) }
+        ensures room { IfOk result (λ o. IfNone o (length self.now.parts < 200)) }
+        ensures well { IsWell D self.now }
+    {
+        chosen(alloc, &self.segments, inputs_of(&self.begun))
+    }
+
+    /// The ids of the segments that are no inputs of a begun merge.
+    fn unpinned(&self, alloc: Global) -> Result<Vec<u64>, Memory>
+        ensures apart { IfOk result (λ ids. IsApart ids.items (inputs_of self.now.begun) self.now.parts) }
+        ensures all { IfOk result (λ ids. self.now.begun ≡ None → ids.items ≡ ids_of self.now.parts) }
+        ensures well { IsWell D self.now }
+    {
+        unpinned(alloc, &self.segments, inputs_of(&self.begun))
+    }
+
+    /// Whether merging these segments would change nothing.
+    fn is_settled(&self, ids: &[u64]) -> bool
+        ensures { IsTrue result → (length ids.now ≤ 1) × All IsWhole (parts_among ids.now self.now.parts) }
+    {
+        is_settled(&self.segments, ids)
+    }
+
+    /// Merges the segments of these ids into one.
+    fn merge<R: Threads + Sync, F: Folder, G: Gate>(
+        &mut self,
+        rt: &R,
+        alloc: Global,
+        folder: &mut F,
+        ids: &[u64],
+        gate: &G,
+    ) -> Result<(), PageFault>
+        requires { IsApart ids.now (inputs_of self.old.begun) self.old.parts }
+        ensures moves { Rearranges D (IsTrue F.told) (F.files folder.old) (F.files folder.new) self.old self.new }
+        ensures entries { KeepsEntries D (IsTrue F.told) (F.files folder.old) (F.files folder.new) self.old self.new }
+        ensures buffer { self.new.buffer ≡ self.old.buffer }
+        ensures merged { OnOk result (IsMerged D (IsTrue F.told) self.old.leaf self.old.names self.new.names (F.files folder.old) (F.files folder.new) self.old.cache ids.now
+            self.old.parts self.new.parts) }
+        ensures fewer { OnOk result (length self.new.parts + length (parts_among ids.now self.old.parts) ≤ length self.old.parts + 1) }
+        ensures cause { HasPageCause (F.faults folder.old) (F.faults folder.new) result }
+        ensures whole { IsTrue F.told → (i : Index) → Sees D (F.files folder.old) self.old i → NotDamaged result }
+        ensures shown { OnDamage result (IsMergeDamage D self.old.given self.old.names self.old.parts) }
+        ensures damage { IsTrue F.told → Agrees (F.files folder.old) self.old.cache → OnDamage result (IsMergeDamageOf (F.files folder.new) self.old.given) }
+        ensures doubled { IsTrue F.told → Agrees (F.files folder.old) self.old.cache → (c : Contents) → AreRead D (F.files folder.old) c self.old.parts
+            → OnDamage result (IsDoubt self.old.given (live_in_parts c self.old.parts)) }
+    {
+        let plan = self.plan();
+        merge(
+            rt,
+            alloc,
+            folder,
+            &mut self.names,
+            &mut self.segments,
+            &mut self.cache,
+            ids,
+            &plan,
+            gate,
+        )
+    }
+
+    /// Writes what waits in the buffer as a segment.
+    fn spill<R: Threads + Sync, F: Folder, G: Gate>(
+        &mut self,
+        rt: &R,
+        alloc: Global,
+        folder: &mut F,
+        gate: &G,
+    ) -> Result<(), PageFault>
+        requires { length self.old.parts < 200 }
+        ensures well { IsWell D self.old }
+        ensures moves { Rearranges D (IsTrue F.told) (F.files folder.old) (F.files folder.new) self.old self.new }
+        ensures emptied { OnOk result (self.new.buffer ≡ []) }
+        ensures one_more { (level : ℕ) → free_count level (sizes_of self.new.parts) (pins_of self.new.begun self.new.parts)
+            ≤ free_count level (sizes_of self.old.parts) (pins_of self.old.begun self.old.parts) + 1 }
+        ensures cause { HasPageCause (F.faults folder.old) (F.faults folder.new) result }
+        ensures whole { NotDamaged result }
+    {
+        if self.buffer.is_empty() {
+            return Ok(());
+        }
+        let plan = self.plan();
+        spill(
+            rt,
+            alloc,
+            folder,
+            &mut self.names,
+            &mut self.segments,
+            &mut self.buffer,
+            &plan,
+            gate,
+        )
+    }
+}

@@ -1,0 +1,172 @@
+//! What queries find.
+
+ghost use Rattle.std.specs.Prelude.{◌≡◌, ◌≤◌, ◌+◌, ◌*◌, ℕ, List, Some, length, IsTrue, IfOk};
+ghost use Rattle.point_codec.specs.Seen.{items_of};
+ghost use Rattle.point_codec.specs.declared.entries.Near.{Near};
+ghost use Rattle.inner_pack.specs.Trees.{IndexTree};
+ghost use Rattle.page_cache.specs.Cache.{Agrees};
+ghost use Rattle.page_cache.specs.Causes.{HasPageCause};
+ghost use Rattle.page_cache.specs.Evidence.{OnDamage, NotDamaged};
+ghost use Rattle.segment_file.specs.Damages.{IsLeafDamageOf};
+ghost use Rattle.documents.specs.Documents.{Document, hits};
+ghost use Rattle.documents.specs.Nearest.{found_of, nearest};
+ghost use Rattle.documents.specs.NearestEntries.{IsNearest, nears_of};
+ghost use Rattle.nearest_query.specs.Segments.{AreNearLeaves, HaveTrees, IsSegmentDamage, bound_of};
+ghost use Rattle.script_lang.specs.Seen.{viewed};
+ghost use Rattle.index_model.specs.State.{Index, viewed_docs};
+ghost use Rattle.segment_view.specs.Parts.{Contents, heads_of};
+ghost use Rattle.segment_view.specs.Costs.{AreTested, AreTouched, leaves_in};
+
+use crate::set::SegmentSet;
+use crate::snapshots::{Snapshot, snapshot_named};
+use bkd_reader::Tally;
+use cell_relate::Shape;
+use outer_io::Folder;
+use page_cache::PageFault;
+use point_codec::{Entry, Near, Point, View};
+use segment_view::Segments;
+use std::alloc::Global;
+
+impl<const D: usize> SegmentSet<D> {
+    ghost use Rattle.segment_set.specs.Sets.{HasView, viewed_buffer, viewed_parts};
+    ghost use Rattle.segment_set.specs.Seen.{Sees, StandsOver, entries_seen};
+    ghost use Rattle.segment_set.specs.Kept.{StaysButCache};
+
+    /// The numbers of the view's documents that the shape has, ascending. Only leaves whose own cell is not outside are read, and only
+    /// entries of the buffer and of leaves whose own cell the shape crosses are tested.
+    pub fn visit<S: Shape<D>, F: Folder>(
+        &mut self,
+        alloc: Global,
+        folder: &mut F,
+        view: &View,
+        shape: &mut S,
+    ) -> Result<Vec<u32>, PageFault>
+        requires { HasView (viewed view.now) self.old }
+        ensures found { IsTrue F.told → (i : Index) → Sees D (F.files folder.old) self.old i → (docs : List Document) → viewed_docs (viewed view.now) i ≡ Some docs
+            → IfOk result (λ v. v.items ≡ hits (S.has shape.old) docs) }
+        // what stays
+        ensures seen { IsTrue F.told → (i : Index) → Sees D (F.files folder.old) self.old i → Sees D (F.files folder.new) self.new i }
+        ensures alone { StaysButCache self.old self.new }
+        ensures files { IsTrue F.told → F.files folder.new ≡ F.files folder.old }
+        ensures has { S.has shape.new ≡ S.has shape.old }
+        ensures crosses { S.crosses shape.new ≡ S.crosses shape.old }
+        // what it costs, over every folder
+        ensures tests { (n : ℕ) → AreTested D (S.crosses shape.old) (heads_of (viewed_parts (viewed view.now) self.old)) n
+            → S.tests shape.new ≤ S.tests shape.old + n + length (viewed_buffer (viewed view.now) self.old) }
+        ensures compares { S.compares shape.new ≤ S.compares shape.old + 2 * leaves_in (heads_of (viewed_parts (viewed view.now) self.old)) }
+        ensures reads { (n : ℕ) → AreTouched D (S.has shape.old) (S.crosses shape.old) (heads_of (viewed_parts (viewed view.now) self.old)) n
+            → F.reads folder.new ≤ F.reads folder.old + n }
+        // what an error says
+        ensures cause { HasPageCause (F.faults folder.old) (F.faults folder.new) result }
+        ensures whole { IsTrue F.told → (i : Index) → Sees D (F.files folder.old) self.old i → NotDamaged result }
+        ensures shown { (trees : ℕ → IndexTree) → HaveTrees D (heads_of (viewed_parts (viewed view.now) self.old)) trees
+            → OnDamage result (IsSegmentDamage D (heads_of (viewed_parts (viewed view.now) self.old)) trees) }
+        ensures damage { IsTrue F.told → Agrees (F.files folder.old) self.old.cache → OnDamage result (IsLeafDamageOf (F.files folder.old)) }
+    {
+        let (segments, buffer) = view_of(
+            &self.segments,
+            self.buffer.as_slice(),
+            self.snapshots.as_slice(),
+            view,
+        );
+        segment_view::visit(alloc, segments, buffer, &mut self.cache, folder, shape)
+    }
+
+    /// The `k` nearest documents of the view, the nearest first, each with the least squared distance of its points: all, where there are
+    /// fewer than `k`. Of equally near ones the one with the smaller number comes first. Only leaves whose cell is as near as the last
+    /// document found are read. `k` is 1 to 10,000.
+    pub fn nearest<F: Folder>(
+        &mut self,
+        alloc: Global,
+        folder: &mut F,
+        view: &View,
+        at: &Point<D>,
+        k: u16,
+    ) -> Result<Vec<Near>, PageFault>
+        requires view { HasView (viewed view.now) self.old }
+        requires some { 1 ≤ k }
+        requires few { k ≤ 10000 }
+        ensures found { IsTrue F.told → (i : Index) → Sees D (F.files folder.old) self.old i → (docs : List Document) → viewed_docs (viewed view.now) i ≡ Some docs
+            → IfOk result (λ v. found_of v.items ≡ nearest k at.now.c docs) }
+        // what stays
+        ensures seen { IsTrue F.told → (i : Index) → Sees D (F.files folder.old) self.old i → Sees D (F.files folder.new) self.new i }
+        ensures alone { StaysButCache self.old self.new }
+        ensures files { IsTrue F.told → F.files folder.new ≡ F.files folder.old }
+        // what it costs: the leaves as near as the last of those found
+        ensures reads { IsTrue F.told → (c : Contents) → StandsOver D (F.files folder.old) c self.old
+            → (found : List Near) → IsNearest k (nears_of at.now.c (entries_seen c (viewed_parts (viewed view.now) self.old) (viewed_buffer (viewed view.now) self.old))) found
+            → (leaves : ℕ) → AreNearLeaves D at.now.c (bound_of k found) (heads_of (viewed_parts (viewed view.now) self.old)) leaves
+            → F.reads folder.new ≤ F.reads folder.old + leaves }
+        // what an error says
+        ensures cause { HasPageCause (F.faults folder.old) (F.faults folder.new) result }
+        ensures whole { IsTrue F.told → (i : Index) → Sees D (F.files folder.old) self.old i → NotDamaged result }
+        ensures shown { (trees : ℕ → IndexTree) → HaveTrees D (heads_of (viewed_parts (viewed view.now) self.old)) trees
+            → OnDamage result (IsSegmentDamage D (heads_of (viewed_parts (viewed view.now) self.old)) trees) }
+        ensures damage { IsTrue F.told → Agrees (F.files folder.old) self.old.cache → OnDamage result (IsLeafDamageOf (F.files folder.old)) }
+    {
+        let (segments, buffer) = view_of(
+            &self.segments,
+            self.buffer.as_slice(),
+            self.snapshots.as_slice(),
+            view,
+        );
+        segment_view::nearest(alloc, segments, buffer, &mut self.cache, folder, at, k)
+    }
+
+    /// What a visit of the view costs at most for this shape. It reads nothing and takes no memory.
+    pub fn survey<S: Shape<D>>(&self, view: &View, shape: &mut S) -> Tally
+        requires { HasView (viewed view.now) self.now }
+        ensures tested { AreTested D (S.crosses shape.old) (heads_of (viewed_parts (viewed view.now) self.now)) result.tested }
+        ensures touched { AreTouched D (S.has shape.old) (S.crosses shape.old) (heads_of (viewed_parts (viewed view.now) self.now)) result.touched }
+        ensures leaves { result.leaves ≡ leaves_in (heads_of (viewed_parts (viewed view.now) self.now)) }
+        ensures tests { S.tests shape.new ≡ S.tests shape.old }
+        ensures compares { S.compares shape.new ≤ S.compares shape.old + leaves_in (heads_of (viewed_parts (viewed view.now) self.now)) }
+        ensures has { S.has shape.new ≡ S.has shape.old }
+        ensures crosses { S.crosses shape.new ≡ S.crosses shape.old }
+    {
+        let (segments, _) = view_of(
+            &self.segments,
+            self.buffer.as_slice(),
+            self.snapshots.as_slice(),
+            view,
+        );
+        segment_view::survey(segments, shape)
+    }
+
+    /// How many leaves of the view have a cell whose least squared distance from the point is at most the bound; all, where there is none.
+    /// It reads nothing and takes no memory.
+    pub fn survey_near(&self, view: &View, at: &Point<D>, bound: Option<u128>) -> u64
+        requires { HasView (viewed view.now) self.now }
+        ensures { AreNearLeaves D at.now.c bound (heads_of (viewed_parts (viewed view.now) self.now)) result }
+    {
+        let (segments, _) = view_of(
+            &self.segments,
+            self.buffer.as_slice(),
+            self.snapshots.as_slice(),
+            view,
+        );
+        segment_view::survey_near(segments, at, bound)
+    }
+}
+
+ghost use Rattle.segment_set.specs.Sets.{IsThere, parts_at, buffer_at};
+
+/// The segments and the buffer of a view: those of now, or those of a snapshot.
+fn view_of<'a, const D: usize>(
+    segments: &'a Segments<D>,
+    buffer: &'a [Entry<D>],
+    snapshots: &'a [Snapshot<D>],
+    view: &View,
+) -> (&'a Segments<D>, &'a [Entry<D>])
+    requires { IsThere (viewed view.now) snapshots.now }
+    ensures segments { result.0.now ≡ parts_at (viewed view.now) segments.now snapshots.now }
+    ensures buffer { items_of result.1.now ≡ buffer_at (viewed view.now) (items_of buffer.now) snapshots.now }
+{
+    match view {
+        View::Now => (segments, buffer),
+        View::Named(name) => {
+            let snapshot = snapshot_named(snapshots, name);
+            (&snapshot.segments, snapshot.buffer.as_slice())
+        }
+    }
+}

@@ -1,0 +1,165 @@
+//! What is swept away.
+
+ghost use Rattle.std.specs.Prelude.{◌≡◌, ◌≢◌, ◌≤◌, ◌<◌, ◌+◌, ◌-◌, ◌^◌, ◌↔◌, ◌⊎◌, ◌&&◌, ℕ, Bool, true, false, nat_eq, take, length, slice_get, All, Contains, Some, None, IsTrue, IfOk, OnOk};
+ghost use Rattle.std.specs.List.{list_any};
+ghost use Rattle.outer_io.specs.Faults.{HasCause};
+ghost use Rattle.outer_io.specs.Files.{Files};
+ghost use Rattle.outer_io.specs.declared.file_name.FileName.{FileName};
+ghost use Rattle.outer_io.specs.declared.file_name.FileName.TheVariants.{Commit as CommitName, Segment};
+ghost use Rattle.page_cache.specs.Cache.{Agrees, KeepsFile};
+ghost use Rattle.commit_list.specs.Commits.{CommitData};
+ghost use Rattle.documents.specs.Entries.{is_among};
+ghost use Rattle.stored_index.specs.Kept.{ListsFile};
+ghost use Rattle.index_model.specs.State.{Index};
+ghost use Rattle.segment_view.specs.Parts.{ids_of};
+ghost use Rattle.file_names.specs.Names.{is_named};
+
+use crate::set::SegmentSet;
+use crate::snapshots::Snapshot;
+use commit_list::Commit;
+use outer_io::{Failed, FileName, Folder};
+use page_cache::PageCache;
+
+impl<const D: usize> SegmentSet<D> {
+    ghost use Rattle.segment_set.specs.Seen.{Sees};
+    ghost use Rattle.segment_set.specs.Kept.{IsNeeded, StaysButFiles};
+    ghost use Rattle.segment_set.specs.Swept.{IsSwept, IsUnneeded, shows_file};
+
+    /// Removes every file of the list of names but those that the last save lists and those that a view needs. After Ok only these are in the
+    /// list, and the others aren't there.
+    pub fn sweep<F: Folder>(&mut self, folder: &mut F) -> Result<(), Failed>
+        requires { self.old.saved ≢ None }
+        ensures seen { IsTrue F.told → (i : Index) → Sees D (F.files folder.old) self.old i → Sees D (F.files folder.new) self.new i }
+        ensures needed { IsTrue F.told → (c : CommitData) → self.old.saved ≡ Some c → (m : FileName) → IsNeeded self.old c m → F.files folder.new m ≡ F.files folder.old m }
+        ensures others { IsTrue F.told → (m : FileName) → is_named self.old.names.names m ≡ false → F.files folder.new m ≡ F.files folder.old m }
+        ensures commit { IsTrue F.told → F.files folder.new CommitName ≡ F.files folder.old CommitName }
+        ensures fewer { (m : FileName) → is_named self.new.names.names m ≡ true → is_named self.old.names.names m ≡ true }
+        ensures named { (c : CommitData) → self.old.saved ≡ Some c → (m : FileName) → IsNeeded self.old c m
+            → is_named self.old.names.names m ≡ true → is_named self.new.names.names m ≡ true }
+        ensures swept { OnOk result ((c : CommitData) → self.old.saved ≡ Some c → (m : FileName) → is_named self.new.names.names m ≡ true → IsNeeded self.old c m) }
+        ensures gone { IsTrue F.told → OnOk result ((c : CommitData) → self.old.saved ≡ Some c → (m : FileName) → is_named self.old.names.names m ≡ true
+            → (IsNeeded self.old c m → ⊥) → F.files folder.new m ≡ None) }
+        ensures alone { StaysButFiles self.old self.new }
+        ensures unread { F.reads folder.new ≡ F.reads folder.old }
+        ensures cause { HasCause (F.faults folder.old) (F.faults folder.new) result }
+    {
+        let mut place = 0;
+        'names: while place < self.names.as_slice().len() {
+            place = self.sweep_at(folder, place)?;
+        }
+        Ok(())
+    }
+
+    /// Removes the file at a place of the list of names unless it is needed, and answers the place of the next one.
+    fn sweep_at<F: Folder>(&mut self, folder: &mut F, place: usize) -> Result<usize, Failed>
+        requires { place < length self.old.names.names }
+        ensures seen { IsTrue F.told → (i : Index) → Sees D (F.files folder.old) self.old i → Sees D (F.files folder.new) self.new i }
+        ensures swept { IsSwept (IsTrue F.told) self.old self.new (F.files folder.old) (F.files folder.new) }
+        ensures front { (c : CommitData) → self.old.saved ≡ Some c → All (IsNeeded self.old c) (take place self.old.names.names)
+            → IfOk result (λ n. All (IsNeeded self.old c) (take n self.new.names.names)) }
+        ensures next { IfOk result (λ n. length self.new.names.names - n < length self.old.names.names - place) }
+        ensures unread { F.reads folder.new ≡ F.reads folder.old }
+        ensures cause { HasCause (F.faults folder.old) (F.faults folder.new) result }
+    {
+        let name = self.name_at(place);
+        if self.needs(&name) {
+            return Ok(place + 1);
+        }
+        self.remove_file(folder, &name)?;
+        Ok(place)
+    }
+
+    /// The name at a place of the list.
+    fn name_at(&self, place: usize) -> FileName
+        requires { place < length self.now.names.names }
+        ensures name { slice_get self.now.names.names place ≡ Some result }
+        ensures more { place + 1 < 2 ^ 64 }
+    {
+        self.names.as_slice()[place]
+    }
+
+    /// Removes a file, its name and what is kept of it.
+    fn remove_file<F: Folder>(&mut self, folder: &mut F, name: &FileName) -> Result<(), Failed>
+        requires named { is_named self.old.names.names name.now ≡ true }
+        requires unneeded { IsUnneeded self.old name.now }
+        ensures seen { IsTrue F.told → (i : Index) → Sees D (F.files folder.old) self.old i → Sees D (F.files folder.new) self.new i }
+        ensures swept { IsSwept (IsTrue F.told) self.old self.new (F.files folder.old) (F.files folder.new) }
+        ensures names { OnOk result (self.new.names.names ≡ filter (λ n. not (same_name n name.now)) self.old.names.names) }
+        ensures unread { F.reads folder.new ≡ F.reads folder.old }
+        ensures cause { HasCause (F.faults folder.old) (F.faults folder.new) result }
+    {
+        forget(&mut self.cache, name);
+        folder.remove(name)?;
+        self.names.remove(name);
+        Ok(())
+    }
+
+    /// Whether the last save lists the file, or a view needs it.
+    fn needs(&self, name: &FileName) -> bool
+        ensures yes { result ≡ true → (c : CommitData) → self.now.saved ≡ Some c → IsNeeded self.now c name.now }
+        ensures no { result ≡ false → IsUnneeded self.now name.now }
+    {
+        if self.shows(name) {
+            return true;
+        }
+        match &self.saved {
+            Some(c) => lists_file(c, name),
+            None => false,
+        }
+    }
+
+    /// Whether a view needs the file.
+    fn shows(&self, name: &FileName) -> bool
+        ensures { result ≡ shows_file self.now name.now }
+    {
+        let FileName::Segment(id) = *name else {
+            return false;
+        };
+        let now = self.segments.has(id);
+        let kept = any_has(self.snapshots.as_slice(), id);
+        now | kept
+    }
+}
+
+ghost use Rattle.std.specs.Prelude.{not, filter};
+ghost use Rattle.outer_io.specs.Names.{same_name};
+
+/// Whether one of the snapshots shows the segment of this id.
+fn any_has<const D: usize>(snapshots: &[Snapshot<D>], id: u64) -> bool
+    ensures { result ≡ list_any (λ v. is_among (ids_of v.parts) id) snapshots.now }
+{
+    for snapshot in snapshots {
+        if snapshot.segments.has(id) {
+            return true;
+        }
+    }
+    false
+}
+
+/// Whether the commit lists the file.
+fn lists_file(c: &Commit, name: &FileName) -> bool
+    ensures { (result ≡ true) ↔ ListsFile c.now name.now }
+{
+    match *name {
+        FileName::Segment(id) => c.listed().iter().any(|s| s.segment == id),
+        FileName::Live {
+            segment,
+            generation,
+        } => c
+            .listed()
+            .iter()
+            .any(|s| s.segment == segment && s.generation == generation),
+        FileName::Commit | FileName::CommitNew => false,
+    }
+}
+
+/// Takes out what is kept of the file.
+fn forget(cache: &mut PageCache, name: &FileName)
+    ensures gone { (id : ℕ) → name.now ≡ Segment id → KeepsFile cache.new id → ⊥ }
+    ensures fewer { (id : ℕ) → KeepsFile cache.new id → KeepsFile cache.old id }
+    ensures agrees { (files : Files) → Agrees files cache.old → Agrees files cache.new }
+{
+    if let FileName::Segment(id) = *name {
+        cache.forget(id);
+    }
+}
