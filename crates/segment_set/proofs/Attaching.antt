@@ -1,10 +1,10 @@
 -- What is attached of an index that is stored.
-use Rattle.std.proofs.Common.{◌≡◌, ◌≢◌, ℕ, zero, suc, ◌+◌, ◌/◌, ◌≤◌, ◌<◌, ◌⊎◌, ◌↔◌, inl, inr, ⊎_elim, Bool, true, false, cond, List, [], ◌∷◌, ◌++◌, length, map, take, drop, get_or, Option, Some, None, refl, sym, ap, subst, ◌∙◌, append_assoc, arith}
+use Rattle.std.proofs.Common.{◌≡◌, ◌≢◌, ℕ, zero, suc, ◌+◌, ◌≤◌, ◌<◌, ◌⊎◌, ◌↔◌, inl, inr, ⊎_elim, true, false, List, [], ◌∷◌, ◌++◌, length, map, take, drop, get_or, Some, None, refl, sym, ap, subst, ◌∙◌, append_assoc, arith}
 use Rattle.std.specs.List.{All, AllPairs, AllZip, Contains, filter, flat_map}
 use Rattle.std.specs.List.Sorted.{IsStrictlyIncreasing}
 use Rattle.std.proofs.lemmas.Bool.{false_from_ne_true}
 use Rattle.std.proofs.lemmas.Grind.{flat_map-append}
-use Rattle.std.proofs.lemmas.List.{append-nil, drop_more, take_more}
+use Rattle.std.proofs.lemmas.List.{append-nil, take_more}
 use Rattle.std.proofs.lemmas.List.Elements.{All-contains, All-cons, All-contains_itself, All-head, All-map, All-nil, All-tail}
 use Rattle.std.proofs.lemmas.List.Kept.{AllPairs-from_increasing}
 use Rattle.std.proofs.lemmas.List.Sorted.{IsNonDecreasingBy-short}
@@ -32,7 +32,6 @@ use Rattle.commit_list.specs.Commits.{CommitData, IsCommit}
 use Rattle.commit_list.specs.CommitFiles.{IsCommitFile}
 use Rattle.segment_file.specs.Heads.{Head}
 use Rattle.segment_file.specs.Segments.{IsHeadOf, IsSegment}
-use Rattle.segment_file.specs.LiveFiles.{IsLiveFile}
 use Rattle.segment_file.specs.Damages.{IsPairDamage}
 use Rattle.segment_file.proofs.Unique.{head_of_segment, one_head}
 use Rattle.segment_file.proofs.LiveLemmas.{one_live_set}
@@ -40,20 +39,19 @@ use Rattle.stored_index.specs.Kept.{ListsFile}
 use Rattle.stored_index.specs.Opening.{listed_pages, segments_pages}
 use Rattle.stored_index.specs.Segments.{SegmentData, all_live_entries, entries_at, live_entries, live_sets, places}
 use Rattle.stored_index.specs.Stored.{HasHead, HasLive, HaveHeads, HaveLive, HoldAll, HoldsFiles, HoldsIndex, IsStored, IsUndefined, index_of}
-use Rattle.stored_index.proofs.Pairwise.{held_of, partner_of, zip_map, zip_moved, zip_once, zip_same}
+use Rattle.stored_index.proofs.Pairwise.{held_of, partner_of, zip_map, zip_once, zip_same}
 use Rattle.stored_index.proofs.Parts.{contents, held_head, held_live}
 use Rattle.stored_index.proofs.Places.{none_from_next}
 use Rattle.stored_index.proofs.Whole.{held_for}
 use Rattle.index_model.specs.State.{Index, State}
 use Rattle.segment_view.specs.Parts.{AreRead, Contents, IsPlaced, IsRead, Part, ids_of, live_in_parts, lives_of, part_of}
-use Rattle.segment_view.proofs.Ascending.{pairs_right}
 use Rattle.file_names.specs.Names.{NameList, is_named}
 use Rattle.file_names.proofs.Listed.{contains-is_named, is_named-contains}
-use Rattle.segment_set.specs.Sets.{IsNamed, IsWell, NamedView, SetData, sizes_of}
+use Rattle.segment_set.specs.Sets.{IsNamed, IsWell, NamedView, SetData}
 use Rattle.segment_set.specs.Seen.{Sees}
 use Rattle.segment_set.specs.Kept.{IsAtRest}
 use Rattle.segment_set.specs.Damages.{Entries, IsAttachDamage, IsAttachDamageOf, IsMisplaced, IsPair, LeafSize, LiveCount}
-use Rattle.segment_set.specs.Opened.{IsListedAs, IsListedDamage, IsListedDamageOf, IsOpened}
+use Rattle.segment_set.specs.Opened.{IsListedDamage, IsListedDamageOf, IsOpened}
 use Rattle.segment_set.proofs.Saving.{take_whole, zip_length, zip_pushed}
 
 -- ---- the names of the files that a commit lists

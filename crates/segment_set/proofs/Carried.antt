@@ -1,13 +1,13 @@
 -- What calls leave as it is, one call after another.
-use Rattle.std.proofs.Common.{◌≡◌, ◌≢◌, ℕ, Bool, true, false, ◌&&◌, List, [], ◌∷◌, ◌++◌, map, Option, refl, sym, ap, subst, ◌∙◌, ◌⊎◌, inl, inr, ⊎_elim}
+use Rattle.std.proofs.Common.{◌≡◌, ◌≢◌, ℕ, Bool, true, false, ◌&&◌, List, [], ◌∷◌, ◌++◌, refl, sym, ap, subst, ◌∙◌, ◌⊎◌, inl, inr, ⊎_elim}
 use Rattle.std.specs.List.{All, Contains, filter}
-use Rattle.std.proofs.lemmas.Bool.{both_ways, cases_Bool}
+use Rattle.std.proofs.lemmas.Bool.{both_ways}
 use Rattle.std.proofs.lemmas.List.Elements.{All-contains, Contains-append_cases, Contains-append_left, Contains-append_right}
 use Rattle.outer_io.specs.declared.file_name.FileName.{FileName}
 use Rattle.outer_io.specs.declared.file_name.FileName.TheVariants.{Commit, Segment}
 use Rattle.outer_io.specs.Files.{Files, SameBut, bytes_of}
 use Rattle.point_codec.specs.Points.{Item}
-use Rattle.live_bits.specs.LiveSet.{LiveSet, is_live, without}
+use Rattle.live_bits.specs.LiveSet.{LiveSet, without}
 use Rattle.live_bits.proofs.LiveNumbers.{is_live-without}
 use Rattle.documents.proofs.Lists.{cons_cases, of_filter, of_map}
 use Rattle.segment_file.specs.Heads.{Head}
@@ -16,7 +16,7 @@ use Rattle.segment_build.specs.NewSegments.{IsCanonical}
 use Rattle.segment_view.specs.Parts.{Part, IsPlaced, cleared}
 use Rattle.file_names.specs.Names.{NameList, is_named}
 use Rattle.file_names.proofs.Listed.{is_named-apart, joins, others_stay, stays}
-use Rattle.segment_set.specs.Sets.{SetData, IsNamed, is_live_in}
+use Rattle.segment_set.specs.Sets.{SetData, IsNamed}
 use Rattle.segment_set.specs.Kept.{KeepsNamed, StaysAlone, IsWithin, Follows, HasCanonical, AreCanonical}
 
 -- ---- names and files

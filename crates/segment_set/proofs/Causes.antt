@@ -1,6 +1,5 @@
 -- What the fault of a write says where a call may meet damage too.
-use Rattle.std.proofs.Common.{◌≡◌, ◌≤◌, ℕ, Result, Ok, Err, refl, arith}
-use Rattle.page_cache.specs.declared.faults.PageFault.{PageFault}
+use Rattle.std.proofs.Common.{◌≡◌, ℕ, Err, refl, arith}
 use Rattle.page_cache.specs.declared.faults.PageFault.TheVariants as page
 use Rattle.page_cache.specs.declared.faults.SegFault.{SegFault}
 use Rattle.page_cache.specs.declared.faults.SegFault.TheVariants as seg

@@ -1,11 +1,11 @@
 -- A set that a document was added to or taken out of.
-use Rattle.std.proofs.Common.{◌≡◌, ◌≢◌, ℕ, ◌+◌, ◌-◌, ◌≤◌, ◌<◌, ◌^◌, ℤ, Bool, true, false, not, ◌&&◌, ◌||◌, eqb, leb, cond, List, [], ◌∷◌, ◌++◌, length, map, get_or, Option, Some, None, is_some, ⊎_elim, Ordering, Less, Equal, Greater, refl, sym, ap, subst, ◌∙◌, append_assoc, arith}
-use Rattle.std.specs.List.{All, AllPairs, AllZip, Contains, count_by, filter, list_any, sum_by}
+use Rattle.std.proofs.Common.{◌≡◌, ◌≢◌, ℕ, ◌+◌, ◌-◌, ◌≤◌, ◌^◌, ℤ, Bool, true, false, not, ◌&&◌, ◌||◌, eqb, leb, cond, List, [], ◌∷◌, ◌++◌, length, map, get_or, Option, Some, None, is_some, ⊎_elim, Ordering, Less, Equal, Greater, refl, sym, ap, subst, ◌∙◌, append_assoc, arith}
+use Rattle.std.specs.List.{AllPairs, Contains, count_by, filter}
 use Rattle.std.specs.List.Sorted.{IsNonDecreasingBy}
-use Rattle.std.specs.Ordering.{int_cmp, int_eq, is_eq}
+use Rattle.std.specs.Ordering.{int_cmp, is_eq}
 use Rattle.std.specs.Cmp.Lexicographic.{lists_ties, slice_cmp}
 use Rattle.std.proofs.lemmas.Bool.{both_ways, eq-eqb, eqb-true, leb-false, leb-true}
-use Rattle.std.proofs.lemmas.List.{length-append, length-map, length_push, append-nil}
+use Rattle.std.proofs.lemmas.List.{length-append, length-map, append-nil}
 use Rattle.std.proofs.lemmas.List.Elements.{Contains-get_or, Contains-push_cases, filter-append}
 use Rattle.std.proofs.lemmas.List.Folds.{list_any-append}
 use Rattle.std.proofs.lemmas.List.Sorted.{IsNonDecreasingBy-push}
@@ -17,20 +17,20 @@ use Rattle.leaf_codec.specs.LeafOrder.{NoneTwice, same_item}
 use Rattle.live_bits.specs.LiveSet.{LiveSet, is_live, without}
 use Rattle.live_bits.proofs.LiveNumbers.{is_live-without}
 use Rattle.documents.specs.Documents.{Ascend, Document, deleted, hits, is_live as is_live_doc, passes, without as without_passing}
-use Rattle.documents.specs.Entries.{AreDocs, MakeDocs, SameTotals, entries_but, entries_of, entry_of, has_entry, is_among}
+use Rattle.documents.specs.Entries.{AreDocs, SameTotals, entries_but, entries_of, entry_of, has_entry, is_among}
 use Rattle.documents.proofs.Kept.{added, among_hits, but_one, live as live_docs, no_docs}
 use Rattle.documents.proofs.Lists.{cons_head, cons_tail, filter_alike, filter_twice, pairs_head, pairs_tail}
 use Rattle.documents.proofs.Making.{docs_make}
 use Rattle.documents.proofs.Totals.{sum_by-filter}
 use Rattle.stored_index.specs.Segments.{places}
 use Rattle.stored_index.proofs.Places.{entry_there}
-use Rattle.index_model.specs.State.{Index, Snapshot}
+use Rattle.index_model.specs.State.{Index}
 use Rattle.segment_view.specs.Parts.{Part, Contents, cleared, has_live, live_in_parts, lives_of, parts_among}
 use Rattle.segment_view.proofs.Living.{live_cleared, live_numbers, read_cleared}
-use Rattle.segment_build.specs.NewSegments.{HasEntries, NewSegmentData}
-use Rattle.segment_set.specs.Sets.{BegunMerge, IsSpread, IsWell, NamedView, SetData, begun_but, built_but, is_live_in, set_but, set_with}
+use Rattle.segment_build.specs.NewSegments.{NewSegmentData}
+use Rattle.segment_set.specs.Sets.{BegunMerge, IsWell, SetData, begun_but, built_but, is_live_in, set_but, set_with}
 use Rattle.segment_set.specs.Kept.{StaysAlone}
-use Rattle.segment_set.specs.Seen.{BegunStands, IsMergeOf, MergesInto, Sees, ShowsSnapshot, StandsOver, entries_seen}
+use Rattle.segment_set.specs.Seen.{BegunStands, MergesInto, Sees, StandsOver, entries_seen}
 use Rattle.segment_set.proofs.Standing.{shown_later}
 use Rattle.segment_set.proofs.Well.{among_cleared, left_of, live_but}
 

@@ -1,25 +1,22 @@
 -- What the end of a begun merge does to a set.
-use Rattle.std.proofs.Common.{◌≡◌, ℕ, ◌+◌, ◌≤◌, Bool, true, false, eqb, List, [], ◌∷◌, ◌++◌, length, Option, None, Some, is_some, refl, sym, ap, subst, ◌∙◌, ◌⊎◌, inl, inr, arith}
-use Rattle.std.specs.List.{All, filter, list_any, sum_by}
+use Rattle.std.proofs.Common.{◌≡◌, ℕ, ◌≤◌, Bool, true, false, eqb, List, [], ◌∷◌, length, Option, None, Some, refl, sym, ap, subst, ◌∙◌, ◌⊎◌, inl, inr, arith}
+use Rattle.std.specs.List.{filter, list_any, sum_by}
 use Rattle.std.proofs.lemmas.Bool.{cases_Bool}
 use Rattle.std.proofs.lemmas.List.Elements.{All-nil}
-use Rattle.std.proofs.lemmas.List.Sums.{sum_by-append, sum_by-cons}
-use Rattle.outer_io.specs.declared.file_name.FileName.TheVariants.{Segment}
+use Rattle.std.proofs.lemmas.List.Sums.{sum_by-cons}
 use Rattle.outer_io.specs.Files.{Files}
 use Rattle.point_codec.specs.Points.{Item}
 use Rattle.live_bits.specs.LiveSet.{LiveSet, is_live}
-use Rattle.documents.specs.Entries.{SameTotals, has_entry, is_among}
-use Rattle.page_cache.specs.declared.cache.PageCache.{PageCache}
-use Rattle.page_cache.specs.Cache.{Agrees, KeepsFile}
+use Rattle.documents.specs.Entries.{SameTotals, is_among}
 use Rattle.index_model.specs.State.{Index}
 use Rattle.segment_view.specs.Parts.{Part, Contents, ids_of, live_in_parts, parts_among, parts_but}
 use Rattle.segment_build.specs.NewSegments.{NewSegmentData}
-use Rattle.file_names.specs.Names.{NameList, is_named}
+use Rattle.file_names.specs.Names.{NameList}
 use Rattle.segment_set.specs.Sets.{BegunMerge, SetData, IsBuiltOf, IsWell, inputs_of, built_of}
 use Rattle.segment_set.specs.Seen.{BegunStands, MergesInto, Sees}
 use Rattle.segment_set.specs.Kept.{KeepsNamed, StaysAlone, Follows, AreCanonical}
 use Rattle.segment_set.specs.Merged.{HasCome, IsEnded}
-use Rattle.segment_set.specs.Merges.{HoldsLive, MakesLive, IsMade, Replaces, living, with_live, part_at}
+use Rattle.segment_set.specs.Merges.{MakesLive, IsMade, Replaces, living, with_live, part_at}
 use Rattle.segment_set.proofs.Replaced.{one_if, place_in, some_place, length_parted}
 use Rattle.segment_set.proofs.Weller.{place_built, length_replaced}
 use Rattle.segment_set.proofs.Moved.{Moves, moved, well_moved, stays_moved, follows_moved, canon_moved, seen_moved}

@@ -1,5 +1,5 @@
 -- A fault of a call below, as a fault of an addition, and of the begin or the end of a merge.
-use Rattle.std.proofs.Common.{◌≡◌, ◌≤◌, ℕ, Result, Err, refl, arith}
+use Rattle.std.proofs.Common.{◌≡◌, ℕ, Err, refl, arith}
 use Rattle.std.specs.Result.{IsErrOf}
 use Rattle.page_cache.specs.Causes.{HasPageCause}
 use Rattle.page_cache.specs.Evidence.{OnDamage}

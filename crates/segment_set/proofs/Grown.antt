@@ -1,5 +1,5 @@
 -- What is read of segments once another has taken the place of some.
-use Rattle.std.proofs.Common.{◌≡◌, ℕ, ◌+◌, ◌≤◌, Bool, true, false, List, [], ◌∷◌, ◌++◌, Option, None, Some, refl, sym, ap, subst, ◌∙◌, arith}
+use Rattle.std.proofs.Common.{◌≡◌, ℕ, ◌+◌, true, false, List, [], ◌∷◌, Option, None, Some, refl, sym, ap, subst, ◌∙◌, arith}
 use Rattle.std.specs.List.{All, filter, sum_by}
 use Rattle.std.proofs.lemmas.Bool.{eq-eqb, false_from_ne_true, ne_eqb, true≢false}
 use Rattle.std.proofs.lemmas.List.Sums.{sum_by-append}
@@ -8,7 +8,7 @@ use Rattle.outer_io.specs.declared.file_name.FileName.TheVariants.{Segment}
 use Rattle.outer_io.specs.Files.{Files, bytes_of}
 use Rattle.point_codec.specs.Points.{Item}
 use Rattle.live_bits.specs.LiveSet.{is_live}
-use Rattle.documents.specs.Entries.{SameTotals, has_entry, is_among}
+use Rattle.documents.specs.Entries.{has_entry, is_among}
 use Rattle.documents.proofs.Kept.{among_to}
 use Rattle.segment_file.specs.Segments.{IsSegment}
 use Rattle.segment_view.specs.Parts.{Part, Contents, IsRead, AreRead, ids_of, live_in_parts, parts_among, parts_but}

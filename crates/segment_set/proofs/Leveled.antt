@@ -1,15 +1,14 @@
 -- How many segments of a level are free, and how many segments there are at all.
-use Rattle.std.proofs.Common.{◌≡◌, ℕ, ◌+◌, ◌*◌, ◌^◌, ◌≤◌, ◌<◌, Bool, true, false, not, ◌&&◌, ◌||◌, eqb, cond, List, [], ◌∷◌, ◌++◌, length, map, refl, sym, ap, subst, ◌∙◌, inl, inr, arith}
-use Rattle.std.specs.List.{All, AllPairs, Contains, count_by, filter, sum_by, zip}
+use Rattle.std.proofs.Common.{◌≡◌, ℕ, ◌+◌, ◌≤◌, ◌<◌, Bool, true, false, not, ◌&&◌, ◌||◌, eqb, List, [], ◌∷◌, length, map, refl, sym, ap, ◌∙◌, inl, inr, arith}
+use Rattle.std.specs.List.{AllPairs, Contains, count_by, sum_by, zip}
 use Rattle.std.specs.List.Sorted.{IsStrictlyIncreasing}
 use Rattle.std.proofs.lemmas.Bool.{cases_Bool, eqb-true}
-use Rattle.std.proofs.lemmas.List.{length-map}
 use Rattle.std.proofs.lemmas.List.Kept.{AllPairs-from_increasing}
-use Rattle.std.proofs.lemmas.List.Sums.{length-filter, sum_by-cons}
+use Rattle.std.proofs.lemmas.List.Sums.{sum_by-cons}
 use Rattle.documents.specs.Entries.{is_among}
 use Rattle.documents.proofs.Lists.{cons_head, cons_tail, pairs_head, pairs_tail}
 use Rattle.merge_policy.specs.Choice.{free_count, is_of_level}
-use Rattle.segment_view.specs.Parts.{Part, ids_of, parts_among, parts_but, IsPlaced}
+use Rattle.segment_view.specs.Parts.{Part, ids_of, parts_but, IsPlaced}
 use Rattle.segment_set.specs.Sets.{sizes_of}
 use Rattle.segment_set.proofs.Replaced.{one_if, total_placed}
 use Rattle.segment_set.proofs.Steps.{but_none}

@@ -1,35 +1,32 @@
 -- A set in which what was built took the place of some segments: what every set keeps to, and how it is seen.
-use Rattle.std.proofs.Common.{◌≡◌, ℕ, ◌+◌, ◌≤◌, Bool, true, false, not, cond, List, [], ◌∷◌, ◌++◌, length, Option, None, Some, is_some, refl, sym, ap, subst, ◌∙◌, ◌⊎◌, inl, inr, arith}
+use Rattle.std.proofs.Common.{◌≡◌, ℕ, ◌+◌, ◌≤◌, Bool, true, false, not, cond, List, ◌++◌, length, Option, None, Some, is_some, refl, sym, ap, subst, ◌∙◌, inl, inr, arith}
 use Rattle.std.proofs.Math.Logic.{∥∥₁_elim, ∥∥₁_prop}
 use Rattle.std.proofs.lemmas.Grind.{merely}
-use Rattle.std.specs.List.{All, Contains, filter, list_any, sum_by}
+use Rattle.std.specs.List.{All, sum_by}
 use Rattle.std.specs.List.Sorted.{IsNonDecreasingBy}
-use Rattle.std.proofs.lemmas.Bool.{both_ways, cases_Bool}
+use Rattle.std.proofs.lemmas.Bool.{cases_Bool}
 use Rattle.std.proofs.lemmas.List.Elements.{All-contains, All-weaker}
 use Rattle.std.proofs.lemmas.List.Sums.{sum_by-append}
-use Rattle.outer_io.specs.declared.file_name.FileName.{FileName}
 use Rattle.outer_io.specs.declared.file_name.FileName.TheVariants.{Segment}
-use Rattle.outer_io.specs.Files.{Files, bytes_of}
+use Rattle.outer_io.specs.Files.{Files}
 use Rattle.point_codec.specs.Points.{Item}
 use Rattle.leaf_codec.specs.LeafOrder.{NoneTwice}
-use Rattle.live_bits.specs.LiveSet.{is_live}
 use Rattle.documents.specs.Entries.{SameTotals, has_entry, is_among}
 use Rattle.documents.proofs.Kept.{among_to}
 use Rattle.page_cache.specs.declared.cache.PageCache.{PageCache}
 use Rattle.page_cache.specs.Cache.{Agrees, KeepsFile}
 use Rattle.page_cache.proofs.Agreement.{agrees_other}
 use Rattle.index_model.specs.State.{Index}
-use Rattle.segment_file.specs.Segments.{IsSegment}
-use Rattle.segment_view.specs.Parts.{Part, Contents, AreRead, has_live, ids_of, live_in_parts, parts_among, parts_but}
+use Rattle.segment_view.specs.Parts.{Part, Contents, has_live, ids_of, live_in_parts, parts_among, parts_but}
 use Rattle.segment_build.specs.NewSegments.{NewSegmentData, HasEntries, IsCanonical}
 use Rattle.file_names.specs.Names.{NameList, is_named}
 use Rattle.segment_set.specs.Sets.{BegunMerge, SetData, IsBuiltOf, IsNamed, IsWell, built_of, inputs_of, is_live_in}
 use Rattle.segment_set.specs.Seen.{BegunStands, MergesInto, Sees}
-use Rattle.segment_set.specs.Kept.{KeepsNamed, StaysAlone, Follows, HasCanonical, AreCanonical}
+use Rattle.segment_set.specs.Kept.{KeepsNamed, StaysAlone, Follows, AreCanonical}
 use Rattle.segment_set.specs.Merges.{MakesLive, IsMade, part_at, Replaces}
 use Rattle.segment_set.proofs.Standing.{IsAlike, alike_begun, alike_kept_views, ids_named, sees_moved}
-use Rattle.segment_set.proofs.Carried.{canon_filter, canon_named, canon_placed, follows_filter, follows_placed, follows_same}
-use Rattle.segment_set.proofs.Replaced.{one_if, place_in, some_place, live_placed, id_there, ids_stay}
+use Rattle.segment_set.proofs.Carried.{canon_filter, canon_named, canon_placed, follows_filter, follows_placed}
+use Rattle.segment_set.proofs.Replaced.{one_if, place_in, some_place, live_placed}
 use Rattle.segment_set.proofs.Grown.{Grown, grown}
 use Rattle.segment_set.proofs.Weller.{place_built, all_replaced, total_replaced, among_replaced, spread_replaced}
 

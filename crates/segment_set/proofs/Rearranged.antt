@@ -1,5 +1,5 @@
 -- One merge or flush after another.
-use Rattle.std.proofs.Common.{◌≡◌, ℕ, ◌+◌, ◌≤◌, ◌<◌, Bool, true, false, eqb, cond, ltb, List, [], ◌∷◌, ◌++◌, length, Result, Ok, Err, ◌^◌, refl, sym, ap, subst, ◌∙◌, ◌⊎◌, inl, inr, ⊎_elim, arith}
+use Rattle.std.proofs.Common.{◌≡◌, ℕ, ◌≤◌, ◌<◌, eqb, cond, ltb, List, [], ◌∷◌, length, Result, Ok, Err, ◌^◌, refl, sym, subst, ◌∙◌, ◌⊎◌, inl, inr, ⊎_elim, arith}
 use Rattle.std.specs.List.{All, Contains, sum_by}
 use Rattle.std.specs.Result.{OnOk, OnErr}
 use Rattle.std.proofs.lemmas.Bool.{cases_Bool, ltb-false, ltb-true}
@@ -9,7 +9,7 @@ use Rattle.outer_io.specs.Files.{Files}
 use Rattle.point_codec.specs.Points.{Item}
 use Rattle.point_codec.specs.Seen.{items_of}
 use Rattle.point_codec.specs.declared.entries.Entry.{Entry}
-use Rattle.documents.specs.Entries.{SameTotals, is_among}
+use Rattle.documents.specs.Entries.{SameTotals}
 use Rattle.leaf_codec.specs.LeafOrder.{item_of, same_item}
 use Rattle.page_cache.specs.declared.cache.PageCache.{PageCache}
 use Rattle.page_cache.specs.declared.faults.Damage.{Damage}
@@ -17,11 +17,11 @@ use Rattle.page_cache.specs.declared.faults.Damage.TheVariants.{Page, Leaf, Body
 use Rattle.page_cache.specs.Cache.{Agrees, KeepsFile}
 use Rattle.page_cache.proofs.Agreement.{agrees_other}
 use Rattle.stored_index.proofs.Places.{entry_there}
-use Rattle.segment_view.specs.Parts.{Part, Contents, AreRead, ids_of, live_in_parts, parts_among}
+use Rattle.segment_view.specs.Parts.{Part, ids_of, live_in_parts, parts_among}
 use Rattle.segment_view.specs.Damages.{IsReadDamage}
-use Rattle.file_names.specs.Names.{NameList, is_named}
-use Rattle.segment_set.specs.Sets.{SetData, IsNamed, IsWell, inputs_of}
-use Rattle.segment_set.specs.Kept.{IsWithin, KeepsNamed}
+use Rattle.file_names.specs.Names.{NameList}
+use Rattle.segment_set.specs.Sets.{SetData, IsNamed, IsWell}
+use Rattle.segment_set.specs.Kept.{KeepsNamed}
 use Rattle.segment_set.specs.Merged.{KeepsEntries, Rearranges}
 use Rattle.segment_set.specs.Merges.{IsMerged}
 use Rattle.segment_set.specs.Damages.{Doubt, IsDoubt, IsMergeDamage, New, Read}

@@ -1,7 +1,7 @@
 -- What is saved of a set.
-use Rattle.std.proofs.Common.{◌≡◌, ℕ, zero, suc, ◌+◌, ◌*◌, ◌/◌, ◌≤◌, ◌<◌, Bool, true, false, eqb, cond, List, [], ◌∷◌, ◌++◌, length, take, map, Option, Some, is_some, Result, Ok, Err, refl, sym, ap, subst, ◌∙◌, arith}
+use Rattle.std.proofs.Common.{◌≡◌, ℕ, zero, suc, ◌≤◌, true, false, cond, List, [], ◌∷◌, ◌++◌, length, take, map, Option, Some, is_some, Result, Ok, Err, refl, sym, ap, subst, ◌∙◌, arith}
 use Rattle.std.specs.Prelude.{IfOk, OnOk}
-use Rattle.std.specs.List.{All, AllZip, Contains, filter, flat_map, list_any}
+use Rattle.std.specs.List.{All, AllZip, Contains, filter, list_any}
 use Rattle.std.specs.List.Sorted.{IsStrictlyIncreasing}
 use Rattle.std.proofs.lemmas.List.{append-nil}
 use Rattle.std.proofs.lemmas.List.Elements.{All-contains, All-cons, All-head, All-nil, All-tail}
@@ -10,7 +10,6 @@ use Rattle.outer_io.specs.declared.file_name.FileName.TheVariants.{Commit, Commi
 use Rattle.outer_io.specs.Files.{Files, bytes_of}
 use Rattle.point_codec.specs.Points.{Item}
 use Rattle.live_bits.specs.LiveSet.{LiveSet, is_live}
-use Rattle.documents.specs.Documents.{Document}
 use Rattle.documents.specs.Entries.{AreDocs, has_entry}
 use Rattle.page_cache.specs.declared.cache.PageCache.{PageCache}
 use Rattle.page_cache.specs.Cache.{Agrees, KeepsFile}
@@ -32,7 +31,7 @@ use Rattle.stored_index.specs.Stored.{HoldAll, HoldsFiles, IsStored, index_of}
 use Rattle.stored_index.proofs.Pairwise.{zip_map, zip_moved, zip_same}
 use Rattle.stored_index.proofs.Whole.{stored_from}
 use Rattle.index_model.specs.State.{Index, at_rest}
-use Rattle.segment_view.specs.Parts.{AreRead, Contents, IsRead, Part, ids_of, live_in_parts, lives_of}
+use Rattle.segment_view.specs.Parts.{Contents, IsRead, Part, ids_of, live_in_parts, lives_of}
 use Rattle.file_names.specs.Names.{NameList, is_named}
 use Rattle.segment_set.specs.Sets.{IsNamed, IsWell, SetData}
 use Rattle.segment_set.specs.Seen.{Sees}

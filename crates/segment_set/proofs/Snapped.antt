@@ -1,5 +1,5 @@
 -- Snapshots that are taken and let go.
-use Rattle.std.proofs.Common.{◌≡◌, ℕ, ◌+◌, ◌≤◌, ◌<◌, Bool, true, false, not, cond, List, [], ◌∷◌, ◌++◌, length, refl, sym, ap, subst, ◌∙◌, arith}
+use Rattle.std.proofs.Common.{◌≡◌, ℕ, ◌<◌, Bool, true, false, not, cond, List, [], ◌∷◌, ◌++◌, length, refl, ap, ◌∙◌, arith}
 use Rattle.std.specs.List.{All, AllZip, filter}
 use Rattle.std.specs.Str.{bytes_eq}
 use Rattle.std.proofs.lemmas.List.{length_push}
@@ -9,9 +9,8 @@ use Rattle.outer_io.specs.Files.{Files}
 use Rattle.index_model.specs.State.{Index, Snapshot}
 use Rattle.point_codec.specs.Points.{Item}
 use Rattle.segment_view.specs.Parts.{AreRead, Contents, Part}
-use Rattle.file_names.specs.Names.{NameList}
 use Rattle.segment_set.specs.Sets.{IsNamed, IsWell, NamedView, SetData}
-use Rattle.segment_set.specs.Seen.{Sees, ShowsSnapshot, StandsOver}
+use Rattle.segment_set.specs.Seen.{Sees, ShowsSnapshot}
 
 -- a pair more at the end of two lists
 pub zip_push : {A B : Type 0} (R : A → B → Type 0) (xs : List A) (ys : List B) (x : A) (y : B) → AllZip R xs ys → R x y → AllZip R (xs ++ x ∷ []) (ys ++ y ∷ [])

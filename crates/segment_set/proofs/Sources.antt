@@ -1,14 +1,13 @@
 -- What a merge reads, and a merge that is begun.
-use Rattle.std.proofs.Common.{◌≡◌, ℕ, ◌+◌, ◌≤◌, ◌<◌, Bool, true, false, List, [], ◌∷◌, ◌++◌, length, map, take, get_or, ltb, Option, None, Some, is_some, refl, sym, ap, subst, ◌∙◌, ◌⊎◌, inl, inr, arith}
-use Rattle.std.specs.List.{All, Contains, filter, sum_by}
+use Rattle.std.proofs.Common.{◌≡◌, ℕ, ◌≤◌, ◌<◌, true, List, ◌++◌, length, map, take, get_or, ltb, Option, None, Some, refl, sym, ap, ◌∙◌, arith}
+use Rattle.std.specs.List.{All, filter}
 use Rattle.std.proofs.lemmas.Bool.{ltb-true}
 use Rattle.std.proofs.lemmas.List.{length-append, length-map, length-take}
-use Rattle.std.proofs.lemmas.List.Elements.{All-contains, All-contains_itself, All-map, All-take, All-weaker, Contains-get_or, filter_passes}
+use Rattle.std.proofs.lemmas.List.Elements.{All-map, All-take, All-weaker, Contains-get_or, filter_passes}
 use Rattle.std.proofs.lemmas.List.Sums.{sum_by-append}
 use Rattle.outer_io.specs.declared.file_name.FileName.TheVariants.{Segment}
 use Rattle.outer_io.specs.Files.{Files}
 use Rattle.point_codec.specs.Points.{Item}
-use Rattle.live_bits.specs.LiveSet.{is_live}
 use Rattle.documents.specs.Entries.{MakeDocs, SameTotals, is_among}
 use Rattle.documents.proofs.Kept.{among_from}
 use Rattle.page_cache.specs.declared.cache.PageCache.{PageCache}
@@ -18,7 +17,7 @@ use Rattle.segment_view.specs.Parts.{Part, Contents, ids_of, live_in_parts, part
 use Rattle.segment_view.proofs.Living.{parted_totals}
 use Rattle.segment_build.specs.NewSegments.{NewSegmentData}
 use Rattle.file_names.specs.Names.{is_named}
-use Rattle.segment_set.specs.Sets.{BegunMerge, SetData, IsBuiltOf, IsWell}
+use Rattle.segment_set.specs.Sets.{BegunMerge, SetData, IsWell}
 use Rattle.segment_set.specs.Seen.{MergesInto, Sees, entries_seen}
 use Rattle.segment_set.specs.Merged.{each_once, chosen_ids}
 use Rattle.segment_set.specs.Merges.{IsGathered, MakesLive}

@@ -1,28 +1,23 @@
 -- What a flush of the buffer does to a set.
-use Rattle.std.proofs.Common.{◌≡◌, ℕ, ◌+◌, ◌≤◌, ◌<◌, Bool, true, false, List, [], ◌∷◌, ◌++◌, length, Option, None, Some, Result, Err, is_some, refl, sym, ap, subst, ◌∙◌, ◌⊎◌, inl, inr, arith}
+use Rattle.std.proofs.Common.{◌≡◌, ℕ, ◌<◌, Bool, true, false, List, [], ◌++◌, length, Some, Result, Err, is_some, refl, sym, ap, subst, inl, inr, arith}
 use Rattle.std.specs.Result.{OnOk, OnErr}
-use Rattle.std.specs.List.{All, count_by, sum_by}
-use Rattle.std.specs.List.Sorted.{IsNonDecreasingBy}
+use Rattle.std.specs.List.{sum_by}
 use Rattle.std.proofs.lemmas.List.{append-nil}
 use Rattle.std.proofs.lemmas.List.Sums.{sum_by-append}
-use Rattle.outer_io.specs.declared.file_name.FileName.TheVariants.{Segment}
 use Rattle.outer_io.specs.Files.{Files}
 use Rattle.point_codec.specs.Points.{Item}
 use Rattle.leaf_codec.specs.LeafOrder.{NoneTwice}
 use Rattle.live_bits.specs.LiveSet.{is_live}
 use Rattle.documents.specs.Entries.{SameTotals, has_entry, is_among}
-use Rattle.page_cache.specs.declared.cache.PageCache.{PageCache}
-use Rattle.page_cache.specs.Cache.{Agrees, KeepsFile}
 use Rattle.index_model.specs.State.{Index}
-use Rattle.segment_view.specs.Parts.{Part, Contents, live_in_parts, parts_among}
-use Rattle.segment_build.specs.NewSegments.{NewSegmentData}
-use Rattle.file_names.specs.Names.{NameList, is_named}
+use Rattle.segment_view.specs.Parts.{Part, live_in_parts, parts_among}
+use Rattle.file_names.specs.Names.{NameList}
 use Rattle.segment_set.specs.Sets.{SetData, IsBuiltOf, IsWell, inputs_of}
 use Rattle.segment_set.specs.Seen.{Sees}
 use Rattle.segment_set.specs.Kept.{KeepsNamed, StaysAlone, Follows, AreCanonical}
 use Rattle.segment_set.specs.Merges.{IsMade, IsSpilled}
 use Rattle.segment_set.proofs.Standing.{sees_same}
-use Rattle.segment_set.proofs.Replaced.{one_if, place_in, ids_stay}
+use Rattle.segment_set.proofs.Replaced.{one_if, ids_stay}
 use Rattle.segment_set.proofs.Weller.{length_replaced}
 use Rattle.segment_set.proofs.Moved.{Moves, moved, inputs_stay, well_moved, stays_moved, follows_moved, canon_moved, seen_moved, begun_moved}
 use Rattle.segment_set.proofs.Steps.{IsAfter, merge_after, none_among, ok_or_err}

@@ -1,18 +1,16 @@
 -- A set stands over files, and is seen as an index, as long as what it has of them stays.
-use Rattle.std.proofs.Common.{◌≡◌, ℕ, ◌+◌, ◌≤◌, Bool, true, false, eqb, cond, List, [], ◌∷◌, ◌++◌, length, map, Option, Some, None, is_some, refl, sym, ap, subst, ◌∙◌, arith}
-use Rattle.std.specs.List.{All, AllZip, Contains, filter, list_any, sum_by}
+use Rattle.std.proofs.Common.{◌≡◌, ℕ, ◌+◌, ◌≤◌, Bool, true, eqb, cond, List, [], ◌∷◌, ◌++◌, length, Option, Some, None, is_some, refl, sym, ap, subst, ◌∙◌, arith}
+use Rattle.std.specs.List.{All, AllZip, Contains, filter, sum_by}
 use Rattle.std.proofs.lemmas.List.Elements.{All-contains, All-filter, All-head, All-tail}
 use Rattle.std.proofs.lemmas.List.Sums.{sum_by-append, sum_by-cons}
 use Rattle.outer_io.specs.declared.file_name.FileName.TheVariants.{Segment}
 use Rattle.outer_io.specs.Files.{Files}
 use Rattle.point_codec.specs.Points.{Item}
 use Rattle.live_bits.specs.LiveSet.{is_live}
-use Rattle.documents.specs.Documents.{Document}
-use Rattle.documents.specs.Entries.{AreDocs, SameTotals, has_entry, is_among}
+use Rattle.documents.specs.Entries.{AreDocs, SameTotals, is_among}
 use Rattle.documents.proofs.Kept.{later, reordered}
-use Rattle.documents.proofs.Lists.{of_filter, of_map}
+use Rattle.documents.proofs.Lists.{of_map}
 use Rattle.documents.proofs.Totals.{permuted}
-use Rattle.page_cache.specs.declared.cache.PageCache.{PageCache}
 use Rattle.page_cache.specs.Cache.{Agrees}
 use Rattle.page_cache.proofs.Agreement.{agrees_other}
 use Rattle.index_model.specs.State.{Index, Snapshot}
@@ -21,7 +19,7 @@ use Rattle.segment_view.proofs.Living.{live_alike, read_alike}
 use Rattle.segment_build.specs.NewSegments.{NewSegmentData}
 use Rattle.file_names.specs.Names.{NameList, is_named}
 use Rattle.segment_set.specs.Sets.{BegunMerge, IsNamed, IsWell, NamedView, SetData}
-use Rattle.segment_set.specs.Seen.{BegunStands, IsMergeOf, MergesInto, Sees, ShowsSnapshot, StandsOver, entries_seen}
+use Rattle.segment_set.specs.Seen.{BegunStands, MergesInto, Sees, ShowsSnapshot, StandsOver, entries_seen}
 use Rattle.segment_set.specs.Kept.{KeepsNamed}
 
 -- ---- totals

@@ -1,5 +1,5 @@
 -- What is swept away, and what stays.
-use Rattle.std.proofs.Common.{◌≡◌, ◌≢◌, ℕ, zero, suc, ◌+◌, ◌≤◌, ◌<◌, ◌⊎◌, ◌↔◌, ◌-◌, inl, inr, ⊎_elim, Bool, true, false, not, ◌||◌, cond, List, [], ◌∷◌, length, take, get_or, Option, Some, None, refl, sym, ap, subst, ◌∙◌, arith}
+use Rattle.std.proofs.Common.{◌≡◌, ◌≢◌, ℕ, zero, suc, ◌+◌, ◌≤◌, ◌<◌, ◌↔◌, ◌-◌, inl, inr, ⊎_elim, Bool, true, false, not, ◌||◌, cond, List, [], ◌∷◌, length, take, get_or, Some, None, refl, sym, ap, subst, ◌∙◌, arith}
 use Rattle.std.specs.List.{All, Contains, filter, list_any, slice_get}
 use Rattle.std.proofs.lemmas.Bool.{both_ways}
 use Rattle.std.proofs.lemmas.List.{take_more}
@@ -21,7 +21,7 @@ use Rattle.stored_index.specs.Kept.{ListsFile}
 use Rattle.index_model.specs.State.{Index}
 use Rattle.segment_view.specs.Parts.{Part, ids_of}
 use Rattle.file_names.specs.Names.{NameList, is_named}
-use Rattle.file_names.proofs.Listed.{contains-is_named, gone, is_named-apart, is_named-contains, others_kept}
+use Rattle.file_names.proofs.Listed.{contains-is_named, gone, is_named-contains, others_kept}
 use Rattle.segment_set.specs.Sets.{IsNamed, IsWell, NamedView, SetData}
 use Rattle.segment_set.specs.Seen.{Sees}
 use Rattle.segment_set.specs.Kept.{IsNeeded, KeepsNamed, StaysButFiles, ViewNeeds}

@@ -1,7 +1,6 @@
 -- What every set keeps to, after each change.
-use Rattle.std.proofs.Common.{◌≡◌, ℕ, ◌+◌, ◌≤◌, ◌<◌, ◌^◌, Bool, true, false, not, ◌&&◌, ◌||◌, eqb, cond, List, [], ◌∷◌, ◌++◌, length, map, Option, Some, None, refl, sym, ap, subst, ◌∙◌, arith}
-use Rattle.std.specs.List.{All, Contains, count_by, filter, list_any, sum_by}
-use Rattle.std.specs.List.Sorted.{IsNonDecreasingBy}
+use Rattle.std.proofs.Common.{◌≡◌, ℕ, ◌+◌, ◌≤◌, Bool, true, false, not, ◌&&◌, ◌||◌, eqb, cond, List, [], ◌∷◌, length, Option, Some, None, refl, sym, ap, subst, ◌∙◌, arith}
+use Rattle.std.specs.List.{All, count_by, filter}
 use Rattle.std.proofs.lemmas.Bool.{eqb-true}
 use Rattle.std.proofs.lemmas.List.{length-map}
 use Rattle.std.proofs.lemmas.List.Elements.{All-map, All-weaker}
@@ -20,9 +19,9 @@ use Rattle.page_cache.specs.Cache.{KeepsFile}
 use Rattle.stored_index.specs.Segments.{places}
 use Rattle.segment_view.specs.Parts.{Part, cleared, ids_of, lives_of, parts_among, has_live as is_live_in_parts}
 use Rattle.segment_view.proofs.Living.{any_cleared, ids_cleared}
-use Rattle.segment_build.specs.NewSegments.{NewSegmentData, HasSomeEntries}
-use Rattle.file_names.specs.Names.{NameList, is_named}
-use Rattle.segment_set.specs.Sets.{BegunMerge, IsBuiltOf, IsNamed, IsSpread, IsWell, NamedView, SetData, begun_but, built_but, built_of, inputs_of, is_live_in, set_but}
+use Rattle.segment_build.specs.NewSegments.{NewSegmentData}
+use Rattle.file_names.specs.Names.{is_named}
+use Rattle.segment_set.specs.Sets.{BegunMerge, IsBuiltOf, IsNamed, IsSpread, IsWell, SetData, begun_but, built_but, built_of, inputs_of, is_live_in, set_but}
 
 -- ---- entries of numbers that are kept
 

@@ -1,8 +1,7 @@
 -- What every set keeps to is kept where what was built takes the place of some segments.
-use Rattle.std.proofs.Common.{◌≡◌, ℕ, ◌+◌, ◌≤◌, Bool, true, false, List, [], ◌∷◌, ◌++◌, length, Option, None, Some, refl, sym, ap, subst, ◌∙◌, arith}
+use Rattle.std.proofs.Common.{◌≡◌, ℕ, ◌+◌, ◌≤◌, Bool, true, false, List, length, Option, None, Some, refl, sym, ap, subst, ◌∙◌, arith}
 use Rattle.std.specs.List.{All, sum_by}
 use Rattle.std.proofs.lemmas.Bool.{true≢false, false_from_ne_true}
-use Rattle.outer_io.specs.declared.file_name.FileName.{FileName}
 use Rattle.outer_io.specs.declared.file_name.FileName.TheVariants.{Segment}
 use Rattle.outer_io.specs.Files.{Files}
 use Rattle.point_codec.specs.Points.{Item}
@@ -13,7 +12,7 @@ use Rattle.segment_view.specs.Parts.{Part, lives_of, parts_among, parts_but}
 use Rattle.segment_build.specs.NewSegments.{NewSegmentData}
 use Rattle.file_names.specs.Names.{NameList, is_named}
 use Rattle.segment_set.specs.Sets.{IsSpread}
-use Rattle.segment_set.specs.Merges.{part_at, IsPut, Replaces}
+use Rattle.segment_set.specs.Merges.{part_at, Replaces}
 use Rattle.segment_set.proofs.Replaced.{one_if, place_in, places_in, parted, length_parted, total_placed, length_placed, all_placed, all_but, among_placed, among_but}
 
 -- 1 where the number is live in what was built

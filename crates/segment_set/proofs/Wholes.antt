@@ -14,7 +14,7 @@ use Rattle.segment_view.proofs.Living.{parts_more}
 use Rattle.segment_build.specs.NewSegments.{NewSegmentData, HasSomeEntries}
 use Rattle.file_names.specs.Names.{NameList}
 use Rattle.segment_set.specs.Merged.{IsWhole}
-use Rattle.segment_set.specs.Merges.{IsGathered, IsMerged, Replaces, part_at}
+use Rattle.segment_set.specs.Merges.{IsMerged, Replaces, part_at}
 use Rattle.segment_set.proofs.Replaced.{all_placed, id_of_part, length_placed}
 
 keeps_all : (keep : Part → Bool) (ps : List Part) → ((p : Part) → Contains ps p → keep p ≡ true) → filter keep ps ≡ ps

@@ -1,11 +1,9 @@
 -- What is read of the segments that a commit lists.
-use Rattle.std.specs.Prelude.{◌≡◌, ◌≤◌, ◌⊎◌, ℕ, length}
+use Rattle.std.specs.Prelude.{◌≡◌, ◌⊎◌, length}
 use Rattle.outer_io.specs.Files.{Files}
-use Rattle.live_bits.specs.LiveSet.{LiveSet}
 use Rattle.page_cache.specs.declared.faults.Damage.{Damage}
 use Rattle.commit_list.specs.declared.listed.Listed.{Listed}
 use Rattle.commit_list.specs.Commits.{CommitData}
-use Rattle.segment_file.specs.Heads.{Head}
 use Rattle.segment_file.specs.Damages.{IsHeadDamage, IsHeadDamageOf, IsLiveDamage, IsLiveDamageOf}
 use Rattle.stored_index.specs.Stored.{HasHead, HasLive}
 use Rattle.segment_view.specs.Parts.{Part}

@@ -1,5 +1,5 @@
 -- What is written of segments when they are saved.
-use Rattle.std.specs.Prelude.{◌≡◌, ℕ, true, false, length}
+use Rattle.std.specs.Prelude.{◌≡◌, true, false, length}
 use Rattle.outer_io.specs.declared.file_name.FileName.TheVariants.{Live}
 use Rattle.outer_io.specs.Files.{Files, bytes_of}
 use Rattle.commit_list.specs.declared.listed.Listed.{Listed}

@@ -1,9 +1,8 @@
 -- What contracts see of a set of segments.
-use Rattle.std.specs.Prelude.{◌≡◌, ◌≤◌, ◌<◌, ◌+◌, ◌^◌, ℕ, Bool, true, false, if◌then◌else◌, List, [], ◌++◌, length, map, find, All, Option, None, Some, is_some, ℤ}
+use Rattle.std.specs.Prelude.{◌≡◌, ◌≤◌, ◌+◌, ◌^◌, ℕ, Bool, true, false, if◌then◌else◌, List, [], ◌++◌, length, map, find, All, Option, None, Some, ℤ}
 use Rattle.std.specs.List.{list_any}
 use Rattle.std.specs.List.Sorted.{IsNonDecreasingBy}
 use Rattle.std.specs.Str.{bytes_eq}
-use Rattle.outer_io.specs.declared.file_name.FileName.{FileName}
 use Rattle.outer_io.specs.declared.file_name.FileName.TheVariants.{Commit, Segment}
 use Rattle.point_codec.specs.Points.{Item}
 use Rattle.leaf_codec.specs.Leaves.{leaf_limit}

@@ -25,6 +25,3 @@ mod sweep;
 pub use faults::{AddFault, BeginFault, EndFault, SnapFault};
 pub use set::SegmentSet;
 pub use settings::Settings;
-
-#[cfg(test)]
-mod tests;

@@ -1,4 +1,4 @@
-use Rattle.std.proofs.Common.{◌≡◌, ◌∙◌}
+use Rattle.std.proofs.Common.{◌∙◌}
 use Rattle.segment_set.proofs.Attaching.{below_next, commit_unlisted, names_all, names_listed, names_next}
 use Rattle.segment_set.proofs.attach.names_of.Goals as goal
 

@@ -1,4 +1,4 @@
-use Rattle.std.proofs.Common.{◌<◌, ◌^◌, ℕ, get_or, arith}
+use Rattle.std.proofs.Common.{◌<◌, ◌^◌, get_or, arith}
 use Rattle.std.proofs.lemmas.Grind.{get_or_default_zero}
 use Rattle.segment_set.proofs.Chosen.{if_none}
 use Rattle.segment_set.proofs.choosing.choice.Goals as goal

@@ -1,10 +1,9 @@
-use Rattle.std.proofs.Common.{◌≡◌, ◌<◌, ◌≤◌, ◌+◌, ◌∙◌, ℕ, Bool, List, get_or, length, map, ap, subst, arith}
+use Rattle.std.proofs.Common.{◌≡◌, ◌<◌, ◌∙◌, ℕ, Bool, List, get_or, length, map, ap, subst, arith}
 use Rattle.std.specs.List.{count_by}
 use Rattle.std.proofs.lemmas.List.{length-map}
 use Rattle.documents.specs.Entries.{is_among}
 use Rattle.merge_policy.specs.Choice.{free_count}
 use Rattle.segment_view.specs.Parts.{Part, ids_of}
-use Rattle.segment_set.specs.Sets.{sizes_of}
 use Rattle.segment_set.proofs.Chosen.{chosen_apart, chosen_two}
 use Rattle.segment_set.proofs.Leveled.{few_segments, pinned}
 use Rattle.segment_set.proofs.Places.{map_heads}

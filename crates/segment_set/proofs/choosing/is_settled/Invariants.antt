@@ -1,4 +1,4 @@
-use Rattle.std.proofs.Common.{◌≡◌, ◌≤◌, length, take}
+use Rattle.std.proofs.Common.{◌≤◌, length, take}
 use Rattle.std.specs.List.{All}
 use Rattle.segment_view.specs.Parts.{parts_among}
 use Rattle.segment_set.specs.Merged.{IsWhole}

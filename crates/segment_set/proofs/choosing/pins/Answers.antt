@@ -1,4 +1,4 @@
-use Rattle.std.proofs.Common.{◌≡◌, ◌∙◌, ℕ, Bool, List, [], ◌∷◌, ◌++◌, eqb, map, take, ap, sym}
+use Rattle.std.proofs.Common.{◌≡◌, ◌∙◌, Bool, List, [], ◌∷◌, ◌++◌, eqb, map, take, ap, sym}
 use Rattle.std.specs.List.{list_any}
 use Rattle.documents.specs.Entries.{is_among}
 use Rattle.segment_file.specs.Heads.{Head}

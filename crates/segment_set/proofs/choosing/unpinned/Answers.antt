@@ -1,11 +1,9 @@
-use Rattle.std.proofs.Common.{◌≡◌, ◌+◌, ◌∙◌, ℕ, Bool, true, false, List, [], ◌∷◌, ◌++◌, cond, eqb, not, map, take, ap, sym, Vec, Global}
+use Rattle.std.proofs.Common.{◌≡◌, ◌∙◌, ℕ, Bool, List, [], ◌∷◌, ◌++◌, cond, eqb, not, map, take, ap, sym, Vec, Global}
 use Rattle.std.specs.List.{filter, list_any}
 use Rattle.std.proofs.lemmas.List.{append-nil, take_all}
 use Rattle.documents.specs.Entries.{is_among}
 use Rattle.segment_file.specs.Heads.{Head}
-use Rattle.segment_view.specs.Parts.{heads_of}
 use Rattle.segment_set.proofs.Places.{kept_more, map_heads}
-use Rattle.segment_set.proofs.choosing.unpinned.Given as given
 use Rattle.segment_set.proofs.choosing.unpinned.Goals.{else-not-contains, then-not-contains+in_ok-push}
 use Rattle.segment_set.proofs.choosing.unpinned.Goals as goal
 

@@ -1,4 +1,4 @@
-use Rattle.std.proofs.Common.{◌≡◌, ◌≤◌, ℕ, List, length, All, true, Err, ap, sym, subst, ◌∙◌, inl, inr, arith}
+use Rattle.std.proofs.Common.{◌≡◌, ◌≤◌, List, length, All, true, Err, ap, sym, subst, ◌∙◌, inl, inr, arith}
 use Rattle.std.proofs.lemmas.Bool.Decides.{nat_tests}
 use Rattle.std.proofs.lemmas.Result.{err_from_is_err_and}
 use Rattle.point_codec.specs.Points.{Item}
@@ -9,7 +9,6 @@ use Rattle.segment_file.specs.Damages.{IsLeafDamageOf}
 use Rattle.nearest_query.proofs.Parts.{on_damage}
 use Rattle.segment_view.specs.Parts.{live_in_parts, parts_among, has_live}
 use Rattle.segment_view.specs.Damages.{IsPartDamage}
-use Rattle.segment_build.specs.NewSegments.{NewSegmentData}
 use Rattle.segment_set.specs.Merges.{HoldsLive, IsGathered}
 use Rattle.segment_set.specs.Damages.{IsDoubt, IsMergeDamage, IsMergeDamageOf, Doubt}
 use Rattle.segment_set.proofs.Doubted.{doubt_among, part_shown, whole_shows}

@@ -1,7 +1,6 @@
-use Rattle.std.proofs.Common.{◌≡◌, ◌≤◌, ℕ, Bool, List, length, sym, ap, subst, ◌∙◌, arith}
+use Rattle.std.proofs.Common.{◌≡◌, List, length, ap, subst, ◌∙◌, arith}
 use Rattle.point_codec.specs.Points.{Item}
 use Rattle.point_codec.specs.Seen.{items_of}
-use Rattle.live_bits.specs.LiveSet.{is_live}
 use Rattle.documents.specs.Entries.{has_entry}
 use Rattle.segment_set.specs.Merges.{HoldsLive}
 use Rattle.segment_set.proofs.Fresh.{holds_live, items_length, made}

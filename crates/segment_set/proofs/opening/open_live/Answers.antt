@@ -1,4 +1,4 @@
-use Rattle.std.proofs.Common.{◌≡◌, ◌∙◌, length, sym, ap}
+use Rattle.std.proofs.Common.{◌∙◌, length, sym, ap}
 use Rattle.std.proofs.lemmas.Result.{err_from_is_err_and}
 use Rattle.outer_io.specs.declared.file_name.FileName.TheVariants.{Live}
 use Rattle.live_bits.specs.LiveSet.{LiveSet}

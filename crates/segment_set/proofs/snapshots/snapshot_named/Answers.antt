@@ -1,8 +1,8 @@
 -- There is a snapshot of the name.
-use Rattle.std.proofs.Common.{◌≡◌, drop, List, [], ◌∙◌, sym, ap, arith}
+use Rattle.std.proofs.Common.{◌∙◌, sym, ap}
 use Rattle.std.proofs.lemmas.Bool.{both_ways}
 use Rattle.std.proofs.lemmas.List.{drop_all}
-use Rattle.segment_set.specs.Sets.{has_name, view_of}
+use Rattle.segment_set.specs.Sets.{view_of}
 use Rattle.segment_set.proofs.Viewed.{none_named}
 use Rattle.segment_set.proofs.snapshots.snapshot_named.Goals as goal
 

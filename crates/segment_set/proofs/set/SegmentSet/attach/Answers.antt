@@ -1,5 +1,5 @@
 -- The set is the commit's, and what an error says of the files is so.
-use Rattle.std.proofs.Common.{◌≡◌, ◌∙◌, ◌+◌, ◌≤◌, ◌↔◌, ℕ, List, [], Some, sym, ap, subst, arith}
+use Rattle.std.proofs.Common.{◌≡◌, ◌≤◌, ℕ, List, sym, ap, subst}
 use Rattle.std.specs.Prelude.{Contains, IsTrue}
 use Rattle.std.proofs.lemmas.Result.{err_from_is_err_and}
 use Rattle.point_codec.specs.Seen.{items_of}
@@ -9,15 +9,13 @@ use Rattle.page_cache.specs.Evidence.{FaultShows}
 use Rattle.page_cache.proofs.Damages.{fault_weaker}
 use Rattle.commit_list.specs.declared.listed.Listed.{Listed}
 use Rattle.stored_index.specs.Segments.{places}
-use Rattle.stored_index.specs.Stored.{HaveLive}
 use Rattle.segment_view.specs.Parts.{lives_of}
-use Rattle.file_names.specs.Names.{is_named}
 use Rattle.segment_set.specs.Sets.{IsWell, SetData}
 use Rattle.segment_set.specs.Seen.{Sees}
 use Rattle.segment_set.specs.Kept.{IsAtRest}
 use Rattle.segment_set.specs.Damages.{IsAttachDamage, IsAttachDamageOf, IsMisplaced}
 use Rattle.segment_set.specs.Opened.{IsListedDamage, IsListedDamageOf}
-use Rattle.segment_set.proofs.Attaching.{at_rest_attached, attached, attached_is, listed_of, listed_shown, misplaced_of, misplaced_shown, opened_heads, opened_lives, sees_attached, undefined_fault, well_attached, whole_listed, whole_placed}
+use Rattle.segment_set.proofs.Attaching.{at_rest_attached, attached_is, listed_of, listed_shown, misplaced_of, misplaced_shown, opened_heads, opened_lives, sees_attached, undefined_fault, well_attached, whole_listed, whole_placed}
 use Rattle.segment_set.proofs.Saving.{done_cause}
 use Rattle.segment_set.proofs.set.SegmentSet.attach.Goals as goal
 

@@ -1,5 +1,5 @@
 -- The set afterwards is the one before without the document.
-use Rattle.std.proofs.Common.{◌≡◌, ℕ, List, sym, ap, subst, ◌∙◌}
+use Rattle.std.proofs.Common.{◌≡◌, sym, ap, subst, ◌∙◌}
 use Rattle.point_codec.specs.Seen.{items_of}
 use Rattle.documents.specs.Documents.{deleted}
 use Rattle.segment_set.specs.Sets.{IsWell, SetData, is_live_in, set_but}

@@ -1,16 +1,13 @@
 -- The hits of a visit are taken out.
-use Rattle.std.proofs.Common.{◌≡◌, ℕ, ◌+◌, ◌≤◌, List, length, refl, sym, ap, subst, ◌∙◌}
+use Rattle.std.proofs.Common.{◌≡◌, ℕ, List, length, refl, sym, ap, subst, ◌∙◌}
 use Rattle.std.proofs.lemmas.Result.{err_from_is_err_and}
-use Rattle.outer_io.specs.Files.{Files}
 use Rattle.point_codec.specs.Points.{Region, in_box}
 use Rattle.cell_relate.specs.Boxes.{Asked, crosses}
-use Rattle.documents.specs.Documents.{Document, hits, without}
-use Rattle.index_model.specs.State.{Index}
+use Rattle.documents.specs.Documents.{Document, hits}
 use Rattle.segment_view.specs.Parts.{heads_of}
 use Rattle.segment_view.specs.Costs.{AreTouched}
 use Rattle.segment_set.specs.Seen.{Sees}
 use Rattle.segment_set.proofs.Changed.{docs_but, docs_hit}
-use Rattle.segment_set.proofs.set.SegmentSet.delete_box.Given as given
 use Rattle.segment_set.proofs.set.SegmentSet.delete_box.Goals as goal
 
 pub returns-in_err-hits-clause-reads : goal.returns-in_err-hits-clause-reads

@@ -1,4 +1,4 @@
-use Rattle.std.proofs.Common.{◌≡◌, ◌≤◌, ◌+◌, ℕ, IsTrue, subst, ◌∙◌, arith}
+use Rattle.std.proofs.Common.{IsTrue, subst, arith}
 use Rattle.std.proofs.lemmas.Result.{err_from_is_err_and, on_ok_weaker}
 use Rattle.page_cache.specs.Causes.{HasPageCause}
 use Rattle.page_cache.proofs.Damages.{on_damage_weaker}

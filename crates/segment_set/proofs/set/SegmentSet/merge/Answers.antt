@@ -1,15 +1,12 @@
-use Rattle.std.proofs.Common.{◌≡◌, ◌≤◌, length, lit<, ℕ, true, false, IsTrue, List, sym, ap, subst, ◌∙◌}
+use Rattle.std.proofs.Common.{◌≡◌, ◌≤◌, length, lit<, IsTrue, sym, ap, subst, ◌∙◌}
 use Rattle.std.specs.Result.{OnOk}
 use Rattle.std.proofs.lemmas.Result.{on_ok_weaker}
-use Rattle.outer_io.specs.declared.file_name.FileName.TheVariants.{Segment}
 use Rattle.point_codec.specs.Seen.{items_of}
-use Rattle.documents.specs.Entries.{is_among}
 use Rattle.documents.proofs.Kept.{among_to}
 use Rattle.page_cache.specs.Cache.{Agrees}
 use Rattle.page_cache.specs.Evidence.{OnDamage}
 use Rattle.segment_view.specs.Parts.{AreRead, ids_of, live_in_parts, parts_among}
-use Rattle.file_names.specs.Names.{is_named}
-use Rattle.segment_set.specs.Sets.{IsWell, SetData, inputs_of}
+use Rattle.segment_set.specs.Sets.{SetData, inputs_of}
 use Rattle.segment_set.specs.Seen.{Sees}
 use Rattle.segment_set.specs.Damages.{IsDoubt, IsMergeDamage, IsMergeDamageOf}
 use Rattle.segment_set.specs.Merged.{IsApart, KeepsEntries, Rearranges}

@@ -1,10 +1,8 @@
-use Rattle.std.proofs.Common.{◌≡◌, IsTrue, sym, ap, subst, ◌∙◌}
+use Rattle.std.proofs.Common.{IsTrue, ◌∙◌}
 use Rattle.std.proofs.lemmas.Result.{on_ok_weaker}
-use Rattle.segment_set.specs.Merged.{Rearranges}
 use Rattle.segment_set.proofs.Lively.{merged_lives, settled_lives}
 use Rattle.segment_set.proofs.Rearranged.{rearranges_none}
 use Rattle.segment_set.proofs.Wholes.{merged_one, settled_one}
-use Rattle.segment_set.proofs.set.SegmentSet.merge_all.Given as given
 use Rattle.segment_set.proofs.set.SegmentSet.merge_all.Goals as goal
 
 pub returns-in_err-ids-clause-stays : goal.returns-in_err-ids-clause-stays

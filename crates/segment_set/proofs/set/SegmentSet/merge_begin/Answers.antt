@@ -1,19 +1,16 @@
-use Rattle.std.proofs.Common.{◌≡◌, ◌≤◌, ◌<◌, ℕ, true, false, IsTrue, List, length, map, take, get_or, ltb, Option, None, Some, Err, refl, sym, ap, subst, ◌∙◌, lit<}
+use Rattle.std.proofs.Common.{◌≡◌, ◌≤◌, ◌<◌, ℕ, true, List, length, take, ltb, Some, Err, refl, sym, ap, subst, ◌∙◌, lit<}
 use Rattle.std.specs.List.{All, filter}
 use Rattle.std.proofs.lemmas.Result.{err_from_is_err_and}
-use Rattle.point_codec.specs.Points.{Item}
 use Rattle.point_codec.specs.Seen.{items_of}
 use Rattle.outer_io.specs.Files.{Files}
 use Rattle.documents.specs.Entries.{is_among}
 use Rattle.page_cache.specs.Cache.{Agrees}
 use Rattle.page_cache.specs.Evidence.{OnDamage}
-use Rattle.segment_view.specs.Parts.{Part, AreRead, ids_of, live_in_parts, parts_among}
-use Rattle.segment_build.specs.NewSegments.{NewSegmentData}
+use Rattle.segment_view.specs.Parts.{AreRead, ids_of, live_in_parts, parts_among}
 use Rattle.segment_set.specs.declared.set.SegmentSet.TheInside.{Inside}
 use Rattle.segment_set.specs.Sets.{BegunMerge, SetData}
 use Rattle.segment_set.specs.Seen.{Sees}
 use Rattle.segment_set.specs.Damages.{IsDoubt, IsMergeDamage, IsMergeDamageOf}
-use Rattle.segment_set.specs.Faults.{OnBeginDamage}
 use Rattle.segment_set.specs.Merged.{chosen_ids, each_once}
 use Rattle.segment_set.specs.Merges.{IsGathered, MakesLive}
 use Rattle.segment_set.proofs.Faulted.{begun_cause, begun_damage, begun_memory}

@@ -1,15 +1,11 @@
-use Rattle.std.proofs.Common.{◌≡◌, ℕ, true, false, IsTrue, List, Option, None, Some, refl, sym, ap, subst, ◌∙◌, lit<}
-use Rattle.std.specs.List.{All}
+use Rattle.std.proofs.Common.{◌≡◌, ℕ, true, IsTrue, List, Option, sym, ap, subst, ◌∙◌, lit<}
 use Rattle.std.proofs.lemmas.List.Elements.{All-contains}
 use Rattle.std.proofs.lemmas.Result.{err_from_is_err_and}
-use Rattle.outer_io.specs.declared.file_name.FileName.TheVariants.{Segment}
 use Rattle.point_codec.specs.Seen.{items_of}
 use Rattle.documents.specs.Entries.{is_among}
 use Rattle.documents.proofs.Kept.{among_to}
-use Rattle.index_model.specs.State.{Index}
 use Rattle.segment_view.specs.Parts.{Part, ids_of}
 use Rattle.segment_build.specs.NewSegments.{NewSegmentData}
-use Rattle.file_names.specs.Names.{is_named}
 use Rattle.segment_set.specs.declared.set.SegmentSet.TheInside.{Inside}
 use Rattle.segment_set.specs.Sets.{BegunMerge, IsWell, SetData, inputs_of}
 use Rattle.segment_set.specs.Seen.{Sees}

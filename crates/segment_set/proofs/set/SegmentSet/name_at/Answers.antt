@@ -1,4 +1,4 @@
-use Rattle.std.proofs.Common.{◌≡◌, ◌∙◌, ◌<◌, List, length, ap, sym, subst, Some}
+use Rattle.std.proofs.Common.{◌∙◌, ◌<◌, List, length, ap, sym, subst}
 use Rattle.std.specs.List.{slice_get}
 use Rattle.std.proofs.lemmas.Option.{slice_get-get_or}
 use Rattle.outer_io.specs.declared.file_name.FileName.{FileName}

@@ -1,6 +1,6 @@
-use Rattle.std.proofs.Common.{◌≡◌, ◌∙◌, inr, sym, ap}
+use Rattle.std.proofs.Common.{◌∙◌, inr, sym, ap}
 use Rattle.segment_set.specs.Sets.{SetData}
-use Rattle.segment_set.proofs.Sweeping.{file_shown, need_listed, unneeded_listed, unneeded_unsaved}
+use Rattle.segment_set.proofs.Sweeping.{file_shown, unneeded_listed, unneeded_unsaved}
 use Rattle.segment_set.proofs.set.SegmentSet.needs.Goals as goal
 
 pub returns-then-shows-clause-yes : goal.returns-then-shows-clause-yes

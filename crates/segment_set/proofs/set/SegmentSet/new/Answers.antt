@@ -1,5 +1,5 @@
 -- A set without documents keeps to its rules, and is seen as a new index.
-use Rattle.std.proofs.Common.{◌≡◌, [], sym, ap, subst, ◌∙◌}
+use Rattle.std.proofs.Common.{◌≡◌, sym, ap, subst, ◌∙◌}
 use Rattle.outer_io.specs.declared.file_name.FileName.TheVariants.{Commit}
 use Rattle.point_codec.specs.Seen.{items_of}
 use Rattle.index_model.specs.State.{new_index}

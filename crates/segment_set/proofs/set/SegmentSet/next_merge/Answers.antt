@@ -1,4 +1,4 @@
-use Rattle.std.proofs.Common.{◌≡◌, ◌≤◌, ◌<◌, ◌∙◌, ℕ, List, length, subst, sym}
+use Rattle.std.proofs.Common.{◌≤◌, ◌<◌, ℕ, List, length, subst, sym}
 use Rattle.std.specs.Prelude.{IfOk, IfNone, IfSome}
 use Rattle.merge_policy.specs.Choice.{free_count}
 use Rattle.segment_view.specs.Parts.{parts_among}

@@ -1,5 +1,5 @@
 -- The snapshots of other names stay.
-use Rattle.std.proofs.Common.{◌≡◌, List, not, sym, ap, subst, ◌∙◌}
+use Rattle.std.proofs.Common.{◌≡◌, not, sym, ap, subst, ◌∙◌}
 use Rattle.std.specs.List.{filter}
 use Rattle.std.specs.Str.{bytes_eq}
 use Rattle.point_codec.specs.Seen.{items_of}

@@ -1,10 +1,8 @@
-use Rattle.std.proofs.Common.{◌≡◌, ℕ, ◌∙◌, not, sym, ap, subst, refl}
+use Rattle.std.proofs.Common.{◌≡◌, ◌∙◌, not, sym, ap, subst, refl}
 use Rattle.std.specs.Prelude.{IsTrue}
 use Rattle.std.specs.List.{filter}
 use Rattle.outer_io.specs.declared.file_name.FileName.{FileName}
-use Rattle.outer_io.specs.declared.file_name.FileName.TheVariants.{Segment}
 use Rattle.outer_io.specs.Names.{same_name}
-use Rattle.page_cache.specs.declared.cache.PageCache.{PageCache}
 use Rattle.page_cache.specs.Cache.{Agrees, KeepsFile}
 use Rattle.file_names.specs.Names.{NameList}
 use Rattle.segment_set.specs.Sets.{IsWell, SetData}

@@ -1,8 +1,6 @@
 -- What is live now is kept under the name.
-use Rattle.std.proofs.Common.{◌≡◌, ◌+◌, ◌<◌, ◌++◌, List, [], ◌∷◌, length, sym, ap, subst, ◌∙◌}
-use Rattle.outer_io.specs.Files.{Files}
+use Rattle.std.proofs.Common.{◌≡◌, ◌<◌, ◌++◌, [], ◌∷◌, sym, ap, subst, ◌∙◌}
 use Rattle.point_codec.specs.Seen.{items_of}
-use Rattle.index_model.specs.State.{Index}
 use Rattle.segment_set.specs.Sets.{IsWell, SetData}
 use Rattle.segment_set.specs.Seen.{Sees}
 use Rattle.segment_set.proofs.Snapped.{sees_snapped, set_snapped, snapped_is, well_snapped}

@@ -1,12 +1,9 @@
-use Rattle.std.proofs.Common.{◌≡◌, ◌≤◌, ◌+◌, ◌<◌, ℕ, IsTrue, List, [], length, lit<, refl, sym, ap, subst, ◌∙◌, inl, inr, rules, arith}
+use Rattle.std.proofs.Common.{◌≡◌, ◌≤◌, ◌+◌, ◌<◌, ℕ, IsTrue, List, [], length, lit<, refl, sym, ap, subst, ◌∙◌, inl, inr, arith}
 use Rattle.std.specs.Result.{OnOk}
 use Rattle.std.specs.List.{All}
 use Rattle.std.proofs.lemmas.Bool.Decides.{nat_tests}
 use Rattle.std.proofs.lemmas.Result.{on_err_weaker, on_ok_weaker}
-use Rattle.outer_io.specs.declared.file_name.FileName.TheVariants.{Segment}
 use Rattle.point_codec.specs.Seen.{items_of}
-use Rattle.documents.specs.Entries.{is_among}
-use Rattle.file_names.specs.Names.{is_named}
 use Rattle.segment_view.specs.Parts.{Part}
 use Rattle.merge_policy.specs.Choice.{free_count}
 use Rattle.segment_set.specs.Sets.{IsNamed, IsWell, SetData, inputs_of, pins_of, sizes_of}

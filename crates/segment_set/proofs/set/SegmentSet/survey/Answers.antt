@@ -1,5 +1,5 @@
 -- What is surveyed are the segments of the view.
-use Rattle.std.proofs.Common.{◌≡◌, ◌+◌, ◌≤◌, List, sym, ap, subst, ◌∙◌}
+use Rattle.std.proofs.Common.{◌≡◌, ◌+◌, ◌≤◌, List, ap, subst, ◌∙◌}
 use Rattle.script_lang.specs.Seen.{viewed}
 use Rattle.segment_view.specs.Parts.{Part, heads_of}
 use Rattle.segment_view.specs.Costs.{AreTested, AreTouched, leaves_in}

@@ -1,4 +1,4 @@
-use Rattle.std.proofs.Common.{◌≡◌, ◌∙◌, ◌<◌, ◌≤◌, ◌-◌, length, take, refl, sym, ap, subst, arith}
+use Rattle.std.proofs.Common.{◌∙◌, ◌≤◌, length, take, refl, ap, arith}
 use Rattle.std.specs.Prelude.{IsTrue}
 use Rattle.std.proofs.lemmas.List.Elements.{All-nil}
 use Rattle.segment_set.specs.Sets.{SetData}

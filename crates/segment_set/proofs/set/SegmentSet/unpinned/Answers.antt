@@ -1,4 +1,4 @@
-use Rattle.std.proofs.Common.{◌≡◌, ◌∙◌, ℕ, List, not, None, Option, sym, ap, subst}
+use Rattle.std.proofs.Common.{◌≡◌, ◌∙◌, ℕ, List, not, None, ap, subst}
 use Rattle.std.specs.Prelude.{IfOk}
 use Rattle.std.specs.List.{filter}
 use Rattle.documents.specs.Entries.{is_among}
