@@ -1,6 +1,7 @@
 //! The program `bkd`: an index of integer points in a folder.
 #![tactic(auto)]
 
+use bkd_build::OpenGate;
 use bkd_top::{Status, code, run, status_line};
 use outer_io::{DirFolder, StdSink, StdSource, write_all};
 use std::io::{Lock, Read};
@@ -10,7 +11,7 @@ use std::{env, io};
 fn main(rt: HostRuntime) -> ExitCode {
     let status = status_of(&rt);
     let mut line = Vec::new(rt.alloc());
-    if status_line(&status, &mut line).is_ok() {
+    if status_line(rt.alloc(), &status, &mut line).is_ok() {
         // the exit status says the same, so nothing is lost where standard error takes no more
         let _ = write_all(&mut StdSink::new(rt.stderr().lock()), line.as_slice());
     }
@@ -43,10 +44,12 @@ fn status_of(rt: &HostRuntime) -> Status {
     let mut input = StdSource::new(rt.stdin().lock());
     let mut output = StdSink::new(rt.stdout().lock());
     run(
+        rt,
         alloc,
         words.as_slice(),
         &mut input,
         &mut folder,
         &mut output,
+        &OpenGate,
     )
 }

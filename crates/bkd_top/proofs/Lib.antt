@@ -1,2 +1,5 @@
 pub mod Answered
+pub mod Ending
 pub mod Going
+pub mod Lined
+pub mod Opened

@@ -1,5 +1,7 @@
 pub mod Answers
+pub mod Origins
 pub mod Progress
 pub mod Runs
+pub mod Stops
 pub mod Texts
 pub mod Words

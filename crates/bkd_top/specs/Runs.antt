@@ -1,74 +1,108 @@
--- How a run ends.
-use Rattle.std.specs.Prelude.{ℕ, ◌+◌, ◌<◌, ◌≡◌, List, ◌++◌}
+-- How a run over a folder ends.
+use Rattle.std.specs.Prelude.{ℕ, ◌+◌, ◌<◌, ◌≤◌, ◌≡◌, ◌⊎◌, true, List, [], ◌∷◌, ◌++◌, length, Result, Ok, Err, IsErrOf}
+use Rattle.outer_io.specs.Counts.{Rose}
+use Rattle.outer_io.specs.Files.{Files}
 use Rattle.outer_io.specs.Parts.{WritesPart}
-use Rattle.index_model.specs.Script.{text_of, refused_in}
-use Rattle.bkd_top.specs.Progress.{Place, WritesLines}
+use Rattle.index_model.specs.State.{State}
+use Rattle.index_model.specs.Script.{answer, text_of, state_after, refused_in, final, commits, stored_after}
+use Rattle.stored_index.specs.Stored.{IsStored}
+use Rattle.bkd_top.specs.Progress.{Place}
+use Rattle.bkd_top.specs.declared.stop.Stop.{Stop}
+use Rattle.bkd_top.specs.declared.stop.Stop.TheVariants as stop
 use Rattle.bkd_top.specs.declared.status.Status.{Status}
 use Rattle.bkd_top.specs.declared.status.Status.TheVariants as status
 
--- What went out from a place on. A script that is done was answered whole. After a fault of the sink a prefix of the answers
--- went out; for want of memory, the answers of some lines, each whole. Where no line was done nothing went out.
-abbrev pub Writes : Place → List ℕ → Status → Type 0
-Writes place new status.Done = new ≡ place.written ++ text_of place.line place.state place.rest
-Writes place new (status.SomeRefused count) = new ≡ place.written ++ text_of place.line place.state place.rest
-Writes place new status.SinkFault = WritesPart place.written new (text_of place.line place.state place.rest)
-Writes place new status.Memory = WritesLines place new
-Writes place new status.Usage = new ≡ place.written
-Writes place new status.SourceFault = new ≡ place.written
-Writes place new status.FolderFault = new ≡ place.written
-Writes place new status.TooLarge = new ≡ place.written
+-- the lines were done to their end: what was written is, line for line, the answers, and the folder stores what the lines leave
+pub record Finishes (told : Type 0) (p : Place) (files : Files) (new : List ℕ) : Type 0 where
+  pub text : told → new ≡ p.written ++ text_of p.line p.state p.rest
+  pub stored : IsStored files (final (state_after p.line p.state p.rest))
 
--- how many lines were refused: none, or the number that is told
-abbrev pub Counts : Place → Status → Type 0
-Counts place status.Done = place.refused + refused_in place.line place.state place.rest ≡ 0
-Counts place (status.SomeRefused count) = (0 < count) × (count ≡ place.refused + refused_in place.line place.state place.rest)
-Counts place status.SinkFault = Unit {0}
-Counts place status.Memory = Unit {0}
-Counts place status.Usage = Unit {0}
-Counts place status.SourceFault = Unit {0}
-Counts place status.FolderFault = Unit {0}
-Counts place status.TooLarge = Unit {0}
+-- a commit in flight was done: that of the next line, where it asks for one, or after all lines that of the end
+abbrev pub InFlight : Files → (line : ℕ) → State → (rest : List (List ℕ)) → Type 0
+InFlight files line state [] = IsStored files (final state)
+InFlight files line state (l ∷ ls) = (commits state l ≡ true) × IsStored files (final (answer line state l).state)
 
--- the script was read, and was done to its end or until the sink failed
+-- The folder failed, or memory was wanting: the answers of some lines went out whole, and nothing else. The folder stores what these lines have stored, or
+-- the commit in flight.
+pub record Stops (told : Type 0) (p : Place) (files : Files) (new : List ℕ) : Type 0 where
+  pub done : List (List ℕ)
+  pub rest : List (List ℕ)
+  pub whole : p.rest ≡ done ++ rest
+  pub text : told → new ≡ p.written ++ text_of p.line p.state done
+  pub stored : IsStored files (stored_after p.line p.stored p.state done) ⊎ InFlight files (p.line + length done) (state_after p.line p.state done) rest
+
+-- The sink failed at a line: the answers before it went out whole, and a prefix of its own. The folder stores what the lines up to it have stored.
+pub record Breaks (told : Type 0) (p : Place) (files : Files) (new : List ℕ) : Type 0 where
+  pub done : List (List ℕ)
+  pub at : List ℕ
+  pub rest : List (List ℕ)
+  pub whole : p.rest ≡ done ++ at ∷ rest
+  pub text : told → WritesPart (p.written ++ text_of p.line p.state done) new (answer (p.line + length done) (state_after p.line p.state done) at).text
+  pub stored : IsStored files (stored_after p.line p.stored p.state (done ++ at ∷ []))
+
+-- no line was done
+pub record Waits (told : Type 0) (p : Place) (files : Files) (new : List ℕ) : Type 0 where
+  pub text : told → new ≡ p.written
+  pub stored : IsStored files p.stored
+
+-- how a run ends whose folder stored a state: it never ends as damaged
+abbrev pub Ends : (told : Type 0) → Place → Files → List ℕ → Status → Type 0
+Ends told p files new status.Done = Finishes told p files new × (p.refused + refused_in p.line p.state p.rest ≡ 0)
+Ends told p files new (status.SomeRefused count) = Finishes told p files new × (0 < count) × (count ≡ p.refused + refused_in p.line p.state p.rest)
+Ends told p files new status.FolderFault = Stops told p files new
+Ends told p files new status.Memory = Stops told p files new
+Ends told p files new status.SinkFault = Breaks told p files new
+Ends told p files new (status.Damaged damage) = ⊥
+Ends told p files new status.Usage = Waits told p files new
+Ends told p files new status.SourceFault = Waits told p files new
+Ends told p files new status.TooLarge = Waits told p files new
+
+-- the same of lines alone: they are all answered, and so many were refused, or the run stops
+abbrev pub EndsLines : (told : Type 0) → Place → Files → List ℕ → Result ℕ Stop → Type 0
+EndsLines told p files new (Ok count) = Finishes told p files new × (count ≡ p.refused + refused_in p.line p.state p.rest)
+EndsLines told p files new (Err stop.FolderFault) = Stops told p files new
+EndsLines told p files new (Err stop.Memory) = Stops told p files new
+EndsLines told p files new (Err stop.SinkFault) = Breaks told p files new
+EndsLines told p files new (Err (stop.Damaged damage)) = ⊥
+
+-- the counts of faults of the folder and of the sink never fall, and the one whose fault it is rose
+pub record HasStopCause {T : Type 0} (folder_before folder_now sink_before sink_now : ℕ) (result : Result T Stop) : Type 0 where
+  pub folder_later : folder_before ≤ folder_now
+  pub sink_later : sink_before ≤ sink_now
+  pub folder : IsErrOf result stop.FolderFault → Rose folder_before folder_now
+  pub sink : IsErrOf result stop.SinkFault → Rose sink_before sink_now
+
+-- the input was read to its end
 abbrev pub GoesOn : Status → Type 0
 GoesOn status.Done = Unit {0}
 GoesOn (status.SomeRefused count) = Unit {0}
 GoesOn status.SinkFault = Unit {0}
+GoesOn status.FolderFault = Unit {0}
+GoesOn (status.Damaged damage) = Unit {0}
 GoesOn status.Memory = ⊥
 GoesOn status.Usage = ⊥
 GoesOn status.SourceFault = ⊥
-GoesOn status.FolderFault = ⊥
 GoesOn status.TooLarge = ⊥
 
--- the script was done to its end
-abbrev pub IsFinished : Status → Type 0
-IsFinished status.Done = Unit {0}
-IsFinished (status.SomeRefused count) = Unit {0}
-IsFinished status.SinkFault = ⊥
-IsFinished status.Memory = ⊥
-IsFinished status.Usage = ⊥
-IsFinished status.SourceFault = ⊥
-IsFinished status.FolderFault = ⊥
-IsFinished status.TooLarge = ⊥
+-- nothing was done
+abbrev pub DoesNothing : Status → Type 0
+DoesNothing status.Usage = Unit {0}
+DoesNothing status.SourceFault = Unit {0}
+DoesNothing status.TooLarge = Unit {0}
+DoesNothing status.Done = ⊥
+DoesNothing (status.SomeRefused count) = ⊥
+DoesNothing status.SinkFault = ⊥
+DoesNothing status.Memory = ⊥
+DoesNothing status.FolderFault = ⊥
+DoesNothing (status.Damaged damage) = ⊥
 
--- the folder was not touched
-abbrev pub LeavesFolder : Status → Type 0
-LeavesFolder status.Usage = Unit {0}
-LeavesFolder status.SourceFault = Unit {0}
-LeavesFolder status.TooLarge = Unit {0}
-LeavesFolder status.Done = ⊥
-LeavesFolder (status.SomeRefused count) = ⊥
-LeavesFolder status.SinkFault = ⊥
-LeavesFolder status.Memory = ⊥
-LeavesFolder status.FolderFault = ⊥
-
--- the lines were done to their end, or until the sink failed or memory was wanting
-abbrev pub EndsLines : Status → Type 0
-EndsLines status.Done = Unit {0}
-EndsLines (status.SomeRefused count) = Unit {0}
-EndsLines status.SinkFault = Unit {0}
-EndsLines status.Memory = Unit {0}
-EndsLines status.Usage = ⊥
-EndsLines status.SourceFault = ⊥
-EndsLines status.FolderFault = ⊥
-EndsLines status.TooLarge = ⊥
+abbrev pub IsDamaged : Status → Type 0
+IsDamaged (status.Damaged damage) = Unit {0}
+IsDamaged status.Usage = ⊥
+IsDamaged status.SourceFault = ⊥
+IsDamaged status.TooLarge = ⊥
+IsDamaged status.Done = ⊥
+IsDamaged (status.SomeRefused count) = ⊥
+IsDamaged status.SinkFault = ⊥
+IsDamaged status.Memory = ⊥
+IsDamaged status.FolderFault = ⊥

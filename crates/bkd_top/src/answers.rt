@@ -1,35 +1,29 @@
 //! The answer to one line.
 
-ghost use Rattle.std.specs.Prelude.{◌≡◌, ◌≤◌, ◌++◌, Some, None, IfOk, IsErrOf, OnErr, IsTrue};
+ghost use Rattle.std.specs.Prelude.{◌≡◌, ◌≢◌, ◌≤◌, ◌++◌, ◌⊎◌, ℕ, List, Some, None, true, IfOk, IsErrOf, OnErr, IsTrue};
 ghost use Rattle.outer_io.specs.Faults.{Rose};
+ghost use Rattle.page_cache.specs.Causes.{HasPageCause};
+ghost use Rattle.script_lang.specs.Reading.{Says, read};
+ghost use Rattle.script_lang.specs.Replies.{line_fault_text, why_text};
+ghost use Rattle.script_lang.specs.Seen.{IsWithinLimits, request_of};
+ghost use Rattle.index_model.specs.State.{Index, State};
 ghost use Rattle.index_model.specs.Script.{answer};
-ghost use Rattle.bkd_top.specs.Answers.{IsAnswer, IsOpening, IsSent, IsWithin};
+ghost use Rattle.bkd_top.specs.Answers.{Answers, IsOpening, IsSent, IsWithin, Replies, Stands};
+ghost use Rattle.bkd_top.specs.Runs.{HasStopCause};
 
+use crate::lines::Work;
 use crate::status::Memory;
-use index_model::{Applied, ListSession};
-use outer_io::{Sink, write_all};
-use script_lang::{First, LineFault, put_line_fault, put_ok, put_why, read_first, read_line};
-use std::alloc::{AllocError, Global};
-
-/// Why a line was not answered.
-#[derive(Clone, Copy, PartialEq, Eq, Debug)]
-pub enum Stop {
-    /// The sink failed.
-    SinkFault,
-    /// Want of memory.
-    Memory,
-}
-
-impl From<AllocError> for Stop {
-    ghost use Rattle.std.specs.Prelude.{◌≡◌};
-    ghost use Rattle.bkd_top.specs.declared.answers.Stop.TheVariants.{Memory};
-
-    ghost from_gives = { λ _ e. e ≡ Memory };
-
-    fn from(_: AllocError) -> Stop {
-        Stop::Memory
-    }
-}
+use crate::stop::{Stop, stopped};
+use bkd_build::Gate;
+use index_core::{Applied, Session};
+use outer_io::{Folder, Sink, write_all};
+use page_cache::PageFault;
+use script_lang::{
+    Command, First, LineFault, Why, put_line_fault, put_ok, put_why, read_first, read_line,
+};
+use std::alloc::AllocError;
+use std::marker::Sync;
+use std::thread::Threads;
 
 /// What a line did where no index is there.
 #[derive(Clone, Copy, PartialEq, Eq, Debug)]
@@ -41,9 +35,10 @@ pub enum Opening {
 }
 
 /// Answers a line where an index is there, and sends the answer. True where the line is refused.
-pub fn answer_line<const D: usize, K: Sink>(
-    alloc: Global,
-    session: &mut ListSession<D>,
+pub fn answer_line<const D: usize, R: Threads + Sync, F: Folder, K: Sink, G: Gate>(
+    work: &Work<'_, R, G>,
+    session: &mut Session<D>,
+    folder: &mut F,
     number: u64,
     line: &[u8],
     reply: &mut Vec<u8>,
@@ -51,58 +46,93 @@ pub fn answer_line<const D: usize, K: Sink>(
 ) -> Result<bool, Stop>
     requires some { 1 ≤ D }
     requires few { D ≤ 8 }
-    ensures session { IfOk result (λ refused. IsAnswer (answer number (Some session.old) line.now) (Some session.new) refused) }
-    ensures text { IsTrue K.told → IsSent (answer number (Some session.old) line.now).text (K.written out.old) (K.written out.new) result }
-    ensures sink { IsErrOf result Stop.SinkFault → Rose (K.faults out.old) (K.faults out.new) }
-    ensures later { K.faults out.old ≤ K.faults out.new }
+    ensures answers { IsTrue F.told → (i : Index) → (stored : State) → Stands D (F.files folder.old) session.old i stored
+        → Answers (IsTrue K.told) D (record { number = number; index = i; stored = stored; bytes = line.now }) (F.files folder.new) session.new
+            (K.written out.old) (K.written out.new) result }
+    ensures cause { HasStopCause (F.faults folder.old) (F.faults folder.new) (K.faults out.old) (K.faults out.new) result }
 {
     reply.clear();
-    let refused = reply_to(alloc, session, number, line, reply)?;
-    send(out, reply.as_slice())?;
-    Ok(refused)
+    match reply_to(work, session, folder, number, line, reply) {
+        Ok(refused) => send(out, reply.as_slice(), refused),
+        Err(fault) => stopped(fault),
+    }
 }
 
-/// Sends an answer in one piece.
-fn send<K: Sink>(out: &mut K, reply: &[u8]) -> Result<(), Stop>
+/// Sends an answer in one piece, and hands on what is known of its line.
+fn send<T: Copy, K: Sink>(out: &mut K, reply: &[u8], known: T) -> Result<T, Stop>
+    ensures known { IfOk result (λ x. x ≡ known) }
     ensures text { IsTrue K.told → IsSent reply.now (K.written out.old) (K.written out.new) result }
     ensures sink { IsErrOf result Stop.SinkFault → Rose (K.faults out.old) (K.faults out.new) }
     ensures later { K.faults out.old ≤ K.faults out.new }
     ensures cause { OnErr result (IsErrOf result Stop.SinkFault) }
 {
     match write_all(out, reply) {
-        Ok(()) => Ok(()),
+        Ok(()) => Ok(known),
         Err(_) => Err(Stop::SinkFault),
     }
 }
 
 /// Reads a line, does what it asks, and appends the answer. True where the line is refused.
-fn reply_to<const D: usize>(
-    alloc: Global,
-    session: &mut ListSession<D>,
+fn reply_to<const D: usize, R: Threads + Sync, F: Folder, G: Gate>(
+    work: &Work<'_, R, G>,
+    session: &mut Session<D>,
+    folder: &mut F,
     number: u64,
     line: &[u8],
     reply: &mut Vec<u8>,
-) -> Result<bool, Memory>
+) -> Result<bool, PageFault>
     requires some { 1 ≤ D }
     requires few { D ≤ 8 }
-    ensures session { IfOk result (λ refused. IsAnswer (answer number (Some session.old) line.now) (Some session.new) refused) }
-    ensures text { IfOk result (λ _. reply.new.items ≡ reply.old.items ++ (answer number (Some session.old) line.now).text) }
+    ensures replies { IsTrue F.told → (i : Index) → (stored : State) → Stands D (F.files folder.old) session.old i stored
+        → Replies D (record { number = number; index = i; stored = stored; bytes = line.now }) (F.files folder.new) session.new reply.old.items reply.new.items result }
+    ensures cause { HasPageCause (F.faults folder.old) (F.faults folder.new) result }
 {
-    let _dims = session.dims();
-    match read_line::<D>(alloc, line) {
-        Ok(command) => match session.apply(alloc, &command, reply)? {
-            Applied::Done => Ok(false),
-            Applied::Refused(why) => {
-                put_why(reply, number, why)?;
-                Ok(true)
-            }
-        },
-        Err(LineFault::Memory) => Err(AllocError),
-        Err(fault) => {
-            put_line_fault(reply, number, &fault)?;
-            Ok(true)
-        }
+    match read_line::<D>(work.alloc, line) {
+        Ok(command) => obey(work, session, folder, number, &command, reply),
+        Err(LineFault::Memory) => Err(PageFault::Memory),
+        Err(fault) => refuse_line(number, &fault, reply),
     }
+}
+
+/// Does what a command asks, and appends the answer. True where it is refused.
+fn obey<const D: usize, R: Threads + Sync, F: Folder, G: Gate>(
+    work: &Work<'_, R, G>,
+    session: &mut Session<D>,
+    folder: &mut F,
+    number: u64,
+    command: &Command<D>,
+    reply: &mut Vec<u8>,
+) -> Result<bool, PageFault>
+    requires { IsWithinLimits (request_of command.now) }
+    ensures replies { IsTrue F.told → (i : Index) → (stored : State) → Stands D (F.files folder.old) session.old i stored
+        → (bytes : List ℕ) → read (Some D) bytes ≡ Says (request_of command.now)
+        → Replies D (record { number = number; index = i; stored = stored; bytes = bytes }) (F.files folder.new) session.new reply.old.items reply.new.items result }
+    ensures cause { HasPageCause (F.faults folder.old) (F.faults folder.new) result }
+{
+    match session.apply(work.rt, work.alloc, folder, command, reply, work.gate) {
+        Ok(Applied::Done) => Ok(false),
+        Ok(Applied::Refused(why)) => refuse(number, why, reply),
+        Err(fault) => Err(fault),
+    }
+}
+
+/// Appends why a line can't be read.
+fn refuse_line(number: u64, fault: &LineFault, reply: &mut Vec<u8>) -> Result<bool, PageFault>
+    requires { fault.now ≢ LineFault.Memory }
+    ensures refused { IfOk result (λ refused. (refused ≡ true) × (reply.new.items ≡ reply.old.items ++ line_fault_text number fault.now)) }
+    ensures memory { OnErr result (IsErrOf result PageFault.Memory) }
+{
+    put_line_fault(reply, number, fault)?;
+    Ok(true)
+}
+
+/// Appends why a command is refused.
+fn refuse(number: u64, why: Why, reply: &mut Vec<u8>) -> Result<bool, PageFault>
+    ensures refused { IfOk result (λ refused. (refused ≡ true) × (reply.new.items ≡ reply.old.items ++ why_text number why)) }
+    ensures memory { OnErr result (IsErrOf result PageFault.Memory) }
+{
+    put_why(reply, number, why)?;
+    Ok(true)
 }
 
 /// Answers a line where no index is there, and sends the answer.
@@ -117,11 +147,11 @@ pub fn answer_first<K: Sink>(
     ensures text { IsTrue K.told → IsSent (answer number None line.now).text (K.written out.old) (K.written out.new) result }
     ensures sink { IsErrOf result Stop.SinkFault → Rose (K.faults out.old) (K.faults out.new) }
     ensures later { K.faults out.old ≤ K.faults out.new }
+    ensures cause { OnErr result (IsErrOf result Stop.SinkFault ⊎ IsErrOf result Stop.Memory) }
 {
     reply.clear();
     let opening = first_reply_to(number, line, reply)?;
-    send(out, reply.as_slice())?;
-    Ok(opening)
+    send(out, reply.as_slice(), opening)
 }
 
 /// Reads a line where no index is there, and appends the answer.

@@ -3,11 +3,15 @@
 
 mod answers;
 mod lines;
+mod origin;
 mod program;
 pub mod status;
+mod stop;
 
 pub use program::{MAX_INPUT, run, run_script};
 pub use status::{Memory, Status, code, status_line};
 
+#[cfg(test)]
+mod folder_tests;
 #[cfg(test)]
 mod tests;

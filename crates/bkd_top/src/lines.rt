@@ -1,18 +1,36 @@
 //! The lines of a script, one after the other.
 
-ghost use Rattle.std.specs.Prelude.{◌≡◌, ◌≤◌, ◌<◌, ◌+◌, ◌^◌, length, Some, None, IsTrue, if◌then◌else◌, ◌==◌};
-ghost use Rattle.outer_io.specs.Faults.{Rose};
+ghost use Rattle.std.specs.Prelude.{◌≡◌, ◌≤◌, ◌<◌, ◌+◌, ◌^◌, length, Some, None, IsTrue, ℕ};
+ghost use Rattle.outer_io.specs.declared.file_name.FileName.TheVariants.{Commit as CommitName};
+ghost use Rattle.page_cache.specs.Causes.{HasPageCause};
 ghost use Rattle.script_lang.specs.Lines.{lines_of};
-ghost use Rattle.index_model.specs.State.{new_index};
-ghost use Rattle.bkd_top.specs.Progress.{Place};
-ghost use Rattle.bkd_top.specs.Runs.{Writes, Counts, EndsLines};
+ghost use Rattle.index_model.specs.State.{Index, State};
+ghost use Rattle.stored_index.specs.Stored.{IsStored};
+ghost use Rattle.bkd_top.specs.Answers.{IsEnd, Stands};
+ghost use Rattle.bkd_top.specs.Origins.{dims_of, IsFrom, IsMade};
+ghost use Rattle.bkd_top.specs.Progress.{start};
+ghost use Rattle.bkd_top.specs.Runs.{EndsLines, HasStopCause};
 
-use crate::answers::{Opening, Stop, answer_first, answer_line};
-use crate::status::Status;
-use index_model::ListSession;
-use outer_io::Sink;
+use crate::answers::{Opening, answer_first, answer_line};
+use crate::origin::{Origin, open};
+use crate::stop::{Stop, stopped};
+use bkd_build::Gate;
+use commit_list::read_commit;
+use index_core::{Session, Settings};
+use outer_io::{Folder, Sink};
 use script_lang::first_line;
 use std::alloc::Global;
+use std::marker::Sync;
+use std::thread::Threads;
+
+/// What a run works with: none of it changes what is answered.
+#[derive(Drop)]
+pub struct Work<'a, R, G> {
+    pub rt: &'a R,
+    pub alloc: Global,
+    pub settings: Settings,
+    pub gate: &'a G,
+}
 
 /// Where a run stands: what is left of the script, the number of the next line, and how many lines were refused.
 #[derive(Clone, Copy)]
@@ -22,16 +40,45 @@ pub struct Script<'a> {
     pub refused: u64,
 }
 
-/// Does the lines that are left, from where no index is there.
-pub fn run_first<K: Sink>(alloc: Global, script: &[u8], out: &mut K) -> Status
+/// Does the lines of a script on what the folder stores, and commits at the end. Answers how many lines were refused.
+pub fn run_lines<R: Threads + Sync, F: Folder, K: Sink, G: Gate>(
+    work: &Work<'_, R, G>,
+    script: &[u8],
+    folder: &mut F,
+    out: &mut K,
+) -> Result<u64, Stop>
     requires { length script.now ≤ 2 ^ 32 }
-    ensures ends { EndsLines result }
-    ensures text { IsTrue K.told → Writes (record { line = 1; refused = 0; state = None; rest = lines_of script.now; written = K.written out.old }) (K.written out.new) result }
-    ensures count { Counts (record { line = 1; refused = 0; state = None; rest = lines_of script.now; written = K.written out.old }) result }
-    ensures sink { result ≡ Status.SinkFault → Rose (K.faults out.old) (K.faults out.new) }
-    ensures later { K.faults out.old ≤ K.faults out.new }
+    ensures ends { IsTrue F.told → (state : State) → IsStored (F.files folder.old) state
+        → EndsLines (IsTrue K.told) (start state (lines_of script.now) (K.written out.old)) (F.files folder.new) (K.written out.new) result }
+    ensures cause { HasStopCause (F.faults folder.old) (F.faults folder.new) (K.faults out.old) (K.faults out.new) result }
 {
-    let mut reply = Vec::new(alloc);
+    match read_commit(work.alloc, folder) {
+        Ok(None) => run_first(work, script, folder, out),
+        Ok(Some(commit)) => {
+            let script = Script {
+                rest: script,
+                line: 1,
+                refused: 0,
+            };
+            run_from(work, Origin::Stored(commit), script, folder, out)
+        }
+        Err(fault) => stopped(fault),
+    }
+}
+
+/// Does the lines of a script on a folder that has no index.
+fn run_first<R: Threads + Sync, F: Folder, K: Sink, G: Gate>(
+    work: &Work<'_, R, G>,
+    script: &[u8],
+    folder: &mut F,
+    out: &mut K,
+) -> Result<u64, Stop>
+    requires { length script.now ≤ 2 ^ 32 }
+    ensures ends { IsTrue F.told → F.files folder.old CommitName ≡ None
+        → EndsLines (IsTrue K.told) (start None (lines_of script.now) (K.written out.old)) (F.files folder.new) (K.written out.new) result }
+    ensures cause { HasStopCause (F.faults folder.old) (F.faults folder.new) (K.faults out.old) (K.faults out.new) result }
+{
+    let mut reply = Vec::new(work.alloc);
     let mut rest = script;
     let mut line = 1;
     let mut refused = 0;
@@ -44,91 +91,123 @@ pub fn run_first<K: Sink>(alloc: Global, script: &[u8], out: &mut K) -> Status
                     refused: is_refused,
                 },
             ) => refused += u64::from(is_refused),
-            Ok(Opening::Made { dims, leaf }) => return run_dims(
-                alloc,
-                dims,
-                leaf,
-                Script {
+            Ok(Opening::Made { dims, leaf }) => {
+                let script = Script {
                     rest,
                     line: line + 1,
                     refused,
-                },
-                out,
-            ),
-            Err(Stop::SinkFault) => return Status::SinkFault,
-            Err(Stop::Memory) => return Status::Memory,
+                };
+                return run_from(work, Origin::New { dims, leaf }, script, folder, out);
+            }
+            Err(stop) => return Err(stop),
         }
         line += 1;
     }
-    ended(refused)
+    Ok(refused)
 }
 
-/// Does the lines that are left on a new index.
-fn run_dims<K: Sink>(alloc: Global, dims: u8, leaf: u16, script: Script<'_>, out: &mut K) -> Status
-    requires some { 1 ≤ dims }
-    requires few { dims ≤ 8 }
+/// Does the lines that are left on an index, with as many dimensions as it has.
+fn run_from<R: Threads + Sync, F: Folder, K: Sink, G: Gate>(
+    work: &Work<'_, R, G>,
+    origin: Origin,
+    script: Script<'_>,
+    folder: &mut F,
+    out: &mut K,
+) -> Result<u64, Stop>
+    requires made { IsMade origin }
     requires lines { script.line + length script.rest.now < 2 ^ 64 }
     requires refused { script.refused ≤ script.line }
-    ensures ends { EndsLines result }
-    ensures text { IsTrue K.told → Writes (record { line = script.entry.line; refused = script.entry.refused; state = Some (new_index dims leaf); rest = lines_of script.entry.rest.now; written = K.written out.old }) (K.written out.new) result }
-    ensures count { Counts (record { line = script.entry.line; refused = script.entry.refused; state = Some (new_index dims leaf); rest = lines_of script.entry.rest.now; written = K.written out.old }) result }
-    ensures sink { result ≡ Status.SinkFault → Rose (K.faults out.old) (K.faults out.new) }
-    ensures later { K.faults out.old ≤ K.faults out.new }
+    ensures ends { IsTrue F.told → (i : Index) → (stored : State) → IsFrom (F.files folder.old) origin i stored
+        → EndsLines (IsTrue K.told) (record { line = script.entry.line; refused = script.entry.refused; state = Some i; stored = stored;
+                rest = lines_of script.entry.rest.now; written = K.written out.old })
+            (F.files folder.new) (K.written out.new) result }
+    ensures cause { HasStopCause (F.faults folder.old) (F.faults folder.new) (K.faults out.old) (K.faults out.new) result }
 {
-    match dims {
-        1 => run_made(alloc, ListSession::<1>::new(alloc, leaf), script, out),
-        2 => run_made(alloc, ListSession::<2>::new(alloc, leaf), script, out),
-        3 => run_made(alloc, ListSession::<3>::new(alloc, leaf), script, out),
-        4 => run_made(alloc, ListSession::<4>::new(alloc, leaf), script, out),
-        5 => run_made(alloc, ListSession::<5>::new(alloc, leaf), script, out),
-        6 => run_made(alloc, ListSession::<6>::new(alloc, leaf), script, out),
-        7 => run_made(alloc, ListSession::<7>::new(alloc, leaf), script, out),
-        _ => run_made(alloc, ListSession::<8>::new(alloc, leaf), script, out),
+    match origin.dims() {
+        1 => run_over::<1, R, F, K, G>(work, origin, script, folder, out),
+        2 => run_over::<2, R, F, K, G>(work, origin, script, folder, out),
+        3 => run_over::<3, R, F, K, G>(work, origin, script, folder, out),
+        4 => run_over::<4, R, F, K, G>(work, origin, script, folder, out),
+        5 => run_over::<5, R, F, K, G>(work, origin, script, folder, out),
+        6 => run_over::<6, R, F, K, G>(work, origin, script, folder, out),
+        7 => run_over::<7, R, F, K, G>(work, origin, script, folder, out),
+        _ => run_over::<8, R, F, K, G>(work, origin, script, folder, out),
     }
 }
 
-/// Does the lines that are left on an index.
-fn run_made<const D: usize, K: Sink>(
-    alloc: Global,
-    session: ListSession<D>,
+/// Does the lines that are left on an index of `D` dimensions, and commits.
+fn run_over<const D: usize, R: Threads + Sync, F: Folder, K: Sink, G: Gate>(
+    work: &Work<'_, R, G>,
+    origin: Origin,
     script: Script<'_>,
+    folder: &mut F,
     out: &mut K,
-) -> Status
+) -> Result<u64, Stop>
+    requires some { 1 ≤ D }
+    requires few { D ≤ 8 }
+    requires dims { dims_of origin ≡ D }
+    requires made { IsMade origin }
+    requires lines { script.line + length script.rest.now < 2 ^ 64 }
+    requires refused { script.refused ≤ script.line }
+    ensures ends { IsTrue F.told → (i : Index) → (stored : State) → IsFrom (F.files folder.old) origin i stored
+        → EndsLines (IsTrue K.told) (record { line = script.entry.line; refused = script.entry.refused; state = Some i; stored = stored;
+                rest = lines_of script.entry.rest.now; written = K.written out.old })
+            (F.files folder.new) (K.written out.new) result }
+    ensures cause { HasStopCause (F.faults folder.old) (F.faults folder.new) (K.faults out.old) (K.faults out.new) result }
+{
+    match open::<D, F>(work.alloc, work.settings, origin, folder) {
+        Ok(mut session) => run_made(work, &mut session, script, folder, out),
+        Err(fault) => stopped(fault),
+    }
+}
+
+/// Does the lines that are left in a session, and commits.
+fn run_made<const D: usize, R: Threads + Sync, F: Folder, K: Sink, G: Gate>(
+    work: &Work<'_, R, G>,
+    session: &mut Session<D>,
+    script: Script<'_>,
+    folder: &mut F,
+    out: &mut K,
+) -> Result<u64, Stop>
     requires some { 1 ≤ D }
     requires few { D ≤ 8 }
     requires lines { script.line + length script.rest.now < 2 ^ 64 }
     requires refused { script.refused ≤ script.line }
-    ensures ends { EndsLines result }
-    ensures text { IsTrue K.told → Writes (record { line = script.entry.line; refused = script.entry.refused; state = Some session.entry; rest = lines_of script.entry.rest.now; written = K.written out.old }) (K.written out.new) result }
-    ensures count { Counts (record { line = script.entry.line; refused = script.entry.refused; state = Some session.entry; rest = lines_of script.entry.rest.now; written = K.written out.old }) result }
-    ensures sink { result ≡ Status.SinkFault → Rose (K.faults out.old) (K.faults out.new) }
-    ensures later { K.faults out.old ≤ K.faults out.new }
+    ensures ends { IsTrue F.told → (i : Index) → (stored : State) → Stands D (F.files folder.old) session.old i stored
+        → EndsLines (IsTrue K.told) (record { line = script.entry.line; refused = script.entry.refused; state = Some i; stored = stored;
+                rest = lines_of script.entry.rest.now; written = K.written out.old })
+            (F.files folder.new) (K.written out.new) result }
+    ensures cause { HasStopCause (F.faults folder.old) (F.faults folder.new) (K.faults out.old) (K.faults out.new) result }
 {
-    let mut session = session;
-    let mut reply = Vec::new(alloc);
+    let mut reply = Vec::new(work.alloc);
     let mut rest = script.rest;
     let mut line = script.line;
     let mut refused = script.refused;
     'lines: while !rest.is_empty() {
         let (text, behind) = first_line(rest);
         rest = behind;
-        match answer_line(alloc, &mut session, line, text, &mut reply, out) {
+        match answer_line(work, session, folder, line, text, &mut reply, out) {
             Ok(is_refused) => refused += u64::from(is_refused),
-            Err(Stop::SinkFault) => return Status::SinkFault,
-            Err(Stop::Memory) => return Status::Memory,
+            Err(stop) => return Err(stop),
         }
         line += 1;
     }
-    ended(refused)
+    finish(work, session, folder, refused)
 }
 
-/// How a script ended whose lines were all answered.
-fn ended(refused: u64) -> Status
-    ensures { result ≡ (if refused == 0 then Status.Done else Status.SomeRefused refused) }
+/// Commits what the lines left, of which so many were refused.
+fn finish<const D: usize, R: Threads + Sync, F: Folder, G: Gate>(
+    work: &Work<'_, R, G>,
+    session: &mut Session<D>,
+    folder: &mut F,
+    refused: u64,
+) -> Result<u64, Stop>
+    ensures ends { IsTrue F.told → (i : Index) → (stored : State) → Stands D (F.files folder.old) session.old i stored
+        → IsEnd (F.files folder.new) i stored refused result }
+    ensures cause { (sink : ℕ) → HasStopCause (F.faults folder.old) (F.faults folder.new) sink sink result }
 {
-    if refused == 0 {
-        Status::Done
-    } else {
-        Status::SomeRefused { count: refused }
+    match session.commit(work.rt, work.alloc, folder, work.gate) {
+        Ok(()) => Ok(refused),
+        Err(fault) => stopped(fault),
     }
 }

@@ -1,16 +1,19 @@
 //! How a run of the program ended.
 
 ghost use Rattle.std.specs.Prelude.{◌≡◌, ◌++◌, OnOk, OnErr, take, length, codes, decimal};
+ghost use Rattle.damage_text.specs.Texts.{damage_text};
 ghost use Rattle.bkd_top.specs.Texts.{line_of, number_of};
 
+use damage_text::put_damage;
 use itoa::Buffer;
-use std::alloc::AllocError;
+use page_cache::Damage;
+use std::alloc::{AllocError, Global};
 
 /// Want of memory.
 pub type Memory = AllocError;
 
 /// How a run ended.
-#[derive(Clone, Copy, PartialEq, Eq, Debug)]
+#[derive(Debug, Drop)]
 pub enum Status {
     /// Every line was done.
     Done,
@@ -24,6 +27,8 @@ pub enum Status {
     FolderFault,
     /// The output could not be written.
     SinkFault,
+    /// The folder's files are damaged.
+    Damaged(Damage),
     /// Want of memory.
     Memory,
     /// The input has more than 536,870,912 bytes.
@@ -41,6 +46,7 @@ pub fn code(s: &Status) -> u8
         Status::SourceFault => 3,
         Status::FolderFault => 4,
         Status::SinkFault => 5,
+        Status::Damaged(_) => 6,
         Status::Memory => 7,
         Status::TooLarge => 8,
     }
@@ -49,7 +55,7 @@ pub fn code(s: &Status) -> u8
 /// Appends the line that the program prints for a status on standard error; nothing where all was done. For want of memory
 /// a part of it may be appended.
 #[tactic(auto, unfolding(crate::specs::Texts::line_of))]
-pub fn status_line(s: &Status, out: &mut Vec<u8>) -> Result<(), Memory>
+pub fn status_line(alloc: Global, s: &Status, out: &mut Vec<u8>) -> Result<(), Memory>
     ensures ok { OnOk result (out.new.items ≡ out.old.items ++ line_of s.now) }
     ensures memory { OnErr result (take (length out.old.items) out.new.items ≡ out.old.items) }
 {
@@ -60,6 +66,7 @@ pub fn status_line(s: &Status, out: &mut Vec<u8>) -> Result<(), Memory>
         Status::SourceFault => out.extend_from_slice(b"source fault\n"),
         Status::FolderFault => out.extend_from_slice(b"folder fault\n"),
         Status::SinkFault => out.extend_from_slice(b"sink fault\n"),
+        Status::Damaged(damage) => put_damaged(alloc, out, damage),
         Status::Memory => out.extend_from_slice(b"out of memory\n"),
         Status::TooLarge => out.extend_from_slice(b"input too large\n"),
     }
@@ -72,6 +79,18 @@ fn put_refused(out: &mut Vec<u8>, count: u64) -> Result<(), Memory>
     let mut digits = Buffer::new();
     out.extend_from_slice(b"refused ")?;
     out.extend_from_slice(digits.format(count).as_bytes())?;
+    out.push(b'\n')?;
+    Ok(())
+}
+
+fn put_damaged(alloc: Global, out: &mut Vec<u8>, damage: &Damage) -> Result<(), Memory>
+    ensures ok { OnOk result (out.new.items ≡ out.old.items ++ (codes "damaged: " ++ damage_text damage.now ++ codes "\n")) }
+    ensures memory { OnErr result (take (length out.old.items) out.new.items ≡ out.old.items) }
+{
+    let mut text = String::new(alloc);
+    put_damage(&mut text, damage)?;
+    out.extend_from_slice(b"damaged: ")?;
+    out.extend_from_slice(text.as_bytes())?;
     out.push(b'\n')?;
     Ok(())
 }

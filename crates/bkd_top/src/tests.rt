@@ -1,10 +1,15 @@
 //! Scripts through the top call, with what they have to answer.
 
-use super::*;
+use super::{Status, code, run, run_script, status_line};
+use page_cache::Damage;
+use bkd_build::OpenGate;
+use index_core::Settings;
 use outer_io::{FileName, MemFolder, MemSink, MemSource};
 use std::alloc::Global;
+use std::marker::Sync;
 use std::process::Abort;
 use std::test::Fail;
+use std::thread::Threads;
 
 /// A script, what it answers, and how many of its lines are refused.
 struct Row {
@@ -13,48 +18,73 @@ struct Row {
     refused: u64,
 }
 
-/// Runs the script `.` `run` on an empty folder.
-fn outcome(
+/// Runs the script `.` `run` on a folder.
+pub(crate) fn outcome<R: Threads + Sync>(
+    rt: &R,
     alloc: Global,
-    script: &str,
+    script: &[u8],
+    folder: &mut MemFolder,
     source_fails: &[u64],
-    folder_fails: &[u64],
     sink_fails: &[u64],
-) -> Result<(Status, MemFolder, MemSink), Fail> {
+) -> Result<(Status, MemSink), Fail> {
     let mut words = Vec::new(alloc);
     words.push(String::from_str(alloc, ".")?)?;
     words.push(String::from_str(alloc, "run")?)?;
-    let mut input = MemSource::new(
-        script.as_bytes().to_vec(alloc)?,
-        source_fails.to_vec(alloc)?,
-    );
-    let mut folder = MemFolder::new(alloc, folder_fails.to_vec(alloc)?);
-    let mut output = MemSink::new(alloc, 1 << 16, sink_fails.to_vec(alloc)?)?;
+    let mut input = MemSource::new(script.to_vec(alloc)?, source_fails.to_vec(alloc)?);
+    let mut output = MemSink::new(alloc, 1 << 20, sink_fails.to_vec(alloc)?)?;
     let status = run(
+        rt,
         alloc,
         words.as_slice(),
         &mut input,
-        &mut folder,
+        folder,
         &mut output,
+        &OpenGate,
     );
-    Ok((status, folder, output))
+    Ok((status, output))
 }
 
-fn check(rt: &impl Abort, alloc: Global, rows: &[Row]) -> Result<(), Fail> {
+/// What is said of a status.
+pub(crate) fn said(alloc: Global, status: &Status) -> Result<String, Fail> {
+    let mut line = Vec::new(alloc);
+    status_line(alloc, status, &mut line)?;
+    Ok(String::from_str(
+        alloc,
+        std::str::from_utf8(line.as_slice()).unwrap_or("no text"),
+    )?)
+}
+
+/// The status of a script of which so many lines are refused.
+pub(crate) fn refusing(count: u64) -> Status {
+    match count {
+        0 => Status::Done,
+        count => Status::SomeRefused { count },
+    }
+}
+
+fn check<R: Threads + Sync + Abort>(rt: &R, alloc: Global, rows: &[Row]) -> Result<(), Fail> {
     for row in rows {
-        let (status, folder, output) = outcome(alloc, row.script, &[], &[], &[])?;
+        let mut folder = MemFolder::new(alloc, Vec::new(alloc));
+        let (status, output) = outcome(
+            rt,
+            alloc,
+            row.script.as_bytes(),
+            &mut folder,
+            &[],
+            &[],
+        )?;
         assert_eq!(rt;
             std::str::from_utf8(output.bytes()),
             Ok(row.answers),
             "after {:?}",
             row.script
         );
-        let want = match row.refused {
-            0 => Status::Done,
-            count => Status::SomeRefused { count },
-        };
-        assert_eq!(rt; status, want, "after {:?}", row.script);
-        assert!(rt; folder.get(&FileName::Commit).is_none());
+        assert_eq!(rt;
+            said(alloc, &status)?.as_str(),
+            said(alloc, &refusing(row.refused))?.as_str(),
+            "after {:?}",
+            row.script
+        );
     }
     Ok(())
 }
@@ -228,22 +258,22 @@ fn polygons(rt: HostRuntime) -> Result<(), Fail> {
 
 /// What was told before a fault has gone out whole, and nothing else has.
 #[test]
-fn faults(rt: HostRuntime) -> Result<(), Fail> {
+fn faults_of_the_streams(rt: HostRuntime) -> Result<(), Fail> {
     let alloc = rt.alloc();
-    let script = "create 2\nadd 1 2\nbox 0 0 5 5\n";
-    let (status, _, output) = outcome(alloc, script, &[0], &[], &[])?;
-    assert_eq!(rt; status, Status::SourceFault);
-    assert_eq!(rt; output.bytes().len(), 0);
-    let (status, _, output) = outcome(alloc, script, &[1], &[], &[])?;
-    assert_eq!(rt; status, Status::SourceFault);
-    assert_eq!(rt; output.bytes().len(), 0);
-    let (status, _, output) = outcome(alloc, script, &[], &[0], &[])?;
-    assert_eq!(rt; status, Status::FolderFault);
-    assert_eq!(rt; output.bytes().len(), 0);
+    let script = b"create 2\nadd 1 2\nbox 0 0 5 5\n".as_slice();
+    for call in [0, 1] {
+        let mut folder = MemFolder::new(alloc, Vec::new(alloc));
+        let (status, output) = outcome(&rt, alloc, script, &mut folder, &[call], &[])?;
+        assert_eq!(rt; said(alloc, &status)?.as_str(), "source fault\n");
+        assert_eq!(rt; output.bytes().len(), 0);
+        assert!(rt; folder.get(&FileName::Commit).is_none());
+    }
     for (call, answers) in [(0, ""), (1, "ok\n"), (2, "ok\ndoc 0\n")] {
-        let (status, _, output) = outcome(alloc, script, &[], &[], &[call])?;
-        assert_eq!(rt; status, Status::SinkFault);
+        let mut folder = MemFolder::new(alloc, Vec::new(alloc));
+        let (status, output) = outcome(&rt, alloc, script, &mut folder, &[], &[call])?;
+        assert_eq!(rt; said(alloc, &status)?.as_str(), "sink fault\n");
         assert_eq!(rt; std::str::from_utf8(output.bytes()), Ok(answers));
+        assert!(rt; folder.get(&FileName::Commit).is_none());
     }
     Ok(())
 }
@@ -260,21 +290,33 @@ fn an_output_without_room(rt: HostRuntime) -> Result<(), Fail> {
         );
         let mut folder = MemFolder::new(alloc, Vec::new(alloc));
         let mut output = MemSink::new(alloc, room, Vec::new(alloc))?;
-        let status = run_script(alloc, &mut input, &mut folder, &mut output);
-        let want = if room < answers.len() {
-            Status::SinkFault
-        } else {
-            Status::Done
+        let settings = Settings {
+            cache_pages: 1,
+            forks: 0,
         };
-        assert_eq!(rt; status, want);
+        let status = run_script(
+            &rt,
+            alloc,
+            settings,
+            &mut input,
+            &mut folder,
+            &mut output,
+            &OpenGate,
+        );
+        let want = if room < answers.len() {
+            "sink fault\n"
+        } else {
+            ""
+        };
+        assert_eq!(rt; said(alloc, &status)?.as_str(), want);
         assert_eq!(rt; output.bytes(), &answers[..room]);
     }
     Ok(())
 }
 
-/// The words, the exit statuses and the lines on standard error.
+/// Words that are none of a command.
 #[test]
-fn words_and_statuses(rt: HostRuntime) -> Result<(), Fail> {
+fn other_words(rt: HostRuntime) -> Result<(), Fail> {
     let alloc = rt.alloc();
     for words in [
         [].as_slice(),
@@ -290,10 +332,28 @@ fn words_and_statuses(rt: HostRuntime) -> Result<(), Fail> {
         let mut input = MemSource::new(b"create 1\n".to_vec(alloc)?, Vec::new(alloc));
         let mut folder = MemFolder::new(alloc, Vec::new(alloc));
         let mut output = MemSink::new(alloc, 64, Vec::new(alloc))?;
-        let status = run(alloc, list.as_slice(), &mut input, &mut folder, &mut output);
-        assert_eq!(rt; status, Status::Usage, "after {words:?}");
+        let status = run(
+            &rt,
+            alloc,
+            list.as_slice(),
+            &mut input,
+            &mut folder,
+            &mut output,
+            &OpenGate,
+        );
+        assert_eq!(rt; code(&status), 1, "after {words:?}");
         assert_eq!(rt; output.bytes().len(), 0);
     }
+    Ok(())
+}
+
+/// The exit statuses, and the lines on standard error.
+#[test]
+fn statuses(rt: HostRuntime) -> Result<(), Fail> {
+    let alloc = rt.alloc();
+    let damage = Damage::Missing {
+        file: FileName::Segment(26),
+    };
     for (status, number, text) in [
         (Status::Done, 0, ""),
         (Status::Usage, 1, "usage: bkd FOLDER run\n"),
@@ -301,29 +361,29 @@ fn words_and_statuses(rt: HostRuntime) -> Result<(), Fail> {
         (Status::SourceFault, 3, "source fault\n"),
         (Status::FolderFault, 4, "folder fault\n"),
         (Status::SinkFault, 5, "sink fault\n"),
+        (
+            Status::Damaged(damage),
+            6,
+            "damaged: seg-000000000000001a.bkd missing\n",
+        ),
         (Status::Memory, 7, "out of memory\n"),
         (Status::TooLarge, 8, "input too large\n"),
     ] {
-        let mut line = Vec::new(alloc);
-        status_line(&status, &mut line)?;
-        assert_eq!(rt; std::str::from_utf8(line.as_slice()), Ok(text));
+        assert_eq!(rt; said(alloc, &status)?.as_str(), text);
         assert_eq!(rt; code(&status), number);
     }
     Ok(())
 }
 
-/// A commit that is there cannot be opened yet.
+/// A folder whose Commit file is no commit is damaged, and stays as it is.
 #[test]
-fn an_index_that_is_there(rt: HostRuntime) -> Result<(), Fail> {
+fn a_damaged_folder(rt: HostRuntime) -> Result<(), Fail> {
     let alloc = rt.alloc();
-    let mut input = MemSource::new(b"create 1\n".to_vec(alloc)?, Vec::new(alloc));
     let mut folder = MemFolder::new(alloc, Vec::new(alloc));
     folder.put(FileName::Commit, Vec::new(alloc))?;
-    let mut output = MemSink::new(alloc, 64, Vec::new(alloc))?;
-    assert_eq!(rt;
-        run_script(alloc, &mut input, &mut folder, &mut output),
-        Status::Usage
-    );
+    let (status, output) = outcome(&rt, alloc, b"create 1\n", &mut folder, &[], &[])?;
+    assert_eq!(rt; code(&status), 6);
     assert_eq!(rt; output.bytes().len(), 0);
+    assert_eq!(rt; folder.get(&FileName::Commit).map(|bytes| bytes.len()), Some(0));
     Ok(())
 }

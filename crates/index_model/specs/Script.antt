@@ -1,6 +1,7 @@
 -- What a script answers and leaves: its lines are read and done one after the other.
-use Rattle.std.specs.Prelude.{ℕ, ◌+◌, List, [], ◌∷◌, ◌++◌}
+use Rattle.std.specs.Prelude.{ℕ, ◌+◌, Bool, true, false, if◌then◌else◌, List, [], ◌∷◌, ◌++◌, None, Some}
 use Rattle.std.specs.Option.{option_map}
+use Rattle.script_lang.specs.Requests as asks
 use Rattle.script_lang.specs.Reading.{Reading, Says, Fails, read}
 use Rattle.script_lang.specs.Replies.{line_fault_text, why_text}
 use Rattle.index_model.specs.State.{State, at_rest}
@@ -42,3 +43,25 @@ refused_in line state (l ∷ ls) = (answer line state l).refused + refused_in (l
 -- what a session leaves
 abbrev pub final : State → State
 final state = option_map at_rest state
+
+-- ---- what a script stores
+
+-- a request commits: it is that of `commit`, or of `reopen`, which commits too; where an index is there neither is ever refused
+abbrev pub asks_commit : Reading → Bool
+asks_commit (Says asks.Commit) = true
+asks_commit (Says asks.Reopen) = true
+asks_commit _ = false
+
+-- a line commits; without an index none does
+abbrev pub commits : State → List ℕ → Bool
+commits None bytes = false
+commits (Some i) bytes = asks_commit (read (Some i.dims) bytes)
+
+-- what is stored after a line: where it commits, what it leaves at rest, and else what was stored before
+abbrev pub stored_by : (line : ℕ) (stored state : State) → List ℕ → State
+stored_by line stored state l = if commits state l then final (answer line state l).state else stored
+
+-- what is stored after lines
+abbrev pub stored_after : (line : ℕ) (stored state : State) → List (List ℕ) → State
+stored_after line stored state [] = stored
+stored_after line stored state (l ∷ ls) = stored_after (line + 1) (stored_by line stored state l) (answer line state l).state ls

@@ -15,4 +15,6 @@ pub use laws::{
 pub use segment::NewSegment;
 
 #[cfg(test)]
+mod piece_tests;
+#[cfg(test)]
 mod tests;

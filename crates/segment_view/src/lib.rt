@@ -20,4 +20,6 @@ pub use surveys::{survey, survey_near};
 pub use visiting::visit;
 
 #[cfg(test)]
+mod page_tests;
+#[cfg(test)]
 mod tests;

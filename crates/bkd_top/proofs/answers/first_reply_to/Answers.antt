@@ -34,3 +34,7 @@ returns-in_ok-put_line_fault-in-Err c =
     let other : c.in-Err.fault ≢ fault.Memory = search rules in
     let is = first_is c.args.number c.args.line.now (Fails c.in-Err.fault) (fault_read first_request_of c.in-Err.fault _ other c.in-Err.ensures.reads) in
     rw is (record { opening = record { state = refl; refused = refl }; limits = tt; text = c.in_ok-put_line_fault-in-Err.ensures.ok })
+
+pub returns-in_ok-put_ok-in-Ok-Create-clause-limits :
+    goal.returns-in_ok-put_ok-in-Ok-Create-clause-limits
+returns-in_ok-put_ok-in-Ok-Create-clause-limits c = rw c.in-Ok-Create.field-0-is at c.in-Ok-Create.ensures.limits

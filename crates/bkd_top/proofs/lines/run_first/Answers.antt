@@ -1,42 +1,68 @@
 -- Each line goes on from those before it; the one that makes an index hands the rest on, and else the last one ends the script.
-use Rattle.std.proofs.Common.{◌≡◌, ◌+◌, length, arith, refl, sym, ap, ◌∙◌, add-zero}
+use Rattle.std.proofs.Common.{◌≡◌, ◌≤◌, ◌+◌, ℕ, length, arith, refl, sym, ap, None}
 use Rattle.std.proofs.lemmas.Bool.Decides.{nat_tests}
-use Rattle.bkd_top.proofs.Going.{one_more, ends_text, ends_count, sink_stops, finished, no_lines, refused_more, at_most_one}
+use Rattle.outer_io.specs.declared.file_name.FileName.TheVariants.{Commit}
+use Rattle.index_model.specs.State.{new_index}
+use Rattle.bkd_top.proofs.Going.{start_here, no_lines, refused_more, at_most_one}
+use Rattle.bkd_top.proofs.Lined.{stops_first, finishes_first, first_goes_on, made_ends, first_cause, cause_on}
 use Rattle.bkd_top.proofs.lines.run_first.Goals as goal
 
-pub returns-in-Ok-Made-clause-text : goal.returns-in-Ok-Made-clause-text
-returns-in-Ok-Made-clause-text g c = λ told.
-    let made = rw c.in-Ok-Made.field-0-is at c.in-Ok-Made.ensures.opening in
-    ends_text _ _ (one_more _ _ _ _ c.lines.invariant.going c.first_line.ensures.line refl made.0 (sym (ap (λ r. c.lines.refused + r) made.1 ∙ add-zero c.lines.refused)) c.in-Ok-Made.ensures.text)
-    c.run_dims.result _ c.run_dims.ensures.ends told (c.run_dims.ensures.text told)
-
-pub returns-in-Ok-Made-clause-count : goal.returns-in-Ok-Made-clause-count
-returns-in-Ok-Made-clause-count g c =
-    let made = rw c.in-Ok-Made.field-0-is at c.in-Ok-Made.ensures.opening in
-    ends_count _ _ (one_more _ _ _ _ c.lines.invariant.going c.first_line.ensures.line refl made.0 (sym (ap (λ r. c.lines.refused + r) made.1 ∙ add-zero c.lines.refused)) c.in-Ok-Made.ensures.text)
-    c.run_dims.result c.run_dims.ensures.ends c.run_dims.ensures.count
-
-pub returns-in-Err-SinkFault-clause-text : goal.returns-in-Err-SinkFault-clause-text
-returns-in-Err-SinkFault-clause-text g c = λ told.
-    sink_stops _ _ c.lines.invariant.going _ _ _ c.first_line.ensures.line told (rw c.in-Err-SinkFault.field-0-is at (c.in-Err-SinkFault.ensures.text told))
+pub lines-init : goal.lines-init
+lines-init g c = record {
+  going = start_here _;
+  room = omega (arith, c.requires);
+  counted = omega arith;
+  folder = refl;
+  sink_later = omega arith;
+}
 
 pub lines-preserved : goal.lines-preserved
 lines-preserved g c =
     let same = rw c.in-Ok-Nothing.field-0-is at c.in-Ok-Nothing.ensures.opening in
     record {
-      going = one_more _ _ _ _ c.lines.invariant.going c.first_line.ensures.line refl same.state
-          (refused_more c.lines.refused _ _ _ same.refused c.from-refused.ensures) c.in-Ok-Nothing.ensures.text;
+      going = first_goes_on _ _ _ _ _ c.lines.invariant.going _ _ _ c.first_line.ensures.line _
+          (refused_more c.lines.refused _ _ _ same.refused c.from-refused.ensures) same.state c.in-Ok-Nothing.ensures.text;
       room = omega (arith, c.lines.invariant.room, c.first_line.ensures.shorter);
       counted = omega (arith, c.lines.invariant.counted, at_most_one _ _ c.from-refused.ensures);
-      later = omega (arith, c.lines.invariant.later, c.answer_first.ensures.later);
+      folder = c.lines.invariant.folder;
+      sink_later = omega (arith, c.lines.invariant.sink_later, c.answer_first.ensures.later);
     }
 
-pub returns-clause-text : goal.returns-clause-text
-returns-clause-text g c =
-    let none : length c.lines.rest.now ≡ 0 = grind (arith, nat_tests) in
-    (finished _ _ c.lines.invariant.going (no_lines _ none) _ c.ended.ensures).0
+pub returns-in-Ok-Made-clause-ends : goal.returns-in-Ok-Made-clause-ends
+returns-in-Ok-Made-clause-ends g c = λ told none.
+    let made = rw c.in-Ok-Made.field-0-is at c.in-Ok-Made.ensures.opening in
+    let same = ap (λ f. g.F.Pages.files f) c.lines.invariant.folder in
+    let still : g.F.Pages.files c.lines.folder Commit ≡ None = rw same none in
+    made_ends _ _ _ _ _ c.lines.invariant.going _ _ c.first_line.ensures.line (new_index c.in-Ok-Made.dims c.in-Ok-Made.leaf) _ made.0 made.1 c.in-Ok-Made.ensures.text
+    _ _ c.run_from.result (c.run_from.ensures.ends told (new_index c.in-Ok-Made.dims c.in-Ok-Made.leaf) None (still, refl, refl))
 
-pub returns-clause-count : goal.returns-clause-count
-returns-clause-count g c =
-    let none : length c.lines.rest.now ≡ 0 = grind (arith, nat_tests) in
-    (finished _ _ c.lines.invariant.going (no_lines _ none) _ c.ended.ensures).1
+pub returns-in-Ok-Made-clause-cause : goal.returns-in-Ok-Made-clause-cause
+returns-in-Ok-Made-clause-cause g c =
+    let later : g.K.Sink.faults c.args.out.now ≤ g.K.Sink.faults c.answer_first.new.out = omega (arith, c.lines.invariant.sink_later, c.answer_first.ensures.later) in
+    cause_on _ _ _ _ _ _ c.run_from.result (ap (λ f. g.F.Pages.faults f) c.lines.invariant.folder) later c.run_from.ensures.cause
+
+pub returns-in-Err-clause-ends : goal.returns-in-Err-clause-ends
+returns-in-Err-clause-ends g c = λ told none.
+    let same = ap (λ f. g.F.Pages.files f) c.lines.invariant.folder in
+    let still : g.F.Pages.files c.lines.folder Commit ≡ None = rw same none in
+    stops_first _ (g.F.Pages.files c.lines.folder) _ _ _ _ _ c.lines.invariant.going still _ _ c.first_line.ensures.line c.in-Err.stop c.in-Err.ensures.cause c.in-Err.ensures.text
+
+pub returns-in-Err-clause-cause : goal.returns-in-Err-clause-cause
+returns-in-Err-clause-cause g c =
+    cause_on _ _ _ _ _ _ _ (ap (λ f. g.F.Pages.faults f) c.lines.invariant.folder) c.lines.invariant.sink_later
+    (first_cause (g.F.Pages.faults c.lines.folder) _ _ c.in-Err.stop c.in-Err.ensures.cause c.in-Err.ensures.later c.in-Err.ensures.sink)
+
+pub returns-clause-ends : goal.returns-clause-ends
+returns-clause-ends g c = λ told none.
+    let empty : length c.lines.rest.now ≡ 0 = grind (arith, nat_tests) in
+    let same = ap (λ f. g.F.Pages.files f) c.lines.invariant.folder in
+    let still : g.F.Pages.files c.lines.folder Commit ≡ None = rw same none in
+    finishes_first _ _ _ _ _ c.lines.invariant.going (g.F.Pages.files c.lines.folder) still (no_lines _ empty)
+
+pub returns-clause-cause : goal.returns-clause-cause
+returns-clause-cause g c = record {
+  folder_later = omega (arith, ap (λ f. g.F.Pages.faults f) c.lines.invariant.folder);
+  sink_later = c.lines.invariant.sink_later;
+  folder = λ e. absurd cc;
+  sink = λ e. absurd cc;
+}

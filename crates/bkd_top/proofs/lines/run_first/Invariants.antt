@@ -1,17 +1,19 @@
-use Rattle.std.proofs.Common.{◌≤◌, ◌<◌, ◌+◌, ◌^◌, length, None, IsTrue}
+use Rattle.std.proofs.Common.{◌≡◌, ◌≤◌, ◌<◌, ◌+◌, ◌^◌, length, None, IsTrue}
 use Rattle.script_lang.specs.Lines.{lines_of}
 use Rattle.bkd_top.specs.Progress.{Progress}
+use Rattle.bkd_top.proofs.Lined.{place_off}
 use Rattle.bkd_top.proofs.lines.run_first.Given as goal
 
--- the lines so far were done as the script says
+-- the lines so far were done as the script says, and the folder was left alone
 abbrev pub invariant-lines : goal.invariant-lines
 invariant-lines g l = record {
   going : Progress (IsTrue g.K.Sink.told)
-      (record { line = l.initial.line; refused = l.initial.refused; state = None; rest = lines_of l.initial.rest; written = g.K.Sink.written l.initial.out })
-      (record { line = l.line; refused = l.refused; state = None; rest = lines_of l.rest; written = g.K.Sink.written l.out });
+      (place_off l.initial.line l.initial.refused (lines_of l.initial.rest) (g.K.Sink.written l.initial.out))
+      (place_off l.line l.refused (lines_of l.rest) (g.K.Sink.written l.out));
   room : l.line + length l.rest < 2 ^ 64;
   counted : l.refused ≤ l.line;
-  later : g.K.Sink.faults l.initial.out ≤ g.K.Sink.faults l.out;
+  folder : l.folder ≡ l.initial.folder;
+  sink_later : g.K.Sink.faults l.initial.out ≤ g.K.Sink.faults l.out;
 }
 
 abbrev pub decreases-lines : goal.decreases-lines

@@ -1,28 +1,50 @@
--- Each line goes on from those before it, and the last one ends the script.
-use Rattle.std.proofs.Common.{◌≡◌, length, arith, refl}
+-- Each line goes on from those before it; after the last one what they leave is committed.
+use Rattle.std.proofs.Common.{◌≡◌, ◌+◌, length, arith, refl, IsTrue}
 use Rattle.std.proofs.lemmas.Bool.Decides.{nat_tests}
-use Rattle.bkd_top.proofs.Going.{one_more, sink_stops, finished, no_lines, refused_more, at_most_one}
+use Rattle.index_core.proofs.Sizes.{session_fits}
+use Rattle.bkd_top.proofs.Ending.{cause_from}
+use Rattle.bkd_top.proofs.Going.{no_lines, refused_more, at_most_one}
+use Rattle.bkd_top.proofs.Lined.{goes_first, goes_on, stops_at, ends_then, end_lines, cause_to}
 use Rattle.bkd_top.proofs.lines.run_made.Goals as goal
 
-pub returns-in-Err-SinkFault-clause-text : goal.returns-in-Err-SinkFault-clause-text
-returns-in-Err-SinkFault-clause-text g c = λ told.
-    sink_stops _ _ c.lines.invariant.going _ _ _ c.first_line.ensures.line told (rw c.in-Err-SinkFault.field-0-is at (c.in-Err-SinkFault.ensures.text told))
+pub answer_line-requires-after_bounds : goal.answer_line-requires-after_bounds
+answer_line-requires-after_bounds g c κs = λ _. (session_fits g.row.D c.requires.few, (c.requires.some, c.requires.few))
+
+pub lines-init : goal.lines-init
+lines-init g c = record {
+  going = λ told i stored h. goes_first g.row.D (g.F.Pages.files c.args.folder.now) c.args.session.now i stored _ _ _ _ h;
+  room = c.requires.lines;
+  counted = c.requires.refused;
+  folder_later = omega arith;
+  sink_later = omega arith;
+}
 
 pub lines-preserved : goal.lines-preserved
 lines-preserved g c = record {
-  going = one_more _ _ _ _ c.lines.invariant.going c.first_line.ensures.line refl c.in-Ok.ensures.session.state
-      (refused_more c.lines.refused _ _ _ c.in-Ok.ensures.session.refused c.from-refused.ensures) c.in-Ok.ensures.text;
+  going = λ told i stored h.
+      let so_far = c.lines.invariant.going told i stored h in
+      goes_on g.row.D _ _ _ _ _ _ _ _ _ _ so_far _ _ c.first_line.ensures.line c.in-Ok.is_refused _ (refused_more c.lines.refused c.in-Ok.is_refused _ _ refl c.from-refused.ensures)
+          (c.in-Ok.ensures.answers told so_far.index so_far.stored so_far.stands);
   room = omega (arith, c.lines.invariant.room, c.first_line.ensures.shorter);
   counted = omega (arith, c.lines.invariant.counted, at_most_one _ _ c.from-refused.ensures);
-  later = omega (arith, c.lines.invariant.later, c.answer_line.ensures.later);
+  folder_later = omega (arith, c.lines.invariant.folder_later, c.answer_line.ensures.cause.folder_later);
+  sink_later = omega (arith, c.lines.invariant.sink_later, c.answer_line.ensures.cause.sink_later);
 }
 
-pub returns-clause-text : goal.returns-clause-text
-returns-clause-text g c =
-    let none : length c.lines.rest.now ≡ 0 = grind (arith, nat_tests) in
-    (finished _ _ c.lines.invariant.going (no_lines _ none) _ c.ended.ensures).0
+pub returns-in-Err-clause-ends : goal.returns-in-Err-clause-ends
+returns-in-Err-clause-ends g c = λ told i stored h.
+    let so_far = c.lines.invariant.going told i stored h in
+    stops_at g.row.D _ _ _ _ _ _ _ _ _ _ so_far _ _ c.first_line.ensures.line c.in-Err.stop (c.in-Err.ensures.answers told so_far.index so_far.stored so_far.stands)
 
-pub returns-clause-count : goal.returns-clause-count
-returns-clause-count g c =
+pub returns-in-Err-clause-cause : goal.returns-in-Err-clause-cause
+returns-in-Err-clause-cause g c = cause_from _ _ _ _ _ _ _ c.lines.invariant.folder_later c.lines.invariant.sink_later (cause_to _ _ _ _ c.in-Err.stop c.in-Err.ensures.cause)
+
+pub returns-clause-ends : goal.returns-clause-ends
+returns-clause-ends g c = λ told i stored h.
     let none : length c.lines.rest.now ≡ 0 = grind (arith, nat_tests) in
-    (finished _ _ c.lines.invariant.going (no_lines _ none) _ c.ended.ensures).1
+    let so_far = c.lines.invariant.going told i stored h in
+    ends_then g.row.D _ _ _ _ _ _ _ so_far (no_lines _ none) _ c.finish.result
+        (end_lines (IsTrue g.K.Sink.told) _ so_far.index so_far.stored c.lines.line c.lines.refused _ c.finish.result (c.finish.ensures.ends told so_far.index so_far.stored so_far.stands))
+
+pub returns-clause-cause : goal.returns-clause-cause
+returns-clause-cause g c = cause_from _ _ _ _ _ _ _ c.lines.invariant.folder_later c.lines.invariant.sink_later (c.finish.ensures.cause _)

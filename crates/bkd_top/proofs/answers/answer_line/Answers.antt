@@ -1,0 +1,23 @@
+-- The answer is sent, or the line is left.
+use Rattle.std.proofs.Common.{IsTrue, refl}
+use Rattle.index_core.proofs.Sizes.{session_fits}
+use Rattle.bkd_top.proofs.Lined.{line_at, sent_answers, sent_as, left_answers, send_cause, fault_cause}
+use Rattle.bkd_top.proofs.answers.answer_line.Goals as goal
+
+pub reply_to-requires-after_bounds : goal.reply_to-requires-after_bounds
+reply_to-requires-after_bounds g c κs = λ _. (session_fits g.row.D c.requires.few, (c.requires.some, c.requires.few))
+
+pub returns-in-Ok-clause-answers : goal.returns-in-Ok-clause-answers
+returns-in-Ok-clause-answers g c = λ told i stored h.
+    sent_answers {told = IsTrue g.K.Sink.told} g.row.D (line_at c.args.number i stored c.args.line.now) _ _ _ _ _ _ c.in-Ok.refused c.clear.ensures.items (c.in-Ok.ensures.replies told i stored h)
+    c.send.result c.send.ensures.known c.send.ensures.cause (λ sink. sent_as _ _ _ _ c.send.result c.as_slice.ensures.value (c.send.ensures.text sink))
+
+pub returns-in-Ok-clause-cause : goal.returns-in-Ok-clause-cause
+returns-in-Ok-clause-cause g c = send_cause _ _ _ _ c.in-Ok.refused c.in-Ok.ensures.cause c.send.result c.send.ensures.cause c.send.ensures.later c.send.ensures.sink
+
+pub returns-in-Err-clause-answers : goal.returns-in-Err-clause-answers
+returns-in-Err-clause-answers g c = λ told i stored h.
+    left_answers (IsTrue g.K.Sink.told) g.row.D (line_at c.args.number i stored c.args.line.now) _ _ _ _ _ _ c.in-Err.fault (c.in-Err.ensures.replies told i stored h) c.stopped.result c.stopped.ensures refl
+
+pub returns-in-Err-clause-cause : goal.returns-in-Err-clause-cause
+returns-in-Err-clause-cause g c = fault_cause _ _ _ c.in-Err.fault c.in-Err.ensures.cause c.stopped.result c.stopped.ensures

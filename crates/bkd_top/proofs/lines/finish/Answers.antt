@@ -1,0 +1,17 @@
+-- What the lines left is committed, or the run stops.
+use Rattle.std.proofs.Common.{refl}
+use Rattle.bkd_top.proofs.Lined.{stops_end, ok_cause, fault_cause}
+use Rattle.bkd_top.proofs.lines.finish.Goals as goal
+
+pub returns-in-Ok-clause-ends : goal.returns-in-Ok-clause-ends
+returns-in-Ok-clause-ends g c = λ told i stored h. (refl, (c.in-Ok.ensures.stored told i h.seen h.guards).0)
+
+pub returns-in-Ok-clause-cause : goal.returns-in-Ok-clause-cause
+returns-in-Ok-clause-cause g c = λ sink. ok_cause _ _ sink _ c.args.refused c.in-Ok.ensures.cause
+
+pub returns-in-Err-clause-ends : goal.returns-in-Err-clause-ends
+returns-in-Err-clause-ends g c = λ told i stored h.
+    stops_end _ _ i stored c.args.refused c.in-Err.fault (c.in-Err.ensures.whole told i h.seen) h.keeps (c.in-Err.ensures.stored told i h.seen h.guards) c.stopped.result c.stopped.ensures
+
+pub returns-in-Err-clause-cause : goal.returns-in-Err-clause-cause
+returns-in-Err-clause-cause g c = λ sink. fault_cause _ _ sink c.in-Err.fault c.in-Err.ensures.cause c.stopped.result c.stopped.ensures

@@ -1,0 +1,30 @@
+-- The lines are done on what the folder stores: no index, or the one whose commit was read.
+use Rattle.std.proofs.Common.{Some, None, IsTrue, refl, arith}
+use Rattle.script_lang.specs.Lines.{lines_of}
+use Rattle.bkd_top.specs.Progress.{start}
+use Rattle.bkd_top.proofs.Ending.{cause_from}
+use Rattle.bkd_top.proofs.Lined.{unopened, fault_cause, from_none, from_some, not_damaged}
+use Rattle.bkd_top.proofs.lines.run_lines.Goals as goal
+
+pub returns-in-Ok-None-clause-ends : goal.returns-in-Ok-None-clause-ends
+returns-in-Ok-None-clause-ends g c = λ told state h.
+    from_none (IsTrue g.K.Sink.told) _ _ _ _ state (c.in-Ok-None.ensures.files told) (rw c.in-Ok-None.field-0-is at (c.in-Ok-None.ensures.found told)) h _ _ c.run_first.result (c.run_first.ensures.ends told)
+
+pub returns-in-Ok-None-clause-cause : goal.returns-in-Ok-None-clause-cause
+returns-in-Ok-None-clause-cause g c = cause_from _ _ _ _ _ _ _ c.in-Ok-None.ensures.cause.later (omega arith) c.run_first.ensures.cause
+
+pub returns-in-Ok-Some-clause-ends : goal.returns-in-Ok-Some-clause-ends
+returns-in-Ok-Some-clause-ends g c = λ told state h.
+    from_some (IsTrue g.K.Sink.told) _ _ _ _ c.in-Ok-Some.commit state (c.in-Ok-Some.ensures.files told) (rw c.in-Ok-Some.field-0-is at (c.in-Ok-Some.ensures.found told)) h _ _ c.run_from.result
+    (c.run_from.ensures.ends told)
+
+pub returns-in-Ok-Some-clause-cause : goal.returns-in-Ok-Some-clause-cause
+returns-in-Ok-Some-clause-cause g c = cause_from _ _ _ _ _ _ _ c.in-Ok-Some.ensures.cause.later (omega arith) c.run_from.ensures.cause
+
+pub returns-in-Err-clause-ends : goal.returns-in-Err-clause-ends
+returns-in-Err-clause-ends g c = λ told state h.
+    unopened (IsTrue g.K.Sink.told) (start state (lines_of c.args.script.now) (g.K.Sink.written c.args.out.now)) _ _ _ c.in-Err.fault
+    (not_damaged _ state h (c.in-Err.ensures.absent told) (c.in-Err.ensures.whole told)) (c.in-Err.ensures.files told) h c.stopped.result c.stopped.ensures refl
+
+pub returns-in-Err-clause-cause : goal.returns-in-Err-clause-cause
+returns-in-Err-clause-cause g c = fault_cause _ _ _ c.in-Err.fault c.in-Err.ensures.cause c.stopped.result c.stopped.ensures

@@ -1,0 +1,24 @@
+-- The lines are done in a session on the index, or none is opened.
+use Rattle.std.proofs.Common.{Some, IsTrue, arith, refl}
+use Rattle.script_lang.specs.Lines.{lines_of}
+use Rattle.index_core.proofs.Sizes.{session_fits}
+use Rattle.bkd_top.proofs.Ending.{cause_from}
+use Rattle.bkd_top.proofs.Lined.{place_on, unopened, fault_cause, origin_keeps}
+use Rattle.bkd_top.proofs.lines.run_over.Goals as goal
+
+pub run_made-requires-after_bounds : goal.run_made-requires-after_bounds
+run_made-requires-after_bounds g c κs = λ _. (session_fits g.row.D c.requires.few, (c.requires.some, (c.requires.few, (c.requires.lines, c.requires.refused))))
+
+pub returns-in-Ok-clause-ends : goal.returns-in-Ok-clause-ends
+returns-in-Ok-clause-ends g c = λ told i stored h. c.run_made.ensures.ends told i stored (c.in-Ok.ensures.stands told i stored h)
+
+pub returns-in-Ok-clause-cause : goal.returns-in-Ok-clause-cause
+returns-in-Ok-clause-cause g c = cause_from _ _ _ _ _ _ _ c.in-Ok.ensures.cause.later (omega arith) c.run_made.ensures.cause
+
+pub returns-in-Err-clause-ends : goal.returns-in-Err-clause-ends
+returns-in-Err-clause-ends g c = λ told i stored h.
+    unopened (IsTrue g.K.Sink.told) (place_on c.args.script.line c.args.script.refused i stored (lines_of c.args.script.rest.now) (g.K.Sink.written c.args.out.now)) _ _ _ c.in-Err.fault
+    (c.in-Err.ensures.whole told i stored h) (c.in-Err.ensures.files told) (origin_keeps _ c.args.origin i stored h) c.stopped.result c.stopped.ensures refl
+
+pub returns-in-Err-clause-cause : goal.returns-in-Err-clause-cause
+returns-in-Err-clause-cause g c = fault_cause _ _ _ c.in-Err.fault c.in-Err.ensures.cause c.stopped.result c.stopped.ensures

@@ -1,0 +1,216 @@
+-- What is stored: by a commit since which nothing changed, and by one that was written.
+use Rattle.std.proofs.Common.{◌≡◌, ◌≤◌, ℕ, true, false, List, [], ◌∷◌, ◌++◌, length, map, Option, Some, Result, Ok, Err, IfOk, OnOk, refl, sym, ap, subst, ◌∙◌, ◌⊎◌, inl, inr, ⊎_elim, arith}
+use Rattle.std.specs.List.{All, AllZip, Contains, filter}
+use Rattle.std.proofs.lemmas.List.{append-nil}
+use Rattle.std.proofs.lemmas.List.Elements.{All-head, All-tail}
+use Rattle.outer_io.specs.declared.file_name.FileName.{FileName}
+use Rattle.outer_io.specs.declared.file_name.FileName.TheVariants.{Commit, CommitNew, Segment, Live}
+use Rattle.outer_io.specs.Files.{Files, bytes_of, SameButTwo}
+use Rattle.point_codec.specs.Points.{Item}
+use Rattle.live_bits.specs.LiveSet.{IsLiveSet, LiveSet, is_live}
+use Rattle.documents.specs.Entries.{AreDocs}
+use Rattle.documents.proofs.Lists.{cons_head, cons_tail}
+use Rattle.page_cache.specs.declared.faults.PageFault.{PageFault}
+use Rattle.commit_list.specs.declared.listed.Listed.{Listed}
+use Rattle.commit_list.specs.Commits.{CommitData}
+use Rattle.commit_list.specs.CommitFiles.{IsCommitFile, IsWrittenCommit}
+use Rattle.commit_list.specs.Layout.{commit_body}
+use Rattle.commit_list.proofs.CommitPages.{one_file}
+use Rattle.segment_file.specs.LiveFiles.{IsLiveFile}
+use Rattle.segment_file.proofs.LiveReads.{set_is}
+use Rattle.segment_file.specs.Segments.{IsSegment}
+use Rattle.stored_index.specs.Segments.{SegmentData, all_live_entries, live_sets, places}
+use Rattle.stored_index.specs.Stored.{HoldAll, HoldsFiles, IsStored, index_of}
+use Rattle.stored_index.specs.Kept.{ListsFile, SameKept}
+use Rattle.stored_index.proofs.KeptFiles.{kept_after, kept_but_commits}
+use Rattle.stored_index.proofs.Whole.{stored_from}
+use Rattle.index_model.specs.State.{Index, at_rest}
+use Rattle.segment_view.specs.Parts.{AreRead, Contents, IsRead, Part, ids_of, live_in_parts, lives_of}
+use Rattle.segment_set.specs.Sets.{IsWell, SetData}
+use Rattle.segment_set.specs.Seen.{Sees}
+use Rattle.segment_set.proofs.Standing.{stands_alike}
+use Rattle.index_core.specs.Sessions.{CoversPart, Guards, IsLast, IsLastCommit, IsUnchanged, ListsOnlyNamed, SessionData}
+use Rattle.index_core.specs.Steps.{KeepsOver, SaysCommit, Stores}
+use Rattle.index_core.proofs.Guarding.{cons_first, cons_rest, listed_still, says_some}
+use Rattle.index_core.proofs.Numbers.{same_live}
+
+-- ---- a commit since which nothing changed
+
+live_file_set : (segment generation : ℕ) (bytes : List ℕ) (live : LiveSet) → IsLiveFile segment generation bytes live → IsLiveSet live
+unfolding IsLiveFile
+live_file_set segment generation bytes live file = set_is segment generation live file.body file.set
+
+-- a segment of the set, as the files hold it
+abbrev data_of : Contents → Part → SegmentData
+data_of c p = record { head = p.head; entries = c p.head.id; live = p.live }
+
+sets_of : (c : Contents) (parts : List Part) → live_sets (map (data_of c) parts) ≡ lives_of parts
+sets_of c [] = refl
+sets_of c (p ∷ ps) = ap (λ (ss : List LiveSet). p.live ∷ ss) (sets_of c ps)
+
+entries_of : (c : Contents) (parts : List Part) → all_live_entries (map (data_of c) parts) ≡ live_in_parts c parts
+entries_of c [] = refl
+entries_of c (p ∷ ps) = ap (λ (xs : List Item). filter (λ (x : Item). is_live p.live x.doc) (c p.head.id) ++ xs) (entries_of c ps)
+
+-- the files of a listed segment hold the part that they cover, where as many numbers are live in it as it is listed with
+holds_part : (D : ℕ) (files : Files) (contents : Contents) (c : CommitData) (l : Listed) (p : Part) → c.dims ≡ D → p.head.leaf ≡ c.leaf → IsRead D files contents p → IsLiveSet p.live
+    → l.segment ≡ p.head.id → length p.live.live ≡ l.live → CoversPart files l p → HoldsFiles files c l (data_of contents p)
+holds_part D files contents c l p dims leaf read set id count covers = record {
+  segment = subst (λ n. IsSegment n (bytes_of (files (Segment l.segment))) p.head (contents p.head.id)) (sym dims)
+      (subst (λ n. IsSegment D (bytes_of (files (Segment n))) p.head (contents p.head.id)) (sym id) read.held);
+  live = subst (IsLiveFile l.segment l.generation (bytes_of (files (Live l.segment l.generation)))) (sym same) covers.file;
+  id = sym id;
+  leaf_size = leaf;
+  count = sym covers.entries;
+  live_count = count;
+  found = read.found;
+}
+  where
+    same : p.live ≡ covers.live
+    same = same_live p.live covers.live set (live_file_set l.segment l.generation _ covers.live covers.file) covers.covers (count ∙ sym covers.count)
+
+hold_parts : (D : ℕ) (files : Files) (contents : Contents) (c : CommitData) (listed : List Listed) (parts : List Part) → c.dims ≡ D → All (λ p. p.head.leaf ≡ c.leaf) parts → AreRead D files contents parts
+    → All (λ p. IsLiveSet p.live) parts → ids_of parts ≡ map (λ l. l.segment) listed → map (λ p. length p.live.live) parts ≡ map (λ l. l.live) listed
+    → ((l : Listed) (p : Part) → Contains listed l → Contains parts p → l.segment ≡ p.head.id → CoversPart files l p)
+    → AllZip (HoldsFiles files c) listed (map (data_of contents) parts)
+hold_parts D files contents c [] [] dims leaf read sets ids counts covers = tt
+hold_parts D files contents c [] (p ∷ ps) dims leaf read sets ids counts covers = absurd cc
+hold_parts D files contents c (l ∷ ls) [] dims leaf read sets ids counts covers = absurd cc
+hold_parts D files contents c (l ∷ ls) (p ∷ ps) dims leaf read sets ids counts covers = (
+  holds_part D files contents c l p dims (All-head (λ (q : Part). q.head.leaf ≡ c.leaf) p ps leaf) (All-head (IsRead D files contents) p ps read) (All-head (λ (q : Part). IsLiveSet q.live) p ps sets)
+      (sym (cons_first ids)) (cons_first counts) (covers l p (cons_head l ls) (cons_head p ps) (sym (cons_first ids))),
+  hold_parts D files contents c ls ps dims (All-tail (λ (q : Part). q.head.leaf ≡ c.leaf) p ps leaf) (All-tail (IsRead D files contents) p ps read) (All-tail (λ (q : Part). IsLiveSet q.live) p ps sets)
+      (cons_rest ids) (cons_rest counts) (λ m q inside there same. covers m q (cons_tail l ls m inside) (cons_tail p ps q there) same),
+)
+
+pub unchanged_is_stored : (D : ℕ) (files : Files) (s : SessionData) (i : Index) → IsUnchanged D s → Guards D files s → Sees D files s.set i → IsStored files (Some (at_rest i))
+unchanged_is_stored D files s i unchanged guards seen =
+    subst (λ (x : Index). IsStored files (Some x)) is (stored_from files c parts i.docs last.says held alone docs few)
+  where
+    c : CommitData
+    c = unchanged.commit
+
+    last : IsLastCommit files s.set c
+    last = subst (λ (o : Option CommitData). IsLast files s.set o) unchanged.is (guards.last unchanged.done)
+
+    leaf : c.leaf ≡ s.set.leaf
+    leaf = ⊎_elim (λ none. absurd (says_some files c none last.says))
+        (λ (h : ListsOnlyNamed D files s.set). ap (λ (d : CommitData). d.leaf) (one_file (bytes_of (files Commit)) c h.commit last.says h.says) ∙ h.leaf) guards.set
+
+    parts : List SegmentData
+    parts = map (data_of seen.contents) s.set.parts
+
+    entries : all_live_entries parts ≡ live_in_parts seen.contents s.set.parts ++ s.set.buffer
+    entries = entries_of seen.contents s.set.parts ∙ sym (append-nil (live_in_parts seen.contents s.set.parts)) ∙ ap (λ (xs : List Item). live_in_parts seen.contents s.set.parts ++ xs) (sym unchanged.same.empty)
+
+    held : HoldAll files c parts
+    held = hold_parts D files seen.contents c c.listed s.set.parts unchanged.dims (λ k d lt. unchanged.well.leaf_size k d lt ∙ sym leaf) seen.stands.now unchanged.sets unchanged.same.ids unchanged.same.counts last.covers
+
+    alone : (number : ℕ) → places number (live_sets parts) ≤ 1
+    alone number = subst (λ (ss : List LiveSet). places number ss ≤ 1) (sym (sets_of seen.contents s.set.parts)) (omega (arith, unchanged.well.spread.alone number))
+
+    docs : AreDocs c.next (all_live_entries parts) i.docs
+    docs = subst (λ n. AreDocs n (all_live_entries parts) i.docs) unchanged.same.next (subst (λ (xs : List Item). AreDocs s.set.next xs i.docs) (sym entries) seen.docs)
+
+    few : length (all_live_entries parts) ≤ c.given
+    few = let long = ap length entries in let most = seen.few in let given = unchanged.same.given in omega arith
+
+    is : index_of c i.docs ≡ at_rest i
+    is = λ j. record {
+      dims = (unchanged.dims ∙ sym seen.dims) j;
+      leaf = (leaf ∙ sym seen.leaf) j;
+      next = (sym unchanged.same.next ∙ sym seen.next) j;
+      given = (sym unchanged.same.given ∙ sym seen.given) j;
+      docs = i.docs;
+      snapshots = [];
+      begun = false;
+    }
+
+-- the Commit file says the session's commit, where none was refused
+pub unchanged_says : (D : ℕ) (files : Files) (s : SessionData) → IsUnchanged D s → Guards D files s → SaysCommit files s.commit
+unchanged_says D files s unchanged guards =
+    (unchanged.commit, unchanged.is, (subst (λ (o : Option CommitData). IsLast files s.set o) unchanged.is (guards.last unchanged.done)).says)
+
+-- ---- a commit that was written
+
+-- what a save promises of the files in which the commit that it answers is put
+abbrev pub Promises : Files → CommitData → Index → Type 0
+Promises f c i = (files : Files) → IsCommitFile (bytes_of (files Commit)) c → ((m : FileName) → ListsFile c m → files m ≡ f m) → IsStored files (Some (at_rest i))
+
+-- it comes true with the Commit file
+pub written_is_stored : (f g : Files) (c : CommitData) (i : Index) → Promises f c i → SameButTwo CommitNew Commit f g → IsCommitFile (bytes_of (g Commit)) c → IsStored g (Some (at_rest i))
+written_is_stored f g c i promise others says = promise g says (λ m lists. listed_still f g c m others lists)
+
+-- the set is seen as before, since no segment's file was changed
+pub written_is_seen : (D : ℕ) (f g : Files) (s : SetData) (i : Index) → IsWell D s → SameButTwo CommitNew Commit f g → Sees D f s i → Sees D g s i
+written_is_seen D f g s i well others seen = record {
+  contents = seen.contents;
+  stands = stands_alike D f g seen.contents seen.contents s well (record { files = λ id named. others (Segment id) (λ e. cc) (λ e. cc); entries = λ id named. refl }) seen.stands;
+  dims = seen.dims;
+  leaf = seen.leaf;
+  next = seen.next;
+  given = seen.given;
+  begun = seen.begun;
+  docs = seen.docs;
+  few = seen.few;
+  snapshots = seen.snapshots;
+}
+
+-- of the session that the code opened
+pub seen_done : (D : ℕ) (f g : Files) (s u : SessionData) (i : Index) → u ≡ s → IsWell D u.set → SameButTwo CommitNew Commit f g → Sees D f s.set i → Sees D g u.set i
+seen_done D f g s u i same well others seen = written_is_seen D f g u.set i well others (subst (λ (v : SessionData). Sees D f v.set i) (sym same) seen)
+
+pub stores_done : (f g : Files) (s u : SessionData) (c : CommitData) (i : Index) → u ≡ s → s.set.buffer ≡ [] → Promises f c i → SameButTwo CommitNew Commit f g → IsCommitFile (bytes_of (g Commit)) c
+    → IsStored g (Some (at_rest i)) × (u.set.buffer ≡ [])
+stores_done f g s u c i same empty promise others says = (written_is_stored f g c i promise others says, ap (λ (v : SessionData). v.set.buffer) same ∙ empty)
+
+pub stores_undone : (f g : Files) (c : CommitData) (i : Index) → Promises f c i → SameButTwo CommitNew Commit f g → (g Commit ≡ f Commit) ⊎ IsCommitFile (bytes_of (g Commit)) c
+    → SameKept f g ⊎ IsStored g (Some (at_rest i))
+stores_undone f g c i promise others which = ⊎_elim
+    (λ stays. inl (kept_but_commits f g others stays))
+    (λ says. inr (written_is_stored f g c i promise others says))
+    which
+
+-- ---- what is kept, whatever is answered
+
+pub says_written : (file : Option (List ℕ)) (c : CommitData) → IsWrittenCommit (bytes_of file) c → IsCommitFile (bytes_of file) c
+says_written file c written = record { body = commit_body c; file = written.file; spells = written.spells }
+
+pub which_says : (f g : Files) (c : CommitData) → (g Commit ≡ f Commit) ⊎ IsWrittenCommit (bytes_of (g Commit)) c → (g Commit ≡ f Commit) ⊎ IsCommitFile (bytes_of (g Commit)) c
+which_says f g c which = ⊎_elim inl (λ written. inr (says_written (g Commit) c written)) which
+
+pub kept_undone : (f g : Files) (c : CommitData) (saved : Option CommitData) → saved ≡ Some c → SameButTwo CommitNew Commit f g → (g Commit ≡ f Commit) ⊎ IsCommitFile (bytes_of (g Commit)) c
+    → SameKept f g ⊎ SaysCommit g saved
+kept_undone f g c saved is others which = ⊎_elim (λ stays. inl (kept_but_commits f g others stays)) (λ says. inr (c, is, says)) which
+
+pub says_still : (f g : Files) (commit other : Option CommitData) → SameKept f g → other ≡ commit → SaysCommit f commit → SaysCommit g other
+says_still f g commit other kept same (c, is, says) = (c, same ∙ is, subst (λ (b : Option (List ℕ)). IsCommitFile (bytes_of b) c) (sym kept.commit) says)
+
+pub keeps_fault : {T : Type 0} (f g : Files) (s : SessionData) (r : Result T PageFault) (fault : PageFault) → r ≡ Err fault → SameKept f g ⊎ SaysCommit g s.set.saved → KeepsOver true f g s r
+keeps_fault f g s r fault is kept = subst (KeepsOver true f g s) (sym is) kept
+
+pub keeps_any : {T : Type 0} (f g : Files) (s : SessionData) (r : Result T PageFault) → s.set.saved ≡ s.commit → SaysCommit g s.commit → KeepsOver true f g s r
+keeps_any f g s (Ok x) saved says = says
+keeps_any f g s (Err fault) saved (c, is, says) = inr (c, saved ∙ is, says)
+
+pub stores_fault : {T : Type 0} (f g : Files) (i : Index) (s : SetData) (r : Result T PageFault) (fault : PageFault) → r ≡ Err fault → SameKept f g ⊎ IsStored g (Some (at_rest i)) → Stores f g i s r
+stores_fault f g i s r fault is stored = subst (Stores f g i s) (sym is) stored
+
+pub stores_any : {T : Type 0} (f g : Files) (i : Index) (s : SetData) (r : Result T PageFault) → IsStored g (Some (at_rest i)) → s.buffer ≡ [] → Stores f g i s r
+stores_any f g i s (Ok x) stored empty = (stored, empty)
+stores_any f g i s (Err fault) stored empty = inr stored
+
+-- after a call that kept all
+pub kept_on : (f g h : Files) {P : Type 0} → SameKept f g → SameKept g h ⊎ P → SameKept f h ⊎ P
+kept_on f g h first second = ⊎_elim (λ kept. inl (kept_after f g h first kept)) inr second
+
+pub on_ok_any : {T E P : Type 0} (r : Result T E) → P → OnOk r P
+on_ok_any (Ok x) p = p
+on_ok_any (Err e) p = tt
+
+pub on_ok_none : {T E : Type 0} (P : Type 0) (r : Result T E) (e : E) → r ≡ Err e → OnOk r P
+on_ok_none P r e is = subst (λ q. OnOk q P) (sym is) tt
+
+pub on_ok_each : {T E : Type 0} {P Q : T → Type 0} → ((x : T) → P x → Q x) → (r : Result T E) → IfOk r P → IfOk r Q
+on_ok_each h (Ok x) p = h x p
+on_ok_each h (Err e) p = tt

@@ -1,0 +1,312 @@
+-- What a session guards stays so, through calls on its set, a commit and a sweep.
+use Rattle.std.proofs.Common.{◌≡◌, ◌<◌, ◌↔◌, ℕ, true, false, List, [], ◌∷◌, length, map, Option, None, Some, is_some, Result, Ok, Err, IfOk, refl, sym, ap, subst, ◌∙◌, ◌⊎◌, inl, inr, ⊎_elim, arith}
+use Rattle.std.specs.List.{AllPairs, AllZip, Contains}
+use Rattle.std.proofs.lemmas.Bool.{both_ways}
+use Rattle.std.proofs.lemmas.List.Kept.{AllPairs-from_increasing}
+use Rattle.outer_io.specs.declared.file_name.FileName.{FileName}
+use Rattle.outer_io.specs.declared.file_name.FileName.TheVariants.{Commit, CommitNew, Segment, Live}
+use Rattle.outer_io.specs.Files.{Files, bytes_of, SameButTwo}
+use Rattle.documents.proofs.Lists.{cons_cases, in_map, nil_none, pairs_head, pairs_tail}
+use Rattle.commit_list.specs.declared.listed.Listed.{Listed}
+use Rattle.commit_list.specs.Commits.{CommitData, IsCommit, ids_of}
+use Rattle.commit_list.specs.CommitFiles.{IsCommitFile}
+use Rattle.commit_list.proofs.CommitPages.{file_there, one_file}
+use Rattle.segment_file.specs.Heads.{Head}
+use Rattle.segment_file.specs.LiveFiles.{IsLiveFile}
+use Rattle.stored_index.specs.Kept.{ListsFile, SameKept}
+use Rattle.stored_index.specs.Stored.{HasLive, HaveLive}
+use Rattle.stored_index.proofs.KeptFiles.{kept_named, kept_none, never_commits}
+use Rattle.stored_index.proofs.Pairwise.{partner_of}
+use Rattle.segment_view.specs.Parts.{Part, lives_of}
+use Rattle.file_names.specs.Names.{NameList, is_named}
+use Rattle.segment_set.specs.Sets.{SetData}
+use Rattle.segment_set.specs.Kept.{Follows, IsAtRest, IsCommitOf, IsNeeded, IsWithin, KeepsNamed}
+use Rattle.segment_set.proofs.Carried.{within_itself, within_then}
+use Rattle.index_core.specs.Sessions.{CoversPart, Guards, GuardsSet, IsLast, IsLastCommit, ListsOnlyNamed, SessionData}
+
+-- ---- lists
+
+pub cons_first : {A : Type 0} {x y : A} {xs ys : List A} → x ∷ xs ≡ y ∷ ys → x ≡ y
+cons_first e = cc
+
+pub cons_rest : {A : Type 0} {x y : A} {xs ys : List A} → x ∷ xs ≡ y ∷ ys → xs ≡ ys
+cons_rest e = cc
+
+-- ---- what the Commit file says
+
+moved_says : (old new : Files) (c : CommitData) → new Commit ≡ old Commit → IsCommitFile (bytes_of (old Commit)) c → IsCommitFile (bytes_of (new Commit)) c
+moved_says old new c same says = subst (λ (b : Option (List ℕ)). IsCommitFile (bytes_of b) c) (sym same) says
+
+pub says_some : (files : Files) (c : CommitData) → files Commit ≡ None → IsCommitFile (bytes_of (files Commit)) c → ⊥
+says_some files c none says = let there = (file_there (files Commit) c says).0 in cc
+
+-- what the file's commit lists is named
+pub names_listed : (D : ℕ) (files : Files) (s : SetData) (c : CommitData) → GuardsSet D files s → IsCommitFile (bytes_of (files Commit)) c → (m : FileName) → ListsFile c m → is_named s.names.names m ≡ true
+names_listed D files s c guards says m lists = ⊎_elim
+    (λ none. absurd (says_some files c none says))
+    (λ h. h.named m (subst (λ (d : CommitData). ListsFile d m) (one_file (bytes_of (files Commit)) c h.commit says h.says) lists))
+    guards
+
+-- ---- through calls on the set
+
+pub set_after : (D : ℕ) (told : Type 0) (f g : Files) (s t : SetData) → told → KeepsNamed told s.names t.names f g → t.leaf ≡ s.leaf → GuardsSet D f s → GuardsSet D g t
+set_after D told f g s t is_told keeps leaf guards = ⊎_elim
+    (λ none. inl (keeps.commit is_told ∙ none))
+    (λ h. inr (record {
+      commit = h.commit;
+      says = moved_says f g h.commit (keeps.commit is_told) h.says;
+      dims = h.dims;
+      leaf = h.leaf ∙ sym leaf;
+      named = λ m lists. keeps.more m (h.named m lists);
+    }))
+    guards
+
+part_after : (f g : Files) (l : Listed) (p q : Part) → g (Live l.segment l.generation) ≡ f (Live l.segment l.generation) → p.head ≡ q.head → IsWithin p.live q.live → CoversPart f l q → CoversPart g l p
+part_after f g l p q same head within covers = record {
+  entries = covers.entries ∙ ap (λ (h : Head). h.entries) (sym head);
+  live = covers.live;
+  file = subst (λ (b : Option (List ℕ)). IsLiveFile l.segment l.generation (bytes_of b) covers.live) (sym same) covers.file;
+  count = covers.count;
+  covers = within_then p.live q.live covers.live within covers.covers;
+}
+
+pub last_after : (D : ℕ) (told : Type 0) (f g : Files) (s t : SetData) (commit : Option CommitData) → told → KeepsNamed told s.names t.names f g → Follows s.names s.parts t.parts → GuardsSet D f s
+    → IsLast f s commit → IsLast g t commit
+last_after D told f g s t None is_told keeps follows guards last = keeps.commit is_told ∙ last
+last_after D told f g s t (Some c) is_told keeps follows guards last = record {
+  says = moved_says f g c (keeps.commit is_told) last.says;
+  covers = λ l p inside there same. ⊎_elim
+      (λ fresh. absurd (both_ways (is_named s.names.names (Segment p.head.id)) fresh
+      (subst (λ n. is_named s.names.names (Segment n) ≡ true) same (names_listed D f s c guards last.says (Segment l.segment) (l, inside, refl)))))
+      (λ (q, here, head, within). part_after f g l p q
+      (keeps.files is_told (Live l.segment l.generation) (names_listed D f s c guards last.says (Live l.segment l.generation) (l, inside, refl, refl)))
+      head within (last.covers l q inside here (same ∙ ap (λ (h : Head). h.id) head)))
+      (follows.each p there);
+}
+
+pub guards_after : (D : ℕ) (told : Type 0) (f g : Files) (s t : SessionData) → told → t.commit ≡ s.commit → t.refused ≡ s.refused → KeepsNamed told s.set.names t.set.names f g
+    → Follows s.set.names s.set.parts t.set.parts → t.set.leaf ≡ s.set.leaf → Guards D f s → Guards D g t
+guards_after D told f g s t is_told commit refused keeps follows leaf guards = record {
+  set = set_after D told f g s.set t.set is_told keeps leaf guards.set;
+  last = λ done. subst (IsLast g t.set) (sym commit) (last_after D told f g s.set t.set s.commit is_told keeps follows guards.set (guards.last (sym refused ∙ done)));
+}
+
+pub kept_after_calls : (D : ℕ) (told : Type 0) (f g : Files) (s : SetData) (names : NameList) → told → KeepsNamed told s.names names f g → GuardsSet D f s → SameKept f g
+kept_after_calls D told f g s names is_told keeps guards = ⊎_elim
+    (λ none. kept_none f g none (keeps.commit is_told ∙ none))
+    (λ h. kept_named f g (is_named s.names.names) (keeps.commit is_told) (λ c says. names_listed D f s c (inr h) says) (keeps.files is_told))
+    guards
+
+-- ---- a commit that lists the segments of now
+
+abbrev Rise : List ℕ → Type 0
+Rise ids = AllPairs (λ (a b : ℕ). a < b) ids
+
+-- ids that rise are those of one listed segment each
+one_listed : (listed : List Listed) (l m : Listed) → Rise (ids_of listed) → Contains listed l → Contains listed m → l.segment ≡ m.segment → l ≡ m
+one_listed [] l m up h k same = nil_none l _ h
+one_listed (x ∷ xs) l m up h k same = ⊎_elim
+    (λ here. ⊎_elim
+    (λ there. sym here ∙ there)
+    (λ later. let lt = first m later in absurd (omega (arith, lt, ap (λ (z : Listed). z.segment) here, same)))
+    (cons_cases x xs m k))
+    (λ after. ⊎_elim
+    (λ there. let lt = first l after in absurd (omega (arith, lt, ap (λ (z : Listed). z.segment) there, same)))
+    (λ later. one_listed xs l m (pairs_tail (λ (a b : ℕ). a < b) x.segment (ids_of xs) up) after later same)
+    (cons_cases x xs m k))
+    (cons_cases x xs l h)
+  where
+    first : (y : Listed) → Contains xs y → x.segment < y.segment
+    first y there = pairs_head (λ (a b : ℕ). a < b) x.segment (ids_of xs) up y.segment (in_map (λ (s : Listed). s.segment) xs y there)
+
+-- each listed segment stands beside the segment of its id
+beside : (R : Listed → Part → Type 0) (c : CommitData) (parts : List Part) → IsCommit c → ((l : Listed) (p : Part) → R l p → l.segment ≡ p.head.id) → AllZip R c.listed parts
+    → (l : Listed) (p : Part) → Contains c.listed l → Contains parts p → l.segment ≡ p.head.id → R l p
+beside R c parts rules ids all l p inside there same =
+    let m = partner_of R c.listed parts all p there in
+    subst (λ (k : Listed). R k p) (one_listed c.listed m.0 l (AllPairs-from_increasing (ids_of c.listed) rules.segments.rising) m.1 inside (ids m.0 p m.2 ∙ sym same)) m.2
+
+-- it is listed with the part's entries and live numbers, and its file of live bits holds just these
+pub record IsListedAs (files : Files) (l : Listed) (p : Part) : Type 0 where
+  pub segment : l.segment ≡ p.head.id
+  pub entries : l.entries ≡ p.head.entries
+  pub count : l.live ≡ length p.live.live
+  pub file : IsLiveFile l.segment l.generation (bytes_of (files (Live l.segment l.generation))) p.live
+
+pub covers_all : (files : Files) (c : CommitData) (parts : List Part) → IsCommitFile (bytes_of (files Commit)) c → AllZip (IsListedAs files) c.listed parts
+    → (l : Listed) (p : Part) → Contains c.listed l → Contains parts p → l.segment ≡ p.head.id → CoversPart files l p
+covers_all files c parts says all l p inside there same =
+    let is = beside (IsListedAs files) c parts (says.spells.commit) (λ m q h. h.segment) all l p inside there same in
+    record { entries = is.entries; live = p.live; file = is.file; count = sym is.count; covers = within_itself p.live }
+
+-- two facts of each pair
+pub zip_both : {A B : Type 0} (R S T : A → B → Type 0) (xs : List A) (ys : List B) → ((x : A) (y : B) → R x y → S x y → T x y) → AllZip R xs ys → AllZip S xs ys → AllZip T xs ys
+zip_both R S T [] [] both p q = tt
+zip_both R S T [] (y ∷ ys) both p q = absurd p
+zip_both R S T (x ∷ xs) [] both p q = absurd p
+zip_both R S T (x ∷ xs) (y ∷ ys) both p q = (both x y p.0 q.0, zip_both R S T xs ys both p.1 q.1)
+
+-- ---- a commit
+
+-- the Commit file says one that was saved of the set
+pub set_written : (D : ℕ) (files : Files) (s : SetData) (c : CommitData) → IsCommitOf D s c → IsCommitFile (bytes_of (files Commit)) c → GuardsSet D files s
+set_written D files s c of says = inr (record { commit = c; says = says; dims = of.dims; leaf = of.leaf; named = of.named })
+
+-- all files but the two of commits are as they were
+pub listed_still : (f g : Files) (c : CommitData) (m : FileName) → SameButTwo CommitNew Commit f g → ListsFile c m → g m ≡ f m
+listed_still f g c m others lists = let apart = never_commits c m lists in others m apart.1 apart.0
+
+pub guards_written : (D : ℕ) (f g : Files) (s : SetData) (c : CommitData) → IsCommitOf D s c
+    → AllZip (λ (l : Listed) (p : Part). IsLiveFile l.segment l.generation (bytes_of (f (Live l.segment l.generation))) p.live) c.listed s.parts
+    → SameButTwo CommitNew Commit f g → IsCommitFile (bytes_of (g Commit)) c → Guards D g (record { set = s; commit = Some c; refused = false })
+guards_written D f g s c of lives others says = record {
+  set = set_written D g s c of says;
+  last = λ done. record {
+    says = says;
+    covers = covers_all g c s.parts says
+        (zip_both (λ (l : Listed) (p : Part). (l.segment ≡ p.head.id) × (l.entries ≡ p.head.entries) × (l.live ≡ length p.live.live))
+        (λ (l : Listed) (p : Part). IsLiveFile l.segment l.generation (bytes_of (f (Live l.segment l.generation))) p.live)
+        (IsListedAs g) c.listed s.parts
+        (λ l p same file. record {
+          segment = same.0;
+          entries = same.1;
+          count = same.2;
+          file = subst (λ (b : Option (List ℕ)). IsLiveFile l.segment l.generation (bytes_of b) p.live) (sym (others (Live l.segment l.generation) (λ e. cc) (λ e. cc))) file;
+        })
+        of.lists lives);
+  };
+}
+
+-- one that was refused: whichever of the two is there, the set guards it
+pub guards_refused : (D : ℕ) (f g : Files) (s : SessionData) (c : CommitData) → s.refused ≡ true → IsCommitOf D s.set c → GuardsSet D f s.set
+    → (g Commit ≡ f Commit) ⊎ IsCommitFile (bytes_of (g Commit)) c → Guards D g s
+guards_refused D f g s c refused of guards which = record {
+  set = ⊎_elim
+      (λ same. ⊎_elim
+      (λ none. inl (same ∙ none))
+      (λ h. inr (record { commit = h.commit; says = moved_says f g h.commit same h.says; dims = h.dims; leaf = h.leaf; named = h.named }))
+      guards)
+      (λ says. set_written D g s.set c of says)
+      which;
+  last = λ done. absurd (both_ways s.refused done refused);
+}
+
+-- of the session that the code opened
+pub guards_done : (D : ℕ) (f g : Files) (s u : SessionData) (c : CommitData) → u ≡ s → IsCommitOf D s.set c
+    → AllZip (λ (l : Listed) (p : Part). IsLiveFile l.segment l.generation (bytes_of (f (Live l.segment l.generation))) p.live) c.listed s.set.parts
+    → SameButTwo CommitNew Commit f g → IsCommitFile (bytes_of (g Commit)) c → Guards D g (record { set = u.set; commit = Some c; refused = false })
+guards_done D f g s u c same of lives others says =
+    subst (λ (v : SessionData). Guards D g (record { set = v.set; commit = Some c; refused = false })) (sym same) (guards_written D f g s.set c of lives others says)
+
+pub guards_undone : (D : ℕ) (f g : Files) (s u : SessionData) (c : CommitData) → u ≡ s → IsCommitOf D s.set c → GuardsSet D f s.set → (g Commit ≡ f Commit) ⊎ IsCommitFile (bytes_of (g Commit)) c
+    → Guards D g (record { set = u.set; commit = u.commit; refused = true })
+guards_undone D f g s u c same of guards which =
+    subst (λ (v : SessionData). Guards D g (record { set = v.set; commit = v.commit; refused = true })) (sym same)
+    (guards_refused D f g (record { set = s.set; commit = s.commit; refused = true }) c refl of guards which)
+
+-- ---- a sweep
+
+-- what it leaves of what the last save's commit needs
+pub record IsSwept (f g : Files) (s t : SetData) (c : CommitData) : Type 0 where
+  pub commit : g Commit ≡ f Commit
+  pub files : (m : FileName) → IsNeeded s c m → g m ≡ f m
+  pub named : (m : FileName) → IsNeeded s c m → is_named s.names.names m ≡ true → is_named t.names.names m ≡ true
+  pub parts : t.parts ≡ s.parts
+  pub leaf : t.leaf ≡ s.leaf
+
+pub guards_swept : (D : ℕ) (f g : Files) (s t : SetData) (c : CommitData) → IsSwept f g s t c
+    → Guards D f (record { set = s; commit = Some c; refused = false }) → Guards D g (record { set = t; commit = Some c; refused = false })
+guards_swept D f g s t c swept guards = record {
+  set = inr (record {
+    commit = c;
+    says = moved_says f g c swept.commit last.says;
+    dims = ⊎_elim (λ none. absurd (says_some f c none last.says)) (λ h. ap (λ (d : CommitData). d.dims) (same h) ∙ h.dims) guards.set;
+    leaf = ⊎_elim (λ none. absurd (says_some f c none last.says)) (λ h. ap (λ (d : CommitData). d.leaf) (same h) ∙ h.leaf ∙ sym swept.leaf) guards.set;
+    named = λ m lists. swept.named m (inl lists) (names_listed D f s c guards.set last.says m lists);
+  });
+  last = λ done. record {
+    says = moved_says f g c swept.commit last.says;
+    covers = λ l p inside there id.
+        let covers = last.covers l p inside (subst (λ (ps : List Part). Contains ps p) swept.parts there) id in
+        part_after f g l p p (swept.files (Live l.segment l.generation) (inl (l, inside, refl, refl))) refl (within_itself p.live) covers;
+  };
+}
+  where
+    last : IsLastCommit f s c
+    last = guards.last refl
+
+    same : (h : ListsOnlyNamed D f s) → c ≡ h.commit
+    same h = one_file (bytes_of (f Commit)) c h.commit last.says h.says
+
+pub kept_swept : (f g : Files) (s t : SetData) (c : CommitData) → IsSwept f g s t c → IsCommitFile (bytes_of (f Commit)) c → SameKept f g
+kept_swept f g s t c swept says = record {
+  commit = swept.commit;
+  listed = λ d other m lists. swept.files m (inl (subst (λ (e : CommitData). ListsFile e m) (one_file (bytes_of (f Commit)) d c other says) lists));
+}
+
+pub saved_some : (saved commit : Option CommitData) → is_some commit ≡ true → saved ≡ commit → saved ≡ None → ⊥
+saved_some saved commit some same none = let no : is_some {T = CommitData} None ≡ true = ap is_some (sym none ∙ same) ∙ some in absurd cc
+
+-- a session whose set was swept, of the commit that its set saved
+swept_as : (D : ℕ) (f g : Files) (s t : SessionData) (c : CommitData) → s.commit ≡ Some c → s.refused ≡ false → t.commit ≡ s.commit → t.refused ≡ false → IsSwept f g s.set t.set c
+    → Guards D f s → Guards D g t × SameKept f g
+swept_as D f g s t c is done same still swept guards = (subst (Guards D g) (sym after) (guards_swept D f g s.set t.set c swept now), kept_swept f g s.set t.set c swept ((now.last refl).says))
+  where
+    before : s ≡ record { set = s.set; commit = Some c; refused = false }
+    before = λ j. record { set = s.set; commit = is j; refused = done j }
+
+    after : t ≡ record { set = t.set; commit = Some c; refused = false }
+    after = λ j. record { set = t.set; commit = (same ∙ is) j; refused = still j }
+
+    now : Guards D f (record { set = s.set; commit = Some c; refused = false })
+    now = subst (Guards D f) before guards
+
+pub session_swept : (D : ℕ) (f g : Files) (s t : SessionData) → is_some s.commit ≡ true → s.set.saved ≡ s.commit → s.refused ≡ false → t.commit ≡ s.commit → t.refused ≡ false
+    → ((c : CommitData) → s.set.saved ≡ Some c → IsSwept f g s.set t.set c) → Guards D f s → Guards D g t × SameKept f g
+session_swept D f g s t some saved done same still swept guards = by s.commit refl some
+  where
+    by : (o : Option CommitData) → s.commit ≡ o → is_some o ≡ true → Guards D g t × SameKept f g
+    by None is e = absurd cc
+    by (Some c) is e = swept_as D f g s t c is done same still (swept c (saved ∙ is)) guards
+
+-- ---- a set anew
+
+-- the set of a commit that the file says guards it
+pub guards_attached : (D : ℕ) (files : Files) (s : SessionData) (c : CommitData) → s.commit ≡ Some c → c.dims ≡ D → IsCommitFile (bytes_of (files Commit)) c → IsAtRest s.set c
+    → ((m : FileName) → (is_named s.set.names.names m ≡ true) ↔ ListsFile c m) → HaveLive files c (lives_of s.set.parts) → Guards D files s
+guards_attached D files s c is dims says rest names lives = record {
+  set = inr (record { commit = c; says = says; dims = dims; leaf = sym rest.leaf; named = λ m lists. (names m).1 lists });
+  last = λ done. subst (IsLast files s.set) (sym is) (record {
+    says = says;
+    covers = covers_all files c s.set.parts says
+        (listed_as files c.listed s.set.parts rest.as_committed.ids rest.entries rest.as_committed.counts lives);
+  });
+}
+  where
+    listed_as : (files : Files) (listed : List Listed) (parts : List Part) → map (λ (p : Part). p.head.id) parts ≡ map (λ (l : Listed). l.segment) listed
+        → map (λ (p : Part). p.head.entries) parts ≡ map (λ (l : Listed). l.entries) listed → map (λ (p : Part). length p.live.live) parts ≡ map (λ (l : Listed). l.live) listed
+        → AllZip (HasLive files) listed (lives_of parts) → AllZip (IsListedAs files) listed parts
+    listed_as files [] [] ids entries counts lives = tt
+    listed_as files [] (p ∷ ps) ids entries counts lives = absurd lives
+    listed_as files (l ∷ ls) [] ids entries counts lives = absurd lives
+    listed_as files (l ∷ ls) (p ∷ ps) ids entries counts lives = (
+      record {
+        segment = sym (cons_first ids);
+        entries = sym (cons_first entries);
+        count = sym (cons_first counts);
+        file = lives.0;
+      },
+      listed_as files ls ps (cons_rest ids) (cons_rest entries) (cons_rest counts) lives.1,
+    )
+
+-- the Commit file says the last commit of the session that the code opened
+pub says_last : (D : ℕ) (files : Files) (s u : SessionData) {c : CommitData} → u ≡ s → u.commit ≡ Some c → s.refused ≡ false → Guards D files s → IsCommitFile (bytes_of (files Commit)) c
+says_last D files s u {c = c} same is done guards =
+    (subst (λ (o : Option CommitData). IsLast files s.set o) (ap (λ (v : SessionData). v.commit) (sym same) ∙ is) (guards.last done)).says
+
+pub guards_anew : {E : Type 0} (D : ℕ) (files : Files) (s u : SessionData) (c : CommitData) (r : Result SetData E) → u ≡ s → u.commit ≡ Some c → c.dims ≡ D → IsCommitFile (bytes_of (files Commit)) c
+    → IfOk r (λ t. IsAtRest t c) → IfOk r (λ t. (m : FileName) → (is_named t.names.names m ≡ true) ↔ ListsFile c m) → IfOk r (λ t. HaveLive files c (lives_of t.parts))
+    → IfOk r (λ t. Guards D files (record s { set = t }))
+guards_anew D files s u c (Ok t) same is dims says rest names lives =
+    guards_attached D files (record s { set = t }) c (ap (λ (v : SessionData). v.commit) (sym same) ∙ is) dims says rest names lives
+guards_anew D files s u c (Err e) same is dims says rest names lives = tt

@@ -1,0 +1,42 @@
+-- A document is added, where the set is not full.
+use Rattle.std.proofs.Common.{◌++◌, length, Err, refl, sym, ap, ◌∙◌}
+use Rattle.std.proofs.lemmas.Result.{err_from_is_err_and}
+use Rattle.page_cache.specs.declared.faults.PageFault.{PageFault}
+use Rattle.std.proofs.Common.{◌≡◌, ◌+◌, ◌^◌, nat_lt, false}
+use Rattle.script_lang.specs.Replies.{doc_text}
+use Rattle.script_lang.specs.declared.faults.Why.TheVariants as why
+use Rattle.index_core.specs.Sessions.{SessionData}
+use Rattle.index_core.proofs.Answering.{applies, applies_is, applies_memory, applies_refused, applies_seen, begins_with, cause_add, whole_add}
+use Rattle.index_core.proofs.Changing.{does_add, does_full, not_full}
+use Rattle.segment_set.proofs.Sizes.{set_fits}
+use Rattle.std.proofs.Common.{lit<}
+use Rattle.index_core.proofs.session.Session.add.Goals as goal
+
+pub returns-then-is_full : goal.returns-then-is_full
+returns-then-is_full g c = applies_refused _ _ _ _ _ _ _ why.Full (λ i seen. does_full _ _ _ i _ _ seen (sym c.is_full.ensures ∙ c.if-is_full.true))
+
+pub returns-in_err-put_doc : goal.returns-in_err-put_doc
+returns-in_err-put_doc g c =
+    let p = err_from_is_err_and c.from_residual.result c.from_residual.ensures.1 in
+    applies_memory _ _ _ _ _ _ _ _ _ (p.1 ∙ ap (λ (e : PageFault). Err e) p.2) c.in_err-put_doc.ensures.memory
+
+pub returns : goal.returns
+returns g c =
+    let fits : nat_lt (2 ^ 24) (c.self.inside.set.given + length c.args.points.now) ≡ false =
+    ap (λ (u : SessionData). nat_lt (2 ^ 24) (u.set.given + length c.args.points.now)) c.self.view_is ∙ sym c.is_full.ensures ∙ c.if-is_full.false in
+    let full = not_full c.add.result (c.self.inside.set.given + length c.args.points.now) fits c.add.ensures.full in
+    applies_is _ _ _ _ _ _ _ _ c.add_answer.ensures
+    (applies_seen _ _ _ _ _ _ _ _ _ _ _ c.self.view_is
+    (applies _ _ _ _ _ _
+    (record { commit = refl; refused = refl; leaf = c.add.ensures.leaf; keeps = c.add.ensures.kept; follows = c.add.ensures.follows })
+    (λ told i seen. does_add _ _ _ _ _ i _ c.add.result _ _ seen fits full (c.add.ensures.seen told i seen) (c.add.ensures.refused told i seen)
+    (c.in_ok-put_doc.ensures.ok ∙ ap (λ n. c.args.out.now.items ++ doc_text n) c.next.ensures))
+    (begins_with _ _ _ c.in_ok-put_doc.ensures.ok)
+    (cause_add _ _ c.add.result full c.add.ensures.cause)
+    (λ told i seen. whole_add c.add.result (c.add.ensures.whole told i seen))))
+
+pub next-requires : goal.next-requires
+next-requires g c = set_fits g.row.D c.self.invariant.few
+
+pub add-requires-after_bounds : goal.add-requires-after_bounds
+add-requires-after_bounds g c κs = λ _. (set_fits g.row.D c.self.invariant.few, lit< tt)

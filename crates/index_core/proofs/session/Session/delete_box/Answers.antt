@@ -1,0 +1,57 @@
+-- The documents in the box are found, and go.
+use Rattle.std.proofs.Common.{◌++◌, Err, refl, sym, ap, subst, ◌∙◌}
+use Rattle.std.proofs.lemmas.Result.{err_from_is_err_and}
+use Rattle.page_cache.specs.declared.faults.PageFault.{PageFault}
+use Rattle.point_codec.specs.Points.{in_box}
+use Rattle.cell_relate.specs.Boxes.{Asked}
+use Rattle.documents.specs.Documents.{hits}
+use Rattle.script_lang.specs.Replies.{deleted_text}
+use Rattle.segment_set.specs.Sets.{SetData}
+use Rattle.segment_set.specs.Kept.{Follows}
+use Rattle.index_core.proofs.Answering.{applies_done, applies_fault, applies_seen, applies_unsaid, begins_itself, calm_cache, calm_like}
+use Rattle.index_core.proofs.Changing.{does_delete_box}
+use Rattle.segment_set.proofs.Sizes.{set_fits}
+use Rattle.index_core.proofs.Sizes.{box_fits}
+use Rattle.index_core.proofs.session.Session.delete_box.Goals as goal
+
+pub returns-in_err-hits : goal.returns-in_err-hits
+returns-in_err-hits g c =
+    let p = err_from_is_err_and c.from_residual.result c.from_residual.ensures.1 in
+    applies_seen _ _ _ _ _ _ _ _ _ _ _ c.self.view_is
+    (applies_fault _ _ _ _ _ _ c.in_err-hits.field-0.0 (calm_cache _ _ _ _ _ _ _ _ _ _ _ c.visit.ensures.alone c.visit.ensures.files)
+    (p.1 ∙ ap (λ (e : PageFault). Err e) p.2) c.visit.ensures.seen (begins_itself _) c.in_err-hits.ensures.cause c.in_err-hits.ensures.whole)
+
+pub returns-in_err-put_deleted : goal.returns-in_err-put_deleted
+returns-in_err-put_deleted g c =
+    let p = err_from_is_err_and c.from_residual-in_err-put_deleted.result c.from_residual-in_err-put_deleted.ensures.1 in
+    applies_seen _ _ _ _ _ _ _ _ _ _ _ c.self.view_is
+    (applies_unsaid _ _ _ _ _ _ c.in_ok-hits.hits (calm_cache _ _ _ _ _ _ _ _ _ _ _ c.visit.ensures.alone c.visit.ensures.files)
+    (p.1 ∙ ap (λ (e : PageFault). Err e) p.2) c.visit.ensures.seen c.in_err-put_deleted.ensures.memory c.in_ok-hits.ensures.cause)
+
+pub returns : goal.returns
+returns g c =
+    let long = c.in-Ok.ensures.1 ∙ c.len.ensures ∙ sym c.as_slice.ensures.len in
+    applies_seen _ _ _ _ _ _ _ _ _ _ _ c.self.view_is
+    (applies_done _ _ _ _ _ c.in_ok-hits.hits _
+    (calm_like _ _ _ _ _ _ _ _ _ _ _ (c.delete_all.ensures.names ∙ ap (λ (u : SetData). u.names) c.visit.ensures.alone.is) (c.delete_all.ensures.stays.leaf ∙ ap (λ (u : SetData). u.leaf) c.visit.ensures.alone.is)
+    (subst (λ (u : SetData). Follows u.names u.parts c.delete_all.new.self.parts) c.visit.ensures.alone.is c.delete_all.ensures.follows) c.visit.ensures.files)
+    (λ told i seen. does_delete_box _ _ _ _ _ i _ _ c.as_slice.result.now _ _ seen
+    (c.as_slice.ensures.value ∙ c.in_ok-hits.ensures.found told i seen i.docs refl ∙ ap (λ (s : Asked). hits (in_box s.bounds) i.docs) c.new-shape.ensures)
+    (c.delete_all.ensures.seen _ i (c.visit.ensures.seen told i seen))
+    (c.in_ok-put_deleted.ensures.ok ∙ ap (λ n. c.args.out.now.items ++ deleted_text n) long))
+    c.in_ok-put_deleted.ensures.ok c.in_ok-hits.ensures.cause)
+
+pub returns-in_default : goal.returns-in_default
+returns-in_default g c =
+    applies_seen _ _ _ _ _ _ _ _ _ _ _ c.self.view_is
+    (applies_unsaid _ _ _ _ _ _ c.in_ok-hits.hits (calm_cache _ _ _ _ _ _ _ _ _ _ _ c.visit.ensures.alone c.visit.ensures.files)
+    refl c.visit.ensures.seen refl c.in_ok-hits.ensures.cause)
+
+pub delete_all-requires : goal.delete_all-requires
+delete_all-requires g c = set_fits g.row.D c.self.invariant.few
+
+pub visit-requires : goal.visit-requires
+visit-requires g c = (set_fits g.row.D c.self.invariant.few, tt)
+
+pub visit-requires-room-S-Shape : goal.visit-requires-room-S-Shape
+visit-requires-room-S-Shape g c κs within = box_fits g.row.D c.self.invariant.few

@@ -1,0 +1,44 @@
+-- The buffer goes to a segment, and the set is seen as before.
+use Rattle.std.proofs.Common.{Err, refl, ap, subst, ◌∙◌, IsTrue}
+use Rattle.std.proofs.lemmas.Result.{err_from_is_err_and}
+use Rattle.page_cache.specs.declared.faults.PageFault.{PageFault}
+use Rattle.script_lang.specs.Replies.{ok_text}
+use Rattle.index_model.specs.Step.{step_on}
+use Rattle.segment_set.proofs.Sizes.{set_fits}
+use Rattle.index_core.proofs.Answering.{applies_done, applies_fault, applies_seen, applies_unsaid, begins_itself, does_done}
+use Rattle.index_core.specs.Sessions.{SessionData}
+use Rattle.index_core.specs.Effects.{IsFlushed}
+use Rattle.index_core.proofs.session.Session.flush.Goals as goal
+
+pub returns-clause-applies : goal.returns-clause-applies
+unfolding step_on
+returns-clause-applies g c = applies_seen _ _ _ _ _ _ _ _ _ _ _ c.self.view_is
+    (applies_done _ _ _ _ _ c.in_ok-flush.field-0 ok_text
+    (record { commit = refl; refused = refl; leaf = c.flush.ensures.stays.leaf; keeps = c.flush.ensures.kept; follows = c.flush.ensures.follows })
+    (λ told i seen. does_done _ _ i i _ ok_text _ _ (c.flush.ensures.seen told i seen) c.in_ok-put_ok.ensures.ok)
+    c.in_ok-put_ok.ensures.ok c.in_ok-flush.ensures.cause)
+
+pub returns-in_err-flush-clause-applies : goal.returns-in_err-flush-clause-applies
+returns-in_err-flush-clause-applies g c =
+    let p = err_from_is_err_and c.from_residual.result c.from_residual.ensures.1 in
+    applies_seen _ _ _ _ _ _ _ _ _ _ _ c.self.view_is
+    (applies_fault _ _ _ _ _ _ c.in_err-flush.field-0.0
+    (record { commit = refl; refused = refl; leaf = c.flush.ensures.stays.leaf; keeps = c.flush.ensures.kept; follows = c.flush.ensures.follows })
+    (p.1 ∙ ap (λ (e : PageFault). Err e) p.2) c.flush.ensures.seen (begins_itself _) c.in_err-flush.ensures.cause c.in_err-flush.ensures.whole)
+
+pub returns-in_err-put_ok-clause-applies : goal.returns-in_err-put_ok-clause-applies
+returns-in_err-put_ok-clause-applies g c =
+    let p = err_from_is_err_and c.from_residual-in_err-put_ok.result c.from_residual-in_err-put_ok.ensures.1 in
+    applies_seen _ _ _ _ _ _ _ _ _ _ _ c.self.view_is
+    (applies_unsaid _ _ _ _ _ _ c.in_ok-flush.field-0
+    (record { commit = refl; refused = refl; leaf = c.flush.ensures.stays.leaf; keeps = c.flush.ensures.kept; follows = c.flush.ensures.follows })
+    (p.1 ∙ ap (λ (e : PageFault). Err e) p.2) c.flush.ensures.seen c.in_err-put_ok.ensures.memory c.in_ok-flush.ensures.cause)
+
+pub flush-requires-after_bounds : goal.flush-requires-after_bounds
+flush-requires-after_bounds g c κs = λ _. set_fits g.row.D c.self.invariant.few
+
+pub returns-clause-leaves : goal.returns-clause-leaves
+returns-clause-leaves g c =
+    let done = c.in_ok-flush.ensures in
+    subst (λ (s : SessionData). IsFlushed g.row.D (IsTrue g.F.Pages.told) (g.F.Pages.files c.flush.new.folder) s.set c.flush.new.self) c.self.view_is
+    (record { emptied = done.emptied; levels = done.levels; begun = done.begun; canon = done.canon })

@@ -1,0 +1,44 @@
+-- Segments are merged, and the set is seen as before.
+use Rattle.std.proofs.Common.{Err, refl, ap, subst, ◌∙◌, IsTrue}
+use Rattle.std.proofs.lemmas.Result.{err_from_is_err_and}
+use Rattle.page_cache.specs.declared.faults.PageFault.{PageFault}
+use Rattle.script_lang.specs.Replies.{ok_text}
+use Rattle.index_model.specs.Step.{step_on}
+use Rattle.segment_set.proofs.Sizes.{set_fits}
+use Rattle.index_core.proofs.Answering.{applies_done, applies_fault, applies_seen, applies_unsaid, begins_itself, does_done}
+use Rattle.index_core.specs.Sessions.{SessionData}
+use Rattle.index_core.specs.Effects.{IsMergedAll}
+use Rattle.index_core.proofs.session.Session.merge.Goals as goal
+
+pub returns-clause-applies : goal.returns-clause-applies
+unfolding step_on
+returns-clause-applies g c = applies_seen _ _ _ _ _ _ _ _ _ _ _ c.self.view_is
+    (applies_done _ _ _ _ _ c.in_ok-merge_all.field-0 ok_text
+    (record { commit = refl; refused = refl; leaf = c.merge_all.ensures.stays.leaf; keeps = c.merge_all.ensures.kept; follows = c.merge_all.ensures.follows })
+    (λ told i seen. does_done _ _ i i _ ok_text _ _ (c.merge_all.ensures.seen told i seen) c.in_ok-put_ok.ensures.ok)
+    c.in_ok-put_ok.ensures.ok c.in_ok-merge_all.ensures.cause)
+
+pub returns-in_err-merge_all-clause-applies : goal.returns-in_err-merge_all-clause-applies
+returns-in_err-merge_all-clause-applies g c =
+    let p = err_from_is_err_and c.from_residual.result c.from_residual.ensures.1 in
+    applies_seen _ _ _ _ _ _ _ _ _ _ _ c.self.view_is
+    (applies_fault _ _ _ _ _ _ c.in_err-merge_all.field-0.0
+    (record { commit = refl; refused = refl; leaf = c.merge_all.ensures.stays.leaf; keeps = c.merge_all.ensures.kept; follows = c.merge_all.ensures.follows })
+    (p.1 ∙ ap (λ (e : PageFault). Err e) p.2) c.merge_all.ensures.seen (begins_itself _) c.in_err-merge_all.ensures.cause c.in_err-merge_all.ensures.whole)
+
+pub returns-in_err-put_ok-clause-applies : goal.returns-in_err-put_ok-clause-applies
+returns-in_err-put_ok-clause-applies g c =
+    let p = err_from_is_err_and c.from_residual-in_err-put_ok.result c.from_residual-in_err-put_ok.ensures.1 in
+    applies_seen _ _ _ _ _ _ _ _ _ _ _ c.self.view_is
+    (applies_unsaid _ _ _ _ _ _ c.in_ok-merge_all.field-0
+    (record { commit = refl; refused = refl; leaf = c.merge_all.ensures.stays.leaf; keeps = c.merge_all.ensures.kept; follows = c.merge_all.ensures.follows })
+    (p.1 ∙ ap (λ (e : PageFault). Err e) p.2) c.merge_all.ensures.seen c.in_err-put_ok.ensures.memory c.in_ok-merge_all.ensures.cause)
+
+pub merge_all-requires-after_bounds : goal.merge_all-requires-after_bounds
+merge_all-requires-after_bounds g c κs = λ _. set_fits g.row.D c.self.invariant.few
+
+pub returns-clause-leaves : goal.returns-clause-leaves
+returns-clause-leaves g c =
+    let done = c.in_ok-merge_all.ensures in
+    subst (λ (s : SessionData). IsMergedAll g.row.D (IsTrue g.F.Pages.told) (g.F.Pages.files c.args.folder.now) (g.F.Pages.files c.merge_all.new.folder) s.set c.merge_all.new.self) c.self.view_is
+    (record { buffer = done.buffer; begun = done.begun; one = done.one; all_live = done.all_live; canon = done.canon })

@@ -1,0 +1,52 @@
+-- A merge is begun, where none is.
+use Rattle.std.proofs.Common.{Err, sym, ap, subst, ◌∙◌}
+use Rattle.std.proofs.lemmas.Result.{err_from_is_err_and}
+use Rattle.page_cache.specs.declared.faults.PageFault.{PageFault}
+use Rattle.std.proofs.Common.{is_some}
+use Rattle.std.proofs.lemmas.Bool.{both_ways}
+use Rattle.script_lang.specs.declared.faults.Why.TheVariants as why
+use Rattle.segment_set.specs.Sets.{SetData}
+use Rattle.segment_set.proofs.Carried.{follows_same}
+use Rattle.index_core.proofs.Answering.{applies, applies_is, applies_memory, applies_refused, applies_seen, begins_with, calm_like, cause_begin, whole_begin}
+use Rattle.index_core.proofs.Changing.{does_begin, does_begun}
+use Rattle.segment_set.proofs.Sizes.{set_fits}
+use Rattle.index_core.specs.Sessions.{SessionData}
+use Rattle.index_core.specs.Effects.{HasBegun, OnDone}
+use Rattle.index_core.specs.Replies.{begin_answer}
+use Rattle.index_core.proofs.Leaving.{begin_leaves}
+use Rattle.index_core.proofs.session.Session.merge_begin.Goals as goal
+
+pub returns-then-is_merging-clause-applies : goal.returns-then-is_merging-clause-applies
+returns-then-is_merging-clause-applies g c = applies_refused _ _ _ _ _ _ _ why.Begun
+    (λ i seen. does_begun _ _ _ i _ _ seen (ap (λ (u : SessionData). is_some u.set.begun) (sym c.self.view_is) ∙ sym c.is_merging.ensures ∙ c.if-is_merging.true))
+
+pub returns-in_err-put_ok-clause-applies : goal.returns-in_err-put_ok-clause-applies
+returns-in_err-put_ok-clause-applies g c =
+    let p = err_from_is_err_and c.from_residual.result c.from_residual.ensures.1 in
+    applies_memory _ _ _ _ _ _ _ _ _ (p.1 ∙ ap (λ (e : PageFault). Err e) p.2) c.in_err-put_ok.ensures.memory
+
+pub returns-clause-applies : goal.returns-clause-applies
+returns-clause-applies g c =
+    let none = sym c.is_merging.ensures ∙ c.if-is_merging.false in
+    applies_is _ _ _ _ _ _ _ _ c.begin_answer.ensures
+    (applies_seen _ _ _ _ _ _ _ _ _ _ _ c.self.view_is
+    (applies _ _ _ _ _ _
+    (calm_like _ _ _ _ _ _ _ _ _ _ _ (ap (λ (u : SetData). u.names) c.merge_begin.ensures.alone.is) (ap (λ (u : SetData). u.leaf) c.merge_begin.ensures.alone.is)
+    (follows_same _ _ _ (ap (λ (u : SetData). u.parts) c.merge_begin.ensures.alone.is)) c.merge_begin.ensures.files)
+    (λ told i seen. does_begin _ _ _ _ _ i _ c.merge_begin.result _ _ seen none (λ e. both_ways (is_some c.self.inside.set.begun) none (c.merge_begin.ensures.begun.0 e))
+    (c.merge_begin.ensures.seen told i seen) (c.merge_begin.ensures.refused told i seen) c.in_ok-put_ok.ensures.ok)
+    (begins_with _ _ _ c.in_ok-put_ok.ensures.ok)
+    (cause_begin _ _ c.merge_begin.result (λ e. both_ways (is_some c.self.inside.set.begun) none (c.merge_begin.ensures.begun.0 e)) c.merge_begin.ensures.cause)
+    (λ told i seen. whole_begin c.merge_begin.result (c.merge_begin.ensures.whole told i seen))))
+
+pub is_merging-requires : goal.is_merging-requires
+is_merging-requires g c = set_fits g.row.D c.self.invariant.few
+
+pub merge_begin-requires-after_bounds : goal.merge_begin-requires-after_bounds
+merge_begin-requires-after_bounds g c κs = λ _. set_fits g.row.D c.self.invariant.few
+
+pub returns-clause-leaves : goal.returns-clause-leaves
+returns-clause-leaves g c =
+    subst (λ r. OnDone r (HasBegun c.args.which.now c.args.self.now.set c.merge_begin.new.self)) (sym c.begin_answer.ensures)
+    (subst (λ (s : SessionData). OnDone (begin_answer c.merge_begin.result) (HasBegun c.args.which.now s.set c.merge_begin.new.self)) c.self.view_is
+    (begin_leaves c.args.which.now c.self.inside.set c.merge_begin.new.self c.merge_begin.result c.merge_begin.ensures.inputs c.merge_begin.ensures.alone))

@@ -1,0 +1,51 @@
+-- The begun merge is ended.
+use Rattle.std.proofs.Common.{Err, refl, sym, ap, subst, ◌∙◌, IsTrue}
+use Rattle.std.proofs.lemmas.Result.{err_from_is_err_and}
+use Rattle.page_cache.specs.declared.faults.PageFault.{PageFault}
+use Rattle.std.proofs.Common.{is_some}
+use Rattle.std.proofs.lemmas.Bool.{both_ways}
+use Rattle.script_lang.specs.declared.faults.Why.TheVariants as why
+use Rattle.index_core.proofs.Answering.{applies, applies_is, applies_memory, applies_refused, applies_seen, begins_with, cause_end, whole_end}
+use Rattle.index_core.proofs.Changing.{does_end, does_not_begun}
+use Rattle.segment_set.proofs.Sizes.{set_fits}
+use Rattle.index_core.specs.Sessions.{SessionData}
+use Rattle.index_core.specs.Effects.{HasEnded, OnDone}
+use Rattle.index_core.specs.Replies.{end_answer}
+use Rattle.index_core.proofs.Leaving.{end_leaves}
+use Rattle.index_core.proofs.session.Session.merge_end.Goals as goal
+
+pub returns-then-not-is_merging-clause-applies : goal.returns-then-not-is_merging-clause-applies
+returns-then-not-is_merging-clause-applies g c = applies_refused _ _ _ _ _ _ _ why.NotBegun
+    (λ i seen. does_not_begun _ _ _ i _ seen (ap (λ (u : SessionData). is_some u.set.begun) (sym c.self.view_is) ∙ sym c.is_merging.ensures ∙ c.if-not-is_merging.true))
+
+pub returns-in_err-put_ok-clause-applies : goal.returns-in_err-put_ok-clause-applies
+returns-in_err-put_ok-clause-applies g c =
+    let p = err_from_is_err_and c.from_residual.result c.from_residual.ensures.1 in
+    applies_memory _ _ _ _ _ _ _ _ _ (p.1 ∙ ap (λ (e : PageFault). Err e) p.2) c.in_err-put_ok.ensures.memory
+
+pub returns-clause-applies : goal.returns-clause-applies
+returns-clause-applies g c =
+    let some = sym c.is_merging.ensures ∙ c.if-not-is_merging.false in
+    applies_is _ _ _ _ _ _ _ _ c.end_answer.ensures
+    (applies_seen _ _ _ _ _ _ _ _ _ _ _ c.self.view_is
+    (applies _ _ _ _ _ _
+    (record { commit = refl; refused = refl; leaf = c.merge_end.ensures.stays.leaf; keeps = c.merge_end.ensures.kept; follows = c.merge_end.ensures.follows })
+    (λ told i seen. does_end _ _ _ _ _ i c.merge_end.result _ _ seen some (λ e. both_ways (is_some c.self.inside.set.begun) (c.merge_end.ensures.not_begun.0 e) some)
+    (c.merge_end.ensures.seen told i seen) (c.merge_end.ensures.refused told i seen) c.in_ok-put_ok.ensures.ok)
+    (begins_with _ _ _ c.in_ok-put_ok.ensures.ok)
+    (cause_end _ _ c.merge_end.result (λ e. both_ways (is_some c.self.inside.set.begun) (c.merge_end.ensures.not_begun.0 e) some) c.merge_end.ensures.cause)
+    (λ told i seen. whole_end c.merge_end.result c.merge_end.ensures.whole)))
+
+pub is_merging-requires : goal.is_merging-requires
+is_merging-requires g c = set_fits g.row.D c.self.invariant.few
+
+pub merge_end-requires : goal.merge_end-requires
+merge_end-requires g c = set_fits g.row.D c.self.invariant.few
+
+pub returns-clause-leaves : goal.returns-clause-leaves
+returns-clause-leaves g c =
+    let done = c.merge_end.ensures in
+    let files = g.F.Pages.files c.merge_end.new.folder in
+    subst (λ r. OnDone r (HasEnded g.row.D (IsTrue g.F.Pages.told) files c.args.self.now.set c.merge_end.new.self)) (sym c.end_answer.ensures)
+    (subst (λ (s : SessionData). OnDone (end_answer c.merge_end.result) (HasEnded g.row.D (IsTrue g.F.Pages.told) files s.set c.merge_end.new.self)) c.self.view_is
+    (end_leaves g.row.D (IsTrue g.F.Pages.told) files c.self.inside.set c.merge_end.new.self c.merge_end.result done.ended done.parts done.buffer done.canon))

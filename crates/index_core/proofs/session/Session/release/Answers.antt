@@ -1,0 +1,37 @@
+-- A snapshot goes, where one has the name.
+use Rattle.std.proofs.Common.{Err, refl, sym, ap, ◌∙◌}
+use Rattle.std.proofs.lemmas.Result.{err_from_is_err_and}
+use Rattle.page_cache.specs.declared.faults.PageFault.{PageFault}
+use Rattle.script_lang.specs.declared.faults.Why.TheVariants as why
+use Rattle.index_model.specs.declared.session.Applied.TheVariants as applied
+use Rattle.segment_set.specs.Sets.{SetData}
+use Rattle.segment_set.proofs.Carried.{follows_same}
+use Rattle.index_core.proofs.Answering.{applies, applies_memory, applies_refused, applies_seen, begins_with, calm_like, no_cause}
+use Rattle.index_core.proofs.Changing.{does_release, does_unnamed}
+use Rattle.segment_set.proofs.Sizes.{set_fits}
+use Rattle.index_core.specs.Sessions.{SessionData}
+use Rattle.segment_set.specs.Sets.{has_name}
+use Rattle.index_core.proofs.session.Session.release.Goals as goal
+
+pub returns-then-not-has_snapshot : goal.returns-then-not-has_snapshot
+returns-then-not-has_snapshot g c files faults = applies_refused _ _ _ _ _ _ _ why.UnknownSnapshot
+    (λ i seen. does_unnamed _ _ _ i _ _ seen (ap (λ (u : SessionData). has_name c.args.name.now u.set.snapshots) (sym c.self.view_is) ∙ sym c.has_snapshot.ensures ∙ c.if-not-has_snapshot.true))
+
+pub returns-in_err-put_ok : goal.returns-in_err-put_ok
+returns-in_err-put_ok g c files faults =
+    let p = err_from_is_err_and c.from_residual.result c.from_residual.ensures.1 in
+    applies_memory _ _ _ _ _ _ _ _ _ (p.1 ∙ ap (λ (e : PageFault). Err e) p.2) c.in_err-put_ok.ensures.memory
+
+pub returns : goal.returns
+returns g c files faults = applies_seen _ _ _ _ _ _ _ _ _ _ _ c.self.view_is
+    (applies _ _ _ _ _ _
+    (calm_like _ _ _ _ _ _ _ _ _ _ _ (ap (λ (u : SetData). u.names) c.release.ensures.kept) (ap (λ (u : SetData). u.leaf) c.release.ensures.kept)
+    (follows_same _ _ _ (ap (λ (u : SetData). u.parts) c.release.ensures.kept)) (λ told. refl))
+    (λ told i seen. does_release _ _ _ _ i _ _ _ seen (sym c.has_snapshot.ensures ∙ c.if-not-has_snapshot.false) (c.release.ensures.seen files i seen) c.in_ok-put_ok.ensures.ok)
+    (begins_with _ _ _ c.in_ok-put_ok.ensures.ok) (no_cause faults applied.Done) (λ told i seen. tt))
+
+pub has_snapshot-requires : goal.has_snapshot-requires
+has_snapshot-requires g c = set_fits g.row.D c.self.invariant.few
+
+pub release-requires : goal.release-requires
+release-requires g c = set_fits g.row.D c.self.invariant.few

@@ -1,0 +1,77 @@
+-- What is stored is attached anew.
+use Rattle.std.proofs.Common.{Err, Some, sym, ap, subst, ◌∙◌, ◌⊎◌, inr}
+use Rattle.std.proofs.lemmas.Result.{err_from_is_err_and}
+use Rattle.page_cache.specs.declared.faults.PageFault.{PageFault}
+use Rattle.outer_io.specs.Files.{Files}
+use Rattle.script_lang.specs.Replies.{ok_text}
+use Rattle.index_model.specs.State.{at_rest}
+use Rattle.index_model.specs.Step.{step_on}
+use Rattle.index_model.specs.declared.session.Applied.TheVariants as applied
+use Rattle.stored_index.specs.Stored.{IsStored}
+use Rattle.stored_index.specs.Kept.{SameKept}
+use Rattle.segment_set.specs.Seen.{Sees}
+use Rattle.index_core.specs.Sessions.{Guards, SessionData}
+use Rattle.index_core.specs.Steps.{SaysCommit}
+use Rattle.index_core.proofs.Answering.{applies_is, begins_itself, begins_same, begins_with, cause_then, does_done, does_fault, done_cause, fault_to, memory_cause}
+use Rattle.segment_set.proofs.Sizes.{set_fits}
+use Rattle.index_core.proofs.Sizes.{session_fits}
+use Rattle.index_core.proofs.session.Session.reopen.Goals as goal
+
+pub attach_anew-requires : goal.attach_anew-requires
+attach_anew-requires g c = (session_fits g.row.D c.self.invariant.few, (set_fits g.row.D c.self.invariant.few, c.in_ok-commit.ensures.committed.0))
+
+pub returns-in_err-commit : goal.returns-in_err-commit
+returns-in_err-commit g c =
+    let p = err_from_is_err_and c.from_residual.result c.from_residual.ensures.1 in
+    applies_is _ _ _ _ _ _ _ _ (p.1 ∙ ap (λ (e : PageFault). Err e) p.2) (record {
+      does = λ told i seen guards. does_fault _ _ _ i _ _ _ _ (c.commit.ensures.seen told i seen);
+      begins = begins_itself _;
+      guards = c.commit.ensures.guards;
+      kept = c.in_err-commit.ensures.kept;
+      stored = λ told i seen guards e. c.in_err-commit.ensures.stored told i seen guards;
+      cause = fault_to _ _ c.in_err-commit.field-0.0 c.in_err-commit.ensures.cause;
+      whole = λ told i seen guards. c.in_err-commit.ensures.whole told i seen;
+    })
+
+pub returns-in_err-set : goal.returns-in_err-set
+returns-in_err-set g c =
+    let p = err_from_is_err_and c.from_residual-in_err-set.result c.from_residual-in_err-set.ensures.1 in
+    applies_is _ _ _ _ _ _ _ _ (p.1 ∙ ap (λ (e : PageFault). Err e) p.2) (record {
+      does = λ told i seen guards. does_fault _ _ _ i _ _ _ _ (subst (λ (f : Files). Sees g.row.D f c.commit.new.self.set i) (sym (c.attach_anew.ensures.files told)) (c.commit.ensures.seen told i seen));
+      begins = begins_itself _;
+      guards = λ told guards. subst (λ (f : Files). Guards g.row.D f c.commit.new.self) (sym (c.attach_anew.ensures.files told)) (c.commit.ensures.guards told guards);
+      kept = λ told guards. subst (λ (f : Files). SameKept (g.F.Pages.files c.args.folder.now) f ⊎ SaysCommit f c.commit.new.self.set.saved) (sym (c.attach_anew.ensures.files told)) (c.commit.ensures.flight told guards);
+      stored = λ told i seen guards e. inr (subst (λ (f : Files). IsStored f (Some (at_rest i))) (sym (c.attach_anew.ensures.files told)) (c.in_ok-commit.ensures.stored told i seen guards).0);
+      cause = fault_to _ _ c.in_err-set.field-0.0 (cause_then _ _ _ _ c.in_ok-commit.ensures.cause.fine c.in_err-set.ensures.cause);
+      whole = λ told i seen guards. c.in_err-set.ensures.whole told c.in_ok-commit.ensures.committed.1 (c.commit.ensures.guards told guards) (Some (at_rest i)) (c.in_ok-commit.ensures.stored told i seen guards).0;
+    })
+
+pub returns-in_err-put_ok : goal.returns-in_err-put_ok
+returns-in_err-put_ok g c =
+    let p = err_from_is_err_and c.from_residual-in_err-put_ok.result c.from_residual-in_err-put_ok.ensures.1 in
+    applies_is _ _ _ _ _ _ _ _ (p.1 ∙ ap (λ (e : PageFault). Err e) p.2) (record {
+      does = λ told i seen guards. does_fault _ _ _ i _ _ _ _ (subst (λ (f : Files). Sees g.row.D f c.commit.new.self.set i) (sym (c.attach_anew.ensures.files told)) (c.commit.ensures.seen told i seen));
+      begins = begins_same _ _ c.in_err-put_ok.ensures.memory;
+      guards = λ told guards. subst (λ (f : Files). Guards g.row.D f c.commit.new.self) (sym (c.attach_anew.ensures.files told)) (c.commit.ensures.guards told guards);
+      kept = λ told guards. subst (λ (f : Files). SameKept (g.F.Pages.files c.args.folder.now) f ⊎ SaysCommit f c.commit.new.self.set.saved) (sym (c.attach_anew.ensures.files told)) (c.commit.ensures.flight told guards);
+      stored = λ told i seen guards e. inr (subst (λ (f : Files). IsStored f (Some (at_rest i))) (sym (c.attach_anew.ensures.files told)) (c.in_ok-commit.ensures.stored told i seen guards).0);
+      cause = memory_cause _ _ (cause_then _ _ _ _ c.in_ok-commit.ensures.cause.fine c.attach_anew.ensures.cause).later;
+      whole = λ told i seen guards. tt;
+    })
+
+pub returns : goal.returns
+unfolding step_on
+returns g c = record {
+  does = λ told i seen guards. does_done _ _ i (at_rest i) _ ok_text _ _
+      (subst (λ (f : Files). Sees g.row.D f c.in_ok-set.set (at_rest i)) (sym (c.attach_anew.ensures.files told))
+      (c.in_ok-set.ensures.seen told c.in_ok-commit.ensures.committed.1 (c.commit.ensures.guards told guards) (at_rest i) (c.in_ok-commit.ensures.stored told i seen guards).0))
+      c.in_ok-put_ok.ensures.ok;
+  begins = begins_with _ _ _ c.in_ok-put_ok.ensures.ok;
+  guards = λ told guards. subst (λ (u : SessionData). Guards g.row.D (g.F.Pages.files c.attach_anew.new.folder) (record u { set = c.in_ok-set.set })) (sym c.self.view_is)
+      (subst (λ (f : Files). Guards g.row.D f (record c.commit.new.self { set = c.in_ok-set.set })) (sym (c.attach_anew.ensures.files told)) (c.in_ok-set.ensures.guards told c.in_ok-commit.ensures.committed.1 (c.commit.ensures.guards told guards)));
+  kept = λ told guards. subst (λ (u : SessionData). SaysCommit (g.F.Pages.files c.attach_anew.new.folder) u.commit) (sym c.self.view_is)
+      (subst (λ (f : Files). SaysCommit f c.commit.new.self.commit) (sym (c.attach_anew.ensures.files told)) (c.in_ok-commit.ensures.kept told guards));
+  stored = λ told i seen guards e. (subst (λ (f : Files). IsStored f (Some (at_rest i))) (sym (c.attach_anew.ensures.files told)) (c.in_ok-commit.ensures.stored told i seen guards).0, c.in_ok-set.ensures.emptied);
+  cause = done_cause _ _ c.in_ok-set.set applied.Done (cause_then _ _ _ _ c.in_ok-commit.ensures.cause.fine c.in_ok-set.ensures.cause);
+  whole = λ told i seen guards. tt;
+}

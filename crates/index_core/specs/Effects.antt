@@ -1,0 +1,58 @@
+-- What done commands on segments leave of a set: the documents stay, and segments, buffer and begun merge are as these say.
+use Rattle.std.specs.Prelude.{◌≡◌, ◌≤◌, ℕ, true, List, [], length, All, None, Some, Result, Ok, Err}
+use Rattle.outer_io.specs.Files.{Files}
+use Rattle.page_cache.specs.declared.faults.PageFault.{PageFault}
+use Rattle.live_bits.specs.LiveSet.{is_live}
+use Rattle.merge_policy.specs.Choice.{free_count}
+use Rattle.script_lang.specs.Requests.{Request}
+use Rattle.script_lang.specs.Requests as asks
+use Rattle.index_model.specs.State.{Index}
+use Rattle.index_model.specs.declared.session.Applied.{Applied}
+use Rattle.index_model.specs.declared.session.Applied.TheVariants as applied
+use Rattle.segment_view.specs.Parts.{Contents, ids_of}
+use Rattle.segment_set.specs.Sets.{BegunMerge, SetData, pins_of, sizes_of}
+use Rattle.segment_set.specs.Seen.{Sees, StandsOver}
+use Rattle.segment_set.specs.Kept.{AreCanonical, StaysButMerge}
+use Rattle.segment_set.specs.Merged.{IsEnded, chosen_ids}
+
+-- P holds where the command is done
+abbrev pub OnDone : Result Applied PageFault → Type 0 → Type 0
+OnDone (Ok applied.Done) P = P
+OnDone (Ok (applied.Refused why)) P = Unit {0}
+OnDone (Err fault) P = Unit {0}
+
+-- nothing waits, no level has more than ten segments that are no inputs of the begun merge, and each segment of a new name is canonical
+pub record IsFlushed (D : ℕ) (told : Type 0) (files : Files) (s t : SetData) : Type 0 where
+  pub emptied : t.buffer ≡ []
+  pub levels : (level : ℕ) → free_count level (sizes_of t.parts) (pins_of t.begun t.parts) ≤ 10
+  pub begun : t.begun ≡ s.begun
+  pub canon : told → AreCanonical D files s.names t.parts
+
+-- where no merge is begun one segment is left at most, of index form 3, and each of its entries is live
+pub record IsMergedAll (D : ℕ) (told : Type 0) (files new_files : Files) (s t : SetData) : Type 0 where
+  pub buffer : t.buffer ≡ s.buffer
+  pub begun : t.begun ≡ s.begun
+  pub one : s.begun ≡ None → (length t.parts ≤ 1) × All (λ p. p.head.index.form ≡ 3) t.parts
+  pub all_live : told → s.begun ≡ None → (i : Index) → Sees D files s i → (c : Contents) → StandsOver D new_files c t
+      → All (λ p. All (λ x. is_live p.live x.doc ≡ true) (c p.head.id)) t.parts
+  pub canon : told → AreCanonical D new_files s.names t.parts
+
+-- a merge is begun of the segments at these positions, and all else is as before
+pub record HasBegun (positions : List ℕ) (s t : SetData) : Type 0 where
+  pub inputs : (b : BegunMerge) × (t.begun ≡ Some b) × (b.inputs ≡ chosen_ids positions (ids_of s.parts))
+  pub alone : StaysButMerge s t
+
+-- what the begun merge had built took the place of its inputs
+pub record HasEnded (D : ℕ) (told : Type 0) (files : Files) (s t : SetData) : Type 0 where
+  pub ended : t.begun ≡ None
+  pub parts : (b : BegunMerge) → s.begun ≡ Some b → IsEnded b s.parts t.parts
+  pub buffer : t.buffer ≡ s.buffer
+  pub canon : told → AreCanonical D files s.names t.parts
+
+-- what the request leaves of the set, once it is done
+abbrev pub Leaves : (D : ℕ) (told : Type 0) → Request → (files new_files : Files) → (s t : SetData) → Type 0
+Leaves D told asks.Flush files new_files s t = IsFlushed D told new_files s t
+Leaves D told asks.Merge files new_files s t = IsMergedAll D told files new_files s t
+Leaves D told (asks.MergeBegin positions) files new_files s t = HasBegun positions s t
+Leaves D told asks.MergeEnd files new_files s t = HasEnded D told new_files s t
+Leaves D told _ files new_files s t = Unit {0}

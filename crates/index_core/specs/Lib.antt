@@ -1,0 +1,4 @@
+pub mod Sessions
+pub mod Steps
+pub mod Replies
+pub mod Effects

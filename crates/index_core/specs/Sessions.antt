@@ -1,0 +1,76 @@
+-- What contracts see of a session, and when it guards the files of its folder.
+use Rattle.std.specs.Prelude.{◌≡◌, ◌≤◌, ◌⊎◌, ℕ, Bool, true, false, length, All, Contains, Option, None, Some}
+use Rattle.outer_io.specs.declared.file_name.FileName.{FileName}
+use Rattle.outer_io.specs.declared.file_name.FileName.TheVariants.{Commit, Live}
+use Rattle.outer_io.specs.Files.{Files, bytes_of}
+use Rattle.live_bits.specs.LiveSet.{LiveSet, IsLiveSet}
+use Rattle.segment_file.specs.LiveFiles.{IsLiveFile}
+use Rattle.commit_list.specs.declared.listed.Listed.{Listed}
+use Rattle.commit_list.specs.Commits.{CommitData}
+use Rattle.commit_list.specs.CommitFiles.{IsCommitFile}
+use Rattle.stored_index.specs.Kept.{ListsFile}
+use Rattle.segment_view.specs.Parts.{Part}
+use Rattle.file_names.specs.Names.{is_named}
+use Rattle.segment_set.specs.Sets.{SetData, IsWell}
+use Rattle.segment_set.specs.Kept.{IsAsCommitted, IsWithin}
+
+-- the dimensions of a commit, where there is one
+abbrev pub HasDims : ℕ → Option CommitData → Type 0
+HasDims D None = Unit {0}
+HasDims D (Some c) = c.dims ≡ D
+
+-- a session has few dimensions, and its commit has as many
+pub record IsOfDims (D : ℕ) (commit : Option CommitData) : Type 0 where
+  pub few : D ≤ 8
+  pub has : HasDims D commit
+
+-- a session: its set, the commit that it attached or last wrote, and whether one was refused since then
+pub record SessionData : Type 0 where
+  pub set : SetData
+  pub commit : Option CommitData
+  pub refused : Bool
+
+-- where there is a Commit file, it says a commit of these dimensions and of the set's leaf size, which lists nothing but files of the set's list of names
+pub record ListsOnlyNamed (D : ℕ) (files : Files) (s : SetData) : Type 0 where
+  pub commit : CommitData
+  pub says : IsCommitFile (bytes_of (files Commit)) commit
+  pub dims : commit.dims ≡ D
+  pub leaf : commit.leaf ≡ s.leaf
+  pub named : (m : FileName) → ListsFile commit m → is_named s.names.names m ≡ true
+
+abbrev pub GuardsSet : ℕ → Files → SetData → Type 0
+GuardsSet D files s = (files Commit ≡ None) ⊎ ListsOnlyNamed D files s
+
+-- the listed live file of the segment has at least what is live in it now
+pub record CoversPart (files : Files) (l : Listed) (p : Part) : Type 0 where
+  pub entries : l.entries ≡ p.head.entries
+  pub live : LiveSet
+  pub file : IsLiveFile l.segment l.generation (bytes_of (files (Live l.segment l.generation))) live
+  pub count : length live.live ≡ l.live
+  pub covers : IsWithin p.live live
+
+-- the Commit file says this commit, whose live files cover the segments of now that it lists
+pub record IsLastCommit (files : Files) (s : SetData) (c : CommitData) : Type 0 where
+  pub says : IsCommitFile (bytes_of (files Commit)) c
+  pub covers : (l : Listed) (p : Part) → Contains c.listed l → Contains s.parts p → l.segment ≡ p.head.id → CoversPart files l p
+
+-- the last commit is the one that is there; where there was none, there is no Commit file
+abbrev pub IsLast : Files → SetData → Option CommitData → Type 0
+IsLast files s None = files Commit ≡ None
+IsLast files s (Some c) = IsLastCommit files s c
+
+-- The session guards the files: no call of it changes what they keep before a commit has taken its place. Where a commit was refused it isn't known which of the
+-- two is there.
+pub record Guards (D : ℕ) (files : Files) (s : SessionData) : Type 0 where
+  pub set : GuardsSet D files s.set
+  pub last : s.refused ≡ false → IsLast files s.set s.commit
+
+-- nothing changed since the last commit: there is one, none was refused since, and the set is as it says
+pub record IsUnchanged (D : ℕ) (s : SessionData) : Type 0 where
+  pub commit : CommitData
+  pub is : s.commit ≡ Some commit
+  pub dims : commit.dims ≡ D
+  pub done : s.refused ≡ false
+  pub same : IsAsCommitted s.set commit
+  pub sets : All (λ p. IsLiveSet p.live) s.set.parts
+  pub well : IsWell D s.set

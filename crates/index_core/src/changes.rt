@@ -1,0 +1,202 @@
+//! Commands that change the documents, the segments or the snapshots.
+
+ghost use Rattle.std.specs.Prelude.{◌≡◌, ◌+◌, ◌^◌, ℕ, false, nat_lt, length, IsTrue};
+ghost use Rattle.outer_io.specs.Files.{Files};
+ghost use Rattle.script_lang.specs.Requests as asks;
+ghost use Rattle.index_model.specs.Step.{step_on};
+ghost use Rattle.index_core.specs.Steps.{Applies};
+ghost use Rattle.index_core.specs.Effects.{HasBegun, HasEnded, IsFlushed, IsMergedAll, OnDone};
+
+use crate::replies::{add_answer, begin_answer, end_answer, snap_answer, take_back};
+use crate::session::Session;
+use bkd_build::Gate;
+use cell_relate::BoxShape;
+use index_model::{Applied, MAX_POINTS};
+use outer_io::Folder;
+use page_cache::PageFault;
+use point_codec::{Name, Point, Points, View};
+use script_lang::{Why, put_deleted, put_doc, put_ok};
+use std::alloc::Global;
+use std::marker::Sync;
+use std::thread::Threads;
+
+impl<const D: usize> Session<D> {
+    /// Adds a document. Its reply is written first, since the document stays once it is added. Where the set is full nothing is written.
+    pub(crate) fn add<R: Threads + Sync, F: Folder, G: Gate>(
+        &mut self,
+        rt: &R,
+        alloc: Global,
+        folder: &mut F,
+        points: &Points<D>,
+        out: &mut Vec<u8>,
+        gate: &G,
+    ) -> Result<Applied, PageFault>
+        ensures { Applies D (IsTrue F.told) (λ i. step_on i (asks.Add points.now)) false
+            (record { files = F.files folder.old; session = self.old; text = out.old.items; faults = F.faults folder.old })
+            (record { files = F.files folder.new; session = self.new; text = out.new.items; faults = F.faults folder.new }) result }
+    {
+        if self.is_full(points) {
+            return Ok(Applied::Refused(Why::Full));
+        }
+        put_doc(out, self.set.next())?;
+        add_answer(self.set.add(rt, alloc, folder, points, gate))
+    }
+
+    /// Whether more points would be given with these than ever may be.
+    fn is_full(&self, points: &Points<D>) -> bool
+        ensures { result ≡ nat_lt (2 ^ 24) (self.now.set.given + length points.now) }
+    {
+        let _leaf = self.set.leaf();
+        self.set.given() + points.as_slice().len() as u32 > MAX_POINTS
+    }
+
+    /// Deletes a document. The reply that it was live is written first, since it can't be brought back.
+    pub(crate) fn delete(&mut self, doc: u32, out: &mut Vec<u8>) -> Result<Applied, PageFault>
+        ensures { (files : Files) (faults : ℕ) → Applies D (Unit {0}) (λ i. step_on i (asks.Delete doc)) false
+            (record { files = files; session = self.old; text = out.old.items; faults = faults })
+            (record { files = files; session = self.new; text = out.new.items; faults = faults }) result }
+    {
+        let before = out.len();
+        put_deleted(out, 1)?;
+        if self.set.delete(doc) {
+            return Ok(Applied::Done);
+        }
+        out.truncate(before);
+        put_deleted(out, 0)?;
+        Ok(Applied::Done)
+    }
+
+    /// Deletes the documents with a point in the box: they are looked for, their number is written, and then they go.
+    pub(crate) fn delete_box<F: Folder>(
+        &mut self,
+        alloc: Global,
+        folder: &mut F,
+        lo: &Point<D>,
+        hi: &Point<D>,
+        out: &mut Vec<u8>,
+    ) -> Result<Applied, PageFault>
+        ensures { Applies D (IsTrue F.told) (λ i. step_on i (asks.DeleteBox lo.now.c hi.now.c)) false
+            (record { files = F.files folder.old; session = self.old; text = out.old.items; faults = F.faults folder.old })
+            (record { files = F.files folder.new; session = self.new; text = out.new.items; faults = F.faults folder.new }) result }
+    {
+        let mut shape = BoxShape::new(*lo, *hi);
+        let hits = self.set.visit(alloc, folder, &View::Now, &mut shape)?;
+        let Ok(count) = u32::try_from(hits.len()) else {
+            return Err(PageFault::Memory);
+        };
+        put_deleted(out, count)?;
+        self.set.delete_all(hits.as_slice());
+        Ok(Applied::Done)
+    }
+
+    /// Writes the buffer to a segment.
+    pub(crate) fn flush<R: Threads + Sync, F: Folder, G: Gate>(
+        &mut self,
+        rt: &R,
+        alloc: Global,
+        folder: &mut F,
+        out: &mut Vec<u8>,
+        gate: &G,
+    ) -> Result<Applied, PageFault>
+        ensures applies { Applies D (IsTrue F.told) (λ i. step_on i asks.Flush) false
+            (record { files = F.files folder.old; session = self.old; text = out.old.items; faults = F.faults folder.old })
+            (record { files = F.files folder.new; session = self.new; text = out.new.items; faults = F.faults folder.new }) result }
+        ensures leaves { OnDone result (IsFlushed D (IsTrue F.told) (F.files folder.new) self.old.set self.new.set) }
+    {
+        self.set.flush(rt, alloc, folder, gate)?;
+        put_ok(out)?;
+        Ok(Applied::Done)
+    }
+
+    /// Merges all segments that no begun merge has as inputs.
+    pub(crate) fn merge<R: Threads + Sync, F: Folder, G: Gate>(
+        &mut self,
+        rt: &R,
+        alloc: Global,
+        folder: &mut F,
+        out: &mut Vec<u8>,
+        gate: &G,
+    ) -> Result<Applied, PageFault>
+        ensures applies { Applies D (IsTrue F.told) (λ i. step_on i asks.Merge) false
+            (record { files = F.files folder.old; session = self.old; text = out.old.items; faults = F.faults folder.old })
+            (record { files = F.files folder.new; session = self.new; text = out.new.items; faults = F.faults folder.new }) result }
+        ensures leaves { OnDone result (IsMergedAll D (IsTrue F.told) (F.files folder.old) (F.files folder.new) self.old.set self.new.set) }
+    {
+        self.set.merge_all(rt, alloc, folder, gate)?;
+        put_ok(out)?;
+        Ok(Applied::Done)
+    }
+
+    /// Begins a merge of the segments at these positions.
+    pub(crate) fn merge_begin<R: Threads + Sync, F: Folder, G: Gate>(
+        &mut self,
+        rt: &R,
+        alloc: Global,
+        folder: &mut F,
+        which: &[u32],
+        out: &mut Vec<u8>,
+        gate: &G,
+    ) -> Result<Applied, PageFault>
+        ensures applies { Applies D (IsTrue F.told) (λ i. step_on i (asks.MergeBegin which.now)) false
+            (record { files = F.files folder.old; session = self.old; text = out.old.items; faults = F.faults folder.old })
+            (record { files = F.files folder.new; session = self.new; text = out.new.items; faults = F.faults folder.new }) result }
+        ensures leaves { OnDone result (HasBegun which.now self.old.set self.new.set) }
+    {
+        if self.set.is_merging() {
+            return Ok(Applied::Refused(Why::Begun));
+        }
+        put_ok(out)?;
+        begin_answer(self.set.merge_begin(rt, alloc, folder, which, gate))
+    }
+
+    /// Ends the begun merge.
+    pub(crate) fn merge_end<F: Folder>(
+        &mut self,
+        alloc: Global,
+        folder: &mut F,
+        out: &mut Vec<u8>,
+    ) -> Result<Applied, PageFault>
+        ensures applies { Applies D (IsTrue F.told) (λ i. step_on i asks.MergeEnd) false
+            (record { files = F.files folder.old; session = self.old; text = out.old.items; faults = F.faults folder.old })
+            (record { files = F.files folder.new; session = self.new; text = out.new.items; faults = F.faults folder.new }) result }
+        ensures leaves { OnDone result (HasEnded D (IsTrue F.told) (F.files folder.new) self.old.set self.new.set) }
+    {
+        if !self.set.is_merging() {
+            return Ok(Applied::Refused(Why::NotBegun));
+        }
+        put_ok(out)?;
+        end_answer(self.set.merge_end(alloc, folder))
+    }
+
+    /// Keeps what is live now under a name.
+    pub(crate) fn snapshot(
+        &mut self,
+        alloc: Global,
+        name: &Name,
+        out: &mut Vec<u8>,
+    ) -> Result<Applied, PageFault>
+        ensures { (files : Files) (faults : ℕ) → Applies D (Unit {0}) (λ i. step_on i (asks.Snapshot name.now)) false
+            (record { files = files; session = self.old; text = out.old.items; faults = faults })
+            (record { files = files; session = self.new; text = out.new.items; faults = faults }) result }
+    {
+        let before = out.len();
+        put_ok(out)?;
+        let answer = snap_answer(self.set.snapshot(alloc, *name));
+        take_back(out, before, &answer);
+        answer
+    }
+
+    /// Lets the snapshot of a name go.
+    pub(crate) fn release(&mut self, name: &Name, out: &mut Vec<u8>) -> Result<Applied, PageFault>
+        ensures { (files : Files) (faults : ℕ) → Applies D (Unit {0}) (λ i. step_on i (asks.Release name.now)) false
+            (record { files = files; session = self.old; text = out.old.items; faults = faults })
+            (record { files = files; session = self.new; text = out.new.items; faults = faults }) result }
+    {
+        if !self.set.has_snapshot(name) {
+            return Ok(Applied::Refused(Why::UnknownSnapshot));
+        }
+        put_ok(out)?;
+        self.set.release(name);
+        Ok(Applied::Done)
+    }
+}

@@ -1,0 +1,192 @@
+//! Commits, and sessions anew over one.
+
+ghost use Rattle.std.specs.Prelude.{◌≡◌, ◌⊎◌, ℕ, [], Some, true, false, IsTrue, IsSome, IfOk, OnOk};
+ghost use Rattle.std.specs.List.{AllZip};
+ghost use Rattle.outer_io.specs.Files.{Files, bytes_of};
+ghost use Rattle.outer_io.specs.declared.file_name.FileName.{FileName};
+ghost use Rattle.outer_io.specs.declared.file_name.FileName.TheVariants.{Commit as CommitName, Live};
+ghost use Rattle.page_cache.specs.Causes.{HasPageCause};
+ghost use Rattle.page_cache.specs.Evidence.{NotDamaged};
+ghost use Rattle.commit_list.specs.CommitFiles.{IsCommitFile};
+ghost use Rattle.script_lang.specs.Requests as asks;
+ghost use Rattle.segment_file.specs.LiveFiles.{IsLiveFile};
+ghost use Rattle.index_model.specs.State.{Index, State, at_rest};
+ghost use Rattle.index_model.specs.Step.{step_on};
+ghost use Rattle.stored_index.specs.Stored.{IsStored};
+ghost use Rattle.stored_index.specs.Kept.{ListsFile, SameKept};
+ghost use Rattle.segment_set.specs.Seen.{Sees};
+ghost use Rattle.segment_set.specs.Kept.{IsCommitOf, StaysButFiles};
+ghost use Rattle.index_core.specs.Sessions.{Guards, GuardsSet, IsUnchanged};
+ghost use Rattle.index_core.specs.Steps.{Applies, KeepsOver, SaysCommit, Stores};
+
+use crate::session::Session;
+use bkd_build::Gate;
+use commit_list::{Commit, write_commit};
+use index_model::Applied;
+use outer_io::{Failed, Folder};
+use page_cache::PageFault;
+use script_lang::put_ok;
+use segment_set::SegmentSet;
+use std::alloc::Global;
+use std::marker::Sync;
+use std::thread::Threads;
+
+impl<const D: usize> Session<D> {
+    /// Commits, only if something changed: there is no commit yet, one was refused, or the documents, the next number, the points given or
+    /// the segments are others than those of the last one.
+    pub fn commit<R: Threads + Sync, F: Folder, G: Gate>(
+        &mut self,
+        rt: &R,
+        alloc: Global,
+        folder: &mut F,
+        gate: &G,
+    ) -> Result<(), PageFault>
+        ensures seen { IsTrue F.told → (i : Index) → Sees D (F.files folder.old) self.old.set i → Sees D (F.files folder.new) self.new.set i }
+        ensures guards { IsTrue F.told → Guards D (F.files folder.old) self.old → Guards D (F.files folder.new) self.new }
+        ensures kept { IsTrue F.told → Guards D (F.files folder.old) self.old → KeepsOver true (F.files folder.old) (F.files folder.new) self.new result }
+        // whatever is answered, all that is kept is the same, or the commit in flight is there
+        ensures flight { IsTrue F.told → Guards D (F.files folder.old) self.old
+            → SameKept (F.files folder.old) (F.files folder.new) ⊎ SaysCommit (F.files folder.new) self.new.set.saved }
+        ensures stored { IsTrue F.told → (i : Index) → Sees D (F.files folder.old) self.old.set i → Guards D (F.files folder.old) self.old
+            → Stores (F.files folder.old) (F.files folder.new) i self.new.set result }
+        ensures emptied { OnOk result (self.new.set.buffer ≡ []) }
+        ensures committed { OnOk result (IsSome self.new.commit × (self.new.refused ≡ false)) }
+        ensures cause { HasPageCause (F.faults folder.old) (F.faults folder.new) result }
+        ensures whole { IsTrue F.told → (i : Index) → Sees D (F.files folder.old) self.old.set i → NotDamaged result }
+    {
+        if !self.is_changed() {
+            return Ok(());
+        }
+        let commit = self.set.save(rt, alloc, folder, gate)?;
+        self.write(alloc, folder, commit)?;
+        self.sweep(folder)
+    }
+
+    /// Whether something isn't as the last commit says.
+    fn is_changed(&self) -> bool
+        ensures { result ≡ false → IsUnchanged D self.now }
+    {
+        let _leaf = self.set.leaf();
+        let Some(commit) = &self.commit else {
+            return true;
+        };
+        if self.refused {
+            return true;
+        }
+        self.set.differs(commit)
+    }
+
+    /// Makes the commit that the set saved the folder's. Where that is refused it isn't known which of the two is there.
+    fn write<F: Folder>(
+        &mut self,
+        alloc: Global,
+        folder: &mut F,
+        commit: Commit,
+    ) -> Result<(), PageFault>
+        requires listed { IsCommitOf D self.old.set commit }
+        requires saved { self.old.set.saved ≡ Some commit }
+        requires emptied { self.old.set.buffer ≡ [] }
+        ensures set { self.new.set ≡ self.old.set }
+        ensures written { OnOk result ((self.new.commit ≡ Some commit) × (self.new.refused ≡ false)) }
+        ensures seen { IsTrue F.told → (i : Index) → Sees D (F.files folder.old) self.old.set i → Sees D (F.files folder.new) self.new.set i }
+        ensures guards { IsTrue F.told → GuardsSet D (F.files folder.old) self.old.set
+            → AllZip (λ l p. IsLiveFile l.segment l.generation (bytes_of (F.files folder.old (Live l.segment l.generation))) p.live) commit.listed self.old.set.parts
+            → Guards D (F.files folder.new) self.new }
+        ensures kept { IsTrue F.told → KeepsOver true (F.files folder.old) (F.files folder.new) self.new result }
+        ensures stored { IsTrue F.told → (i : Index)
+            → ((files : Files) → IsCommitFile (bytes_of (files CommitName)) commit → ((m : FileName) → ListsFile commit m → files m ≡ F.files folder.old m) → IsStored files (Some (at_rest i)))
+            → Stores (F.files folder.old) (F.files folder.new) i self.new.set result }
+        ensures cause { HasPageCause (F.faults folder.old) (F.faults folder.new) result }
+        ensures whole { NotDamaged result }
+    {
+        let _leaf = self.set.leaf();
+        match write_commit(alloc, folder, &commit) {
+            Ok(()) => {
+                self.commit = Some(commit);
+                self.refused = false;
+                Ok(())
+            }
+            Err(fault) => {
+                self.refused = true;
+                Err(PageFault::from(fault))
+            }
+        }
+    }
+
+    /// Removes the files that neither the last commit nor a view needs.
+    fn sweep<F: Folder>(&mut self, folder: &mut F) -> Result<(), PageFault>
+        requires saved { IsSome self.old.commit × (self.old.set.saved ≡ self.old.commit) }
+        requires written { self.old.refused ≡ false }
+        ensures alone { StaysButFiles self.old.set self.new.set }
+        ensures written { (self.new.commit ≡ self.old.commit) × (self.new.refused ≡ false) }
+        ensures seen { IsTrue F.told → (i : Index) → Sees D (F.files folder.old) self.old.set i → Sees D (F.files folder.new) self.new.set i }
+        ensures guards { IsTrue F.told → Guards D (F.files folder.old) self.old → Guards D (F.files folder.new) self.new }
+        ensures kept { IsTrue F.told → Guards D (F.files folder.old) self.old → SameKept (F.files folder.old) (F.files folder.new) }
+        ensures cause { HasPageCause (F.faults folder.old) (F.faults folder.new) result }
+        ensures whole { NotDamaged result }
+    {
+        match self.set.sweep(folder) {
+            Ok(()) => Ok(()),
+            Err(Failed) => Err(PageFault::Failed),
+        }
+    }
+
+    /// Commits, and answers so.
+    pub(crate) fn commit_line<R: Threads + Sync, F: Folder, G: Gate>(
+        &mut self,
+        rt: &R,
+        alloc: Global,
+        folder: &mut F,
+        out: &mut Vec<u8>,
+        gate: &G,
+    ) -> Result<Applied, PageFault>
+        ensures { Applies D (IsTrue F.told) (λ i. step_on i asks.Commit) true
+            (record { files = F.files folder.old; session = self.old; text = out.old.items; faults = F.faults folder.old })
+            (record { files = F.files folder.new; session = self.new; text = out.new.items; faults = F.faults folder.new }) result }
+    {
+        self.commit(rt, alloc, folder, gate)?;
+        put_ok(out)?;
+        Ok(Applied::Done)
+    }
+
+    /// Commits and attaches anew, which lets snapshots and a begun merge go. The set of before stays until all that can fail is done.
+    pub(crate) fn reopen<R: Threads + Sync, F: Folder, G: Gate>(
+        &mut self,
+        rt: &R,
+        alloc: Global,
+        folder: &mut F,
+        out: &mut Vec<u8>,
+        gate: &G,
+    ) -> Result<Applied, PageFault>
+        ensures { Applies D (IsTrue F.told) (λ i. step_on i asks.Reopen) true
+            (record { files = F.files folder.old; session = self.old; text = out.old.items; faults = F.faults folder.old })
+            (record { files = F.files folder.new; session = self.new; text = out.new.items; faults = F.faults folder.new }) result }
+    {
+        self.commit(rt, alloc, folder, gate)?;
+        let set = self.attach_anew(alloc, folder)?;
+        put_ok(out)?;
+        self.set = set;
+        Ok(Applied::Done)
+    }
+
+    /// A set anew over the session's own commit.
+    fn attach_anew<F: Folder>(
+        &self,
+        alloc: Global,
+        folder: &mut F,
+    ) -> Result<SegmentSet<D>, PageFault>
+        requires { IsSome self.now.commit }
+        ensures seen { IsTrue F.told → self.now.refused ≡ false → Guards D (F.files folder.old) self.now → (i : Index) → IsStored (F.files folder.old) (Some i)
+            → IfOk result (λ s. Sees D (F.files folder.old) s i) }
+        ensures guards { IsTrue F.told → self.now.refused ≡ false → Guards D (F.files folder.old) self.now → IfOk result (λ s. Guards D (F.files folder.old) (record self.now { set = s })) }
+        ensures emptied { IfOk result (λ s. s.buffer ≡ []) }
+        ensures files { IsTrue F.told → F.files folder.new ≡ F.files folder.old }
+        ensures cause { HasPageCause (F.faults folder.old) (F.faults folder.new) result }
+        ensures whole { IsTrue F.told → self.now.refused ≡ false → Guards D (F.files folder.old) self.now → (state : State) → IsStored (F.files folder.old) state → NotDamaged result }
+    {
+        let Some(commit) = &self.commit else {
+            unreachable!()
+        };
+        SegmentSet::attach(alloc, folder, commit, self.settings)
+    }
+}

@@ -1,0 +1,96 @@
+//! Commands that look for documents.
+
+ghost use Rattle.std.specs.Prelude.{◌≡◌, ◌≤◌, ◌↔◌, ℕ, true, false, map, IsTrue};
+ghost use Rattle.documents.specs.Documents.{hits};
+ghost use Rattle.script_lang.specs.Requests as asks;
+ghost use Rattle.script_lang.specs.Replies.{hits_text};
+ghost use Rattle.script_lang.specs.Seen.{viewed};
+ghost use Rattle.index_model.specs.State.{viewed_docs};
+ghost use Rattle.index_model.specs.Step.{answered, step_on};
+ghost use Rattle.segment_set.specs.Sets.{HasView};
+ghost use Rattle.index_core.specs.Steps.{Applies};
+
+use crate::session::Session;
+use cell_relate::Shape;
+use index_model::Applied;
+use outer_io::Folder;
+use page_cache::PageFault;
+use point_codec::{Point, View};
+use polygon_query::PolygonShape;
+use ring_parity::Rings;
+use script_lang::{Why, put_hits, put_near};
+use std::alloc::Global;
+
+impl<const D: usize> Session<D> {
+    /// Whether there is such a view.
+    fn has_view(&self, view: &View) -> bool
+        ensures { (result ≡ true) ↔ HasView (viewed view.now) self.now.set }
+    {
+        match view {
+            View::Now => true,
+            View::Named(name) => self.set.has_snapshot(name),
+        }
+    }
+
+    /// The documents of the view that the shape has.
+    pub(crate) fn find<S: Shape<D>, F: Folder>(
+        &mut self,
+        alloc: Global,
+        folder: &mut F,
+        view: &View,
+        shape: &mut S,
+        out: &mut Vec<u8>,
+    ) -> Result<Applied, PageFault>
+        ensures { Applies D (IsTrue F.told) (λ i. answered i (viewed_docs (viewed view.now) i) (λ docs. hits_text (hits (S.has shape.old) docs))) false
+            (record { files = F.files folder.old; session = self.old; text = out.old.items; faults = F.faults folder.old })
+            (record { files = F.files folder.new; session = self.new; text = out.new.items; faults = F.faults folder.new }) result }
+    {
+        if !self.has_view(view) {
+            return Ok(Applied::Refused(Why::UnknownSnapshot));
+        }
+        let hits = self.set.visit(alloc, folder, view, shape)?;
+        put_hits(out, hits.as_slice())?;
+        Ok(Applied::Done)
+    }
+
+    /// The documents of the view in the polygon.
+    pub(crate) fn find_in<F: Folder>(
+        &mut self,
+        alloc: Global,
+        folder: &mut F,
+        view: &View,
+        rings: &Rings,
+        out: &mut Vec<u8>,
+    ) -> Result<Applied, PageFault>
+        ensures { Applies D (IsTrue F.told) (λ i. step_on i (asks.InPolygon (viewed view.now) rings.now)) false
+            (record { files = F.files folder.old; session = self.old; text = out.old.items; faults = F.faults folder.old })
+            (record { files = F.files folder.new; session = self.new; text = out.new.items; faults = F.faults folder.new }) result }
+    {
+        let mut shape = PolygonShape::new(alloc, rings)?;
+        self.find(alloc, folder, view, &mut shape, out)
+    }
+
+    /// The `k` documents of the view that are nearest to a point.
+    pub(crate) fn nearest<F: Folder>(
+        &mut self,
+        alloc: Global,
+        folder: &mut F,
+        view: &View,
+        k: u16,
+        at: &Point<D>,
+        out: &mut Vec<u8>,
+    ) -> Result<Applied, PageFault>
+        requires some { 1 ≤ k }
+        requires few { k ≤ 10000 }
+        ensures { Applies D (IsTrue F.told) (λ i. step_on i (asks.Nearest (viewed view.now) k at.now.c)) false
+            (record { files = F.files folder.old; session = self.old; text = out.old.items; faults = F.faults folder.old })
+            (record { files = F.files folder.new; session = self.new; text = out.new.items; faults = F.faults folder.new }) result }
+    {
+        if !self.has_view(view) {
+            return Ok(Applied::Refused(Why::UnknownSnapshot));
+        }
+        let found = self.set.nearest(alloc, folder, view, at, k)?;
+        put_near(out, found.as_slice())?;
+        Ok(Applied::Done)
+    }
+}

@@ -1,0 +1,231 @@
+//! Six documents in two segments of a folder: what is saved of them, what a sweep takes away, and what attaching shows where a file is
+//! missing, damaged or another's.
+
+use super::{SegmentSet, Settings};
+use bkd_build::OpenGate;
+use commit_list::{Commit, read_commit, write_commit};
+use live_bits::LiveBits;
+use outer_io::{Failed, FileName, Folder, MemFolder};
+use page_cache::{Damage, PageFault};
+use point_codec::{Name, Point, Points};
+use segment_file::write_live;
+use std::alloc::Global;
+use std::marker::Sync;
+use std::test::Fail;
+use std::thread::Threads;
+
+/// The points of documents 0 to 2, and of 3 to 5.
+const FIRST: [&[[i32; 2]]; 3] = [&[[0, 0]], &[[10, 10], [-3, 4]], &[[5, 5]]];
+
+const SECOND: [&[[i32; 2]]; 3] = [&[[5, 5]], &[[-8, -6]], &[[20, 0], [0, 20], [20, 20]]];
+
+/// The files of the two segments, then those of the segment that both are merged into.
+const FILES: [FileName; 6] = [
+    FileName::Segment(0),
+    FileName::Segment(1),
+    FileName::Live {
+        segment: 0,
+        generation: 1,
+    },
+    FileName::Live {
+        segment: 1,
+        generation: 1,
+    },
+    FileName::Segment(2),
+    FileName::Live {
+        segment: 2,
+        generation: 2,
+    },
+];
+
+const SETTINGS: Settings = Settings {
+    cache_pages: 4,
+    forks: 1,
+};
+
+/// Adds the documents, and writes them to a segment.
+fn put<R: Threads + Sync>(
+    rt: &R,
+    alloc: Global,
+    set: &mut SegmentSet<2>,
+    folder: &mut MemFolder,
+    documents: &[&[[i32; 2]]],
+) -> Result<(), Fail> {
+    for points in documents {
+        let mut list = Vec::new(alloc);
+        for c in *points {
+            list.push(Point { c: *c })?;
+        }
+        if list.is_empty() || list.len() > 16 {
+            return Err("not 1 to 16 points".into());
+        }
+        set.add(rt, alloc, folder, &Points::of(list), &OpenGate)?;
+    }
+    Ok(set.flush(rt, alloc, folder, &OpenGate)?)
+}
+
+/// Puts the two segments into a set.
+fn put_two<R: Threads + Sync>(
+    rt: &R,
+    alloc: Global,
+    set: &mut SegmentSet<2>,
+    folder: &mut MemFolder,
+) -> Result<(), Fail> {
+    put(rt, alloc, set, folder, &FIRST)?;
+    put(rt, alloc, set, folder, &SECOND)
+}
+
+/// A folder with the two segments and their commit.
+fn stored<R: Threads + Sync>(rt: &R, alloc: Global) -> Result<MemFolder, Fail> {
+    let mut folder = MemFolder::new(alloc, Vec::new(alloc));
+    let mut set = SegmentSet::new(alloc, 2, SETTINGS)?;
+    put_two(rt, alloc, &mut set, &mut folder)?;
+    let commit = set.save(rt, alloc, &mut folder, &OpenGate)?;
+    write_commit(alloc, &mut folder, &commit)?;
+    Ok(folder)
+}
+
+/// Puts the other folder's file of this name into the folder.
+fn exchange(
+    alloc: Global,
+    folder: &mut MemFolder,
+    other: &MemFolder,
+    name: FileName,
+) -> Result<(), Fail> {
+    let bytes = other.get(&name).ok_or("no file")?.to_vec(alloc)?;
+    Ok(folder.put(name, bytes)?)
+}
+
+/// Turns the first bit of a file.
+fn turn(alloc: Global, folder: &mut MemFolder, name: FileName) -> Result<(), Fail> {
+    let mut bytes = folder.get(&name).ok_or("no file")?.to_vec(alloc)?;
+    if let Some(first) = bytes.first_mut() {
+        *first ^= 128;
+    }
+    Ok(folder.put(name, bytes)?)
+}
+
+/// The damage that attaching shows.
+fn damage(alloc: Global, folder: &mut MemFolder) -> Result<Damage, Fail> {
+    let commit = read_commit(alloc, folder)?.ok_or("no commit")?;
+    if commit.dims() != 2 {
+        return Err("other dimensions".into());
+    }
+    match SegmentSet::<2>::attach(alloc, folder, &commit, SETTINGS) {
+        Err(PageFault::Damaged(damage)) => Ok(damage),
+        _ => Err("no damage".into()),
+    }
+}
+
+/// Which of the files are there.
+fn there(folder: &MemFolder) -> [bool; 6] {
+    let mut found = [false; 6];
+    for (one, name) in found.iter_mut().zip(FILES.iter()) {
+        *one = folder.get(name).is_some();
+    }
+    found
+}
+
+/// Saves the set, and sweeps what nothing needs.
+fn save<R: Threads + Sync>(
+    rt: &R,
+    alloc: Global,
+    set: &mut SegmentSet<2>,
+    folder: &mut MemFolder,
+) -> Result<Commit, Fail> {
+    let commit = set.save(rt, alloc, folder, &OpenGate)?;
+    set.sweep(folder)?;
+    Ok(commit)
+}
+
+#[test]
+fn a_sweep_takes_what_nothing_needs(rt: HostRuntime) -> Result<(), Fail> {
+    let alloc = rt.alloc();
+    let mut folder = MemFolder::new(rt.alloc(), Vec::new(rt.alloc()));
+    let mut set = SegmentSet::new(rt.alloc(), 2, SETTINGS)?;
+    put_two(&rt, rt.alloc(), &mut set, &mut folder)?;
+    save(&rt, rt.alloc(), &mut set, &mut folder)?;
+    assert_eq!(rt; there(&folder), [true, true, true, true, false, false]);
+    let name = Name::new(b"before").ok_or("a name")?;
+    set.snapshot(alloc, name)?;
+    set.merge_all(&rt, alloc, &mut folder, &OpenGate)?;
+    set.save(&rt, alloc, &mut folder, &OpenGate)?;
+    // the first file isn't taken away
+    folder.plan([0].to_vec(alloc)?, None);
+    assert_eq!(rt; set.sweep(&mut folder), Err(Failed));
+    assert_eq!(rt; there(&folder), [true, true, true, true, true, false]);
+    save(&rt, rt.alloc(), &mut set, &mut folder)?;
+    assert_eq!(rt; there(&folder), [true, true, false, false, true, true]);
+    set.release(&name);
+    save(&rt, rt.alloc(), &mut set, &mut folder)?;
+    assert_eq!(rt; there(&folder), [false, false, false, false, true, false]);
+    Ok(())
+}
+
+/// After a save that fails no name is written again.
+#[test]
+fn a_save_that_fails(rt: HostRuntime) -> Result<(), Fail> {
+    let mut folder = MemFolder::new(rt.alloc(), Vec::new(rt.alloc()));
+    let mut set = SegmentSet::new(rt.alloc(), 2, SETTINGS)?;
+    put_two(&rt, rt.alloc(), &mut set, &mut folder)?;
+    folder.plan([1].to_vec(rt.alloc())?, None);
+    let failed = set.save(&rt, rt.alloc(), &mut folder, &OpenGate);
+    assert!(rt; matches!(failed, Err(PageFault::Failed)));
+    let commit = save(&rt, rt.alloc(), &mut set, &mut folder)?;
+    for one in commit.listed() {
+        assert_eq!(rt; one.generation, 2);
+    }
+    assert_eq!(rt; there(&folder), [true, true, false, false, false, false]);
+    Ok(())
+}
+
+#[test]
+fn files_that_are_gone_or_turned(rt: HostRuntime) -> Result<(), Fail> {
+    for name in [FILES[0], FILES[3]] {
+        let mut folder = stored(&rt, rt.alloc())?;
+        turn(rt.alloc(), &mut folder, name)?;
+        let turned = damage(rt.alloc(), &mut folder)?;
+        assert!(rt; matches!(turned, Damage::Page { file, number: 0, .. } if file == name));
+        folder.remove(&name)?;
+        let gone = damage(rt.alloc(), &mut folder)?;
+        assert!(rt; matches!(gone, Damage::Missing { file } if file == name));
+    }
+    Ok(())
+}
+
+/// Live bits of other numbers: too few, one that wasn't given, one that is live in the other segment.
+#[test]
+fn live_bits_of_other_numbers(rt: HostRuntime) -> Result<(), Fail> {
+    let alloc = rt.alloc();
+    let mut folder = stored(&rt, rt.alloc())?;
+    write_live(alloc, &mut folder, 1, 1, &LiveBits::of_docs(alloc, &[3, 4])?)?;
+    let few = damage(rt.alloc(), &mut folder)?;
+    assert!(rt; matches!(few, Damage::Unequal { file, said: 3, found: 2 } if file == FILES[3]));
+    write_live(alloc, &mut folder, 1, 1, &LiveBits::of_docs(alloc, &[3, 4, 6])?)?;
+    let beyond = damage(rt.alloc(), &mut folder)?;
+    assert!(rt; matches!(beyond, Damage::Beyond { doc: 6, next: 6 }));
+    write_live(alloc, &mut folder, 1, 1, &LiveBits::of_docs(alloc, &[2, 3, 4])?)?;
+    let doubled = damage(rt.alloc(), &mut folder)?;
+    assert!(rt; matches!(doubled, Damage::Doubled { doc: 2 }));
+    Ok(())
+}
+
+/// Segments of the same id with another leaf size, or other documents.
+#[test]
+fn segments_of_another_index(rt: HostRuntime) -> Result<(), Fail> {
+    let mut folder = stored(&rt, rt.alloc())?;
+    let mut other = MemFolder::new(rt.alloc(), Vec::new(rt.alloc()));
+    let mut set = SegmentSet::new(rt.alloc(), 3, SETTINGS)?;
+    put_two(&rt, rt.alloc(), &mut set, &mut other)?;
+    exchange(rt.alloc(), &mut folder, &other, FILES[1])?;
+    let leaf = damage(rt.alloc(), &mut folder)?;
+    assert!(rt; matches!(leaf, Damage::Unequal { file, said: 2, found: 3 } if file == FILES[1]));
+    let mut other = MemFolder::new(rt.alloc(), Vec::new(rt.alloc()));
+    let mut set = SegmentSet::new(rt.alloc(), 2, SETTINGS)?;
+    put(&rt, rt.alloc(), &mut set, &mut other, &SECOND)?;
+    put(&rt, rt.alloc(), &mut set, &mut other, &FIRST)?;
+    exchange(rt.alloc(), &mut folder, &other, FILES[1])?;
+    let entries = damage(rt.alloc(), &mut folder)?;
+    assert!(rt; matches!(entries, Damage::Unequal { file, said: 5, found: 4 } if file == FILES[1]));
+    Ok(())
+}
