@@ -5,11 +5,13 @@ use bkd_build::OpenGate;
 use bkd_top::{Status, code, run, status_line};
 use outer_io::{DirFolder, StdSink, StdSource, write_all};
 use std::io::{Lock, Read};
+use std::marker::Sync;
 use std::process::ExitCode;
+use std::thread::Threads;
 use std::{env, io};
 
 fn main(rt: HostRuntime) -> ExitCode {
-    let status = status_of(&rt);
+    let status = status_of(&rt, &rt);
     let mut line = Vec::new(rt.alloc());
     if status_line(rt.alloc(), &status, &mut line).is_ok() {
         // the exit status says the same, so nothing is lost where standard error takes no more
@@ -19,7 +21,7 @@ fn main(rt: HostRuntime) -> ExitCode {
 }
 
 /// Runs the program over its arguments, its streams and its directory.
-fn status_of(rt: &HostRuntime) -> Status {
+fn status_of<R: Threads + Sync>(rt: &HostRuntime, threads: &R) -> Status {
     let alloc = rt.alloc();
     let mut words = Vec::new(alloc);
     match env::args(rt) {
@@ -44,7 +46,7 @@ fn status_of(rt: &HostRuntime) -> Status {
     let mut input = StdSource::new(rt.stdin().lock());
     let mut output = StdSink::new(rt.stdout().lock());
     run(
-        rt,
+        threads,
         alloc,
         words.as_slice(),
         &mut input,
