@@ -146,7 +146,7 @@ stored_left : (T : Type 0) (old new : Files) (i : Index) (stored after : State) 
 stored_left T old new i stored after t e false h rest keeps stores = inl (stored_still old new stored keeps h)
 stored_left T old new i stored after t e true h rest keeps stores =
     elim (stores refl) as (λ _. IsStored new stored ⊎ ((true ≡ true) × IsStored new after)) [
-      inl same ↦ inl (stored_still old new stored same h)
+      | inl same ↦ inl (stored_still old new stored same h)
       | inr rested ↦ inr (refl, subst (IsStored new) (rest refl) rested)
     ]
 

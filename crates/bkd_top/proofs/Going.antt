@@ -106,7 +106,7 @@ module _ {told : Type 0} (a b : Place) (p : Progress told a b) (files : Files) (
   breaks_from : Breaks told b files new → Breaks told a files new
   breaks_from s =
       let at : answer (b.line + length s.done) (state_after b.line b.state s.done) s.at ≡ answer (a.line + length (p.done ++ s.done)) (state_after a.line a.state (p.done ++ s.done)) s.at
-          = (λ i. answer (sym (line_then a b p s.done) i) (sym (state_then a b p s.done) i) s.at) in
+      = (λ i. answer (sym (line_then a b p s.done) i) (sym (state_then a b p s.done) i) s.at) in
       record {
         done = p.done ++ s.done;
         at = s.at;

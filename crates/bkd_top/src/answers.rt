@@ -48,7 +48,7 @@ pub fn answer_line<const D: usize, R: Threads + Sync, F: Folder, K: Sink, G: Gat
     requires few { D ≤ 8 }
     ensures answers { IsTrue F.told → (i : Index) → (stored : State) → Stands D (F.files folder.old) session.old i stored
         → Answers (IsTrue K.told) D (record { number = number; index = i; stored = stored; bytes = line.now }) (F.files folder.new) session.new
-            (K.written out.old) (K.written out.new) result }
+        (K.written out.old) (K.written out.new) result }
     ensures cause { HasStopCause (F.faults folder.old) (F.faults folder.new) (K.faults out.old) (K.faults out.new) result }
 {
     reply.clear();

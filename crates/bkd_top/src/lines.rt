@@ -118,9 +118,15 @@ fn run_from<R: Threads + Sync, F: Folder, K: Sink, G: Gate>(
     requires lines { script.line + length script.rest.now < 2 ^ 64 }
     requires refused { script.refused ≤ script.line }
     ensures ends { IsTrue F.told → (i : Index) → (stored : State) → IsFrom (F.files folder.old) origin i stored
-        → EndsLines (IsTrue K.told) (record { line = script.entry.line; refused = script.entry.refused; state = Some i; stored = stored;
-                rest = lines_of script.entry.rest.now; written = K.written out.old })
-            (F.files folder.new) (K.written out.new) result }
+        → EndsLines (IsTrue K.told) (record {
+          line = script.entry.line;
+          refused = script.entry.refused;
+          state = Some i;
+          stored = stored;
+          rest = lines_of script.entry.rest.now;
+          written = K.written out.old;
+        })
+        (F.files folder.new) (K.written out.new) result }
     ensures cause { HasStopCause (F.faults folder.old) (F.faults folder.new) (K.faults out.old) (K.faults out.new) result }
 {
     match origin.dims() {
@@ -150,9 +156,15 @@ fn run_over<const D: usize, R: Threads + Sync, F: Folder, K: Sink, G: Gate>(
     requires lines { script.line + length script.rest.now < 2 ^ 64 }
     requires refused { script.refused ≤ script.line }
     ensures ends { IsTrue F.told → (i : Index) → (stored : State) → IsFrom (F.files folder.old) origin i stored
-        → EndsLines (IsTrue K.told) (record { line = script.entry.line; refused = script.entry.refused; state = Some i; stored = stored;
-                rest = lines_of script.entry.rest.now; written = K.written out.old })
-            (F.files folder.new) (K.written out.new) result }
+        → EndsLines (IsTrue K.told) (record {
+          line = script.entry.line;
+          refused = script.entry.refused;
+          state = Some i;
+          stored = stored;
+          rest = lines_of script.entry.rest.now;
+          written = K.written out.old;
+        })
+        (F.files folder.new) (K.written out.new) result }
     ensures cause { HasStopCause (F.faults folder.old) (F.faults folder.new) (K.faults out.old) (K.faults out.new) result }
 {
     match open::<D, F>(work.alloc, work.settings, origin, folder) {
@@ -174,9 +186,15 @@ fn run_made<const D: usize, R: Threads + Sync, F: Folder, K: Sink, G: Gate>(
     requires lines { script.line + length script.rest.now < 2 ^ 64 }
     requires refused { script.refused ≤ script.line }
     ensures ends { IsTrue F.told → (i : Index) → (stored : State) → Stands D (F.files folder.old) session.old i stored
-        → EndsLines (IsTrue K.told) (record { line = script.entry.line; refused = script.entry.refused; state = Some i; stored = stored;
-                rest = lines_of script.entry.rest.now; written = K.written out.old })
-            (F.files folder.new) (K.written out.new) result }
+        → EndsLines (IsTrue K.told) (record {
+          line = script.entry.line;
+          refused = script.entry.refused;
+          state = Some i;
+          stored = stored;
+          rest = lines_of script.entry.rest.now;
+          written = K.written out.old;
+        })
+        (F.files folder.new) (K.written out.new) result }
     ensures cause { HasStopCause (F.faults folder.old) (F.faults folder.new) (K.faults out.old) (K.faults out.new) result }
 {
     let mut reply = Vec::new(work.alloc);

@@ -25,6 +25,3 @@ pub use laws::{one_leaf, sorted_in_any_order};
 pub use order::{arrange, by_leaf_order};
 pub use size::greatest_leaf;
 pub use view::LeafView;
-
-#[cfg(test)]
-mod tests;

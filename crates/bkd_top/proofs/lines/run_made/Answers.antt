@@ -24,7 +24,7 @@ lines-preserved g c = record {
   going = λ told i stored h.
       let so_far = c.lines.invariant.going told i stored h in
       goes_on g.row.D _ _ _ _ _ _ _ _ _ _ so_far _ _ c.first_line.ensures.line c.in-Ok.is_refused _ (refused_more c.lines.refused c.in-Ok.is_refused _ _ refl c.from-refused.ensures)
-          (c.in-Ok.ensures.answers told so_far.index so_far.stored so_far.stands);
+      (c.in-Ok.ensures.answers told so_far.index so_far.stored so_far.stands);
   room = omega (arith, c.lines.invariant.room, c.first_line.ensures.shorter);
   counted = omega (arith, c.lines.invariant.counted, at_most_one _ _ c.from-refused.ensures);
   folder_later = omega (arith, c.lines.invariant.folder_later, c.answer_line.ensures.cause.folder_later);
@@ -44,7 +44,7 @@ returns-clause-ends g c = λ told i stored h.
     let none : length c.lines.rest.now ≡ 0 = grind (arith, nat_tests) in
     let so_far = c.lines.invariant.going told i stored h in
     ends_then g.row.D _ _ _ _ _ _ _ so_far (no_lines _ none) _ c.finish.result
-        (end_lines (IsTrue g.K.Sink.told) _ so_far.index so_far.stored c.lines.line c.lines.refused _ c.finish.result (c.finish.ensures.ends told so_far.index so_far.stored so_far.stands))
+    (end_lines (IsTrue g.K.Sink.told) _ so_far.index so_far.stored c.lines.line c.lines.refused _ c.finish.result (c.finish.ensures.ends told so_far.index so_far.stored so_far.stands))
 
 pub returns-clause-cause : goal.returns-clause-cause
 returns-clause-cause g c = cause_from _ _ _ _ _ _ _ c.lines.invariant.folder_later c.lines.invariant.sink_later (c.finish.ensures.cause _)

@@ -10,7 +10,7 @@ abbrev pub invariant-lines : goal.invariant-lines
 invariant-lines g l = record {
   going : IsTrue g.F.Pages.told → (i : Index) → (stored : State) → Stands g.row.D (g.F.Pages.files l.initial.folder) l.initial.session i stored
       → Goes (IsTrue g.K.Sink.told) g.row.D (place_on l.initial.line l.initial.refused i stored (lines_of l.initial.rest) (g.K.Sink.written l.initial.out))
-          (g.F.Pages.files l.folder) l.session l.line l.refused (lines_of l.rest) (g.K.Sink.written l.out);
+      (g.F.Pages.files l.folder) l.session l.line l.refused (lines_of l.rest) (g.K.Sink.written l.out);
   room : l.line + length l.rest < 2 ^ 64;
   counted : l.refused ≤ l.line;
   folder_later : g.F.Pages.faults l.initial.folder ≤ g.F.Pages.faults l.folder;

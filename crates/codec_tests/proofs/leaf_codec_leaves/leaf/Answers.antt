@@ -6,7 +6,7 @@ use Rattle.std.proofs.lemmas.List.Elements.{All-map}
 use Rattle.std.proofs.lemmas.List.Sorted.{length_permutation}
 use Rattle.std.proofs.lemmas.Map.Views.{All-map-IsPermutation}
 use Rattle.point_codec.specs.declared.entries.Entry.{Entry}
-use Rattle.leaf_codec.proofs.tests.leaf.Goals as goal
+use Rattle.codec_tests.proofs.leaf_codec_leaves.leaf.Goals as goal
 
 small : {D : ℕ} (xs ys : List (Entry D)) → IsPermutation xs ys → All (λ (e : Entry D). e.doc < 2 ^ 24) xs → All (λ (e : Entry D). e.doc < 2 ^ 24) ys
 small {D} xs ys p h k d lt =

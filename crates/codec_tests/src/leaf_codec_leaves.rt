@@ -5,10 +5,24 @@ ghost use Rattle.point_codec.specs.Seen.{items_of};
 ghost use Rattle.leaf_codec.specs.LeafOrder.{NoneTwice};
 ghost use Rattle.leaf_codec.specs.Leaves.{leaf_limit};
 
-use super::*;
 use byte_cursor::Bytes;
+use leaf_codec::{LeafView, arrange, encode_leaf, greatest_leaf};
 use point_codec::{Cell, Entry, Point};
 use std::test::Fail;
+
+/// Two entries, 0 at 5 and 1 at 7.
+const PLAIN: [u8; 12] = [0, 2, 0, 0, 3, 0x80, 0, 0, 0, 0, 5, 7];
+
+/// Two entries at one point.
+const TOGETHER: [u8; 9] = [0, 2, 0, 2, 4, 0x80, 0, 0, 7];
+
+const ALONE: [u8; 9] = [0, 1, 0, 4, 4, 0x80, 0, 0, 7];
+
+/// Five entries in two dimensions, in two pieces.
+const PIECES: [u8; 29] = [
+    0, 5, 1, 3, 0, 1, 6, 2, 5, 3, 3, 0x80, 0, 0, 0x80, 0, 0, 0, 1, 2, 1, 2, 2, 1, 0x14, 0x1e, 0x0a,
+    0x32, 0x28,
+];
 
 /// The leaf of the entries.
 fn leaf<const D: usize>(rt: HostRuntime, entries: &mut [Entry<D>]) -> Result<Bytes, Fail>
@@ -33,17 +47,32 @@ fn entry<const D: usize>(doc: u32, c: [i32; D]) -> Entry<D>
 }
 
 #[test]
-#[tactic(auto, using(crate::proofs::Apart::none_twice))]
-fn spelled(rt: HostRuntime) -> Result<(), Fail> {
+#[tactic(auto, using(leaf_codec::proofs::Apart::none_twice))]
+fn spelled_in_order(rt: HostRuntime) -> Result<(), Fail> {
     let bytes = leaf(rt, &mut [entry(1, [7]), entry(0, [5])])?;
-    let expected = [0u8, 2, 0, 0, 3, 0x80, 0, 0, 0, 0, 5, 7];
-    assert_eq!(rt; bytes.as_slice(), expected.as_slice());
+    assert_eq!(rt; bytes.as_slice(), PLAIN.as_slice());
+    Ok(())
+}
+
+#[test]
+#[tactic(auto, using(leaf_codec::proofs::Apart::none_twice))]
+fn spelled_at_one_point(rt: HostRuntime) -> Result<(), Fail> {
     let bytes = leaf(rt, &mut [entry(2, [7]), entry(3, [7])])?;
-    let expected = [0u8, 2, 0, 2, 4, 0x80, 0, 0, 7];
-    assert_eq!(rt; bytes.as_slice(), expected.as_slice());
+    assert_eq!(rt; bytes.as_slice(), TOGETHER.as_slice());
+    Ok(())
+}
+
+#[test]
+#[tactic(auto, using(leaf_codec::proofs::Apart::none_twice))]
+fn spelled_alone(rt: HostRuntime) -> Result<(), Fail> {
     let bytes = leaf(rt, &mut [entry(4, [7])])?;
-    let expected = [0u8, 1, 0, 4, 4, 0x80, 0, 0, 7];
-    assert_eq!(rt; bytes.as_slice(), expected.as_slice());
+    assert_eq!(rt; bytes.as_slice(), ALONE.as_slice());
+    Ok(())
+}
+
+#[test]
+#[tactic(auto, using(leaf_codec::proofs::Apart::none_twice))]
+fn spelled_in_pieces(rt: HostRuntime) -> Result<(), Fail> {
     let bytes = leaf(
         rt,
         &mut [
@@ -54,11 +83,7 @@ fn spelled(rt: HostRuntime) -> Result<(), Fail> {
             entry(5, [2, 50]),
         ],
     )?;
-    let expected = [
-        0u8, 5, 1, 3, 0, 1, 6, 2, 5, 3, 3, 0x80, 0, 0, 0x80, 0, 0, 0, 1, 2, 1, 2, 2, 1, 0x14, 0x1e,
-        0x0a, 0x32, 0x28,
-    ];
-    assert_eq!(rt; bytes.as_slice(), expected.as_slice());
+    assert_eq!(rt; bytes.as_slice(), PIECES.as_slice());
     Ok(())
 }
 
@@ -101,39 +126,60 @@ fn shown<const D: usize>(bytes: &[u8], lo: [i32; D], hi: [i32; D], count: u16) -
     (view.count(), sum)
 }
 
+/// A cell and a count, and what the plain leaf shows then.
+const CELLS: [(i32, i32, u16, (u16, u64)); 5] = [
+    (0, 9, 2, (2, (5 + 1) * 31 + 7)),
+    (0, 9, 1, (0, 0)),
+    (0, 9, 0, (0, 0)),
+    (0, 9, 501, (0, 0)),
+    (5, 6, 2, (0, 0)),
+];
+
 #[test]
-fn read(rt: HostRuntime) -> Result<(), Fail> {
-    let leaf = [0u8, 2, 0, 0, 3, 0x80, 0, 0, 0, 0, 5, 7];
-    assert_eq!(rt; shown(&leaf, [0], [9], 2), (2, (5 + 1) * 31 + 7));
-    assert_eq!(rt; shown(&leaf, [0], [9], 1), (0, 0));
-    assert_eq!(rt; shown(&leaf, [0], [9], 0), (0, 0));
-    assert_eq!(rt; shown(&leaf, [0], [9], 501), (0, 0));
-    assert_eq!(rt; shown(&leaf, [5], [6], 2), (0, 0));
-    for n in 0..leaf.len() {
-        assert_eq!(rt; shown(&leaf[..n], [0], [9], 2), (0, 0));
+fn read_in_cells(rt: HostRuntime) -> Result<(), Fail> {
+    for (lo, hi, count, expected) in CELLS {
+        assert_eq!(rt; shown(&PLAIN, [lo], [hi], count), expected);
     }
-    let refused = [
-        [0u8, 2, 1, 0, 3, 0x80, 0, 0, 0, 0, 5, 7].as_slice(),
-        [0u8, 2, 1, 0, 0, 1, 3, 0x80, 0, 0, 0, 0, 5, 7].as_slice(),
-        [0u8, 2, 0, 0, 3, 0x80, 0, 0, 0, 0, 7, 5].as_slice(),
-        [0u8, 2, 0, 0, 3, 0x80, 0, 0, 0, 0, 5, 7, 0].as_slice(),
-        [0u8, 2, 0, 0x80, 0, 3, 0x80, 0, 0, 0, 0, 5, 7].as_slice(),
-        [0u8, 2, 0, 0xff, 0xff, 0xff, 7, 3, 0x80, 0, 0, 0, 0, 5, 7].as_slice(),
-        [0u8, 2, 0, 0, 2, 0x80, 0, 0, 0, 0, 0, 5, 7].as_slice(),
-    ];
-    for bytes in refused {
+    Ok(())
+}
+
+#[test]
+fn no_front_is_read(rt: HostRuntime) -> Result<(), Fail> {
+    for n in 0..PLAIN.len() {
+        assert_eq!(rt; shown(&PLAIN[..n], [0], [9], 2), (0, 0));
+    }
+    Ok(())
+}
+
+/// No leaves of two entries.
+const REFUSED: [&[u8]; 7] = [
+    &[0, 2, 1, 0, 3, 0x80, 0, 0, 0, 0, 5, 7],
+    &[0, 2, 1, 0, 0, 1, 3, 0x80, 0, 0, 0, 0, 5, 7],
+    &[0, 2, 0, 0, 3, 0x80, 0, 0, 0, 0, 7, 5],
+    &[0, 2, 0, 0, 3, 0x80, 0, 0, 0, 0, 5, 7, 0],
+    &[0, 2, 0, 0x80, 0, 3, 0x80, 0, 0, 0, 0, 5, 7],
+    &[0, 2, 0, 0xff, 0xff, 0xff, 7, 3, 0x80, 0, 0, 0, 0, 5, 7],
+    &[0, 2, 0, 0, 2, 0x80, 0, 0, 0, 0, 0, 5, 7],
+];
+
+#[test]
+fn others_are_refused(rt: HostRuntime) -> Result<(), Fail> {
+    for bytes in REFUSED {
         assert_eq!(rt; shown(bytes, [0], [9], 2), (0, 0));
     }
-    let pieces = [
-        0u8, 5, 1, 3, 0, 1, 6, 2, 5, 3, 3, 0x80, 0, 0, 0x80, 0, 0, 0, 1, 2, 1, 2, 2, 1, 0x14, 0x1e,
-        0x0a, 0x32, 0x28,
-    ];
-    assert_eq!(rt; shown(&pieces, [0, 0], [9, 90], 5).0, 5);
-    let plain = [
-        0u8, 5, 1, 3, 0, 1, 6, 2, 5, 3, 3, 0x80, 0, 0, 0x80, 0, 0, 0, 0, 1, 1, 1, 2, 2, 0x14, 0x1e,
-        0x0a, 0x32, 0x28,
-    ];
-    assert_eq!(rt; shown(&plain, [0, 0], [9, 90], 5), (0, 0));
+    Ok(())
+}
+
+/// The five entries again, as none are spelled.
+const PLAIN_KEYS: [u8; 29] = [
+    0, 5, 1, 3, 0, 1, 6, 2, 5, 3, 3, 0x80, 0, 0, 0x80, 0, 0, 0, 0, 1, 1, 1, 2, 2, 0x14, 0x1e, 0x0a,
+    0x32, 0x28,
+];
+
+#[test]
+fn pieces_are_read(rt: HostRuntime) -> Result<(), Fail> {
+    assert_eq!(rt; shown(&PIECES, [0, 0], [9, 90], 5).0, 5);
+    assert_eq!(rt; shown(&PLAIN_KEYS, [0, 0], [9, 90], 5), (0, 0));
     Ok(())
 }
 
@@ -157,13 +203,6 @@ fn leaves_one_byte_off<const D: usize>(
     }
     Ok(found)
 }
-
-const PLAIN: [u8; 12] = [0, 2, 0, 0, 3, 0x80, 0, 0, 0, 0, 5, 7];
-
-const PIECES: [u8; 29] = [
-    0, 5, 1, 3, 0, 1, 6, 2, 5, 3, 3, 0x80, 0, 0, 0x80, 0, 0, 0, 1, 2, 1, 2, 2, 1, 0x14, 0x1e, 0x0a,
-    0x32, 0x28,
-];
 
 /// The counts come from a reader and a writer of leaves in another language.
 #[test]
