@@ -208,6 +208,24 @@ const BOXES: [(i32, i32, bool); 4] = [
     (7_326, 7_999, true),
 ];
 
+/// A fault shows the damaged page.
+fn check_fault(rt: &impl Abort, fault: &PageFault, page: &[u8]) -> Result<(), Fail> {
+    match fault {
+        PageFault::Damaged(
+            Damage::Page {
+                file,
+                number,
+                bytes,
+            },
+        ) => {
+            assert_eq!(rt; (*file, *number), (SEGMENT, 3));
+            assert_eq!(rt; bytes.b.as_slice(), page);
+            Ok(())
+        }
+        _ => Err("another fault".into()),
+    }
+}
+
 /// A visit of the damaged file is answered or shows the damaged page.
 fn check_damaged(
     rt: &impl Abort,
@@ -219,23 +237,12 @@ fn check_damaged(
     let (lo, hi, whole) = row;
     let mut shape = BoxShape::new(Point { c: [lo, 0] }, Point { c: [hi, 0] });
     let mut cache = PageCache::new(alloc, 4)?;
-    match visited(alloc, stored, &mut cache, &mut shape) {
-        Ok(_) => assert!(rt; whole, "{lo} to {hi}"),
-        Err(
-            PageFault::Damaged(
-                Damage::Page {
-                    file: name,
-                    number,
-                    bytes,
-                },
-            ),
-        ) => {
-            assert_eq!(rt; (name, number, whole), (SEGMENT, 3, false), "{lo} to {hi}");
-            assert_eq!(rt; bytes.b.as_slice(), page);
-        }
-        Err(_) => Err("another fault")?,
+    let visit = visited(alloc, stored, &mut cache, &mut shape);
+    assert_eq!(rt; visit.is_ok(), whole, "{lo} to {hi}");
+    match &visit {
+        Ok(_) => Ok(()),
+        Err(fault) => check_fault(rt, fault, page),
     }
-    Ok(())
 }
 
 #[test]

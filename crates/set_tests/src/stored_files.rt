@@ -100,7 +100,8 @@ fn damage(alloc: Global, folder: &mut MemFolder) -> Result<Damage, Fail> {
     let commit = committed(alloc, folder)?;
     match SegmentSet::<2>::attach(alloc, folder, &commit, SETTINGS) {
         Err(PageFault::Damaged(damage)) => Ok(damage),
-        _ => Err("no damage".into()),
+        Err(_fault) => Err("another fault".into()),
+        Ok(_set) => Err("no damage".into()),
     }
 }
 
