@@ -74,14 +74,25 @@ fn agree<R: Threads + Sync + Abort>(rt: &R, alloc: Global, script: &[u8]) -> Res
     let (status, output) = outcome(rt, alloc, script, &mut folder, &[], &[])?;
     let (answers, refused) = scanned(alloc, script)?;
     let text = std::str::from_utf8(script);
-    assert_eq!(rt; std::str::from_utf8(output.bytes()), std::str::from_utf8(answers.as_slice()), "after {text:?}");
-    assert_eq!(rt; said(alloc, &status)?.as_str(), said(alloc, &refusing(refused))?.as_str(), "after {text:?}");
+    assert_eq!(rt;
+        std::str::from_utf8(output.bytes()),
+        std::str::from_utf8(answers.as_slice()),
+        "after {text:?}"
+    );
+    assert_eq!(rt;
+        said(alloc, &status)?.as_str(),
+        said(alloc, &refusing(refused))?.as_str(),
+        "after {text:?}"
+    );
     let mut again = script.to_vec(alloc)?;
     again.extend_from_slice(b"\nreopen\n")?;
     again.extend_from_slice(LOOK)?;
     let (answers, _) = scanned(alloc, again.as_slice())?;
     let (_, output) = outcome(rt, alloc, LOOK, &mut folder, &[], &[])?;
-    assert!(rt; answers.as_slice().ends_with(output.bytes()), "again after {text:?}");
+    assert!(rt;
+        answers.as_slice().ends_with(output.bytes()),
+        "again after {text:?}"
+    );
     Ok(())
 }
 
@@ -166,14 +177,23 @@ fn a_run_at_every_line(rt: HostRuntime) -> Result<(), Fail> {
         whole.extend_from_slice(b"reopen\n")?;
         whole.extend_from_slice(rest.as_slice())?;
         let (answers, _) = scanned(alloc, whole.as_slice())?;
-        assert_eq!(rt; last_line(output.bytes()), last_line(answers.as_slice()), "from line {place} on");
+        assert_eq!(rt;
+            last_line(output.bytes()),
+            last_line(answers.as_slice()),
+            "from line {place} on"
+        );
     }
     Ok(())
 }
 
 /// The last line of a text, without its end.
 fn last_line(text: &[u8]) -> &[u8] {
-    match text.strip_suffix(b"\n").unwrap_or(text).rsplit(|byte| *byte == b'\n').next() {
+    match text
+        .strip_suffix(b"\n")
+        .unwrap_or(text)
+        .rsplit(|byte| *byte == b'\n')
+        .next()
+    {
         Some(line) => line,
         None => text,
     }
@@ -196,10 +216,12 @@ fn a_run_without_changes(rt: HostRuntime) -> Result<(), Fail> {
 
 /// The bytes of the Commit file.
 fn commit_of(alloc: Global, folder: &MemFolder) -> Result<Vec<u8>, Fail> {
-    Ok(folder
-        .get(&FileName::Commit)
-        .unwrap_or_default()
-        .to_vec(alloc)?)
+    Ok(
+        folder
+            .get(&FileName::Commit)
+            .unwrap_or_default()
+            .to_vec(alloc)?,
+    )
 }
 
 /// Numbers that look like chance, from a seed that is not 0.
@@ -254,7 +276,9 @@ impl Draws {
 #[test]
 fn scripts_by_chance(rt: HostRuntime) -> Result<(), Fail> {
     let alloc = rt.alloc();
-    let mut draws = Draws { seed: 88172645463325252 };
+    let mut draws = Draws {
+        seed: 88172645463325252,
+    };
     for _ in 0..4 {
         let mut script = String::from_str(alloc, "create 2 leaf 3\n")?;
         for _ in 0..60 {
@@ -304,7 +328,10 @@ fn each_call_of_the_folder_fails(rt: HostRuntime) -> Result<(), Fail> {
             assert_eq!(rt; said(alloc, &status)?.as_str(), "folder fault\n");
             folder.plan(Vec::new(alloc), None);
             let (_, look) = outcome(&rt, alloc, LOOK, &mut folder, &[], &[])?;
-            assert!(rt; is_allowed(alloc, output.bytes(), look.bytes())?, "call {call}");
+            assert!(rt;
+                is_allowed(alloc, output.bytes(), look.bytes())?,
+                "call {call}"
+            );
         }
     }
     Ok(())
@@ -325,8 +352,10 @@ fn is_allowed(alloc: Global, answers: &[u8], look: &[u8]) -> Result<bool, Fail> 
             next = place;
         }
     }
-    Ok(look == looked(alloc, last)?.as_slice()
-        || next != 0 && look == looked(alloc, next)?.as_slice())
+    Ok(
+        look == looked(alloc, last)?.as_slice()
+            || next != 0 && look == looked(alloc, next)?.as_slice(),
+    )
 }
 
 /// What is answered where the first lines of `STORING` are stored; of 0 lines nothing is.

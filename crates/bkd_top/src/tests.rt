@@ -1,10 +1,10 @@
 //! Scripts through the top call, with what they have to answer.
 
 use super::{Status, code, run, run_script, status_line};
-use page_cache::Damage;
 use bkd_build::OpenGate;
 use index_core::Settings;
 use outer_io::{FileName, MemFolder, MemSink, MemSource};
+use page_cache::Damage;
 use std::alloc::Global;
 use std::marker::Sync;
 use std::process::Abort;
@@ -65,14 +65,7 @@ pub(crate) fn refusing(count: u64) -> Status {
 fn check<R: Threads + Sync + Abort>(rt: &R, alloc: Global, rows: &[Row]) -> Result<(), Fail> {
     for row in rows {
         let mut folder = MemFolder::new(alloc, Vec::new(alloc));
-        let (status, output) = outcome(
-            rt,
-            alloc,
-            row.script.as_bytes(),
-            &mut folder,
-            &[],
-            &[],
-        )?;
+        let (status, output) = outcome(rt, alloc, row.script.as_bytes(), &mut folder, &[], &[])?;
         assert_eq!(rt;
             std::str::from_utf8(output.bytes()),
             Ok(row.answers),
@@ -384,6 +377,9 @@ fn a_damaged_folder(rt: HostRuntime) -> Result<(), Fail> {
     let (status, output) = outcome(&rt, alloc, b"create 1\n", &mut folder, &[], &[])?;
     assert_eq!(rt; code(&status), 6);
     assert_eq!(rt; output.bytes().len(), 0);
-    assert_eq!(rt; folder.get(&FileName::Commit).map(|bytes| bytes.len()), Some(0));
+    assert_eq!(rt;
+        folder.get(&FileName::Commit).map(|bytes| bytes.len()),
+        Some(0)
+    );
     Ok(())
 }
