@@ -11,10 +11,3 @@ mod walk;
 
 pub use costs::{Tally, survey};
 pub use walk::intersect;
-
-#[cfg(test)]
-mod form_tests;
-#[cfg(test)]
-mod row_tests;
-#[cfg(test)]
-mod tests;

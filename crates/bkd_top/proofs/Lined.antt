@@ -219,8 +219,8 @@ module _ {told : Type 0} (from : Place) (files : Files) (line refused : ℕ) (ls
       → (told → IsCut (answer line None bytes).text written new e) → EndsLines told (place_off line refused ls written) files new (Err e)
   first_stops bytes rest next stop.SinkFault cause sent = breaks_here (place_off line refused ls written) files new bytes rest next sent none
   first_stops bytes rest next stop.Memory cause sent = stops_here (place_off line refused ls written) files new sent (inl none)
-  first_stops bytes rest next stop.FolderFault cause sent = absurd (elim cause as (λ _. ⊥) [inl e ↦ cc | inr e ↦ cc])
-  first_stops bytes rest next (stop.Damaged damage) cause sent = elim cause as (λ _. ⊥) [inl e ↦ cc | inr e ↦ cc]
+  first_stops bytes rest next stop.FolderFault cause sent = absurd (elim cause as (λ _. ⊥) [ inl e ↦ cc | inr e ↦ cc ])
+  first_stops bytes rest next (stop.Damaged damage) cause sent = elim cause as (λ _. ⊥) [ inl e ↦ cc | inr e ↦ cc ]
 
   -- the run stops at the next line
   pub stops_first : {T : Type 0} (bytes : List ℕ) (rest : List (List ℕ)) → ls ≡ bytes ∷ rest → (e : Stop) → IsErrOf {T = T} (Err e) stop.SinkFault ⊎ IsErrOf {T = T} (Err e) stop.Memory
@@ -286,7 +286,7 @@ pub first_cause : {S T : Type 0} (f k0 k1 : ℕ) (e : Stop) → IsErrOf {T = S} 
 first_cause f k0 k1 e cause later sink = record {
   folder_later = omega arith;
   sink_later = later;
-  folder = λ w. absurd (elim cause as (λ _. ⊥) [inl s ↦ cc | inr m ↦ cc]);
+  folder = λ w. absurd (elim cause as (λ _. ⊥) [ inl s ↦ cc | inr m ↦ cc ]);
   sink = λ w. let same : e ≡ stop.SinkFault = cc in sink (ap (λ (x : Stop). Err x) same);
 }
 

@@ -14,6 +14,3 @@ mod session;
 pub use index_model::Applied;
 pub use segment_set::Settings;
 pub use session::Session;
-
-#[cfg(test)]
-mod tests;

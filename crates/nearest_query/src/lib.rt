@@ -13,6 +13,3 @@ mod survey;
 pub use laws::one_nearest;
 pub use query::nearest;
 pub use survey::survey_near;
-
-#[cfg(test)]
-mod tests;

@@ -25,10 +25,3 @@ mod sweep;
 pub use faults::{AddFault, BeginFault, EndFault, SnapFault};
 pub use set::SegmentSet;
 pub use settings::Settings;
-
-#[cfg(test)]
-mod merge_tests;
-#[cfg(test)]
-mod stored_tests;
-#[cfg(test)]
-mod tests;

@@ -18,8 +18,3 @@ pub use nearby::nearest;
 pub use segments::{Memory, Segments};
 pub use surveys::{survey, survey_near};
 pub use visiting::visit;
-
-#[cfg(test)]
-mod page_tests;
-#[cfg(test)]
-mod tests;

@@ -17,7 +17,7 @@ returns-in-Ok-clause-cause g c = send_cause _ _ _ _ c.in-Ok.refused c.in-Ok.ensu
 
 pub returns-in-Err-clause-answers : goal.returns-in-Err-clause-answers
 returns-in-Err-clause-answers g c = λ told i stored h.
-    left_answers (IsTrue g.K.Sink.told) g.row.D (line_at c.args.number i stored c.args.line.now) _ _ _ _ _ _ c.in-Err.fault (c.in-Err.ensures.replies told i stored h) c.stopped.result c.stopped.ensures refl
+    left_answers (IsTrue g.K.Sink.told) g.row.D (line_at c.args.number i stored c.args.line.now) _ _ c.args.reply.now.items c.args.reply.now.items _ _ c.in-Err.fault (c.in-Err.ensures.replies told i stored h) c.stopped.result c.stopped.ensures refl
 
 pub returns-in-Err-clause-cause : goal.returns-in-Err-clause-cause
 returns-in-Err-clause-cause g c = fault_cause _ _ _ c.in-Err.fault c.in-Err.ensures.cause c.stopped.result c.stopped.ensures

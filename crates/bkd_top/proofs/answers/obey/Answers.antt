@@ -25,7 +25,7 @@ returns-in-Ok-Refused-clause-cause g c = page_then _ _ c.in-Ok-Refused.field-0 c
 
 pub returns-in-Err-clause-replies : goal.returns-in-Err-clause-replies
 returns-in-Err-clause-replies g c = λ told i stored h bytes reads.
-    fault_replies g.row.D _ _ _ _ i stored c.args.number bytes (request_of c.args.command.now) _ h reads _ c.in-Err.fault (c.in-Err.ensures.whole told i h.seen h.guards)
+    fault_replies g.row.D _ _ _ _ i stored c.args.number bytes (request_of c.args.command.now) c.args.reply.now.items h reads c.args.reply.now.items c.in-Err.fault (c.in-Err.ensures.whole told i h.seen h.guards)
     (c.in-Err.ensures.kept told h.guards) (c.in-Err.ensures.stored told i h.seen h.guards)
 
 pub returns-in-Err-clause-cause : goal.returns-in-Err-clause-cause

@@ -1,21 +1,15 @@
 //! Lines of a script, each with the answer that was reckoned by hand, over a folder in memory.
 
-use super::Session;
+use crate::fixtures::{SETTINGS, committed, empty_folder};
 use bkd_build::OpenGate;
-use commit_list::read_commit;
+use index_core::Session;
 use index_model::Applied;
 use outer_io::MemFolder;
 use script_lang::read_line;
-use segment_set::Settings;
 use std::alloc::Global;
 use std::marker::Sync;
 use std::test::Fail;
 use std::thread::Threads;
-
-const SETTINGS: Settings = Settings {
-    cache_pages: 4,
-    forks: 1,
-};
 
 /// A line, its answer, and whether it is done.
 type Row = (&'static [u8], &'static [u8], bool);
@@ -61,34 +55,45 @@ fn is_done<R: Threads + Sync>(
 
 #[test]
 fn each_line_has_its_answer(rt: HostRuntime) -> Result<(), Fail> {
-    let alloc = rt.alloc();
-    let mut folder = MemFolder::new(alloc, Vec::new(alloc));
-    let mut session = Session::<2>::create(alloc, 2, SETTINGS)?;
-    let mut out = Vec::new(alloc);
+    let mut folder = empty_folder(rt.alloc());
+    let mut session = Session::<2>::create(rt.alloc(), 2, SETTINGS)?;
+    let mut out = Vec::new(rt.alloc());
     for (line, answer, done) in ROWS {
         out.clear();
-        let found = is_done(&rt, alloc, &mut session, &mut folder, line, &mut out)?;
+        let found = is_done(&rt, rt.alloc(), &mut session, &mut folder, line, &mut out)?;
         assert_eq!(rt; (found, out.as_slice()), (done, answer));
     }
     Ok(())
 }
 
+/// A session adds a document and commits.
+fn commit_one<R: Threads + Sync>(
+    rt: &R,
+    alloc: Global,
+    folder: &mut MemFolder,
+) -> Result<(), Fail> {
+    let mut session = Session::<2>::create(alloc, 2, SETTINGS)?;
+    let mut out = Vec::new(alloc);
+    is_done(rt, alloc, &mut session, folder, b"add 7 8", &mut out)?;
+    Ok(session.commit(rt, alloc, folder, &OpenGate)?)
+}
+
 /// What a session commits a later one finds.
 #[test]
 fn a_later_session_finds_what_was_committed(rt: HostRuntime) -> Result<(), Fail> {
-    let alloc = rt.alloc();
-    let mut folder = MemFolder::new(alloc, Vec::new(alloc));
-    let mut session = Session::<2>::create(alloc, 2, SETTINGS)?;
-    let mut out = Vec::new(alloc);
-    is_done(&rt, rt.alloc(), &mut session, &mut folder, b"add 7 8", &mut out)?;
-    session.commit(&rt, alloc, &mut folder, &OpenGate)?;
-    let commit = read_commit(rt.alloc(), &mut folder)?.ok_or("no commit")?;
-    if commit.dims() != 2 {
-        return Err("other dimensions".into());
-    }
+    let mut folder = empty_folder(rt.alloc());
+    commit_one(&rt, rt.alloc(), &mut folder)?;
+    let commit = committed(rt.alloc(), &mut folder)?;
     let mut later = Session::<2>::attach(rt.alloc(), &mut folder, commit, SETTINGS)?;
-    out.clear();
-    is_done(&rt, rt.alloc(), &mut later, &mut folder, b"box 7 8 7 8", &mut out)?;
-    assert_eq!(rt; out.as_slice(), b"hits 1\n0\n");
+    let mut out = Vec::new(rt.alloc());
+    is_done(
+        &rt,
+        rt.alloc(),
+        &mut later,
+        &mut folder,
+        b"box 7 8 7 8",
+        &mut out,
+    )?;
+    assert_eq!(rt; out.as_slice(), b"hits 1\n0\n".as_slice());
     Ok(())
 }

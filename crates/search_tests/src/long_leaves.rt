@@ -1,13 +1,17 @@
 //! A leaf of 333 points in a row and a leaf of one more, both on one page: number i at (i, 0).
 
-ghost use Rattle.std.specs.Prelude.{◌≤◌, ◌<◌, length, All, IfOk};
+ghost use Rattle.std.specs.Prelude.{◌<◌, All, IfOk};
 
-use super::*;
-use crate::tests::{reads, stored, walked};
+use crate::stored::{Stored, open_alone};
+use crate::walks::{reads, walked};
+use bkd_reader::survey;
 use cell_relate::BoxShape;
 use live_bits::LiveBits;
+use outer_io::MemFolder;
 use point_codec::Point;
+use segment_file::SegmentHead;
 use std::alloc::{AllocError, Global};
+use std::process::Abort;
 use std::test::Fail;
 
 /// The head's fields: two dimensions, form 3, 333 entries a leaf, 334 entries, 2 leaves, 58 bytes of index, one leaf page.
@@ -30,9 +34,7 @@ const FRONT: [u8; 19] = [
 const LAST: [u8; 15] = [0, 1, 0, 0xcd, 2, 4, 4, 0x80, 0, 1, 0x4d, 0x80, 0, 0, 0];
 
 /// The two leaves.
-fn leaves(alloc: Global) -> Result<Vec<u8>, AllocError>
-    ensures { IfOk result (λ v. length v.items ≤ 4064) }
-{
+fn leaves(alloc: Global) -> Result<Vec<u8>, AllocError> {
     let mut bytes = FRONT.to_vec(alloc)?;
     for i in 0..333u32 {
         bytes.push((i % 256) as u8)?;
@@ -65,25 +67,45 @@ const ROWS: [Row; 5] = [
     ([0, 1], [400, 1], (0, None), (0, 0, 0)),
 ];
 
+/// The hits of a row's box, and what they cost.
+fn check_row(
+    rt: &impl Abort,
+    alloc: Global,
+    folder: &mut MemFolder,
+    head: &SegmentHead<2>,
+    live: &LiveBits,
+    row: Row,
+) -> Result<(), Fail> {
+    let (lo, hi, expected, costs) = row;
+    let mut shape = BoxShape::new(Point { c: lo }, Point { c: hi });
+    let hits = walked(alloc, folder, head, live, &mut shape)?
+        .ok()
+        .ok_or("no walk")?;
+    assert_eq!(rt;
+        (hits.len(), hits.first().copied()),
+        expected,
+        "{lo:?} to {hi:?}"
+    );
+    let tests = shape.tests();
+    let touched = survey(head, &mut shape).touched;
+    let read = reads(alloc, folder, head, live, &mut shape)?;
+    assert_eq!(rt; (tests, touched, read), costs, "{lo:?} to {hi:?}");
+    Ok(())
+}
+
 #[test]
 fn a_leaf_of_333_and_one_of_one(rt: HostRuntime) -> Result<(), Fail> {
     let leaves = leaves(rt.alloc())?;
-    let (mut folder, head) = stored::<2>(&rt, &FIELDS, &INDEX, leaves.as_slice())?;
+    let segment = Stored {
+        id: 7,
+        fields: &FIELDS,
+        index: &INDEX,
+        leaves: leaves.as_slice(),
+    };
+    let (mut folder, head) = open_alone::<2>(rt.alloc(), &segment)?;
     let live = LiveBits::of_docs(rt.alloc(), numbers(rt.alloc())?.as_slice())?;
-    for (lo, hi, expected, costs) in ROWS {
-        let mut shape = BoxShape::new(Point { c: lo }, Point { c: hi });
-        let hits = walked(&rt, &mut folder, &head, &live, &mut shape)?
-            .ok()
-            .ok_or("no walk")?;
-        assert_eq!(rt;
-            (hits.len(), hits.first().copied()),
-            expected,
-            "{lo:?} to {hi:?}"
-        );
-        let tests = shape.tests();
-        let touched = survey(&head, &mut shape).touched;
-        let read = reads(&rt, &mut folder, &head, &live, &mut shape)?;
-        assert_eq!(rt; (tests, touched, read), costs, "{lo:?} to {hi:?}");
+    for row in ROWS {
+        check_row(&rt, rt.alloc(), &mut folder, &head, &live, row)?;
     }
     Ok(())
 }

@@ -1,65 +1,38 @@
 //! Three segments of one dimension beside a buffer, with answers that were reckoned by hand.
 
-use super::{Segments, gather, nearest, survey, survey_near, visit};
+use crate::stored::{AT_TEN, ONE_FIELDS, ONE_TO_NINE, Stored, THREE_LEAVES, TWO_FIELDS, store};
 use bkd_reader::Tally;
 use cell_relate::BoxShape;
 use live_bits::LiveBits;
-use outer_io::{FileName, MemFolder};
-use page_cache::{PageCache, PageFault, pages_of};
+use outer_io::MemFolder;
+use page_cache::{PageCache, PageFault};
 use point_codec::{Entry, Near, Point};
-use segment_file::open_segment;
+use segment_view::{Segments, gather, nearest, survey, survey_near, visit};
+use std::alloc::Global;
 use std::test::Fail;
-
-/// A segment with leaves of two entries: its id, the head's fields, the index and the leaves.
-struct Stored {
-    id: u64,
-    fields: [u8; 28],
-    index: &'static [u8],
-    leaves: &'static [u8],
-}
-
-/// 0 at 5 and 1 at 7; 2 and 3 at 7; 4 at 7.
-const FIVE: Stored = Stored {
-    id: 7,
-    fields: [
-        0x42, 0x4b, 0x44, 0x50, 0x53, 0x45, 0x47, 0x32, 1, 3, 0, 2, 0, 0, 0, 5, 0, 0, 0, 3, 0, 0,
-        0, 44, 0, 0, 0, 1,
-    ],
-    index: &[
-        0x80, 0, 0, 5, 0x80, 0, 0, 7, 3, 7, 0, 21, 22, 4, 0, 12, 9, 12, 0x80, 0, 0, 5, 0x80, 0, 0,
-        7, 9, 0x80, 0, 0, 7, 0x80, 0, 0, 7, 9, 0x80, 0, 0, 7, 0x80, 0, 0, 7,
-    ],
-    leaves: &[
-        0, 2, 0, 0, 3, 0x80, 0, 0, 0, 0, 5, 7, 0, 2, 0, 2, 4, 0x80, 0, 0, 7, 0, 1, 0, 4, 4, 0x80,
-        0, 0, 7,
-    ],
-};
 
 /// 6 at 10.
 const ONE: Stored = Stored {
     id: 8,
-    fields: [
-        0x42, 0x4b, 0x44, 0x50, 0x53, 0x45, 0x47, 0x32, 1, 3, 0, 2, 0, 0, 0, 1, 0, 0, 0, 1, 0, 0,
-        0, 17, 0, 0, 0, 1,
-    ],
-    index: &[
-        0x80, 0, 0, 10, 0x80, 0, 0, 10, 9, 0x80, 0, 0, 10, 0x80, 0, 0, 10,
-    ],
+    fields: &ONE_FIELDS,
+    index: &AT_TEN,
     leaves: &[0, 1, 0, 6, 4, 0x80, 0, 0, 10],
 };
 
 /// 5 at 1 and at 9.
 const TWICE: Stored = Stored {
     id: 9,
-    fields: [
-        0x42, 0x4b, 0x44, 0x50, 0x53, 0x45, 0x47, 0x32, 1, 3, 0, 2, 0, 0, 0, 2, 0, 0, 0, 1, 0, 0,
-        0, 17, 0, 0, 0, 1,
-    ],
-    index: &[
-        0x80, 0, 0, 1, 0x80, 0, 0, 9, 14, 0x80, 0, 0, 1, 0x80, 0, 0, 9,
-    ],
+    fields: &TWO_FIELDS,
+    index: &ONE_TO_NINE,
     leaves: &[0, 2, 1, 5, 0, 0, 3, 0x80, 0, 0, 0, 0, 1, 9],
 };
+
+/// The segments in the order in which they come in, with the numbers that are live.
+const SEGMENTS: [(Stored, &[u32]); 3] = [
+    (TWICE, &[5]),
+    (THREE_LEAVES, &[0, 1, 2, 3, 4]),
+    (ONE, &[6]),
+];
 
 /// 7 at 6, and 8 at 20.
 const BUFFER: [Entry<1>; 2] = [
@@ -109,24 +82,16 @@ const ROWS: [Row; 3] = [
     ),
 ];
 
-/// Puts the segment into the folder and among the others, with these live bits.
-fn store(
-    rt: &HostRuntime,
+/// Puts the segment into the folder and among the others, with these live numbers.
+fn insert(
+    alloc: Global,
     folder: &mut MemFolder,
     segments: &mut Segments<1>,
     segment: &Stored,
-    live: LiveBits,
+    docs: &[u32],
 ) -> Result<(), Fail> {
-    let mut body = segment.fields.to_vec(rt.alloc())?;
-    body.resize(4064, 0)?;
-    body.extend_from_slice(segment.index)?;
-    body.resize(8128, 0)?;
-    body.extend_from_slice(segment.leaves)?;
-    body.resize(12192, 0)?;
-    let name = FileName::Segment(segment.id);
-    let bytes = pages_of(rt.alloc(), &name, body.as_slice())?;
-    folder.put(name, bytes)?;
-    let head = open_segment(rt.alloc(), folder, segment.id)?;
+    let live = LiveBits::of_docs(alloc, docs)?;
+    let head = store(alloc, folder, segment)?;
     if segments.has(head.id()) {
         return Err("an id twice".into());
     }
@@ -134,21 +99,18 @@ fn store(
 }
 
 /// The three segments and the folder that holds them.
-fn three(rt: &HostRuntime) -> Result<(MemFolder, Segments<1>), Fail> {
-    let mut folder = MemFolder::new(rt.alloc(), Vec::new(rt.alloc()));
-    let mut segments = Segments::new(rt.alloc());
-    let live = LiveBits::of_docs(rt.alloc(), &[5])?;
-    store(rt, &mut folder, &mut segments, &TWICE, live)?;
-    let live = LiveBits::of_docs(rt.alloc(), &[0, 1, 2, 3, 4])?;
-    store(rt, &mut folder, &mut segments, &FIVE, live)?;
-    let live = LiveBits::of_docs(rt.alloc(), &[6])?;
-    store(rt, &mut folder, &mut segments, &ONE, live)?;
+fn three(alloc: Global) -> Result<(MemFolder, Segments<1>), Fail> {
+    let mut folder = MemFolder::new(alloc, Vec::new(alloc));
+    let mut segments = Segments::new(alloc);
+    for (segment, docs) in &SEGMENTS {
+        insert(alloc, &mut folder, &mut segments, segment, docs)?;
+    }
     Ok((folder, segments))
 }
 
 /// The ids of the segments.
-fn ids(rt: &HostRuntime, segments: &Segments<1>) -> Result<Vec<u64>, Fail> {
-    let mut ids = Vec::new(rt.alloc());
+fn ids(alloc: Global, segments: &Segments<1>) -> Result<Vec<u64>, Fail> {
+    let mut ids = Vec::new(alloc);
     for head in segments.heads() {
         ids.push(head.id())?;
     }
@@ -157,22 +119,25 @@ fn ids(rt: &HostRuntime, segments: &Segments<1>) -> Result<Vec<u64>, Fail> {
 
 #[test]
 fn segments_stand_by_their_ids(rt: HostRuntime) -> Result<(), Fail> {
-    let (_, mut segments) = three(&rt)?;
-    assert_eq!(rt; ids(&rt, &segments)?.as_slice(), [7, 8, 9].as_slice());
+    let (_, mut segments) = three(rt.alloc())?;
+    assert_eq!(rt;
+        ids(rt.alloc(), &segments)?.as_slice(),
+        [7, 8, 9].as_slice()
+    );
     let sizes = segments.sizes(rt.alloc())?;
     assert_eq!(rt; sizes.as_slice(), [5, 1, 2].as_slice());
     let before = segments.copy(rt.alloc())?;
     assert_eq!(rt; (segments.clear(2), segments.clear(2)), (true, false));
     assert_eq!(rt; (segments.is_live(2), before.is_live(2)), (false, true));
     segments.remove(&[8, 3]);
-    assert_eq!(rt; ids(&rt, &segments)?.as_slice(), [7, 9].as_slice());
-    assert_eq!(rt; ids(&rt, &before)?.as_slice(), [7, 8, 9].as_slice());
+    assert_eq!(rt; ids(rt.alloc(), &segments)?.as_slice(), [7, 9].as_slice());
+    assert_eq!(rt; ids(rt.alloc(), &before)?.as_slice(), [7, 8, 9].as_slice());
     Ok(())
 }
 
 #[test]
 fn what_a_box_has_and_costs(rt: HostRuntime) -> Result<(), Fail> {
-    let (mut folder, segments) = three(&rt)?;
+    let (mut folder, segments) = three(rt.alloc())?;
     let mut cache = PageCache::new(rt.alloc(), 4)?;
     for (ends, expected, tests, tally) in ROWS {
         let mut shape = BoxShape::new(Point { c: [ends.0] }, Point { c: [ends.1] });
@@ -194,7 +159,7 @@ fn what_a_box_has_and_costs(rt: HostRuntime) -> Result<(), Fail> {
 
 #[test]
 fn live_entries_of_some(rt: HostRuntime) -> Result<(), Fail> {
-    let (mut folder, mut segments) = three(&rt)?;
+    let (mut folder, mut segments) = three(rt.alloc())?;
     let mut cache = PageCache::new(rt.alloc(), 4)?;
     segments.clear(2);
     segments.clear(6);
@@ -220,7 +185,7 @@ fn live_entries_of_some(rt: HostRuntime) -> Result<(), Fail> {
 
 #[test]
 fn the_nearest_of_segments_and_buffer(rt: HostRuntime) -> Result<(), Fail> {
-    let (mut folder, segments) = three(&rt)?;
+    let (mut folder, segments) = three(rt.alloc())?;
     let mut cache = PageCache::new(rt.alloc(), 4)?;
     let at = Point { c: [8] };
     let found = nearest(
@@ -245,7 +210,7 @@ fn the_nearest_of_segments_and_buffer(rt: HostRuntime) -> Result<(), Fail> {
 
 #[test]
 fn a_folder_that_fails(rt: HostRuntime) -> Result<(), Fail> {
-    let (mut folder, segments) = three(&rt)?;
+    let (mut folder, segments) = three(rt.alloc())?;
     let mut cache = PageCache::new(rt.alloc(), 4)?;
     folder.plan([1].to_vec(rt.alloc())?, None);
     let mut shape = BoxShape::new(Point { c: [0] }, Point { c: [10] });

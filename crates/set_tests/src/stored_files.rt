@@ -1,16 +1,18 @@
 //! Six documents in two segments of a folder: what is saved of them, what a sweep takes away, and what attaching shows where a file is
 //! missing, damaged or another's.
 
-use super::{SegmentSet, Settings};
+use crate::fixtures::{SETTINGS, add, committed, empty_folder};
 use bkd_build::OpenGate;
-use commit_list::{Commit, read_commit, write_commit};
+use commit_list::{Commit, write_commit};
 use live_bits::LiveBits;
 use outer_io::{Failed, FileName, Folder, MemFolder};
 use page_cache::{Damage, PageFault};
-use point_codec::{Name, Point, Points};
+use point_codec::Name;
 use segment_file::write_live;
+use segment_set::SegmentSet;
 use std::alloc::Global;
 use std::marker::Sync;
+use std::process::Abort;
 use std::test::Fail;
 use std::thread::Threads;
 
@@ -38,11 +40,6 @@ const FILES: [FileName; 6] = [
     },
 ];
 
-const SETTINGS: Settings = Settings {
-    cache_pages: 4,
-    forks: 1,
-};
-
 /// Adds the documents, and writes them to a segment.
 fn put<R: Threads + Sync>(
     rt: &R,
@@ -52,14 +49,7 @@ fn put<R: Threads + Sync>(
     documents: &[&[[i32; 2]]],
 ) -> Result<(), Fail> {
     for points in documents {
-        let mut list = Vec::new(alloc);
-        for c in *points {
-            list.push(Point { c: *c })?;
-        }
-        if list.is_empty() || list.len() > 16 {
-            return Err("not 1 to 16 points".into());
-        }
-        set.add(rt, alloc, folder, &Points::of(list), &OpenGate)?;
+        add(rt, alloc, set, folder, points)?;
     }
     Ok(set.flush(rt, alloc, folder, &OpenGate)?)
 }
@@ -77,7 +67,7 @@ fn put_two<R: Threads + Sync>(
 
 /// A folder with the two segments and their commit.
 fn stored<R: Threads + Sync>(rt: &R, alloc: Global) -> Result<MemFolder, Fail> {
-    let mut folder = MemFolder::new(alloc, Vec::new(alloc));
+    let mut folder = empty_folder(alloc);
     let mut set = SegmentSet::new(alloc, 2, SETTINGS)?;
     put_two(rt, alloc, &mut set, &mut folder)?;
     let commit = set.save(rt, alloc, &mut folder, &OpenGate)?;
@@ -107,10 +97,7 @@ fn turn(alloc: Global, folder: &mut MemFolder, name: FileName) -> Result<(), Fai
 
 /// The damage that attaching shows.
 fn damage(alloc: Global, folder: &mut MemFolder) -> Result<Damage, Fail> {
-    let commit = read_commit(alloc, folder)?.ok_or("no commit")?;
-    if commit.dims() != 2 {
-        return Err("other dimensions".into());
-    }
+    let commit = committed(alloc, folder)?;
     match SegmentSet::<2>::attach(alloc, folder, &commit, SETTINGS) {
         Err(PageFault::Damaged(damage)) => Ok(damage),
         _ => Err("no damage".into()),
@@ -138,21 +125,31 @@ fn save<R: Threads + Sync>(
     Ok(commit)
 }
 
+/// Both segments are saved, then merged while a snapshot needs them; the sweep after this can't take the first file.
+fn merge_under_snapshot<R: Threads + Sync + Abort>(
+    rt: &R,
+    alloc: Global,
+    set: &mut SegmentSet<2>,
+    folder: &mut MemFolder,
+    name: Name,
+) -> Result<(), Fail> {
+    save(rt, alloc, set, folder)?;
+    assert_eq!(rt; there(folder), [true, true, true, true, false, false]);
+    set.snapshot(alloc, name)?;
+    set.merge_all(rt, alloc, folder, &OpenGate)?;
+    set.save(rt, alloc, folder, &OpenGate)?;
+    folder.plan([0].to_vec(alloc)?, None);
+    assert_eq!(rt; set.sweep(folder), Err(Failed));
+    Ok(())
+}
+
 #[test]
 fn a_sweep_takes_what_nothing_needs(rt: HostRuntime) -> Result<(), Fail> {
-    let alloc = rt.alloc();
-    let mut folder = MemFolder::new(rt.alloc(), Vec::new(rt.alloc()));
+    let mut folder = empty_folder(rt.alloc());
     let mut set = SegmentSet::new(rt.alloc(), 2, SETTINGS)?;
     put_two(&rt, rt.alloc(), &mut set, &mut folder)?;
-    save(&rt, rt.alloc(), &mut set, &mut folder)?;
-    assert_eq!(rt; there(&folder), [true, true, true, true, false, false]);
     let name = Name::new(b"before").ok_or("a name")?;
-    set.snapshot(alloc, name)?;
-    set.merge_all(&rt, alloc, &mut folder, &OpenGate)?;
-    set.save(&rt, alloc, &mut folder, &OpenGate)?;
-    // the first file isn't taken away
-    folder.plan([0].to_vec(alloc)?, None);
-    assert_eq!(rt; set.sweep(&mut folder), Err(Failed));
+    merge_under_snapshot(&rt, rt.alloc(), &mut set, &mut folder, name)?;
     assert_eq!(rt; there(&folder), [true, true, true, true, true, false]);
     save(&rt, rt.alloc(), &mut set, &mut folder)?;
     assert_eq!(rt; there(&folder), [true, true, false, false, true, true]);
@@ -165,7 +162,7 @@ fn a_sweep_takes_what_nothing_needs(rt: HostRuntime) -> Result<(), Fail> {
 /// After a save that fails no name is written again.
 #[test]
 fn a_save_that_fails(rt: HostRuntime) -> Result<(), Fail> {
-    let mut folder = MemFolder::new(rt.alloc(), Vec::new(rt.alloc()));
+    let mut folder = empty_folder(rt.alloc());
     let mut set = SegmentSet::new(rt.alloc(), 2, SETTINGS)?;
     put_two(&rt, rt.alloc(), &mut set, &mut folder)?;
     folder.plan([1].to_vec(rt.alloc())?, None);
@@ -179,53 +176,82 @@ fn a_save_that_fails(rt: HostRuntime) -> Result<(), Fail> {
     Ok(())
 }
 
+/// A file of the folder is turned, and then gone.
+fn lose(
+    rt: &impl Abort,
+    alloc: Global,
+    folder: &mut MemFolder,
+    name: FileName,
+) -> Result<(), Fail> {
+    turn(alloc, folder, name)?;
+    let turned = damage(alloc, folder)?;
+    assert!(rt; matches!(turned, Damage::Page { file, number: 0, .. } if file == name));
+    folder.remove(&name)?;
+    let gone = damage(alloc, folder)?;
+    assert!(rt; matches!(gone, Damage::Missing { file } if file == name));
+    Ok(())
+}
+
 #[test]
 fn files_that_are_gone_or_turned(rt: HostRuntime) -> Result<(), Fail> {
     for name in [FILES[0], FILES[3]] {
         let mut folder = stored(&rt, rt.alloc())?;
-        turn(rt.alloc(), &mut folder, name)?;
-        let turned = damage(rt.alloc(), &mut folder)?;
-        assert!(rt; matches!(turned, Damage::Page { file, number: 0, .. } if file == name));
-        folder.remove(&name)?;
-        let gone = damage(rt.alloc(), &mut folder)?;
-        assert!(rt; matches!(gone, Damage::Missing { file } if file == name));
+        lose(&rt, rt.alloc(), &mut folder, name)?;
     }
     Ok(())
+}
+
+/// The damage that attaching shows where the second segment has these live numbers.
+fn damage_of_live(alloc: Global, folder: &mut MemFolder, docs: &[u32]) -> Result<Damage, Fail> {
+    let live = LiveBits::of_docs(alloc, docs)?;
+    write_live(alloc, folder, 1, 1, &live)?;
+    damage(alloc, folder)
 }
 
 /// Live bits of other numbers: too few, one that wasn't given, one that is live in the other segment.
 #[test]
 fn live_bits_of_other_numbers(rt: HostRuntime) -> Result<(), Fail> {
-    let alloc = rt.alloc();
     let mut folder = stored(&rt, rt.alloc())?;
-    write_live(alloc, &mut folder, 1, 1, &LiveBits::of_docs(alloc, &[3, 4])?)?;
-    let few = damage(rt.alloc(), &mut folder)?;
+    let few = damage_of_live(rt.alloc(), &mut folder, &[3, 4])?;
     assert!(rt; matches!(few, Damage::Unequal { file, said: 3, found: 2 } if file == FILES[3]));
-    write_live(alloc, &mut folder, 1, 1, &LiveBits::of_docs(alloc, &[3, 4, 6])?)?;
-    let beyond = damage(rt.alloc(), &mut folder)?;
+    let beyond = damage_of_live(rt.alloc(), &mut folder, &[3, 4, 6])?;
     assert!(rt; matches!(beyond, Damage::Beyond { doc: 6, next: 6 }));
-    write_live(alloc, &mut folder, 1, 1, &LiveBits::of_docs(alloc, &[2, 3, 4])?)?;
-    let doubled = damage(rt.alloc(), &mut folder)?;
+    let doubled = damage_of_live(rt.alloc(), &mut folder, &[2, 3, 4])?;
     assert!(rt; matches!(doubled, Damage::Doubled { doc: 2 }));
     Ok(())
 }
 
-/// Segments of the same id with another leaf size, or other documents.
+/// The damage that attaching shows where the second segment's file is another folder's.
+fn damage_of_other(
+    alloc: Global,
+    folder: &mut MemFolder,
+    other: &MemFolder,
+) -> Result<Damage, Fail> {
+    exchange(alloc, folder, other, FILES[1])?;
+    damage(alloc, folder)
+}
+
+/// A segment of the same id with another leaf size.
 #[test]
-fn segments_of_another_index(rt: HostRuntime) -> Result<(), Fail> {
+fn a_segment_of_other_leaves(rt: HostRuntime) -> Result<(), Fail> {
     let mut folder = stored(&rt, rt.alloc())?;
-    let mut other = MemFolder::new(rt.alloc(), Vec::new(rt.alloc()));
+    let mut other = empty_folder(rt.alloc());
     let mut set = SegmentSet::new(rt.alloc(), 3, SETTINGS)?;
     put_two(&rt, rt.alloc(), &mut set, &mut other)?;
-    exchange(rt.alloc(), &mut folder, &other, FILES[1])?;
-    let leaf = damage(rt.alloc(), &mut folder)?;
+    let leaf = damage_of_other(rt.alloc(), &mut folder, &other)?;
     assert!(rt; matches!(leaf, Damage::Unequal { file, said: 2, found: 3 } if file == FILES[1]));
-    let mut other = MemFolder::new(rt.alloc(), Vec::new(rt.alloc()));
+    Ok(())
+}
+
+/// A segment of the same id with other documents.
+#[test]
+fn a_segment_of_other_documents(rt: HostRuntime) -> Result<(), Fail> {
+    let mut folder = stored(&rt, rt.alloc())?;
+    let mut other = empty_folder(rt.alloc());
     let mut set = SegmentSet::new(rt.alloc(), 2, SETTINGS)?;
     put(&rt, rt.alloc(), &mut set, &mut other, &SECOND)?;
     put(&rt, rt.alloc(), &mut set, &mut other, &FIRST)?;
-    exchange(rt.alloc(), &mut folder, &other, FILES[1])?;
-    let entries = damage(rt.alloc(), &mut folder)?;
+    let entries = damage_of_other(rt.alloc(), &mut folder, &other)?;
     assert!(rt; matches!(entries, Damage::Unequal { file, said: 5, found: 4 } if file == FILES[1]));
     Ok(())
 }

@@ -1,0 +1,328 @@
+//! A segment of several leaf pages: what queries read of it, where one of its pages is damaged, and where a read fails.
+
+ghost use Rattle.std.specs.Prelude.{◌≡◌, vec_len, IfOk};
+ghost use Rattle.bkd_build.specs.Parts.{AreEntries};
+
+use bkd_build::OpenGate;
+use cell_relate::BoxShape;
+use outer_io::{FileName, MemFolder};
+use page_cache::{Damage, PageCache, PageFault};
+use point_codec::{Entry, Near, Point};
+use segment_build::build_segment;
+use segment_view::{Segments, nearest, survey, survey_near, visit};
+use std::alloc::{AllocError, Global};
+use std::marker::Sync;
+use std::process::Abort;
+use std::test::Fail;
+use std::thread::Threads;
+
+const SEGMENT: FileName = FileName::Segment(3);
+
+/// How many entries: they fill 24 leaves of 333, eleven on a page, and eight are left for one more.
+const COUNT: u32 = 8_000;
+
+/// Number i at (i, 0).
+#[tactic(auto, using(bkd_build::proofs::Numbered::none_numbered, bkd_build::proofs::Numbered::numbered_push, bkd_build::proofs::Numbered::numbered_entries))]
+fn row(alloc: Global) -> Result<Vec<Entry<2>>, AllocError>
+    ensures length { IfOk result (λ v. vec_len v ≡ COUNT) }
+    ensures entries { IfOk result (λ v. AreEntries v.items) }
+{
+    let mut entries = Vec::new(alloc);
+    for doc in 0..COUNT {
+        entries.push(Entry {
+            doc,
+            point: Point { c: [doc as i32, 0] },
+        })?;
+    }
+    Ok(entries)
+}
+
+/// The segment of the row in a folder, and the entries that it was built of.
+#[derive(Drop)]
+struct Stored {
+    folder: MemFolder,
+    segments: Segments<2>,
+    entries: Vec<Entry<2>>,
+}
+
+/// The segment of the row, in leaves of 333.
+fn make_stored<R: Threads + Sync>(rt: &R, alloc: Global) -> Result<Stored, Fail> {
+    let mut folder = MemFolder::new(alloc, Vec::new(alloc));
+    let mut segments = Segments::new(alloc);
+    let mut entries = row(alloc)?;
+    let segment = build_segment(rt, alloc, entries.as_mut_slice(), 333, 0, &OpenGate)?;
+    let head = segment
+        .write(alloc, &mut folder, 3)
+        .ok()
+        .ok_or("no segment")?;
+    if segments.has(head.id()) {
+        return Err("an id twice".into());
+    }
+    segments.insert(head, segment.into_live())?;
+    Ok(Stored {
+        folder,
+        segments,
+        entries,
+    })
+}
+
+/// The numbers in the box from one corner to the other.
+fn visited(
+    alloc: Global,
+    stored: &mut Stored,
+    cache: &mut PageCache,
+    shape: &mut BoxShape<2>,
+) -> Result<Vec<u32>, PageFault> {
+    visit(
+        alloc,
+        &stored.segments,
+        &[],
+        cache,
+        &mut stored.folder,
+        shape,
+    )
+}
+
+/// The ten nearest of the segment.
+fn ten_nearest(
+    alloc: Global,
+    stored: &mut Stored,
+    cache: &mut PageCache,
+    at: &Point<2>,
+) -> Result<Vec<Near>, PageFault> {
+    nearest(
+        alloc,
+        &stored.segments,
+        &[],
+        cache,
+        &mut stored.folder,
+        at,
+        10,
+    )
+}
+
+/// The ten nearest among the entries themselves, all of them in the buffer.
+fn ten_of_entries(
+    alloc: Global,
+    stored: &mut Stored,
+    at: &Point<2>,
+) -> Result<Vec<Near>, PageFault> {
+    let mut cache = PageCache::new(alloc, 1)?;
+    nearest(
+        alloc,
+        &Segments::new(alloc),
+        stored.entries.as_slice(),
+        &mut cache,
+        &mut stored.folder,
+        at,
+        10,
+    )
+}
+
+/// The corners of a box; how many hits it has and the first of them; how many points it is asked for, how many leaves the walk touches
+/// and how many pages it reads.
+type Row = ([i32; 2], [i32; 2], (usize, Option<u32>), (u64, u64, u64));
+
+/// Over 25 leaves, eleven on the first page, eleven on the second and three on the last.
+const ROWS: [Row; 4] = [
+    ([0, 0], [7_999, 0], (8_000, Some(0)), (0, 25, 3)),
+    ([0, 0], [3_662, 0], (3_663, Some(0)), (0, 11, 1)),
+    ([3_662, 0], [3_663, 0], (2, Some(3_662)), (666, 2, 2)),
+    ([7_000, -5], [7_400, 5], (401, Some(7_000)), (666, 2, 2)),
+];
+
+/// The bytes of the segment's file.
+fn file_of(alloc: Global, stored: &Stored) -> Result<Vec<u8>, Fail> {
+    Ok(stored.folder.get(&SEGMENT).unwrap_or(&[]).to_vec(alloc)?)
+}
+
+/// A visit with the box of a row, where this call of the folder fails: the visit is done just where it doesn't come to that call.
+fn check_visit(
+    rt: &impl Abort,
+    alloc: Global,
+    stored: &mut Stored,
+    row: Row,
+    call: u64,
+) -> Result<(), Fail> {
+    let (lo, hi, expected, (tests, _, pages)) = row;
+    let mut shape = BoxShape::new(Point { c: lo }, Point { c: hi });
+    let mut cache = PageCache::new(alloc, 4)?;
+    stored.folder.plan([call].to_vec(alloc)?, None);
+    match visited(alloc, stored, &mut cache, &mut shape) {
+        Ok(hits) => {
+            assert_eq!(rt;
+                (hits.len(), hits.first().copied()),
+                expected,
+                "{lo:?} to {hi:?}"
+            );
+            assert_eq!(rt; (shape.tests(), call), (tests, pages), "{lo:?} to {hi:?}");
+        }
+        Err(fault) => {
+            assert!(rt;
+                matches!(fault, PageFault::Failed) && call < pages,
+                "read {call}"
+            );
+        }
+    }
+    Ok(())
+}
+
+/// What a survey says of a row's box; then each of its reads fails in turn, and then none.
+fn check_row(rt: &impl Abort, alloc: Global, stored: &mut Stored, row: Row) -> Result<(), Fail> {
+    let (lo, hi, _, (_, touched, pages)) = row;
+    let mut shape = BoxShape::new(Point { c: lo }, Point { c: hi });
+    assert_eq!(rt;
+        survey(&stored.segments, &mut shape).touched,
+        touched,
+        "{lo:?} to {hi:?}"
+    );
+    for call in 0..=pages {
+        check_visit(rt, alloc, stored, row, call)?;
+    }
+    Ok(())
+}
+
+#[test]
+fn a_box_reads_the_pages_of_its_leaves(rt: HostRuntime) -> Result<(), Fail> {
+    let mut stored = make_stored(&rt, rt.alloc())?;
+    let file = file_of(rt.alloc(), &stored)?;
+    for row in ROWS {
+        check_row(&rt, rt.alloc(), &mut stored, row)?;
+        assert_eq!(rt; stored.folder.get(&SEGMENT), Some(file.as_slice()));
+    }
+    Ok(())
+}
+
+/// The file has the head, a page of index and three pages of leaves, of which the middle one is damaged.
+const FILE_LEN: usize = 5 * 4096;
+
+const DAMAGED_PAGE: usize = 3 * 4096;
+
+const DAMAGED_BYTE: usize = DAMAGED_PAGE + 100;
+
+/// From where to where a box goes, and whether it is answered.
+const BOXES: [(i32, i32, bool); 4] = [
+    (0, 7_999, false),
+    (0, 3_662, true),
+    (3_662, 3_663, false),
+    (7_326, 7_999, true),
+];
+
+/// A visit of the damaged file is answered or shows the damaged page.
+fn check_damaged(
+    rt: &impl Abort,
+    alloc: Global,
+    stored: &mut Stored,
+    page: &[u8],
+    row: (i32, i32, bool),
+) -> Result<(), Fail> {
+    let (lo, hi, whole) = row;
+    let mut shape = BoxShape::new(Point { c: [lo, 0] }, Point { c: [hi, 0] });
+    let mut cache = PageCache::new(alloc, 4)?;
+    match visited(alloc, stored, &mut cache, &mut shape) {
+        Ok(_) => assert!(rt; whole, "{lo} to {hi}"),
+        Err(
+            PageFault::Damaged(
+                Damage::Page {
+                    file: name,
+                    number,
+                    bytes,
+                },
+            ),
+        ) => {
+            assert_eq!(rt; (name, number, whole), (SEGMENT, 3, false), "{lo} to {hi}");
+            assert_eq!(rt; bytes.b.as_slice(), page);
+        }
+        Err(_) => Err("another fault")?,
+    }
+    Ok(())
+}
+
+#[test]
+fn a_damaged_page_is_met_where_its_leaves_are(rt: HostRuntime) -> Result<(), Fail> {
+    let mut stored = make_stored(&rt, rt.alloc())?;
+    let mut file = file_of(rt.alloc(), &stored)?;
+    assert_eq!(rt; file.len(), FILE_LEN);
+    file[DAMAGED_BYTE] ^= 1;
+    stored
+        .folder
+        .put(SEGMENT, file.as_slice().to_vec(rt.alloc())?)?;
+    let page = &file[DAMAGED_PAGE..DAMAGED_PAGE + 4096];
+    for row in BOXES {
+        check_damaged(&rt, rt.alloc(), &mut stored, page, row)?;
+    }
+    Ok(())
+}
+
+/// Where it is asked from, how many leaves may have one of the ten, and how many pages are read: at the first leaf; at the front of a
+/// leaf in the middle of the second page; where the second page begins; past the last one.
+const PLACES: [(i32, u64, u64); 4] = [(0, 1, 1), (3_996, 2, 1), (3_663, 2, 2), (9_000, 2, 1)];
+
+/// A search over a cache without the segment's pages, where this call of the folder fails: it finds those that are wanted just where it
+/// doesn't come to that call.
+fn check_search(
+    rt: &impl Abort,
+    alloc: Global,
+    stored: &mut Stored,
+    cache: &mut PageCache,
+    wanted: &[Near],
+    place: (i32, u64),
+    call: u64,
+) -> Result<(), Fail> {
+    let (x, pages) = place;
+    cache.forget(3);
+    stored.folder.plan([call].to_vec(alloc)?, None);
+    match ten_nearest(alloc, stored, cache, &Point { c: [x, 0] }) {
+        Ok(found) => assert_eq!(rt; (found.as_slice(), call), (wanted, pages), "at {x}"),
+        Err(fault) => {
+            assert!(rt;
+                matches!(fault, PageFault::Failed) && call < pages,
+                "at {x}"
+            );
+        }
+    }
+    Ok(())
+}
+
+/// The search from a place, where each of its reads fails in turn and then none, and then over the pages that are kept.
+fn check_place(
+    rt: &impl Abort,
+    alloc: Global,
+    stored: &mut Stored,
+    place: (i32, u64, u64),
+) -> Result<(), Fail> {
+    let (x, near_leaves, pages) = place;
+    let at = Point { c: [x, 0] };
+    let wanted = ten_of_entries(alloc, stored, &at)?;
+    let greatest = wanted.last().map(|near| near.dist2);
+    assert_eq!(rt;
+        survey_near(&stored.segments, &at, greatest),
+        near_leaves,
+        "at {x}"
+    );
+    let mut cache = PageCache::new(alloc, 4)?;
+    for call in 0..=pages {
+        check_search(
+            rt,
+            alloc,
+            stored,
+            &mut cache,
+            wanted.as_slice(),
+            (x, pages),
+            call,
+        )?;
+    }
+    stored.folder.plan(Vec::new(alloc), Some(0));
+    let found = ten_nearest(alloc, stored, &mut cache, &at)?;
+    assert_eq!(rt; found.as_slice(), wanted.as_slice(), "at {x}");
+    Ok(())
+}
+
+#[test]
+fn the_nearest_read_the_pages_of_near_leaves(rt: HostRuntime) -> Result<(), Fail> {
+    let mut stored = make_stored(&rt, rt.alloc())?;
+    for place in PLACES {
+        check_place(&rt, rt.alloc(), &mut stored, place)?;
+    }
+    Ok(())
+}

@@ -1,0 +1,19 @@
+//! Tests of search: walks over a segment, the nearest of segments and a buffer, and views of several segments.
+//!
+//! They stand above the crates that they test, as Rust's integration tests do: a change of a test is no change of those.
+#![tactic(auto)]
+
+#[cfg(test)]
+mod index_forms;
+#[cfg(test)]
+mod leaf_pages;
+#[cfg(test)]
+mod long_leaves;
+#[cfg(test)]
+mod nearest_ones;
+#[cfg(test)]
+mod stored;
+#[cfg(test)]
+mod views;
+#[cfg(test)]
+mod walks;

@@ -1,0 +1,327 @@
+//! Answers that were reckoned by hand: over a buffer, over stored segments and over both; how often a search reads; and what it says of
+//! a leaf that is damaged.
+
+ghost use Rattle.std.specs.Prelude.{◌≤◌};
+
+use crate::stored::{
+    ASTRAY, AT_TEN, ONE_FIELDS, ONE_TO_NINE, Stored, THREE_LEAVES, TWO_FIELDS, open_alone, store,
+};
+use crate::walks::place;
+use live_bits::LiveBits;
+use nearest_query::{nearest, survey_near};
+use outer_io::MemFolder;
+use page_cache::{PageCache, PageFault};
+use point_codec::{Entry, Near, Point};
+use segment_file::SegmentHead;
+use std::alloc::Global;
+use std::test::Fail;
+
+/// Number 2 at 10.
+const LATE: Stored = Stored {
+    id: 7,
+    fields: &ONE_FIELDS,
+    index: &AT_TEN,
+    leaves: &[0, 1, 0, 2, 4, 0x80, 0, 0, 10],
+};
+
+/// Number 1 at -10.
+const OPPOSITE: Stored = Stored {
+    id: 8,
+    fields: &ONE_FIELDS,
+    index: &[
+        0x7f, 0xff, 0xff, 0xf6, 0x7f, 0xff, 0xff, 0xf6, 9, 0x7f, 0xff, 0xff, 0xf6, 0x7f, 0xff,
+        0xff, 0xf6,
+    ],
+    leaves: &[0, 1, 0, 1, 4, 0x7f, 0xff, 0xff, 0xf6],
+};
+
+/// Number 0 at 10.
+const EARLY: Stored = Stored {
+    id: 9,
+    fields: &ONE_FIELDS,
+    index: &AT_TEN,
+    leaves: &[0, 1, 0, 0, 4, 0x80, 0, 0, 10],
+};
+
+/// Number 0 at 1 and at 9.
+const TWO_POINTS: Stored = Stored {
+    id: 7,
+    fields: &TWO_FIELDS,
+    index: &ONE_TO_NINE,
+    leaves: &[0, 2, 1, 0, 0, 0, 3, 0x80, 0, 0, 0, 0, 1, 9],
+};
+
+/// Number 3 at -10.
+const BUFFER: [Entry<1>; 1] = [Entry {
+    doc: 3,
+    point: Point { c: [-10] },
+}];
+
+/// The numbers from 0 to 4.
+const NUMBERS: [u32; 5] = [0, 1, 2, 3, 4];
+
+/// Live bits of the numbers from 0 to 4.
+fn five_live(alloc: Global) -> Result<LiveBits, Fail> {
+    Ok(LiveBits::of_docs(alloc, &NUMBERS)?)
+}
+
+/// A folder with three segments, and their heads.
+fn three_stored(alloc: Global) -> Result<(MemFolder, [SegmentHead<1>; 3]), Fail> {
+    let mut folder = MemFolder::new(alloc, Vec::new(alloc));
+    let heads = [
+        store(alloc, &mut folder, &LATE)?,
+        store(alloc, &mut folder, &OPPOSITE)?,
+        store(alloc, &mut folder, &EARLY)?,
+    ];
+    Ok((folder, heads))
+}
+
+/// The nearest among three segments and number 3 at -10, where call number `fail` of the folder fails.
+fn nearest_of_three(
+    alloc: Global,
+    at: i32,
+    k: u16,
+    fail: u64,
+) -> Result<Result<Vec<Near>, PageFault>, Fail> {
+    if k < 1 || k > 10_000 {
+        return Err("not 1 to 10,000".into());
+    }
+    let (mut folder, heads) = three_stored(alloc)?;
+    let lives = [five_live(alloc)?, five_live(alloc)?, five_live(alloc)?];
+    let mut cache = PageCache::new(alloc, 4)?;
+    folder.plan(vec![in alloc; fail]?, None);
+    Ok(nearest(
+        alloc,
+        &heads,
+        &lives,
+        &BUFFER,
+        &mut cache,
+        &mut folder,
+        &Point { c: [at] },
+        k,
+    ))
+}
+
+/// The nearest two of a segment.
+fn two_nearest(
+    alloc: Global,
+    folder: &mut MemFolder,
+    cache: &mut PageCache,
+    heads: &[SegmentHead<1>; 1],
+    at: i32,
+) -> Result<Vec<Near>, PageFault> {
+    let lives = [LiveBits::of_docs(alloc, &NUMBERS)?];
+    nearest(
+        alloc,
+        heads,
+        &lives,
+        &[],
+        cache,
+        folder,
+        &Point { c: [at] },
+        2,
+    )
+}
+
+/// The nearest two of one segment, asked for twice over one cache, where call number `fail` of the folder fails.
+fn asked_twice(
+    alloc: Global,
+    segment: &Stored,
+    at: i32,
+    fail: u64,
+) -> Result<(Result<Vec<Near>, PageFault>, Result<Vec<Near>, PageFault>), Fail> {
+    let mut folder = MemFolder::new(alloc, Vec::new(alloc));
+    let heads = [store(alloc, &mut folder, segment)?];
+    let mut cache = PageCache::new(alloc, 4)?;
+    folder.plan(vec![in alloc; fail]?, None);
+    let first = two_nearest(alloc, &mut folder, &mut cache, &heads, at);
+    let second = two_nearest(alloc, &mut folder, &mut cache, &heads, at);
+    Ok((first, second))
+}
+
+/// Where it is asked from, for how many, and those that are found.
+const FOUND: [(i32, u16, &[Near]); 2] = [
+    (
+        0,
+        2,
+        &[Near { doc: 0, dist2: 100 }, Near { doc: 1, dist2: 100 }],
+    ),
+    (
+        -9,
+        10,
+        &[
+            Near { doc: 1, dist2: 1 },
+            Near { doc: 3, dist2: 1 },
+            Near { doc: 0, dist2: 361 },
+            Near { doc: 2, dist2: 361 },
+        ],
+    ),
+];
+
+#[test]
+fn segments_and_a_buffer_by_number(rt: HostRuntime) -> Result<(), Fail> {
+    for (at, k, expected) in FOUND {
+        let found = nearest_of_three(rt.alloc(), at, k, 9)??;
+        assert_eq!(rt; found.as_slice(), expected, "{k} at {at}");
+    }
+    Ok(())
+}
+
+/// How many are asked for, the number of the call that fails, and whether the search ends without it.
+const READS: [(u16, u64, bool, &str); 4] = [
+    (1, 0, false, "one leaf is read"),
+    (2, 1, true, "and no other"),
+    (3, 2, false, "three are read"),
+    (3, 3, true, "and no page twice"),
+];
+
+#[test]
+fn only_leaves_that_may_count_are_read(rt: HostRuntime) -> Result<(), Fail> {
+    for (k, fail, done, said) in READS {
+        assert_eq!(rt;
+            nearest_of_three(rt.alloc(), -9, k, fail)?.is_ok(),
+            done,
+            "{said}"
+        );
+    }
+    Ok(())
+}
+
+/// The two nearest to 6 among the three leaves, and the one that is nearest to 9 of two points.
+const TWO_FOUND: [Near; 2] = [Near { doc: 0, dist2: 1 }, Near { doc: 1, dist2: 1 }];
+
+const ONE_FOUND: [Near; 1] = [Near { doc: 0, dist2: 0 }];
+
+#[test]
+fn a_kept_page_is_not_read_again(rt: HostRuntime) -> Result<(), Fail> {
+    let (first, second) = asked_twice(rt.alloc(), &THREE_LEAVES, 6, 1)?;
+    assert_eq!(rt; first?.as_slice(), TWO_FOUND.as_slice());
+    assert_eq!(rt; second?.as_slice(), TWO_FOUND.as_slice());
+    let (first, _) = asked_twice(rt.alloc(), &TWO_POINTS, 9, 1)?;
+    assert_eq!(rt; first?.as_slice(), ONE_FOUND.as_slice());
+    Ok(())
+}
+
+#[test]
+fn a_leaf_astray_where_it_is_read(rt: HostRuntime) -> Result<(), Fail> {
+    let (found, _) = asked_twice(rt.alloc(), &ASTRAY, 6, 9)?;
+    let seen = match &found {
+        Err(fault) => place(fault),
+        Ok(_) => None,
+    };
+    assert_eq!(rt; seen, Some((2, 12, 9)));
+    Ok(())
+}
+
+#[test]
+fn leaves_within_a_bound(rt: HostRuntime) -> Result<(), Fail> {
+    let (_folder, head) = open_alone(rt.alloc(), &THREE_LEAVES)?;
+    let at = Point { c: [5] };
+    for (bound, leaves) in [(Some(3), 1), (Some(4), 3), (None, 3)] {
+        assert_eq!(rt; survey_near(&head, &at, bound), leaves, "{bound:?}");
+    }
+    Ok(())
+}
+
+/// The nearest among the entries of a buffer, as their numbers and distances.
+fn nearest_in<const D: usize>(
+    alloc: Global,
+    buffer: &[Entry<D>],
+    at: &Point<D>,
+    k: u16,
+) -> Result<Vec<Near>, Fail>
+    requires some { 1 ≤ k }
+    requires few { k ≤ 10000 }
+    requires dims { D ≤ 8 }
+{
+    let mut cache = PageCache::new(alloc, 1)?;
+    let mut folder = MemFolder::new(alloc, Vec::new(alloc));
+    let found = nearest(alloc, &[], &[], buffer, &mut cache, &mut folder, at, k)?;
+    Ok(found)
+}
+
+const TWO: [Entry<2>; 2] = [
+    Entry {
+        doc: 0,
+        point: Point { c: [3, 4] },
+    },
+    Entry {
+        doc: 1,
+        point: Point { c: [0, 6] },
+    },
+];
+
+const NEARER: [Near; 1] = [Near { doc: 0, dist2: 25 }];
+
+#[test]
+fn the_nearer_of_two(rt: HostRuntime) -> Result<(), Fail> {
+    let found = nearest_in(rt.alloc(), &TWO, &Point { c: [0, 0] }, 1)?;
+    assert_eq!(rt; found.as_slice(), NEARER.as_slice());
+    Ok(())
+}
+
+const EQUALLY_NEAR: [Entry<1>; 3] = [
+    Entry {
+        doc: 2,
+        point: Point { c: [10] },
+    },
+    Entry {
+        doc: 1,
+        point: Point { c: [-10] },
+    },
+    Entry {
+        doc: 0,
+        point: Point { c: [10] },
+    },
+];
+
+const LEAST_NUMBERS: [Near; 2] = [Near { doc: 0, dist2: 100 }, Near { doc: 1, dist2: 100 }];
+
+#[test]
+fn equally_near_ones_by_number(rt: HostRuntime) -> Result<(), Fail> {
+    let found = nearest_in(rt.alloc(), &EQUALLY_NEAR, &Point { c: [0] }, 2)?;
+    assert_eq!(rt; found.as_slice(), LEAST_NUMBERS.as_slice());
+    Ok(())
+}
+
+/// Number 0 has two points.
+const SEVERAL_POINTS: [Entry<1>; 3] = [
+    Entry {
+        doc: 0,
+        point: Point { c: [1] },
+    },
+    Entry {
+        doc: 1,
+        point: Point { c: [2] },
+    },
+    Entry {
+        doc: 0,
+        point: Point { c: [9] },
+    },
+];
+
+const EACH_ONCE: [Near; 2] = [Near { doc: 0, dist2: 0 }, Near { doc: 1, dist2: 49 }];
+
+#[test]
+fn a_document_once_by_its_nearest_point(rt: HostRuntime) -> Result<(), Fail> {
+    let found = nearest_in(rt.alloc(), &SEVERAL_POINTS, &Point { c: [9] }, 2)?;
+    assert_eq!(rt; found.as_slice(), EACH_ONCE.as_slice());
+    Ok(())
+}
+
+const GREATEST: [Entry<8>; 1] = [Entry {
+    doc: 0,
+    point: Point { c: [i32::MAX; 8] },
+}];
+
+const FARTHEST: [Near; 1] = [Near {
+    doc: 0,
+    dist2: 147573952520956936200,
+}];
+
+#[test]
+fn the_greatest_distance_and_more_places_than_numbers(rt: HostRuntime) -> Result<(), Fail> {
+    let found = nearest_in(rt.alloc(), &GREATEST, &Point { c: [i32::MIN; 8] }, 10000)?;
+    assert_eq!(rt; found.as_slice(), FARTHEST.as_slice());
+    Ok(())
+}
