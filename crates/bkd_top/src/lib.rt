@@ -10,8 +10,3 @@ mod stop;
 
 pub use program::{MAX_INPUT, run, run_script};
 pub use status::{Memory, Status, code, status_line};
-
-#[cfg(test)]
-mod folder_tests;
-#[cfg(test)]
-mod tests;

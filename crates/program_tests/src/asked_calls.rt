@@ -1,0 +1,74 @@
+//! How often the folder is asked in a run of queries: for the sizes and pages of the commit, the segment's head and index and its live
+//! numbers, and for leaf pages only where a query takes a leaf, once each.
+
+use crate::runs::{empty_folder, outcome, said};
+use outer_io::MemFolder;
+use std::alloc::Global;
+use std::fmt::Write;
+use std::marker::Sync;
+use std::test::Fail;
+use std::thread::Threads;
+
+/// A leaf of 333 points in a row and a leaf of one more, both on one page.
+const POINTS: u32 = 334;
+
+fn row_of_points(alloc: Global) -> Result<String, Fail> {
+    let mut script = String::from_str(alloc, "create 2\n")?;
+    for i in 0..POINTS {
+        writeln!(script, "add {i} 0")?;
+    }
+    Ok(script)
+}
+
+fn folder_with_row<R: Threads + Sync>(rt: &R, alloc: Global) -> Result<MemFolder, Fail> {
+    let mut folder = empty_folder(alloc);
+    let script = row_of_points(alloc)?;
+    outcome(rt, alloc, script.as_bytes(), &mut folder)?;
+    Ok(folder)
+}
+
+/// Whether a run of queries gets on without this call of the folder.
+fn does_without<R: Threads + Sync>(
+    rt: &R,
+    alloc: Global,
+    folder: &mut MemFolder,
+    queries: &[u8],
+    call: u64,
+) -> Result<bool, Fail> {
+    folder.plan([call].to_vec(alloc)?, None);
+    let (status, _) = outcome(rt, alloc, queries, folder)?;
+    Ok(said(alloc, &status)?.is_empty())
+}
+
+/// How many calls a run of queries makes.
+fn calls<R: Threads + Sync>(
+    rt: &R,
+    alloc: Global,
+    folder: &mut MemFolder,
+    queries: &[u8],
+) -> Result<u64, Fail> {
+    for call in 0..99 {
+        if does_without(rt, alloc, folder, queries, call)? {
+            return Ok(call);
+        }
+    }
+    Err("too many calls".into())
+}
+
+/// Queries, and how many calls their run makes: sizes of three files, four pages at the opening, and one leaf page.
+const ROWS: [(&[u8], u64); 4] = [
+    (b"", 7),
+    (b"box 1000 0 1001 0\n", 7),
+    (b"box 0 0 5 0\n", 8),
+    (b"box 0 0 5 0\nbox 0 0 5 0\n", 8),
+];
+
+#[test]
+fn pages_are_read_once_and_only_where_they_count(rt: HostRuntime) -> Result<(), Fail> {
+    let mut folder = folder_with_row(&rt, rt.alloc())?;
+    for (queries, expected) in ROWS {
+        let found = calls(&rt, rt.alloc(), &mut folder, queries)?;
+        assert_eq!(rt; found, expected, "{:?}", std::str::from_utf8(queries));
+    }
+    Ok(())
+}

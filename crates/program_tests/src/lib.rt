@@ -1,0 +1,23 @@
+//! Tests of the program: scripts through the top call, over streams and a folder in memory.
+//!
+//! They stand above the crates that they test, as Rust's integration tests do: a change of a test is no change of those.
+#![tactic(auto)]
+
+#[cfg(test)]
+mod asked_calls;
+#[cfg(test)]
+mod draws;
+#[cfg(test)]
+mod faults;
+#[cfg(test)]
+mod folders;
+#[cfg(test)]
+mod gates;
+#[cfg(test)]
+mod lists;
+#[cfg(test)]
+mod rows;
+#[cfg(test)]
+mod runs;
+#[cfg(test)]
+mod scripts;
