@@ -19,8 +19,3 @@ pub use cuts::cut;
 pub use extents::widest;
 pub use gate::{Gate, OpenGate};
 pub use laws::{built_leaves, one_build, one_canonical_tree};
-
-#[cfg(test)]
-mod cut_tests;
-#[cfg(test)]
-mod tests;

@@ -3,3 +3,4 @@ pub mod Ending
 pub mod Going
 pub mod Lined
 pub mod Opened
+pub mod Sizes

@@ -204,7 +204,7 @@ module _ {told : Type 0} (from : Place) (line refused : ℕ) (ls : List (List �
   made_ends bytes rest next i middle state none_refused text after last result h =
       ends_from from (place_on (line + 1) refused i None rest middle)
       (one_more from (place_off line refused ls written) (place_on (line + 1) refused i None rest middle) bytes g next refl state refl
-        (sym (ap (λ r. refused + r) none_refused ∙ add-zero refused)) text)
+      (sym (ap (λ r. refused + r) none_refused ∙ add-zero refused)) text)
       after last result h
 
   -- no line is left

@@ -5,18 +5,11 @@ ghost use Rattle.point_codec.specs.Seen.{items_of};
 ghost use Rattle.leaf_codec.specs.LeafOrder.{NoneTwice};
 ghost use Rattle.leaf_codec.specs.Leaves.{leaf_limit};
 
+use crate::samples::{FIRST, SECOND, THIRD, entry};
 use byte_cursor::Bytes;
 use leaf_codec::{LeafView, arrange, encode_leaf, greatest_leaf};
 use point_codec::{Cell, Entry, Point};
 use std::test::Fail;
-
-/// Two entries, 0 at 5 and 1 at 7.
-const PLAIN: [u8; 12] = [0, 2, 0, 0, 3, 0x80, 0, 0, 0, 0, 5, 7];
-
-/// Two entries at one point.
-const TOGETHER: [u8; 9] = [0, 2, 0, 2, 4, 0x80, 0, 0, 7];
-
-const ALONE: [u8; 9] = [0, 1, 0, 4, 4, 0x80, 0, 0, 7];
 
 /// Five entries in two dimensions, in two pieces.
 const PIECES: [u8; 29] = [
@@ -36,21 +29,11 @@ fn leaf<const D: usize>(rt: HostRuntime, entries: &mut [Entry<D>]) -> Result<Byt
     Ok(encode_leaf(rt.alloc(), entries)?)
 }
 
-fn entry<const D: usize>(doc: u32, c: [i32; D]) -> Entry<D>
-    requires { (1 ≤ D) × (D ≤ 8) }
-    ensures { result.doc ≡ doc }
-{
-    Entry {
-        doc,
-        point: Point { c },
-    }
-}
-
 #[test]
 #[tactic(auto, using(leaf_codec::proofs::Apart::none_twice))]
 fn spelled_in_order(rt: HostRuntime) -> Result<(), Fail> {
     let bytes = leaf(rt, &mut [entry(1, [7]), entry(0, [5])])?;
-    assert_eq!(rt; bytes.as_slice(), PLAIN.as_slice());
+    assert_eq!(rt; bytes.as_slice(), FIRST.as_slice());
     Ok(())
 }
 
@@ -58,7 +41,7 @@ fn spelled_in_order(rt: HostRuntime) -> Result<(), Fail> {
 #[tactic(auto, using(leaf_codec::proofs::Apart::none_twice))]
 fn spelled_at_one_point(rt: HostRuntime) -> Result<(), Fail> {
     let bytes = leaf(rt, &mut [entry(2, [7]), entry(3, [7])])?;
-    assert_eq!(rt; bytes.as_slice(), TOGETHER.as_slice());
+    assert_eq!(rt; bytes.as_slice(), SECOND.as_slice());
     Ok(())
 }
 
@@ -66,7 +49,7 @@ fn spelled_at_one_point(rt: HostRuntime) -> Result<(), Fail> {
 #[tactic(auto, using(leaf_codec::proofs::Apart::none_twice))]
 fn spelled_alone(rt: HostRuntime) -> Result<(), Fail> {
     let bytes = leaf(rt, &mut [entry(4, [7])])?;
-    assert_eq!(rt; bytes.as_slice(), ALONE.as_slice());
+    assert_eq!(rt; bytes.as_slice(), THIRD.as_slice());
     Ok(())
 }
 
@@ -126,7 +109,7 @@ fn shown<const D: usize>(bytes: &[u8], lo: [i32; D], hi: [i32; D], count: u16) -
     (view.count(), sum)
 }
 
-/// A cell and a count, and what the plain leaf shows then.
+/// A cell and a count, and what the leaf shows then.
 const CELLS: [(i32, i32, u16, (u16, u64)); 5] = [
     (0, 9, 2, (2, (5 + 1) * 31 + 7)),
     (0, 9, 1, (0, 0)),
@@ -138,15 +121,15 @@ const CELLS: [(i32, i32, u16, (u16, u64)); 5] = [
 #[test]
 fn read_in_cells(rt: HostRuntime) -> Result<(), Fail> {
     for (lo, hi, count, expected) in CELLS {
-        assert_eq!(rt; shown(&PLAIN, [lo], [hi], count), expected);
+        assert_eq!(rt; shown(&FIRST, [lo], [hi], count), expected);
     }
     Ok(())
 }
 
 #[test]
 fn no_front_is_read(rt: HostRuntime) -> Result<(), Fail> {
-    for n in 0..PLAIN.len() {
-        assert_eq!(rt; shown(&PLAIN[..n], [0], [9], 2), (0, 0));
+    for n in 0..FIRST.len() {
+        assert_eq!(rt; shown(&FIRST[..n], [0], [9], 2), (0, 0));
     }
     Ok(())
 }
@@ -171,7 +154,7 @@ fn others_are_refused(rt: HostRuntime) -> Result<(), Fail> {
 }
 
 /// The five entries again, as none are spelled.
-const PLAIN_KEYS: [u8; 29] = [
+const OTHER_PIECES: [u8; 29] = [
     0, 5, 1, 3, 0, 1, 6, 2, 5, 3, 3, 0x80, 0, 0, 0x80, 0, 0, 0, 0, 1, 1, 1, 2, 2, 0x14, 0x1e, 0x0a,
     0x32, 0x28,
 ];
@@ -179,7 +162,7 @@ const PLAIN_KEYS: [u8; 29] = [
 #[test]
 fn pieces_are_read(rt: HostRuntime) -> Result<(), Fail> {
     assert_eq!(rt; shown(&PIECES, [0, 0], [9, 90], 5).0, 5);
-    assert_eq!(rt; shown(&PLAIN_KEYS, [0, 0], [9, 90], 5), (0, 0));
+    assert_eq!(rt; shown(&OTHER_PIECES, [0, 0], [9, 90], 5), (0, 0));
     Ok(())
 }
 
@@ -207,7 +190,7 @@ fn leaves_one_byte_off<const D: usize>(
 /// The counts come from a reader and a writer of leaves in another language.
 #[test]
 fn one_byte_changed(rt: HostRuntime) -> Result<(), Fail> {
-    assert_eq!(rt; leaves_one_byte_off::<1>(rt, &PLAIN, 2)?, 1147);
+    assert_eq!(rt; leaves_one_byte_off::<1>(rt, &FIRST, 2)?, 1147);
     assert_eq!(rt; leaves_one_byte_off::<2>(rt, &PIECES, 5)?, 3701);
     Ok(())
 }

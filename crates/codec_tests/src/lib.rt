@@ -1,5 +1,18 @@
-//! The tests of the codecs and of the builder of trees. They stand above what they test, so that there only the tests themselves are proved.
+//! The tests of the codecs and of the builder of trees. They stand above what they test, so that there only the tests themselves
+//! are proved.
 #![tactic(auto)]
 
 #[cfg(test)]
+mod bkd_build_cuts;
+#[cfg(test)]
+mod bkd_build_trees;
+#[cfg(test)]
+mod inner_pack_bytes;
+#[cfg(test)]
+mod inner_pack_packed;
+#[cfg(test)]
+mod inner_pack_vectors;
+#[cfg(test)]
 mod leaf_codec_leaves;
+#[cfg(test)]
+mod samples;

@@ -21,8 +21,3 @@ pub use laws::{commits_are_unique, files_say_one_commit};
 pub use listed::Listed;
 pub use reading::{body_length, decode};
 pub use writing::encode_commit;
-
-#[cfg(test)]
-mod file_tests;
-#[cfg(test)]
-mod tests;

@@ -4,7 +4,6 @@ pub mod KeyLemmas
 pub mod NodeLemmas
 pub mod PackBytes
 pub mod PackParts
-pub mod PackTests
 pub mod PackWhole
 pub mod PlaceLemmas
 pub mod SpelledLemmas

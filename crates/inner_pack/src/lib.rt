@@ -20,10 +20,3 @@ pub use index::{Index, NotIndex};
 pub use laws::{cells_nest, leaves_are_counted, one_tree, places_ascend};
 pub use node::NodeAt;
 pub use place::LeafPlace;
-
-#[cfg(test)]
-mod byte_tests;
-#[cfg(test)]
-mod pack_tests;
-#[cfg(test)]
-mod tests;

@@ -26,6 +26,3 @@ pub use laws::{
     payloads_join,
 };
 pub use read::read_payloads;
-
-#[cfg(test)]
-mod tests;

@@ -13,8 +13,3 @@ pub use laws::{
     all_live_all_entries, no_live_no_entries, one_canonical_index, one_list_of_entries,
 };
 pub use segment::NewSegment;
-
-#[cfg(test)]
-mod piece_tests;
-#[cfg(test)]
-mod tests;

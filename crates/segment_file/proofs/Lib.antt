@@ -14,4 +14,3 @@ pub mod Paged
 pub mod Laid
 pub mod LaidTree
 pub mod WrittenTree
-pub mod WriteTests

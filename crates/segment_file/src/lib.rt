@@ -25,10 +25,3 @@ pub use live::{read_live, write_live};
 pub use open::open_segment;
 pub use read::read_entries;
 pub use write::write_segment;
-
-#[cfg(test)]
-mod leaf_tests;
-#[cfg(test)]
-mod tests;
-#[cfg(test)]
-mod write_tests;

@@ -1,10 +1,15 @@
 -- A line is done where it can be read, and refused where not.
 use Rattle.std.proofs.Common.{◌≢◌, inl, rules}
+use Rattle.index_core.proofs.Sizes.{session_fits}
 use Rattle.script_lang.specs.Seen.{request_of}
 use Rattle.script_lang.specs.declared.faults.LineFault.TheVariants as fault
 use Rattle.bkd_top.proofs.Answered.{unread_replies, fault_read}
 use Rattle.bkd_top.proofs.Lined.{page_memory, page_still}
+use Rattle.bkd_top.proofs.Sizes.{command_fits}
 use Rattle.bkd_top.proofs.answers.reply_to.Goals as goal
+
+pub obey-requires-after_bounds : goal.obey-requires-after_bounds
+obey-requires-after_bounds g c κs = λ _. (session_fits g.row.D c.requires.few, (command_fits g.row.D c.requires.few, c.in-Ok.ensures.limits))
 
 pub returns-in-Ok-clause-replies : goal.returns-in-Ok-clause-replies
 returns-in-Ok-clause-replies g c = λ told i stored h. c.obey.ensures.replies told i stored h c.args.line.now c.in-Ok.ensures.reads

@@ -1,5 +1,5 @@
 -- A new session, or one that is attached, stands over the files.
-use Rattle.std.proofs.Common.{ℕ, ◌≤◌, refl, subst}
+use Rattle.std.proofs.Common.{ℕ, ◌≤◌, Some, refl, subst}
 use Rattle.std.proofs.lemmas.Result.{err_from_is_err_and}
 use Rattle.script_lang.specs.Reading.{greatest_leaf}
 use Rattle.index_core.proofs.Sizes.{session_fits}
@@ -40,4 +40,4 @@ returns-in-Stored-clause-stands g c = λ told i stored h.
 pub returns-in-Stored-clause-whole : goal.returns-in-Stored-clause-whole
 returns-in-Stored-clause-whole g c = λ told i stored h.
     let from = rw c.in-Stored.is at h in
-    c.attach.ensures.whole told from.0 _ from.1
+    c.attach.ensures.whole told from.0 (Some i) from.1

@@ -1,5 +1,0 @@
-use Rattle.bkd_build.proofs.Numbered.{AreNumbered}
-use Rattle.segment_build.proofs.piece_tests.spread.Given as goal
-
-abbrev pub invariant-loop-doc : goal.invariant-loop-doc
-invariant-loop-doc l = AreNumbered l.doc l.entries.items
