@@ -24,7 +24,7 @@ returns-in-Ok-Some-clause-cause g c = cause_from _ _ _ _ _ _ _ c.in-Ok-Some.ensu
 pub returns-in-Err-clause-ends : goal.returns-in-Err-clause-ends
 returns-in-Err-clause-ends g c = λ told state h.
     unopened (IsTrue g.K.Sink.told) (start state (lines_of c.args.script.now) (g.K.Sink.written c.args.out.now)) _ _ _ c.in-Err.fault
-    (not_damaged _ state h (c.in-Err.ensures.absent told) (c.in-Err.ensures.whole told)) (c.in-Err.ensures.files told) h c.stopped.result c.stopped.ensures refl
+    (not_damaged (g.F.Pages.files c.args.folder.now) state h (c.in-Err.ensures.absent told) (c.in-Err.ensures.whole told)) (c.in-Err.ensures.files told) h c.stopped.result c.stopped.ensures refl
 
 pub returns-in-Err-clause-cause : goal.returns-in-Err-clause-cause
 returns-in-Err-clause-cause g c = fault_cause _ _ _ c.in-Err.fault c.in-Err.ensures.cause c.stopped.result c.stopped.ensures

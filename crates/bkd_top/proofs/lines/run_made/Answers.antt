@@ -34,7 +34,7 @@ lines-preserved g c = record {
 pub returns-in-Err-clause-ends : goal.returns-in-Err-clause-ends
 returns-in-Err-clause-ends g c = λ told i stored h.
     let so_far = c.lines.invariant.going told i stored h in
-    stops_at g.row.D _ _ _ _ _ _ _ _ _ _ so_far _ _ c.first_line.ensures.line c.in-Err.stop (c.in-Err.ensures.answers told so_far.index so_far.stored so_far.stands)
+    stops_at g.row.D _ _ _ _ c.answer_line.new.session _ _ _ _ _ so_far _ _ c.first_line.ensures.line c.in-Err.stop (c.in-Err.ensures.answers told so_far.index so_far.stored so_far.stands)
 
 pub returns-in-Err-clause-cause : goal.returns-in-Err-clause-cause
 returns-in-Err-clause-cause g c = cause_from _ _ _ _ _ _ _ c.lines.invariant.folder_later c.lines.invariant.sink_later (cause_to _ _ _ _ c.in-Err.stop c.in-Err.ensures.cause)

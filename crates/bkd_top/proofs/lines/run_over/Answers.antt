@@ -18,7 +18,7 @@ returns-in-Ok-clause-cause g c = cause_from _ _ _ _ _ _ _ c.in-Ok.ensures.cause.
 pub returns-in-Err-clause-ends : goal.returns-in-Err-clause-ends
 returns-in-Err-clause-ends g c = λ told i stored h.
     unopened (IsTrue g.K.Sink.told) (place_on c.args.script.line c.args.script.refused i stored (lines_of c.args.script.rest.now) (g.K.Sink.written c.args.out.now)) _ _ _ c.in-Err.fault
-    (c.in-Err.ensures.whole told i stored h) (c.in-Err.ensures.files told) (origin_keeps _ c.args.origin i stored h) c.stopped.result c.stopped.ensures refl
+    (c.in-Err.ensures.whole told i stored h) (c.in-Err.ensures.files told) (origin_keeps (g.F.Pages.files c.args.folder.now) c.args.origin i stored h) c.stopped.result c.stopped.ensures refl
 
 pub returns-in-Err-clause-cause : goal.returns-in-Err-clause-cause
 returns-in-Err-clause-cause g c = fault_cause _ _ _ c.in-Err.fault c.in-Err.ensures.cause c.stopped.result c.stopped.ensures
