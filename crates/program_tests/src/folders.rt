@@ -9,10 +9,8 @@ use std::process::Abort;
 use std::test::Fail;
 use std::thread::Threads;
 
-/// How many bytes of a body are on a page, and how many pages a file may have here.
-const PAYLOAD: usize = 4064;
-
-const MOST_PAGES: usize = 8;
+/// Where the bytes of a body on the first three pages end.
+const ENDS: [usize; 3] = [4064, 8128, 12192];
 
 /// A file, by the bodies that its pages begin with.
 type File = (FileName, &'static [&'static [u8]]);
@@ -173,11 +171,11 @@ const ROWS: &[Row] = &[
 /// The bytes of a file.
 fn bytes_of(alloc: Global, name: &FileName, pages: &[&[u8]]) -> Result<Vec<u8>, Fail> {
     let mut body = Vec::new(alloc);
-    for page in pages {
+    for (page, end) in pages.iter().zip(ENDS) {
         body.extend_from_slice(page)?;
-        body.resize(body.len().next_multiple_of(PAYLOAD), 0)?;
+        body.resize(end, 0)?;
     }
-    if body.len() > MOST_PAGES * PAYLOAD {
+    if body.len() > 12192 {
         return Err("too many pages".into());
     }
     Ok(pages_of(alloc, name, body.as_slice())?)

@@ -7,21 +7,18 @@ use script_lang::{
 use std::alloc::Global;
 use std::test::Fail;
 
-/// A session that may not be made yet, and what it has answered.
+/// What a script answers, and how many of its lines are refused.
 #[derive(Drop)]
 pub struct Scan {
-    session: Option<ListSession<2>>,
     pub answers: Vec<u8>,
     pub refused: u64,
 }
 
-/// What a script answers over a list of two dimensions, and how many of its lines are refused.
+/// What a script answers over a list of two dimensions.
 pub fn scanned(alloc: Global, script: &[u8]) -> Result<Scan, Fail> {
-    let mut scan = Scan {
-        session: None,
-        answers: Vec::new(alloc),
-        refused: 0,
-    };
+    let mut session = None;
+    let mut answers = Vec::new(alloc);
+    let mut refused = 0u64;
     let mut rest = script;
     for number in 1..u64::MAX {
         if rest.is_empty() {
@@ -29,35 +26,45 @@ pub fn scanned(alloc: Global, script: &[u8]) -> Result<Scan, Fail> {
         }
         let (line, behind) = first_line(rest);
         rest = behind;
-        scan_line(alloc, &mut scan, number, line)?;
+        if !scan_line(alloc, &mut session, number, line, &mut answers)? {
+            refused = refused.saturating_add(1);
+        }
     }
-    Ok(scan)
+    Ok(Scan { answers, refused })
 }
 
-/// Does a line.
-fn scan_line(alloc: Global, scan: &mut Scan, number: u64, line: &[u8]) -> Result<(), Fail> {
-    let is_done = match &mut scan.session {
-        Some(session) => apply_line(alloc, session, number, line, &mut scan.answers)?,
-        None => first_command(alloc, scan, number, line)?,
-    };
-    if !is_done {
-        scan.refused = scan.refused.saturating_add(1);
+/// Does a line, and says whether it is done. There may be no index yet.
+fn scan_line(
+    alloc: Global,
+    session: &mut Option<ListSession<2>>,
+    number: u64,
+    line: &[u8],
+    answers: &mut Vec<u8>,
+) -> Result<bool, Fail> {
+    match session {
+        Some(made) => apply_line(alloc, made, number, line, answers),
+        None => make(alloc, session, number, line, answers),
     }
-    Ok(())
 }
 
 /// Does a line before there is an index, and says whether it is done.
-fn first_command(alloc: Global, scan: &mut Scan, number: u64, line: &[u8]) -> Result<bool, Fail> {
+fn make(
+    alloc: Global,
+    session: &mut Option<ListSession<2>>,
+    number: u64,
+    line: &[u8],
+    answers: &mut Vec<u8>,
+) -> Result<bool, Fail> {
     match read_first(line) {
         Ok(First::Blank) => Ok(true),
         Ok(First::Create { dims: _, leaf }) => {
-            scan.session = Some(ListSession::new(alloc, leaf));
-            put_ok(&mut scan.answers)?;
+            *session = Some(ListSession::new(alloc, leaf));
+            put_ok(answers)?;
             Ok(true)
         }
         Err(LineFault::Memory) => Err("memory is wanting".into()),
         Err(fault) => {
-            put_line_fault(&mut scan.answers, number, &fault)?;
+            put_line_fault(answers, number, &fault)?;
             Ok(false)
         }
     }

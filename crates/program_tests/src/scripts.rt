@@ -123,7 +123,10 @@ pub fn script_of(alloc: Global, lines: &[&str]) -> Result<Vec<u8>, Fail> {
 
 /// A script with a reopening behind so many of the lines.
 fn reopened(alloc: Global, place: usize) -> Result<Vec<u8>, Fail> {
-    let (first, second) = LINES.split_at(place.min(LINES.len()));
+    if place > LINES.len() {
+        return Err("no such line".into());
+    }
+    let (first, second) = LINES.split_at(place);
     let mut script = script_of(alloc, first)?;
     script.extend_from_slice(REOPEN)?;
     put_lines(&mut script, second)?;
@@ -163,7 +166,10 @@ fn a_reopening_at_each_late_line(rt: HostRuntime) -> Result<(), Fail> {
 
 /// The answers of a run of the first lines, and another of those behind them with `LOOK`.
 fn run_twice<R: Threads + Sync>(rt: &R, alloc: Global, place: usize) -> Result<Vec<u8>, Fail> {
-    let (first, second) = LINES.split_at(place.min(LINES.len()));
+    if place > LINES.len() {
+        return Err("no such line".into());
+    }
+    let (first, second) = LINES.split_at(place);
     let mut folder = empty_folder(alloc);
     outcome(rt, alloc, script_of(alloc, first)?.as_slice(), &mut folder)?;
     let mut rest = Vec::new(alloc);

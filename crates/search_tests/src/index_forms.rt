@@ -15,9 +15,6 @@ const LEAVES: [u8; 21] = [
     0, 2, 0, 0, 3, 0x80, 0, 0, 0, 0, 1, 2, 0, 1, 0, 2, 4, 0x80, 0, 0, 9,
 ];
 
-/// The numbers of all entries.
-const NUMBERS: [u32; 3] = [0, 1, 2];
-
 /// The heads of three entries of one dimension in leaves of two, over an index of 29, 15 and 31 bytes.
 const TABLE_HEAD: [u8; 28] = *b"BKDPSEG1\x01\x01\0\x02\0\0\0\x03\0\0\0\x02\0\0\0\x1d\0\0\0\x01";
 
@@ -86,13 +83,13 @@ fn check_row(
     alloc: Global,
     folder: &mut MemFolder,
     head: &SegmentHead<1>,
+    live: &LiveBits,
     row: Row,
     own: bool,
 ) -> Result<(), Fail> {
     let (ends, expected, path_costs, own_costs) = row;
-    let live = LiveBits::of_docs(alloc, &NUMBERS)?;
     let mut shape = line(ends);
-    let hits = walked(alloc, folder, head, &live, &mut shape)?
+    let hits = walked(alloc, folder, head, live, &mut shape)?
         .ok()
         .ok_or("no walk")?;
     assert_eq!(rt; hits.as_slice(), expected, "{ends:?}");
@@ -100,17 +97,18 @@ fn check_row(
     let touched = survey(head, &mut shape).touched;
     let costs = if own { own_costs } else { path_costs };
     assert_eq!(rt; (tests, touched), costs, "{ends:?}");
-    let read = reads(alloc, folder, head, &live, &mut shape)?;
+    let read = reads(alloc, folder, head, live, &mut shape)?;
     assert_eq!(rt; read, touched.min(1), "{ends:?}");
     Ok(())
 }
 
 #[test]
 fn an_index_of_each_form(rt: HostRuntime) -> Result<(), Fail> {
+    let live = LiveBits::of_docs(rt.alloc(), &[0, 1, 2])?;
     for (segment, own) in &FORMS {
         let (mut folder, head) = open_alone(rt.alloc(), segment)?;
         for row in ROWS {
-            check_row(&rt, rt.alloc(), &mut folder, &head, row, *own)?;
+            check_row(&rt, rt.alloc(), &mut folder, &head, &live, row, *own)?;
         }
     }
     Ok(())

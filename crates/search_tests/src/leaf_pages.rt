@@ -193,13 +193,6 @@ fn a_box_reads_the_pages_of_its_leaves(rt: HostRuntime) -> Result<(), Fail> {
     Ok(())
 }
 
-/// The file has the head, a page of index and three pages of leaves, of which the middle one is damaged.
-const FILE_LEN: usize = 5 * 4096;
-
-const DAMAGED_PAGE: usize = 3 * 4096;
-
-const DAMAGED_BYTE: usize = DAMAGED_PAGE + 100;
-
 /// From where to where a box goes, and whether it is answered.
 const BOXES: [(i32, i32, bool); 4] = [
     (0, 7_999, false),
@@ -249,12 +242,13 @@ fn check_damaged(
 fn a_damaged_page_is_met_where_its_leaves_are(rt: HostRuntime) -> Result<(), Fail> {
     let mut stored = make_stored(&rt, rt.alloc())?;
     let mut file = file_of(rt.alloc(), &stored)?;
-    assert_eq!(rt; file.len(), FILE_LEN);
-    file[DAMAGED_BYTE] ^= 1;
+    // the head, a page of index and the three pages of leaves
+    assert_eq!(rt; file.len(), 5 * 4096);
+    file[3 * 4096 + 100] ^= 1;
     stored
         .folder
         .put(SEGMENT, file.as_slice().to_vec(rt.alloc())?)?;
-    let page = &file[DAMAGED_PAGE..DAMAGED_PAGE + 4096];
+    let page = &file[3 * 4096..4 * 4096];
     for row in BOXES {
         check_damaged(&rt, rt.alloc(), &mut stored, page, row)?;
     }

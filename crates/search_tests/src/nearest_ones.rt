@@ -13,7 +13,7 @@ use outer_io::MemFolder;
 use page_cache::{PageCache, PageFault};
 use point_codec::{Entry, Near, Point};
 use segment_file::SegmentHead;
-use std::alloc::Global;
+use std::alloc::{AllocError, Global};
 use std::test::Fail;
 
 /// Number 2 at 10.
@@ -57,12 +57,9 @@ const BUFFER: [Entry<1>; 1] = [Entry {
     point: Point { c: [-10] },
 }];
 
-/// The numbers from 0 to 4.
-const NUMBERS: [u32; 5] = [0, 1, 2, 3, 4];
-
 /// Live bits of the numbers from 0 to 4.
-fn five_live(alloc: Global) -> Result<LiveBits, Fail> {
-    Ok(LiveBits::of_docs(alloc, &NUMBERS)?)
+fn five_live(alloc: Global) -> Result<LiveBits, AllocError> {
+    LiveBits::of_docs(alloc, &[0, 1, 2, 3, 4])
 }
 
 /// A folder with three segments, and their heads.
@@ -110,7 +107,7 @@ fn two_nearest(
     heads: &[SegmentHead<1>; 1],
     at: i32,
 ) -> Result<Vec<Near>, PageFault> {
-    let lives = [LiveBits::of_docs(alloc, &NUMBERS)?];
+    let lives = [five_live(alloc)?];
     nearest(
         alloc,
         heads,

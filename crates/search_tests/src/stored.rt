@@ -73,9 +73,6 @@ pub const ONE_TO_NINE: [u8; 17] = [
     0x80, 0, 0, 1, 0x80, 0, 0, 9, 14, 0x80, 0, 0, 1, 0x80, 0, 0, 9,
 ];
 
-/// Where a page's bytes for a body end, of one page, two and three.
-const PAGE_ENDS: [usize; 3] = [4064, 8128, 12192];
-
 /// Puts the segment into the folder, and opens it.
 pub fn store<const D: usize>(
     alloc: Global,
@@ -85,11 +82,11 @@ pub fn store<const D: usize>(
     requires dims { (1 ≤ D) × (D ≤ 8) }
 {
     let mut body = segment.fields.to_vec(alloc)?;
-    body.resize(PAGE_ENDS[0], 0)?;
+    body.resize(4064, 0)?;
     body.extend_from_slice(segment.index)?;
-    body.resize(PAGE_ENDS[1], 0)?;
+    body.resize(8128, 0)?;
     body.extend_from_slice(segment.leaves)?;
-    body.resize(PAGE_ENDS[2], 0)?;
+    body.resize(12192, 0)?;
     let name = FileName::Segment(segment.id);
     let bytes = pages_of(alloc, &name, body.as_slice())?;
     folder.put(name, bytes)?;

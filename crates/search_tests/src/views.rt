@@ -27,13 +27,6 @@ const TWICE: Stored = Stored {
     leaves: &[0, 2, 1, 5, 0, 0, 3, 0x80, 0, 0, 0, 0, 1, 9],
 };
 
-/// The segments in the order in which they come in, with the numbers that are live.
-const SEGMENTS: [(Stored, &[u32]); 3] = [
-    (TWICE, &[5]),
-    (THREE_LEAVES, &[0, 1, 2, 3, 4]),
-    (ONE, &[6]),
-];
-
 /// 7 at 6, and 8 at 20.
 const BUFFER: [Entry<1>; 2] = [
     Entry {
@@ -82,15 +75,14 @@ const ROWS: [Row; 3] = [
     ),
 ];
 
-/// Puts the segment into the folder and among the others, with these live numbers.
+/// Puts the segment into the folder and among the others, with these live bits.
 fn insert(
     alloc: Global,
     folder: &mut MemFolder,
     segments: &mut Segments<1>,
     segment: &Stored,
-    docs: &[u32],
+    live: LiveBits,
 ) -> Result<(), Fail> {
-    let live = LiveBits::of_docs(alloc, docs)?;
     let head = store(alloc, folder, segment)?;
     if segments.has(head.id()) {
         return Err("an id twice".into());
@@ -102,9 +94,12 @@ fn insert(
 fn three(alloc: Global) -> Result<(MemFolder, Segments<1>), Fail> {
     let mut folder = MemFolder::new(alloc, Vec::new(alloc));
     let mut segments = Segments::new(alloc);
-    for (segment, docs) in &SEGMENTS {
-        insert(alloc, &mut folder, &mut segments, segment, docs)?;
-    }
+    let live = LiveBits::of_docs(alloc, &[5])?;
+    insert(alloc, &mut folder, &mut segments, &TWICE, live)?;
+    let live = LiveBits::of_docs(alloc, &[0, 1, 2, 3, 4])?;
+    insert(alloc, &mut folder, &mut segments, &THREE_LEAVES, live)?;
+    let live = LiveBits::of_docs(alloc, &[6])?;
+    insert(alloc, &mut folder, &mut segments, &ONE, live)?;
     Ok((folder, segments))
 }
 

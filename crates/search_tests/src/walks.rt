@@ -12,9 +12,6 @@ use std::alloc::Global;
 use std::process::Abort;
 use std::test::Fail;
 
-/// The numbers of all entries.
-const ALL: [u32; 5] = [0, 1, 2, 3, 4];
-
 /// The end of a box, its other end, the live numbers; then the hits, the tests, the compares; of the survey the tested entries and the
 /// touched leaves.
 type Row = (
@@ -158,7 +155,7 @@ fn three_leaves_of_a_page_are_read_once_and_none_is_read_outside(
     rt: HostRuntime,
 ) -> Result<(), Fail> {
     let (mut folder, head) = open_alone(rt.alloc(), &THREE_LEAVES)?;
-    let live = LiveBits::of_docs(rt.alloc(), &ALL)?;
+    let live = LiveBits::of_docs(rt.alloc(), &[0, 1, 2, 3, 4])?;
     for (ends, expected) in READS {
         let read = reads(rt.alloc(), &mut folder, &head, &live, &mut line(ends))?;
         assert_eq!(rt; read, expected, "{ends:?}");
@@ -192,7 +189,7 @@ const DAMAGES: [((i32, i32), usize, Option<(u32, u16, u16)>); 3] = [
 fn a_leaf_astray(rt: HostRuntime) -> Result<(), Fail> {
     let (mut folder, head) = open_alone(rt.alloc(), &ASTRAY)?;
     let mut cache = PageCache::new(rt.alloc(), 4)?;
-    let live = LiveBits::of_docs(rt.alloc(), &ALL)?;
+    let live = LiveBits::of_docs(rt.alloc(), &[0, 1, 2, 3, 4])?;
     for (ends, hits_then, damage) in DAMAGES {
         let (done, hits) = walked_behind(
             rt.alloc(),

@@ -294,12 +294,9 @@ fn refusals(rt: HostRuntime) -> Result<(), Fail> {
     look(&rt, rt.alloc(), &mut set, &mut folder, false)
 }
 
-/// How many points are given in all.
-const MOST_POINTS: u32 = 1 << 24;
-
 /// A set of one document, which has all points but one.
 fn nearly_full(alloc: Global, folder: &mut MemFolder) -> Result<SegmentSet<2>, Fail> {
-    let commit = Commit::new(2, 2, 1, MOST_POINTS - 1, 0, Vec::new(alloc));
+    let commit = Commit::new(2, 2, 1, (1 << 24) - 1, 0, Vec::new(alloc));
     Ok(SegmentSet::attach(alloc, folder, &commit, SETTINGS)?)
 }
 
@@ -312,7 +309,7 @@ fn a_set_is_full(rt: HostRuntime) -> Result<(), Fail> {
     let refused = set.add(&rt, rt.alloc(), &mut folder, &two, &OpenGate);
     assert!(rt; matches!(refused, Err(AddFault::Full)));
     assert_eq!(rt; add(&rt, rt.alloc(), &mut set, &mut folder, &[[0, 0]])?, 1);
-    assert_eq!(rt; set.given(), MOST_POINTS);
+    assert_eq!(rt; set.given(), 1 << 24);
     Ok(())
 }
 

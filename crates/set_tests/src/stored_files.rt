@@ -202,10 +202,9 @@ fn files_that_are_gone_or_turned(rt: HostRuntime) -> Result<(), Fail> {
     Ok(())
 }
 
-/// The damage that attaching shows where the second segment has these live numbers.
-fn damage_of_live(alloc: Global, folder: &mut MemFolder, docs: &[u32]) -> Result<Damage, Fail> {
-    let live = LiveBits::of_docs(alloc, docs)?;
-    write_live(alloc, folder, 1, 1, &live)?;
+/// The damage that attaching shows where the second segment has these live bits.
+fn damage_of_live(alloc: Global, folder: &mut MemFolder, live: &LiveBits) -> Result<Damage, Fail> {
+    write_live(alloc, folder, 1, 1, live)?;
     damage(alloc, folder)
 }
 
@@ -213,11 +212,23 @@ fn damage_of_live(alloc: Global, folder: &mut MemFolder, docs: &[u32]) -> Result
 #[test]
 fn live_bits_of_other_numbers(rt: HostRuntime) -> Result<(), Fail> {
     let mut folder = stored(&rt, rt.alloc())?;
-    let few = damage_of_live(rt.alloc(), &mut folder, &[3, 4])?;
+    let few = damage_of_live(
+        rt.alloc(),
+        &mut folder,
+        &LiveBits::of_docs(rt.alloc(), &[3, 4])?,
+    )?;
     assert!(rt; matches!(few, Damage::Unequal { file, said: 3, found: 2 } if file == FILES[3]));
-    let beyond = damage_of_live(rt.alloc(), &mut folder, &[3, 4, 6])?;
+    let beyond = damage_of_live(
+        rt.alloc(),
+        &mut folder,
+        &LiveBits::of_docs(rt.alloc(), &[3, 4, 6])?,
+    )?;
     assert!(rt; matches!(beyond, Damage::Beyond { doc: 6, next: 6 }));
-    let doubled = damage_of_live(rt.alloc(), &mut folder, &[2, 3, 4])?;
+    let doubled = damage_of_live(
+        rt.alloc(),
+        &mut folder,
+        &LiveBits::of_docs(rt.alloc(), &[2, 3, 4])?,
+    )?;
     assert!(rt; matches!(doubled, Damage::Doubled { doc: 2 }));
     Ok(())
 }
