@@ -10,6 +10,9 @@ use Rattle.bkd_top.proofs.lines.run_made.Goals as goal
 pub answer_line-requires-after_bounds : goal.answer_line-requires-after_bounds
 answer_line-requires-after_bounds g c κs = λ _. (session_fits g.row.D c.requires.few, (c.requires.some, c.requires.few))
 
+pub finish-requires-after_bounds : goal.finish-requires-after_bounds
+finish-requires-after_bounds g c κs = λ _. session_fits g.row.D c.requires.few
+
 pub lines-init : goal.lines-init
 lines-init g c = record {
   going = λ told i stored h. goes_first g.row.D (g.F.Pages.files c.args.folder.now) c.args.session.now i stored _ _ _ _ h;

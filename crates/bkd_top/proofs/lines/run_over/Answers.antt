@@ -6,6 +6,9 @@ use Rattle.bkd_top.proofs.Ending.{cause_from}
 use Rattle.bkd_top.proofs.Lined.{place_on, unopened, fault_cause, origin_keeps}
 use Rattle.bkd_top.proofs.lines.run_over.Goals as goal
 
+pub open-requires : goal.open-requires
+open-requires g c = (session_fits g.row.D c.requires.few, (c.requires.some, (c.requires.few, (c.requires.dims, c.requires.made))))
+
 pub run_made-requires-after_bounds : goal.run_made-requires-after_bounds
 run_made-requires-after_bounds g c κs = λ _. (session_fits g.row.D c.requires.few, (c.requires.some, (c.requires.few, (c.requires.lines, c.requires.refused))))
 
