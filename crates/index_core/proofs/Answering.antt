@@ -30,8 +30,10 @@ use Rattle.segment_set.specs.Seen.{Sees}
 use Rattle.segment_set.specs.Kept.{Follows, KeepsNamed, StaysButCache}
 use Rattle.segment_set.proofs.Carried.{follows_same, keeps_calm}
 use Rattle.index_core.specs.Sessions.{SessionData}
+use Rattle.index_core.specs.Effects.{BringsCanonical}
 use Rattle.index_core.specs.Steps.{Applies, DoesOver, Place}
 use Rattle.index_core.specs.Replies.{add_answer, begin_answer, end_answer, snap_answer, text_after}
+use Rattle.index_core.proofs.Bringing.{brings_same}
 use Rattle.index_core.proofs.Guarding.{guards_after, kept_after_calls}
 
 -- ---- texts
@@ -131,15 +133,16 @@ does_as D files o p i s before after r same does = subst (λ (q : Outcome). Does
 
 -- ---- a command that doesn't commit
 
--- what a call on the set leaves of the session and of what guards its files
-pub record IsCalm (told : Type 0) (old new : Place) : Type 0 where
+-- what a call on the set leaves of the session and of what guards its files, and which segments it brings
+pub record IsCalm (D : ℕ) (told : Type 0) (old new : Place) : Type 0 where
   pub commit : new.session.commit ≡ old.session.commit
   pub refused : new.session.refused ≡ old.session.refused
   pub leaf : new.session.set.leaf ≡ old.session.set.leaf
   pub keeps : KeepsNamed told old.session.set.names new.session.set.names old.files new.files
   pub follows : Follows old.session.set.names old.session.set.parts new.session.set.parts
+  pub brings : told → BringsCanonical D old.files new.files old.session.set.parts new.session.set.parts
 
-pub applies : (D : ℕ) (told : Type 0) (outcome : Index → Outcome) (old new : Place) (r : Result Applied PageFault) → IsCalm told old new
+pub applies : (D : ℕ) (told : Type 0) (outcome : Index → Outcome) (old new : Place) (r : Result Applied PageFault) → IsCalm D told old new
     → (told → (i : Index) → Sees D old.files old.session.set i → DoesOver D new.files (outcome i) i new.session.set old.text new.text r)
     → Begins old.text new.text → HasPageCause old.faults new.faults r → (told → (i : Index) → Sees D old.files old.session.set i → NotDamaged r)
     → Applies D told outcome false old new r
@@ -151,6 +154,10 @@ applies D told outcome old new r calm does begins cause whole = record {
   stored = λ is_told i seen guards e. absurd cc;
   cause = cause;
   whole = λ is_told i seen guards. whole is_told i seen;
+  idle = λ is_told e unchanged. absurd cc;
+  unchanged = λ e. absurd cc;
+  anew = λ e changed. absurd cc;
+  canon = λ is_told i seen guards. calm.brings is_told;
 }
 
 -- where nothing was changed
@@ -165,6 +172,10 @@ applies_still D told outcome files session before after faults r does begins cau
   stored = λ is_told i seen guards e. absurd cc;
   cause = cause;
   whole = λ is_told i seen guards. whole;
+  idle = λ is_told e unchanged. refl;
+  unchanged = λ e. absurd cc;
+  anew = λ e changed. absurd cc;
+  canon = λ is_told i seen guards. brings_same D files files session.set.parts session.set.parts refl refl;
 }
 
 -- there was no memory for the reply, before anything was done
@@ -176,7 +187,7 @@ applies_memory D told outcome files session before after faults r is same =
     (λ i seen. does_fault D files (outcome i) i session.set before after page.Memory seen) ([], same ∙ sym (append-nil before)) (memory_cause faults faults (omega arith)) tt)
 
 -- the set handed a fault on, and is seen as before
-pub applies_fault : {T : Type 0} (D : ℕ) (told : Type 0) (outcome : Index → Outcome) (old new : Place) (r : Result Applied PageFault) (fault : PageFault) → IsCalm told old new → r ≡ Err fault
+pub applies_fault : {T : Type 0} (D : ℕ) (told : Type 0) (outcome : Index → Outcome) (old new : Place) (r : Result Applied PageFault) (fault : PageFault) → IsCalm D told old new → r ≡ Err fault
     → (told → (i : Index) → Sees D old.files old.session.set i → Sees D new.files new.session.set i) → Begins old.text new.text
     → HasPageCause {T = T} old.faults new.faults (Err fault) → (told → (i : Index) → Sees D old.files old.session.set i → NotDamaged {T = T} (Err fault)) → Applies D told outcome false old new r
 applies_fault D told outcome old new r fault calm same seen begins cause whole = applies D told outcome old new r calm
@@ -186,13 +197,13 @@ applies_fault D told outcome old new r fault calm same seen begins cause whole =
     (λ is_told i sees. subst NotDamaged (sym same) (whole is_told i sees))
 
 -- it was done, but there is no memory for the reply: the set is seen as before
-pub applies_unsaid : {T : Type 0} (D : ℕ) (told : Type 0) (outcome : Index → Outcome) (old new : Place) (r : Result Applied PageFault) (x : T) → IsCalm told old new → r ≡ Err page.Memory
+pub applies_unsaid : {T : Type 0} (D : ℕ) (told : Type 0) (outcome : Index → Outcome) (old new : Place) (r : Result Applied PageFault) (x : T) → IsCalm D told old new → r ≡ Err page.Memory
     → (told → (i : Index) → Sees D old.files old.session.set i → Sees D new.files new.session.set i) → new.text ≡ old.text → HasPageCause old.faults new.faults (Ok x) → Applies D told outcome false old new r
 applies_unsaid {T = T} D told outcome old new r x calm same seen text cause = applies_fault {T = T} D told outcome old new r page.Memory calm same seen
     ([], text ∙ sym (append-nil old.text)) (memory_cause old.faults new.faults cause.later) (λ is_told i sees. tt)
 
 -- a command whose call on the set is done, and whose reply was written
-pub applies_done : {T : Type 0} (D : ℕ) (told : Type 0) (outcome : Index → Outcome) (old new : Place) (x : T) (text : List ℕ) → IsCalm told old new
+pub applies_done : {T : Type 0} (D : ℕ) (told : Type 0) (outcome : Index → Outcome) (old new : Place) (x : T) (text : List ℕ) → IsCalm D told old new
     → (told → (i : Index) → Sees D old.files old.session.set i → DoesOver D new.files (outcome i) i new.session.set old.text new.text (Ok applied.Done))
     → new.text ≡ old.text ++ text → HasPageCause old.faults new.faults (Ok x) → Applies D told outcome false old new (Ok applied.Done)
 applies_done D told outcome old new x text calm does grew cause =
@@ -223,6 +234,10 @@ applies_told D told outcome committing old new r is = record {
   stored = λ is_told. is.stored tt;
   cause = is.cause;
   whole = λ is_told. is.whole tt;
+  idle = λ is_told. is.idle tt;
+  unchanged = is.unchanged;
+  anew = is.anew;
+  canon = λ is_told. is.canon tt;
 }
 
 -- another result, which is the same
@@ -240,30 +255,35 @@ applies_as D told o p committing old new r same is = record {
   stored = is.stored;
   cause = is.cause;
   whole = is.whole;
+  idle = is.idle;
+  unchanged = is.unchanged;
+  anew = is.anew;
+  canon = is.canon;
 }
 
 -- ---- calm calls
 
 -- a call that changes nothing that guards the files, nor a file
-pub calm_like : (told : Type 0) (files after : Files) (s t : SetData) (commit : Option CommitData) (refused : Bool) (text new_text : List ℕ) (faults new_faults : ℕ) → t.names ≡ s.names → t.leaf ≡ s.leaf
-    → Follows s.names s.parts t.parts → (told → after ≡ files)
-    → IsCalm told (record { files = files; session = record { set = s; commit = commit; refused = refused }; text = text; faults = faults })
+pub calm_like : (D : ℕ) (told : Type 0) (files after : Files) (s t : SetData) (commit : Option CommitData) (refused : Bool) (text new_text : List ℕ) (faults new_faults : ℕ) → t.names ≡ s.names → t.leaf ≡ s.leaf
+    → Follows s.names s.parts t.parts → (told → after ≡ files) → (told → BringsCanonical D files after s.parts t.parts)
+    → IsCalm D told (record { files = files; session = record { set = s; commit = commit; refused = refused }; text = text; faults = faults })
     (record { files = after; session = record { set = t; commit = commit; refused = refused }; text = new_text; faults = new_faults })
-calm_like told files after s t commit refused text new_text faults new_faults names leaf follows same = record {
+calm_like D told files after s t commit refused text new_text faults new_faults names leaf follows same brings = record {
   commit = refl;
   refused = refl;
   leaf = leaf;
   keeps = keeps_calm told s.names t.names files after names same;
   follows = follows;
+  brings = brings;
 }
 
 -- one that only reads
-pub calm_cache : (told : Type 0) (files after : Files) (s t : SetData) (commit : Option CommitData) (refused : Bool) (text new_text : List ℕ) (faults new_faults : ℕ) → StaysButCache s t → (told → after ≡ files)
-    → IsCalm told (record { files = files; session = record { set = s; commit = commit; refused = refused }; text = text; faults = faults })
+pub calm_cache : (D : ℕ) (told : Type 0) (files after : Files) (s t : SetData) (commit : Option CommitData) (refused : Bool) (text new_text : List ℕ) (faults new_faults : ℕ) → StaysButCache s t → (told → after ≡ files)
+    → IsCalm D told (record { files = files; session = record { set = s; commit = commit; refused = refused }; text = text; faults = faults })
     (record { files = after; session = record { set = t; commit = commit; refused = refused }; text = new_text; faults = new_faults })
-calm_cache told files after s t commit refused text new_text faults new_faults stays same =
-    calm_like told files after s t commit refused text new_text faults new_faults (ap (λ (u : SetData). u.names) stays.is) (ap (λ (u : SetData). u.leaf) stays.is)
-    (follows_same s.names s.parts t.parts (ap (λ (u : SetData). u.parts) stays.is)) same
+calm_cache D told files after s t commit refused text new_text faults new_faults stays same =
+    calm_like D told files after s t commit refused text new_text faults new_faults (ap (λ (u : SetData). u.names) stays.is) (ap (λ (u : SetData). u.leaf) stays.is)
+    (follows_same s.names s.parts t.parts (ap (λ (u : SetData). u.parts) stays.is)) same (λ is_told. brings_same D files after s.parts t.parts (same is_told) (ap (λ (u : SetData). u.parts) stays.is))
 
 -- a text that is cut to its length of before
 pub cut_back : (n : ℕ) (text more : List ℕ) → n ≡ length text → take n (text ++ more) ≡ text
@@ -288,13 +308,13 @@ whole_snap (Err snap.Taken) = tt
 whole_snap (Err snap.TooMany) = tt
 whole_snap (Err snap.Memory) = tt
 
-pub calm_snap : {T : Type 0} (told : Type 0) (files : Files) (s t : SetData) (views : List NamedView) (r : Result T SnapFault) (commit : Option CommitData) (refused : Bool) (text new_text : List ℕ) (faults : ℕ)
+pub calm_snap : {T : Type 0} (D : ℕ) (told : Type 0) (files : Files) (s t : SetData) (views : List NamedView) (r : Result T SnapFault) (commit : Option CommitData) (refused : Bool) (text new_text : List ℕ) (faults : ℕ)
     → OnOk r (t ≡ record s { snapshots = views }) → OnErr r (t ≡ s)
-    → IsCalm told (record { files = files; session = record { set = s; commit = commit; refused = refused }; text = text; faults = faults })
+    → IsCalm D told (record { files = files; session = record { set = s; commit = commit; refused = refused }; text = text; faults = faults })
     (record { files = files; session = record { set = t; commit = commit; refused = refused }; text = new_text; faults = faults })
-calm_snap told files s t views (Ok x) commit refused text new_text faults done same =
-    calm_like told files files s t commit refused text new_text faults faults (ap (λ (u : SetData). u.names) done) (ap (λ (u : SetData). u.leaf) done)
-    (follows_same s.names s.parts t.parts (ap (λ (u : SetData). u.parts) done)) (λ is_told. refl)
-calm_snap told files s t views (Err e) commit refused text new_text faults done same =
-    calm_like told files files s t commit refused text new_text faults faults (ap (λ (u : SetData). u.names) same) (ap (λ (u : SetData). u.leaf) same)
-    (follows_same s.names s.parts t.parts (ap (λ (u : SetData). u.parts) same)) (λ is_told. refl)
+calm_snap D told files s t views (Ok x) commit refused text new_text faults done same =
+    calm_like D told files files s t commit refused text new_text faults faults (ap (λ (u : SetData). u.names) done) (ap (λ (u : SetData). u.leaf) done)
+    (follows_same s.names s.parts t.parts (ap (λ (u : SetData). u.parts) done)) (λ is_told. refl) (λ is_told. brings_same D files files s.parts t.parts refl (ap (λ (u : SetData). u.parts) done))
+calm_snap D told files s t views (Err e) commit refused text new_text faults done same =
+    calm_like D told files files s t commit refused text new_text faults faults (ap (λ (u : SetData). u.names) same) (ap (λ (u : SetData). u.leaf) same)
+    (follows_same s.names s.parts t.parts (ap (λ (u : SetData). u.parts) same)) (λ is_told. refl) (λ is_told. brings_same D files files s.parts t.parts refl (ap (λ (u : SetData). u.parts) same))

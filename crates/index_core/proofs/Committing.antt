@@ -1,6 +1,7 @@
 -- What is stored: by a commit since which nothing changed, and by one that was written.
-use Rattle.std.proofs.Common.{◌≡◌, ◌≤◌, ℕ, true, false, List, [], ◌∷◌, ◌++◌, length, map, Option, Some, Result, Ok, Err, IfOk, OnOk, refl, sym, ap, subst, ◌∙◌, ◌⊎◌, inl, inr, ⊎_elim, arith}
+use Rattle.std.proofs.Common.{◌≡◌, ◌≤◌, ◌↔◌, ℕ, Bool, true, false, List, [], ◌∷◌, ◌++◌, length, map, Option, None, Some, Result, Ok, Err, IfOk, OnOk, refl, sym, ap, subst, ◌∙◌, ◌⊎◌, inl, inr, ⊎_elim, arith}
 use Rattle.std.specs.List.{All, AllZip, Contains, filter}
+use Rattle.std.proofs.lemmas.Bool.{both_ways}
 use Rattle.std.proofs.lemmas.List.{append-nil}
 use Rattle.std.proofs.lemmas.List.Elements.{All-head, All-tail}
 use Rattle.outer_io.specs.declared.file_name.FileName.{FileName}
@@ -28,11 +29,51 @@ use Rattle.index_model.specs.State.{Index, at_rest}
 use Rattle.segment_view.specs.Parts.{AreRead, Contents, IsRead, Part, ids_of, live_in_parts, lives_of}
 use Rattle.segment_set.specs.Sets.{IsWell, SetData}
 use Rattle.segment_set.specs.Seen.{Sees}
+use Rattle.segment_set.specs.Kept.{IsAsCommitted, IsCommitOf, StaysButFiles}
 use Rattle.segment_set.proofs.Standing.{stands_alike}
-use Rattle.index_core.specs.Sessions.{CoversPart, Guards, IsLast, IsLastCommit, IsUnchanged, ListsOnlyNamed, SessionData}
+use Rattle.index_core.specs.Sessions.{CoversPart, Guards, HasDims, IsLast, IsLastCommit, IsSound, IsUnchanged, ListsOnlyNamed, SessionData}
 use Rattle.index_core.specs.Steps.{KeepsOver, SaysCommit, Stores}
 use Rattle.index_core.proofs.Guarding.{cons_first, cons_rest, listed_still, says_some}
 use Rattle.index_core.proofs.Numbers.{same_live}
+
+-- ---- whether something changed
+
+pub some_same : {T : Type 0} (x y : T) → Some x ≡ Some y → x ≡ y
+some_same x y e = cc
+
+-- it did, where there is no commit, or one was refused
+pub changed_none : (s : SessionData) → s.commit ≡ None → (true ≡ false) ↔ IsUnchanged s
+changed_none s none = (λ e. absurd cc, λ u. let is = sym none ∙ u.is in absurd cc)
+
+pub changed_refused : (s : SessionData) → s.refused ≡ true → (true ≡ false) ↔ IsUnchanged s
+changed_refused s refused = (λ e. absurd cc, λ u. absurd (both_ways s.refused u.done refused))
+
+-- else just where the set differs from the commit
+pub changed_by : (s : SessionData) (c : CommitData) (differs : Bool) → s.commit ≡ Some c → s.refused ≡ false → ((differs ≡ false) ↔ IsAsCommitted s.set c) → (differs ≡ false) ↔ IsUnchanged s
+changed_by s c differs is done same = (
+  λ e. record { commit = c; is = is; done = done; same = same.0 e },
+  λ u. same.1 (subst (IsAsCommitted s.set) (some_same u.commit c (sym u.is ∙ is)) u.same),
+)
+
+-- a session that is as the commit says that its set saved, after a sweep
+saved_ids : (listed : List Listed) (parts : List Part) → AllZip (λ (l : Listed) (p : Part). (l.segment ≡ p.head.id) × (l.entries ≡ p.head.entries) × (l.live ≡ length p.live.live)) listed parts
+    → (ids_of parts ≡ map (λ l. l.segment) listed) × (map (λ p. length p.live.live) parts ≡ map (λ l. l.live) listed)
+saved_ids [] [] all = (refl, refl)
+saved_ids [] (p ∷ ps) all = absurd all
+saved_ids (l ∷ ls) [] all = absurd all
+saved_ids (l ∷ ls) (p ∷ ps) all =
+    let rest = saved_ids ls ps all.1 in
+    (ap (λ n. n ∷ ids_of ps) (sym all.0.0) ∙ ap (λ (ns : List ℕ). l.segment ∷ ns) rest.0, ap (λ n. n ∷ map (λ (q : Part). length q.live.live) ps) (sym all.0.2) ∙ ap (λ (ns : List ℕ). l.live ∷ ns) rest.1)
+
+pub as_committed : (D : ℕ) (s m t : SetData) (c : CommitData) → IsCommitOf D s c → s.buffer ≡ [] → m ≡ s → StaysButFiles m t → IsAsCommitted t c
+as_committed D s m t c of empty same stays = record {
+  next = ap (λ (u : SetData). u.next) stays.is ∙ ap (λ (u : SetData). u.next) same ∙ sym of.next;
+  given = ap (λ (u : SetData). u.given) stays.is ∙ ap (λ (u : SetData). u.given) same ∙ sym of.given;
+  ids = ap (λ (u : SetData). ids_of u.parts) stays.is ∙ ap (λ (u : SetData). ids_of u.parts) same ∙ (saved_ids c.listed s.parts of.lists).0;
+  counts = ap (λ (u : SetData). map (λ (p : Part). length p.live.live) u.parts) stays.is ∙ ap (λ (u : SetData). map (λ (p : Part). length p.live.live) u.parts) same
+      ∙ (saved_ids c.listed s.parts of.lists).1;
+  empty = ap (λ (u : SetData). u.buffer) stays.is ∙ ap (λ (u : SetData). u.buffer) same ∙ empty;
+}
 
 -- ---- a commit since which nothing changed
 
@@ -83,12 +124,15 @@ hold_parts D files contents c (l ∷ ls) (p ∷ ps) dims leaf read sets ids coun
       (cons_rest ids) (cons_rest counts) (λ m q inside there same. covers m q (cons_tail l ls m inside) (cons_tail p ps q there) same),
 )
 
-pub unchanged_is_stored : (D : ℕ) (files : Files) (s : SessionData) (i : Index) → IsUnchanged D s → Guards D files s → Sees D files s.set i → IsStored files (Some (at_rest i))
-unchanged_is_stored D files s i unchanged guards seen =
+pub unchanged_is_stored : (D : ℕ) (files : Files) (s : SessionData) (i : Index) → IsUnchanged s → IsSound D s → Guards D files s → Sees D files s.set i → IsStored files (Some (at_rest i))
+unchanged_is_stored D files s i unchanged sound guards seen =
     subst (λ (x : Index). IsStored files (Some x)) is (stored_from files c parts i.docs last.says held alone docs few)
   where
     c : CommitData
     c = unchanged.commit
+
+    dims : c.dims ≡ D
+    dims = subst (HasDims D) unchanged.is sound.dims
 
     last : IsLastCommit files s.set c
     last = subst (λ (o : Option CommitData). IsLast files s.set o) unchanged.is (guards.last unchanged.done)
@@ -104,10 +148,10 @@ unchanged_is_stored D files s i unchanged guards seen =
     entries = entries_of seen.contents s.set.parts ∙ sym (append-nil (live_in_parts seen.contents s.set.parts)) ∙ ap (λ (xs : List Item). live_in_parts seen.contents s.set.parts ++ xs) (sym unchanged.same.empty)
 
     held : HoldAll files c parts
-    held = hold_parts D files seen.contents c c.listed s.set.parts unchanged.dims (λ k d lt. unchanged.well.leaf_size k d lt ∙ sym leaf) seen.stands.now unchanged.sets unchanged.same.ids unchanged.same.counts last.covers
+    held = hold_parts D files seen.contents c c.listed s.set.parts dims (λ k d lt. sound.well.leaf_size k d lt ∙ sym leaf) seen.stands.now sound.sets unchanged.same.ids unchanged.same.counts last.covers
 
     alone : (number : ℕ) → places number (live_sets parts) ≤ 1
-    alone number = subst (λ (ss : List LiveSet). places number ss ≤ 1) (sym (sets_of seen.contents s.set.parts)) (omega (arith, unchanged.well.spread.alone number))
+    alone number = subst (λ (ss : List LiveSet). places number ss ≤ 1) (sym (sets_of seen.contents s.set.parts)) (omega (arith, sound.well.spread.alone number))
 
     docs : AreDocs c.next (all_live_entries parts) i.docs
     docs = subst (λ n. AreDocs n (all_live_entries parts) i.docs) unchanged.same.next (subst (λ (xs : List Item). AreDocs s.set.next xs i.docs) (sym entries) seen.docs)
@@ -117,7 +161,7 @@ unchanged_is_stored D files s i unchanged guards seen =
 
     is : index_of c i.docs ≡ at_rest i
     is = λ j. record {
-      dims = (unchanged.dims ∙ sym seen.dims) j;
+      dims = (dims ∙ sym seen.dims) j;
       leaf = (leaf ∙ sym seen.leaf) j;
       next = (sym unchanged.same.next ∙ sym seen.next) j;
       given = (sym unchanged.same.given ∙ sym seen.given) j;
@@ -127,7 +171,7 @@ unchanged_is_stored D files s i unchanged guards seen =
     }
 
 -- the Commit file says the session's commit, where none was refused
-pub unchanged_says : (D : ℕ) (files : Files) (s : SessionData) → IsUnchanged D s → Guards D files s → SaysCommit files s.commit
+pub unchanged_says : (D : ℕ) (files : Files) (s : SessionData) → IsUnchanged s → Guards D files s → SaysCommit files s.commit
 unchanged_says D files s unchanged guards =
     (unchanged.commit, unchanged.is, (subst (λ (o : Option CommitData). IsLast files s.set o) unchanged.is (guards.last unchanged.done)).says)
 

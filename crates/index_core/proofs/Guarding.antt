@@ -244,6 +244,11 @@ kept_swept f g s t c swept says = record {
   listed = λ d other m lists. swept.files m (inl (subst (λ (e : CommitData). ListsFile e m) (one_file (bytes_of (f Commit)) d c other says) lists));
 }
 
+-- what was saved, where it is the last commit
+pub saved_is : (saved commit : Option CommitData) → is_some commit ≡ true → saved ≡ commit → (c : CommitData) × (saved ≡ Some c)
+saved_is saved None some same = absurd cc
+saved_is saved (Some c) some same = (c, same)
+
 pub saved_some : (saved commit : Option CommitData) → is_some commit ≡ true → saved ≡ commit → saved ≡ None → ⊥
 saved_some saved commit some same none = let no : is_some {T = CommitData} None ≡ true = ap is_some (sym none ∙ same) ∙ some in absurd cc
 

@@ -5,3 +5,6 @@ pub mod Answering
 pub mod Changing
 pub mod Sizes
 pub mod Leaving
+pub mod Bringing
+pub mod Showing
+pub mod Keeping

@@ -1,5 +1,6 @@
 -- What done commands on segments leave of a set: the documents stay, and segments, buffer and begun merge are as these say.
-use Rattle.std.specs.Prelude.{◌≡◌, ◌≤◌, ℕ, true, List, [], length, All, None, Some, Result, Ok, Err}
+use Rattle.std.specs.Prelude.{◌≡◌, ◌≤◌, ◌⊎◌, ℕ, true, List, [], length, All, Contains, None, Some, Result, Ok, Err}
+use Rattle.outer_io.specs.declared.file_name.FileName.TheVariants.{Segment}
 use Rattle.outer_io.specs.Files.{Files}
 use Rattle.page_cache.specs.declared.faults.PageFault.{PageFault}
 use Rattle.live_bits.specs.LiveSet.{is_live}
@@ -9,17 +10,38 @@ use Rattle.script_lang.specs.Requests as asks
 use Rattle.index_model.specs.State.{Index}
 use Rattle.index_model.specs.declared.session.Applied.{Applied}
 use Rattle.index_model.specs.declared.session.Applied.TheVariants as applied
-use Rattle.segment_view.specs.Parts.{Contents, ids_of}
+use Rattle.segment_view.specs.Parts.{Contents, Part, ids_of}
 use Rattle.segment_set.specs.Sets.{BegunMerge, SetData, pins_of, sizes_of}
 use Rattle.segment_set.specs.Seen.{Sees, StandsOver}
-use Rattle.segment_set.specs.Kept.{AreCanonical, StaysButMerge}
+use Rattle.segment_set.specs.Kept.{AreCanonical, HasCanonical, StaysButMerge}
 use Rattle.segment_set.specs.Merged.{IsEnded, chosen_ids}
+use Rattle.index_core.specs.Sessions.{IsStill, SessionData}
 
 -- P holds where the command is done
 abbrev pub OnDone : Result Applied PageFault → Type 0 → Type 0
 OnDone (Ok applied.Done) P = P
 OnDone (Ok (applied.Refused why)) P = Unit {0}
 OnDone (Err fault) P = Unit {0}
+
+-- P holds where the command is refused
+abbrev pub OnRefused : Result Applied PageFault → Type 0 → Type 0
+OnRefused (Ok applied.Done) P = Unit {0}
+OnRefused (Ok (applied.Refused why)) P = P
+OnRefused (Err fault) P = Unit {0}
+
+-- blank lines and queries change nothing but the kept pages, whatever is answered, and what is refused doesn't either
+abbrev pub KeepsStill : (told : Type 0) → Request → (old new : Files) → (s t : SessionData) → Result Applied PageFault → Type 0
+KeepsStill told asks.Blank old new s t result = IsStill told old new s t
+KeepsStill told (asks.InBox view lo hi) old new s t result = IsStill told old new s t
+KeepsStill told (asks.InPolygon view rings) old new s t result = IsStill told old new s t
+KeepsStill told (asks.Nearest view k target) old new s t result = IsStill told old new s t
+KeepsStill told (asks.Create dims leaf) old new s t result = OnRefused result (IsStill told old new s t)
+KeepsStill told (asks.Add points) old new s t result = OnRefused result (IsStill told old new s t)
+KeepsStill told (asks.MergeBegin positions) old new s t result = OnRefused result (IsStill told old new s t)
+KeepsStill told asks.MergeEnd old new s t result = OnRefused result (IsStill told old new s t)
+KeepsStill told (asks.Snapshot name) old new s t result = OnRefused result (IsStill told old new s t)
+KeepsStill told (asks.Release name) old new s t result = OnRefused result (IsStill told old new s t)
+KeepsStill told _ old new s t result = Unit {0}
 
 -- nothing waits, no level has more than ten segments that are no inputs of the begun merge, and each segment of a new name is canonical
 pub record IsFlushed (D : ℕ) (told : Type 0) (files : Files) (s t : SetData) : Type 0 where
@@ -48,6 +70,17 @@ pub record HasEnded (D : ℕ) (told : Type 0) (files : Files) (s t : SetData) : 
   pub parts : (b : BegunMerge) → s.begun ≡ Some b → IsEnded b s.parts t.parts
   pub buffer : t.buffer ≡ s.buffer
   pub canon : told → AreCanonical D files s.names t.parts
+
+-- a segment of now is one of before, with its file as it was
+pub record IsOfBefore (old new : Files) (parts : List Part) (p : Part) : Type 0 where
+  pub part : Part
+  pub was : Contains parts part
+  pub head : part.head ≡ p.head
+  pub file : new (Segment p.head.id) ≡ old (Segment p.head.id)
+
+-- Each segment of now that isn't one of before is the canonical tree of entries that its file holds. What this says of one call after another it says of all.
+abbrev pub BringsCanonical : (D : ℕ) → (old new : Files) → (before now : List Part) → Type 0
+BringsCanonical D old new before now = (p : Part) → Contains now p → IsOfBefore old new before p ⊎ HasCanonical D new p.head
 
 -- what the request leaves of the set, once it is done
 abbrev pub Leaves : (D : ℕ) (told : Type 0) → Request → (files new_files : Files) → (s t : SetData) → Type 0

@@ -2,3 +2,5 @@ pub mod Sessions
 pub mod Steps
 pub mod Replies
 pub mod Effects
+pub mod Costs
+pub mod Damages

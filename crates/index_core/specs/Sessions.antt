@@ -10,9 +10,9 @@ use Rattle.commit_list.specs.Commits.{CommitData}
 use Rattle.commit_list.specs.CommitFiles.{IsCommitFile}
 use Rattle.stored_index.specs.Kept.{ListsFile}
 use Rattle.segment_view.specs.Parts.{Part}
-use Rattle.file_names.specs.Names.{is_named}
+use Rattle.file_names.specs.Names.{NameList, is_named}
 use Rattle.segment_set.specs.Sets.{SetData, IsWell}
-use Rattle.segment_set.specs.Kept.{IsAsCommitted, IsWithin}
+use Rattle.segment_set.specs.Kept.{IsAsCommitted, IsWithin, StaysButCache}
 
 -- the dimensions of a commit, where there is one
 abbrev pub HasDims : ℕ → Option CommitData → Type 0
@@ -66,11 +66,27 @@ pub record Guards (D : ℕ) (files : Files) (s : SessionData) : Type 0 where
   pub last : s.refused ≡ false → IsLast files s.set s.commit
 
 -- nothing changed since the last commit: there is one, none was refused since, and the set is as it says
-pub record IsUnchanged (D : ℕ) (s : SessionData) : Type 0 where
+pub record IsUnchanged (s : SessionData) : Type 0 where
   pub commit : CommitData
   pub is : s.commit ≡ Some commit
-  pub dims : commit.dims ≡ D
   pub done : s.refused ≡ false
   pub same : IsAsCommitted s.set commit
+
+-- nothing changed but the kept pages: the session is as before, and so is each file
+pub record IsStill (told : Type 0) (old new : Files) (s t : SessionData) : Type 0 where
+  pub set : StaysButCache s.set t.set
+  pub commit : t.commit ≡ s.commit
+  pub refused : t.refused ≡ s.refused
+  pub files : told → new ≡ old
+
+-- what each session keeps to: its commit has its dimensions, the live numbers of each segment are a set, and its set keeps to its rules
+pub record IsSound (D : ℕ) (s : SessionData) : Type 0 where
+  pub dims : HasDims D s.commit
   pub sets : All (λ p. IsLiveSet p.live) s.set.parts
   pub well : IsWell D s.set
+
+-- the session's commit was written anew: no file of live bits that it lists has a name that was in the list
+pub record IsCommitAnew (names : NameList) (s : SessionData) : Type 0 where
+  pub commit : CommitData
+  pub is : s.commit ≡ Some commit
+  pub fresh : All (λ l. is_named names.names (Live l.segment l.generation) ≡ false) commit.listed

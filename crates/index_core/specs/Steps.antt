@@ -18,7 +18,8 @@ use Rattle.stored_index.specs.Stored.{IsStored}
 use Rattle.stored_index.specs.Kept.{SameKept}
 use Rattle.segment_set.specs.Sets.{SetData}
 use Rattle.segment_set.specs.Seen.{Sees}
-use Rattle.index_core.specs.Sessions.{SessionData, Guards}
+use Rattle.index_core.specs.Sessions.{SessionData, Guards, IsCommitAnew, IsUnchanged}
+use Rattle.index_core.specs.Effects.{BringsCanonical, OnDone}
 
 -- the set is seen as the state that a done command leaves
 abbrev pub SeesState : ℕ → Files → SetData → State → Type 0
@@ -79,3 +80,7 @@ pub record Applies (D : ℕ) (told : Type 0) (outcome : Index → Outcome) (comm
   pub stored : told → (i : Index) → Sees D old.files old.session.set i → Guards D old.files old.session → committing ≡ true → Stores old.files new.files i new.session.set result
   pub cause : HasPageCause old.faults new.faults result
   pub whole : told → (i : Index) → Sees D old.files old.session.set i → Guards D old.files old.session → NotDamaged result
+  pub idle : told → committing ≡ true → IsUnchanged old.session → new.files ≡ old.files
+  pub unchanged : committing ≡ true → OnDone result (IsUnchanged new.session)
+  pub anew : committing ≡ true → (IsUnchanged old.session → ⊥) → OnDone result (IsCommitAnew old.session.set.names new.session)
+  pub canon : told → (i : Index) → Sees D old.files old.session.set i → Guards D old.files old.session → BringsCanonical D old.files new.files old.session.set.parts new.session.set.parts

@@ -5,7 +5,11 @@ ghost use Rattle.outer_io.specs.Files.{Files};
 ghost use Rattle.script_lang.specs.Requests as asks;
 ghost use Rattle.index_model.specs.Step.{step_on};
 ghost use Rattle.index_core.specs.Steps.{Applies};
-ghost use Rattle.index_core.specs.Effects.{HasBegun, HasEnded, IsFlushed, IsMergedAll, OnDone};
+ghost use Rattle.page_cache.specs.Evidence.{NotDamaged};
+ghost use Rattle.index_core.specs.Costs.{ReadsAtMost};
+ghost use Rattle.index_core.specs.Damages.{ShowsDamage};
+ghost use Rattle.index_core.specs.Sessions.{IsStill};
+ghost use Rattle.index_core.specs.Effects.{HasBegun, HasEnded, IsFlushed, IsMergedAll, KeepsStill, OnDone, OnRefused};
 
 use crate::replies::{add_answer, begin_answer, end_answer, snap_answer, take_back};
 use crate::session::Session;
@@ -31,9 +35,12 @@ impl<const D: usize> Session<D> {
         out: &mut Vec<u8>,
         gate: &G,
     ) -> Result<Applied, PageFault>
-        ensures { Applies D (IsTrue F.told) (λ i. step_on i (asks.Add points.now)) false
+        ensures applies { Applies D (IsTrue F.told) (λ i. step_on i (asks.Add points.now)) false
             (record { files = F.files folder.old; session = self.old; text = out.old.items; faults = F.faults folder.old })
             (record { files = F.files folder.new; session = self.new; text = out.new.items; faults = F.faults folder.new }) result }
+        ensures reads { ReadsAtMost D (IsTrue F.told) (asks.Add points.now) (F.files folder.old) self.old (F.reads folder.old) (F.reads folder.new) }
+        ensures damage { ShowsDamage D (IsTrue F.told) (asks.Add points.now) (F.files folder.old) (F.files folder.new) self.old self.new result }
+        ensures still { KeepsStill (IsTrue F.told) (asks.Add points.now) (F.files folder.old) (F.files folder.new) self.old self.new result }
     {
         if self.is_full(points) {
             return Ok(Applied::Refused(Why::Full));
@@ -52,9 +59,10 @@ impl<const D: usize> Session<D> {
 
     /// Deletes a document. The reply that it was live is written first, since it can't be brought back.
     pub(crate) fn delete(&mut self, doc: u32, out: &mut Vec<u8>) -> Result<Applied, PageFault>
-        ensures { (files : Files) (faults : ℕ) → Applies D (Unit {0}) (λ i. step_on i (asks.Delete doc)) false
+        ensures applies { (files : Files) (faults : ℕ) → Applies D (Unit {0}) (λ i. step_on i (asks.Delete doc)) false
             (record { files = files; session = self.old; text = out.old.items; faults = faults })
             (record { files = files; session = self.new; text = out.new.items; faults = faults }) result }
+        ensures damage { NotDamaged result }
     {
         let before = out.len();
         put_deleted(out, 1)?;
@@ -75,9 +83,11 @@ impl<const D: usize> Session<D> {
         hi: &Point<D>,
         out: &mut Vec<u8>,
     ) -> Result<Applied, PageFault>
-        ensures { Applies D (IsTrue F.told) (λ i. step_on i (asks.DeleteBox lo.now.c hi.now.c)) false
+        ensures applies { Applies D (IsTrue F.told) (λ i. step_on i (asks.DeleteBox lo.now.c hi.now.c)) false
             (record { files = F.files folder.old; session = self.old; text = out.old.items; faults = F.faults folder.old })
             (record { files = F.files folder.new; session = self.new; text = out.new.items; faults = F.faults folder.new }) result }
+        ensures reads { ReadsAtMost D (IsTrue F.told) (asks.DeleteBox lo.now.c hi.now.c) (F.files folder.old) self.old (F.reads folder.old) (F.reads folder.new) }
+        ensures damage { ShowsDamage D (IsTrue F.told) (asks.DeleteBox lo.now.c hi.now.c) (F.files folder.old) (F.files folder.new) self.old self.new result }
     {
         let mut shape = BoxShape::new(*lo, *hi);
         let hits = self.set.visit(alloc, folder, &View::Now, &mut shape)?;
@@ -86,6 +96,8 @@ impl<const D: usize> Session<D> {
         };
         put_deleted(out, count)?;
         self.set.delete_all(hits.as_slice());
+        // its segments are all named
+        let _leaf = self.set.leaf();
         Ok(Applied::Done)
     }
 
@@ -102,6 +114,7 @@ impl<const D: usize> Session<D> {
             (record { files = F.files folder.old; session = self.old; text = out.old.items; faults = F.faults folder.old })
             (record { files = F.files folder.new; session = self.new; text = out.new.items; faults = F.faults folder.new }) result }
         ensures leaves { OnDone result (IsFlushed D (IsTrue F.told) (F.files folder.new) self.old.set self.new.set) }
+        ensures damage { ShowsDamage D (IsTrue F.told) asks.Flush (F.files folder.old) (F.files folder.new) self.old self.new result }
     {
         self.set.flush(rt, alloc, folder, gate)?;
         put_ok(out)?;
@@ -121,6 +134,7 @@ impl<const D: usize> Session<D> {
             (record { files = F.files folder.old; session = self.old; text = out.old.items; faults = F.faults folder.old })
             (record { files = F.files folder.new; session = self.new; text = out.new.items; faults = F.faults folder.new }) result }
         ensures leaves { OnDone result (IsMergedAll D (IsTrue F.told) (F.files folder.old) (F.files folder.new) self.old.set self.new.set) }
+        ensures damage { ShowsDamage D (IsTrue F.told) asks.Merge (F.files folder.old) (F.files folder.new) self.old self.new result }
     {
         self.set.merge_all(rt, alloc, folder, gate)?;
         put_ok(out)?;
@@ -141,6 +155,8 @@ impl<const D: usize> Session<D> {
             (record { files = F.files folder.old; session = self.old; text = out.old.items; faults = F.faults folder.old })
             (record { files = F.files folder.new; session = self.new; text = out.new.items; faults = F.faults folder.new }) result }
         ensures leaves { OnDone result (HasBegun which.now self.old.set self.new.set) }
+        ensures damage { ShowsDamage D (IsTrue F.told) (asks.MergeBegin which.now) (F.files folder.old) (F.files folder.new) self.old self.new result }
+        ensures still { KeepsStill (IsTrue F.told) (asks.MergeBegin which.now) (F.files folder.old) (F.files folder.new) self.old self.new result }
     {
         if self.set.is_merging() {
             return Ok(Applied::Refused(Why::Begun));
@@ -160,6 +176,9 @@ impl<const D: usize> Session<D> {
             (record { files = F.files folder.old; session = self.old; text = out.old.items; faults = F.faults folder.old })
             (record { files = F.files folder.new; session = self.new; text = out.new.items; faults = F.faults folder.new }) result }
         ensures leaves { OnDone result (HasEnded D (IsTrue F.told) (F.files folder.new) self.old.set self.new.set) }
+        ensures reads { ReadsAtMost D (IsTrue F.told) asks.MergeEnd (F.files folder.old) self.old (F.reads folder.old) (F.reads folder.new) }
+        ensures damage { ShowsDamage D (IsTrue F.told) asks.MergeEnd (F.files folder.old) (F.files folder.new) self.old self.new result }
+        ensures still { KeepsStill (IsTrue F.told) asks.MergeEnd (F.files folder.old) (F.files folder.new) self.old self.new result }
     {
         if !self.set.is_merging() {
             return Ok(Applied::Refused(Why::NotBegun));
@@ -175,9 +194,11 @@ impl<const D: usize> Session<D> {
         name: &Name,
         out: &mut Vec<u8>,
     ) -> Result<Applied, PageFault>
-        ensures { (files : Files) (faults : ℕ) → Applies D (Unit {0}) (λ i. step_on i (asks.Snapshot name.now)) false
+        ensures applies { (files : Files) (faults : ℕ) → Applies D (Unit {0}) (λ i. step_on i (asks.Snapshot name.now)) false
             (record { files = files; session = self.old; text = out.old.items; faults = faults })
             (record { files = files; session = self.new; text = out.new.items; faults = faults }) result }
+        ensures damage { NotDamaged result }
+        ensures still { (files : Files) → OnRefused result (IsStill (Unit {0}) files files self.old self.new) }
     {
         let before = out.len();
         put_ok(out)?;
@@ -188,9 +209,11 @@ impl<const D: usize> Session<D> {
 
     /// Lets the snapshot of a name go.
     pub(crate) fn release(&mut self, name: &Name, out: &mut Vec<u8>) -> Result<Applied, PageFault>
-        ensures { (files : Files) (faults : ℕ) → Applies D (Unit {0}) (λ i. step_on i (asks.Release name.now)) false
+        ensures applies { (files : Files) (faults : ℕ) → Applies D (Unit {0}) (λ i. step_on i (asks.Release name.now)) false
             (record { files = files; session = self.old; text = out.old.items; faults = faults })
             (record { files = files; session = self.new; text = out.new.items; faults = faults }) result }
+        ensures damage { NotDamaged result }
+        ensures still { (files : Files) → OnRefused result (IsStill (Unit {0}) files files self.old self.new) }
     {
         if !self.set.has_snapshot(name) {
             return Ok(Applied::Refused(Why::UnknownSnapshot));

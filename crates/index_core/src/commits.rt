@@ -1,12 +1,13 @@
 //! Commits, and sessions anew over one.
 
-ghost use Rattle.std.specs.Prelude.{◌≡◌, ◌⊎◌, ℕ, [], Some, true, false, IsTrue, IsSome, IfOk, OnOk};
+ghost use Rattle.std.specs.Prelude.{◌≡◌, ◌↔◌, ◌⊎◌, ℕ, [], Some, true, false, Contains, IsTrue, IsSome, IsOk, IfOk, OnOk};
 ghost use Rattle.std.specs.List.{AllZip};
-ghost use Rattle.outer_io.specs.Files.{Files, bytes_of};
+ghost use Rattle.outer_io.specs.Files.{Files, SameButTwo, bytes_of};
 ghost use Rattle.outer_io.specs.declared.file_name.FileName.{FileName};
-ghost use Rattle.outer_io.specs.declared.file_name.FileName.TheVariants.{Commit as CommitName, Live};
+ghost use Rattle.outer_io.specs.declared.file_name.FileName.TheVariants.{Commit as CommitName, CommitNew, Live, Segment};
 ghost use Rattle.page_cache.specs.Causes.{HasPageCause};
-ghost use Rattle.page_cache.specs.Evidence.{NotDamaged};
+ghost use Rattle.page_cache.specs.Evidence.{NotDamaged, OnDamage};
+ghost use Rattle.commit_list.specs.Commits.{CommitData};
 ghost use Rattle.commit_list.specs.CommitFiles.{IsCommitFile};
 ghost use Rattle.script_lang.specs.Requests as asks;
 ghost use Rattle.segment_file.specs.LiveFiles.{IsLiveFile};
@@ -15,8 +16,13 @@ ghost use Rattle.index_model.specs.Step.{step_on};
 ghost use Rattle.stored_index.specs.Stored.{IsStored};
 ghost use Rattle.stored_index.specs.Kept.{ListsFile, SameKept};
 ghost use Rattle.segment_set.specs.Seen.{Sees};
-ghost use Rattle.segment_set.specs.Kept.{IsCommitOf, StaysButFiles};
-ghost use Rattle.index_core.specs.Sessions.{Guards, GuardsSet, IsUnchanged};
+ghost use Rattle.segment_view.specs.Parts.{Part};
+ghost use Rattle.segment_set.specs.Damages.{IsAttachDamage, IsAttachDamageOf};
+ghost use Rattle.segment_set.specs.Kept.{IsAsCommitted, IsCommitOf, StaysButFiles};
+ghost use Rattle.index_core.specs.Sessions.{Guards, GuardsSet, IsCommitAnew, IsSound, IsUnchanged};
+ghost use Rattle.index_core.specs.Costs.{ReadsAtMost};
+ghost use Rattle.index_core.specs.Damages.{ShowsDamage, ShowsMerge};
+ghost use Rattle.index_core.specs.Effects.{BringsCanonical};
 ghost use Rattle.index_core.specs.Steps.{Applies, KeepsOver, SaysCommit, Stores};
 
 use crate::session::Session;
@@ -51,8 +57,18 @@ impl<const D: usize> Session<D> {
             → Stores (F.files folder.old) (F.files folder.new) i self.new.set result }
         ensures emptied { OnOk result (self.new.set.buffer ≡ []) }
         ensures committed { OnOk result (IsSome self.new.commit × (self.new.refused ≡ false)) }
+        // where nothing changed it is done, with no call on the folder
+        ensures idle { IsUnchanged self.old → IsOk result × (self.new ≡ self.old)
+            × (F.files folder.new ≡ F.files folder.old) × (F.reads folder.new ≡ F.reads folder.old) }
+        // where something did, the commit is written anew; and once it is done nothing is changed
+        ensures anew { (IsUnchanged self.old → ⊥) → OnOk result (IsCommitAnew self.old.set.names self.new) }
+        ensures unchanged { OnOk result (IsUnchanged self.new) }
+        // each segment that is written is canonical, whatever is answered
+        ensures canon { IsTrue F.told → BringsCanonical D (F.files folder.old) (F.files folder.new) self.old.set.parts self.new.set.parts }
         ensures cause { HasPageCause (F.faults folder.old) (F.faults folder.new) result }
         ensures whole { IsTrue F.told → (i : Index) → Sees D (F.files folder.old) self.old.set i → NotDamaged result }
+        // what a damage shows
+        ensures damage { ShowsMerge D (IsTrue F.told) (F.files folder.old) (F.files folder.new) self.old.set result }
     {
         if !self.is_changed() {
             return Ok(());
@@ -64,7 +80,8 @@ impl<const D: usize> Session<D> {
 
     /// Whether something isn't as the last commit says.
     fn is_changed(&self) -> bool
-        ensures { result ≡ false → IsUnchanged D self.now }
+        ensures unchanged { (result ≡ false) ↔ IsUnchanged self.now }
+        ensures sound { result ≡ false → IsSound D self.now }
     {
         let _leaf = self.set.leaf();
         let Some(commit) = &self.commit else {
@@ -87,6 +104,7 @@ impl<const D: usize> Session<D> {
         requires saved { self.old.set.saved ≡ Some commit }
         requires emptied { self.old.set.buffer ≡ [] }
         ensures set { self.new.set ≡ self.old.set }
+        ensures others { IsTrue F.told → SameButTwo CommitNew CommitName (F.files folder.old) (F.files folder.new) }
         ensures written { OnOk result ((self.new.commit ≡ Some commit) × (self.new.refused ≡ false)) }
         ensures seen { IsTrue F.told → (i : Index) → Sees D (F.files folder.old) self.old.set i → Sees D (F.files folder.new) self.new.set i }
         ensures guards { IsTrue F.told → GuardsSet D (F.files folder.old) self.old.set
@@ -118,6 +136,7 @@ impl<const D: usize> Session<D> {
         requires saved { IsSome self.old.commit × (self.old.set.saved ≡ self.old.commit) }
         requires written { self.old.refused ≡ false }
         ensures alone { StaysButFiles self.old.set self.new.set }
+        ensures segments { IsTrue F.told → (p : Part) → Contains self.old.set.parts p → F.files folder.new (Segment p.head.id) ≡ F.files folder.old (Segment p.head.id) }
         ensures written { (self.new.commit ≡ self.old.commit) × (self.new.refused ≡ false) }
         ensures seen { IsTrue F.told → (i : Index) → Sees D (F.files folder.old) self.old.set i → Sees D (F.files folder.new) self.new.set i }
         ensures guards { IsTrue F.told → Guards D (F.files folder.old) self.old → Guards D (F.files folder.new) self.new }
@@ -140,9 +159,11 @@ impl<const D: usize> Session<D> {
         out: &mut Vec<u8>,
         gate: &G,
     ) -> Result<Applied, PageFault>
-        ensures { Applies D (IsTrue F.told) (λ i. step_on i asks.Commit) true
+        ensures applies { Applies D (IsTrue F.told) (λ i. step_on i asks.Commit) true
             (record { files = F.files folder.old; session = self.old; text = out.old.items; faults = F.faults folder.old })
             (record { files = F.files folder.new; session = self.new; text = out.new.items; faults = F.faults folder.new }) result }
+        ensures reads { ReadsAtMost D (IsTrue F.told) asks.Commit (F.files folder.old) self.old (F.reads folder.old) (F.reads folder.new) }
+        ensures damage { ShowsDamage D (IsTrue F.told) asks.Commit (F.files folder.old) (F.files folder.new) self.old self.new result }
     {
         self.commit(rt, alloc, folder, gate)?;
         put_ok(out)?;
@@ -158,9 +179,10 @@ impl<const D: usize> Session<D> {
         out: &mut Vec<u8>,
         gate: &G,
     ) -> Result<Applied, PageFault>
-        ensures { Applies D (IsTrue F.told) (λ i. step_on i asks.Reopen) true
+        ensures applies { Applies D (IsTrue F.told) (λ i. step_on i asks.Reopen) true
             (record { files = F.files folder.old; session = self.old; text = out.old.items; faults = F.faults folder.old })
             (record { files = F.files folder.new; session = self.new; text = out.new.items; faults = F.faults folder.new }) result }
+        ensures damage { ShowsDamage D (IsTrue F.told) asks.Reopen (F.files folder.old) (F.files folder.new) self.old self.new result }
     {
         self.commit(rt, alloc, folder, gate)?;
         let set = self.attach_anew(alloc, folder)?;
@@ -180,9 +202,12 @@ impl<const D: usize> Session<D> {
             → IfOk result (λ s. Sees D (F.files folder.old) s i) }
         ensures guards { IsTrue F.told → self.now.refused ≡ false → Guards D (F.files folder.old) self.now → IfOk result (λ s. Guards D (F.files folder.old) (record self.now { set = s })) }
         ensures emptied { IfOk result (λ s. s.buffer ≡ []) }
+        ensures unchanged { (c : CommitData) → self.now.commit ≡ Some c → IfOk result (λ s. IsAsCommitted s c) }
         ensures files { IsTrue F.told → F.files folder.new ≡ F.files folder.old }
         ensures cause { HasPageCause (F.faults folder.old) (F.faults folder.new) result }
         ensures whole { IsTrue F.told → self.now.refused ≡ false → Guards D (F.files folder.old) self.now → (state : State) → IsStored (F.files folder.old) state → NotDamaged result }
+        ensures shown { (c : CommitData) → self.now.commit ≡ Some c → OnDamage result (IsAttachDamage c) }
+        ensures damage { IsTrue F.told → (c : CommitData) → self.now.commit ≡ Some c → OnDamage result (IsAttachDamageOf (F.files folder.old) c) }
     {
         let Some(commit) = &self.commit else {
             unreachable!()

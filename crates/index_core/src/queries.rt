@@ -7,7 +7,11 @@ ghost use Rattle.script_lang.specs.Replies.{hits_text};
 ghost use Rattle.script_lang.specs.Seen.{viewed};
 ghost use Rattle.index_model.specs.State.{viewed_docs};
 ghost use Rattle.index_model.specs.Step.{answered, step_on};
-ghost use Rattle.segment_set.specs.Sets.{HasView};
+ghost use Rattle.segment_set.specs.Sets.{HasView, viewed_parts};
+ghost use Rattle.index_core.specs.Costs.{ReadsAtMost, ReadsTouched};
+ghost use Rattle.index_core.specs.Damages.{ShowsDamage, ShowsLeaf};
+ghost use Rattle.index_core.specs.Sessions.{IsStill};
+ghost use Rattle.index_core.specs.Effects.{KeepsStill};
 ghost use Rattle.index_core.specs.Steps.{Applies};
 
 use crate::session::Session;
@@ -41,9 +45,12 @@ impl<const D: usize> Session<D> {
         shape: &mut S,
         out: &mut Vec<u8>,
     ) -> Result<Applied, PageFault>
-        ensures { Applies D (IsTrue F.told) (λ i. answered i (viewed_docs (viewed view.now) i) (λ docs. hits_text (hits (S.has shape.old) docs))) false
+        ensures applies { Applies D (IsTrue F.told) (λ i. answered i (viewed_docs (viewed view.now) i) (λ docs. hits_text (hits (S.has shape.old) docs))) false
             (record { files = F.files folder.old; session = self.old; text = out.old.items; faults = F.faults folder.old })
             (record { files = F.files folder.new; session = self.new; text = out.new.items; faults = F.faults folder.new }) result }
+        ensures reads { ReadsTouched D (S.has shape.old) (S.crosses shape.old) (viewed_parts (viewed view.now) self.old.set) (F.reads folder.old) (F.reads folder.new) }
+        ensures damage { ShowsLeaf D (IsTrue F.told) (F.files folder.old) self.old.set (viewed_parts (viewed view.now) self.old.set) result }
+        ensures still { IsStill (IsTrue F.told) (F.files folder.old) (F.files folder.new) self.old self.new }
     {
         if !self.has_view(view) {
             return Ok(Applied::Refused(Why::UnknownSnapshot));
@@ -62,9 +69,12 @@ impl<const D: usize> Session<D> {
         rings: &Rings,
         out: &mut Vec<u8>,
     ) -> Result<Applied, PageFault>
-        ensures { Applies D (IsTrue F.told) (λ i. step_on i (asks.InPolygon (viewed view.now) rings.now)) false
+        ensures applies { Applies D (IsTrue F.told) (λ i. step_on i (asks.InPolygon (viewed view.now) rings.now)) false
             (record { files = F.files folder.old; session = self.old; text = out.old.items; faults = F.faults folder.old })
             (record { files = F.files folder.new; session = self.new; text = out.new.items; faults = F.faults folder.new }) result }
+        ensures reads { ReadsAtMost D (IsTrue F.told) (asks.InPolygon (viewed view.now) rings.now) (F.files folder.old) self.old (F.reads folder.old) (F.reads folder.new) }
+        ensures damage { ShowsDamage D (IsTrue F.told) (asks.InPolygon (viewed view.now) rings.now) (F.files folder.old) (F.files folder.new) self.old self.new result }
+        ensures still { KeepsStill (IsTrue F.told) (asks.InPolygon (viewed view.now) rings.now) (F.files folder.old) (F.files folder.new) self.old self.new result }
     {
         let mut shape = PolygonShape::new(alloc, rings)?;
         self.find(alloc, folder, view, &mut shape, out)
@@ -82,9 +92,12 @@ impl<const D: usize> Session<D> {
     ) -> Result<Applied, PageFault>
         requires some { 1 ≤ k }
         requires few { k ≤ 10000 }
-        ensures { Applies D (IsTrue F.told) (λ i. step_on i (asks.Nearest (viewed view.now) k at.now.c)) false
+        ensures applies { Applies D (IsTrue F.told) (λ i. step_on i (asks.Nearest (viewed view.now) k at.now.c)) false
             (record { files = F.files folder.old; session = self.old; text = out.old.items; faults = F.faults folder.old })
             (record { files = F.files folder.new; session = self.new; text = out.new.items; faults = F.faults folder.new }) result }
+        ensures reads { ReadsAtMost D (IsTrue F.told) (asks.Nearest (viewed view.now) k at.now.c) (F.files folder.old) self.old (F.reads folder.old) (F.reads folder.new) }
+        ensures damage { ShowsDamage D (IsTrue F.told) (asks.Nearest (viewed view.now) k at.now.c) (F.files folder.old) (F.files folder.new) self.old self.new result }
+        ensures still { KeepsStill (IsTrue F.told) (asks.Nearest (viewed view.now) k at.now.c) (F.files folder.old) (F.files folder.new) self.old self.new result }
     {
         if !self.has_view(view) {
             return Ok(Applied::Refused(Why::UnknownSnapshot));

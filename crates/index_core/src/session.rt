@@ -1,6 +1,6 @@
 //! The session.
 
-ghost use Rattle.std.specs.Prelude.{◌≡◌, ◌≤◌, ℕ, [], None, Some, true, false, IsTrue, IfOk, OnOk, OnErr};
+ghost use Rattle.std.specs.Prelude.{◌≡◌, ◌≤◌, ◌+◌, ℕ, List, [], None, Some, true, false, IsTrue, IfOk, OnOk, OnErr};
 ghost use Rattle.outer_io.specs.Files.{Files, bytes_of};
 ghost use Rattle.outer_io.specs.declared.file_name.FileName.TheVariants.{Commit as CommitName};
 ghost use Rattle.leaf_codec.specs.Leaves.{leaf_limit};
@@ -11,7 +11,11 @@ ghost use Rattle.bkd_reader.specs.Hits.{Begins};
 ghost use Rattle.script_lang.specs.Seen.{IsWithinLimits, request_of};
 ghost use Rattle.index_model.specs.State.{Index, State, at_rest, new_index};
 ghost use Rattle.index_model.specs.Step.{step_on};
-ghost use Rattle.stored_index.specs.Stored.{IsStored, IsUndefined};
+ghost use Rattle.live_bits.specs.LiveSet.{LiveSet};
+ghost use Rattle.segment_file.specs.Heads.{Head};
+ghost use Rattle.stored_index.specs.Stored.{HaveHeads, HaveLive, IsStored, IsUndefined};
+ghost use Rattle.stored_index.specs.Opening.{segments_pages};
+ghost use Rattle.segment_set.specs.Damages.{IsAttachDamage, IsAttachDamageOf};
 ghost use Rattle.segment_set.specs.Seen.{Sees};
 
 use bkd_build::Gate;
@@ -47,9 +51,11 @@ impl<const D: usize> Model for Session<D> {
 }
 
 impl<const D: usize> Session<D> {
-    ghost use Rattle.index_core.specs.Sessions.{Guards};
+    ghost use Rattle.index_core.specs.Sessions.{Guards, IsCommitAnew, IsUnchanged};
     ghost use Rattle.index_core.specs.Steps.{Applies, DoesOver, KeepsOver, Stores, is_committing};
-    ghost use Rattle.index_core.specs.Effects.{Leaves, OnDone};
+    ghost use Rattle.index_core.specs.Costs.{ReadsAtMost};
+    ghost use Rattle.index_core.specs.Damages.{ShowsDamage};
+    ghost use Rattle.index_core.specs.Effects.{BringsCanonical, KeepsStill, Leaves, OnDone};
 
     /// A session over a folder that has no index: one without documents.
     pub fn create(alloc: Global, leaf: u16, settings: Settings) -> Result<Session<D>, Memory>
@@ -80,7 +86,15 @@ impl<const D: usize> Session<D> {
         ensures guards { IsTrue F.told → IsCommitFile (bytes_of (F.files folder.old CommitName)) commit → IfOk result (Guards D (F.files folder.old)) }
         ensures files { IsTrue F.told → F.files folder.new ≡ F.files folder.old }
         ensures cause { HasPageCause (F.faults folder.old) (F.faults folder.new) result }
+        ensures unchanged { IfOk result IsUnchanged }
         ensures whole { IsTrue F.told → IsCommitFile (bytes_of (F.files folder.old CommitName)) commit → (state : State) → IsStored (F.files folder.old) state → NotDamaged result }
+        // it reads what opening the segments reads
+        ensures reads { IsTrue F.told → (heads : List Head) (sets : List LiveSet) → HaveHeads (F.files folder.old) commit heads → HaveLive (F.files folder.old) commit sets
+            → F.reads folder.new ≤ F.reads folder.old + segments_pages (F.files folder.old) commit.listed heads }
+        // where there is a damage nothing is stored
+        ensures undefined { IsTrue F.told → IsCommitFile (bytes_of (F.files folder.old CommitName)) commit → OnDamage result (λ _. IsUndefined (F.files folder.old)) }
+        ensures shown { OnDamage result (IsAttachDamage commit) }
+        ensures damage { IsTrue F.told → OnDamage result (IsAttachDamageOf (F.files folder.old) commit) }
     {
         let _dims = commit.dims();
         Ok(Session {
@@ -115,6 +129,18 @@ impl<const D: usize> Session<D> {
         ensures leaves { OnDone result (Leaves D (IsTrue F.told) (request_of c.now) (F.files folder.old) (F.files folder.new) self.old.set self.new.set) }
         ensures cause { HasPageCause (F.faults folder.old) (F.faults folder.new) result }
         ensures whole { IsTrue F.told → (i : Index) → Sees D (F.files folder.old) self.old.set i → Guards D (F.files folder.old) self.old → NotDamaged result }
+        // a request that commits changes no file where nothing changed, and else writes the commit anew; once it is done nothing is changed
+        ensures idle { IsTrue F.told → is_committing (request_of c.now) ≡ true → IsUnchanged self.old → F.files folder.new ≡ F.files folder.old }
+        ensures unchanged { is_committing (request_of c.now) ≡ true → OnDone result (IsUnchanged self.new) }
+        ensures anew { is_committing (request_of c.now) ≡ true → (IsUnchanged self.old → ⊥) → OnDone result (IsCommitAnew self.old.set.names self.new) }
+        // each segment that is written is canonical, whatever is answered
+        ensures canon { IsTrue F.told → (i : Index) → Sees D (F.files folder.old) self.old.set i → Guards D (F.files folder.old) self.old
+            → BringsCanonical D (F.files folder.old) (F.files folder.new) self.old.set.parts self.new.set.parts }
+        // what it costs, and what a damage shows
+        ensures reads { ReadsAtMost D (IsTrue F.told) (request_of c.now) (F.files folder.old) self.old (F.reads folder.old) (F.reads folder.new) }
+        ensures damage { ShowsDamage D (IsTrue F.told) (request_of c.now) (F.files folder.old) (F.files folder.new) self.old self.new result }
+        // blank lines, queries and what is refused leave all but the kept pages
+        ensures still { KeepsStill (IsTrue F.told) (request_of c.now) (F.files folder.old) (F.files folder.new) self.old self.new result }
     {
         self.step(rt, alloc, folder, c, out, gate)
     }
@@ -134,6 +160,9 @@ impl<const D: usize> Session<D> {
             (record { files = F.files folder.old; session = self.old; text = out.old.items; faults = F.faults folder.old })
             (record { files = F.files folder.new; session = self.new; text = out.new.items; faults = F.faults folder.new }) result }
         ensures leaves { OnDone result (Leaves D (IsTrue F.told) (request_of c.now) (F.files folder.old) (F.files folder.new) self.old.set self.new.set) }
+        ensures reads { ReadsAtMost D (IsTrue F.told) (request_of c.now) (F.files folder.old) self.old (F.reads folder.old) (F.reads folder.new) }
+        ensures damage { ShowsDamage D (IsTrue F.told) (request_of c.now) (F.files folder.old) (F.files folder.new) self.old self.new result }
+        ensures still { KeepsStill (IsTrue F.told) (request_of c.now) (F.files folder.old) (F.files folder.new) self.old self.new result }
     {
         match c {
             Command::Blank => Ok(Applied::Done),

@@ -10,25 +10,32 @@ use Rattle.index_core.proofs.Answering.{applies, applies_is, applies_memory, app
 use Rattle.index_core.proofs.Changing.{does_add, does_full, not_full}
 use Rattle.segment_set.proofs.Sizes.{set_fits}
 use Rattle.std.proofs.Common.{lit<}
+use Rattle.index_core.proofs.Bringing.{brings_written}
+use Rattle.std.proofs.Common.{◌≤◌, IsTrue, subst}
+use Rattle.page_cache.specs.declared.faults.PageFault.TheVariants as page
+use Rattle.index_core.specs.Replies.{add_answer}
+use Rattle.index_core.specs.Damages.{ShowsMerge}
+use Rattle.index_core.proofs.Showing.{add_shows, damage_to, merge_none}
+use Rattle.index_core.proofs.Keeping.{add_keeps, answer_keeps, fault_keeps, still_same}
 use Rattle.index_core.proofs.session.Session.add.Goals as goal
 
-pub returns-then-is_full : goal.returns-then-is_full
-returns-then-is_full g c = applies_refused _ _ _ _ _ _ _ why.Full (λ i seen. does_full _ _ _ i _ _ seen (sym c.is_full.ensures ∙ c.if-is_full.true))
+pub returns-then-is_full-clause-applies : goal.returns-then-is_full-clause-applies
+returns-then-is_full-clause-applies g c = applies_refused _ _ _ _ _ _ _ why.Full (λ i seen. does_full _ _ _ i _ _ seen (sym c.is_full.ensures ∙ c.if-is_full.true))
 
-pub returns-in_err-put_doc : goal.returns-in_err-put_doc
-returns-in_err-put_doc g c =
+pub returns-in_err-put_doc-clause-applies : goal.returns-in_err-put_doc-clause-applies
+returns-in_err-put_doc-clause-applies g c =
     let p = err_from_is_err_and c.from_residual.result c.from_residual.ensures.1 in
     applies_memory _ _ _ _ _ _ _ _ _ (p.1 ∙ ap (λ (e : PageFault). Err e) p.2) c.in_err-put_doc.ensures.memory
 
-pub returns : goal.returns
-returns g c =
+pub returns-clause-applies : goal.returns-clause-applies
+returns-clause-applies g c =
     let fits : nat_lt (2 ^ 24) (c.self.inside.set.given + length c.args.points.now) ≡ false =
     ap (λ (u : SessionData). nat_lt (2 ^ 24) (u.set.given + length c.args.points.now)) c.self.view_is ∙ sym c.is_full.ensures ∙ c.if-is_full.false in
     let full = not_full c.add.result (c.self.inside.set.given + length c.args.points.now) fits c.add.ensures.full in
     applies_is _ _ _ _ _ _ _ _ c.add_answer.ensures
     (applies_seen _ _ _ _ _ _ _ _ _ _ _ c.self.view_is
     (applies _ _ _ _ _ _
-    (record { commit = refl; refused = refl; leaf = c.add.ensures.leaf; keeps = c.add.ensures.kept; follows = c.add.ensures.follows })
+    (record { commit = refl; refused = refl; leaf = c.add.ensures.leaf; keeps = c.add.ensures.kept; follows = c.add.ensures.follows; brings = λ told. brings_written _ _ _ _ _ _ _ _ told c.add.ensures.kept c.add.ensures.follows (c.add.ensures.canon told) })
     (λ told i seen. does_add _ _ _ _ _ i _ c.add.result _ _ seen fits full (c.add.ensures.seen told i seen) (c.add.ensures.refused told i seen)
     (c.in_ok-put_doc.ensures.ok ∙ ap (λ n. c.args.out.now.items ++ doc_text n) c.next.ensures))
     (begins_with _ _ _ c.in_ok-put_doc.ensures.ok)
@@ -40,3 +47,43 @@ next-requires g c = set_fits g.row.D c.self.invariant.few
 
 pub add-requires-after_bounds : goal.add-requires-after_bounds
 add-requires-after_bounds g c κs = λ _. (set_fits g.row.D c.self.invariant.few, lit< tt)
+
+pub returns-then-is_full-clause-reads : goal.returns-then-is_full-clause-reads
+returns-then-is_full-clause-reads g c room = refl
+
+pub returns-in_err-put_doc-clause-reads : goal.returns-in_err-put_doc-clause-reads
+returns-in_err-put_doc-clause-reads g c room = refl
+
+pub returns-clause-reads : goal.returns-clause-reads
+returns-clause-reads g c = subst (λ (u : SessionData). length u.set.buffer + length c.args.points.now ≤ 16384 → g.F.Pages.reads c.add.new.folder ≡ g.F.Pages.reads c.args.folder.now) c.self.view_is c.add.ensures.unread
+
+pub returns-then-is_full-clause-damage : goal.returns-then-is_full-clause-damage
+returns-then-is_full-clause-damage g c = merge_none _ _ _ _ _ _ tt
+
+pub returns-in_err-put_doc-clause-damage : goal.returns-in_err-put_doc-clause-damage
+returns-in_err-put_doc-clause-damage g c =
+    let p = err_from_is_err_and c.from_residual.result c.from_residual.ensures.1 in
+    merge_none _ _ _ _ _ _ (damage_to _ _ page.Memory (p.1 ∙ ap (λ (e : PageFault). Err e) p.2) tt)
+
+pub returns-clause-damage : goal.returns-clause-damage
+returns-clause-damage g c =
+    subst (ShowsMerge g.row.D (IsTrue g.F.Pages.told) (g.F.Pages.files c.args.folder.now) (g.F.Pages.files c.add.new.folder) c.args.self.now.set) (sym c.add_answer.ensures)
+    (subst (λ (u : SessionData). ShowsMerge g.row.D (IsTrue g.F.Pages.told) (g.F.Pages.files c.args.folder.now) (g.F.Pages.files c.add.new.folder) u.set (add_answer c.add.result)) c.self.view_is
+    (record {
+      shown = add_shows _ c.add.result c.add.ensures.shown;
+      damage = λ told agrees. add_shows _ c.add.result (c.add.ensures.damage told agrees);
+      doubled = λ told agrees contents read. add_shows _ c.add.result (c.add.ensures.doubled told agrees contents read);
+    }))
+
+pub returns-then-is_full-clause-still : goal.returns-then-is_full-clause-still
+returns-then-is_full-clause-still g c = still_same _ _ _
+
+pub returns-in_err-put_doc-clause-still : goal.returns-in_err-put_doc-clause-still
+returns-in_err-put_doc-clause-still g c =
+    let p = err_from_is_err_and c.from_residual.result c.from_residual.ensures.1 in
+    fault_keeps _ _ _ (p.1 ∙ ap (λ (e : PageFault). Err e) p.2)
+
+pub returns-clause-still : goal.returns-clause-still
+returns-clause-still g c =
+    let fits : nat_lt (2 ^ 24) (c.self.inside.set.given + length c.args.points.now) ≡ false = ap (λ (u : SessionData). nat_lt (2 ^ 24) (u.set.given + length c.args.points.now)) c.self.view_is ∙ sym c.is_full.ensures ∙ c.if-is_full.false in
+    answer_keeps _ _ _ c.add_answer.ensures (add_keeps _ c.add.result (not_full c.add.result (c.self.inside.set.given + length c.args.points.now) fits c.add.ensures.full))

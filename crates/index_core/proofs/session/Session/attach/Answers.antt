@@ -11,6 +11,9 @@ pub returns-clause-guards : goal.returns-clause-guards
 returns-clause-guards g c told says =
     guards_attached _ _ _ c.args.commit refl c.requires says c.in_ok-attach.ensures.commit c.in_ok-attach.ensures.names (c.in_ok-attach.ensures.live told)
 
+pub returns-clause-unchanged : goal.returns-clause-unchanged
+returns-clause-unchanged g c = record { commit = c.args.commit; is = refl; done = refl; same = c.in_ok-attach.ensures.commit.as_committed }
+
 pub attach-requires : goal.attach-requires
 attach-requires g c = (set_fits g.row.D (subst (λ n. n ≤ 8) c.requires c.dims-dims.ensures.commit.ranges.most_dims), c.requires)
 
@@ -21,3 +24,18 @@ returns-in_err-attach-clause-cause g c =
 
 pub returns-clause-cause : goal.returns-clause-cause
 returns-clause-cause g c = done_cause _ _ _ _ c.in_ok-attach.ensures.cause
+
+pub returns-in_err-attach-clause-shown : goal.returns-in_err-attach-clause-shown
+returns-in_err-attach-clause-shown g c =
+    let p = err_from_is_err_and c.from_residual.result c.from_residual.ensures.1 in
+    rw (p.1, p.2) (c.in_err-attach.ensures.shown)
+
+pub returns-in_err-attach-clause-damage : goal.returns-in_err-attach-clause-damage
+returns-in_err-attach-clause-damage g c told =
+    let p = err_from_is_err_and c.from_residual.result c.from_residual.ensures.1 in
+    rw (p.1, p.2) (c.in_err-attach.ensures.damage told)
+
+pub returns-in_err-attach-clause-undefined : goal.returns-in_err-attach-clause-undefined
+returns-in_err-attach-clause-undefined g c told says =
+    let p = err_from_is_err_and c.from_residual.result c.from_residual.ensures.1 in
+    rw (p.1, p.2) (c.in_err-attach.ensures.undefined told says)

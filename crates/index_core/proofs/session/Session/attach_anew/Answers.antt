@@ -1,9 +1,12 @@
 -- The set is attached over the commit that the file says.
-use Rattle.std.proofs.Common.{subst}
-use Rattle.index_core.specs.Sessions.{HasDims}
+use Rattle.std.proofs.Common.{subst, sym, ap, ◌∙◌}
+use Rattle.segment_set.specs.Kept.{IsAsCommitted}
+use Rattle.index_core.specs.Sessions.{HasDims, SessionData}
 use Rattle.index_core.proofs.Guarding.{guards_anew, says_last}
-use Rattle.index_core.proofs.Committing.{on_ok_each}
+use Rattle.index_core.proofs.Committing.{on_ok_each, some_same}
 use Rattle.segment_set.proofs.Sizes.{set_fits}
+use Rattle.page_cache.specs.Evidence.{OnDamage}
+use Rattle.segment_set.specs.Damages.{IsAttachDamage, IsAttachDamageOf}
 use Rattle.index_core.proofs.session.Session.attach_anew.Goals as goal
 
 pub attach-requires : goal.attach-requires
@@ -19,5 +22,15 @@ returns-clause-guards g c told done guards = guards_anew _ _ _ _ _ c.attach.resu
 pub returns-clause-emptied : goal.returns-clause-emptied
 returns-clause-emptied g c = on_ok_each (λ s rest. rest.as_committed.empty) c.attach.result c.attach.ensures.commit
 
+pub returns-clause-unchanged : goal.returns-clause-unchanged
+returns-clause-unchanged g c last is =
+    on_ok_each (λ s rest. subst (IsAsCommitted s) (some_same _ _ (sym c.in-Some.is ∙ ap (λ (u : SessionData). u.commit) c.self.view_is ∙ is)) rest.as_committed) c.attach.result c.attach.ensures.commit
+
 pub returns-clause-whole : goal.returns-clause-whole
 returns-clause-whole g c told done guards state stored = c.attach.ensures.whole told (says_last _ _ _ _ c.self.view_is c.in-Some.is done guards) state stored
+
+pub returns-clause-shown : goal.returns-clause-shown
+returns-clause-shown g c last is = subst (λ d. OnDamage c.attach.result (IsAttachDamage d)) (some_same _ _ (sym c.in-Some.is ∙ ap (λ (u : SessionData). u.commit) c.self.view_is ∙ is)) c.attach.ensures.shown
+
+pub returns-clause-damage : goal.returns-clause-damage
+returns-clause-damage g c told last is = subst (λ d. OnDamage c.attach.result (IsAttachDamageOf (g.F.Pages.files c.args.folder.now) d)) (some_same _ _ (sym c.in-Some.is ∙ ap (λ (u : SessionData). u.commit) c.self.view_is ∙ is)) (c.attach.ensures.damage told)

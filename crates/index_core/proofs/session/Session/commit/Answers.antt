@@ -1,34 +1,40 @@
 -- Nothing changed, or the commit was saved, written and swept up after.
 use Rattle.std.proofs.Common.{Err, Some, is_some, refl, sym, ap, subst, ◌∙◌, inl, inr}
+use Rattle.std.proofs.lemmas.Bool.{both_ways}
 use Rattle.std.proofs.lemmas.Result.{err_from_is_err_and}
 use Rattle.page_cache.specs.declared.faults.PageFault.{PageFault}
 use Rattle.stored_index.proofs.KeptFiles.{kept_itself, stored_still}
 use Rattle.segment_set.specs.Sets.{SetData}
 use Rattle.segment_set.specs.Seen.{Sees}
-use Rattle.index_core.specs.Sessions.{Guards, SessionData}
+use Rattle.index_core.specs.Sessions.{Guards, IsCommitAnew, SessionData}
+use Rattle.index_core.specs.Effects.{BringsCanonical}
+use Rattle.index_core.proofs.Bringing.{brings_same, brings_still, brings_then, brings_two, brings_written}
 use Rattle.index_core.proofs.Guarding.{guards_after, kept_after_calls, set_after}
-use Rattle.index_core.proofs.Committing.{keeps_any, keeps_fault, kept_on, on_ok_any, on_ok_none, says_still, stores_any, stores_fault, unchanged_is_stored, unchanged_says}
+use Rattle.index_core.proofs.Committing.{as_committed, keeps_any, keeps_fault, kept_on, on_ok_any, on_ok_none, says_still, stores_any, stores_fault, unchanged_is_stored, unchanged_says}
 use Rattle.segment_set.proofs.Sizes.{set_fits}
 use Rattle.index_core.proofs.Sizes.{session_fits}
 use Rattle.index_model.specs.State.{at_rest}
+use Rattle.std.proofs.Common.{IsTrue}
+use Rattle.index_core.specs.Damages.{ShowsMerge}
+use Rattle.index_core.proofs.Showing.{damage_to, merge_none, merge_to}
 use Rattle.index_core.proofs.session.Session.commit.Goals as goal
 
 pub returns-then-not-is_changed-clause-kept : goal.returns-then-not-is_changed-clause-kept
-returns-then-not-is_changed-clause-kept g c told guards = unchanged_says _ _ _ (c.is_changed.ensures c.if-not-is_changed.true) guards
+returns-then-not-is_changed-clause-kept g c told guards = unchanged_says _ _ _ (c.is_changed.ensures.unchanged.0 c.if-not-is_changed.true) guards
 
 pub returns-then-not-is_changed-clause-flight : goal.returns-then-not-is_changed-clause-flight
 returns-then-not-is_changed-clause-flight g c told guards = inl (kept_itself _)
 
 pub returns-then-not-is_changed-clause-stored : goal.returns-then-not-is_changed-clause-stored
 returns-then-not-is_changed-clause-stored g c told i seen guards =
-    (unchanged_is_stored _ _ _ i (c.is_changed.ensures c.if-not-is_changed.true) guards seen, (c.is_changed.ensures c.if-not-is_changed.true).same.empty)
+    (unchanged_is_stored _ _ _ i (c.is_changed.ensures.unchanged.0 c.if-not-is_changed.true) (c.is_changed.ensures.sound c.if-not-is_changed.true) guards seen, (c.is_changed.ensures.unchanged.0 c.if-not-is_changed.true).same.empty)
 
 pub returns-then-not-is_changed-clause-emptied : goal.returns-then-not-is_changed-clause-emptied
-returns-then-not-is_changed-clause-emptied g c = (c.is_changed.ensures c.if-not-is_changed.true).same.empty
+returns-then-not-is_changed-clause-emptied g c = (c.is_changed.ensures.unchanged.0 c.if-not-is_changed.true).same.empty
 
 pub returns-then-not-is_changed-clause-committed : goal.returns-then-not-is_changed-clause-committed
 returns-then-not-is_changed-clause-committed g c =
-    let unchanged = c.is_changed.ensures c.if-not-is_changed.true in
+    let unchanged = c.is_changed.ensures.unchanged.0 c.if-not-is_changed.true in
     (ap is_some unchanged.is, unchanged.done)
 
 pub returns-in_err-commit-clause-seen : goal.returns-in_err-commit-clause-seen
@@ -125,3 +131,90 @@ pub returns-in_err-commit-clause-whole : goal.returns-in_err-commit-clause-whole
 returns-in_err-commit-clause-whole g c told i seen =
     let p = err_from_is_err_and c.from_residual.result c.from_residual.ensures.1 in
     rw (p.1, p.2) (c.in_err-commit.ensures.whole told i (subst (λ (u : SessionData). Sees g.row.D (g.F.Pages.files c.args.folder.now) u.set i) (sym c.self.view_is) seen))
+
+pub returns-then-not-is_changed-clause-idle : goal.returns-then-not-is_changed-clause-idle
+returns-then-not-is_changed-clause-idle g c unchanged = (refl, refl, refl, refl)
+
+pub returns-then-not-is_changed-clause-anew : goal.returns-then-not-is_changed-clause-anew
+returns-then-not-is_changed-clause-anew g c changed = absurd (changed (c.is_changed.ensures.unchanged.0 c.if-not-is_changed.true))
+
+pub returns-then-not-is_changed-clause-unchanged : goal.returns-then-not-is_changed-clause-unchanged
+returns-then-not-is_changed-clause-unchanged g c = c.is_changed.ensures.unchanged.0 c.if-not-is_changed.true
+
+pub returns-then-not-is_changed-clause-canon : goal.returns-then-not-is_changed-clause-canon
+returns-then-not-is_changed-clause-canon g c told = brings_same _ _ _ _ _ refl refl
+
+pub returns-in_err-commit-clause-idle : goal.returns-in_err-commit-clause-idle
+returns-in_err-commit-clause-idle g c unchanged = absurd (both_ways c.is_changed.result (c.is_changed.ensures.unchanged.1 unchanged) c.if-not-is_changed.false)
+
+pub returns-in_err-commit-clause-anew : goal.returns-in_err-commit-clause-anew
+returns-in_err-commit-clause-anew g c changed =
+    let p = err_from_is_err_and c.from_residual.result c.from_residual.ensures.1 in
+    on_ok_none _ _ _ p.1
+
+pub returns-in_err-commit-clause-unchanged : goal.returns-in_err-commit-clause-unchanged
+returns-in_err-commit-clause-unchanged g c =
+    let p = err_from_is_err_and c.from_residual.result c.from_residual.ensures.1 in
+    on_ok_none _ _ _ p.1
+
+pub returns-in_err-write-clause-idle : goal.returns-in_err-write-clause-idle
+returns-in_err-write-clause-idle g c unchanged = absurd (both_ways c.is_changed.result (c.is_changed.ensures.unchanged.1 unchanged) c.if-not-is_changed.false)
+
+pub returns-in_err-write-clause-anew : goal.returns-in_err-write-clause-anew
+returns-in_err-write-clause-anew g c changed =
+    let p = err_from_is_err_and c.from_residual-in_err-write.result c.from_residual-in_err-write.ensures.1 in
+    on_ok_none _ _ _ p.1
+
+pub returns-in_err-write-clause-unchanged : goal.returns-in_err-write-clause-unchanged
+returns-in_err-write-clause-unchanged g c =
+    let p = err_from_is_err_and c.from_residual-in_err-write.result c.from_residual-in_err-write.ensures.1 in
+    on_ok_none _ _ _ p.1
+
+pub returns-clause-idle : goal.returns-clause-idle
+returns-clause-idle g c unchanged = absurd (both_ways c.is_changed.result (c.is_changed.ensures.unchanged.1 unchanged) c.if-not-is_changed.false)
+
+pub returns-clause-anew : goal.returns-clause-anew
+returns-clause-anew g c changed = on_ok_any c.sweep.result (subst (λ (u : SessionData). IsCommitAnew u.set.names c.sweep.new.self) c.self.view_is (record {
+  commit = c.in_ok-commit.commit;
+  is = c.sweep.ensures.written.0 ∙ c.in_ok-write.ensures.written.0;
+  fresh = c.in_ok-commit.ensures.fresh;
+}))
+
+pub returns-clause-unchanged : goal.returns-clause-unchanged
+returns-clause-unchanged g c = on_ok_any c.sweep.result (record {
+  commit = c.in_ok-commit.commit;
+  is = c.sweep.ensures.written.0 ∙ c.in_ok-write.ensures.written.0;
+  done = c.sweep.ensures.written.1;
+  same = as_committed _ _ _ _ _ c.in_ok-commit.ensures.commit c.in_ok-commit.ensures.emptied c.write.ensures.set c.sweep.ensures.alone;
+})
+
+pub returns-in_err-commit-clause-canon : goal.returns-in_err-commit-clause-canon
+returns-in_err-commit-clause-canon g c told = subst (λ (u : SessionData). BringsCanonical g.row.D (g.F.Pages.files c.args.folder.now) (g.F.Pages.files c.save.new.folder) u.set.parts c.save.new.self.parts) c.self.view_is
+    (brings_written _ _ _ _ _ _ _ _ told c.save.ensures.kept c.save.ensures.follows (c.save.ensures.canon told))
+
+pub returns-in_err-write-clause-canon : goal.returns-in_err-write-clause-canon
+returns-in_err-write-clause-canon g c told = subst (λ (u : SessionData). BringsCanonical g.row.D (g.F.Pages.files c.args.folder.now) (g.F.Pages.files c.write.new.folder) u.set.parts c.write.new.self.set.parts) c.self.view_is
+    (brings_then _ _ _ _ _ c.save.new.self.parts _ (brings_written _ _ _ _ _ _ _ _ told c.save.ensures.kept c.save.ensures.follows (c.save.ensures.canon told)) (brings_two _ _ _ _ _ (c.write.ensures.others told) (ap (λ (u : SetData). u.parts) c.write.ensures.set)))
+
+pub returns-clause-canon : goal.returns-clause-canon
+returns-clause-canon g c told = subst (λ (u : SessionData). BringsCanonical g.row.D (g.F.Pages.files c.args.folder.now) (g.F.Pages.files c.sweep.new.folder) u.set.parts c.sweep.new.self.set.parts) c.self.view_is
+    (brings_then _ _ _ _ _ c.write.new.self.set.parts _
+    (brings_then _ _ _ _ _ c.save.new.self.parts _ (brings_written _ _ _ _ _ _ _ _ told c.save.ensures.kept c.save.ensures.follows (c.save.ensures.canon told)) (brings_two _ _ _ _ _ (c.write.ensures.others told) (ap (λ (u : SetData). u.parts) c.write.ensures.set)))
+    (brings_still _ _ _ _ _ (c.sweep.ensures.segments told) (ap (λ (u : SetData). u.parts) c.sweep.ensures.alone.is)))
+
+pub returns-then-not-is_changed-clause-damage : goal.returns-then-not-is_changed-clause-damage
+returns-then-not-is_changed-clause-damage g c = merge_none _ _ _ _ _ _ tt
+
+pub returns-in_err-commit-clause-damage : goal.returns-in_err-commit-clause-damage
+returns-in_err-commit-clause-damage g c =
+    let p = err_from_is_err_and c.from_residual.result c.from_residual.ensures.1 in
+    subst (λ (u : SessionData). ShowsMerge g.row.D (IsTrue g.F.Pages.told) (g.F.Pages.files c.args.folder.now) (g.F.Pages.files c.save.new.folder) u.set c.from_residual.result) c.self.view_is
+    (merge_to {T = Unit {0}} _ _ _ _ _ _ c.in_err-commit.field-0.0 (p.1 ∙ ap (λ (e : PageFault). Err e) p.2) (record { shown = c.in_err-commit.ensures.shown; damage = c.in_err-commit.ensures.damage; doubled = c.in_err-commit.ensures.doubled }))
+
+pub returns-in_err-write-clause-damage : goal.returns-in_err-write-clause-damage
+returns-in_err-write-clause-damage g c =
+    let p = err_from_is_err_and c.from_residual-in_err-write.result c.from_residual-in_err-write.ensures.1 in
+    merge_none _ _ _ _ _ _ (damage_to _ _ c.in_err-write.field-0.0 (p.1 ∙ ap (λ (e : PageFault). Err e) p.2) c.in_err-write.ensures.whole)
+
+pub returns-clause-damage : goal.returns-clause-damage
+returns-clause-damage g c = merge_none _ _ _ _ _ _ c.sweep.ensures.whole

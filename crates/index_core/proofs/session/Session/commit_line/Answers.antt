@@ -6,11 +6,13 @@ use Rattle.script_lang.specs.Replies.{ok_text}
 use Rattle.index_model.specs.Step.{step_on}
 use Rattle.index_model.specs.declared.session.Applied.TheVariants as applied
 use Rattle.index_core.proofs.Answering.{applies_is, begins_itself, begins_same, begins_with, does_done, does_fault, done_cause, fault_to, memory_cause}
+use Rattle.page_cache.specs.declared.faults.PageFault.TheVariants as page
+use Rattle.index_core.proofs.Showing.{damage_to, merge_none, merge_to}
 use Rattle.index_core.proofs.session.Session.commit_line.Goals as goal
 
-pub returns : goal.returns
+pub returns-clause-applies : goal.returns-clause-applies
 unfolding step_on
-returns g c = record {
+returns-clause-applies g c = record {
   does = λ told i seen guards. does_done _ _ i i _ ok_text _ _ (c.commit.ensures.seen told i seen) c.in_ok-put_ok.ensures.ok;
   begins = begins_with _ _ _ c.in_ok-put_ok.ensures.ok;
   guards = c.commit.ensures.guards;
@@ -18,10 +20,14 @@ returns g c = record {
   stored = λ told i seen guards e. c.in_ok-commit.ensures.stored told i seen guards;
   cause = done_cause _ _ c.in_ok-commit.field-0 applied.Done c.in_ok-commit.ensures.cause;
   whole = λ told i seen guards. tt;
+  idle = λ told e unchanged. (c.commit.ensures.idle unchanged).2;
+  unchanged = λ e. c.in_ok-commit.ensures.unchanged;
+  anew = λ e. c.in_ok-commit.ensures.anew;
+  canon = λ told i seen guards. c.commit.ensures.canon told;
 }
 
-pub returns-in_err-commit : goal.returns-in_err-commit
-returns-in_err-commit g c =
+pub returns-in_err-commit-clause-applies : goal.returns-in_err-commit-clause-applies
+returns-in_err-commit-clause-applies g c =
     let p = err_from_is_err_and c.from_residual.result c.from_residual.ensures.1 in
     applies_is _ _ _ _ _ _ _ _ (p.1 ∙ ap (λ (e : PageFault). Err e) p.2) (record {
       does = λ told i seen guards. does_fault _ _ _ i _ _ _ _ (c.commit.ensures.seen told i seen);
@@ -31,10 +37,14 @@ returns-in_err-commit g c =
       stored = λ told i seen guards e. c.in_err-commit.ensures.stored told i seen guards;
       cause = fault_to _ _ c.in_err-commit.field-0.0 c.in_err-commit.ensures.cause;
       whole = λ told i seen guards. c.in_err-commit.ensures.whole told i seen;
+      idle = λ told e unchanged. (c.commit.ensures.idle unchanged).2;
+      unchanged = λ e. tt;
+      anew = λ e changed. tt;
+      canon = λ told i seen guards. c.commit.ensures.canon told;
     })
 
-pub returns-in_err-put_ok : goal.returns-in_err-put_ok
-returns-in_err-put_ok g c =
+pub returns-in_err-put_ok-clause-applies : goal.returns-in_err-put_ok-clause-applies
+returns-in_err-put_ok-clause-applies g c =
     let p = err_from_is_err_and c.from_residual-in_err-put_ok.result c.from_residual-in_err-put_ok.ensures.1 in
     applies_is _ _ _ _ _ _ _ _ (p.1 ∙ ap (λ (e : PageFault). Err e) p.2) (record {
       does = λ told i seen guards. does_fault _ _ _ i _ _ _ _ (c.commit.ensures.seen told i seen);
@@ -44,4 +54,30 @@ returns-in_err-put_ok g c =
       stored = λ told i seen guards e. inr (c.in_ok-commit.ensures.stored told i seen guards).0;
       cause = memory_cause _ _ c.commit.ensures.cause.later;
       whole = λ told i seen guards. tt;
+      idle = λ told e unchanged. (c.commit.ensures.idle unchanged).2;
+      unchanged = λ e. tt;
+      anew = λ e changed. tt;
+      canon = λ told i seen guards. c.commit.ensures.canon told;
     })
+
+pub returns-in_err-commit-clause-reads : goal.returns-in_err-commit-clause-reads
+returns-in_err-commit-clause-reads g c unchanged = (c.commit.ensures.idle unchanged).3
+
+pub returns-in_err-put_ok-clause-reads : goal.returns-in_err-put_ok-clause-reads
+returns-in_err-put_ok-clause-reads g c unchanged = (c.commit.ensures.idle unchanged).3
+
+pub returns-clause-reads : goal.returns-clause-reads
+returns-clause-reads g c unchanged = (c.commit.ensures.idle unchanged).3
+
+pub returns-in_err-commit-clause-damage : goal.returns-in_err-commit-clause-damage
+returns-in_err-commit-clause-damage g c =
+    let p = err_from_is_err_and c.from_residual.result c.from_residual.ensures.1 in
+    merge_to _ _ _ _ _ _ c.in_err-commit.field-0.0 (p.1 ∙ ap (λ (e : PageFault). Err e) p.2) c.in_err-commit.ensures.damage
+
+pub returns-in_err-put_ok-clause-damage : goal.returns-in_err-put_ok-clause-damage
+returns-in_err-put_ok-clause-damage g c =
+    let p = err_from_is_err_and c.from_residual-in_err-put_ok.result c.from_residual-in_err-put_ok.ensures.1 in
+    merge_none _ _ _ _ _ _ (damage_to _ _ page.Memory (p.1 ∙ ap (λ (e : PageFault). Err e) p.2) tt)
+
+pub returns-clause-damage : goal.returns-clause-damage
+returns-clause-damage g c = merge_none _ _ _ _ _ _ tt

@@ -8,13 +8,17 @@ use Rattle.segment_set.proofs.Sizes.{set_fits}
 use Rattle.index_core.proofs.Answering.{applies_done, applies_fault, applies_seen, applies_unsaid, begins_itself, does_done}
 use Rattle.index_core.specs.Sessions.{SessionData}
 use Rattle.index_core.specs.Effects.{IsFlushed}
+use Rattle.index_core.proofs.Bringing.{brings_written}
+use Rattle.page_cache.specs.declared.faults.PageFault.TheVariants as page
+use Rattle.index_core.specs.Damages.{ShowsMerge}
+use Rattle.index_core.proofs.Showing.{damage_to, merge_none, merge_to}
 use Rattle.index_core.proofs.session.Session.flush.Goals as goal
 
 pub returns-clause-applies : goal.returns-clause-applies
 unfolding step_on
 returns-clause-applies g c = applies_seen _ _ _ _ _ _ _ _ _ _ _ c.self.view_is
     (applies_done _ _ _ _ _ c.in_ok-flush.field-0 ok_text
-    (record { commit = refl; refused = refl; leaf = c.flush.ensures.stays.leaf; keeps = c.flush.ensures.kept; follows = c.flush.ensures.follows })
+    (record { commit = refl; refused = refl; leaf = c.flush.ensures.stays.leaf; keeps = c.flush.ensures.kept; follows = c.flush.ensures.follows; brings = λ told. brings_written _ _ _ _ _ _ _ _ told c.flush.ensures.kept c.flush.ensures.follows (c.flush.ensures.canon told) })
     (λ told i seen. does_done _ _ i i _ ok_text _ _ (c.flush.ensures.seen told i seen) c.in_ok-put_ok.ensures.ok)
     c.in_ok-put_ok.ensures.ok c.in_ok-flush.ensures.cause)
 
@@ -23,7 +27,7 @@ returns-in_err-flush-clause-applies g c =
     let p = err_from_is_err_and c.from_residual.result c.from_residual.ensures.1 in
     applies_seen _ _ _ _ _ _ _ _ _ _ _ c.self.view_is
     (applies_fault _ _ _ _ _ _ c.in_err-flush.field-0.0
-    (record { commit = refl; refused = refl; leaf = c.flush.ensures.stays.leaf; keeps = c.flush.ensures.kept; follows = c.flush.ensures.follows })
+    (record { commit = refl; refused = refl; leaf = c.flush.ensures.stays.leaf; keeps = c.flush.ensures.kept; follows = c.flush.ensures.follows; brings = λ told. brings_written _ _ _ _ _ _ _ _ told c.flush.ensures.kept c.flush.ensures.follows (c.flush.ensures.canon told) })
     (p.1 ∙ ap (λ (e : PageFault). Err e) p.2) c.flush.ensures.seen (begins_itself _) c.in_err-flush.ensures.cause c.in_err-flush.ensures.whole)
 
 pub returns-in_err-put_ok-clause-applies : goal.returns-in_err-put_ok-clause-applies
@@ -31,7 +35,7 @@ returns-in_err-put_ok-clause-applies g c =
     let p = err_from_is_err_and c.from_residual-in_err-put_ok.result c.from_residual-in_err-put_ok.ensures.1 in
     applies_seen _ _ _ _ _ _ _ _ _ _ _ c.self.view_is
     (applies_unsaid _ _ _ _ _ _ c.in_ok-flush.field-0
-    (record { commit = refl; refused = refl; leaf = c.flush.ensures.stays.leaf; keeps = c.flush.ensures.kept; follows = c.flush.ensures.follows })
+    (record { commit = refl; refused = refl; leaf = c.flush.ensures.stays.leaf; keeps = c.flush.ensures.kept; follows = c.flush.ensures.follows; brings = λ told. brings_written _ _ _ _ _ _ _ _ told c.flush.ensures.kept c.flush.ensures.follows (c.flush.ensures.canon told) })
     (p.1 ∙ ap (λ (e : PageFault). Err e) p.2) c.flush.ensures.seen c.in_err-put_ok.ensures.memory c.in_ok-flush.ensures.cause)
 
 pub flush-requires-after_bounds : goal.flush-requires-after_bounds
@@ -42,3 +46,17 @@ returns-clause-leaves g c =
     let done = c.in_ok-flush.ensures in
     subst (λ (s : SessionData). IsFlushed g.row.D (IsTrue g.F.Pages.told) (g.F.Pages.files c.flush.new.folder) s.set c.flush.new.self) c.self.view_is
     (record { emptied = done.emptied; levels = done.levels; begun = done.begun; canon = done.canon })
+
+pub returns-in_err-flush-clause-damage : goal.returns-in_err-flush-clause-damage
+returns-in_err-flush-clause-damage g c =
+    let p = err_from_is_err_and c.from_residual.result c.from_residual.ensures.1 in
+    subst (λ (u : SessionData). ShowsMerge g.row.D (IsTrue g.F.Pages.told) (g.F.Pages.files c.args.folder.now) (g.F.Pages.files c.flush.new.folder) u.set c.from_residual.result) c.self.view_is
+    (merge_to {T = Unit {0}} _ _ _ _ _ _ c.in_err-flush.field-0.0 (p.1 ∙ ap (λ (e : PageFault). Err e) p.2) (record { shown = c.in_err-flush.ensures.shown; damage = c.in_err-flush.ensures.damage; doubled = c.in_err-flush.ensures.doubled }))
+
+pub returns-in_err-put_ok-clause-damage : goal.returns-in_err-put_ok-clause-damage
+returns-in_err-put_ok-clause-damage g c =
+    let p = err_from_is_err_and c.from_residual-in_err-put_ok.result c.from_residual-in_err-put_ok.ensures.1 in
+    merge_none _ _ _ _ _ _ (damage_to _ _ page.Memory (p.1 ∙ ap (λ (e : PageFault). Err e) p.2) tt)
+
+pub returns-clause-damage : goal.returns-clause-damage
+returns-clause-damage g c = merge_none _ _ _ _ _ _ tt

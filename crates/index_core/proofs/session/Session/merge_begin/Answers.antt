@@ -14,6 +14,12 @@ use Rattle.index_core.specs.Sessions.{SessionData}
 use Rattle.index_core.specs.Effects.{HasBegun, OnDone}
 use Rattle.index_core.specs.Replies.{begin_answer}
 use Rattle.index_core.proofs.Leaving.{begin_leaves}
+use Rattle.index_core.proofs.Bringing.{brings_same}
+use Rattle.std.proofs.Common.{IsTrue}
+use Rattle.page_cache.specs.declared.faults.PageFault.TheVariants as page
+use Rattle.index_core.specs.Damages.{ShowsMerge}
+use Rattle.index_core.proofs.Showing.{begin_shows, damage_to, merge_none}
+use Rattle.index_core.proofs.Keeping.{answer_keeps, begin_keeps, fault_keeps, still_same}
 use Rattle.index_core.proofs.session.Session.merge_begin.Goals as goal
 
 pub returns-then-is_merging-clause-applies : goal.returns-then-is_merging-clause-applies
@@ -31,8 +37,9 @@ returns-clause-applies g c =
     applies_is _ _ _ _ _ _ _ _ c.begin_answer.ensures
     (applies_seen _ _ _ _ _ _ _ _ _ _ _ c.self.view_is
     (applies _ _ _ _ _ _
-    (calm_like _ _ _ _ _ _ _ _ _ _ _ (ap (λ (u : SetData). u.names) c.merge_begin.ensures.alone.is) (ap (λ (u : SetData). u.leaf) c.merge_begin.ensures.alone.is)
-    (follows_same _ _ _ (ap (λ (u : SetData). u.parts) c.merge_begin.ensures.alone.is)) c.merge_begin.ensures.files)
+    (calm_like _ _ _ _ _ _ _ _ _ _ _ _ (ap (λ (u : SetData). u.names) c.merge_begin.ensures.alone.is) (ap (λ (u : SetData). u.leaf) c.merge_begin.ensures.alone.is)
+    (follows_same _ _ _ (ap (λ (u : SetData). u.parts) c.merge_begin.ensures.alone.is)) c.merge_begin.ensures.files
+    (λ told. brings_same _ _ _ _ _ (c.merge_begin.ensures.files told) (ap (λ (u : SetData). u.parts) c.merge_begin.ensures.alone.is)))
     (λ told i seen. does_begin _ _ _ _ _ i _ c.merge_begin.result _ _ seen none (λ e. both_ways (is_some c.self.inside.set.begun) none (c.merge_begin.ensures.begun.0 e))
     (c.merge_begin.ensures.seen told i seen) (c.merge_begin.ensures.refused told i seen) c.in_ok-put_ok.ensures.ok)
     (begins_with _ _ _ c.in_ok-put_ok.ensures.ok)
@@ -50,3 +57,34 @@ returns-clause-leaves g c =
     subst (λ r. OnDone r (HasBegun c.args.which.now c.args.self.now.set c.merge_begin.new.self)) (sym c.begin_answer.ensures)
     (subst (λ (s : SessionData). OnDone (begin_answer c.merge_begin.result) (HasBegun c.args.which.now s.set c.merge_begin.new.self)) c.self.view_is
     (begin_leaves c.args.which.now c.self.inside.set c.merge_begin.new.self c.merge_begin.result c.merge_begin.ensures.inputs c.merge_begin.ensures.alone))
+
+pub returns-then-is_merging-clause-damage : goal.returns-then-is_merging-clause-damage
+returns-then-is_merging-clause-damage g c = merge_none _ _ _ _ _ _ tt
+
+pub returns-in_err-put_ok-clause-damage : goal.returns-in_err-put_ok-clause-damage
+returns-in_err-put_ok-clause-damage g c =
+    let p = err_from_is_err_and c.from_residual.result c.from_residual.ensures.1 in
+    merge_none _ _ _ _ _ _ (damage_to _ _ page.Memory (p.1 ∙ ap (λ (e : PageFault). Err e) p.2) tt)
+
+pub returns-clause-damage : goal.returns-clause-damage
+returns-clause-damage g c =
+    subst (ShowsMerge g.row.D (IsTrue g.F.Pages.told) (g.F.Pages.files c.args.folder.now) (g.F.Pages.files c.merge_begin.new.folder) c.args.self.now.set) (sym c.begin_answer.ensures)
+    (subst (λ (u : SessionData). ShowsMerge g.row.D (IsTrue g.F.Pages.told) (g.F.Pages.files c.args.folder.now) (g.F.Pages.files c.merge_begin.new.folder) u.set (begin_answer c.merge_begin.result)) c.self.view_is
+    (record {
+      shown = begin_shows _ c.merge_begin.result c.merge_begin.ensures.shown;
+      damage = λ told agrees. begin_shows _ c.merge_begin.result (c.merge_begin.ensures.damage told agrees);
+      doubled = λ told agrees contents read. begin_shows _ c.merge_begin.result (c.merge_begin.ensures.doubled told agrees contents read);
+    }))
+
+pub returns-then-is_merging-clause-still : goal.returns-then-is_merging-clause-still
+returns-then-is_merging-clause-still g c = still_same _ _ _
+
+pub returns-in_err-put_ok-clause-still : goal.returns-in_err-put_ok-clause-still
+returns-in_err-put_ok-clause-still g c =
+    let p = err_from_is_err_and c.from_residual.result c.from_residual.ensures.1 in
+    fault_keeps _ _ _ (p.1 ∙ ap (λ (e : PageFault). Err e) p.2)
+
+pub returns-clause-still : goal.returns-clause-still
+returns-clause-still g c =
+    let none = sym c.is_merging.ensures ∙ c.if-is_merging.false in
+    answer_keeps _ _ _ c.begin_answer.ensures (begin_keeps _ c.merge_begin.result (λ e. both_ways (is_some c.self.inside.set.begun) none (c.merge_begin.ensures.begun.0 e)))

@@ -12,6 +12,11 @@ use Rattle.index_core.specs.Sessions.{SessionData}
 use Rattle.index_core.specs.Effects.{HasEnded, OnDone}
 use Rattle.index_core.specs.Replies.{end_answer}
 use Rattle.index_core.proofs.Leaving.{end_leaves}
+use Rattle.index_core.proofs.Bringing.{brings_written}
+use Rattle.page_cache.specs.Evidence.{NotDamaged}
+use Rattle.page_cache.specs.declared.faults.PageFault.TheVariants as page
+use Rattle.index_core.proofs.Showing.{damage_to}
+use Rattle.index_core.proofs.Keeping.{answer_keeps, end_keeps, fault_keeps, still_same}
 use Rattle.index_core.proofs.session.Session.merge_end.Goals as goal
 
 pub returns-then-not-is_merging-clause-applies : goal.returns-then-not-is_merging-clause-applies
@@ -29,7 +34,7 @@ returns-clause-applies g c =
     applies_is _ _ _ _ _ _ _ _ c.end_answer.ensures
     (applies_seen _ _ _ _ _ _ _ _ _ _ _ c.self.view_is
     (applies _ _ _ _ _ _
-    (record { commit = refl; refused = refl; leaf = c.merge_end.ensures.stays.leaf; keeps = c.merge_end.ensures.kept; follows = c.merge_end.ensures.follows })
+    (record { commit = refl; refused = refl; leaf = c.merge_end.ensures.stays.leaf; keeps = c.merge_end.ensures.kept; follows = c.merge_end.ensures.follows; brings = λ told. brings_written _ _ _ _ _ _ _ _ told c.merge_end.ensures.kept c.merge_end.ensures.follows (c.merge_end.ensures.canon told) })
     (λ told i seen. does_end _ _ _ _ _ i c.merge_end.result _ _ seen some (λ e. both_ways (is_some c.self.inside.set.begun) (c.merge_end.ensures.not_begun.0 e) some)
     (c.merge_end.ensures.seen told i seen) (c.merge_end.ensures.refused told i seen) c.in_ok-put_ok.ensures.ok)
     (begins_with _ _ _ c.in_ok-put_ok.ensures.ok)
@@ -49,3 +54,24 @@ returns-clause-leaves g c =
     subst (λ r. OnDone r (HasEnded g.row.D (IsTrue g.F.Pages.told) files c.args.self.now.set c.merge_end.new.self)) (sym c.end_answer.ensures)
     (subst (λ (s : SessionData). OnDone (end_answer c.merge_end.result) (HasEnded g.row.D (IsTrue g.F.Pages.told) files s.set c.merge_end.new.self)) c.self.view_is
     (end_leaves g.row.D (IsTrue g.F.Pages.told) files c.self.inside.set c.merge_end.new.self c.merge_end.result done.ended done.parts done.buffer done.canon))
+
+pub returns-in_err-put_ok-clause-damage : goal.returns-in_err-put_ok-clause-damage
+returns-in_err-put_ok-clause-damage g c =
+    let p = err_from_is_err_and c.from_residual.result c.from_residual.ensures.1 in
+    damage_to _ _ page.Memory (p.1 ∙ ap (λ (e : PageFault). Err e) p.2) tt
+
+pub returns-clause-damage : goal.returns-clause-damage
+returns-clause-damage g c = subst NotDamaged (sym c.end_answer.ensures) (whole_end c.merge_end.result c.merge_end.ensures.whole)
+
+pub returns-then-not-is_merging-clause-still : goal.returns-then-not-is_merging-clause-still
+returns-then-not-is_merging-clause-still g c = still_same _ _ _
+
+pub returns-in_err-put_ok-clause-still : goal.returns-in_err-put_ok-clause-still
+returns-in_err-put_ok-clause-still g c =
+    let p = err_from_is_err_and c.from_residual.result c.from_residual.ensures.1 in
+    fault_keeps _ _ _ (p.1 ∙ ap (λ (e : PageFault). Err e) p.2)
+
+pub returns-clause-still : goal.returns-clause-still
+returns-clause-still g c =
+    let some = sym c.is_merging.ensures ∙ c.if-not-is_merging.false in
+    answer_keeps _ _ _ c.end_answer.ensures (end_keeps _ c.merge_end.result (λ e. both_ways (is_some c.self.inside.set.begun) (c.merge_end.ensures.not_begun.0 e) some))

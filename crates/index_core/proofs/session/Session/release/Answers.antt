@@ -11,22 +11,27 @@ use Rattle.index_core.proofs.Changing.{does_release, does_unnamed}
 use Rattle.segment_set.proofs.Sizes.{set_fits}
 use Rattle.index_core.specs.Sessions.{SessionData}
 use Rattle.segment_set.specs.Sets.{has_name}
+use Rattle.index_core.proofs.Bringing.{brings_same}
+use Rattle.page_cache.specs.declared.faults.PageFault.TheVariants as page
+use Rattle.index_core.proofs.Showing.{damage_to}
+use Rattle.index_core.proofs.Keeping.{fault_keeps, still_same}
 use Rattle.index_core.proofs.session.Session.release.Goals as goal
 
-pub returns-then-not-has_snapshot : goal.returns-then-not-has_snapshot
-returns-then-not-has_snapshot g c files faults = applies_refused _ _ _ _ _ _ _ why.UnknownSnapshot
+pub returns-then-not-has_snapshot-clause-applies : goal.returns-then-not-has_snapshot-clause-applies
+returns-then-not-has_snapshot-clause-applies g c files faults = applies_refused _ _ _ _ _ _ _ why.UnknownSnapshot
     (λ i seen. does_unnamed _ _ _ i _ _ seen (ap (λ (u : SessionData). has_name c.args.name.now u.set.snapshots) (sym c.self.view_is) ∙ sym c.has_snapshot.ensures ∙ c.if-not-has_snapshot.true))
 
-pub returns-in_err-put_ok : goal.returns-in_err-put_ok
-returns-in_err-put_ok g c files faults =
+pub returns-in_err-put_ok-clause-applies : goal.returns-in_err-put_ok-clause-applies
+returns-in_err-put_ok-clause-applies g c files faults =
     let p = err_from_is_err_and c.from_residual.result c.from_residual.ensures.1 in
     applies_memory _ _ _ _ _ _ _ _ _ (p.1 ∙ ap (λ (e : PageFault). Err e) p.2) c.in_err-put_ok.ensures.memory
 
-pub returns : goal.returns
-returns g c files faults = applies_seen _ _ _ _ _ _ _ _ _ _ _ c.self.view_is
+pub returns-clause-applies : goal.returns-clause-applies
+returns-clause-applies g c files faults = applies_seen _ _ _ _ _ _ _ _ _ _ _ c.self.view_is
     (applies _ _ _ _ _ _
-    (calm_like _ _ _ _ _ _ _ _ _ _ _ (ap (λ (u : SetData). u.names) c.release.ensures.kept) (ap (λ (u : SetData). u.leaf) c.release.ensures.kept)
-    (follows_same _ _ _ (ap (λ (u : SetData). u.parts) c.release.ensures.kept)) (λ told. refl))
+    (calm_like _ _ _ _ _ _ _ _ _ _ _ _ (ap (λ (u : SetData). u.names) c.release.ensures.kept) (ap (λ (u : SetData). u.leaf) c.release.ensures.kept)
+    (follows_same _ _ _ (ap (λ (u : SetData). u.parts) c.release.ensures.kept)) (λ told. refl)
+    (λ told. brings_same _ _ _ _ _ refl (ap (λ (u : SetData). u.parts) c.release.ensures.kept)))
     (λ told i seen. does_release _ _ _ _ i _ _ _ seen (sym c.has_snapshot.ensures ∙ c.if-not-has_snapshot.false) (c.release.ensures.seen files i seen) c.in_ok-put_ok.ensures.ok)
     (begins_with _ _ _ c.in_ok-put_ok.ensures.ok) (no_cause faults applied.Done) (λ told i seen. tt))
 
@@ -35,3 +40,19 @@ has_snapshot-requires g c = set_fits g.row.D c.self.invariant.few
 
 pub release-requires : goal.release-requires
 release-requires g c = set_fits g.row.D c.self.invariant.few
+
+pub returns-in_err-put_ok-clause-damage : goal.returns-in_err-put_ok-clause-damage
+returns-in_err-put_ok-clause-damage g c =
+    let p = err_from_is_err_and c.from_residual.result c.from_residual.ensures.1 in
+    damage_to _ _ page.Memory (p.1 ∙ ap (λ (e : PageFault). Err e) p.2) tt
+
+pub returns-then-not-has_snapshot-clause-still : goal.returns-then-not-has_snapshot-clause-still
+returns-then-not-has_snapshot-clause-still g c files = still_same _ _ _
+
+pub returns-in_err-put_ok-clause-still : goal.returns-in_err-put_ok-clause-still
+returns-in_err-put_ok-clause-still g c files =
+    let p = err_from_is_err_and c.from_residual.result c.from_residual.ensures.1 in
+    fault_keeps _ _ _ (p.1 ∙ ap (λ (e : PageFault). Err e) p.2)
+
+pub returns-clause-still : goal.returns-clause-still
+returns-clause-still g c files = tt

@@ -10,18 +10,24 @@ use Rattle.index_model.specs.declared.session.Applied.TheVariants as applied
 use Rattle.stored_index.specs.Stored.{IsStored}
 use Rattle.stored_index.specs.Kept.{SameKept}
 use Rattle.segment_set.specs.Seen.{Sees}
-use Rattle.index_core.specs.Sessions.{Guards, SessionData}
+use Rattle.index_core.specs.Sessions.{Guards, IsCommitAnew, IsUnchanged, SessionData}
+use Rattle.index_core.specs.Effects.{BringsCanonical}
+use Rattle.index_core.proofs.Bringing.{brings_anew, brings_then}
 use Rattle.index_core.specs.Steps.{SaysCommit}
 use Rattle.index_core.proofs.Answering.{applies_is, begins_itself, begins_same, begins_with, cause_then, does_done, does_fault, done_cause, fault_to, memory_cause}
 use Rattle.segment_set.proofs.Sizes.{set_fits}
 use Rattle.index_core.proofs.Sizes.{session_fits}
+use Rattle.page_cache.specs.Evidence.{FaultShows}
+use Rattle.page_cache.specs.declared.faults.PageFault.TheVariants as page
+use Rattle.segment_set.specs.Damages.{IsAttachDamageOf}
+use Rattle.index_core.proofs.Showing.{anew_attached, anew_none, anew_saved, damage_to}
 use Rattle.index_core.proofs.session.Session.reopen.Goals as goal
 
 pub attach_anew-requires : goal.attach_anew-requires
 attach_anew-requires g c = (session_fits g.row.D c.self.invariant.few, (set_fits g.row.D c.self.invariant.few, c.in_ok-commit.ensures.committed.0))
 
-pub returns-in_err-commit : goal.returns-in_err-commit
-returns-in_err-commit g c =
+pub returns-in_err-commit-clause-applies : goal.returns-in_err-commit-clause-applies
+returns-in_err-commit-clause-applies g c =
     let p = err_from_is_err_and c.from_residual.result c.from_residual.ensures.1 in
     applies_is _ _ _ _ _ _ _ _ (p.1 ∙ ap (λ (e : PageFault). Err e) p.2) (record {
       does = λ told i seen guards. does_fault _ _ _ i _ _ _ _ (c.commit.ensures.seen told i seen);
@@ -31,10 +37,14 @@ returns-in_err-commit g c =
       stored = λ told i seen guards e. c.in_err-commit.ensures.stored told i seen guards;
       cause = fault_to _ _ c.in_err-commit.field-0.0 c.in_err-commit.ensures.cause;
       whole = λ told i seen guards. c.in_err-commit.ensures.whole told i seen;
+      idle = λ told e unchanged. (c.commit.ensures.idle unchanged).2;
+      unchanged = λ e. tt;
+      anew = λ e changed. tt;
+      canon = λ told i seen guards. c.commit.ensures.canon told;
     })
 
-pub returns-in_err-set : goal.returns-in_err-set
-returns-in_err-set g c =
+pub returns-in_err-set-clause-applies : goal.returns-in_err-set-clause-applies
+returns-in_err-set-clause-applies g c =
     let p = err_from_is_err_and c.from_residual-in_err-set.result c.from_residual-in_err-set.ensures.1 in
     applies_is _ _ _ _ _ _ _ _ (p.1 ∙ ap (λ (e : PageFault). Err e) p.2) (record {
       does = λ told i seen guards. does_fault _ _ _ i _ _ _ _ (subst (λ (f : Files). Sees g.row.D f c.commit.new.self.set i) (sym (c.attach_anew.ensures.files told)) (c.commit.ensures.seen told i seen));
@@ -44,10 +54,14 @@ returns-in_err-set g c =
       stored = λ told i seen guards e. inr (subst (λ (f : Files). IsStored f (Some (at_rest i))) (sym (c.attach_anew.ensures.files told)) (c.in_ok-commit.ensures.stored told i seen guards).0);
       cause = fault_to _ _ c.in_err-set.field-0.0 (cause_then _ _ _ _ c.in_ok-commit.ensures.cause.fine c.in_err-set.ensures.cause);
       whole = λ told i seen guards. c.in_err-set.ensures.whole told c.in_ok-commit.ensures.committed.1 (c.commit.ensures.guards told guards) (Some (at_rest i)) (c.in_ok-commit.ensures.stored told i seen guards).0;
+      idle = λ told e unchanged. c.attach_anew.ensures.files told ∙ (c.commit.ensures.idle unchanged).2;
+      unchanged = λ e. tt;
+      anew = λ e changed. tt;
+      canon = λ told i seen guards. subst (λ (f : Files). BringsCanonical g.row.D (g.F.Pages.files c.args.folder.now) f c.args.self.now.set.parts c.commit.new.self.set.parts) (sym (c.attach_anew.ensures.files told)) (c.commit.ensures.canon told);
     })
 
-pub returns-in_err-put_ok : goal.returns-in_err-put_ok
-returns-in_err-put_ok g c =
+pub returns-in_err-put_ok-clause-applies : goal.returns-in_err-put_ok-clause-applies
+returns-in_err-put_ok-clause-applies g c =
     let p = err_from_is_err_and c.from_residual-in_err-put_ok.result c.from_residual-in_err-put_ok.ensures.1 in
     applies_is _ _ _ _ _ _ _ _ (p.1 ∙ ap (λ (e : PageFault). Err e) p.2) (record {
       does = λ told i seen guards. does_fault _ _ _ i _ _ _ _ (subst (λ (f : Files). Sees g.row.D f c.commit.new.self.set i) (sym (c.attach_anew.ensures.files told)) (c.commit.ensures.seen told i seen));
@@ -57,11 +71,15 @@ returns-in_err-put_ok g c =
       stored = λ told i seen guards e. inr (subst (λ (f : Files). IsStored f (Some (at_rest i))) (sym (c.attach_anew.ensures.files told)) (c.in_ok-commit.ensures.stored told i seen guards).0);
       cause = memory_cause _ _ (cause_then _ _ _ _ c.in_ok-commit.ensures.cause.fine c.attach_anew.ensures.cause).later;
       whole = λ told i seen guards. tt;
+      idle = λ told e unchanged. c.attach_anew.ensures.files told ∙ (c.commit.ensures.idle unchanged).2;
+      unchanged = λ e. tt;
+      anew = λ e changed. tt;
+      canon = λ told i seen guards. subst (λ (f : Files). BringsCanonical g.row.D (g.F.Pages.files c.args.folder.now) f c.args.self.now.set.parts c.commit.new.self.set.parts) (sym (c.attach_anew.ensures.files told)) (c.commit.ensures.canon told);
     })
 
-pub returns : goal.returns
+pub returns-clause-applies : goal.returns-clause-applies
 unfolding step_on
-returns g c = record {
+returns-clause-applies g c = record {
   does = λ told i seen guards. does_done _ _ i (at_rest i) _ ok_text _ _
       (subst (λ (f : Files). Sees g.row.D f c.in_ok-set.set (at_rest i)) (sym (c.attach_anew.ensures.files told))
       (c.in_ok-set.ensures.seen told c.in_ok-commit.ensures.committed.1 (c.commit.ensures.guards told guards) (at_rest i) (c.in_ok-commit.ensures.stored told i seen guards).0))
@@ -74,4 +92,36 @@ returns g c = record {
   stored = λ told i seen guards e. (subst (λ (f : Files). IsStored f (Some (at_rest i))) (sym (c.attach_anew.ensures.files told)) (c.in_ok-commit.ensures.stored told i seen guards).0, c.in_ok-set.ensures.emptied);
   cause = done_cause _ _ c.in_ok-set.set applied.Done (cause_then _ _ _ _ c.in_ok-commit.ensures.cause.fine c.in_ok-set.ensures.cause);
   whole = λ told i seen guards. tt;
+  idle = λ told e unchanged. c.attach_anew.ensures.files told ∙ (c.commit.ensures.idle unchanged).2;
+  unchanged = λ e. let last = c.in_ok-commit.ensures.unchanged in
+      subst (λ (u : SessionData). IsUnchanged (record u { set = c.in_ok-set.set })) (sym c.self.view_is)
+      (record { commit = last.commit; is = last.is; done = last.done; same = c.in_ok-set.ensures.unchanged last.commit last.is });
+  anew = λ e changed. let written = c.in_ok-commit.ensures.anew changed in
+      subst (λ (u : SessionData). IsCommitAnew c.args.self.now.set.names (record u { set = c.in_ok-set.set })) (sym c.self.view_is) (record { commit = written.commit; is = written.is; fresh = written.fresh });
+  canon = λ told i seen guards. let last = c.in_ok-commit.ensures.unchanged in
+      subst (λ (f : Files). BringsCanonical g.row.D (g.F.Pages.files c.args.folder.now) f c.args.self.now.set.parts c.in_ok-set.set.parts) (sym (c.attach_anew.ensures.files told))
+      (brings_then _ _ _ _ _ c.commit.new.self.set.parts _ (c.commit.ensures.canon told)
+      (brings_anew _ _ c.commit.new.self.set c.in_ok-set.set i (at_rest i) (c.commit.ensures.seen told i seen)
+      (c.in_ok-set.ensures.seen told c.in_ok-commit.ensures.committed.1 (c.commit.ensures.guards told guards) (at_rest i) (c.in_ok-commit.ensures.stored told i seen guards).0)
+      ((c.in_ok-set.ensures.unchanged last.commit last.is).ids ∙ sym last.same.ids)));
 }
+
+pub returns-in_err-commit-clause-damage : goal.returns-in_err-commit-clause-damage
+returns-in_err-commit-clause-damage g c =
+    let p = err_from_is_err_and c.from_residual.result c.from_residual.ensures.1 in
+    anew_saved _ _ _ _ _ _ _ c.in_err-commit.field-0.0 (p.1 ∙ ap (λ (e : PageFault). Err e) p.2) c.in_err-commit.ensures.damage
+
+pub returns-in_err-set-clause-damage : goal.returns-in_err-set-clause-damage
+returns-in_err-set-clause-damage g c =
+    let p = err_from_is_err_and c.from_residual-in_err-set.result c.from_residual-in_err-set.ensures.1 in
+    let last = c.in_ok-commit.ensures.unchanged in
+    anew_attached _ _ _ _ _ _ last.commit _ c.in_err-set.field-0.0 (p.1 ∙ ap (λ (e : PageFault). Err e) p.2) last.is (c.in_err-set.ensures.shown last.commit last.is)
+    (λ told. subst (λ (f : Files). FaultShows (IsAttachDamageOf f last.commit) c.in_err-set.field-0.0) (sym (c.attach_anew.ensures.files told)) (c.in_err-set.ensures.damage told last.commit last.is))
+
+pub returns-in_err-put_ok-clause-damage : goal.returns-in_err-put_ok-clause-damage
+returns-in_err-put_ok-clause-damage g c =
+    let p = err_from_is_err_and c.from_residual-in_err-put_ok.result c.from_residual-in_err-put_ok.ensures.1 in
+    anew_none _ _ _ _ _ _ _ (damage_to _ _ page.Memory (p.1 ∙ ap (λ (e : PageFault). Err e) p.2) tt)
+
+pub returns-clause-damage : goal.returns-clause-damage
+returns-clause-damage g c = anew_none _ _ _ _ _ _ _ tt

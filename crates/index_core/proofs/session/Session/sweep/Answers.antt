@@ -1,10 +1,12 @@
 -- What the last commit needs stays.
-use Rattle.std.proofs.Common.{is_some, refl, sym, ap, subst, ◌∙◌}
+use Rattle.std.proofs.Common.{is_some, refl, sym, ap, subst, ◌∙◌, inl, inr}
+use Rattle.std.specs.List.{Contains}
+use Rattle.outer_io.specs.declared.file_name.FileName.TheVariants.{Segment}
 use Rattle.segment_set.specs.Sets.{SetData}
 use Rattle.segment_set.specs.Seen.{Sees}
 use Rattle.segment_set.specs.Kept.{StaysButFiles}
 use Rattle.index_core.specs.Sessions.{Guards, SessionData}
-use Rattle.index_core.proofs.Guarding.{saved_some, session_swept}
+use Rattle.index_core.proofs.Guarding.{saved_is, saved_some, session_swept}
 use Rattle.segment_set.proofs.Sizes.{set_fits}
 use Rattle.index_core.proofs.session.Session.sweep.Goals as goal
 
@@ -45,6 +47,13 @@ returns-clause-kept g c told guards = (session_swept _ _ _ _
       leaf = ap (λ (u : SetData). u.leaf) c.sweep.ensures.alone.is;
     })
     (subst (Guards g.row.D (g.F.Pages.files c.args.folder.now)) (sym c.self.view_is) guards)).1
+
+pub returns-clause-segments : goal.returns-clause-segments
+returns-clause-segments g c told p there =
+    let saved = saved_is _ _
+    (ap (λ (u : SessionData). is_some u.commit) c.self.view_is ∙ c.requires.saved.0)
+    (ap (λ (u : SessionData). u.set.saved) c.self.view_is ∙ c.requires.saved.1 ∙ ap (λ (u : SessionData). u.commit) (sym c.self.view_is)) in
+    c.sweep.ensures.needed told saved.0 saved.1 (Segment p.head.id) (inr (inl (p, subst (λ (u : SessionData). Contains u.set.parts p) (sym c.self.view_is) there, refl)))
 
 pub sweep-requires : goal.sweep-requires
 sweep-requires g c = (

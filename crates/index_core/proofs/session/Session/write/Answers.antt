@@ -33,5 +33,11 @@ pub returns-in-Err-clause-stored : goal.returns-in-Err-clause-stored
 returns-in-Err-clause-stored g c told i promise =
     stores_undone (g.F.Pages.files c.args.folder.now) (g.F.Pages.files c.write_commit.new.folder) c.args.commit i promise (c.write_commit.ensures.others told) (which_says (g.F.Pages.files c.args.folder.now) (g.F.Pages.files c.write_commit.new.folder) c.args.commit (c.in-Err.ensures.kept told))
 
+pub returns-in-Ok-clause-others : goal.returns-in-Ok-clause-others
+returns-in-Ok-clause-others g c = c.write_commit.ensures.others
+
+pub returns-in-Err-clause-others : goal.returns-in-Err-clause-others
+returns-in-Err-clause-others g c = c.write_commit.ensures.others
+
 pub leaf-leaf-requires : goal.leaf-leaf-requires
 leaf-leaf-requires g c = set_fits g.row.D c.self.invariant.few
