@@ -1,5 +1,5 @@
 -- The answer to one line, from what was read and what was done.
-use Rattle.std.proofs.Common.{◌≡◌, ◌≢◌, ℕ, Bool, true, false, if◌then◌else◌, List, [], ◌∷◌, ◌++◌, Some, None, Ok, Err, Result, IfOk, OnErr, IsErrOf, cond, refl, sym, ap, ◌∙◌, subst, ◌⊎◌, inl, inr}
+use Rattle.std.proofs.Common.{◌≡◌, ◌≢◌, ℕ, Bool, true, false, if◌then◌else◌, List, ◌++◌, Some, None, Ok, Err, Result, IfOk, OnErr, IsErrOf, cond, refl, sym, ap, ◌∙◌, subst, ◌⊎◌, inl, inr}
 use Rattle.outer_io.specs.Files.{Files}
 use Rattle.page_cache.specs.declared.faults.PageFault.{PageFault}
 use Rattle.page_cache.specs.declared.faults.PageFault.TheVariants as page
@@ -14,16 +14,14 @@ use Rattle.script_lang.specs.declared.faults.LineFault.TheVariants as fault
 use Rattle.script_lang.specs.declared.faults.Why.{Why}
 use Rattle.index_model.specs.State.{Index, State, at_rest}
 use Rattle.index_model.specs.Step.{Outcome, Done, Refused, step_on}
-use Rattle.index_model.specs.Script.{Answer, answer, answer_to, answer_of, asks_commit, commits, final, stored_by}
+use Rattle.index_model.specs.Script.{answer, answer_to, answer_of, asks_commit, commits, final, stored_by}
 use Rattle.index_model.specs.declared.session.Applied.{Applied}
 use Rattle.index_model.specs.declared.session.Applied.TheVariants as applied
 use Rattle.stored_index.specs.Stored.{IsStored}
-use Rattle.stored_index.specs.Kept.{SameKept}
 use Rattle.stored_index.proofs.KeptFiles.{stored_still}
-use Rattle.segment_set.specs.Seen.{Sees}
 use Rattle.index_core.specs.Sessions.{SessionData, Guards}
 use Rattle.index_core.specs.Steps.{DoesOver, KeepsOver, Stores, is_committing}
-use Rattle.bkd_top.specs.Answers.{IsAnswered, IsLeft, Line, Replies, Stands, answer_to_line, stored_by_line}
+use Rattle.bkd_top.specs.Answers.{IsAnswered, IsLeft, Replies, Stands}
 use Rattle.bkd_top.proofs.Lined.{line_at}
 
 -- ---- what is read of a line

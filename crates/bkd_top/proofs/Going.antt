@@ -1,6 +1,5 @@
 -- How the lines of a script are joined to those before them.
-use Rattle.std.proofs.Common.{◌≡◌, ℕ, suc, ◌+◌, List, [], ◌∷◌, ◌++◌, length, Some, Result, Ok, Err, refl, sym, ap, ◌∙◌, subst, ◌⊎◌, inl, inr, append_assoc, append-nil, add_assoc, zero-add, add-zero, arith, length-append, ◌≤◌, Bool, true, false, cond}
-use Rattle.std.proofs.lemmas.Bool.Decides.{nat_tests}
+use Rattle.std.proofs.Common.{◌≡◌, ℕ, suc, ◌+◌, List, [], ◌∷◌, ◌++◌, length, Result, Ok, Err, refl, sym, ap, ◌∙◌, subst, ◌⊎◌, append_assoc, append-nil, add_assoc, zero-add, add-zero, arith, length-append, ◌≤◌, Bool, true, false, cond}
 use mir.Val.{bool_byte}
 use Rattle.outer_io.specs.Files.{Files}
 use Rattle.outer_io.specs.Parts.{WritesPart}

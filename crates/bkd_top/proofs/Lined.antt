@@ -1,5 +1,5 @@
 -- Lines in a session: what is so far, and how the run stops at one.
-use Rattle.std.proofs.Common.{◌≡◌, ◌≤◌, ℕ, ◌+◌, Bool, true, false, cond, List, [], ◌∷◌, ◌++◌, Some, None, Result, Ok, Err, IfOk, OnErr, IsErrOf, refl, sym, ap, ◌∙◌, subst, ◌⊎◌, inl, inr, add-zero, arith}
+use Rattle.std.proofs.Common.{◌≡◌, ◌≤◌, ℕ, ◌+◌, Bool, cond, List, [], ◌∷◌, ◌++◌, Some, None, Result, Ok, Err, IfOk, OnErr, IsErrOf, refl, sym, ap, ◌∙◌, subst, ◌⊎◌, inl, inr, add-zero, arith}
 use Rattle.outer_io.specs.Counts.{Rose}
 use Rattle.outer_io.specs.Files.{Files, bytes_of}
 use Rattle.outer_io.specs.declared.file_name.FileName.TheVariants.{Commit}
@@ -21,13 +21,13 @@ use Rattle.bkd_top.specs.declared.origin.Origin.{Origin}
 use Rattle.bkd_top.specs.declared.origin.Origin.TheVariants as origin
 use Rattle.bkd_top.proofs.Ending.{rose_from}
 use Rattle.bkd_top.proofs.Opened.{none_stored, some_stored}
-use Rattle.bkd_top.specs.Answers.{Answers, IsAnswered, IsCut, IsEnd, IsLeft, IsSent, Line, Replies, Stands, answer_to_line, stored_by_line}
+use Rattle.bkd_top.specs.Answers.{Answers, IsAnswered, IsCut, IsEnd, IsSent, Line, Replies, Stands, answer_to_line, stored_by_line}
 use Rattle.bkd_top.specs.Progress.{Place, Progress, start}
 use Rattle.bkd_top.specs.Runs.{EndsLines, HasStopCause}
 use Rattle.bkd_top.specs.Stops.{stop_of}
 use Rattle.bkd_top.specs.declared.stop.Stop.{Stop}
 use Rattle.bkd_top.specs.declared.stop.Stop.TheVariants as stop
-use Rattle.bkd_top.proofs.Going.{start_here, one_more, ends_from, stops_here, breaks_here, fault_stops, finishes_here, refused_more}
+use Rattle.bkd_top.proofs.Going.{start_here, one_more, ends_from, stops_here, breaks_here, fault_stops, finishes_here}
 
 -- a place where an index is there
 abbrev pub place_on : (line refused : ℕ) → Index → (stored : State) → (rest : List (List ℕ)) → (written : List ℕ) → Place

@@ -1,5 +1,5 @@
 -- Where the index of a run comes from.
-use Rattle.std.specs.Prelude.{ℕ, ◌≡◌, ◌≤◌, Some, None}
+use Rattle.std.specs.Prelude.{ℕ, ◌≡◌, Some, None}
 use Rattle.outer_io.specs.declared.file_name.FileName.TheVariants.{Commit}
 use Rattle.outer_io.specs.Files.{Files, bytes_of}
 use Rattle.commit_list.specs.CommitFiles.{IsCommitFile}

@@ -1,5 +1,5 @@
 -- What the line did is known, and its answer was sent.
-use Rattle.std.proofs.Common.{ℕ, List, ◌++◌, None, ap, ◌∙◌, inl, inr, refl}
+use Rattle.std.proofs.Common.{ℕ, List, ◌++◌, None, ap, ◌∙◌, inr, refl}
 use Rattle.std.proofs.lemmas.Result.{err_from_is_err_and}
 use Rattle.index_model.specs.Script.{answer}
 use Rattle.bkd_top.specs.Answers.{IsOpening, IsWithin}

@@ -1,5 +1,5 @@
 -- The session does what the command asks, and the answer says so.
-use Rattle.std.proofs.Common.{false, refl}
+use Rattle.std.proofs.Common.{false}
 use Rattle.script_lang.specs.Seen.{request_of}
 use Rattle.bkd_top.proofs.Answered.{done_replies, refused_replies, fault_replies}
 use Rattle.bkd_top.proofs.Lined.{page_done, page_then, page_same}

@@ -1,5 +1,5 @@
 -- Each line goes on from those before it; the one that makes an index hands the rest on, and else the last one ends the script.
-use Rattle.std.proofs.Common.{◌≡◌, ◌≤◌, ◌+◌, ℕ, length, arith, refl, sym, ap, None}
+use Rattle.std.proofs.Common.{◌≡◌, ◌≤◌, length, arith, refl, ap, None}
 use Rattle.std.proofs.lemmas.Bool.Decides.{nat_tests}
 use Rattle.outer_io.specs.declared.file_name.FileName.TheVariants.{Commit}
 use Rattle.index_model.specs.State.{new_index}

@@ -1,4 +1,4 @@
-use Rattle.std.proofs.Common.{◌≡◌, ◌≤◌, ◌<◌, ◌+◌, ◌^◌, length, None, IsTrue}
+use Rattle.std.proofs.Common.{◌≡◌, ◌≤◌, ◌<◌, ◌+◌, ◌^◌, length, IsTrue}
 use Rattle.script_lang.specs.Lines.{lines_of}
 use Rattle.bkd_top.specs.Progress.{Progress}
 use Rattle.bkd_top.proofs.Lined.{place_off}

@@ -1,5 +1,5 @@
 -- The lines are done on what the folder stores: no index, or the one whose commit was read.
-use Rattle.std.proofs.Common.{Some, None, IsTrue, refl, arith}
+use Rattle.std.proofs.Common.{IsTrue, refl, arith}
 use Rattle.script_lang.specs.Lines.{lines_of}
 use Rattle.bkd_top.specs.Progress.{start}
 use Rattle.bkd_top.proofs.Ending.{cause_from}

@@ -1,5 +1,5 @@
 -- Each line goes on from those before it; after the last one what they leave is committed.
-use Rattle.std.proofs.Common.{◌≡◌, ◌+◌, length, arith, refl, IsTrue}
+use Rattle.std.proofs.Common.{◌≡◌, length, arith, refl, IsTrue}
 use Rattle.std.proofs.lemmas.Bool.Decides.{nat_tests}
 use Rattle.index_core.proofs.Sizes.{session_fits}
 use Rattle.bkd_top.proofs.Ending.{cause_from}

@@ -1,4 +1,4 @@
-use Rattle.std.proofs.Common.{◌≤◌, ◌<◌, ◌+◌, ◌^◌, length, Some, IsTrue}
+use Rattle.std.proofs.Common.{◌≤◌, ◌<◌, ◌+◌, ◌^◌, length, IsTrue}
 use Rattle.script_lang.specs.Lines.{lines_of}
 use Rattle.index_model.specs.State.{Index, State}
 use Rattle.bkd_top.specs.Answers.{Stands}

@@ -1,5 +1,5 @@
 -- The lines are done in a session on the index, or none is opened.
-use Rattle.std.proofs.Common.{Some, IsTrue, arith, refl}
+use Rattle.std.proofs.Common.{IsTrue, arith, refl}
 use Rattle.script_lang.specs.Lines.{lines_of}
 use Rattle.index_core.proofs.Sizes.{session_fits}
 use Rattle.bkd_top.proofs.Ending.{cause_from}

@@ -1,5 +1,5 @@
 -- A new session, or one that is attached, stands over the files.
-use Rattle.std.proofs.Common.{ℕ, ◌≤◌, Some, refl, subst}
+use Rattle.std.proofs.Common.{ℕ, ◌≤◌, Some, subst}
 use Rattle.std.proofs.lemmas.Result.{err_from_is_err_and}
 use Rattle.script_lang.specs.Reading.{greatest_leaf}
 use Rattle.index_core.proofs.Sizes.{session_fits}

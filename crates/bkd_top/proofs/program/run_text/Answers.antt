@@ -1,6 +1,6 @@
 -- The status says how the lines ended.
-use Rattle.std.proofs.Common.{sym, subst, ap, ◌∙◌}
-use Rattle.bkd_top.specs.Runs.{Ends, DoesNothing, IsDamaged}
+use Rattle.std.proofs.Common.{sym, subst, ◌∙◌}
+use Rattle.bkd_top.specs.Runs.{DoesNothing, IsDamaged}
 use Rattle.bkd_top.proofs.Ending.{status_ends, never_damaged, does_lines, folder_stopped, sink_stopped}
 use Rattle.bkd_top.proofs.program.run_text.Goals as goal
 
