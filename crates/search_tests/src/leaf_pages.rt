@@ -176,10 +176,10 @@ fn check_row(rt: &impl Abort, alloc: Global, stored: &mut Stored, row: Row) -> R
         touched,
         "{lo:?} to {hi:?}"
     );
-    for call in 0..=pages {
+    for call in 0..pages {
         check_visit(rt, alloc, stored, row, call)?;
     }
-    Ok(())
+    check_visit(rt, alloc, stored, row, pages)
 }
 
 #[test]
