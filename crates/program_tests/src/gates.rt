@@ -83,6 +83,9 @@ fn run_forked<R: Threads + Sync, G: Gate>(
     forks: u8,
     gate: &G,
 ) -> Result<Status, Fail> {
+    if forks > 6 {
+        return Err("more levels than a build has".into());
+    }
     let settings = Settings {
         cache_pages: 8,
         forks,
