@@ -250,7 +250,8 @@ fn what_queries_cost(rt: HostRuntime) -> Result<(), Fail> {
     let mut folder = empty_folder(rt.alloc());
     let mut set = six(&rt, rt.alloc(), &mut folder)?;
     set.flush(&rt, rt.alloc(), &mut folder, &OpenGate)?;
-    let mut shape = BoxShape::new(Point { c: ROUND_ALL.0 }, Point { c: ROUND_ALL.1 });
+    let (lo, hi) = ROUND_ALL;
+    let mut shape = BoxShape::new(Point { c: lo }, Point { c: hi });
     assert_eq!(rt; set.survey(&View::Now, &mut shape), WHOLE);
     assert_eq!(rt; set.survey_near(&View::Now, &ORIGIN, None), 5);
     Ok(())
