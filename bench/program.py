@@ -1,11 +1,17 @@
 #!/usr/bin/env python3
-"""Times the program bkd from outside, which has to be built (rt run in crates/bkd).
+"""Times the program bkd from outside, which has to be built (rt run in crates/bkd), and prints ratios of one run.
 
-usage: bench/program.py add | lines | open | all [COUNT]
+usage: bench/program.py add | lines | open | load | memory | sqlite | lucene | limits | all [COUNT]
 
 add      a script adds COUNT documents (a million where it is left out) of two dimensions, and merges them
 lines    small boxes and queries for the ten nearest over those documents, on pages that are kept, a line
 open     a run without a line over them
+load     the same points loaded from a CSV file, for several levels of forks
+memory   what loading takes at most beside its input
+sqlite   the same points and boxes in SQLite's R*Tree (Debian's sqlite3), the answers compared
+lucene   the same points and queries in Apache Lucene 8 (Debian's liblucene8-java and a JDK), the answers compared; LUCENE names the
+         folder of its jars where it is not /usr/share/java
+limits   inputs of 536,870,912 bytes and of one more: not timed, only what is answered
 BKD names the program where it is not crates/bkd/out/bkd.
 """
 import glob
@@ -19,8 +25,10 @@ HERE = os.path.dirname(os.path.abspath(__file__))
 PROGRAM = os.environ.get("BKD", os.path.join(HERE, "..", "crates", "bkd", "out", "bkd"))
 COUNT = 1_000_000
 QUERIES = 20_000
+COMPARED = 2_000
 HALF = 500
 NEAREST = 10
+LIMIT = 536_870_912
 
 
 class Run:
@@ -81,15 +89,14 @@ def write(path, lines):
 
 
 class Data:
-    """The points and queries in a folder that goes at the end."""
+    """The points and queries in a folder that goes at the end, in the form that each program reads."""
 
     def __init__(self, count):
         self.temporary = tempfile.TemporaryDirectory(prefix="bkd-bench-")
         self.folder = self.temporary.name
         self.count = count
         self.points = Draws(1).points(count)
-        # a fifth of the range a side, so that the leaves that are met fit the cache
-        self.centres = [(x // 5, y // 5) for x, y in Draws(7).points(QUERIES)]
+        self.centres = Draws(7).points(QUERIES)
 
     def path(self, name):
         return os.path.join(self.folder, name)
@@ -101,20 +108,27 @@ class Data:
         os.mkdir(path)
         return path
 
-    def adds(self, name, behind):
-        return write(self.path(name), ["create 2"] + ["add %d %d" % p for p in self.points] + behind)
+    def csv(self, count=None):
+        count = count or self.count
+        points = self.points if count <= self.count else self.points * -(-count // self.count)
+        return write(self.path("points.csv"), ["x,y"] + ["%d,%d" % p for p in points[:count]])
 
-    def box_lines(self, rounds):
-        return write(self.path("boxes"), ["box %d %d %d %d" % (x - HALF, y - HALF, x + HALF, y + HALF) for x, y in self.centres] * rounds)
+    def boxes(self, count=QUERIES):
+        return [(x - HALF, y - HALF, x + HALF, y + HALF) for x, y in self.centres[:count]]
 
-    def near_lines(self, rounds):
-        return write(self.path("near"), ["nearest %d %d %d" % (NEAREST, x, y) for x, y in self.centres] * rounds)
+    def box_lines(self, count=QUERIES, rounds=1):
+        return write(self.path("boxes"), ["box %d %d %d %d" % b for b in self.boxes(count)] * rounds)
+
+    def near_lines(self, count=QUERIES, rounds=1):
+        return write(self.path("near"), ["nearest %d %d %d" % (NEAREST, x, y) for x, y in self.centres[:count]] * rounds)
 
     def merged(self):
         """A folder with all points in one segment."""
         folder = self.path("merged")
         if not os.path.exists(folder):
-            bkd(self.empty("merged"), "run", source=self.adds("adds_merge", ["merge"])).done()
+            self.empty("merged")
+            bkd(folder, "load", "--columns", "x,y", source=self.csv()).done()
+            bkd(folder, "run", source=write(self.path("merge"), ["merge"])).done()
         return folder
 
 
@@ -123,18 +137,23 @@ def milliseconds(seconds):
 
 
 def add(data):
+    adds = ["create 2"] + ["add %d %d" % p for p in data.points]
+    plain, merging = write(data.path("adds"), adds), write(data.path("adds_merge"), adds + ["merge"])
     print("add: a script adds %d documents of two dimensions, one point each; answers go nowhere" % data.count)
-    for name, behind in (("added and committed", []), ("and merged into one segment", ["merge"])):
-        source = data.adds("adds", behind)
-        run = best(lambda: bkd(data.empty("added"), "run", source=source), 3)
-        print("  %-28s %s, processor %s" % (name, milliseconds(run.wall), milliseconds(run.processor)))
+    alone = None
+    for forks in ("0", "1", "2"):
+        spent = best(lambda: bkd(data.empty("added"), "run", "--forks", forks, source=plain), 3)
+        both = best(lambda: bkd(data.empty("added"), "run", "--forks", forks, source=merging), 3)
+        alone = alone or spent.wall
+        print("  forks %s added and committed %s, processor %s, ratio %4.2f; with merge %s" % (
+            forks, milliseconds(spent.wall), milliseconds(spent.processor), spent.wall / alone, milliseconds(both.wall)))
 
 
 def each_line(data, write_lines):
     """The time of a line on kept pages: what two further rounds of the same lines take more."""
     folder = data.merged()
-    once = best(lambda: bkd(folder, "run", source=write_lines(rounds=1)))
-    thrice = best(lambda: bkd(folder, "run", source=write_lines(rounds=3)))
+    once = best(lambda: bkd(folder, "run", "--cache", "65536", source=write_lines(rounds=1)))
+    thrice = best(lambda: bkd(folder, "run", "--cache", "65536", source=write_lines(rounds=3)))
     return (thrice.wall - once.wall) / (2 * QUERIES)
 
 
@@ -154,7 +173,130 @@ def opening(data):
     print("  the index       %s" % milliseconds(opened.wall))
 
 
-KINDS = {"add": add, "lines": lines, "open": opening}
+def load(data):
+    source = data.csv()
+    print("load: %d records of two columns, %d bytes" % (data.count, os.path.getsize(source)))
+    for forks in ("0", "1", "2", "3"):
+        run = best(lambda: bkd(data.empty("loaded"), "load", "--columns", "x,y", "--forks", forks, source=source))
+        print("  forks %s %s, processor %s" % (forks, milliseconds(run.wall), milliseconds(run.processor)))
+
+
+def memory(data):
+    print("memory: the greatest resident memory of loading, its input and a run over an empty folder taken off")
+    bare = bkd(data.empty("none"), "run").done().memory
+    for count in (data.count, 2 * data.count, 4 * data.count):
+        source = data.csv(count)
+        run = bkd(data.empty("loaded"), "load", "--columns", "x,y", source=source).done()
+        beside = run.memory - bare - os.path.getsize(source)
+        print("  %9d points %7.1f MB, %5.1f bytes a point" % (count, beside / 1e6, beside / count))
+
+
+def in_order(text):
+    """The answers to boxes with the numbers of each in order."""
+    answers, count = [], 0
+    for line in text.splitlines():
+        if line.startswith("hits "):
+            answers.append([])
+        else:
+            answers[-1].append(int(line))
+    return [sorted(numbers) for numbers in answers]
+
+
+def compare(ours, theirs):
+    if ours != theirs:
+        at = next((i for i, (a, b) in enumerate(zip(ours, theirs)) if a != b), "the length")
+        sys.exit("the answers differ at %s" % at)
+
+
+def sqlite(data):
+    rows = write(data.path("rows"), ["%d,%d,%d,%d,%d" % (i, x, x, y, y) for i, (x, y) in enumerate(data.points)])
+    base = data.path("base")
+    made = write(data.path("make.sql"), [
+        "create virtual table points using rtree_i32(id, x0, x1, y0, y1);", ".import --csv %s points" % rows])
+
+    def make():
+        subprocess.run(["rm", "-f", base], check=True)
+        return Run(["sqlite3", "-batch", base], made)
+
+    theirs = best(make, 2)
+    ours = best(lambda: bkd(data.empty("loaded"), "load", "--columns", "x,y", source=data.csv()), 3)
+    print("sqlite: %d points, %d boxes; SQLite %s" % (data.count, QUERIES, Run(["sqlite3", "-version"], keep=True).text.split()[0]))
+    print("  loading: bkd load %s, R*Tree by .import %s, ratio %5.1f" % (
+        milliseconds(ours.wall), milliseconds(theirs.wall), theirs.wall / ours.wall))
+
+    def queries(count, rounds=1, between=()):
+        asked = ["select id from points where x0 >= %d and x1 <= %d and y0 >= %d and y1 <= %d;" % (b[0], b[2], b[1], b[3]) for b in data.boxes(count)]
+        texts = ["pragma mmap_size = 1000000000;", "pragma cache_size = -1000000;"]
+        return write(data.path("asked.sql"), texts + [line for one in asked for line in (*between, one)] * rounds)
+
+    told = Run(["sqlite3", "-batch", base], queries(COMPARED, between=("select 'hits ';",)), keep=True).done().text
+    told = told[told.index("hits "):]
+    compare(in_order(bkd(data.merged(), "run", source=data.box_lines(COMPARED), keep=True).done().text), in_order(told))
+    once = best(lambda: Run(["sqlite3", "-batch", base], queries(QUERIES)), 3)
+    thrice = best(lambda: Run(["sqlite3", "-batch", base], queries(QUERIES, 3)), 3)
+    each, mine = (thrice.wall - once.wall) / (2 * QUERIES), each_line(data, data.box_lines)
+    print("  a box, read as a line and its numbers written: bkd %.2f us, R*Tree %.2f us, ratio %5.1f; %d answers compared" % (
+        mine * 1e6, each * 1e6, each / mine, COMPARED))
+
+
+def jars():
+    folder = os.environ.get("LUCENE", "/usr/share/java")
+    found = [glob.glob(os.path.join(folder, "lucene-%s-8*.jar" % name)) for name in ("core", "sandbox")]
+    if not all(found):
+        sys.exit("no lucene-core-8*.jar and lucene-sandbox-8*.jar in %s: apt-get install liblucene8-java" % folder)
+    return ":".join(sorted(one)[-1] for one in found)
+
+
+def lucene(data):
+    classes = data.empty("classes")
+    paths = jars()
+    subprocess.run(["javac", "-cp", paths, "-d", classes, os.path.join(HERE, "Lucene.java")], check=True)
+
+    def java(*words, keep=False):
+        return Run(["java", "-Xmx2g", "-cp", paths + ":" + classes, "Lucene", *words], keep=keep)
+
+    points = write(data.path("points"), ["%d %d" % p for p in data.points])
+    theirs = best(lambda: java("index", points, data.empty("apart"), "apart"), 2)
+    ours = best(lambda: bkd(data.empty("loaded"), "load", "--columns", "x,y", source=data.csv()), 3)
+    print("lucene: %d points; %s" % (data.count, os.path.basename(paths.split(":")[0])))
+    print("  loading, the virtual machine's start counted in: bkd load %s, Lucene %s, ratio %5.1f" % (
+        milliseconds(ours.wall), milliseconds(theirs.wall), theirs.wall / ours.wall))
+    java("index", points, data.empty("together"), "merge").done()
+    boxes = write(data.path("box_queries"), ["%d %d %d %d" % b for b in data.boxes(COMPARED)])
+    near = write(data.path("near_queries"), ["%d %d" % p for p in data.centres[:COMPARED]])
+    # in the program's own time, after rounds that warm the virtual machine
+    boxed = java("boxes", data.path("together"), boxes, "20", keep=True).done()
+    nearest = java("near", data.path("together"), near, "20", str(NEAREST), points, keep=True).done()
+    compare(in_order(bkd(data.merged(), "run", source=data.box_lines(COMPARED), keep=True).done().text), in_order(boxed.text))
+    compare(distances(bkd(data.merged(), "run", source=data.near_lines(COMPARED), keep=True).done().text), distances(nearest.text))
+    for name, run, write_lines in (("a box      ", boxed, data.box_lines), ("the nearest", nearest, data.near_lines)):
+        each, mine = float(run.said.split()[-1]) / 1e6, each_line(data, write_lines)
+        print("  %s: bkd, read as a line and its answer written, %.2f us; Lucene, warm and without texts, %.2f us, ratio %5.1f; %d answers compared" % (
+            name, mine * 1e6, each * 1e6, each / mine, COMPARED))
+
+
+def distances(text):
+    """The distances of each answer to a query for the nearest, in order; of equally near ones another may be found."""
+    return [line if line.startswith("near ") else line.split()[1] for line in text.splitlines()]
+
+
+def limits(data):
+    print("limits: what is answered to inputs that are as long as they may be, and longer")
+    path = data.path("long")
+    for size, wanted in ((LIMIT, {"run": 2, "explain": 2, "load": 2}), (LIMIT + 1, {"run": 8, "explain": 8, "load": 8})):
+        with open(path, "wb") as file:
+            file.truncate(size)
+        for command, status in wanted.items():
+            folder = data.empty("limits")
+            words = [command, "--columns", "a"] if command == "load" else [command]
+            run = bkd(folder, *words, source=path, keep=True)
+            told = run.text.splitlines()[0] if run.text else ""
+            print("  %d bytes, %-7s status %d %s%s" % (size, command, run.status, told, run.said.strip()))
+            if run.status != status or os.listdir(folder):
+                sys.exit("wanted status %d and an empty folder" % status)
+
+
+KINDS = {"add": add, "lines": lines, "open": opening, "load": load, "memory": memory, "sqlite": sqlite, "lucene": lucene, "limits": limits}
 
 
 if __name__ == "__main__":

@@ -12,7 +12,7 @@ use Rattle.bkd_top.specs.declared.stop.Stop.TheVariants as stop
 use Rattle.bkd_top.specs.declared.status.Status.{Status}
 use Rattle.bkd_top.specs.declared.status.Status.TheVariants as status
 
-abbrev counted : Bool → ℕ → Status
+abbrev pub counted : Bool → ℕ → Status
 counted b count = if b then status.Done else status.SomeRefused count
 
 undamaged : (b : Bool) (count : ℕ) → IsDamaged (counted b count) → ⊥

@@ -3,4 +3,8 @@ pub mod Ending
 pub mod Going
 pub mod Lined
 pub mod Opened
+pub mod Telling
+pub mod Whole
 pub mod Sizes
+pub mod Commanding
+pub mod Scoped

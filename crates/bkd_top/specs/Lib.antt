@@ -1,7 +1,7 @@
 pub mod Answers
+pub mod Commands
 pub mod Origins
 pub mod Progress
 pub mod Runs
 pub mod Stops
 pub mod Texts
-pub mod Words

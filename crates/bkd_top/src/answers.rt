@@ -59,7 +59,7 @@ pub fn answer_line<const D: usize, R: Threads + Sync, F: Folder, K: Sink, G: Gat
 }
 
 /// Sends an answer in one piece, and hands on what is known of its line.
-fn send<T: Copy, K: Sink>(out: &mut K, reply: &[u8], known: T) -> Result<T, Stop>
+pub fn send<T: Copy, K: Sink>(out: &mut K, reply: &[u8], known: T) -> Result<T, Stop>
     ensures known { IfOk result (λ x. x ≡ known) }
     ensures text { IsTrue K.told → IsSent reply.now (K.written out.old) (K.written out.new) result }
     ensures sink { IsErrOf result Stop.SinkFault → Rose (K.faults out.old) (K.faults out.new) }

@@ -1,18 +1,23 @@
 //! The top call.
 
-ghost use Rattle.std.specs.Prelude.{◌≡◌, ◌≤◌, ◌<◌, ◌^◌, length, [], true, false, IsTrue};
+ghost use Rattle.std.specs.Prelude.{◌≡◌, ◌≤◌, ◌<◌, ◌^◌, ◌⊎◌, length, map, Some, [], true, false, IsTrue, string_bytes};
 ghost use Rattle.outer_io.specs.Faults.{Rose};
 ghost use Rattle.script_lang.specs.Lines.{lines_of};
 ghost use Rattle.index_model.specs.State.{State};
 ghost use Rattle.stored_index.specs.Stored.{IsStored};
 ghost use Rattle.bkd_top.specs.Progress.{start};
 ghost use Rattle.bkd_top.specs.Runs.{Ends, GoesOn, DoesNothing, IsDamaged};
-ghost use Rattle.bkd_top.specs.Words.{is_run};
+ghost use Rattle.command_words.specs.Commands.{Asked, IsWithin, asked, said};
+ghost use Rattle.index_core.specs.Whole.{HasNewCanonical};
+ghost use Rattle.bkd_top.specs.Commands.{EndsAsked, IsAnswer, ReadsFew, does, is_explain, is_served, is_whole, reads_input};
 
+use crate::explain::run_explain;
 use crate::lines::{Work, run_lines};
 use crate::status::Status;
 use crate::stop::status_of;
+use crate::whole::{run_generate, run_load};
 use bkd_build::Gate;
+use command_words::{Words, WordsFault, read_words};
 use index_core::Settings;
 use outer_io::{Folder, ReadAll, Sink, Source, read_all};
 use std::alloc::Global;
@@ -22,14 +27,19 @@ use std::thread::Threads;
 /// The greatest input, in bytes.
 pub const MAX_INPUT: u64 = 536_870_912;
 
-/// Runs the program with these words: `FOLDER run` reads a script from the input, does its lines one after the other on the
-/// index that the folder stores, and writes the answer to each before the next one is done. At the end it commits, if
-/// something changed.
+/// Runs the program with these words: a folder, a command and its options.
 ///
-/// **The headline.** On a folder that stores an index, or none, what is written is, line for line, what a scan of the live
-/// documents answers to the script's adds, deletes and queries, whatever flushes, merges, snapshots and reopenings stand
-/// between, and the folder stores the documents then live. The status is Done, or SomeRefused with the number of the refused
-/// lines, whichever call failed.
+/// | Command | What it does |
+/// |---|---|
+/// | `run` | reads a script, does its lines one after the other on the index that the folder stores, and writes the answer to each before the next one is done; at the end it commits, if something changed |
+/// | `load` | reads a CSV file, adds all its points, commits, and says how many |
+/// | `explain` | reads queries, and says of each how much of the stored segments it tests and touches, and how much it finds |
+/// | `generate` | makes an index of drawn documents, commits, and says what drawn queries find in it |
+///
+/// **The headline.** On a folder that stores an index, or none, what `run` writes is, line for line, what a scan of the live documents
+/// answers to the script's adds, deletes and queries, whatever flushes, merges, snapshots and reopenings stand between, and the folder
+/// stores the documents then live. The status is Done, or SomeRefused with the number of the refused lines, whichever call failed. The
+/// other commands write and leave what their definitions say (`specs/Commands`).
 pub fn run<S: Source, F: Folder, K: Sink, R: Threads + Sync, G: Gate>(
     rt: &R,
     alloc: Global,
@@ -39,33 +49,89 @@ pub fn run<S: Source, F: Folder, K: Sink, R: Threads + Sync, G: Gate>(
     out: &mut K,
     gate: &G,
 ) -> Status
-    ensures usage { is_run words.now ≡ false → result ≡ Status.Usage }
-    ensures only_usage { result ≡ Status.Usage → is_run words.now ≡ false }
+    ensures usage { is_served (asked (map string_bytes words.now)) ≡ false → (result ≡ Status.Usage) ⊎ (result ≡ Status.Memory) }
+    ensures only_usage { result ≡ Status.Usage → is_served (asked (map string_bytes words.now)) ≡ false }
     // the headline, and what each other end leaves of the text and the folder
-    ensures ends { IsTrue S.told → IsTrue F.told → (state : State) → IsStored (F.files folder.old) state
-        → Ends (IsTrue K.told) (start state (lines_of (S.left input.old)) (K.written out.old)) (F.files folder.new) (K.written out.new) result }
-    ensures source { IsTrue S.told → GoesOn result → S.left input.new ≡ [] }
+    ensures ends { IsTrue S.told → IsTrue F.told → (state : State) → IsStored (F.files folder.old) state → (a : Asked) → asked (map string_bytes words.now) ≡ Some a
+        → EndsAsked (IsTrue K.told) a (record { state = state; files = F.files folder.old; input = S.left input.old; written = K.written out.old })
+        (F.files folder.new) (K.written out.new) result }
+    ensures source { IsTrue S.told → does (λ a. reads_input a) (asked (map string_bytes words.now)) ≡ true → GoesOn result → S.left input.new ≡ [] }
     ensures untouched { DoesNothing result → (folder.new ≡ folder.old) × (out.new ≡ out.old) }
+    // explaining changes no file, whatever the status, and reads little
+    ensures files { IsTrue F.told → does (λ a. is_explain a) (asked (map string_bytes words.now)) ≡ true → F.files folder.new ≡ F.files folder.old }
+    ensures reads { IsTrue S.told → IsTrue F.told → does (λ a. is_explain a) (asked (map string_bytes words.now)) ≡ true
+        → ReadsFew (F.files folder.old) (lines_of (S.left input.old)) (F.reads folder.old) (F.reads folder.new) }
+    // each segment that loading or generating has the commit list anew is canonical
+    ensures canon { IsTrue F.told → (state : State) → IsStored (F.files folder.old) state → does (λ a. is_whole a) (asked (map string_bytes words.now)) ≡ true
+        → IsAnswer result → HasNewCanonical (F.files folder.old) (F.files folder.new) }
     // why it ended otherwise
     ensures damaged { IsTrue F.told → (state : State) → IsStored (F.files folder.old) state → IsDamaged result → ⊥ }
     ensures source_fault { result ≡ Status.SourceFault → Rose (S.faults input.old) (S.faults input.new) }
     ensures too_large { IsTrue S.told → result ≡ Status.TooLarge → 2 ^ 29 < length (S.left input.old) }
-    ensures not_larger { IsTrue S.told → GoesOn result → length (S.left input.old) ≤ 2 ^ 29 }
+    ensures not_larger { IsTrue S.told → does (λ a. reads_input a) (asked (map string_bytes words.now)) ≡ true → GoesOn result → length (S.left input.old) ≤ 2 ^ 29 }
     ensures folder_fault { result ≡ Status.FolderFault → Rose (F.faults folder.old) (F.faults folder.new) }
     ensures sink_fault { result ≡ Status.SinkFault → Rose (K.faults out.old) (K.faults out.new) }
 {
-    if is_run(words) {
-        run_script(rt, alloc, usual(), input, folder, out, gate)
-    } else {
-        Status::Usage
+    match read_words(alloc, words) {
+        Ok(words) => run_command(rt, alloc, words, input, folder, out, gate),
+        Err(WordsFault::Usage) => Status::Usage,
+        Err(WordsFault::Memory) => Status::Memory,
     }
 }
 
-/// The settings where no word gives others.
-fn usual() -> Settings {
-    Settings {
-        cache_pages: 1024,
-        forks: 1,
+/// Runs the command that the words ask for.
+fn run_command<S: Source, F: Folder, K: Sink, R: Threads + Sync, G: Gate>(
+    rt: &R,
+    alloc: Global,
+    words: Words,
+    input: &mut S,
+    folder: &mut F,
+    out: &mut K,
+    gate: &G,
+) -> Status
+    requires { IsWithin words }
+    ensures usage { result ≡ Status.Usage → is_served (Some (said words)) ≡ false }
+    ensures served { is_served (Some (said words)) ≡ false → result ≡ Status.Usage }
+    ensures ends { IsTrue S.told → IsTrue F.told → (state : State) → IsStored (F.files folder.old) state
+        → EndsAsked (IsTrue K.told) (said words) (record { state = state; files = F.files folder.old; input = S.left input.old; written = K.written out.old })
+        (F.files folder.new) (K.written out.new) result }
+    ensures source { IsTrue S.told → reads_input (said words) ≡ true → GoesOn result → S.left input.new ≡ [] }
+    ensures untouched { DoesNothing result → (folder.new ≡ folder.old) × (out.new ≡ out.old) }
+    ensures files { IsTrue F.told → is_explain (said words) ≡ true → F.files folder.new ≡ F.files folder.old }
+    ensures reads { IsTrue S.told → IsTrue F.told → is_explain (said words) ≡ true
+        → ReadsFew (F.files folder.old) (lines_of (S.left input.old)) (F.reads folder.old) (F.reads folder.new) }
+    ensures canon { IsTrue F.told → (state : State) → IsStored (F.files folder.old) state → is_whole (said words) ≡ true
+        → IsAnswer result → HasNewCanonical (F.files folder.old) (F.files folder.new) }
+    ensures damaged { IsTrue F.told → (state : State) → IsStored (F.files folder.old) state → IsDamaged result → ⊥ }
+    ensures source_fault { result ≡ Status.SourceFault → Rose (S.faults input.old) (S.faults input.new) }
+    ensures too_large { IsTrue S.told → result ≡ Status.TooLarge → 2 ^ 29 < length (S.left input.old) }
+    ensures not_larger { IsTrue S.told → reads_input (said words) ≡ true → GoesOn result → length (S.left input.old) ≤ 2 ^ 29 }
+    ensures folder_fault { result ≡ Status.FolderFault → Rose (F.faults folder.old) (F.faults folder.new) }
+    ensures sink_fault { result ≡ Status.SinkFault → Rose (K.faults out.old) (K.faults out.new) }
+{
+    match words {
+        Words::Run { cache_pages, forks } => {
+            let settings = Settings { cache_pages, forks };
+            run_script(rt, alloc, settings, input, folder, out, gate)
+        }
+        Words::Load { columns, forks } => {
+            run_load(
+                rt,
+                alloc,
+                columns.as_slice(),
+                forks,
+                input,
+                folder,
+                out,
+                gate,
+            )
+        }
+        Words::Explain { cache_pages } => run_explain(alloc, cache_pages, input, folder, out),
+        // not there yet
+        Words::Check => Status::Usage,
+        Words::Generate { docs, seed, forks } => {
+            run_generate(rt, alloc, docs, seed, forks, folder, out, gate)
+        }
     }
 }
 
@@ -124,14 +190,4 @@ fn run_text<F: Folder, K: Sink, R: Threads + Sync, G: Gate>(
         gate,
     };
     status_of(run_lines(&work, script, folder, out))
-}
-
-/// Whether the words are a folder and the command `run`.
-fn is_run(words: &[String]) -> bool
-    ensures { result ≡ is_run words.now }
-{
-    match words {
-        [_, command] => command.as_str() == "run",
-        _ => false,
-    }
 }

@@ -5,6 +5,9 @@ pub mod Answering
 pub mod Changing
 pub mod Sizes
 pub mod Leaving
+pub mod Adding
 pub mod Bringing
 pub mod Showing
 pub mod Keeping
+pub mod Listed
+pub mod Wholes

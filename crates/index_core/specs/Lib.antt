@@ -2,5 +2,6 @@ pub mod Sessions
 pub mod Steps
 pub mod Replies
 pub mod Effects
+pub mod Whole
 pub mod Costs
 pub mod Damages

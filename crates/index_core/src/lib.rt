@@ -7,10 +7,13 @@
 
 mod changes;
 mod commits;
+mod direct;
 mod queries;
 mod replies;
 mod session;
+mod work;
 
 pub use index_model::Applied;
 pub use segment_set::Settings;
 pub use session::Session;
+pub use work::Work;

@@ -64,9 +64,13 @@ impl<const D: usize> Session<D> {
         requires greatest_leaf { leaf ≤ leaf_limit D }
         ensures seen { IfOk result (λ s. (files : Files) → Sees D files s.set (new_index D leaf)) }
         ensures guards { IfOk result (λ s. (files : Files) → files CommitName ≡ None → Guards D files s) }
+        ensures bare { IfOk result (λ s. s.set.parts ≡ []) }
     {
+        let set = SegmentSet::new(alloc, leaf, settings)?;
+        // its list of names is empty, and has the files of all its segments
+        let _leaf = set.leaf();
         Ok(Session {
-            set: SegmentSet::new(alloc, leaf, settings)?,
+            set,
             settings,
             commit: None,
             refused: false,

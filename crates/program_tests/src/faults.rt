@@ -127,7 +127,11 @@ const MISSING: Damage = Damage::Missing {
 /// The statuses, their exit statuses, and the lines on standard error.
 const STATUSES: [(Status, u8, &str); 9] = [
     (Status::Done, 0, ""),
-    (Status::Usage, 1, "usage: bkd FOLDER run\n"),
+    (
+        Status::Usage,
+        1,
+        "usage: bkd FOLDER run|load|explain|check|generate [options]\n",
+    ),
     (Status::SomeRefused { count: 10 }, 2, "refused 10\n"),
     (Status::SourceFault, 3, "source fault\n"),
     (Status::FolderFault, 4, "folder fault\n"),

@@ -1,9 +1,45 @@
--- Where the words are of no command nothing is done.
-use Rattle.std.proofs.Common.{refl}
+-- The words say which command is run; where they are of none nothing is done.
+use Rattle.std.proofs.Common.{◌≡◌, Bool, true, false, Option, Some, None, refl, sym, ap, subst, ◌∙◌, ◌⊎◌, inl, inr}
+use Rattle.outer_io.specs.Files.{Files}
+use Rattle.script_lang.specs.Lines.{lines_of}
+use Rattle.command_words.specs.Commands.{Asked}
+use Rattle.bkd_top.specs.Commands.{Before, EndsAsked, does, is_explain, is_served, is_whole, reads_input}
+use Rattle.bkd_top.proofs.Commanding.{asked_is, no_memory_ends}
 use Rattle.bkd_top.proofs.program.run.Goals as goal
 
-pub returns-then-is_run-clause-only_usage : goal.returns-then-is_run-clause-only_usage
-returns-then-is_run-clause-only_usage g c = λ e. absurd (c.run_script.ensures.never_usage e)
+pub returns-in-Ok-clause-usage : goal.returns-in-Ok-clause-usage
+returns-in-Ok-clause-usage g c = λ e. inl (c.run_command.ensures.served (subst (λ (o : Option Asked). is_served o ≡ false) c.in-Ok.ensures.words e))
 
-pub returns-else-is_run-clause-ends : goal.returns-else-is_run-clause-ends
-returns-else-is_run-clause-ends g c = λ source told state h. record { text = λ sink. refl; stored = h }
+pub returns-in-Ok-clause-only_usage : goal.returns-in-Ok-clause-only_usage
+returns-in-Ok-clause-only_usage g c = λ e. subst (λ (o : Option Asked). is_served o ≡ false) (sym c.in-Ok.ensures.words) (c.run_command.ensures.usage e)
+
+pub returns-in-Ok-clause-ends : goal.returns-in-Ok-clause-ends
+returns-in-Ok-clause-ends g c = λ source told state h a is.
+    subst (λ (b : Asked). EndsAsked _ b _ _ _ c.run_command.result) (asked_is _ a _ c.in-Ok.ensures.words is) (c.run_command.ensures.ends source told state h)
+
+pub returns-in-Ok-clause-source : goal.returns-in-Ok-clause-source
+returns-in-Ok-clause-source g c = λ told e. c.run_command.ensures.source told (subst (λ (o : Option Asked). does (λ a. reads_input a) o ≡ true) c.in-Ok.ensures.words e)
+
+pub returns-in-Ok-clause-files : goal.returns-in-Ok-clause-files
+returns-in-Ok-clause-files g c = λ told e. c.run_command.ensures.files told (subst (λ (o : Option Asked). does (λ a. is_explain a) o ≡ true) c.in-Ok.ensures.words e)
+
+pub returns-in-Ok-clause-reads : goal.returns-in-Ok-clause-reads
+returns-in-Ok-clause-reads g c = λ source told e. c.run_command.ensures.reads source told (subst (λ (o : Option Asked). does (λ a. is_explain a) o ≡ true) c.in-Ok.ensures.words e)
+
+pub returns-in-Ok-clause-canon : goal.returns-in-Ok-clause-canon
+returns-in-Ok-clause-canon g c = λ told state h e. c.run_command.ensures.canon told state h (subst (λ (o : Option Asked). does (λ a. is_whole a) o ≡ true) c.in-Ok.ensures.words e)
+
+pub returns-in-Ok-clause-not_larger : goal.returns-in-Ok-clause-not_larger
+returns-in-Ok-clause-not_larger g c = λ told e. c.run_command.ensures.not_larger told (subst (λ (o : Option Asked). does (λ a. reads_input a) o ≡ true) c.in-Ok.ensures.words e)
+
+pub returns-in-Err-Usage-clause-usage : goal.returns-in-Err-Usage-clause-usage
+returns-in-Err-Usage-clause-usage g c = λ e. inl refl
+
+pub returns-in-Err-Usage-clause-only_usage : goal.returns-in-Err-Usage-clause-only_usage
+returns-in-Err-Usage-clause-only_usage g c = λ e. ap is_served (c.read_words.ensures.usage refl)
+
+pub returns-in-Err-Memory-clause-usage : goal.returns-in-Err-Memory-clause-usage
+returns-in-Err-Memory-clause-usage g c = λ e. inr refl
+
+pub returns-in-Err-Memory-clause-ends : goal.returns-in-Err-Memory-clause-ends
+returns-in-Err-Memory-clause-ends g c = λ source told state h a is. no_memory_ends _ a _ _ _ h (λ sink. refl)

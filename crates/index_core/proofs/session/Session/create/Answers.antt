@@ -1,6 +1,7 @@
--- A new session guards files without a Commit file.
+-- A new session guards files without a Commit file, and has no segment.
 use Rattle.std.proofs.Common.{inl}
 use Rattle.segment_set.proofs.Sizes.{set_fits}
+use Rattle.index_core.proofs.Adding.{bare_parts}
 use Rattle.index_core.proofs.session.Session.create.Goals as goal
 
 pub returns-clause-guards : goal.returns-clause-guards
@@ -8,3 +9,9 @@ returns-clause-guards g c files none = record { set = inl none; last = λ done. 
 
 pub new-requires : goal.new-requires
 new-requires g c = (set_fits g.row.D c.requires.dims.1, (c.requires.dims, (c.requires.least_leaf, c.requires.greatest_leaf)))
+
+pub leaf-leaf-requires : goal.leaf-leaf-requires
+leaf-leaf-requires g c = set_fits g.row.D c.requires.dims.1
+
+pub returns-clause-bare : goal.returns-clause-bare
+returns-clause-bare g c = bare_parts _ _ c.in_ok-set.ensures.names c.leaf-leaf.ensures.well.named

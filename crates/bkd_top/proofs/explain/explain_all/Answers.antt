@@ -1,0 +1,75 @@
+-- Each line is told after those before it.
+use Rattle.std.proofs.Common.{◌≡◌, length, arith, refl, sym, ap, ◌∙◌, IsTrue}
+use Rattle.std.proofs.lemmas.Bool.Decides.{nat_tests}
+use Rattle.segment_set.proofs.Sizes.{set_fits}
+use Rattle.bkd_top.proofs.Ending.{cause_from}
+use Rattle.bkd_top.proofs.Going.{at_most_one, no_lines, refused_more}
+use Rattle.bkd_top.proofs.Lined.{cause_to}
+use Rattle.bkd_top.proofs.Telling.{left_end, left_here, left_on, line_stops, stage_all, stage_here, stage_sent}
+use Rattle.bkd_top.proofs.explain.explain_all.Goals as goal
+
+pub tell_line-requires : goal.tell_line-requires
+tell_line-requires g c = (set_fits g.row.D c.requires.few, (c.requires.some, c.requires.few))
+
+pub lines-init : goal.lines-init
+lines-init g c = record {
+  going = λ told s e. (stage_here _ s _, e);
+  left = λ told s e t tells. left_here s _ _ _ t tells;
+  files = λ told. refl;
+  room = omega (arith, c.requires.lines);
+  counted = omega arith;
+  folder_later = omega arith;
+  sink_later = omega arith;
+}
+
+pub lines-preserved : goal.lines-preserved
+lines-preserved g c = record {
+  going = λ told s e.
+      let so_far = c.lines.invariant.going told s e in (
+        stage_sent _ s _ _ _ _ c.in-Ok.is_refused so_far.0 c.first_line.ensures.line refl (refused_more c.lines.refused c.in-Ok.is_refused _ _ refl c.from-refused.ensures) (c.in-Ok.ensures.ends told s so_far.1),
+        c.in-Ok.ensures.stays told s so_far.1,
+      );
+  left = λ told s e t tells.
+      let so_far = c.lines.invariant.going told s e in
+      left_on s _ _ _ _ _ _ _ _ c.first_line.ensures.line (c.lines.invariant.left told s e t tells) (c.in-Ok.ensures.reads told s so_far.1);
+  files = λ told. c.in-Ok.ensures.files told ∙ c.lines.invariant.files told;
+  room = omega (arith, c.lines.invariant.room, c.first_line.ensures.shorter);
+  counted = omega (arith, c.lines.invariant.counted, at_most_one _ _ c.from-refused.ensures);
+  folder_later = omega (arith, c.lines.invariant.folder_later, c.tell_line.ensures.cause.folder_later);
+  sink_later = omega (arith, c.lines.invariant.sink_later, c.tell_line.ensures.cause.sink_later);
+}
+
+pub returns-in-Err-clause-ends : goal.returns-in-Err-clause-ends
+returns-in-Err-clause-ends g c = λ told s e.
+    let so_far = c.lines.invariant.going told s e in
+    line_stops _ s _ _ _ _ _ c.in-Err.stop so_far.0 c.first_line.ensures.line (c.in-Err.ensures.ends told s so_far.1)
+
+pub returns-in-Err-clause-files : goal.returns-in-Err-clause-files
+returns-in-Err-clause-files g c = λ told. c.in-Err.ensures.files told ∙ c.lines.invariant.files told
+
+pub returns-in-Err-clause-reads : goal.returns-in-Err-clause-reads
+returns-in-Err-clause-reads g c = λ told s e t tells.
+    let so_far = c.lines.invariant.going told s e in
+    left_end s _ _ _ _ _ (left_on s _ _ _ _ _ _ _ _ c.first_line.ensures.line (c.lines.invariant.left told s e t tells) (c.in-Err.ensures.reads told s so_far.1))
+
+pub returns-in-Err-clause-cause : goal.returns-in-Err-clause-cause
+returns-in-Err-clause-cause g c = cause_from _ _ _ _ _ _ _ c.lines.invariant.folder_later c.lines.invariant.sink_later (cause_to _ _ _ _ c.in-Err.stop c.in-Err.ensures.cause)
+
+pub returns-clause-ends : goal.returns-clause-ends
+returns-clause-ends g c = λ told s e.
+    let none : length c.lines.rest.now ≡ 0 = grind (arith, nat_tests) in
+    stage_all _ s _ _ _ (c.lines.invariant.going told s e).0 (no_lines _ none) (λ sink. refl)
+
+pub returns-clause-files : goal.returns-clause-files
+returns-clause-files g c = c.lines.invariant.files
+
+pub returns-clause-reads : goal.returns-clause-reads
+returns-clause-reads g c = λ told s e t tells. left_end s _ _ _ _ _ (c.lines.invariant.left told s e t tells)
+
+pub returns-clause-cause : goal.returns-clause-cause
+returns-clause-cause g c = record {
+  folder_later = c.lines.invariant.folder_later;
+  sink_later = c.lines.invariant.sink_later;
+  folder = λ e. absurd cc;
+  sink = λ e. absurd cc;
+}

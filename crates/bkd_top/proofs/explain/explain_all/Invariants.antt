@@ -1,0 +1,27 @@
+use Rattle.std.proofs.Common.{◌≡◌, ◌≤◌, ◌<◌, ◌+◌, ◌^◌, List, length, IsTrue}
+use Rattle.script_lang.specs.Lines.{lines_of}
+use Rattle.explain_queries.specs.Explained.{Scope, Told, TellsLines}
+use Rattle.explain_queries.specs.Explains.{IsExplaining}
+use Rattle.bkd_top.specs.Commands.{Tellings}
+use Rattle.bkd_top.proofs.Telling.{Left}
+use Rattle.bkd_top.proofs.explain.explain_all.Given as goal
+
+-- the lines so far were told, and no more was read than leaves that they touch
+abbrev pub invariant-lines : goal.invariant-lines
+invariant-lines g l = record {
+  going : IsTrue g.F.Pages.told → (s : Scope) → IsExplaining g.row.D (g.F.Pages.files l.initial.folder) l.initial.set s
+      → Tellings (IsTrue g.K.Sink.told) s
+      (record { line = l.initial.number; refused = l.initial.refused; rest = lines_of l.initial.rest; written = g.K.Sink.written l.initial.out })
+      (record { line = l.number; refused = l.refused; rest = lines_of l.rest; written = g.K.Sink.written l.out })
+      × IsExplaining g.row.D (g.F.Pages.files l.folder) l.set s;
+  left : IsTrue g.F.Pages.told → (s : Scope) → IsExplaining g.row.D (g.F.Pages.files l.initial.folder) l.initial.set s → (t : Told) → TellsLines s l.initial.number (lines_of l.initial.rest) t
+      → Left s l.number (lines_of l.rest) (g.F.Pages.reads l.initial.folder) (g.F.Pages.reads l.folder) t.touched;
+  files : IsTrue g.F.Pages.told → g.F.Pages.files l.folder ≡ g.F.Pages.files l.initial.folder;
+  room : l.number + length l.rest < 2 ^ 64;
+  counted : l.refused ≤ l.number;
+  folder_later : g.F.Pages.faults l.initial.folder ≤ g.F.Pages.faults l.folder;
+  sink_later : g.K.Sink.faults l.initial.out ≤ g.K.Sink.faults l.out;
+}
+
+abbrev pub decreases-lines : goal.decreases-lines
+decreases-lines g l = length l.rest

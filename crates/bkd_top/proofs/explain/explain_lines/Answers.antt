@@ -1,0 +1,63 @@
+-- The lines are told over what the folder stores: no index, or the one whose commit was read.
+use Rattle.std.proofs.Common.{◌≡◌, ◌≤◌, ◌+◌, ◌/◌, length, None, IsTrue, arith, refl, sym, subst, ◌∙◌}
+use Rattle.outer_io.specs.declared.file_name.FileName.TheVariants.{Commit}
+use Rattle.outer_io.specs.Files.{Files, bytes_of}
+use Rattle.commit_list.specs.CommitFiles.{IsCommitFile}
+use Rattle.stored_index.specs.Opening.{segments_pages}
+use Rattle.explain_queries.specs.Explained.{IsScope, Scope}
+use Rattle.bkd_top.specs.Commands.{EndsTold}
+use Rattle.bkd_top.proofs.Ending.{cause_from}
+use Rattle.bkd_top.proofs.Lined.{fault_cause, not_damaged}
+use Rattle.bkd_top.proofs.Scoped.{commit_few, none_scope, opening_is}
+use Rattle.bkd_top.proofs.Telling.{unread_ends}
+use Rattle.bkd_top.proofs.explain.explain_lines.Goals as goal
+
+pub returns-in-Ok-None-clause-ends : goal.returns-in-Ok-None-clause-ends
+returns-in-Ok-None-clause-ends g c = λ told s scope.
+    subst (λ (q : Scope). EndsTold (IsTrue g.K.Sink.told) q 1 0 _ _ _ c.explain_none.result) (sym (none_scope _ s (rw c.in-Ok-None.field-0-is at (c.in-Ok-None.ensures.found told)) scope)) c.explain_none.ensures.ends
+
+pub returns-in-Ok-None-clause-files : goal.returns-in-Ok-None-clause-files
+returns-in-Ok-None-clause-files g c = c.in-Ok-None.ensures.files
+
+pub returns-in-Ok-None-clause-reads : goal.returns-in-Ok-None-clause-reads
+returns-in-Ok-None-clause-reads g c = λ told pages opening s scope t tells.
+    let same = c.in-Ok-None.ensures.unread told (rw c.in-Ok-None.field-0-is at (c.in-Ok-None.ensures.found told)) in omega (arith, same)
+
+pub returns-in-Ok-None-clause-cause : goal.returns-in-Ok-None-clause-cause
+returns-in-Ok-None-clause-cause g c = cause_from _ _ _ _ _ _ _ c.in-Ok-None.ensures.cause.later (omega arith) (c.explain_none.ensures.cause _)
+
+pub returns-in-Ok-Some-clause-ends : goal.returns-in-Ok-Some-clause-ends
+returns-in-Ok-Some-clause-ends g c = λ told s scope.
+    let same = c.in-Ok-Some.ensures.files told in
+    c.explain_stored.ensures.ends told
+    (subst (λ (f : Files). IsCommitFile (bytes_of (f Commit)) c.in-Ok-Some.commit) (sym same) (rw c.in-Ok-Some.field-0-is at (c.in-Ok-Some.ensures.found told))) s (subst (λ (f : Files). IsScope f s) (sym same) scope)
+
+pub returns-in-Ok-Some-clause-files : goal.returns-in-Ok-Some-clause-files
+returns-in-Ok-Some-clause-files g c = λ told. c.explain_stored.ensures.files told ∙ c.in-Ok-Some.ensures.files told
+
+pub returns-in-Ok-Some-clause-reads : goal.returns-in-Ok-Some-clause-reads
+returns-in-Ok-Some-clause-reads g c = λ told pages opening s scope t tells.
+    let same = c.in-Ok-Some.ensures.files told in
+    let says = rw c.in-Ok-Some.field-0-is at (c.in-Ok-Some.ensures.found told) in
+    let first = c.in-Ok-Some.ensures.most told c.in-Ok-Some.commit says in
+    let is = opening_is _ c.in-Ok-Some.commit s pages says scope opening in
+    let few = subst (λ (f : Files). g.F.Pages.reads c.explain_stored.new.folder ≤ g.F.Pages.reads c.read_commit.new.folder + segments_pages f c.in-Ok-Some.commit.listed s.heads + t.touched) same
+    (c.explain_stored.ensures.reads told (subst (λ (f : Files). IsCommitFile (bytes_of (f Commit)) c.in-Ok-Some.commit) (sym same) says) s (subst (λ (f : Files). IsScope f s) (sym same) scope) t tells) in
+    omega (arith, first, is, few)
+
+pub returns-in-Ok-Some-clause-cause : goal.returns-in-Ok-Some-clause-cause
+returns-in-Ok-Some-clause-cause g c = cause_from _ _ _ _ _ _ _ c.in-Ok-Some.ensures.cause.later (omega arith) c.explain_stored.ensures.cause
+
+pub returns-in-Err-clause-ends : goal.returns-in-Err-clause-ends
+returns-in-Err-clause-ends g c = λ told s scope.
+    unread_ends (IsTrue g.K.Sink.told) s 1 0 _ _ _ c.in-Err.fault (not_damaged _ s.state scope.stored (c.in-Err.ensures.absent told) (c.in-Err.ensures.whole told)) c.stopped.result c.stopped.ensures refl
+
+pub returns-in-Err-clause-files : goal.returns-in-Err-clause-files
+returns-in-Err-clause-files g c = c.in-Err.ensures.files
+
+pub returns-in-Err-clause-reads : goal.returns-in-Err-clause-reads
+returns-in-Err-clause-reads g c = λ told pages opening s scope t tells.
+    let few = commit_few _ s pages _ _ scope opening (c.in-Err.ensures.unread told) (c.in-Err.ensures.most told) in omega (arith, few)
+
+pub returns-in-Err-clause-cause : goal.returns-in-Err-clause-cause
+returns-in-Err-clause-cause g c = fault_cause _ _ _ c.in-Err.fault c.in-Err.ensures.cause c.stopped.result c.stopped.ensures

@@ -1,0 +1,4 @@
+pub mod Explaining
+pub mod Sizes
+pub mod There
+pub mod Nearby

@@ -1,0 +1,51 @@
+-- What is nearest is found, and the leaves as near are counted.
+use Rattle.std.proofs.Common.{Err, refl, sym, ap, ◌∙◌}
+use Rattle.std.proofs.lemmas.List.{length-map}
+use Rattle.std.proofs.lemmas.Result.{err_from_is_err_and}
+use Rattle.page_cache.specs.declared.faults.PageFault.{PageFault}
+use Rattle.point_codec.specs.declared.entries.Near.{Near}
+use Rattle.documents.specs.Nearest.{found_of}
+use Rattle.segment_view.specs.Parts.{heads_of}
+use Rattle.segment_set.specs.Sets.{SetData}
+use Rattle.explain_queries.specs.Explained.{reach}
+use Rattle.explain_queries.proofs.Explaining.{explains_done, explains_fault, explains_unsaid}
+use Rattle.explain_queries.proofs.Nearby.{near_told, near_touches, nearby, nearby_is}
+use Rattle.explain_queries.proofs.explain.tell_near.Goals as goal
+
+pub returns-in_err-found : goal.returns-in_err-found
+returns-in_err-found g c =
+    let p = err_from_is_err_and c.from_residual.result c.from_residual.ensures.1 in
+    explains_fault g.row.D _ _ _ _ c.in_err-found.field-0.0 _ (p.1 ∙ ap (λ (e : PageFault). Err e) p.2) (record {
+      seen = c.nearest.ensures.seen;
+      alone = c.nearest.ensures.alone;
+      files = c.nearest.ensures.files;
+      reads = λ told s e t tells. c.nearest.ensures.reads told e.seen.contents e.seen.stands (nearby g.row.D c.args.k _ _ c.args.at.now.c s e) (nearby_is g.row.D c.args.k _ _ c.args.at.now.c s e) t.touched (near_touches g.row.D c.args.k _ _ c.args.at.now.c s e t tells);
+      cause = c.in_err-found.ensures.cause;
+      whole = c.in_err-found.ensures.whole;
+    })
+
+pub returns-in_err-put_near : goal.returns-in_err-put_near
+returns-in_err-put_near g c =
+    let p = err_from_is_err_and c.from_residual-in_err-put_near.result c.from_residual-in_err-put_near.ensures.1 in
+    explains_unsaid g.row.D _ _ _ _ c.in_ok-found.found _ (p.1 ∙ ap (λ (e : PageFault). Err e) p.2) (record {
+      seen = c.nearest.ensures.seen;
+      alone = c.nearest.ensures.alone;
+      files = c.nearest.ensures.files;
+      reads = λ told s e t tells. c.nearest.ensures.reads told e.seen.contents e.seen.stands (nearby g.row.D c.args.k _ _ c.args.at.now.c s e) (nearby_is g.row.D c.args.k _ _ c.args.at.now.c s e) t.touched (near_touches g.row.D c.args.k _ _ c.args.at.now.c s e t tells);
+      cause = c.in_ok-found.ensures.cause;
+      whole = c.in_ok-found.ensures.whole;
+    })
+
+pub returns : goal.returns
+returns g c =
+    explains_done g.row.D _ _ _ _ c.in_ok-found.found (record {
+      seen = c.nearest.ensures.seen;
+      alone = c.nearest.ensures.alone;
+      files = c.nearest.ensures.files;
+      reads = λ told s e t tells. c.nearest.ensures.reads told e.seen.contents e.seen.stands (nearby g.row.D c.args.k _ _ c.args.at.now.c s e) (nearby_is g.row.D c.args.k _ _ c.args.at.now.c s e) t.touched (near_touches g.row.D c.args.k _ _ c.args.at.now.c s e t tells);
+      cause = c.in_ok-found.ensures.cause;
+      whole = c.in_ok-found.ensures.whole;
+    })
+    (λ told s e. near_told g.row.D c.args.k _ _ c.args.at.now.c s e _ _ c.in_ok-found.found.items c.survey_near-touched.result c.len.result _ _ c.survey_near-touched.ensures
+    (ap (λ (u : SetData). heads_of u.parts) c.nearest.ensures.alone.is) (c.reach.ensures ∙ ap (λ ns. reach c.args.k (found_of ns)) c.as_slice.ensures.value)
+    (c.in_ok-found.ensures.found told e.index e.seen e.index.docs refl) (c.len.ensures ∙ sym (length-map c.in_ok-found.found.items (λ (n : Near). (n.dist2, n.doc)))) c.in_ok-put_near.ensures)

@@ -1,0 +1,46 @@
+-- How a set whose index is explained goes from one place to another.
+use Rattle.std.specs.Prelude.{ℕ, ◌+◌, ◌≡◌, ◌≤◌, Bool, cond, List, ◌++◌, Some, Result, IfOk}
+use Rattle.outer_io.specs.Files.{Files}
+use Rattle.page_cache.specs.declared.faults.PageFault.{PageFault}
+use Rattle.page_cache.specs.Causes.{HasPageCause}
+use Rattle.page_cache.specs.Evidence.{NotDamaged}
+use Rattle.index_model.specs.State.{Index}
+use Rattle.segment_view.specs.Parts.{heads_of}
+use Rattle.segment_set.specs.Sets.{SetData}
+use Rattle.segment_set.specs.Seen.{Sees}
+use Rattle.explain_queries.specs.Explained.{Scope, Told}
+
+-- the set with these files is seen as the index that is looked at, and its segments have these heads
+pub record IsExplaining (D : ℕ) (files : Files) (set : SetData) (s : Scope) : Type 0 where
+  pub index : Index
+  pub state : s.state ≡ Some index
+  pub seen : Sees D files set index
+  pub heads : heads_of set.parts ≡ s.heads
+
+-- this is told of the index that is looked at
+abbrev pub InScope : Scope → (Index → Told → Type 0) → Told → Type 0
+InScope s tells t = (i : Index) × (s.state ≡ Some i) × tells i t
+
+-- what is told so is appended, and it is said whether the line is refused
+pub record IsTold (tells : Told → Type 0) (before after : List ℕ) (is_refused : Bool) : Type 0 where
+  pub told : Told
+  pub tells : tells told
+  pub text : after ≡ before ++ told.text
+  pub refused : told.refused ≡ cond is_refused 1 0
+
+-- a set between two lines: with the files of its folder, the folder's reads and faults, and the text
+pub record Place : Type 0 where
+  pub set : SetData
+  pub files : Files
+  pub reads : ℕ
+  pub faults : ℕ
+  pub text : List ℕ
+
+-- from the one place to the other it is told what there is to tell, no file changes, and no more is read than leaves that are touched
+pub record Explains (D : ℕ) (told : Type 0) (tells : Scope → Told → Type 0) (old new : Place) (result : Result Bool PageFault) : Type 0 where
+  pub does : told → (s : Scope) → IsExplaining D old.files old.set s → IfOk result (IsTold (tells s) old.text new.text)
+  pub stays : told → (s : Scope) → IsExplaining D old.files old.set s → IsExplaining D new.files new.set s
+  pub files : told → new.files ≡ old.files
+  pub reads : told → (s : Scope) → IsExplaining D old.files old.set s → (t : Told) → tells s t → new.reads ≤ old.reads + t.touched
+  pub cause : HasPageCause old.faults new.faults result
+  pub whole : told → (s : Scope) → IsExplaining D old.files old.set s → NotDamaged result

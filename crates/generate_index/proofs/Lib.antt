@@ -1,0 +1,3 @@
+pub mod Fewer
+pub mod Making
+pub mod Ended

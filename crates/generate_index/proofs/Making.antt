@@ -1,0 +1,127 @@
+-- A session that makes the index, call after call.
+use Rattle.std.proofs.Common.{◌≡◌, ◌+◌, ℕ, List, [], ◌∷◌, ◌++◌, Result, Ok, Err, OnOk, refl, sym, ap, subst, ◌∙◌, arith, ℤ}
+use Rattle.outer_io.specs.Files.{Files}
+use Rattle.page_cache.specs.declared.faults.PageFault.{PageFault}
+use Rattle.page_cache.specs.declared.faults.PageFault.TheVariants as page
+use Rattle.page_cache.specs.Causes.{HasPageCause}
+use Rattle.page_cache.specs.Evidence.{NotDamaged}
+use Rattle.documents.specs.Documents.{Document}
+use Rattle.index_model.specs.State.{Index, new_index}
+use Rattle.stored_index.specs.Kept.{SameKept}
+use Rattle.stored_index.proofs.KeptFiles.{kept_after, kept_itself}
+use Rattle.segment_view.specs.Parts.{Part}
+use Rattle.segment_set.specs.Seen.{Sees}
+use Rattle.index_core.specs.Sessions.{Guards, SessionData}
+use Rattle.index_core.specs.Effects.{BringsCanonical}
+use Rattle.index_core.specs.Whole.{Adds, Spot, with_points}
+use Rattle.index_core.proofs.Answering.{cause_then, fault_to, no_cause}
+use Rattle.index_core.proofs.Bringing.{brings_same, brings_then}
+use Rattle.drawn_points.specs.Draws.{point}
+use Rattle.drawn_points.specs.Generated.{document, documents, kept}
+use Rattle.generate_index.specs.Generates.{IsMade, Makes, drawn_index}
+
+abbrev pub At : Type 1
+At = Spot → Type 0
+
+on_ok_map : {T E P Q : Type 0} (r : Result T E) → (P → Q) → OnOk r P → OnOk r Q
+on_ok_map (Ok x) h p = h p
+on_ok_map (Err e) h p = tt
+
+on_ok_any : {T E P : Type 0} (r : Result T E) → P → OnOk r P
+on_ok_any (Ok x) p = p
+on_ok_any (Err e) p = tt
+
+-- nothing was done
+pub makes_none : {T : Type 0} (told : Type 0) (Before : At) (at : Spot) (x : T) → Makes told Before Before at at (Ok x)
+makes_none told Before at x = record {
+  made = λ t before. before;
+  guards = λ t guards. guards;
+  kept = λ t guards. kept_itself at.files;
+  canon = λ t. brings_same 2 at.files at.files at.session.set.parts at.session.set.parts refl refl;
+  cause = no_cause at.faults x;
+  whole = λ t before. tt;
+}
+
+-- some, and then more
+pub makes_then : {T U : Type 0} (told : Type 0) (Before Between After : At) (a b c : Spot) (x : U) (r : Result T PageFault) → Makes told Before Between a b (Ok x) → Makes told Between After b c r → Makes told Before After a c r
+makes_then told Before Between After a b c x r first second = record {
+  made = λ t before. second.made t (first.made t before);
+  guards = λ t guards. second.guards t (first.guards t guards);
+  kept = λ t guards. kept_after a.files b.files c.files (first.kept t guards) (second.kept t (first.guards t guards));
+  canon = λ t. brings_then 2 a.files b.files c.files a.session.set.parts b.session.set.parts c.session.set.parts (first.canon t) (second.canon t);
+  cause = cause_then a.faults b.faults c.faults r first.cause.fine second.cause;
+  whole = λ t before. second.whole t (first.made t before);
+}
+
+-- after a fault it says the same of all that was to come
+pub makes_stopped : {T U : Type 0} (told : Type 0) (Before After Later : At) (a b : Spot) (fault : PageFault) (r : Result U PageFault) → r ≡ Err fault → Makes {T = T} told Before After a b (Err fault)
+    → Makes told Before Later a b r
+makes_stopped {T = T} {U = U} told Before After Later a b fault r is makes = subst (Makes told Before Later a b) (sym is) (record {
+  made = λ t before. tt;
+  guards = makes.guards;
+  kept = makes.kept;
+  canon = makes.canon;
+  cause = fault_to a.faults b.faults fault makes.cause;
+  whole = λ t before. to_other fault (makes.whole t before);
+})
+  where
+    to_other : (f : PageFault) → NotDamaged (Err {X = T} f) → NotDamaged (Err {X = U} f)
+    to_other page.Failed whole = tt
+    to_other (page.Damaged d) whole = whole
+    to_other page.Memory whole = tt
+
+-- a drawn document was added
+pub makes_add : {T : Type 0} (told : Type 0) (seed n : ℕ) (p : List ℤ) (a b : Spot) (r : Result T PageFault) → p ≡ point seed n → kept 0 (documents seed n) ≡ documents seed n → kept 0 (documents seed (n + 1)) ≡ documents seed (n + 1)
+    → documents seed (n + 1) ≡ documents seed n ++ document seed n ∷ [] → Adds 2 told (p ∷ []) a b r → Makes told (IsMade seed n 0) (IsMade seed (n + 1) 0) a b r
+makes_add told seed n p a b r drawn all more_all more adds = record {
+  made = λ t before. on_ok_map r (subst (Sees 2 b.files b.session.set) one_more) (adds.seen t (drawn_index seed n 0) before);
+  guards = adds.guards;
+  kept = adds.kept;
+  canon = adds.canon;
+  cause = adds.cause;
+  whole = λ t before. adds.whole t (drawn_index seed n 0) before;
+}
+  where
+    grown : kept 0 (documents seed n) ++ record { number = n; points = p ∷ [] } ∷ [] ≡ kept 0 (documents seed (n + 1))
+    grown = (λ j. all j ++ record { number = n; points = drawn j ∷ [] } ∷ []) ∙ sym more ∙ sym more_all
+
+    one_more : with_points (drawn_index seed n 0) (p ∷ []) ≡ drawn_index seed (n + 1) 0
+    one_more = ap (λ (docs : List Document). record (new_index 2 333) { next = n + 1; given = n + 1; docs = docs }) grown
+
+-- a call that only reads
+pub makes_reads : {T : Type 0} (told : Type 0) (i : Index) (a b : Spot) (r : Result T PageFault) → (told → Sees 2 a.files a.session.set i → Sees 2 b.files b.session.set i)
+    → (told → Guards 2 a.files a.session → Guards 2 b.files b.session) → (told → b.files ≡ a.files) → b.session.set.parts ≡ a.session.set.parts → HasPageCause a.faults b.faults r
+    → (told → Sees 2 a.files a.session.set i → NotDamaged r) → Makes told (λ (at : Spot). Sees 2 at.files at.session.set i) (λ (at : Spot). Sees 2 at.files at.session.set i) a b r
+makes_reads told i a b r seen guards files parts cause whole = record {
+  made = λ t before. on_ok_any r (seen t before);
+  guards = guards;
+  kept = λ t g. subst (λ (f : Files). SameKept a.files f) (sym (files t)) (kept_itself a.files);
+  canon = λ t. brings_same 2 a.files b.files a.session.set.parts b.session.set.parts (files t) parts;
+  cause = cause;
+  whole = whole;
+}
+
+-- documents were taken out, without a call on the folder
+pub makes_deletes : {T : Type 0} (told : Type 0) (seed n : ℕ) (files : Files) (faults : ℕ) (s t : SessionData) (x : T)
+    → ((files : Files) (faults seed : ℕ) → IsMade seed n 0 (record { files = files; session = s; faults = faults }) → IsMade seed n n (record { files = files; session = t; faults = faults }))
+    → ((files : Files) → Guards 2 files s → Guards 2 files t) → ((files : Files) → BringsCanonical 2 files files s.set.parts t.set.parts)
+    → Makes told (IsMade seed n 0) (IsMade seed n n) (record { files = files; session = s; faults = faults }) (record { files = files; session = t; faults = faults }) (Ok x)
+makes_deletes told seed n files faults s t x made guards canon = record {
+  made = λ h before. made files faults seed before;
+  guards = λ h. guards files;
+  kept = λ h g. kept_itself files;
+  canon = λ h. canon files;
+  cause = no_cause faults x;
+  whole = λ h before. tt;
+}
+
+-- the value that is handed on is another one
+pub makes_ok : {T U : Type 0} (told : Type 0) (Before After : At) (a b : Spot) (x : T) (y : U) → Makes told Before After a b (Ok x) → Makes told Before After a b (Ok y)
+makes_ok told Before After a b x y makes = record {
+  made = makes.made;
+  guards = makes.guards;
+  kept = makes.kept;
+  canon = makes.canon;
+  cause = record { later = makes.cause.later; fine = makes.cause.fine; failed = λ e. absurd cc };
+  whole = λ t before. tt;
+}

@@ -1,0 +1,35 @@
+-- A session while it generates an index.
+use Rattle.std.specs.Prelude.{ℕ, List, Result, OnOk}
+use Rattle.outer_io.specs.Files.{Files}
+use Rattle.page_cache.specs.declared.faults.PageFault.{PageFault}
+use Rattle.page_cache.specs.Causes.{HasPageCause}
+use Rattle.page_cache.specs.Evidence.{NotDamaged}
+use Rattle.documents.specs.Documents.{Document}
+use Rattle.index_model.specs.State.{Index, new_index}
+use Rattle.stored_index.specs.Kept.{SameKept}
+use Rattle.segment_set.specs.Seen.{Sees}
+use Rattle.index_core.specs.Effects.{BringsCanonical}
+use Rattle.index_core.specs.Sessions.{SessionData, Guards}
+use Rattle.index_core.specs.Whole.{Spot}
+use Rattle.drawn_points.specs.Generated.{documents, kept}
+
+-- n drawn documents, without those below the bound whose numbers are multiples of 10
+abbrev pub drawn_index : (seed n bound : ℕ) → Index
+drawn_index seed n bound = record (new_index 2 333) { next = n; given = n; docs = kept bound (documents seed n) }
+
+-- those that stay in the end
+abbrev pub made_docs : (seed n : ℕ) → List Document
+made_docs seed n = kept n (documents seed n)
+
+-- the session is seen as that index
+abbrev pub IsMade : (seed n bound : ℕ) → Spot → Type 0
+IsMade seed n bound at = Sees 2 at.files at.session.set (drawn_index seed n bound)
+
+-- From the one place to the other the session comes from the one state to the other, where it is done. What is kept stays, and each segment that is written is canonical.
+pub record Makes {T : Type 0} (told : Type 0) (Before After : Spot → Type 0) (old new : Spot) (result : Result T PageFault) : Type 0 where
+  pub made : told → Before old → OnOk result (After new)
+  pub guards : told → Guards 2 old.files old.session → Guards 2 new.files new.session
+  pub kept : told → Guards 2 old.files old.session → SameKept old.files new.files
+  pub canon : told → BringsCanonical 2 old.files new.files old.session.set.parts new.session.set.parts
+  pub cause : HasPageCause old.faults new.faults result
+  pub whole : told → Before old → NotDamaged result

@@ -1,0 +1,185 @@
+-- Documents are added without a text for each.
+use Rattle.std.proofs.Common.{◌≡◌, ◌≤◌, ◌<◌, ◌+◌, ◌^◌, ℕ, true, false, List, [], ◌∷◌, ◌++◌, length, take, get_or, Result, Ok, Err, OnOk, refl, sym, ap, subst, ◌∙◌, arith, All, ℤ}
+use Rattle.std.proofs.lemmas.Bool.{both_ways}
+use Rattle.std.proofs.lemmas.List.Elements.{All-head}
+use Rattle.std.proofs.lemmas.List.Sums.{fold-append}
+use Rattle.std.proofs.lemmas.List.{length-append, length-map, length-take-le, map-append, take_all, take_more}
+use Rattle.outer_io.specs.Files.{Files}
+use Rattle.page_cache.specs.declared.faults.PageFault.{PageFault}
+use Rattle.page_cache.specs.declared.faults.PageFault.TheVariants as page
+use Rattle.page_cache.specs.Causes.{HasPageCause}
+use Rattle.page_cache.specs.Evidence.{NotDamaged}
+use Rattle.point_codec.specs.Points.{ordered}
+use Rattle.point_codec.specs.Seen.{coordinates_of}
+use Rattle.point_codec.specs.declared.coordinates.Point.{Point}
+use Rattle.file_names.specs.Names.{NameList}
+use Rattle.index_model.specs.State.{Index}
+use Rattle.stored_index.specs.Kept.{SameKept}
+use Rattle.stored_index.proofs.KeptFiles.{kept_after, kept_itself}
+use Rattle.segment_view.specs.Parts.{Part}
+use Rattle.segment_set.specs.Sets.{IsNamed, SetData}
+use Rattle.segment_set.specs.Seen.{Sees}
+use Rattle.segment_set.specs.Kept.{AreCanonical, Follows, KeepsNamed, StaysButCache}
+use Rattle.segment_set.proofs.Carried.{follows_same, keeps_calm}
+use Rattle.segment_set.specs.Faults.{HasCauseOf, OnAddDamage}
+use Rattle.segment_set.specs.declared.faults.AddFault.{AddFault}
+use Rattle.segment_set.specs.declared.faults.AddFault.TheVariants as add
+use Rattle.index_core.specs.Sessions.{Guards, SessionData}
+use Rattle.index_core.specs.Whole.{Adds, Spot, added, with_point, with_points}
+use Rattle.index_core.proofs.Answering.{cause_then, fault_to, memory_cause, no_cause}
+use Rattle.index_core.proofs.Bringing.{brings_same, brings_then, brings_written}
+use Rattle.index_core.proofs.Guarding.{guards_after, kept_after_calls}
+
+-- nothing was added
+pub adds_none : {T : Type 0} (D : ℕ) (told : Type 0) (at : Spot) (x : T) → Adds D told [] at at (Ok x)
+adds_none D told at x = record {
+  seen = λ t i seen. seen;
+  given = omega arith;
+  guards = λ t guards. guards;
+  kept = λ t guards. kept_itself at.files;
+  canon = λ t. brings_same D at.files at.files at.session.set.parts at.session.set.parts refl refl;
+  cause = no_cause at.faults x;
+  whole = λ t i seen. tt;
+}
+
+-- for want of memory nothing is
+pub adds_no_memory : {T : Type 0} (D : ℕ) (told : Type 0) (points : List (List ℤ)) (at : Spot) → Adds {T = T} D told points at at (Err page.Memory)
+adds_no_memory D told points at = record {
+  seen = λ t i seen. tt;
+  given = tt;
+  guards = λ t guards. guards;
+  kept = λ t guards. kept_itself at.files;
+  canon = λ t. brings_same D at.files at.files at.session.set.parts at.session.set.parts refl refl;
+  cause = memory_cause at.faults at.faults (omega arith);
+  whole = λ t i seen. tt;
+}
+
+on_ok_map : {T E P Q : Type 0} (r : Result T E) → (P → Q) → OnOk r P → OnOk r Q
+on_ok_map (Ok x) h p = h p
+on_ok_map (Err e) h p = tt
+
+-- some, and then more
+pub adds_then : {T U : Type 0} (D : ℕ) (told : Type 0) (xs ys : List (List ℤ)) (a b c : Spot) (x : U) (r : Result T PageFault)
+    → Adds D told xs a b (Ok x) → Adds D told ys b c r → Adds D told (xs ++ ys) a c r
+adds_then D told xs ys a b c x r first second = record {
+  seen = λ t i seen. on_ok_map r (subst (Sees D c.files c.session.set) (sym (fold-append with_point i xs ys))) (second.seen t (with_points i xs) (first.seen t i seen));
+  given = on_ok_map r (λ more. let long = length-append xs ys in let some = first.given in omega arith) second.given;
+  guards = λ t guards. second.guards t (first.guards t guards);
+  kept = λ t guards. kept_after a.files b.files c.files (first.kept t guards) (second.kept t (first.guards t guards));
+  canon = λ t. brings_then D a.files b.files c.files a.session.set.parts b.session.set.parts c.session.set.parts (first.canon t) (second.canon t);
+  cause = cause_then a.faults b.faults c.faults r first.cause.fine second.cause;
+  whole = λ t i seen. second.whole t (with_points i xs) (first.seen t i seen);
+}
+
+-- after a fault it says the same of all that were to come
+pub adds_stopped : {T U : Type 0} (D : ℕ) (told : Type 0) (xs ys : List (List ℤ)) (a b : Spot) (fault : PageFault) (r : Result U PageFault) → r ≡ Err fault
+    → Adds {T = T} D told xs a b (Err fault) → Adds D told ys a b r
+adds_stopped {T = T} {U = U} D told xs ys a b fault r is adds = subst (Adds D told ys a b) (sym is) (record {
+  seen = λ t i seen. tt;
+  given = tt;
+  guards = adds.guards;
+  kept = adds.kept;
+  canon = adds.canon;
+  cause = fault_to a.faults b.faults fault adds.cause;
+  whole = λ t i seen. to_other fault (adds.whole t i seen);
+})
+  where
+    to_other : (f : PageFault) → NotDamaged (Err {X = T} f) → NotDamaged (Err {X = U} f)
+    to_other page.Failed whole = tt
+    to_other (page.Damaged d) whole = whole
+    to_other page.Memory whole = tt
+
+-- ---- one document
+
+-- what the set's call says, in a session whose other parts stay
+pub record IsPut (D : ℕ) (told : Type 0) (point : List ℤ) (old new : Spot) (r : Result ℕ AddFault) : Type 0 where
+  pub commit : new.session.commit ≡ old.session.commit
+  pub refused : new.session.refused ≡ old.session.refused
+  pub leaf : new.session.set.leaf ≡ old.session.set.leaf
+  pub keeps : KeepsNamed told old.session.set.names new.session.set.names old.files new.files
+  pub follows : Follows old.session.set.names old.session.set.parts new.session.set.parts
+  pub second : told → AreCanonical D new.files old.session.set.names new.session.set.parts
+  pub seen : told → (i : Index) → Sees D old.files old.session.set i → OnOk r (Sees D new.files new.session.set (with_point i point))
+  pub given : OnOk r (new.session.set.given ≡ old.session.set.given + 1)
+  pub cause : HasCauseOf add.Failed old.faults new.faults r
+  pub whole : told → (i : Index) → Sees D old.files old.session.set i → OnAddDamage r (λ _. ⊥)
+
+put_cause : (before now : ℕ) (r : Result ℕ AddFault) → HasCauseOf add.Failed before now r → HasPageCause before now (added r)
+put_cause before now (Ok n) cause = record { later = cause.later; fine = cause.fine; failed = λ e. absurd cc }
+put_cause before now (Err add.Full) cause = memory_cause before now cause.later
+put_cause before now (Err add.Failed) cause = record { later = cause.later; fine = tt; failed = λ e. cause.failed refl }
+put_cause before now (Err (add.Damaged d)) cause = record { later = cause.later; fine = tt; failed = λ e. absurd cc }
+put_cause before now (Err add.Memory) cause = memory_cause before now cause.later
+
+put_whole : (r : Result ℕ AddFault) → OnAddDamage r (λ _. ⊥) → NotDamaged (added r)
+put_whole (Ok n) whole = tt
+put_whole (Err add.Full) whole = tt
+put_whole (Err add.Failed) whole = tt
+put_whole (Err (add.Damaged d)) whole = whole
+put_whole (Err add.Memory) whole = tt
+
+put_ok : {P : Type 0} (r : Result ℕ AddFault) → OnOk r P → OnOk (added r) P
+put_ok (Ok n) p = p
+put_ok (Err fault) p = tt
+
+pub adds_one : (D : ℕ) (told : Type 0) (point : List ℤ) (old new : Spot) (r : Result ℕ AddFault) → IsPut D told point old new r → Adds D told (point ∷ []) old new (added r)
+adds_one D told point old new r put = record {
+  seen = λ t i seen. put_ok r (put.seen t i seen);
+  given = put_ok r put.given;
+  guards = λ t guards. guards_after D told old.files new.files old.session new.session t put.commit put.refused put.keeps put.follows put.leaf guards;
+  kept = λ t guards. kept_after_calls D told old.files new.files old.session.set new.session.set.names t put.keeps guards.set;
+  canon = λ t. brings_written D told old.files new.files old.session.set.names new.session.set.names old.session.set.parts new.session.set.parts t put.keeps put.follows (put.second t);
+  cause = put_cause old.faults new.faults r put.cause;
+  whole = λ t i seen. put_whole r (put.whole t i seen);
+}
+
+-- the points of a document of one point
+pub one_ordered : (point : List ℤ) → ordered (point ∷ []) ≡ point ∷ []
+one_ordered point = refl
+
+-- ---- of the session that the code opened
+
+pub adds_seen : {T : Type 0} (D : ℕ) (told : Type 0) (points : List (List ℤ)) (files : Files) (s u : SessionData) (faults : ℕ) (new : Spot) (r : Result T PageFault) → u ≡ s
+    → Adds D told points (record { files = files; session = u; faults = faults }) new r → Adds D told points (record { files = files; session = s; faults = faults }) new r
+adds_seen D told points files s u faults new r same adds = subst (λ (v : SessionData). Adds D told points (record { files = files; session = v; faults = faults }) new r) same adds
+
+pub adds_memory_as : {T : Type 0} (D : ℕ) (told : Type 0) (points : List (List ℤ)) (at : Spot) (r : Result T PageFault) → r ≡ Err page.Memory → Adds D told points at at r
+adds_memory_as D told points at r is = subst (Adds D told points at at) (sym is) (adds_no_memory D told points at)
+
+pub adds_as : {T : Type 0} (D : ℕ) (told : Type 0) (points : List (List ℤ)) (old new : Spot) (r q : Result T PageFault) → q ≡ r → Adds D told points old new r → Adds D told points old new q
+adds_as D told points old new r q is adds = subst (Adds D told points old new) (sym is) adds
+
+-- ---- one point after the other
+
+-- one point more of the list
+pub adds_more : {T U : Type 0} (D : ℕ) (told : Type 0) (points : List (Point D)) (k : ℕ) (p : Point D) (a b c : Spot) (x : U) (r : Result T PageFault) → k < length points → p ≡ get_or points k p
+    → Adds D told (coordinates_of (take k points)) a b (Ok x) → Adds D told (p.c ∷ []) b c r → Adds D told (coordinates_of (take (k + 1) points)) a c r
+adds_more D told points k p a b c x r inside is first second =
+    subst (λ (qs : List (List ℤ)). Adds D told qs a c r)
+    (sym (map-append (λ (q : Point D). q.c) (take k points) (p ∷ [])) ∙ sym (ap coordinates_of (take_more points k p inside ∙ ap (λ (q : Point D). take k points ++ q ∷ []) (sym is))))
+    (adds_then D told (coordinates_of (take k points)) (p.c ∷ []) a b c x r first second)
+
+-- all of them
+pub adds_all : {T : Type 0} (D : ℕ) (told : Type 0) (points : List (Point D)) (k : ℕ) (a b : Spot) (r : Result T PageFault) → length points ≤ k → Adds D told (coordinates_of (take k points)) a b r
+    → Adds D told (coordinates_of points) a b r
+adds_all D told points k a b r long adds = subst (λ (qs : List (Point D)). Adds D told (coordinates_of qs) a b r) (take_all k points long) adds
+
+-- there is room for the next one
+pub room_for_next : (D : ℕ) (points : List (Point D)) (k before now : ℕ) → k < length points → before + length points ≤ 2 ^ 24 → now ≡ before + length (coordinates_of (take k points)) → now + 1 ≤ 2 ^ 24
+room_for_next D points k before now inside fits is =
+    let long = length-map (take k points) (λ (q : Point D). q.c) in let cut = length-take-le k points (omega (arith, inside)) in omega (arith, inside, fits, is, long, cut)
+
+-- ---- calls that only read
+
+pub guards_cache : (D : ℕ) (told : Type 0) (f g : Files) (s u : SessionData) (t : SetData) → u ≡ s → told → StaysButCache u.set t → (told → g ≡ f) → Guards D f s
+    → Guards D g (record { set = t; commit = u.commit; refused = u.refused })
+guards_cache D told f g s u t is h stays same guards = guards_after D told f g u (record { set = t; commit = u.commit; refused = u.refused }) h refl refl
+    (keeps_calm told u.set.names t.names f g (ap (λ (v : SetData). v.names) stays.is) same) (follows_same u.set.names u.set.parts t.parts (ap (λ (v : SetData). v.parts) stays.is))
+    (ap (λ (v : SetData). v.leaf) stays.is) (subst (Guards D f) (sym is) guards)
+
+-- ---- a new set
+
+-- segments whose files are all in an empty list of names are none
+pub bare_parts : (names : NameList) (parts : List Part) → names ≡ record { names = []; next_segment = 0 } → All (IsNamed names) parts → parts ≡ []
+bare_parts names [] is all = refl
+bare_parts names (p ∷ ps) is all = absurd (both_ways false refl (subst (λ (n : NameList). IsNamed n p) is (All-head (IsNamed names) p ps all)))

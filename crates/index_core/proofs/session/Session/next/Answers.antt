@@ -1,0 +1,14 @@
+-- What the set says of its numbers.
+use Rattle.std.proofs.Common.{◌≤◌, subst}
+use Rattle.index_core.specs.Sessions.{SessionData}
+use Rattle.segment_set.proofs.Sizes.{set_fits}
+use Rattle.index_core.proofs.session.Session.next.Goals as goal
+
+pub leaf-leaf-requires : goal.leaf-leaf-requires
+leaf-leaf-requires g c = set_fits g.row.D c.self.invariant.few
+
+pub next-requires : goal.next-requires
+next-requires g c = set_fits g.row.D c.self.invariant.few
+
+pub returns-clause-most : goal.returns-clause-most
+returns-clause-most g c = subst (λ (u : SessionData). u.set.next ≤ u.set.given) c.self.view_is c.leaf-leaf.ensures.well.numbered

@@ -1,0 +1,22 @@
+-- A document goes.
+use Rattle.std.proofs.Common.{refl, sym, ap, subst, ◌∙◌}
+use Rattle.segment_set.specs.Sets.{SetData}
+use Rattle.segment_set.specs.Seen.{Sees}
+use Rattle.segment_set.proofs.Sizes.{set_fits}
+use Rattle.segment_view.specs.Parts.{cleared}
+use Rattle.index_core.specs.Sessions.{SessionData}
+use Rattle.index_core.proofs.Bringing.{brings_cleared}
+use Rattle.index_core.proofs.session.Session.take_out.Goals as goal
+
+pub delete-requires : goal.delete-requires
+delete-requires g c = set_fits g.row.D c.self.invariant.few
+
+pub returns-clause-seen : goal.returns-clause-seen
+returns-clause-seen g c files i seen = c.delete.ensures.seen files i (subst (λ (u : SessionData). Sees g.row.D files u.set i) (sym c.self.view_is) seen)
+
+pub returns-clause-live : goal.returns-clause-live
+returns-clause-live g c files i seen = c.delete.ensures.live files i (subst (λ (u : SessionData). Sees g.row.D files u.set i) (sym c.self.view_is) seen)
+
+pub returns-clause-canon : goal.returns-clause-canon
+returns-clause-canon g c files =
+    brings_cleared g.row.D files c.args.doc _ _ (ap (λ (u : SetData). u.parts) c.delete.ensures.alone ∙ ap (λ (u : SessionData). cleared c.args.doc u.set.parts) c.self.view_is)

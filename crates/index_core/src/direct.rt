@@ -1,0 +1,145 @@
+//! What commands that are no lines of a script ask of a session: calls without a text.
+
+ghost use Rattle.std.specs.Prelude.{◌≡◌, ◌≤◌, ◌+◌, ◌^◌, ◌∷◌, [], length, IsTrue, IfOk};
+ghost use Rattle.outer_io.specs.Files.{Files};
+ghost use Rattle.point_codec.specs.Seen.{coordinates_of};
+ghost use Rattle.page_cache.specs.Causes.{HasPageCause};
+ghost use Rattle.page_cache.specs.Evidence.{NotDamaged};
+ghost use Rattle.documents.specs.Documents.{deleted, hits, is_live};
+ghost use Rattle.documents.specs.Nearest.{found_of, nearest};
+ghost use Rattle.index_model.specs.State.{Index};
+ghost use Rattle.segment_set.specs.Seen.{Sees};
+ghost use Rattle.index_core.specs.Sessions.{Guards};
+ghost use Rattle.index_core.specs.Effects.{BringsCanonical};
+ghost use Rattle.index_core.specs.Whole.{Adds, added};
+
+use crate::session::Session;
+use bkd_build::Gate;
+use cell_relate::Shape;
+use outer_io::Folder;
+use page_cache::PageFault;
+use point_codec::{Near, Point, Points, View};
+use segment_set::AddFault;
+use std::alloc::Global;
+use std::marker::Sync;
+use std::thread::Threads;
+
+impl<const D: usize> Session<D> {
+    /// The number of the next document.
+    pub fn next(&self) -> u32
+        ensures value { result ≡ self.now.set.next }
+        ensures most { self.now.set.next ≤ self.now.set.given }
+    {
+        let _leaf = self.set.leaf();
+        self.set.next()
+    }
+
+    /// How many points were ever given.
+    pub fn given(&self) -> u32
+        ensures value { result ≡ self.now.set.given }
+        ensures most { self.now.set.given ≤ 2 ^ 24 }
+    {
+        let _leaf = self.set.leaf();
+        self.set.given()
+    }
+
+    /// Adds a document of one point. What is kept stays, whatever is answered.
+    pub fn add_point<R: Threads + Sync, F: Folder, G: Gate>(
+        &mut self,
+        rt: &R,
+        alloc: Global,
+        folder: &mut F,
+        point: &Point<D>,
+        gate: &G,
+    ) -> Result<(), PageFault>
+        requires { self.old.set.given + 1 ≤ 2 ^ 24 }
+        ensures { Adds D (IsTrue F.told) (point.now.c ∷ [])
+            (record { files = F.files folder.old; session = self.old; faults = F.faults folder.old })
+            (record { files = F.files folder.new; session = self.new; faults = F.faults folder.new }) result }
+    {
+        let mut list = Vec::with_capacity(alloc, 1)?;
+        list.push_reserved(*point);
+        added(self.set.add(rt, alloc, folder, &Points::of(list), gate))
+    }
+
+    /// Adds a document for each point, in their order, without a copy of them. After a fault some are added.
+    pub fn add_points<R: Threads + Sync, F: Folder, G: Gate>(
+        &mut self,
+        rt: &R,
+        alloc: Global,
+        folder: &mut F,
+        points: &[Point<D>],
+        gate: &G,
+    ) -> Result<(), PageFault>
+        requires { self.old.set.given + length points.now ≤ 2 ^ 24 }
+        ensures { Adds D (IsTrue F.told) (coordinates_of points.now)
+            (record { files = F.files folder.old; session = self.old; faults = F.faults folder.old })
+            (record { files = F.files folder.new; session = self.new; faults = F.faults folder.new }) result }
+    {
+        for point in points {
+            self.add_point(rt, alloc, folder, point, gate)?;
+        }
+        Ok(())
+    }
+
+    /// Takes a document out. True exactly where it was live. It takes no memory and no folder.
+    pub fn take_out(&mut self, doc: u32) -> bool
+        ensures seen { (files : Files) (i : Index) → Sees D files self.old.set i → Sees D files self.new.set (record i { docs = deleted doc i.docs }) }
+        ensures live { (files : Files) (i : Index) → Sees D files self.old.set i → result ≡ is_live doc i.docs }
+        ensures guards { (files : Files) → Guards D files self.old → Guards D files self.new }
+        ensures canon { (files : Files) → BringsCanonical D files files self.old.set.parts self.new.set.parts }
+    {
+        self.set.delete(doc)
+    }
+
+    /// The numbers of the live documents that the shape has, ascending.
+    pub fn hits_of<S: Shape<D>, F: Folder>(
+        &mut self,
+        alloc: Global,
+        folder: &mut F,
+        shape: &mut S,
+    ) -> Result<Vec<u32>, PageFault>
+        ensures found { IsTrue F.told → (i : Index) → Sees D (F.files folder.old) self.old.set i → IfOk result (λ v. v.items ≡ hits (S.has shape.old) i.docs) }
+        ensures seen { IsTrue F.told → (i : Index) → Sees D (F.files folder.old) self.old.set i → Sees D (F.files folder.new) self.new.set i }
+        ensures guards { IsTrue F.told → Guards D (F.files folder.old) self.old → Guards D (F.files folder.new) self.new }
+        ensures files { IsTrue F.told → F.files folder.new ≡ F.files folder.old }
+        ensures parts { self.new.set.parts ≡ self.old.set.parts }
+        ensures cause { HasPageCause (F.faults folder.old) (F.faults folder.new) result }
+        ensures whole { IsTrue F.told → (i : Index) → Sees D (F.files folder.old) self.old.set i → NotDamaged result }
+    {
+        self.set.visit(alloc, folder, &View::Now, shape)
+    }
+
+    /// The `k` nearest live documents, the nearest first.
+    pub fn nearest_to<F: Folder>(
+        &mut self,
+        alloc: Global,
+        folder: &mut F,
+        at: &Point<D>,
+        k: u16,
+    ) -> Result<Vec<Near>, PageFault>
+        requires some { 1 ≤ k }
+        requires few { k ≤ 10000 }
+        ensures found { IsTrue F.told → (i : Index) → Sees D (F.files folder.old) self.old.set i → IfOk result (λ v. found_of v.items ≡ nearest k at.now.c i.docs) }
+        ensures seen { IsTrue F.told → (i : Index) → Sees D (F.files folder.old) self.old.set i → Sees D (F.files folder.new) self.new.set i }
+        ensures guards { IsTrue F.told → Guards D (F.files folder.old) self.old → Guards D (F.files folder.new) self.new }
+        ensures files { IsTrue F.told → F.files folder.new ≡ F.files folder.old }
+        ensures parts { self.new.set.parts ≡ self.old.set.parts }
+        ensures cause { HasPageCause (F.faults folder.old) (F.faults folder.new) result }
+        ensures whole { IsTrue F.told → (i : Index) → Sees D (F.files folder.old) self.old.set i → NotDamaged result }
+    {
+        self.set.nearest(alloc, folder, &View::Now, at, k)
+    }
+}
+
+/// What becomes of a document that is added where all points fit, so that `Full` is never answered.
+fn added(done: Result<u32, AddFault>) -> Result<(), PageFault>
+    ensures { result ≡ added done }
+{
+    match done {
+        Ok(_) => Ok(()),
+        Err(AddFault::Failed) => Err(PageFault::Failed),
+        Err(AddFault::Damaged(damage)) => Err(PageFault::Damaged(damage)),
+        Err(AddFault::Full | AddFault::Memory) => Err(PageFault::Memory),
+    }
+}

@@ -1,0 +1,256 @@
+-- A load from one place to another, by what each call of it answered.
+use Rattle.std.proofs.Common.{◌≡◌, ◌≤◌, ◌+◌, ◌^◌, ◌++◌, ℕ, Bool, true, false, List, [], length, Option, Some, None, Result, Ok, Err, OnOk, IfOk, IsErrOf, refl, sym, ap, subst, ◌∙◌, ◌⊎◌, inl, inr, ⊎_elim, ◌↔◌, arith, ℤ}
+use Rattle.std.specs.List.{Contains}
+use Rattle.outer_io.specs.declared.file_name.FileName.TheVariants.{Commit}
+use Rattle.outer_io.specs.Files.{Files, bytes_of}
+use Rattle.page_cache.specs.declared.faults.PageFault.{PageFault}
+use Rattle.page_cache.specs.declared.faults.PageFault.TheVariants as page
+use Rattle.page_cache.specs.Causes.{HasPageCause}
+use Rattle.page_cache.specs.Evidence.{NotDamaged}
+use Rattle.commit_list.specs.declared.listed.Listed.{Listed}
+use Rattle.commit_list.specs.Commits.{CommitData}
+use Rattle.commit_list.specs.CommitFiles.{IsCommitFile}
+use Rattle.commit_list.proofs.CommitPages.{file_there, one_file}
+use Rattle.index_model.specs.State.{Index, State, at_rest, new_index}
+use Rattle.index_model.specs.Script.{Answer}
+use Rattle.script_lang.specs.Reading.{greatest_leaf}
+use Rattle.script_lang.specs.Replies.{ended}
+use Rattle.stored_index.specs.Stored.{IsStored, index_of}
+use Rattle.stored_index.proofs.KeptFiles.{stored_still}
+use Rattle.stored_index.proofs.Whole.{held_for}
+use Rattle.documents.proofs.Lists.{nil_none}
+use Rattle.segment_view.specs.Parts.{Part}
+use Rattle.segment_set.specs.Seen.{Sees}
+use Rattle.index_core.specs.Effects.{BringsCanonical}
+use Rattle.index_core.specs.Sessions.{Guards, IsUnchanged, SessionData}
+use Rattle.index_core.specs.Steps.{SaysCommit, Stores}
+use Rattle.index_core.specs.Whole.{Adds, DoesWhole, HasNewCanonical, IsNewSegment, Spot, with_points}
+use Rattle.index_core.proofs.Answering.{cause_then, fault_cause, fault_to, memory_cause, no_cause}
+use Rattle.csv_load.specs.Loading.{points_of, records_of}
+use Rattle.csv_load.specs.declared.CsvFault.{CsvFault}
+use Rattle.load_points.specs.Loaded.{added, dims_text, full_text, loaded, loaded_by, loaded_text, matched, opened, refusal}
+use Rattle.load_points.specs.Loads.{HasDims, IsLoading, Loads, Place, StartsFrom, StartsNone}
+use Rattle.load_points.proofs.Counted.{added_is, done_answer, full_is, loaded_fault, loaded_points, matched_is, matched_not, rest_done}
+use Rattle.index_core.proofs.Bringing.{brings_then}
+use Rattle.index_core.proofs.Listed.{attached_listed, new_canonical}
+use Rattle.index_core.proofs.Wholes.{IsCommitted, does_fault}
+
+abbrev Starting : Type 1
+Starting = State → Type 0
+
+-- ---- faults
+
+-- a fault of a call after which what was stored, or what the answer leaves, is
+pub loads_fault : {T : Type 0} (told : Type 0) (Starts : Starting) (answer : State → Answer) (old new : Place) (fault : PageFault) (r : Result Bool PageFault) → r ≡ Err fault
+    → (told → (stored : State) → Starts stored → IsStored new.files stored ⊎ IsStored new.files (answer stored).state) → (told → (stored : State) → Starts stored → NotDamaged {T = T} (Err fault))
+    → HasPageCause {T = T} old.faults new.faults (Err fault) → Loads told Starts answer old new r
+loads_fault {T = T} told Starts answer old new fault r is stored whole cause = subst (Loads told Starts answer old new) (sym is) (record {
+  does = λ t state h. does_fault new.files state (answer state) old.text new.text fault (other fault (whole t state h)) (stored t state h);
+  unchanged = λ t. tt;
+  canon = λ t state h. tt;
+  cause = fault_to old.faults new.faults fault cause;
+})
+  where
+    other : (f : PageFault) → NotDamaged {T = T} (Err f) → NotDamaged {T = Bool} (Err f)
+    other page.Failed whole = tt
+    other page.Memory whole = tt
+    other (page.Damaged d) whole = whole
+
+-- for want of memory nothing is changed
+pub loads_no_memory : (told : Type 0) (Starts : Starting) (answer : State → Answer) (files : Files) (faults : ℕ) (before after : List ℕ) (r : Result Bool PageFault) → r ≡ Err page.Memory
+    → ((stored : State) → Starts stored → IsStored files stored)
+    → Loads told Starts answer (record { files = files; faults = faults; text = before }) (record { files = files; faults = faults; text = after }) r
+loads_no_memory told Starts answer files faults before after r is keeps =
+    loads_fault {T = Bool} told Starts answer _ _ page.Memory r is (λ t state h. inl (keeps state h)) (λ t state h. tt) (memory_cause faults faults (omega arith))
+
+-- ---- refusals
+
+pub loads_refused : (told : Type 0) (Starts : Starting) (answer : State → Answer) (files : Files) (faults : ℕ) (before after cause : List ℕ) → after ≡ before ++ ended cause
+    → ((stored : State) → Starts stored → IsStored files stored) → ((stored : State) → Starts stored → answer stored ≡ refusal stored cause)
+    → Loads told Starts answer (record { files = files; faults = faults; text = before }) (record { files = files; faults = faults; text = after }) (Ok true)
+loads_refused told Starts answer files faults before after cause grew keeps is = record {
+  does = λ t state h. subst (λ (a : Answer). DoesWhole files state a before after (Ok true)) (sym (is state h)) (grew, refl, keeps state h);
+  unchanged = λ t e. refl;
+  canon = λ t state h c says l inside apart head has. absurd (old_is_new files c says l inside apart);
+  cause = no_cause faults true;
+}
+  where
+    old_is_new : (files : Files) (c : CommitData) (says : IsCommitFile (bytes_of (files Commit)) c) (l : Listed) → Contains c.listed l → IsNewSegment files l.segment → ⊥
+    old_is_new files c says l inside apart = apart c says (l, inside, refl)
+
+-- ---- the same from elsewhere
+
+-- it starts so wherever it starts otherwise, and the answers are the same
+pub loads_as : (told : Type 0) (From Starts : Starting) (other answer : State → Answer) (old new : Place) (r : Result Bool PageFault) → ((stored : State) → From stored → Starts stored)
+    → ((stored : State) → From stored → other stored ≡ answer stored) → Loads told Starts answer old new r → Loads told From other old new r
+loads_as told From Starts other answer old new r starts same loads = record {
+  does = λ t state h. subst (λ (a : Answer). DoesWhole new.files state a old.text new.text r) (sym (same state h)) (loads.does t state (starts state h));
+  unchanged = loads.unchanged;
+  canon = λ t state h. loads.canon t state (starts state h);
+  cause = loads.cause;
+}
+
+-- what is said of files that tell themselves
+pub loads_told : (told : Type 0) (Starts : Starting) (answer : State → Answer) (old new : Place) (r : Result Bool PageFault) → Loads (Unit {0}) Starts answer old new r → Loads told Starts answer old new r
+loads_told told Starts answer old new r loads =
+    record { does = λ t. loads.does tt; unchanged = λ t. loads.unchanged tt; canon = λ t. loads.canon tt; cause = loads.cause }
+
+-- after a call that left the files
+pub loads_after : {U : Type 0} (told : Type 0) (From Starts : Starting) (answer : State → Answer) (old middle new : Place) (x : U) (r : Result Bool PageFault) → (told → middle.files ≡ old.files)
+    → middle.text ≡ old.text → HasPageCause old.faults middle.faults (Ok x) → (told → (stored : State) → From stored → Starts stored) → Loads told Starts answer middle new r → Loads told From answer old new r
+loads_after told From Starts answer old middle new x r same text cause starts loads = record {
+  does = λ t state h. subst (λ (bytes : List ℕ). DoesWhole new.files state (answer state) bytes new.text r) text (loads.does t state (starts t state h));
+  unchanged = λ t. subst (λ (f : Files). IfOk r (λ refused. refused ≡ true → new.files ≡ f)) (same t) (loads.unchanged t);
+  canon = λ t state h. subst (λ (f : Files). OnOk r (HasNewCanonical f new.files)) (same t) (loads.canon t state (starts t state h));
+  cause = cause_then old.faults middle.faults new.faults r cause.fine loads.cause;
+}
+
+-- ---- a session is opened
+
+-- a folder without a Commit file stores no index, and one whose Commit file says a commit stores one
+pub none_stored : (files : Files) (state : State) → files Commit ≡ None → IsStored files state → StartsNone files state
+none_stored files None none h = (refl, none)
+none_stored files (Some i) none h = absurd (let there = (file_there (files Commit) h.commit h.holds.commit).0 in cc)
+
+pub some_stored : (files : Files) (c : CommitData) (state : State) → IsCommitFile (bytes_of (files Commit)) c → IsStored files state → StartsFrom files c state
+some_stored files c state says h =
+    let held = held_for files c state h says in
+    (says, (index_of c held.0, held.2, subst (IsStored files) held.2 h))
+
+pub made_loading : (D leaf : ℕ) (files : Files) (s : SessionData) (stored : State) → leaf ≡ greatest_leaf D → Sees D files s.set (new_index D leaf) → (files Commit ≡ None → Guards D files s)
+    → s.set.parts ≡ [] → StartsNone files stored → IsLoading D files s stored
+made_loading D leaf files s stored is seen guards bare (no, absent) = record {
+  index = new_index D leaf;
+  seen = seen;
+  guards = guards absent;
+  keeps = subst (IsStored files) (sym no) absent;
+  is = ap (opened D) no ∙ ap (λ n. Some (new_index D n)) (sym is);
+  listed = λ p there apart. nil_none p ⊥ (subst (λ (ps : List Part). Contains ps p) bare there);
+}
+
+pub attached_loading : (D : ℕ) (files : Files) (c : CommitData) (s : SessionData) (stored : State) → ((i : Index) → IsStored files (Some i) → Sees D files s.set i) → Guards D files s → IsUnchanged s
+    → StartsFrom files c stored → IsLoading D files s stored
+attached_loading D files c s stored seen guards unchanged (says, i, is, holds) = record {
+  index = i;
+  seen = seen i holds;
+  guards = guards;
+  keeps = subst (IsStored files) (sym is) holds;
+  is = ap (opened D) is;
+  listed = attached_listed D files s guards unchanged;
+}
+
+-- what is stored is at rest, and so is a new index
+loading_rests : (D : ℕ) (files : Files) (s : SessionData) (stored : State) (l : IsLoading D files s stored) → at_rest l.index ≡ l.index
+loading_rests D files s None l = ap at_rest (sym (is_some _ _ l.is)) ∙ is_some _ _ l.is
+  where
+    is_some : (x y : Index) → Some x ≡ Some y → x ≡ y
+    is_some x y e = cc
+loading_rests D files s (Some i) l = ap at_rest (sym (is_some _ _ l.is) ∙ l.keeps.is) ∙ sym (sym (is_some _ _ l.is) ∙ l.keeps.is)
+  where
+    is_some : (x y : Index) → Some x ≡ Some y → x ≡ y
+    is_some x y e = cc
+
+-- ---- all points are added
+
+-- where not all fit
+pub loading_full : (D : ℕ) (told : Type 0) (files : Files) (s : SessionData) (faults : ℕ) (points : List (List ℤ)) (before after : List ℕ) → after ≡ before ++ ended full_text → 2 ^ 24 + 1 ≤ s.set.given + length points
+    → Loads told (IsLoading D files s) (λ stored. matched D stored points) (record { files = files; faults = faults; text = before }) (record { files = files; faults = faults; text = after }) (Ok true)
+loading_full D told files s faults points before after grew many =
+    loads_refused told (IsLoading D files s) _ files faults before after full_text grew (λ stored l. l.keeps)
+    (λ stored l. matched_is D stored l.index points l.is l.seen.dims ∙ full_is D stored l.index points l.is (subst (λ n. 2 ^ 24 + 1 ≤ n + length points) (sym l.seen.given) many))
+
+-- the answer where all fit
+fitting : (D : ℕ) (files : Files) (s : SessionData) (stored : State) (points : List (List ℤ)) (l : IsLoading D files s stored) → s.set.given + length points ≤ 2 ^ 24
+    → matched D stored points ≡ done_answer l.index points
+fitting D files s stored points l fits =
+    matched_is D stored l.index points l.is l.seen.dims ∙ added_is D stored l.index points l.is (subst (λ n. n + length points ≤ 2 ^ 24) (sym l.seen.given) fits)
+
+-- a fault while they are added: what was stored is
+pub adding_stopped : {T : Type 0} (D : ℕ) (told : Type 0) (answer : State → Answer) (points : List (List ℤ)) (a b : Spot) (before after : List ℕ) (fault : PageFault) (r : Result Bool PageFault) → r ≡ Err fault
+    → Adds {T = T} D told points a b (Err fault)
+    → Loads told (IsLoading D a.files a.session) answer (record { files = a.files; faults = a.faults; text = before }) (record { files = b.files; faults = b.faults; text = after }) r
+adding_stopped D told answer points a b before after fault r is adds = loads_fault told (IsLoading D a.files a.session) answer _ _ fault r is
+    (λ t stored l. inl (stored_still a.files b.files stored (adds.kept t l.guards) l.keeps))
+    (λ t stored l. adds.whole t l.index l.seen) adds.cause
+
+-- a fault of the commit after them: what was stored is, or all of it
+pub commit_stopped : {T U : Type 0} (D : ℕ) (told : Type 0) (points : List (List ℤ)) (a b c : Spot) (x : U) (before after : List ℕ) (fault : PageFault) (r : Result Bool PageFault) → r ≡ Err fault
+    → a.session.set.given + length points ≤ 2 ^ 24 → Adds D told points a b (Ok x) → IsCommitted {T = T} D told b c (Err fault)
+    → Loads told (IsLoading D a.files a.session) (λ stored. matched D stored points) (record { files = a.files; faults = a.faults; text = before }) (record { files = c.files; faults = c.faults; text = after }) r
+commit_stopped D told points a b c x before after fault r is fits adds commits = loads_fault told (IsLoading D a.files a.session) _ _ _ fault r is
+    (λ t stored l. ⊎_elim
+    (λ same. inl (stored_still b.files c.files stored same (stored_still a.files b.files stored (adds.kept t l.guards) l.keeps)))
+    (λ there. inr (subst (IsStored c.files) (sym (ap (λ (n : Answer). n.state) (fitting D a.files a.session stored points l fits)))
+    (subst (λ (i : Index). IsStored c.files (Some i)) (rest_done l.index points (loading_rests D a.files a.session stored l)) there)))
+    (commits.stored t (with_points l.index points) (adds.seen t l.index l.seen) (adds.guards t l.guards)))
+    (λ t stored l. commits.whole t (with_points l.index points) (adds.seen t l.index l.seen))
+    (cause_then a.faults b.faults c.faults (Err fault) adds.cause.fine commits.cause)
+
+-- all came, and are stored
+pub all_loaded : {T U : Type 0} (D : ℕ) (told : Type 0) (points : List (List ℤ)) (a b c : Spot) (x : U) (y : T) (next : ℕ) (before after : List ℕ)
+    → a.session.set.given + length points ≤ 2 ^ 24 → next ≡ a.session.set.next → after ≡ before ++ loaded_text (length points) (next + length points)
+    → Adds D told points a b (Ok x) → IsCommitted D told b c (Ok y)
+    → Loads told (IsLoading D a.files a.session) (λ stored. matched D stored points) (record { files = a.files; faults = a.faults; text = before }) (record { files = c.files; faults = c.faults; text = after }) (Ok false)
+all_loaded D told points a b c x y next before after fits first grew adds commits = record {
+  does = λ t stored l.
+      let at = adds.seen t l.index l.seen in
+      subst (λ (n : Answer). DoesWhole c.files stored n before after (Ok false)) (sym (fitting D a.files a.session stored points l fits)) (
+        grew ∙ ap (λ n. before ++ loaded_text (length points) (n + length points)) (first ∙ sym l.seen.next),
+        refl,
+        subst (λ (i : Index). IsStored c.files (Some i)) (rest_done l.index points (loading_rests D a.files a.session stored l))
+            (commits.stored t (with_points l.index points) at (adds.guards t l.guards)).0,
+      );
+  unchanged = λ t e. absurd cc;
+  canon = λ t stored l.
+      let at = adds.seen t l.index l.seen in
+      let guards = adds.guards t l.guards in
+      new_canonical D a.files c.files a.session.set c.session (with_points l.index points) l.listed
+      (brings_then D a.files b.files c.files a.session.set.parts b.session.set.parts c.session.set.parts (adds.canon t) (commits.brings t)) (commits.seen t (with_points l.index points) at) (commits.guards t guards)
+      (commits.says t guards) commits.unchanged;
+  cause = let one = adds.cause.fine in let two = commits.cause.fine in let late = adds.cause.later in let more = commits.cause.later in
+      record { later = omega arith; fine = two ∙ one; failed = λ e. absurd cc };
+}
+
+-- ---- answers
+
+-- a file that is refused for its fault
+pub file_refused : (told : Type 0) (Starts : Starting) (files : Files) (faults : ℕ) (before after : List ℕ) (input : List ℕ) (names : List (List ℕ)) (fault : CsvFault) (r : Result Bool PageFault)
+    → ((stored : State) → Starts stored → IsStored files stored) → points_of names (records_of input) ≡ Err fault
+    → Loads (Unit {0}) (IsStored files) (λ stored. loaded_by names stored (Err fault)) (record { files = files; faults = faults; text = before }) (record { files = files; faults = faults; text = after }) r
+    → Loads told Starts (λ stored. loaded stored input names) (record { files = files; faults = faults; text = before }) (record { files = files; faults = faults; text = after }) r
+file_refused told Starts files faults before after input names fault r keeps fails loads =
+    loads_as told Starts (IsStored files) _ _ _ _ r keeps (λ stored h. loaded_fault stored input names fault fails) (loads_told told (IsStored files) _ _ _ r loads)
+
+-- the commit was not read
+pub unread_commit : {T : Type 0} (told : Type 0) (answer : State → Answer) (old new : Place) (fault : PageFault) (r : Result Bool PageFault) → r ≡ Err fault → (told → new.files ≡ old.files)
+    → (told → (stored : State) → IsStored old.files stored → NotDamaged {T = T} (Err fault)) → HasPageCause {T = T} old.faults new.faults (Err fault) → Loads told (IsStored old.files) answer old new r
+unread_commit {T = T} told answer old new fault r is same whole cause =
+    loads_fault {T = T} told (IsStored old.files) answer old new fault r is (λ t stored h. inl (subst (λ (f : Files). IsStored f stored) (sym (same t)) h)) whole cause
+
+pub none_keeps : (files : Files) (stored : State) → StartsNone files stored → IsStored files stored
+none_keeps files stored (no, absent) = subst (IsStored files) (sym no) absent
+
+pub starts_keeps : (old new : Files) (c : CommitData) (stored : State) → new ≡ old → StartsFrom old c stored → IsStored new stored
+starts_keeps old new c stored same (says, i, is, holds) = subst (λ (f : Files). IsStored f stored) (sym same) (subst (IsStored old) (sym is) holds)
+
+-- the index that is there has the dimensions of the commit
+pub has_dims : (D : ℕ) (files : Files) (c : CommitData) (stored : State) → c.dims ≡ D → StartsFrom files c stored → HasDims files D stored
+has_dims D files c stored dims (says, i, is, holds) =
+    (subst (IsStored files) (sym is) holds, (i, is, ap (λ (j : Index). j.dims) holds.is ∙ ap (λ (d : CommitData). d.dims) (one_file (bytes_of (files Commit)) holds.commit c holds.holds.commit says) ∙ dims))
+
+-- what is stored is where the files are the same
+pub stored_still_there : (old new : Files) (stored : State) → new ≡ old → IsStored old stored → IsStored new stored
+stored_still_there old new stored same h = subst (λ (f : Files). IsStored f stored) (sym same) h
+
+-- as many columns as the index that is there hasn't dimensions
+pub dims_refused : (files : Files) (dims : ℕ) (stored : State) (input : List ℕ) (names : List (List ℕ)) (points : List (List ℤ)) → (length names ≡ dims → ⊥) → points_of names (records_of input) ≡ Ok points → HasDims files dims stored
+    → loaded stored input names ≡ refusal stored (dims_text dims)
+dims_refused files dims stored input names points other gives (is_stored, i, is, has) =
+    loaded_points (length names) stored input names points refl gives
+    ∙ ap (λ (o : State). matched (length names) o points) is
+    ∙ matched_not (length names) i points (λ e. other (e ∙ has))
+    ∙ (λ j. refusal (sym is j) (dims_text (has j)))
+
+-- where the files are the same, a session that loads into the index that is there does so still
+pub starts_still : (D : ℕ) (old new : Files) (c : CommitData) (s : SessionData) (stored : State) → new ≡ old → IsLoading D old s stored → HasDims old D stored → IsLoading D new s stored × HasDims new D stored
+starts_still D old new c s stored same loading has = subst (λ (f : Files). IsLoading D f s stored × HasDims f D stored) (sym same) (loading, has)

@@ -1,0 +1,53 @@
+-- How a load goes from one place to another.
+use Rattle.std.specs.Prelude.{ℕ, ◌≡◌, Bool, true, List, None, Some, Result, Contains, IfOk, OnOk}
+use Rattle.outer_io.specs.declared.file_name.FileName.TheVariants.{Commit}
+use Rattle.outer_io.specs.Files.{Files, bytes_of}
+use Rattle.page_cache.specs.declared.faults.PageFault.{PageFault}
+use Rattle.page_cache.specs.Causes.{HasPageCause}
+use Rattle.commit_list.specs.Commits.{CommitData}
+use Rattle.commit_list.specs.CommitFiles.{IsCommitFile}
+use Rattle.index_model.specs.State.{Index, State}
+use Rattle.index_model.specs.Script.{Answer}
+use Rattle.stored_index.specs.Stored.{IsStored}
+use Rattle.segment_view.specs.Parts.{Part}
+use Rattle.segment_set.specs.Seen.{Sees}
+use Rattle.index_core.specs.Sessions.{SessionData, Guards}
+use Rattle.index_core.specs.Whole.{DoesWhole, HasNewCanonical, IsNewSegment}
+use Rattle.load_points.specs.Loaded.{opened}
+
+-- a folder's files, its faults, and the text of the answer
+pub record Place : Type 0 where
+  pub files : Files
+  pub faults : ℕ
+  pub text : List ℕ
+
+-- From the one place to the other a load that starts so is answered so. A refused one changes no file, and each segment that is listed anew is canonical.
+pub record Loads (told : Type 0) (Starts : State → Type 0) (answer : State → Answer) (old new : Place) (result : Result Bool PageFault) : Type 0 where
+  pub does : told → (stored : State) → Starts stored → DoesWhole new.files stored (answer stored) old.text new.text result
+  pub unchanged : told → IfOk result (λ refused. refused ≡ true → new.files ≡ old.files)
+  pub canon : told → (stored : State) → Starts stored → OnOk result (HasNewCanonical old.files new.files)
+  pub cause : HasPageCause old.faults new.faults result
+
+-- ---- where it starts
+
+-- no index is there
+abbrev pub StartsNone : Files → State → Type 0
+StartsNone files stored = (stored ≡ None) × (files Commit ≡ None)
+
+-- the index is there that the folder's commit lists
+abbrev pub StartsFrom : Files → CommitData → State → Type 0
+StartsFrom files commit stored = IsCommitFile (bytes_of (files Commit)) commit × ((i : Index) × (stored ≡ Some i) × IsStored files (Some i))
+
+-- an index of so many dimensions is there
+abbrev pub HasDims : Files → (dims : ℕ) → State → Type 0
+HasDims files dims stored = IsStored files stored × ((i : Index) × (stored ≡ Some i) × (i.dims ≡ dims))
+
+-- A session is open: with these files it is seen as the index that is stored, or as a new one where none is, guards what is kept, and has no segment but those
+-- that are listed.
+pub record IsLoading (D : ℕ) (files : Files) (s : SessionData) (stored : State) : Type 0 where
+  pub index : Index
+  pub seen : Sees D files s.set index
+  pub guards : Guards D files s
+  pub keeps : IsStored files stored
+  pub is : opened D stored ≡ Some index
+  pub listed : (p : Part) → Contains s.set.parts p → IsNewSegment files p.head.id → ⊥

@@ -1,0 +1,313 @@
+//! The points of a file go into the index of a folder.
+
+ghost use Rattle.std.specs.Prelude.{◌≡◌, ◌≢◌, ◌≤◌, ◌<◌, ◌+◌, ◌^◌, MatchOption, ℕ, true, length, Ok, Err, IsTrue, IfOk, IfErr, OnOk, List, ℤ};
+ghost use Rattle.outer_io.specs.Files.{Files};
+ghost use Rattle.point_codec.specs.Seen.{coordinates_of};
+ghost use Rattle.page_cache.specs.Causes.{HasPageCause};
+ghost use Rattle.csv_load.specs.Loading.{points_of, records_of};
+ghost use Rattle.index_model.specs.State.{State};
+ghost use Rattle.stored_index.specs.Stored.{IsStored};
+ghost use Rattle.index_core.specs.Whole.{DoesWhole, HasNewCanonical};
+ghost use Rattle.load_points.specs.Loaded.{loaded, loaded_by, matched};
+ghost use Rattle.load_points.specs.Loads.{HasDims, IsLoading, Loads, StartsFrom, StartsNone};
+
+use crate::texts::{put_csv_fault, put_dims, put_full, put_loaded};
+use bkd_build::Gate;
+use byte_cursor::Bytes;
+use commit_list::{Commit, read_commit};
+use csv_load::{CsvFault, read_points};
+use index_core::{Session, Work};
+use leaf_codec::greatest_leaf;
+use outer_io::Folder;
+use page_cache::PageFault;
+use point_codec::Point;
+use std::alloc::{AllocError, Global};
+use std::marker::Sync;
+use std::thread::Threads;
+
+/// The greatest number of points that are ever given.
+const MAX_POINTS: u32 = 1 << 24;
+
+/// Adds the points of a CSV file to the index of a folder, and commits; the columns of these names are the dimensions. Where no index is
+/// there, one is made. The answer is appended to `text`; it is true where the load is refused: then the folder's files stay as they are.
+pub fn load<R: Threads + Sync, F: Folder, G: Gate>(
+    work: &Work<'_, R, G>,
+    columns: &[Bytes],
+    input: &[u8],
+    folder: &mut F,
+    text: &mut Vec<u8>,
+) -> Result<bool, PageFault>
+    requires some { 1 ≤ length columns.now }
+    requires few { length columns.now ≤ 8 }
+    ensures loads { IsTrue F.told → (state : State) → IsStored (F.files folder.old) state
+        → DoesWhole (F.files folder.new) state (loaded state input.now columns.now) text.old.items text.new.items result }
+    ensures unchanged { IsTrue F.told → IfOk result (λ refused. refused ≡ true → F.files folder.new ≡ F.files folder.old) }
+    ensures canon { IsTrue F.told → (state : State) → IsStored (F.files folder.old) state → OnOk result (HasNewCanonical (F.files folder.old) (F.files folder.new)) }
+    ensures cause { HasPageCause (F.faults folder.old) (F.faults folder.new) result }
+{
+    match read_commit(work.alloc, folder) {
+        Ok(Some(commit)) => load_stored(work, commit, columns, input, folder, text),
+        Ok(None) => load_first(work, columns, input, folder, text),
+        Err(fault) => Err(fault),
+    }
+}
+
+/// Loads into a folder that has no index.
+fn load_first<R: Threads + Sync, F: Folder, G: Gate>(
+    work: &Work<'_, R, G>,
+    columns: &[Bytes],
+    input: &[u8],
+    folder: &mut F,
+    text: &mut Vec<u8>,
+) -> Result<bool, PageFault>
+    requires some { 1 ≤ length columns.now }
+    requires few { length columns.now ≤ 8 }
+    ensures { Loads (IsTrue F.told) (StartsNone (F.files folder.old)) (λ stored. loaded stored input.now columns.now)
+        (record { files = F.files folder.old; faults = F.faults folder.old; text = text.old.items }) (record { files = F.files folder.new; faults = F.faults folder.new; text = text.new.items }) result }
+{
+    match columns.len() {
+        1 => load_new::<1, R, F, G>(work, columns, input, folder, text),
+        2 => load_new::<2, R, F, G>(work, columns, input, folder, text),
+        3 => load_new::<3, R, F, G>(work, columns, input, folder, text),
+        4 => load_new::<4, R, F, G>(work, columns, input, folder, text),
+        5 => load_new::<5, R, F, G>(work, columns, input, folder, text),
+        6 => load_new::<6, R, F, G>(work, columns, input, folder, text),
+        7 => load_new::<7, R, F, G>(work, columns, input, folder, text),
+        _ => load_new::<8, R, F, G>(work, columns, input, folder, text),
+    }
+}
+
+/// Loads into a new index of `D` dimensions.
+fn load_new<const D: usize, R: Threads + Sync, F: Folder, G: Gate>(
+    work: &Work<'_, R, G>,
+    columns: &[Bytes],
+    input: &[u8],
+    folder: &mut F,
+    text: &mut Vec<u8>,
+) -> Result<bool, PageFault>
+    requires some { 1 ≤ D }
+    requires few { D ≤ 8 }
+    requires named { length columns.now ≡ D }
+    ensures { Loads (IsTrue F.told) (StartsNone (F.files folder.old)) (λ stored. loaded stored input.now columns.now)
+        (record { files = F.files folder.old; faults = F.faults folder.old; text = text.old.items }) (record { files = F.files folder.new; faults = F.faults folder.new; text = text.new.items }) result }
+{
+    match Session::<D>::create(work.alloc, greatest_leaf(D as u8), work.settings) {
+        Ok(mut session) => load_into(work, &mut session, columns, input, folder, text),
+        Err(AllocError) => Err(PageFault::Memory),
+    }
+}
+
+/// Loads into the index that a commit lists.
+fn load_stored<R: Threads + Sync, F: Folder, G: Gate>(
+    work: &Work<'_, R, G>,
+    commit: Commit,
+    columns: &[Bytes],
+    input: &[u8],
+    folder: &mut F,
+    text: &mut Vec<u8>,
+) -> Result<bool, PageFault>
+    requires some { 1 ≤ length columns.now }
+    requires few { length columns.now ≤ 8 }
+    ensures { Loads (IsTrue F.told) (StartsFrom (F.files folder.old) commit) (λ stored. loaded stored input.now columns.now)
+        (record { files = F.files folder.old; faults = F.faults folder.old; text = text.old.items }) (record { files = F.files folder.new; faults = F.faults folder.new; text = text.new.items }) result }
+{
+    match commit.dims() {
+        1 => load_over::<1, R, F, G>(work, commit, columns, input, folder, text),
+        2 => load_over::<2, R, F, G>(work, commit, columns, input, folder, text),
+        3 => load_over::<3, R, F, G>(work, commit, columns, input, folder, text),
+        4 => load_over::<4, R, F, G>(work, commit, columns, input, folder, text),
+        5 => load_over::<5, R, F, G>(work, commit, columns, input, folder, text),
+        6 => load_over::<6, R, F, G>(work, commit, columns, input, folder, text),
+        7 => load_over::<7, R, F, G>(work, commit, columns, input, folder, text),
+        _ => load_over::<8, R, F, G>(work, commit, columns, input, folder, text),
+    }
+}
+
+/// Loads into the index of `D` dimensions that a commit lists.
+fn load_over<const D: usize, R: Threads + Sync, F: Folder, G: Gate>(
+    work: &Work<'_, R, G>,
+    commit: Commit,
+    columns: &[Bytes],
+    input: &[u8],
+    folder: &mut F,
+    text: &mut Vec<u8>,
+) -> Result<bool, PageFault>
+    requires dims { commit.dims ≡ D }
+    requires least_dims { 1 ≤ D }
+    requires most_dims { D ≤ 8 }
+    requires some { 1 ≤ length columns.now }
+    requires few { length columns.now ≤ 8 }
+    ensures { Loads (IsTrue F.told) (StartsFrom (F.files folder.old) commit) (λ stored. loaded stored input.now columns.now)
+        (record { files = F.files folder.old; faults = F.faults folder.old; text = text.old.items }) (record { files = F.files folder.new; faults = F.faults folder.new; text = text.new.items }) result }
+{
+    match Session::<D>::attach(work.alloc, folder, commit, work.settings) {
+        Ok(mut session) => load_open(work, &mut session, columns, input, folder, text),
+        Err(fault) => Err(fault),
+    }
+}
+
+/// Loads in a session over the index that is there, or refuses the file whose columns are not as many as its dimensions.
+fn load_open<const D: usize, R: Threads + Sync, F: Folder, G: Gate>(
+    work: &Work<'_, R, G>,
+    session: &mut Session<D>,
+    columns: &[Bytes],
+    input: &[u8],
+    folder: &mut F,
+    text: &mut Vec<u8>,
+) -> Result<bool, PageFault>
+    requires least_dims { 1 ≤ D }
+    requires most_dims { D ≤ 8 }
+    requires some { 1 ≤ length columns.now }
+    requires few { length columns.now ≤ 8 }
+    ensures { Loads (IsTrue F.told) (λ stored. IsLoading D (F.files folder.old) session.old stored × HasDims (F.files folder.old) D stored) (λ stored. loaded stored input.now columns.now)
+        (record { files = F.files folder.old; faults = F.faults folder.old; text = text.old.items }) (record { files = F.files folder.new; faults = F.faults folder.new; text = text.new.items }) result }
+{
+    let count = columns.len();
+    if count == D {
+        load_into(work, session, columns, input, folder, text)
+    } else {
+        refuse_dims(work.alloc, D as u8, columns, input, text)
+    }
+}
+
+/// Loads in a session that has as many dimensions as there are columns.
+fn load_into<const D: usize, R: Threads + Sync, F: Folder, G: Gate>(
+    work: &Work<'_, R, G>,
+    session: &mut Session<D>,
+    columns: &[Bytes],
+    input: &[u8],
+    folder: &mut F,
+    text: &mut Vec<u8>,
+) -> Result<bool, PageFault>
+    requires some { 1 ≤ D }
+    requires few { D ≤ 8 }
+    requires named { length columns.now ≡ D }
+    ensures { Loads (IsTrue F.told) (IsLoading D (F.files folder.old) session.old) (λ stored. loaded stored input.now columns.now)
+        (record { files = F.files folder.old; faults = F.faults folder.old; text = text.old.items }) (record { files = F.files folder.new; faults = F.faults folder.new; text = text.new.items }) result }
+{
+    match read_points::<D>(work.alloc, input, columns) {
+        Ok(points) => add_all(work, session, points.as_slice(), folder, text),
+        Err(CsvFault::Memory) => Err(PageFault::Memory),
+        Err(fault) => refuse_file(text, columns, &fault),
+    }
+}
+
+/// Adds all points and commits, or refuses them where they don't fit.
+fn add_all<const D: usize, R: Threads + Sync, F: Folder, G: Gate>(
+    work: &Work<'_, R, G>,
+    session: &mut Session<D>,
+    points: &[Point<D>],
+    folder: &mut F,
+    text: &mut Vec<u8>,
+) -> Result<bool, PageFault>
+    requires { D ≤ 8 }
+    ensures { Loads (IsTrue F.told) (IsLoading D (F.files folder.old) session.old) (λ stored. matched D stored (coordinates_of points.now))
+        (record { files = F.files folder.old; faults = F.faults folder.old; text = text.old.items }) (record { files = F.files folder.new; faults = F.faults folder.new; text = text.new.items }) result }
+{
+    match fitting(session.given(), points.len()) {
+        Some(count) => add_fitting(work, session, points, count, folder, text),
+        None => {
+            put_full(text)?;
+            Ok(true)
+        }
+    }
+}
+
+/// How many points these are, where they fit behind those that were given.
+fn fitting(given: u32, count: usize) -> Option<u32>
+    requires { given ≤ 2 ^ 24 }
+    ensures { MatchOption result (2 ^ 24 < given + count) (λ n. (n ≡ count) × (given + count ≤ 2 ^ 24)) }
+{
+    if count > (MAX_POINTS - given) as usize {
+        return None;
+    }
+    Some(count as u32)
+}
+
+/// Adds all points, which fit, and commits.
+fn add_fitting<const D: usize, R: Threads + Sync, F: Folder, G: Gate>(
+    work: &Work<'_, R, G>,
+    session: &mut Session<D>,
+    points: &[Point<D>],
+    count: u32,
+    folder: &mut F,
+    text: &mut Vec<u8>,
+) -> Result<bool, PageFault>
+    requires few { D ≤ 8 }
+    requires counted { count ≡ length points.now }
+    requires fits { session.old.set.given + length points.now ≤ 2 ^ 24 }
+    ensures { Loads (IsTrue F.told) (IsLoading D (F.files folder.old) session.old) (λ stored. matched D stored (coordinates_of points.now))
+        (record { files = F.files folder.old; faults = F.faults folder.old; text = text.old.items }) (record { files = F.files folder.new; faults = F.faults folder.new; text = text.new.items }) result }
+{
+    put_loaded(text, count, session.next() + count)?;
+    session.add_points(work.rt, work.alloc, folder, points, work.gate)?;
+    session.commit(work.rt, work.alloc, folder, work.gate)?;
+    Ok(false)
+}
+
+/// Refuses a file whose columns are not as many as the dimensions, or for its own fault, which comes first.
+fn refuse_dims(
+    alloc: Global,
+    dims: u8,
+    columns: &[Bytes],
+    input: &[u8],
+    text: &mut Vec<u8>,
+) -> Result<bool, PageFault>
+    requires some { 1 ≤ length columns.now }
+    requires few { length columns.now ≤ 8 }
+    requires other { length columns.now ≢ dims }
+    ensures { (files : Files) (faults : ℕ) → Loads (Unit {0}) (HasDims files dims) (λ stored. loaded stored input.now columns.now)
+        (record { files = files; faults = faults; text = text.old.items }) (record { files = files; faults = faults; text = text.new.items }) result }
+{
+    match look_through(alloc, columns, input) {
+        Ok(()) => {
+            put_dims(text, dims)?;
+            Ok(true)
+        }
+        Err(CsvFault::Memory) => Err(PageFault::Memory),
+        Err(fault) => refuse_file(text, columns, &fault),
+    }
+}
+
+/// Refuses a file for its fault.
+fn refuse_file(text: &mut Vec<u8>, columns: &[Bytes], fault: &CsvFault) -> Result<bool, PageFault>
+    requires { fault.now ≢ CsvFault.Memory }
+    ensures { (files : Files) (faults : ℕ) → Loads (Unit {0}) (IsStored files) (λ stored. loaded_by columns.now stored (Err fault.now))
+        (record { files = files; faults = faults; text = text.old.items }) (record { files = files; faults = faults; text = text.new.items }) result }
+{
+    put_csv_fault(text, columns, fault)?;
+    Ok(true)
+}
+
+/// Reads all records for their faults alone.
+fn look_through(alloc: Global, columns: &[Bytes], input: &[u8]) -> Result<(), CsvFault>
+    requires some { 1 ≤ length columns.now }
+    requires few { length columns.now ≤ 8 }
+    ensures fine { OnOk result ((points : List (List ℤ)) × (points_of columns.now (records_of input.now) ≡ Ok points)) }
+    ensures fault { IfErr result (λ fault. fault ≢ CsvFault.Memory → points_of columns.now (records_of input.now) ≡ Err fault) }
+{
+    match columns.len() {
+        1 => look::<1>(alloc, columns, input),
+        2 => look::<2>(alloc, columns, input),
+        3 => look::<3>(alloc, columns, input),
+        4 => look::<4>(alloc, columns, input),
+        5 => look::<5>(alloc, columns, input),
+        6 => look::<6>(alloc, columns, input),
+        7 => look::<7>(alloc, columns, input),
+        _ => look::<8>(alloc, columns, input),
+    }
+}
+
+/// Reads all records of `D` columns for their faults alone.
+fn look<const D: usize>(alloc: Global, columns: &[Bytes], input: &[u8]) -> Result<(), CsvFault>
+    requires some { 1 ≤ D }
+    requires few { D ≤ 8 }
+    requires named { length columns.now ≡ D }
+    ensures fine { OnOk result ((points : List (List ℤ)) × (points_of columns.now (records_of input.now) ≡ Ok points)) }
+    ensures fault { IfErr result (λ fault. fault ≢ CsvFault.Memory → points_of columns.now (records_of input.now) ≡ Err fault) }
+{
+    match read_points::<D>(alloc, input, columns) {
+        Ok(_) => Ok(()),
+        Err(fault) => Err(fault),
+    }
+}
