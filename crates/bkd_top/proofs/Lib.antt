@@ -4,7 +4,7 @@ pub mod Going
 pub mod Lined
 pub mod Opened
 pub mod Telling
-pub mod Whole
+pub mod Finished
 pub mod Sizes
 pub mod Commanding
 pub mod Scoped

@@ -125,11 +125,11 @@ fn is_begun(row: &Row, text: &str) -> bool {
 #[test]
 fn an_output_without_room(rt: HostRuntime) -> Result<(), Fail> {
     let alloc = rt.alloc();
-    for row in [FIRST_LOAD, EXPLAINED] {
+    for row in [&FIRST_LOAD, &EXPLAINED] {
         for room in 0..=row.text.len() {
             let mut folder = MemFolder::new(alloc, Vec::new(alloc));
             called(&rt, alloc, &[".", "run"], row.script, &mut folder)?;
-            let status = cut(&rt, alloc, &row, room, &mut folder)?;
+            let status = cut(&rt, alloc, row, room, &mut folder)?;
             let whole = room == row.text.len();
             assert_eq!(rt; code(&status), if whole { 0 } else { 5 });
             let (_, look) = called(&rt, alloc, &[".", "run"], "box 0 9\n", &mut folder)?;

@@ -1,7 +1,7 @@
 //! Loading a CSV file: its columns are the dimensions, and all points are added and committed at once, or none is.
 #![tactic(auto)]
 
-mod load;
+mod loader;
 mod texts;
 
-pub use load::load;
+pub use loader::load;

@@ -1,6 +1,6 @@
 -- What it did is told.
 use Rattle.std.proofs.Common.{refl}
-use Rattle.bkd_top.proofs.Whole.{does_from, of_done, whole_undamaged}
+use Rattle.bkd_top.proofs.Finished.{does_from, of_done, whole_undamaged}
 use Rattle.bkd_top.proofs.whole.run_generate.Goals as goal
 
 pub returns-clause-ends : goal.returns-clause-ends

@@ -4,7 +4,7 @@ use Rattle.bkd_top.specs.Commands.{IsAnswer}
 use Rattle.bkd_top.specs.Runs.{DoesNothing, IsDamaged}
 use Rattle.bkd_top.specs.Stops.{status_of}
 use Rattle.bkd_top.proofs.Ending.{does_lines, folder_stopped, sink_stopped}
-use Rattle.bkd_top.proofs.Whole.{fault_ends, fault_no_answer, fault_no_sink, fault_rose, fault_undamaged, sent_ends, sent_no_folder, sent_undamaged}
+use Rattle.bkd_top.proofs.Finished.{fault_ends, fault_no_answer, fault_no_sink, fault_rose, fault_undamaged, sent_ends, sent_no_folder, sent_undamaged}
 use Rattle.bkd_top.proofs.whole.tell.Goals as goal
 
 pub returns-in-Ok-clause-done : goal.returns-in-Ok-clause-done

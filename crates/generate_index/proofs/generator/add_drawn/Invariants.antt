@@ -1,0 +1,18 @@
+use Rattle.std.proofs.Common.{◌≡◌, ◌≤◌, ◌*◌, ◌-◌, Ok, IsTrue}
+use Rattle.drawn_points.specs.Draws.{draw}
+use Rattle.generate_index.specs.Generates.{IsMade, Makes}
+use Rattle.generate_index.proofs.generator.add_drawn.Given as goal
+
+-- so many documents came
+abbrev pub invariant-adds : goal.invariant-adds
+invariant-adds g l = record {
+  makes : Makes {T = Unit {0}} (IsTrue g.F.Pages.told) (IsMade l.initial.draws 0 0) (IsMade l.initial.draws l.number 0)
+      (record { files = g.F.Pages.files l.initial.folder; session = l.initial.session; faults = g.F.Pages.faults l.initial.folder })
+      (record { files = g.F.Pages.files l.folder; session = l.session; faults = g.F.Pages.faults l.folder }) (Ok tt);
+  given : l.session.set.given ≡ l.number;
+  drawn : l.draws ≡ draw l.initial.draws (2 * l.number);
+  within : l.number ≤ l.docs;
+}
+
+abbrev pub decreases-adds : goal.decreases-adds
+decreases-adds g l = l.docs - l.number

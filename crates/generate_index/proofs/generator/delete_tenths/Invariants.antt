@@ -1,0 +1,20 @@
+use Rattle.std.proofs.Common.{◌≡◌, ◌%◌, ◌-◌, ℕ, length}
+use Rattle.outer_io.specs.Files.{Files}
+use Rattle.index_core.specs.Effects.{BringsCanonical}
+use Rattle.index_core.specs.Sessions.{Guards}
+use Rattle.drawn_points.specs.Generated.{documents, kept}
+use Rattle.generate_index.specs.Generates.{IsMade}
+use Rattle.generate_index.proofs.generator.delete_tenths.Given as goal
+
+-- each tenth document below the number has gone
+abbrev pub invariant-deletes : goal.invariant-deletes
+invariant-deletes g l = record {
+  made : (files : Files) (faults seed : ℕ) → IsMade seed l.docs 0 (record { files = files; session = l.initial.session; faults = faults }) → IsMade seed l.docs l.number (record { files = files; session = l.session; faults = faults });
+  live : (files : Files) (faults seed : ℕ) → IsMade seed l.docs 0 (record { files = files; session = l.initial.session; faults = faults }) → l.live ≡ length (kept l.number (documents seed l.docs));
+  guards : (files : Files) → Guards 2 files l.initial.session → Guards 2 files l.session;
+  canon : (files : Files) → BringsCanonical 2 files files l.initial.session.set.parts l.session.set.parts;
+  tenth : l.number % 10 ≡ 0;
+}
+
+abbrev pub decreases-deletes : goal.decreases-deletes
+decreases-deletes g l = l.docs - l.number

@@ -1,0 +1,34 @@
+-- What the folder's commit says decides whether an index is made.
+use Rattle.std.proofs.Common.{OnOk, refl, sym, ap, subst, ◌∙◌}
+use Rattle.outer_io.specs.declared.file_name.FileName.TheVariants.{Commit}
+use Rattle.outer_io.specs.Files.{Files}
+use Rattle.index_core.specs.Whole.{DoesWhole, HasNewCanonical}
+use Rattle.index_core.proofs.Wholes.{state_undamaged}
+use Rattle.index_model.specs.State.{State}
+use Rattle.stored_index.specs.Stored.{IsStored}
+use Rattle.drawn_points.specs.Generated.{generated}
+use Rattle.generate_index.proofs.Ended.{commit_there, ends_there, ends_unread, none_there}
+use Rattle.generate_index.proofs.generator.generate.Goals as goal
+
+pub returns-in-Ok-Some-clause-generates : goal.returns-in-Ok-Some-clause-generates
+returns-in-Ok-Some-clause-generates g c = λ told state h.
+    let same = c.in-Ok-Some.ensures.files told in
+    ends_there _ state c.args.docs c.args.seed _ _ (λ none. commit_there _ _ (rw c.in-Ok-Some.field-0-is at (c.in-Ok-Some.ensures.found told)) (ap (λ (f : Files). f Commit) (sym same) ∙ none))
+    (subst (λ (f : Files). IsStored f state) (sym same) h) c.in_ok-put_exists.ensures
+
+pub returns-in-Ok-None-clause-generates : goal.returns-in-Ok-None-clause-generates
+returns-in-Ok-None-clause-generates g c = λ told state h.
+    let same = c.in-Ok-None.ensures.files told in
+    let none = rw c.in-Ok-None.field-0-is at (c.in-Ok-None.ensures.found told) in
+    subst (λ (s : State). DoesWhole (g.F.Pages.files c.generate_first.new.folder) s (generated s c.args.docs c.args.seed) _ _ c.generate_first.result) (sym (none_there _ state none h))
+    (c.generate_first.ensures.generates told (ap (λ (f : Files). f Commit) same ∙ none))
+
+pub returns-in-Ok-None-clause-canon : goal.returns-in-Ok-None-clause-canon
+returns-in-Ok-None-clause-canon g c = λ told state h.
+    let same = c.in-Ok-None.ensures.files told in
+    subst (λ (f : Files). OnOk c.generate_first.result (HasNewCanonical f (g.F.Pages.files c.generate_first.new.folder))) same
+    (c.generate_first.ensures.canon told (ap (λ (f : Files). f Commit) same ∙ rw c.in-Ok-None.field-0-is at (c.in-Ok-None.ensures.found told)))
+
+pub returns-in-Err-clause-generates : goal.returns-in-Err-clause-generates
+returns-in-Err-clause-generates g c = λ told state h.
+    ends_unread _ _ state _ _ _ c.in-Err.fault _ refl (state_undamaged _ state h (c.in-Err.ensures.absent told) (c.in-Err.ensures.whole told)) (c.in-Err.ensures.files told) h

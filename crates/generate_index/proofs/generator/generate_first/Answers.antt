@@ -1,0 +1,103 @@
+-- A session is created and filled, and what it makes is said and committed.
+use Rattle.std.proofs.Common.{◌≤◌, ◌+◌, ◌^◌, Err, false, ap, ◌∙◌, lit<, sym, arith}
+use Rattle.std.proofs.lemmas.Result.{err_from_is_err_and}
+use Rattle.page_cache.specs.declared.faults.PageFault.{PageFault}
+use Rattle.index_core.proofs.Answering.{cause_then, fault_to, memory_cause}
+use Rattle.generate_index.proofs.Ended.{cause_done, created, ends_early, ends_made, ends_uncommitted, ends_uncreated, ends_unsaid, made_canon}
+use Rattle.generate_index.proofs.generator.generate_first.Goals as goal
+
+pub create-requires : goal.create-requires
+create-requires g c = (lit< tt, ((omega arith, omega arith), (omega (arith, c.greatest_leaf.ensures), omega (arith, c.greatest_leaf.ensures))))
+
+pub fill-requires-after_bounds : goal.fill-requires-after_bounds
+fill-requires-after_bounds g c κs = λ _. (lit< tt, (c.requires, sym (c.in_ok-session.ensures.seen (g.F.Pages.files c.args.folder.now)).given))
+
+pub returns-in_err-session-clause-generates : goal.returns-in_err-session-clause-generates
+returns-in_err-session-clause-generates g c told none =
+    let p = err_from_is_err_and c.from_residual.result c.from_residual.ensures.1 in
+    ends_uncreated _ _ _ _ _ (p.1 ∙ ap (λ (e : PageFault). Err e) p.2) none
+
+pub returns-in_err-summary-clause-generates : goal.returns-in_err-summary-clause-generates
+returns-in_err-summary-clause-generates g c told none =
+    let p = err_from_is_err_and c.from_residual-in_err-summary.result c.from_residual-in_err-summary.ensures.1 in
+    ends_early _ c.args.seed c.args.docs _ _ _ _ _ c.in_err-summary.field-0.0 _ (p.1 ∙ ap (λ (e : PageFault). Err e) p.2) c.in_err-summary.ensures.makes told (created c.args.seed _ _ _ _ c.greatest_leaf.ensures (c.documents_deleted.ensures.none c.args.seed 0) (c.documents_added.ensures.none c.args.seed) none (c.in_ok-session.ensures.seen _)
+    (c.in_ok-session.ensures.guards _ none) c.in_ok-session.ensures.bare)
+
+pub returns-in_err-put_summary-clause-generates : goal.returns-in_err-put_summary-clause-generates
+returns-in_err-put_summary-clause-generates g c told none =
+    let p = err_from_is_err_and c.from_residual-in_err-put_summary.result c.from_residual-in_err-put_summary.ensures.1 in
+    ends_unsaid _ c.args.seed c.args.docs _ _ c.in_ok-summary.summary _ _ _ _ (p.1 ∙ ap (λ (e : PageFault). Err e) p.2) c.in_ok-summary.ensures.makes told (created c.args.seed _ _ _ _ c.greatest_leaf.ensures (c.documents_deleted.ensures.none c.args.seed 0) (c.documents_added.ensures.none c.args.seed) none (c.in_ok-session.ensures.seen _)
+    (c.in_ok-session.ensures.guards _ none) c.in_ok-session.ensures.bare)
+
+pub returns-in_err-commit-clause-generates : goal.returns-in_err-commit-clause-generates
+returns-in_err-commit-clause-generates g c told none =
+    let p = err_from_is_err_and c.from_residual-in_err-commit.result c.from_residual-in_err-commit.ensures.1 in
+    ends_uncommitted _ c.args.seed c.args.docs _ _ _ c.in_ok-summary.summary _ _ c.in_err-commit.field-0.0 _ (p.1 ∙ ap (λ (e : PageFault). Err e) p.2) (c.index_made.ensures c.args.seed c.args.docs (omega (arith, c.requires))) c.in_ok-summary.ensures.makes
+    (record {
+      seen = c.in_err-commit.ensures.seen;
+      guards = c.in_err-commit.ensures.guards;
+      says = λ told guards. tt;
+      stored = c.in_err-commit.ensures.stored;
+      unchanged = tt;
+      brings = c.in_err-commit.ensures.canon;
+      cause = c.in_err-commit.ensures.cause;
+      whole = c.in_err-commit.ensures.whole;
+    })
+    told (created c.args.seed _ _ _ _ c.greatest_leaf.ensures (c.documents_deleted.ensures.none c.args.seed 0) (c.documents_added.ensures.none c.args.seed) none (c.in_ok-session.ensures.seen _)
+    (c.in_ok-session.ensures.guards _ none) c.in_ok-session.ensures.bare)
+
+pub returns-clause-generates : goal.returns-clause-generates
+returns-clause-generates g c told none =
+    ends_made _ c.args.seed c.args.docs _ _ _ c.in_ok-summary.summary tt _ _ _ _ _ _ (c.index_made.ensures c.args.seed c.args.docs (omega (arith, c.requires))) c.in_ok-put_summary.ensures
+    (c.in_ok-summary.ensures.summary told (created c.args.seed _ _ _ _ c.greatest_leaf.ensures (c.documents_deleted.ensures.none c.args.seed 0) (c.documents_added.ensures.none c.args.seed) none (c.in_ok-session.ensures.seen _)
+    (c.in_ok-session.ensures.guards _ none) c.in_ok-session.ensures.bare).made) c.in_ok-summary.ensures.makes
+    (record {
+      seen = c.in_ok-commit.ensures.seen;
+      guards = c.in_ok-commit.ensures.guards;
+      says = c.in_ok-commit.ensures.kept;
+      stored = c.in_ok-commit.ensures.stored;
+      unchanged = c.in_ok-commit.ensures.unchanged;
+      brings = c.in_ok-commit.ensures.canon;
+      cause = c.in_ok-commit.ensures.cause;
+      whole = c.in_ok-commit.ensures.whole;
+    })
+    told (created c.args.seed _ _ _ _ c.greatest_leaf.ensures (c.documents_deleted.ensures.none c.args.seed 0) (c.documents_added.ensures.none c.args.seed) none (c.in_ok-session.ensures.seen _)
+    (c.in_ok-session.ensures.guards _ none) c.in_ok-session.ensures.bare)
+
+pub returns-clause-canon : goal.returns-clause-canon
+returns-clause-canon g c told none =
+    made_canon _ c.args.seed c.args.docs _ _ _ c.in_ok-summary.summary tt c.in_ok-summary.ensures.makes
+    (record {
+      seen = c.in_ok-commit.ensures.seen;
+      guards = c.in_ok-commit.ensures.guards;
+      says = c.in_ok-commit.ensures.kept;
+      stored = c.in_ok-commit.ensures.stored;
+      unchanged = c.in_ok-commit.ensures.unchanged;
+      brings = c.in_ok-commit.ensures.canon;
+      cause = c.in_ok-commit.ensures.cause;
+      whole = c.in_ok-commit.ensures.whole;
+    })
+    told (created c.args.seed _ _ _ _ c.greatest_leaf.ensures (c.documents_deleted.ensures.none c.args.seed 0) (c.documents_added.ensures.none c.args.seed) none (c.in_ok-session.ensures.seen _)
+    (c.in_ok-session.ensures.guards _ none) c.in_ok-session.ensures.bare)
+
+pub returns-in_err-session-clause-cause : goal.returns-in_err-session-clause-cause
+returns-in_err-session-clause-cause g c =
+    let p = err_from_is_err_and c.from_residual.result c.from_residual.ensures.1 in rw (p.1 ∙ ap (λ (e : PageFault). Err e) p.2) (memory_cause _ _ (omega arith))
+
+pub returns-in_err-summary-clause-cause : goal.returns-in_err-summary-clause-cause
+returns-in_err-summary-clause-cause g c =
+    let p = err_from_is_err_and c.from_residual-in_err-summary.result c.from_residual-in_err-summary.ensures.1 in
+    rw (p.1 ∙ ap (λ (e : PageFault). Err e) p.2) (fault_to _ _ c.in_err-summary.field-0.0 c.in_err-summary.ensures.makes.cause)
+
+pub returns-in_err-put_summary-clause-cause : goal.returns-in_err-put_summary-clause-cause
+returns-in_err-put_summary-clause-cause g c =
+    let p = err_from_is_err_and c.from_residual-in_err-put_summary.result c.from_residual-in_err-put_summary.ensures.1 in
+    rw (p.1 ∙ ap (λ (e : PageFault). Err e) p.2) (memory_cause _ _ c.in_ok-summary.ensures.makes.cause.later)
+
+pub returns-in_err-commit-clause-cause : goal.returns-in_err-commit-clause-cause
+returns-in_err-commit-clause-cause g c =
+    let p = err_from_is_err_and c.from_residual-in_err-commit.result c.from_residual-in_err-commit.ensures.1 in
+    rw (p.1 ∙ ap (λ (e : PageFault). Err e) p.2) (cause_then _ _ _ _ c.in_ok-summary.ensures.makes.cause.fine (fault_to _ _ c.in_err-commit.field-0.0 c.in_err-commit.ensures.cause))
+
+pub returns-clause-cause : goal.returns-clause-cause
+returns-clause-cause g c = cause_done _ _ _ c.in_ok-summary.summary tt false c.in_ok-summary.ensures.makes.cause c.in_ok-commit.ensures.cause

@@ -1,0 +1,33 @@
+-- All points are added where all fit, and refused where not.
+use Rattle.std.proofs.Common.{◌≤◌, ◌+◌, ◌^◌, Err, sym, ap, ◌∙◌, length, arith}
+use Rattle.std.proofs.lemmas.List.{length-map}
+use Rattle.std.proofs.lemmas.Result.{err_from_is_err_and}
+use Rattle.page_cache.specs.declared.faults.PageFault.{PageFault}
+use Rattle.point_codec.specs.Seen.{coordinates_of}
+use Rattle.point_codec.specs.declared.coordinates.Point.{Point}
+use Rattle.segment_set.proofs.Sizes.{point_fits}
+use Rattle.index_core.proofs.Sizes.{session_fits}
+use Rattle.load_points.proofs.Loading.{loading_full, loads_no_memory}
+use Rattle.load_points.proofs.loader.add_all.Goals as goal
+
+pub given-requires : goal.given-requires
+given-requires g c = session_fits g.row.D c.requires
+
+pub add_fitting-requires-after_bounds : goal.add_fitting-requires-after_bounds
+add_fitting-requires-after_bounds g c κs = λ _. (
+  session_fits g.row.D c.requires,
+  (point_fits g.row.D c.requires, (c.requires, (c.in-Some.ensures.0 ∙ c.len.ensures, omega (arith, c.in-Some.ensures.1, c.given.ensures.value, c.len.ensures)))),
+)
+
+pub returns-in-Some : goal.returns-in-Some
+returns-in-Some g c = c.add_fitting.ensures
+
+pub returns-in_err-put_full : goal.returns-in_err-put_full
+returns-in_err-put_full g c =
+    let p = err_from_is_err_and c.from_residual.result c.from_residual.ensures.1 in
+    loads_no_memory _ _ _ _ _ _ _ _ (p.1 ∙ ap (λ (e : PageFault). Err e) p.2) (λ stored l. l.keeps)
+
+pub returns-in-None : goal.returns-in-None
+returns-in-None g c =
+    let long = length-map c.args.points.now (λ (q : Point g.row.D). q.c) in
+    loading_full g.row.D _ _ _ _ (coordinates_of c.args.points.now) _ _ c.in_ok-put_full.ensures (omega (arith, long, c.in-None.ensures, c.given.ensures.value, c.len.ensures))

@@ -1,0 +1,63 @@
+-- All points are added, and what they leave is committed.
+use Rattle.std.proofs.Common.{◌≡◌, ◌≤◌, ◌+◌, ◌^◌, ◌++◌, Err, sym, ap, ◌∙◌, length, arith}
+use Rattle.std.proofs.lemmas.List.{length-map}
+use Rattle.std.proofs.lemmas.Result.{err_from_is_err_and}
+use Rattle.page_cache.specs.declared.faults.PageFault.{PageFault}
+use Rattle.point_codec.specs.Seen.{coordinates_of}
+use Rattle.point_codec.specs.declared.coordinates.Point.{Point}
+use Rattle.segment_set.proofs.Sizes.{point_fits}
+use Rattle.index_core.proofs.Sizes.{session_fits}
+use Rattle.load_points.specs.Loaded.{loaded_text}
+use Rattle.load_points.proofs.Loading.{adding_stopped, all_loaded, commit_stopped, loads_no_memory}
+use Rattle.load_points.proofs.loader.add_fitting.Goals as goal
+
+pub next-requires : goal.next-requires
+next-requires g c = session_fits g.row.D c.requires.few
+
+pub add_points-requires-after_bounds : goal.add_points-requires-after_bounds
+add_points-requires-after_bounds g c κs = λ _. (session_fits g.row.D c.requires.few, (point_fits g.row.D c.requires.few, c.requires.fits))
+
+pub commit-requires-after_bounds : goal.commit-requires-after_bounds
+commit-requires-after_bounds g c κs = λ _. session_fits g.row.D c.requires.few
+
+pub returns-in_err-put_loaded : goal.returns-in_err-put_loaded
+returns-in_err-put_loaded g c =
+    let p = err_from_is_err_and c.from_residual.result c.from_residual.ensures.1 in
+    loads_no_memory _ _ _ _ _ _ _ _ (p.1 ∙ ap (λ (e : PageFault). Err e) p.2) (λ stored l. l.keeps)
+
+pub returns-in_err-add_points : goal.returns-in_err-add_points
+returns-in_err-add_points g c =
+    let p = err_from_is_err_and c.from_residual-in_err-add_points.result c.from_residual-in_err-add_points.ensures.1 in
+    adding_stopped g.row.D _ _ (coordinates_of c.args.points.now) _ _ _ _ c.in_err-add_points.field-0.0 _ (p.1 ∙ ap (λ (e : PageFault). Err e) p.2) c.in_err-add_points.ensures
+
+pub returns-in_err-commit : goal.returns-in_err-commit
+returns-in_err-commit g c =
+    let p = err_from_is_err_and c.from_residual-in_err-commit.result c.from_residual-in_err-commit.ensures.1 in
+    let long = length-map c.args.points.now (λ (q : Point g.row.D). q.c) in
+    commit_stopped g.row.D _ (coordinates_of c.args.points.now) _ _ _ tt _ _ c.in_err-commit.field-0.0 _ (p.1 ∙ ap (λ (e : PageFault). Err e) p.2) (omega (arith, c.requires.fits, long)) c.in_ok-add_points.ensures
+    (record {
+      seen = c.in_err-commit.ensures.seen;
+      guards = c.in_err-commit.ensures.guards;
+      says = λ told guards. tt;
+      stored = c.in_err-commit.ensures.stored;
+      unchanged = tt;
+      brings = c.in_err-commit.ensures.canon;
+      cause = c.in_err-commit.ensures.cause;
+      whole = c.in_err-commit.ensures.whole;
+    })
+
+pub returns : goal.returns
+returns g c =
+    let long = length-map c.args.points.now (λ (q : Point g.row.D). q.c) in
+    all_loaded g.row.D _ (coordinates_of c.args.points.now) _ _ _ tt tt c.next.result _ _ (omega (arith, c.requires.fits, long)) c.next.ensures.value
+    (c.in_ok-put_loaded.ensures ∙ ap (λ n. c.args.text.now.items ++ loaded_text n (c.next.result + n)) (c.requires.counted ∙ sym long)) c.in_ok-add_points.ensures
+    (record {
+      seen = c.in_ok-commit.ensures.seen;
+      guards = c.in_ok-commit.ensures.guards;
+      says = c.in_ok-commit.ensures.kept;
+      stored = c.in_ok-commit.ensures.stored;
+      unchanged = c.in_ok-commit.ensures.unchanged;
+      brings = c.in_ok-commit.ensures.canon;
+      cause = c.in_ok-commit.ensures.cause;
+      whole = c.in_ok-commit.ensures.whole;
+    })

@@ -1,0 +1,23 @@
+-- The index is opened, and the file loaded into it.
+use Rattle.std.proofs.Common.{Some, refl, inl}
+use Rattle.index_core.proofs.Sizes.{session_fits}
+use Rattle.load_points.proofs.Loading.{attached_loading, has_dims, loads_after, loads_fault, starts_keeps, starts_still}
+use Rattle.load_points.proofs.loader.load_over.Goals as goal
+
+pub attach-requires : goal.attach-requires
+attach-requires g c = (session_fits g.row.D c.requires.most_dims, c.requires.dims)
+
+pub load_open-requires-after_bounds : goal.load_open-requires-after_bounds
+load_open-requires-after_bounds g c κs = λ _. (session_fits g.row.D c.requires.most_dims, (c.requires.least_dims, (c.requires.most_dims, (c.requires.some, c.requires.few))))
+
+pub returns-in-Ok : goal.returns-in-Ok
+returns-in-Ok g c =
+    loads_after _ _ _ _ _ _ _ _ c.load_open.result c.in-Ok.ensures.files refl c.in-Ok.ensures.cause
+    (λ told stored h. starts_still g.row.D _ _ c.args.commit _ stored (c.in-Ok.ensures.files told)
+    (attached_loading g.row.D _ c.args.commit _ stored (c.in-Ok.ensures.seen told h.0) (c.in-Ok.ensures.guards told h.0) c.in-Ok.ensures.unchanged h) (has_dims g.row.D _ c.args.commit stored c.requires.dims h))
+    c.load_open.ensures
+
+pub returns-in-Err : goal.returns-in-Err
+returns-in-Err g c =
+    loads_fault _ _ _ _ _ c.in-Err.fault _ refl (λ told stored h. inl (starts_keeps _ _ _ stored (c.in-Err.ensures.files told) h))
+    (λ told stored h. c.in-Err.ensures.whole told h.0 (Some h.1.0) h.1.2) c.in-Err.ensures.cause
