@@ -3,7 +3,7 @@
 ghost use Rattle.std.specs.Prelude.{◌≡◌, ◌++◌, OnOk, codes, decimal};
 ghost use Rattle.script_lang.specs.Replies.{ended};
 
-use crate::generate::Summary;
+use crate::generator::Summary;
 use itoa::Buffer;
 use std::alloc::AllocError;
 
