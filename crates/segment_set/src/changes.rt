@@ -71,6 +71,8 @@ impl<const D: usize> SegmentSet<D> {
         ensures unread { length self.old.buffer + length points.now ≤ 16384 → F.reads folder.new ≡ F.reads folder.old }
         ensures files { IsTrue F.told → length self.old.buffer + length points.now ≤ 16384 → F.files folder.new ≡ F.files folder.old }
         ensures room { length self.old.buffer + length points.now ≤ 16384 → OnAddDamage result (λ _. ⊥) }
+        ensures parts { length self.old.buffer + length points.now ≤ 16384
+            → (self.new.parts ≡ self.old.parts) × (length self.new.buffer ≤ length self.old.buffer + length points.now) }
         // what an error says
         ensures cause { HasCauseOf Failed (F.faults folder.old) (F.faults folder.new) result }
         ensures whole { IsTrue F.told → (i : Index) → Sees D (F.files folder.old) self.old i → OnAddDamage result (λ _. ⊥) }
