@@ -1,5 +1,5 @@
 -- What requests read at most.
-use Rattle.std.specs.Prelude.{◌≡◌, ◌≤◌, ◌+◌, ℕ, Bool, List, length, ℤ}
+use Rattle.std.specs.Prelude.{◌≡◌, ◌≤◌, ◌+◌, ◌⊎◌, ℕ, Bool, List, length, ℤ}
 use Rattle.outer_io.specs.Files.{Files}
 use Rattle.point_codec.specs.Points.{Region, in_box}
 use Rattle.point_codec.specs.declared.entries.Near.{Near}
@@ -12,7 +12,7 @@ use Rattle.script_lang.specs.Requests.{Request, Viewed}
 use Rattle.script_lang.specs.Requests as asks
 use Rattle.segment_view.specs.Parts.{Contents, Part, heads_of}
 use Rattle.segment_view.specs.Costs.{AreTouched}
-use Rattle.segment_set.specs.Sets.{SetData, viewed_buffer, viewed_parts}
+use Rattle.segment_set.specs.Sets.{IsSettled, SetData, viewed_buffer, viewed_parts}
 use Rattle.segment_set.specs.Seen.{StandsOver, entries_seen}
 use Rattle.index_core.specs.Sessions.{IsUnchanged, SessionData}
 
@@ -27,8 +27,8 @@ ReadsNear D files view k target s before now =
     → (found : List Near) → IsNearest k (nears_of target (entries_seen c (viewed_parts view s) (viewed_buffer view s))) found
     → (leaves : ℕ) → AreNearLeaves D target (bound_of k found) (heads_of (viewed_parts view s)) leaves → now ≤ before + leaves
 
--- What a request reads at most, whatever is answered: queries read leaves that count, a document that the buffer has room for and a commit where nothing changed read nothing. What flushes or
--- merges may read each leaf, and `reopen` reads what opening reads.
+-- What a request reads at most, whatever is answered: queries read leaves that count; a document that the buffer has room for, a commit where nothing changed, and a flush or commit where no segments are
+-- chosen to be merged read nothing. What merges may read each leaf, and `reopen` reads what opening reads.
 abbrev pub ReadsAtMost : (D : ℕ) (told : Type 0) → Request → Files → SessionData → (before now : ℕ) → Type 0
 ReadsAtMost D told asks.Blank files s before now = now ≡ before
 ReadsAtMost D told (asks.Create dims leaf) files s before now = now ≡ before
@@ -41,11 +41,11 @@ ReadsAtMost D told (asks.InBox view lo hi) files s before now =
 ReadsAtMost D told (asks.InPolygon view rings) files s before now =
     ReadsTouched D (polygon.has D (all_edges rings)) (polygon.crosses D (all_edges rings)) (viewed_parts view s.set) before now
 ReadsAtMost D told (asks.Nearest view k target) files s before now = told → ReadsNear D files view k target s.set before now
-ReadsAtMost D told asks.Flush files s before now = Unit {0}
+ReadsAtMost D told asks.Flush files s before now = IsSettled s.set → now ≡ before
 ReadsAtMost D told asks.Merge files s before now = Unit {0}
 ReadsAtMost D told (asks.MergeBegin positions) files s before now = Unit {0}
 ReadsAtMost D told asks.MergeEnd files s before now = now ≡ before
 ReadsAtMost D told (asks.Snapshot name) files s before now = now ≡ before
 ReadsAtMost D told (asks.Release name) files s before now = now ≡ before
-ReadsAtMost D told asks.Commit files s before now = IsUnchanged s → now ≡ before
+ReadsAtMost D told asks.Commit files s before now = IsUnchanged s ⊎ IsSettled s.set → now ≡ before
 ReadsAtMost D told asks.Reopen files s before now = Unit {0}

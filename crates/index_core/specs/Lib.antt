@@ -5,3 +5,4 @@ pub mod Effects
 pub mod Whole
 pub mod Costs
 pub mod Damages
+pub mod Light

@@ -1,5 +1,5 @@
 -- What a session does with a command, together with the files of its folder.
-use Rattle.std.specs.Prelude.{◌≡◌, ◌⊎◌, ℕ, Bool, true, false, List, [], ◌++◌, Option, Some, Result, Ok, Err}
+use Rattle.std.specs.Prelude.{◌≡◌, ◌⊎◌, ℕ, Bool, true, false, List, [], ◌++◌, Option, None, Some, Result, Ok, Err}
 use Rattle.outer_io.specs.declared.file_name.FileName.TheVariants.{Commit}
 use Rattle.outer_io.specs.Files.{Files, bytes_of}
 use Rattle.page_cache.specs.declared.faults.PageFault.{PageFault}
@@ -20,6 +20,7 @@ use Rattle.segment_set.specs.Sets.{SetData}
 use Rattle.segment_set.specs.Seen.{Sees}
 use Rattle.index_core.specs.Sessions.{SessionData, Guards, IsCommitAnew, IsUnchanged}
 use Rattle.index_core.specs.Effects.{BringsCanonical, OnDone}
+use Rattle.index_core.specs.Light.{CommitsFewOfLevels}
 
 -- the set is seen as the state that a done command leaves
 abbrev pub SeesState : ℕ → Files → SetData → State → Type 0
@@ -83,4 +84,5 @@ pub record Applies (D : ℕ) (told : Type 0) (outcome : Index → Outcome) (comm
   pub idle : told → committing ≡ true → IsUnchanged old.session → new.files ≡ old.files
   pub unchanged : committing ≡ true → OnDone result (IsUnchanged new.session)
   pub anew : committing ≡ true → (IsUnchanged old.session → ⊥) → OnDone result (IsCommitAnew old.session.set.names new.session)
+  pub levels : committing ≡ true → (IsUnchanged old.session → ⊥) → old.session.set.begun ≡ None → OnDone result (CommitsFewOfLevels new.session.commit)
   pub canon : told → (i : Index) → Sees D old.files old.session.set i → Guards D old.files old.session → BringsCanonical D old.files new.files old.session.set.parts new.session.set.parts

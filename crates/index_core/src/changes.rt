@@ -1,6 +1,6 @@
 //! Commands that change the documents, the segments or the snapshots.
 
-ghost use Rattle.std.specs.Prelude.{◌≡◌, ◌+◌, ◌^◌, ℕ, false, nat_lt, length, IsTrue};
+ghost use Rattle.std.specs.Prelude.{◌≡◌, ◌≤◌, ◌+◌, ◌^◌, ℕ, false, nat_lt, length, IsTrue};
 ghost use Rattle.outer_io.specs.Files.{Files};
 ghost use Rattle.script_lang.specs.Requests as asks;
 ghost use Rattle.index_model.specs.Step.{step_on};
@@ -9,6 +9,7 @@ ghost use Rattle.page_cache.specs.Evidence.{NotDamaged};
 ghost use Rattle.index_core.specs.Costs.{ReadsAtMost};
 ghost use Rattle.index_core.specs.Damages.{ShowsDamage};
 ghost use Rattle.index_core.specs.Sessions.{IsStill};
+ghost use Rattle.index_core.specs.Light.{StaysLight};
 ghost use Rattle.index_core.specs.Effects.{HasBegun, HasEnded, IsFlushed, IsMergedAll, KeepsStill, OnDone, OnRefused};
 
 use crate::replies::{add_answer, begin_answer, end_answer, snap_answer, take_back};
@@ -41,6 +42,9 @@ impl<const D: usize> Session<D> {
         ensures reads { ReadsAtMost D (IsTrue F.told) (asks.Add points.now) (F.files folder.old) self.old (F.reads folder.old) (F.reads folder.new) }
         ensures damage { ShowsDamage D (IsTrue F.told) (asks.Add points.now) (F.files folder.old) (F.files folder.new) self.old self.new result }
         ensures still { KeepsStill (IsTrue F.told) (asks.Add points.now) (F.files folder.old) (F.files folder.new) self.old self.new result }
+        ensures light { length self.old.set.buffer + length points.now ≤ 16384
+            → StaysLight (IsTrue F.told) (length points.now) (F.files folder.old) (F.files folder.new) self.old self.new }
+        ensures unread { OnRefused result (F.reads folder.new ≡ F.reads folder.old) }
     {
         if self.is_full(points) {
             return Ok(Applied::Refused(Why::Full));
@@ -63,6 +67,7 @@ impl<const D: usize> Session<D> {
             (record { files = files; session = self.old; text = out.old.items; faults = faults })
             (record { files = files; session = self.new; text = out.new.items; faults = faults }) result }
         ensures damage { NotDamaged result }
+        ensures light { (files : Files) → StaysLight (Unit {0}) 0 files files self.old self.new }
     {
         let before = out.len();
         put_deleted(out, 1)?;
@@ -88,6 +93,7 @@ impl<const D: usize> Session<D> {
             (record { files = F.files folder.new; session = self.new; text = out.new.items; faults = F.faults folder.new }) result }
         ensures reads { ReadsAtMost D (IsTrue F.told) (asks.DeleteBox lo.now.c hi.now.c) (F.files folder.old) self.old (F.reads folder.old) (F.reads folder.new) }
         ensures damage { ShowsDamage D (IsTrue F.told) (asks.DeleteBox lo.now.c hi.now.c) (F.files folder.old) (F.files folder.new) self.old self.new result }
+        ensures unread { OnRefused result (F.reads folder.new ≡ F.reads folder.old) }
     {
         let mut shape = BoxShape::new(*lo, *hi);
         let hits = self.set.visit(alloc, folder, &View::Now, &mut shape)?;
@@ -114,7 +120,9 @@ impl<const D: usize> Session<D> {
             (record { files = F.files folder.old; session = self.old; text = out.old.items; faults = F.faults folder.old })
             (record { files = F.files folder.new; session = self.new; text = out.new.items; faults = F.faults folder.new }) result }
         ensures leaves { OnDone result (IsFlushed D (IsTrue F.told) (F.files folder.new) self.old.set self.new.set) }
+        ensures reads { ReadsAtMost D (IsTrue F.told) asks.Flush (F.files folder.old) self.old (F.reads folder.old) (F.reads folder.new) }
         ensures damage { ShowsDamage D (IsTrue F.told) asks.Flush (F.files folder.old) (F.files folder.new) self.old self.new result }
+        ensures unread { OnRefused result (F.reads folder.new ≡ F.reads folder.old) }
     {
         self.set.flush(rt, alloc, folder, gate)?;
         put_ok(out)?;
@@ -135,6 +143,7 @@ impl<const D: usize> Session<D> {
             (record { files = F.files folder.new; session = self.new; text = out.new.items; faults = F.faults folder.new }) result }
         ensures leaves { OnDone result (IsMergedAll D (IsTrue F.told) (F.files folder.old) (F.files folder.new) self.old.set self.new.set) }
         ensures damage { ShowsDamage D (IsTrue F.told) asks.Merge (F.files folder.old) (F.files folder.new) self.old self.new result }
+        ensures unread { OnRefused result (F.reads folder.new ≡ F.reads folder.old) }
     {
         self.set.merge_all(rt, alloc, folder, gate)?;
         put_ok(out)?;
@@ -156,6 +165,7 @@ impl<const D: usize> Session<D> {
             (record { files = F.files folder.new; session = self.new; text = out.new.items; faults = F.faults folder.new }) result }
         ensures leaves { OnDone result (HasBegun which.now self.old.set self.new.set) }
         ensures damage { ShowsDamage D (IsTrue F.told) (asks.MergeBegin which.now) (F.files folder.old) (F.files folder.new) self.old self.new result }
+        ensures unread { OnRefused result (F.reads folder.new ≡ F.reads folder.old) }
         ensures still { KeepsStill (IsTrue F.told) (asks.MergeBegin which.now) (F.files folder.old) (F.files folder.new) self.old self.new result }
     {
         if self.set.is_merging() {
@@ -178,6 +188,7 @@ impl<const D: usize> Session<D> {
         ensures leaves { OnDone result (HasEnded D (IsTrue F.told) (F.files folder.new) self.old.set self.new.set) }
         ensures reads { ReadsAtMost D (IsTrue F.told) asks.MergeEnd (F.files folder.old) self.old (F.reads folder.old) (F.reads folder.new) }
         ensures damage { ShowsDamage D (IsTrue F.told) asks.MergeEnd (F.files folder.old) (F.files folder.new) self.old self.new result }
+        ensures unread { OnRefused result (F.reads folder.new ≡ F.reads folder.old) }
         ensures still { KeepsStill (IsTrue F.told) asks.MergeEnd (F.files folder.old) (F.files folder.new) self.old self.new result }
     {
         if !self.set.is_merging() {
@@ -198,6 +209,7 @@ impl<const D: usize> Session<D> {
             (record { files = files; session = self.old; text = out.old.items; faults = faults })
             (record { files = files; session = self.new; text = out.new.items; faults = faults }) result }
         ensures damage { NotDamaged result }
+        ensures light { (files : Files) → StaysLight (Unit {0}) 0 files files self.old self.new }
         ensures still { (files : Files) → OnRefused result (IsStill (Unit {0}) files files self.old self.new) }
     {
         let before = out.len();
@@ -213,6 +225,7 @@ impl<const D: usize> Session<D> {
             (record { files = files; session = self.old; text = out.old.items; faults = faults })
             (record { files = files; session = self.new; text = out.new.items; faults = faults }) result }
         ensures damage { NotDamaged result }
+        ensures light { (files : Files) → StaysLight (Unit {0}) 0 files files self.old self.new }
         ensures still { (files : Files) → OnRefused result (IsStill (Unit {0}) files files self.old self.new) }
     {
         if !self.set.has_snapshot(name) {

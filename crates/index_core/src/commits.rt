@@ -1,6 +1,6 @@
 //! Commits, and sessions anew over one.
 
-ghost use Rattle.std.specs.Prelude.{◌≡◌, ◌↔◌, ◌⊎◌, ℕ, [], Some, true, false, Contains, IsTrue, IsSome, IsOk, IfOk, OnOk};
+ghost use Rattle.std.specs.Prelude.{◌≡◌, ◌↔◌, ◌⊎◌, ℕ, [], None, Some, true, false, Contains, IsTrue, IsSome, IsOk, IfOk, OnOk};
 ghost use Rattle.std.specs.List.{AllZip};
 ghost use Rattle.outer_io.specs.Files.{Files, SameButTwo, bytes_of};
 ghost use Rattle.outer_io.specs.declared.file_name.FileName.{FileName};
@@ -18,11 +18,13 @@ ghost use Rattle.stored_index.specs.Kept.{ListsFile, SameKept};
 ghost use Rattle.segment_set.specs.Seen.{Sees};
 ghost use Rattle.segment_view.specs.Parts.{Part};
 ghost use Rattle.segment_set.specs.Damages.{IsAttachDamage, IsAttachDamageOf};
+ghost use Rattle.segment_set.specs.Sets.{IsSettled};
 ghost use Rattle.segment_set.specs.Kept.{IsAsCommitted, IsCommitOf, StaysButFiles};
 ghost use Rattle.index_core.specs.Sessions.{Guards, GuardsSet, IsCommitAnew, IsSound, IsUnchanged};
 ghost use Rattle.index_core.specs.Costs.{ReadsAtMost};
 ghost use Rattle.index_core.specs.Damages.{ShowsDamage, ShowsMerge};
-ghost use Rattle.index_core.specs.Effects.{BringsCanonical};
+ghost use Rattle.index_core.specs.Effects.{BringsCanonical, OnRefused};
+ghost use Rattle.index_core.specs.Light.{CommitsFewOfLevels};
 ghost use Rattle.index_core.specs.Steps.{Applies, KeepsOver, SaysCommit, Stores};
 
 use crate::session::Session;
@@ -63,6 +65,9 @@ impl<const D: usize> Session<D> {
         // where something did, the commit is written anew; and once it is done nothing is changed
         ensures anew { (IsUnchanged self.old → ⊥) → OnOk result (IsCommitAnew self.old.set.names self.new) }
         ensures unchanged { OnOk result (IsUnchanged self.new) }
+        // with no merge begun it lists few segments of each level, and where none are chosen to be merged nothing is read
+        ensures levels { (IsUnchanged self.old → ⊥) → self.old.set.begun ≡ None → OnOk result (CommitsFewOfLevels self.new.commit) }
+        ensures rested { IsSettled self.old.set → F.reads folder.new ≡ F.reads folder.old }
         // each segment that is written is canonical, whatever is answered
         ensures canon { IsTrue F.told → BringsCanonical D (F.files folder.old) (F.files folder.new) self.old.set.parts self.new.set.parts }
         ensures cause { HasPageCause (F.faults folder.old) (F.faults folder.new) result }
@@ -116,6 +121,7 @@ impl<const D: usize> Session<D> {
             → Stores (F.files folder.old) (F.files folder.new) i self.new.set result }
         ensures cause { HasPageCause (F.faults folder.old) (F.faults folder.new) result }
         ensures whole { NotDamaged result }
+        ensures unread { F.reads folder.new ≡ F.reads folder.old }
     {
         let _leaf = self.set.leaf();
         match write_commit(alloc, folder, &commit) {
@@ -143,6 +149,7 @@ impl<const D: usize> Session<D> {
         ensures kept { IsTrue F.told → Guards D (F.files folder.old) self.old → SameKept (F.files folder.old) (F.files folder.new) }
         ensures cause { HasPageCause (F.faults folder.old) (F.faults folder.new) result }
         ensures whole { NotDamaged result }
+        ensures unread { F.reads folder.new ≡ F.reads folder.old }
     {
         match self.set.sweep(folder) {
             Ok(()) => Ok(()),
@@ -164,6 +171,7 @@ impl<const D: usize> Session<D> {
             (record { files = F.files folder.new; session = self.new; text = out.new.items; faults = F.faults folder.new }) result }
         ensures reads { ReadsAtMost D (IsTrue F.told) asks.Commit (F.files folder.old) self.old (F.reads folder.old) (F.reads folder.new) }
         ensures damage { ShowsDamage D (IsTrue F.told) asks.Commit (F.files folder.old) (F.files folder.new) self.old self.new result }
+        ensures unread { OnRefused result (F.reads folder.new ≡ F.reads folder.old) }
     {
         self.commit(rt, alloc, folder, gate)?;
         put_ok(out)?;
@@ -183,6 +191,7 @@ impl<const D: usize> Session<D> {
             (record { files = F.files folder.old; session = self.old; text = out.old.items; faults = F.faults folder.old })
             (record { files = F.files folder.new; session = self.new; text = out.new.items; faults = F.faults folder.new }) result }
         ensures damage { ShowsDamage D (IsTrue F.told) asks.Reopen (F.files folder.old) (F.files folder.new) self.old self.new result }
+        ensures unread { OnRefused result (F.reads folder.new ≡ F.reads folder.old) }
     {
         self.commit(rt, alloc, folder, gate)?;
         let set = self.attach_anew(alloc, folder)?;

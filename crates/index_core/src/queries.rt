@@ -11,7 +11,7 @@ ghost use Rattle.segment_set.specs.Sets.{HasView, viewed_parts};
 ghost use Rattle.index_core.specs.Costs.{ReadsAtMost, ReadsTouched};
 ghost use Rattle.index_core.specs.Damages.{ShowsDamage, ShowsLeaf};
 ghost use Rattle.index_core.specs.Sessions.{IsStill};
-ghost use Rattle.index_core.specs.Effects.{KeepsStill};
+ghost use Rattle.index_core.specs.Effects.{KeepsStill, OnRefused};
 ghost use Rattle.index_core.specs.Steps.{Applies};
 
 use crate::session::Session;
@@ -51,6 +51,7 @@ impl<const D: usize> Session<D> {
         ensures reads { ReadsTouched D (S.has shape.old) (S.crosses shape.old) (viewed_parts (viewed view.now) self.old.set) (F.reads folder.old) (F.reads folder.new) }
         ensures damage { ShowsLeaf D (IsTrue F.told) (F.files folder.old) self.old.set (viewed_parts (viewed view.now) self.old.set) result }
         ensures still { IsStill (IsTrue F.told) (F.files folder.old) (F.files folder.new) self.old self.new }
+        ensures unread { OnRefused result (F.reads folder.new ≡ F.reads folder.old) }
     {
         if !self.has_view(view) {
             return Ok(Applied::Refused(Why::UnknownSnapshot));
@@ -75,6 +76,7 @@ impl<const D: usize> Session<D> {
         ensures reads { ReadsAtMost D (IsTrue F.told) (asks.InPolygon (viewed view.now) rings.now) (F.files folder.old) self.old (F.reads folder.old) (F.reads folder.new) }
         ensures damage { ShowsDamage D (IsTrue F.told) (asks.InPolygon (viewed view.now) rings.now) (F.files folder.old) (F.files folder.new) self.old self.new result }
         ensures still { KeepsStill (IsTrue F.told) (asks.InPolygon (viewed view.now) rings.now) (F.files folder.old) (F.files folder.new) self.old self.new result }
+        ensures unread { OnRefused result (F.reads folder.new ≡ F.reads folder.old) }
     {
         let mut shape = PolygonShape::new(alloc, rings)?;
         self.find(alloc, folder, view, &mut shape, out)
@@ -98,6 +100,7 @@ impl<const D: usize> Session<D> {
         ensures reads { ReadsAtMost D (IsTrue F.told) (asks.Nearest (viewed view.now) k at.now.c) (F.files folder.old) self.old (F.reads folder.old) (F.reads folder.new) }
         ensures damage { ShowsDamage D (IsTrue F.told) (asks.Nearest (viewed view.now) k at.now.c) (F.files folder.old) (F.files folder.new) self.old self.new result }
         ensures still { KeepsStill (IsTrue F.told) (asks.Nearest (viewed view.now) k at.now.c) (F.files folder.old) (F.files folder.new) self.old self.new result }
+        ensures unread { OnRefused result (F.reads folder.new ≡ F.reads folder.old) }
     {
         if !self.has_view(view) {
             return Ok(Applied::Refused(Why::UnknownSnapshot));

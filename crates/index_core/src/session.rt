@@ -1,6 +1,6 @@
 //! The session.
 
-ghost use Rattle.std.specs.Prelude.{◌≡◌, ◌≤◌, ◌+◌, ℕ, List, [], None, Some, true, false, IsTrue, IfOk, OnOk, OnErr};
+ghost use Rattle.std.specs.Prelude.{◌≡◌, ◌≤◌, ◌+◌, ℕ, List, [], None, Some, true, false, length, IsTrue, IfOk, OnOk, OnErr};
 ghost use Rattle.outer_io.specs.Files.{Files, bytes_of};
 ghost use Rattle.outer_io.specs.declared.file_name.FileName.TheVariants.{Commit as CommitName};
 ghost use Rattle.leaf_codec.specs.Leaves.{leaf_limit};
@@ -55,7 +55,8 @@ impl<const D: usize> Session<D> {
     ghost use Rattle.index_core.specs.Steps.{Applies, DoesOver, KeepsOver, Stores, is_committing};
     ghost use Rattle.index_core.specs.Costs.{ReadsAtMost};
     ghost use Rattle.index_core.specs.Damages.{ShowsDamage};
-    ghost use Rattle.index_core.specs.Effects.{BringsCanonical, KeepsStill, Leaves, OnDone};
+    ghost use Rattle.index_core.specs.Effects.{BringsCanonical, KeepsStill, Leaves, OnDone, OnRefused};
+    ghost use Rattle.index_core.specs.Light.{CommitsFewOfLevels, StaysLight, is_light, points_in};
 
     /// A session over a folder that has no index: one without documents.
     pub fn create(alloc: Global, leaf: u16, settings: Settings) -> Result<Session<D>, Memory>
@@ -137,6 +138,8 @@ impl<const D: usize> Session<D> {
         ensures idle { IsTrue F.told → is_committing (request_of c.now) ≡ true → IsUnchanged self.old → F.files folder.new ≡ F.files folder.old }
         ensures unchanged { is_committing (request_of c.now) ≡ true → OnDone result (IsUnchanged self.new) }
         ensures anew { is_committing (request_of c.now) ≡ true → (IsUnchanged self.old → ⊥) → OnDone result (IsCommitAnew self.old.set.names self.new) }
+        // and with no merge begun it lists few segments of each level
+        ensures levels { is_committing (request_of c.now) ≡ true → (IsUnchanged self.old → ⊥) → self.old.set.begun ≡ None → OnDone result (CommitsFewOfLevels self.new.commit) }
         // each segment that is written is canonical, whatever is answered
         ensures canon { IsTrue F.told → (i : Index) → Sees D (F.files folder.old) self.old.set i → Guards D (F.files folder.old) self.old
             → BringsCanonical D (F.files folder.old) (F.files folder.new) self.old.set.parts self.new.set.parts }
@@ -145,6 +148,10 @@ impl<const D: usize> Session<D> {
         ensures damage { ShowsDamage D (IsTrue F.told) (request_of c.now) (F.files folder.old) (F.files folder.new) self.old self.new result }
         // blank lines, queries and what is refused leave all but the kept pages
         ensures still { KeepsStill (IsTrue F.told) (request_of c.now) (F.files folder.old) (F.files folder.new) self.old self.new result }
+        // where no segment has to be written the files and segments stay, and what is refused reads nothing
+        ensures light { is_light (request_of c.now) ≡ true → length self.old.set.buffer + points_in (request_of c.now) ≤ 16384
+            → StaysLight (IsTrue F.told) (points_in (request_of c.now)) (F.files folder.old) (F.files folder.new) self.old self.new }
+        ensures unread { OnRefused result (F.reads folder.new ≡ F.reads folder.old) }
     {
         self.step(rt, alloc, folder, c, out, gate)
     }
@@ -167,6 +174,9 @@ impl<const D: usize> Session<D> {
         ensures reads { ReadsAtMost D (IsTrue F.told) (request_of c.now) (F.files folder.old) self.old (F.reads folder.old) (F.reads folder.new) }
         ensures damage { ShowsDamage D (IsTrue F.told) (request_of c.now) (F.files folder.old) (F.files folder.new) self.old self.new result }
         ensures still { KeepsStill (IsTrue F.told) (request_of c.now) (F.files folder.old) (F.files folder.new) self.old self.new result }
+        ensures light { is_light (request_of c.now) ≡ true → length self.old.set.buffer + points_in (request_of c.now) ≤ 16384
+            → StaysLight (IsTrue F.told) (points_in (request_of c.now)) (F.files folder.old) (F.files folder.new) self.old self.new }
+        ensures unread { OnRefused result (F.reads folder.new ≡ F.reads folder.old) }
     {
         match c {
             Command::Blank => Ok(Applied::Done),

@@ -1,0 +1,53 @@
+-- What requests leave that need no segment to be written or merged.
+use Rattle.std.specs.Prelude.{◌≡◌, ◌≤◌, ◌+◌, ℕ, Bool, true, false, List, length, All, count_by, Option, Some}
+use Rattle.outer_io.specs.Files.{Files}
+use Rattle.merge_policy.specs.Choice.{is_of_level}
+use Rattle.commit_list.specs.Commits.{CommitData}
+use Rattle.segment_file.specs.Heads.{Head}
+use Rattle.script_lang.specs.Requests.{Request}
+use Rattle.script_lang.specs.Requests as asks
+use Rattle.segment_view.specs.Parts.{heads_of}
+use Rattle.segment_set.specs.Sets.{SetData}
+use Rattle.index_core.specs.Sessions.{SessionData}
+
+-- it writes and merges no segment, if what it adds has room in the buffer
+abbrev pub is_light : Request → Bool
+is_light asks.Blank = true
+is_light (asks.Create dims leaf) = true
+is_light (asks.Add points) = true
+is_light (asks.Delete doc) = true
+is_light (asks.DeleteBox lo hi) = false
+is_light (asks.InBox view lo hi) = true
+is_light (asks.InPolygon view rings) = true
+is_light (asks.Nearest view k target) = true
+is_light asks.Flush = false
+is_light asks.Merge = false
+is_light (asks.MergeBegin positions) = false
+is_light asks.MergeEnd = false
+is_light (asks.Snapshot name) = true
+is_light (asks.Release name) = true
+is_light asks.Commit = false
+is_light asks.Reopen = false
+
+-- how many points it adds
+abbrev pub points_in : Request → ℕ
+points_in (asks.Add points) = length points
+points_in _ = 0
+
+-- what is live now and each snapshot are in segments with these heads
+pub record LooksAt (heads : List Head) (s : SetData) : Type 0 where
+  pub now : heads_of s.parts ≡ heads
+  pub snapshots : All (λ v. heads_of v.parts ≡ heads) s.snapshots
+
+-- the files and the segments are the same, and at most so many entries more wait
+pub record StaysLight (told : Type 0) (points : ℕ) (old new : Files) (s t : SessionData) : Type 0 where
+  pub files : told → new ≡ old
+  pub heads : (heads : List Head) → LooksAt heads s.set → LooksAt heads t.set
+  pub waits : length t.set.buffer ≤ length s.set.buffer + points
+
+-- the commit lists at most ten segments of one level
+abbrev pub HasFewOfLevels : CommitData → Type 0
+HasFewOfLevels c = (level : ℕ) → count_by (λ l. is_of_level level l.entries) c.listed ≤ 10
+
+abbrev pub CommitsFewOfLevels : Option CommitData → Type 0
+CommitsFewOfLevels commit = (c : CommitData) → commit ≡ Some c → HasFewOfLevels c
