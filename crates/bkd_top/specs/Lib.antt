@@ -1,5 +1,6 @@
 pub mod Answers
 pub mod Commands
+pub mod Costs
 pub mod Origins
 pub mod Progress
 pub mod Runs
