@@ -7,9 +7,9 @@ use Rattle.std.proofs.lemmas.List.Elements.{All-contains, All-weaker, Contains-g
 use Rattle.documents.specs.Entries.{is_among}
 use Rattle.documents.proofs.Kept.{among_from, among_to}
 use Rattle.documents.proofs.Lists.{of_filter}
-use Rattle.merge_policy.specs.Choice.{IsChoice, IsFree}
+use Rattle.merge_policy.specs.Choice.{IsChoice, IsFree, free_count}
 use Rattle.segment_view.specs.Parts.{Part, ids_of, parts_among}
-use Rattle.segment_set.specs.Sets.{sizes_of}
+use Rattle.segment_set.specs.Sets.{IsSettled, SetData, pins_of, sizes_of}
 use Rattle.segment_set.specs.Merged.{IsApart}
 use Rattle.segment_set.proofs.Leveled.{pinned}
 use Rattle.segment_set.proofs.Places.{at_position, get_map, two_there}
@@ -49,6 +49,18 @@ module _ (inputs : List ℕ) (parts : List Part) (sizes : List ℕ) (pins : List
       subst (λ (ns : List ℕ). 2 ≤ length (parts_among ns parts)) (sym are)
       (two_there parts positions (omega (arith, choice.chosen.ten)) choice.chosen.rising
       (All-weaker (IsFree choice.level sizes pins) (λ i. i < length parts) (λ i free. omega (arith, free.in_range, sized)) positions choice.chosen.free))
+
+  pub chosen_ten : (level : ℕ) × (10 ≤ free_count level (sizes_of parts) (pinned inputs parts))
+  chosen_ten = (
+    choice.level,
+    subst (λ (ss : List ℕ). 10 ≤ free_count choice.level ss (pinned inputs parts)) sizes_are (subst (λ (bs : List Bool). 10 ≤ free_count choice.level sizes bs) pins_are choice.has_ten),
+  )
+
+-- where a level has ten the policy chooses some
+pub unsettled : (s t : SetData) → t ≡ s → IsSettled s → (level : ℕ) × (10 ≤ free_count level (sizes_of t.parts) (pins_of t.begun t.parts)) → ⊥
+unsettled s t same settled ten =
+    let few : free_count ten.0 (sizes_of t.parts) (pins_of t.begun t.parts) < 10 = subst IsSettled (sym same) settled ten.0 in
+    omega (arith, few, ten.1)
 
 -- ---- those that are no inputs
 

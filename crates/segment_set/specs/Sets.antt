@@ -1,5 +1,5 @@
 -- What contracts see of a set of segments.
-use Rattle.std.specs.Prelude.{◌≡◌, ◌≤◌, ◌+◌, ◌^◌, ℕ, Bool, true, false, if◌then◌else◌, List, [], ◌++◌, length, map, find, All, Option, None, Some, ℤ}
+use Rattle.std.specs.Prelude.{◌≡◌, ◌≤◌, ◌<◌, ◌+◌, ◌^◌, ℕ, Bool, true, false, if◌then◌else◌, List, [], ◌++◌, length, map, find, All, Option, None, Some, ℤ}
 use Rattle.std.specs.List.{list_any}
 use Rattle.std.specs.List.Sorted.{IsNonDecreasingBy}
 use Rattle.std.specs.Str.{bytes_eq}
@@ -12,6 +12,7 @@ use Rattle.documents.specs.Entries.{entries_but, entries_of, has_entry, is_among
 use Rattle.page_cache.specs.declared.cache.PageCache.{PageCache}
 use Rattle.page_cache.specs.Cache.{KeepsFile}
 use Rattle.commit_list.specs.Commits.{CommitData}
+use Rattle.merge_policy.specs.Choice.{free_count}
 use Rattle.stored_index.specs.Segments.{places}
 use Rattle.segment_view.specs.Parts.{Part, cleared, lives_of, ids_of, parts_among}
 use Rattle.segment_build.specs.NewSegments.{NewSegmentData, HasSomeEntries}
@@ -59,6 +60,10 @@ sizes_of parts = map (λ p. p.head.entries) parts
 -- which segments are inputs of the begun merge
 abbrev pub pins_of : Option BegunMerge → List Part → List Bool
 pins_of begun parts = map (λ p. is_among (inputs_of begun) p.head.id) parts
+
+-- the policy chooses nothing: of no level there are ten segments that are no inputs of the begun merge
+abbrev pub IsSettled : SetData → Type 0
+IsSettled s = (level : ℕ) → free_count level (sizes_of s.parts) (pins_of s.begun s.parts) < 10
 
 -- the number is live in a segment, or stands in the buffer
 abbrev pub is_live_in : SetData → ℕ → Bool

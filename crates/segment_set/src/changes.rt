@@ -36,7 +36,7 @@ const MOST_BUFFERED: usize = 16384;
 
 impl<const D: usize> SegmentSet<D> {
     ghost use Rattle.segment_set.specs.Faults.{HasCauseOf, OnAddDamage};
-    ghost use Rattle.segment_set.specs.Sets.{IsNamed, is_live_in, set_but, set_with};
+    ghost use Rattle.segment_set.specs.Sets.{IsNamed, IsSettled, is_live_in, set_but, set_with};
     ghost use Rattle.segment_set.specs.Seen.{Sees};
     ghost use Rattle.segment_set.specs.Kept.{AreCanonical, Follows, KeepsNamed, StaysAlone};
     ghost use Rattle.segment_set.specs.Damages.{IsDoubt, IsMergeDamage, IsMergeDamageOf};
@@ -73,6 +73,8 @@ impl<const D: usize> SegmentSet<D> {
         ensures room { length self.old.buffer + length points.now ≤ 16384 → OnAddDamage result (λ _. ⊥) }
         ensures parts { length self.old.buffer + length points.now ≤ 16384
             → (self.new.parts ≡ self.old.parts) × (length self.new.buffer ≤ length self.old.buffer + length points.now) }
+        // and where the policy chooses nothing, nothing is read
+        ensures rested { IsSettled self.old → F.reads folder.new ≡ F.reads folder.old }
         // what an error says
         ensures cause { HasCauseOf Failed (F.faults folder.old) (F.faults folder.new) result }
         ensures whole { IsTrue F.told → (i : Index) → Sees D (F.files folder.old) self.old i → OnAddDamage result (λ _. ⊥) }
@@ -119,6 +121,7 @@ impl<const D: usize> SegmentSet<D> {
         ensures room { OnOk result (length self.new.buffer + count ≤ 16384) }
         ensures roomy { length self.old.buffer + count ≤ 16384 → IsOk result × (self.new ≡ self.old) × (F.reads folder.new ≡ F.reads folder.old) }
         ensures files { IsTrue F.told → length self.old.buffer + count ≤ 16384 → F.files folder.new ≡ F.files folder.old }
+        ensures rested { IsSettled self.old → F.reads folder.new ≡ F.reads folder.old }
         ensures seen { IsTrue F.told → (i : Index) → Sees D (F.files folder.old) self.old i → Sees D (F.files folder.new) self.new i }
         // what stays
         ensures stays { StaysAlone self.old self.new }

@@ -38,6 +38,8 @@ pub(crate) fn chosen<const D: usize>(
     ensures none { IfOk result (λ o. IfNone o ((level : ℕ) → free_count level (sizes_of segments.now) (map (λ p. is_among inputs.now p.head.id) segments.now) < 10)) }
     ensures apart { IfOk result (λ o. IfSome o (λ ids. IsApart ids.items inputs.now segments.now)) }
     ensures some { IfOk result (λ o. IfSome o (λ ids. 2 ≤ length (parts_among ids.items segments.now))) }
+    ensures ten { IfOk result (λ o. IfSome o (λ ids. (level : ℕ)
+        × (10 ≤ free_count level (sizes_of segments.now) (map (λ p. is_among inputs.now p.head.id) segments.now)))) }
     // where nothing is chosen there are few segments: nine of a level at most are no inputs
     ensures room { length inputs.now ≤ 64 → IfOk result (λ o. IfNone o (length segments.now < 200)) }
 {

@@ -22,7 +22,7 @@ use std::thread::Threads;
 
 impl<const D: usize> SegmentSet<D> {
     ghost use Rattle.segment_set.specs.Faults.{HasCauseOf, OnBeginDamage, OnEndDamage};
-    ghost use Rattle.segment_set.specs.Sets.{BegunMerge, IsWell, inputs_of, pins_of, sizes_of};
+    ghost use Rattle.segment_set.specs.Sets.{BegunMerge, IsSettled, IsWell, inputs_of, pins_of, sizes_of};
     ghost use Rattle.segment_set.specs.Seen.{Sees, StandsOver};
     ghost use Rattle.segment_set.specs.Kept.{AreCanonical, Follows, KeepsNamed, StaysAlone, StaysButCache, StaysButMerge};
     ghost use Rattle.segment_set.specs.Merged.{IsApart, IsEnded, IsWhole, KeepsEntries, Rearranges, chosen_ids};
@@ -49,6 +49,8 @@ impl<const D: usize> SegmentSet<D> {
         ensures saved { self.new.saved ≡ self.old.saved }
         ensures begun { self.new.begun ≡ self.old.begun }
         ensures canon { IsTrue F.told → AreCanonical D (F.files folder.new) self.old.names self.new.parts }
+        // where the policy chooses nothing, nothing is read
+        ensures rested { IsSettled self.old → F.reads folder.new ≡ F.reads folder.old }
         // what an error says
         ensures cause { HasPageCause (F.faults folder.old) (F.faults folder.new) result }
         ensures whole { IsTrue F.told → (i : Index) → Sees D (F.files folder.old) self.old i → NotDamaged result }
@@ -80,6 +82,9 @@ impl<const D: usize> SegmentSet<D> {
         ensures saved { self.new.saved ≡ self.old.saved }
         ensures begun { self.new.begun ≡ self.old.begun }
         ensures canon { IsTrue F.told → AreCanonical D (F.files folder.new) self.old.names self.new.parts }
+        // where the policy chooses nothing, nothing is done
+        ensures rested { IsSettled self.old → F.reads folder.new ≡ F.reads folder.old }
+        ensures still { IsSettled self.old → self.new ≡ self.old }
         // what an error says
         ensures cause { HasPageCause (F.faults folder.old) (F.faults folder.new) result }
         ensures whole { IsTrue F.told → (i : Index) → Sees D (F.files folder.old) self.old i → NotDamaged result }
@@ -233,6 +238,7 @@ impl<const D: usize> SegmentSet<D> {
         ensures none { IfOk result (λ o. IfNone o ((level : ℕ) → free_count level (sizes_of self.now.parts) (pins_of self.now.begun self.now.parts) < 10)) }
         ensures apart { IfOk result (λ o. IfSome o (λ ids. IsApart ids.items (inputs_of self.now.begun) self.now.parts)) }
         ensures some { IfOk result (λ o. IfSome o (λ ids. 2 ≤ length (parts_among ids.items self.now.parts))) }
+        ensures ten { IfOk result (λ o. IfSome o (λ ids. (level : ℕ) × (10 ≤ free_count level (sizes_of self.now.parts) (pins_of self.now.begun self.now.parts)))) }
         ensures room { IfOk result (λ o. IfNone o (length self.now.parts < 200)) }
         ensures well { IsWell D self.now }
     {
@@ -306,6 +312,7 @@ impl<const D: usize> SegmentSet<D> {
         ensures emptied { OnOk result (self.new.buffer ≡ []) }
         ensures one_more { (level : ℕ) → free_count level (sizes_of self.new.parts) (pins_of self.new.begun self.new.parts)
             ≤ free_count level (sizes_of self.old.parts) (pins_of self.old.begun self.old.parts) + 1 }
+        ensures reads { F.reads folder.new ≡ F.reads folder.old }
         ensures cause { HasPageCause (F.faults folder.old) (F.faults folder.new) result }
         ensures whole { NotDamaged result }
     {

@@ -34,7 +34,7 @@ use std::marker::Sync;
 use std::thread::Threads;
 
 impl<const D: usize> SegmentSet<D> {
-    ghost use Rattle.segment_set.specs.Sets.{IsWell, pins_of, sizes_of};
+    ghost use Rattle.segment_set.specs.Sets.{IsSettled, IsWell, pins_of, sizes_of};
     ghost use Rattle.segment_set.specs.Seen.{Sees};
     ghost use Rattle.segment_set.specs.Kept.{AreCanonical, Follows, IsCommitOf, StaysAlone};
     ghost use Rattle.segment_set.specs.Damages.{IsDoubt, IsMergeDamage, IsMergeDamageOf};
@@ -66,6 +66,8 @@ impl<const D: usize> SegmentSet<D> {
         ensures follows { Follows self.old.names self.old.parts self.new.parts }
         ensures begun { self.new.begun ≡ self.old.begun }
         ensures canon { IsTrue F.told → AreCanonical D (F.files folder.new) self.old.names self.new.parts }
+        // where the policy chooses nothing, nothing is read
+        ensures rested { IsSettled self.old → F.reads folder.new ≡ F.reads folder.old }
         // what an error says
         ensures cause { HasPageCause (F.faults folder.old) (F.faults folder.new) result }
         ensures whole { IsTrue F.told → (i : Index) → Sees D (F.files folder.old) self.old i → NotDamaged result }
@@ -90,6 +92,7 @@ impl<const D: usize> SegmentSet<D> {
         ensures commit { IfOk result (IsCommitOf D self.new) }
         ensures listed { IfOk result (λ c. AllZip (IsSaved (IsTrue F.told) self.old.names self.new.names (F.files folder.new)) c.listed self.old.parts) }
         ensures well { IsWell D self.old }
+        ensures reads { F.reads folder.new ≡ F.reads folder.old }
         ensures cause { HasPageCause (F.faults folder.old) (F.faults folder.new) result }
         ensures whole { NotDamaged result }
     {
@@ -130,6 +133,7 @@ fn write_lives<const D: usize, F: Folder>(
     ensures kept { KeepsNamed (IsTrue F.told) names.old names.new (F.files folder.old) (F.files folder.new) }
     ensures next { names.new.next_segment ≡ names.old.next_segment }
     ensures listed { IfOk result (λ v. AllZip (IsSaved (IsTrue F.told) names.old names.new (F.files folder.new)) v.items segments.now) }
+    ensures reads { F.reads folder.new ≡ F.reads folder.old }
     ensures cause { HasPageCause (F.faults folder.old) (F.faults folder.new) result }
     ensures whole { NotDamaged result }
 {
@@ -155,6 +159,7 @@ fn write_one<const D: usize, F: Folder>(
     ensures kept { KeepsNamed (IsTrue F.told) names.old names.new (F.files folder.old) (F.files folder.new) }
     ensures next { names.new.next_segment ≡ names.old.next_segment }
     ensures listed { IfOk result (λ l. IsSaved (IsTrue F.told) names.old names.new (F.files folder.new) l (part_of head.now live.now)) }
+    ensures reads { F.reads folder.new ≡ F.reads folder.old }
     ensures cause { HasPageCause (F.faults folder.old) (F.faults folder.new) result }
     ensures whole { NotDamaged result }
 {

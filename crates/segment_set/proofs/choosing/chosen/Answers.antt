@@ -4,7 +4,7 @@ use Rattle.std.proofs.lemmas.List.{length-map}
 use Rattle.documents.specs.Entries.{is_among}
 use Rattle.merge_policy.specs.Choice.{free_count}
 use Rattle.segment_view.specs.Parts.{Part, ids_of}
-use Rattle.segment_set.proofs.Chosen.{chosen_apart, chosen_two}
+use Rattle.segment_set.proofs.Chosen.{chosen_apart, chosen_ten, chosen_two}
 use Rattle.segment_set.proofs.Leveled.{few_segments, pinned}
 use Rattle.segment_set.proofs.Places.{map_heads}
 use Rattle.segment_set.proofs.choosing.chosen.Goals as goal
@@ -31,5 +31,11 @@ returns-clause-apart g c =
 pub returns-clause-some : goal.returns-clause-some
 returns-clause-some g c =
     chosen_two c.args.inputs.now c.args.segments.now c.as_slice.result.now c.as_slice-2.result.now c.in-Some.positions.items c.in_ok-ids_at.field-0.items (c.as_slice.ensures.value ∙ c.in_ok-sizes.ensures) (c.as_slice-2.ensures.value ∙ c.in_ok-pins.ensures.pins ∙ map_heads (is_among c.args.inputs.now) c.args.segments.now)
+    c.in-Some.ensures.choice
+    (c.in_ok-ids_at.ensures ∙ ap (map (λ i. get_or (ids_of c.args.segments.now) i 0)) c.as_slice-3.ensures.value)
+
+pub returns-clause-ten : goal.returns-clause-ten
+returns-clause-ten g c =
+    chosen_ten c.args.inputs.now c.args.segments.now c.as_slice.result.now c.as_slice-2.result.now c.in-Some.positions.items c.in_ok-ids_at.field-0.items (c.as_slice.ensures.value ∙ c.in_ok-sizes.ensures) (c.as_slice-2.ensures.value ∙ c.in_ok-pins.ensures.pins ∙ map_heads (is_among c.args.inputs.now) c.args.segments.now)
     c.in-Some.ensures.choice
     (c.in_ok-ids_at.ensures ∙ ap (map (λ i. get_or (ids_of c.args.segments.now) i 0)) c.as_slice-3.ensures.value)

@@ -33,6 +33,7 @@ loop-i-preserved g c =
     record {
       kept = keeps_then (IsTrue g.F.Pages.told) c.args.names.now c.loop-i.names c.write_one.new.names (g.F.Pages.files c.args.folder.now) (g.F.Pages.files c.loop-i.folder) (g.F.Pages.files c.write_one.new.folder) was.kept one.kept;
       next = one.next ∙ was.next;
+      reads = one.reads ∙ was.reads;
       faults = one.cause.fine ∙ was.faults;
       room = omega (arith, was.room, c.push_reserved.ensures.len, c.push_reserved.ensures.capacity, c.loop-i-test.true, c.len-i-end.ensures.value);
       listed = subst (λ (ls : List Listed). AllZip (IsSaved (IsTrue g.F.Pages.told) c.args.names.now c.write_one.new.names (g.F.Pages.files c.write_one.new.folder)) ls (take (c.loop-i.i + 1) parts)) (sym c.push_reserved.ensures.items)
@@ -44,3 +45,6 @@ pub returns-clause-listed : goal.returns-clause-listed
 returns-clause-listed g c =
     let long : length c.args.segments.now ≤ c.loop-i.i = omega (arith, c.loop-i-test.false, c.len-i-end.ensures.value) in
     subst (AllZip (IsSaved (IsTrue g.F.Pages.told) c.args.names.now c.loop-i.names (g.F.Pages.files c.loop-i.folder)) c.loop-i.listed.items) (take_whole c.args.segments.now c.loop-i.i long) c.loop-i.invariant.listed
+
+pub returns-clause-reads : goal.returns-clause-reads
+returns-clause-reads g c = c.loop-i.invariant.reads

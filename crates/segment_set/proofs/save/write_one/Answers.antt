@@ -46,3 +46,9 @@ returns-clause-listed g c =
 
 pub returns-clause-cause : goal.returns-clause-cause
 returns-clause-cause g c = done_cause (g.F.Pages.faults c.args.folder.now) (g.F.Pages.faults c.write_live.new.folder) _ c.in_ok-write_live.ensures.cause.fine
+
+pub returns-in_err-write_live-clause-reads : goal.returns-in_err-write_live-clause-reads
+returns-in_err-write_live-clause-reads g c = c.in_err-write_live.ensures.reads
+
+pub returns-clause-reads : goal.returns-clause-reads
+returns-clause-reads g c = c.in_ok-write_live.ensures.reads

@@ -1,4 +1,4 @@
-use Rattle.std.proofs.Common.{IsTrue, subst, arith}
+use Rattle.std.proofs.Common.{◌∙◌, IsTrue, subst, arith}
 use Rattle.std.proofs.lemmas.Result.{err_from_is_err_and, on_ok_weaker}
 use Rattle.page_cache.specs.Causes.{HasPageCause}
 use Rattle.page_cache.proofs.Damages.{on_damage_weaker}
@@ -68,3 +68,9 @@ pub returns-in_err-merge_settle-clause-doubled : goal.returns-in_err-merge_settl
 returns-in_err-merge_settle-clause-doubled g c = λ told agrees contents reads.
     let e = err_from_is_err_and c.from_residual.result c.from_residual.ensures.1 in
     rw (e.1, e.2) (c.in_err-merge_settle.ensures.doubled told agrees contents reads)
+
+pub returns-in_err-merge_settle-clause-rested : goal.returns-in_err-merge_settle-clause-rested
+returns-in_err-merge_settle-clause-rested g c = λ settled. c.in_err-merge_settle.ensures.rested settled
+
+pub returns-clause-rested : goal.returns-clause-rested
+returns-clause-rested g c = λ settled. c.spill.ensures.reads ∙ c.in_ok-merge_settle.ensures.rested settled

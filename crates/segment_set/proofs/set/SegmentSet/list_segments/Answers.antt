@@ -80,3 +80,12 @@ pub returns-clause-listed : goal.returns-clause-listed
 returns-clause-listed g c =
     subst (λ (ls : List Listed). AllZip (IsSaved (IsTrue g.F.Pages.told) c.args.self.now.names c.write_lives.new.names (g.F.Pages.files c.write_lives.new.folder)) ls c.args.self.now.parts) (sym (ap (λ (k : CommitData). k.listed) c.new.ensures))
     (subst (λ (u : SetData). AllZip (IsSaved (IsTrue g.F.Pages.told) u.names c.write_lives.new.names (g.F.Pages.files c.write_lives.new.folder)) c.in_ok-listed.listed.items u.parts) c.self.view_is c.in_ok-listed.ensures.listed)
+
+pub returns-in_err-listed-clause-reads : goal.returns-in_err-listed-clause-reads
+returns-in_err-listed-clause-reads g c = c.write_lives.ensures.reads
+
+pub returns-in_err-again-clause-reads : goal.returns-in_err-again-clause-reads
+returns-in_err-again-clause-reads g c = c.write_lives.ensures.reads
+
+pub returns-clause-reads : goal.returns-clause-reads
+returns-clause-reads g c = c.write_lives.ensures.reads

@@ -3,6 +3,7 @@ use Rattle.std.proofs.lemmas.Result.{err_from_is_err_and}
 use Rattle.page_cache.proofs.Damages.{on_damage_weaker}
 use Rattle.segment_view.specs.Parts.{live_in_parts, parts_among}
 use Rattle.segment_set.specs.Damages.{IsDoubt, IsMergeDamage}
+use Rattle.segment_set.proofs.Chosen.{unsettled}
 use Rattle.segment_set.proofs.Rearranged.{damage_before, doubt_same, entries_none, entries_then, rearranges_none, rearranges_then}
 use Rattle.segment_set.proofs.set.SegmentSet.merge_settle.Goals as goal
 
@@ -12,6 +13,7 @@ loop-ids-init g c = record {
   entries = entries_none g.row.D (IsTrue g.F.Pages.told) (g.F.Pages.files c.args.folder.now) c.args.self.now;
   buffer = refl;
   faults = refl;
+  rested = λ settled. (refl, refl);
 }
 
 pub loop-ids-preserved : goal.loop-ids-preserved
@@ -20,6 +22,7 @@ loop-ids-preserved g c = record {
   entries = entries_then g.row.D (IsTrue g.F.Pages.told) (g.F.Pages.files c.args.folder.now) (g.F.Pages.files c.loop-ids.folder) (g.F.Pages.files c.merge.new.folder) c.args.self.now c.loop-ids.self c.merge.new.self c.loop-ids.invariant.entries c.merge.ensures.entries;
   buffer = c.merge.ensures.buffer ∙ c.loop-ids.invariant.buffer;
   faults = c.in_ok-merge.ensures.cause.fine ∙ c.loop-ids.invariant.faults;
+  rested = λ settled. absurd (unsettled c.args.self.now c.loop-ids.self (c.loop-ids.invariant.rested settled).0 settled (rw c.in-Some.is at c.in_ok-ids.ensures.ten));
 }
 
 pub loop-ids-smaller : goal.loop-ids-smaller
@@ -74,3 +77,21 @@ returns-in_err-merge-clause-doubled g c = λ told agrees contents reads.
     (λ d h. doubt_same c.args.self.now.given (live_in_parts contents c.args.self.now.parts) (live_in_parts now.0 c.loop-ids.self.parts) now.2 d
     (subst (λ n. IsDoubt n (live_in_parts now.0 c.loop-ids.self.parts) d) (c.loop-ids.invariant.moves c.next_merge.ensures.well).stays.given h))
     (c.in_err-merge.ensures.doubled told (kept.agrees told agrees) now.0 now.1))
+
+pub returns-in_err-ids-clause-rested : goal.returns-in_err-ids-clause-rested
+returns-in_err-ids-clause-rested g c = λ settled. (c.loop-ids.invariant.rested settled).1
+
+pub returns-in_err-ids-clause-still : goal.returns-in_err-ids-clause-still
+returns-in_err-ids-clause-still g c = λ settled. (c.loop-ids.invariant.rested settled).0
+
+pub returns-in_err-merge-clause-rested : goal.returns-in_err-merge-clause-rested
+returns-in_err-merge-clause-rested g c = λ settled. absurd (unsettled c.args.self.now c.loop-ids.self (c.loop-ids.invariant.rested settled).0 settled (rw c.in-Some.is at c.in_ok-ids.ensures.ten))
+
+pub returns-in_err-merge-clause-still : goal.returns-in_err-merge-clause-still
+returns-in_err-merge-clause-still g c = λ settled. absurd (unsettled c.args.self.now c.loop-ids.self (c.loop-ids.invariant.rested settled).0 settled (rw c.in-Some.is at c.in_ok-ids.ensures.ten))
+
+pub returns-clause-rested : goal.returns-clause-rested
+returns-clause-rested g c = λ settled. (c.loop-ids.invariant.rested settled).1
+
+pub returns-clause-still : goal.returns-clause-still
+returns-clause-still g c = λ settled. (c.loop-ids.invariant.rested settled).0

@@ -1,5 +1,5 @@
 use Rattle.std.proofs.Common.{◌≡◌, IsTrue, length}
-use Rattle.segment_set.specs.Sets.{IsWell}
+use Rattle.segment_set.specs.Sets.{IsSettled, IsWell}
 use Rattle.segment_set.specs.Merged.{KeepsEntries, Rearranges}
 use Rattle.segment_set.proofs.set.SegmentSet.merge_settle.Given as goal
 
@@ -9,6 +9,7 @@ invariant-loop-ids g l = record {
   entries : KeepsEntries g.row.D (IsTrue g.F.Pages.told) (g.F.Pages.files l.initial.folder) (g.F.Pages.files l.folder) l.initial.self l.self;
   buffer : l.self.buffer ≡ l.initial.self.buffer;
   faults : g.F.Pages.faults l.folder ≡ g.F.Pages.faults l.initial.folder;
+  rested : IsSettled l.initial.self → (l.self ≡ l.initial.self) × (g.F.Pages.reads l.folder ≡ g.F.Pages.reads l.initial.folder);
 }
 
 -- each merge takes the place of two segments at least

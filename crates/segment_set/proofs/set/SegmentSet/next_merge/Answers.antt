@@ -22,6 +22,12 @@ pub returns-clause-some : goal.returns-clause-some
 returns-clause-some g c =
     subst (λ (s : SetData). IfOk c.chosen.result (λ o. IfSome o (λ ids. 2 ≤ length (parts_among ids.items s.parts)))) c.self.view_is c.chosen.ensures.some
 
+pub returns-clause-ten : goal.returns-clause-ten
+returns-clause-ten g c =
+    let parts = c.self.inside.segments in
+    subst (λ (s : SetData). IfOk c.chosen.result (λ o. IfSome o (λ ids. (level : ℕ) × (10 ≤ free_count level (sizes_of s.parts) (pins_of s.begun s.parts))))) c.self.view_is
+    (subst (λ (ids : List ℕ). IfOk c.chosen.result (λ o. IfSome o (λ _. (level : ℕ) × (10 ≤ free_count level (sizes_of parts) (pinned ids parts))))) c.inputs_of.ensures c.chosen.ensures.ten)
+
 pub returns-clause-room : goal.returns-clause-room
 returns-clause-room g c =
     subst (λ (s : SetData). IfOk c.chosen.result (λ o. IfNone o (length s.parts < 200))) c.self.view_is

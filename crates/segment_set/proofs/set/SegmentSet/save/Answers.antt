@@ -114,3 +114,9 @@ returns-clause-damage g c = λ told agrees. no_damage c.list_segments.result (Is
 
 pub returns-clause-doubled : goal.returns-clause-doubled
 returns-clause-doubled g c = λ told agrees es read. no_damage c.list_segments.result (IsDoubt c.args.self.now.given (live_in_parts es c.args.self.now.parts)) c.list_segments.ensures.whole
+
+pub returns-in_err-flush-clause-rested : goal.returns-in_err-flush-clause-rested
+returns-in_err-flush-clause-rested g c = λ settled. c.in_err-flush.ensures.rested settled
+
+pub returns-clause-rested : goal.returns-clause-rested
+returns-clause-rested g c = λ settled. c.list_segments.ensures.reads ∙ c.in_ok-flush.ensures.rested settled

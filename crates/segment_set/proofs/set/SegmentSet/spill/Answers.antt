@@ -111,3 +111,9 @@ returns-clause-one_more g c = λ level.
       | inl s ↦ free_placed level inputs (part_at s.put.id s.n) c.self.inside.segments c.spill.new.segments s.put.placed
       | inr same ↦ omega (arith, ap free same.0)
     ])
+
+pub returns-then-is_empty-clause-reads : goal.returns-then-is_empty-clause-reads
+returns-then-is_empty-clause-reads g c = refl
+
+pub returns-clause-reads : goal.returns-clause-reads
+returns-clause-reads g c = c.spill.ensures.reads
