@@ -17,7 +17,7 @@ use Rattle.segment_view.specs.Parts.{Part, IsPlaced, cleared}
 use Rattle.file_names.specs.Names.{NameList, is_named}
 use Rattle.file_names.proofs.Listed.{is_named-apart, joins, others_stay, stays}
 use Rattle.segment_set.specs.Sets.{SetData, IsNamed}
-use Rattle.segment_set.specs.Kept.{KeepsNamed, StaysAlone, IsWithin, Follows, HasCanonical, AreCanonical}
+use Rattle.segment_set.specs.Kept.{KeepsNamed, StaysAlone, StaysButCache, IsWithin, Follows, HasCanonical, AreCanonical}
 
 -- ---- names and files
 
@@ -87,6 +87,11 @@ stays_then a b c first second = record {
   live = λ n h. first.live n (second.live n h);
 }
 
+-- of a call that changes the cache alone
+pub stays_cached : (s t : SetData) → StaysButCache s t → StaysAlone s t
+stays_cached s t alone =
+    subst (StaysAlone s) (sym alone.is) (record { leaf = refl; next = refl; given = refl; snapshots = refl; begun = refl; live = λ n h. h })
+
 -- ---- the segments
 
 pub within_itself : (s : LiveSet) → IsWithin s s
@@ -107,6 +112,9 @@ follows_none names parts = record { each = λ p there. inr (p, there, refl, with
 
 pub follows_same : (names : NameList) (old new : List Part) → new ≡ old → Follows names old new
 follows_same names old new same = subst (Follows names old) (sym same) (follows_none names old)
+
+pub follows_cached : (s t : SetData) → StaysButCache s t → Follows s.names s.parts t.parts
+follows_cached s t alone = follows_same s.names s.parts t.parts (ap (λ (u : SetData). u.parts) alone.is)
 
 pub follows_then : (m n : NameList) (a b c : List Part) → ((name : FileName) → is_named m.names name ≡ true → is_named n.names name ≡ true) → Follows m a b → Follows n b c → Follows m a c
 follows_then m n a b c more first second = record { each = λ p there. ⊎_elim (λ fresh. inl (unnamed_before m.names n.names (Segment p.head.id) (more (Segment p.head.id)) fresh)) (λ r. through p r) (second.each p there) }

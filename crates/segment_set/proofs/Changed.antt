@@ -1,5 +1,5 @@
 -- A set that a document was added to or taken out of.
-use Rattle.std.proofs.Common.{◌≡◌, ◌≢◌, ℕ, ◌+◌, ◌-◌, ◌≤◌, ◌^◌, ℤ, Bool, true, false, not, ◌&&◌, ◌||◌, eqb, leb, cond, List, [], ◌∷◌, ◌++◌, length, map, get_or, Option, Some, None, is_some, ⊎_elim, Ordering, Less, Equal, Greater, refl, sym, ap, subst, ◌∙◌, append_assoc, arith}
+use Rattle.std.proofs.Common.{◌≡◌, ◌≢◌, ℕ, ◌+◌, ◌-◌, ◌≤◌, ◌<◌, ◌^◌, ◌↔◌, IsTrue, ℤ, Bool, true, false, not, ◌&&◌, ◌||◌, eqb, leb, cond, List, [], ◌∷◌, ◌++◌, length, map, get_or, Option, Some, None, is_some, ⊎_elim, Ordering, Less, Equal, Greater, refl, sym, ap, subst, ◌∙◌, append_assoc, arith}
 use Rattle.std.specs.List.{AllPairs, Contains, count_by, filter}
 use Rattle.std.specs.List.Sorted.{IsNonDecreasingBy}
 use Rattle.std.specs.Ordering.{int_cmp, is_eq}
@@ -138,6 +138,19 @@ sees_with D files s i points ok seen = record {
 
     whole : old ++ mine ≡ entries_seen seen.contents s.parts (s.buffer ++ mine)
     whole = append_assoc (live_in_parts seen.contents s.parts) s.buffer mine
+
+-- whether it may be added
+pub full_given : {b : Bool} (given n m : ℕ) → IsTrue b ↔ (2 ^ 24 < given + n) → b ≡ true → n ≡ m → 2 ^ 24 < given + m
+full_given given n m full yes same = subst (λ k. 2 ^ 24 < given + k) same (full.0 yes)
+
+pub not_full : {b : Bool} (given n m : ℕ) → IsTrue b ↔ (2 ^ 24 < given + n) → b ≡ false → n ≡ m → 2 ^ 24 < given + m → ⊥
+not_full {b} given n m full no same more = both_ways b no (full.1 (subst (λ k. 2 ^ 24 < given + k) (sym same) more))
+
+-- it leaves the segments and adds its points to the buffer
+pub parts_with : (s t u : SetData) (points : List (List ℤ)) → t ≡ s → u ≡ set_with points t → (u.parts ≡ s.parts) × (length u.buffer ≤ length s.buffer + length points)
+parts_with s t u points room put =
+    subst (λ (v : SetData). (v.parts ≡ s.parts) × (length v.buffer ≤ length s.buffer + length points)) (sym (put ∙ ap (set_with points) room))
+    (refl, omega (arith, length-append s.buffer (entries_of (record { number = s.next; points = points })), length-map points (entry_of s.next)))
 
 -- ---- what every set keeps to
 

@@ -8,6 +8,7 @@ pub mod Viewed
 pub mod Sizes
 pub mod Empty
 pub mod Faulted
+pub mod Refused
 pub mod Replaced
 pub mod Grown
 pub mod Weller

@@ -1,31 +1,328 @@
 -- Room is made, and then the document is put into the buffer.
-use Rattle.std.proofs.Common.{ℕ, sym, subst}
-use Rattle.std.proofs.lemmas.Result.{err_from_is_err_and}
+use Rattle.std.proofs.Common.{◌≡◌, ◌×◌, ◌+◌, ◌≤◌, ◌<◌, ◌∙◌, ℕ, IsTrue, length, refl, sym, ap, subst, arith}
+use Rattle.std.proofs.lemmas.Bool.{false≢true}
+use Rattle.std.proofs.lemmas.List.{length-map}
 use Rattle.segment_view.specs.Parts.{live_in_parts}
 use Rattle.segment_set.specs.Sets.{SetData}
 use Rattle.segment_set.specs.Seen.{Sees}
-use Rattle.segment_set.specs.Damages.{IsDoubt}
-use Rattle.segment_set.proofs.Carried.{canon_named}
-use Rattle.segment_set.proofs.Changed.{index_with, sees_with}
-use Rattle.segment_set.proofs.Faulted.{added_damage}
+use Rattle.segment_set.specs.Kept.{AreCanonical, Follows, KeepsNamed, StaysAlone}
+use Rattle.segment_set.specs.Damages.{IsDoubt, IsMergeDamage, IsMergeDamageOf}
+use Rattle.segment_set.proofs.Carried.{canon_named, follows_none, keeps_none, stays_none}
+use Rattle.segment_set.proofs.Changed.{full_given, index_with, not_full, parts_with, sees_with}
+use Rattle.segment_set.proofs.Refused.{add_cause, add_damage, add_memory_cause, add_memory_damage, add_memory_not_full, add_not_full, added_caused, at_error, full_cause, never_ok, never_value}
+use Rattle.segment_set.proofs.set.SegmentSet.add.Given as given
 use Rattle.segment_set.proofs.set.SegmentSet.add.Goals as goal
 
+-- how many points there are
+many : (g : given.Over) (c : goal.After-is_full g) → length c.as_slice.result.now ≡ length c.args.points.now
+many g c = sym (length-map c.as_slice.result.now _) ∙ ap length c.as_slice.ensures.value
+
+pub returns-then-is_full-clause-seen : goal.returns-then-is_full-clause-seen
+returns-then-is_full-clause-seen g c = λ told i seen. tt
+
+pub returns-then-is_full-clause-refused : goal.returns-then-is_full-clause-refused
+returns-then-is_full-clause-refused g c = λ told i seen. seen
+
+pub returns-then-is_full-clause-number : goal.returns-then-is_full-clause-number
+returns-then-is_full-clause-number g c = tt
+
+pub returns-then-is_full-clause-given : goal.returns-then-is_full-clause-given
+returns-then-is_full-clause-given g c = tt
+
+pub returns-then-is_full-clause-full : goal.returns-then-is_full-clause-full
+returns-then-is_full-clause-full g c =
+    (λ is. full_given c.args.self.now.given (length c.as_slice.result.now) (length c.args.points.now) c.is_full.ensures.full c.if-is_full.true (many g c), λ more. refl)
+
+pub returns-then-is_full-clause-stays : goal.returns-then-is_full-clause-stays
+returns-then-is_full-clause-stays g c = stays_none c.args.self.now
+
+pub returns-then-is_full-clause-kept : goal.returns-then-is_full-clause-kept
+returns-then-is_full-clause-kept g c = keeps_none (IsTrue g.F.Pages.told) c.args.self.now.names (g.F.Pages.files c.args.folder.now)
+
+pub returns-then-is_full-clause-follows : goal.returns-then-is_full-clause-follows
+returns-then-is_full-clause-follows g c = follows_none c.args.self.now.names c.args.self.now.parts
+
+pub returns-then-is_full-clause-saved : goal.returns-then-is_full-clause-saved
+returns-then-is_full-clause-saved g c = refl
+
+pub returns-then-is_full-clause-begun : goal.returns-then-is_full-clause-begun
+returns-then-is_full-clause-begun g c = refl
+
+pub returns-then-is_full-clause-snapshots : goal.returns-then-is_full-clause-snapshots
+returns-then-is_full-clause-snapshots g c = refl
+
+pub returns-then-is_full-clause-leaf : goal.returns-then-is_full-clause-leaf
+returns-then-is_full-clause-leaf g c = refl
+
 pub returns-then-is_full-clause-canon : goal.returns-then-is_full-clause-canon
-returns-then-is_full-clause-canon g c = λ told. canon_named g.row.D (g.F.Pages.files c.args.folder.now) c.args.self.now.names c.args.self.now.parts c.is_full.ensures.named
+returns-then-is_full-clause-canon g c = λ told.
+    canon_named g.row.D (g.F.Pages.files c.args.folder.now) c.args.self.now.names c.args.self.now.parts c.is_full.ensures.named
+
+pub returns-then-is_full-clause-unread : goal.returns-then-is_full-clause-unread
+returns-then-is_full-clause-unread g c = λ room. refl
+
+pub returns-then-is_full-clause-files : goal.returns-then-is_full-clause-files
+returns-then-is_full-clause-files g c = λ told room. refl
+
+pub returns-then-is_full-clause-room : goal.returns-then-is_full-clause-room
+returns-then-is_full-clause-room g c = λ room. tt
+
+pub returns-then-is_full-clause-parts : goal.returns-then-is_full-clause-parts
+returns-then-is_full-clause-parts g c = λ room. (refl, omega arith)
+
+pub returns-then-is_full-clause-rested : goal.returns-then-is_full-clause-rested
+returns-then-is_full-clause-rested g c = λ settled. refl
+
+pub returns-then-is_full-clause-cause : goal.returns-then-is_full-clause-cause
+returns-then-is_full-clause-cause g c = full_cause (g.F.Pages.faults c.args.folder.now)
+
+pub returns-then-is_full-clause-whole : goal.returns-then-is_full-clause-whole
+returns-then-is_full-clause-whole g c = λ told i seen. tt
+
+pub returns-then-is_full-clause-shown : goal.returns-then-is_full-clause-shown
+returns-then-is_full-clause-shown g c = tt
+
+pub returns-then-is_full-clause-damage : goal.returns-then-is_full-clause-damage
+returns-then-is_full-clause-damage g c = λ told agrees. tt
+
+pub returns-then-is_full-clause-doubled : goal.returns-then-is_full-clause-doubled
+returns-then-is_full-clause-doubled g c = λ told agrees es read. tt
+
+pub returns-in_err-make_room-clause-seen : goal.returns-in_err-make_room-clause-seen
+returns-in_err-make_room-clause-seen g c = λ told i seen. never_ok c.from_residual.result c.from_residual.ensures.1 _
+
+pub returns-in_err-make_room-clause-refused : goal.returns-in_err-make_room-clause-refused
+returns-in_err-make_room-clause-refused g c = λ told i seen. at_error c.from_residual.result c.from_residual.ensures.1 _ (c.in_err-make_room.ensures.seen told i seen)
+
+pub returns-in_err-make_room-clause-number : goal.returns-in_err-make_room-clause-number
+returns-in_err-make_room-clause-number g c = never_value c.from_residual.result c.from_residual.ensures.1 _
+
+pub returns-in_err-make_room-clause-given : goal.returns-in_err-make_room-clause-given
+returns-in_err-make_room-clause-given g c = never_ok c.from_residual.result c.from_residual.ensures.1 _
+
+pub returns-in_err-make_room-clause-full : goal.returns-in_err-make_room-clause-full
+returns-in_err-make_room-clause-full g c =
+    (λ is. absurd (add_not_full c.in_err-make_room.field-0.0 c.from_residual.result c.from_residual.ensures.1 is), λ more. absurd (not_full c.args.self.now.given (length c.as_slice.result.now) (length c.args.points.now) c.is_full.ensures.full c.if-is_full.false (many g c) more))
+
+pub returns-in_err-make_room-clause-stays : goal.returns-in_err-make_room-clause-stays
+returns-in_err-make_room-clause-stays g c = at_error c.from_residual.result c.from_residual.ensures.1 _ c.in_err-make_room.ensures.stays
+
+pub returns-in_err-make_room-clause-kept : goal.returns-in_err-make_room-clause-kept
+returns-in_err-make_room-clause-kept g c = c.in_err-make_room.ensures.kept
+
+pub returns-in_err-make_room-clause-follows : goal.returns-in_err-make_room-clause-follows
+returns-in_err-make_room-clause-follows g c = c.in_err-make_room.ensures.follows
+
+pub returns-in_err-make_room-clause-saved : goal.returns-in_err-make_room-clause-saved
+returns-in_err-make_room-clause-saved g c = c.in_err-make_room.ensures.saved
+
+pub returns-in_err-make_room-clause-begun : goal.returns-in_err-make_room-clause-begun
+returns-in_err-make_room-clause-begun g c = c.in_err-make_room.ensures.begun
+
+pub returns-in_err-make_room-clause-snapshots : goal.returns-in_err-make_room-clause-snapshots
+returns-in_err-make_room-clause-snapshots g c = c.in_err-make_room.ensures.stays.snapshots
+
+pub returns-in_err-make_room-clause-leaf : goal.returns-in_err-make_room-clause-leaf
+returns-in_err-make_room-clause-leaf g c = c.in_err-make_room.ensures.stays.leaf
+
+pub returns-in_err-make_room-clause-canon : goal.returns-in_err-make_room-clause-canon
+returns-in_err-make_room-clause-canon g c = c.in_err-make_room.ensures.canon
+
+pub returns-in_err-make_room-clause-unread : goal.returns-in_err-make_room-clause-unread
+returns-in_err-make_room-clause-unread g c = λ room.
+    absurd (false≢true (c.in_err-make_room.ensures.roomy (subst (λ n. length c.args.self.now.buffer + n ≤ 16384) (sym (many g c)) room)).0)
+
+pub returns-in_err-make_room-clause-files : goal.returns-in_err-make_room-clause-files
+returns-in_err-make_room-clause-files g c = λ told room.
+    absurd (false≢true (c.in_err-make_room.ensures.roomy (subst (λ n. length c.args.self.now.buffer + n ≤ 16384) (sym (many g c)) room)).0)
+
+pub returns-in_err-make_room-clause-room : goal.returns-in_err-make_room-clause-room
+returns-in_err-make_room-clause-room g c = λ room.
+    absurd (false≢true (c.in_err-make_room.ensures.roomy (subst (λ n. length c.args.self.now.buffer + n ≤ 16384) (sym (many g c)) room)).0)
+
+pub returns-in_err-make_room-clause-parts : goal.returns-in_err-make_room-clause-parts
+returns-in_err-make_room-clause-parts g c = λ room.
+    absurd (false≢true (c.in_err-make_room.ensures.roomy (subst (λ n. length c.args.self.now.buffer + n ≤ 16384) (sym (many g c)) room)).0)
+
+pub returns-in_err-make_room-clause-rested : goal.returns-in_err-make_room-clause-rested
+returns-in_err-make_room-clause-rested g c = λ settled. c.in_err-make_room.ensures.rested settled
+
+pub returns-in_err-make_room-clause-cause : goal.returns-in_err-make_room-clause-cause
+returns-in_err-make_room-clause-cause g c =
+    add_cause (g.F.Pages.faults c.args.folder.now) (g.F.Pages.faults c.make_room.new.folder) c.in_err-make_room.field-0.0 c.from_residual.result c.from_residual.ensures.1 c.in_err-make_room.ensures.cause
 
 pub returns-in_err-make_room-clause-whole : goal.returns-in_err-make_room-clause-whole
 returns-in_err-make_room-clause-whole g c = λ told i seen.
-    let p = err_from_is_err_and c.from_residual.result c.from_residual.ensures.1 in
-    rw (p.1, p.2) (added_damage (Unit {0}) ℕ (λ _. ⊥) c.in_err-make_room.field-0.0 (c.in_err-make_room.ensures.whole told i seen))
+    add_damage (λ _. ⊥) c.in_err-make_room.field-0.0 c.from_residual.result c.from_residual.ensures.1 (c.in_err-make_room.ensures.whole told i seen)
+
+pub returns-in_err-make_room-clause-shown : goal.returns-in_err-make_room-clause-shown
+returns-in_err-make_room-clause-shown g c =
+    add_damage (IsMergeDamage g.row.D c.args.self.now.given c.args.self.now.names c.args.self.now.parts) c.in_err-make_room.field-0.0 c.from_residual.result c.from_residual.ensures.1 c.in_err-make_room.ensures.shown
+
+pub returns-in_err-make_room-clause-damage : goal.returns-in_err-make_room-clause-damage
+returns-in_err-make_room-clause-damage g c = λ told agrees.
+    add_damage (IsMergeDamageOf (g.F.Pages.files c.make_room.new.folder) c.args.self.now.given) c.in_err-make_room.field-0.0 c.from_residual.result c.from_residual.ensures.1 (c.in_err-make_room.ensures.damage told agrees)
 
 pub returns-in_err-make_room-clause-doubled : goal.returns-in_err-make_room-clause-doubled
 returns-in_err-make_room-clause-doubled g c = λ told agrees es read.
-    let p = err_from_is_err_and c.from_residual.result c.from_residual.ensures.1 in
-    rw (p.1, p.2)
-    (added_damage (Unit {0}) ℕ (IsDoubt c.args.self.now.given (live_in_parts es c.args.self.now.parts)) c.in_err-make_room.field-0.0 (c.in_err-make_room.ensures.doubled told agrees es read))
+    add_damage (IsDoubt c.args.self.now.given (live_in_parts es c.args.self.now.parts)) c.in_err-make_room.field-0.0 c.from_residual.result c.from_residual.ensures.1 (c.in_err-make_room.ensures.doubled told agrees es read)
+
+pub returns-in_err-put-clause-seen : goal.returns-in_err-put-clause-seen
+returns-in_err-put-clause-seen g c = λ told i seen. never_ok c.from_residual-in_err-put.result c.from_residual-in_err-put.ensures.1 _
+
+pub returns-in_err-put-clause-refused : goal.returns-in_err-put-clause-refused
+returns-in_err-put-clause-refused g c = λ told i seen.
+    at_error c.from_residual-in_err-put.result c.from_residual-in_err-put.ensures.1 _ (subst (λ (s : SetData). Sees g.row.D (g.F.Pages.files c.make_room.new.folder) s i) (sym c.in_err-put.ensures.refused) (c.in_ok-make_room.ensures.seen told i seen))
+
+pub returns-in_err-put-clause-number : goal.returns-in_err-put-clause-number
+returns-in_err-put-clause-number g c = never_value c.from_residual-in_err-put.result c.from_residual-in_err-put.ensures.1 _
+
+pub returns-in_err-put-clause-given : goal.returns-in_err-put-clause-given
+returns-in_err-put-clause-given g c = never_ok c.from_residual-in_err-put.result c.from_residual-in_err-put.ensures.1 _
+
+pub returns-in_err-put-clause-full : goal.returns-in_err-put-clause-full
+returns-in_err-put-clause-full g c =
+    (λ is. absurd (add_memory_not_full c.from_residual-in_err-put.result c.from_residual-in_err-put.ensures.1 is), λ more. absurd (not_full c.args.self.now.given (length c.as_slice.result.now) (length c.args.points.now) c.is_full.ensures.full c.if-is_full.false (many g c) more))
+
+pub returns-in_err-put-clause-stays : goal.returns-in_err-put-clause-stays
+returns-in_err-put-clause-stays g c =
+    at_error c.from_residual-in_err-put.result c.from_residual-in_err-put.ensures.1 _ (subst (StaysAlone c.args.self.now) (sym c.in_err-put.ensures.refused) c.in_ok-make_room.ensures.stays)
+
+pub returns-in_err-put-clause-kept : goal.returns-in_err-put-clause-kept
+returns-in_err-put-clause-kept g c =
+    subst (λ (s : SetData). KeepsNamed (IsTrue g.F.Pages.told) c.args.self.now.names s.names (g.F.Pages.files c.args.folder.now) (g.F.Pages.files c.make_room.new.folder)) (sym c.in_err-put.ensures.refused) c.in_ok-make_room.ensures.kept
+
+pub returns-in_err-put-clause-follows : goal.returns-in_err-put-clause-follows
+returns-in_err-put-clause-follows g c =
+    subst (λ (s : SetData). Follows c.args.self.now.names c.args.self.now.parts s.parts) (sym c.in_err-put.ensures.refused) c.in_ok-make_room.ensures.follows
+
+pub returns-in_err-put-clause-saved : goal.returns-in_err-put-clause-saved
+returns-in_err-put-clause-saved g c = ap (λ (s : SetData). s.saved) c.in_err-put.ensures.refused ∙ c.in_ok-make_room.ensures.saved
+
+pub returns-in_err-put-clause-begun : goal.returns-in_err-put-clause-begun
+returns-in_err-put-clause-begun g c = ap (λ (s : SetData). s.begun) c.in_err-put.ensures.refused ∙ c.in_ok-make_room.ensures.begun
+
+pub returns-in_err-put-clause-snapshots : goal.returns-in_err-put-clause-snapshots
+returns-in_err-put-clause-snapshots g c = ap (λ (s : SetData). s.snapshots) c.in_err-put.ensures.refused ∙ c.in_ok-make_room.ensures.stays.snapshots
+
+pub returns-in_err-put-clause-leaf : goal.returns-in_err-put-clause-leaf
+returns-in_err-put-clause-leaf g c = ap (λ (s : SetData). s.leaf) c.in_err-put.ensures.refused ∙ c.in_ok-make_room.ensures.stays.leaf
+
+pub returns-in_err-put-clause-canon : goal.returns-in_err-put-clause-canon
+returns-in_err-put-clause-canon g c = λ told.
+    subst (λ (s : SetData). AreCanonical g.row.D (g.F.Pages.files c.make_room.new.folder) c.args.self.now.names s.parts) (sym c.in_err-put.ensures.refused) (c.in_ok-make_room.ensures.canon told)
+
+pub returns-in_err-put-clause-unread : goal.returns-in_err-put-clause-unread
+returns-in_err-put-clause-unread g c = λ room. (c.in_ok-make_room.ensures.roomy (subst (λ n. length c.args.self.now.buffer + n ≤ 16384) (sym (many g c)) room)).2
+
+pub returns-in_err-put-clause-files : goal.returns-in_err-put-clause-files
+returns-in_err-put-clause-files g c = λ told room. c.in_ok-make_room.ensures.files told (subst (λ n. length c.args.self.now.buffer + n ≤ 16384) (sym (many g c)) room)
+
+pub returns-in_err-put-clause-room : goal.returns-in_err-put-clause-room
+returns-in_err-put-clause-room g c = λ room. add_memory_damage (λ _. ⊥) c.from_residual-in_err-put.result c.from_residual-in_err-put.ensures.1
+
+pub returns-in_err-put-clause-parts : goal.returns-in_err-put-clause-parts
+returns-in_err-put-clause-parts g c = λ room.
+    let is = c.in_err-put.ensures.refused ∙ (c.in_ok-make_room.ensures.roomy (subst (λ n. length c.args.self.now.buffer + n ≤ 16384) (sym (many g c)) room)).1 in subst (λ (s : SetData). (s.parts ≡ c.args.self.now.parts) × (length s.buffer ≤ length c.args.self.now.buffer + length c.args.points.now)) (sym is) (refl, omega arith)
+
+pub returns-in_err-put-clause-rested : goal.returns-in_err-put-clause-rested
+returns-in_err-put-clause-rested g c = λ settled. c.in_ok-make_room.ensures.rested settled
+
+pub returns-in_err-put-clause-cause : goal.returns-in_err-put-clause-cause
+returns-in_err-put-clause-cause g c =
+    add_memory_cause (g.F.Pages.faults c.args.folder.now) (g.F.Pages.faults c.make_room.new.folder) c.from_residual-in_err-put.result c.from_residual-in_err-put.ensures.1 c.in_ok-make_room.ensures.cause.fine
+
+pub returns-in_err-put-clause-whole : goal.returns-in_err-put-clause-whole
+returns-in_err-put-clause-whole g c = λ told i seen. add_memory_damage (λ _. ⊥) c.from_residual-in_err-put.result c.from_residual-in_err-put.ensures.1
+
+pub returns-in_err-put-clause-shown : goal.returns-in_err-put-clause-shown
+returns-in_err-put-clause-shown g c =
+    add_memory_damage (IsMergeDamage g.row.D c.args.self.now.given c.args.self.now.names c.args.self.now.parts) c.from_residual-in_err-put.result c.from_residual-in_err-put.ensures.1
+
+pub returns-in_err-put-clause-damage : goal.returns-in_err-put-clause-damage
+returns-in_err-put-clause-damage g c = λ told agrees.
+    add_memory_damage (IsMergeDamageOf (g.F.Pages.files c.make_room.new.folder) c.args.self.now.given) c.from_residual-in_err-put.result c.from_residual-in_err-put.ensures.1
+
+pub returns-in_err-put-clause-doubled : goal.returns-in_err-put-clause-doubled
+returns-in_err-put-clause-doubled g c = λ told agrees es read.
+    add_memory_damage (IsDoubt c.args.self.now.given (live_in_parts es c.args.self.now.parts)) c.from_residual-in_err-put.result c.from_residual-in_err-put.ensures.1
 
 pub returns-clause-seen : goal.returns-clause-seen
 returns-clause-seen g c = λ told i seen.
-    let files = g.F.Pages.files c.make_room.new.folder in
-    subst (λ (s : SetData). Sees g.row.D files s (index_with c.args.points.now i)) (sym c.in_ok-put.ensures.put)
-    (sees_with g.row.D files c.make_room.new.self i c.args.points.now c.in_ok-put.ensures.points (c.in_ok-make_room.ensures.seen told i seen))
+    subst (λ (s : SetData). Sees g.row.D (g.F.Pages.files c.make_room.new.folder) s (index_with c.args.points.now i)) (sym c.in_ok-put.ensures.put)
+    (sees_with g.row.D (g.F.Pages.files c.make_room.new.folder) c.make_room.new.self i c.args.points.now c.in_ok-put.ensures.points (c.in_ok-make_room.ensures.seen told i seen))
+
+pub returns-clause-refused : goal.returns-clause-refused
+returns-clause-refused g c = λ told i seen. tt
+
+pub returns-clause-number : goal.returns-clause-number
+returns-clause-number g c = c.in_ok-put.ensures.number ∙ c.in_ok-make_room.ensures.stays.next
+
+pub returns-clause-given : goal.returns-clause-given
+returns-clause-given g c = (
+  ap (λ (s : SetData). s.next) c.in_ok-put.ensures.put ∙ ap (λ n. n + 1) c.in_ok-make_room.ensures.stays.next,
+  ap (λ (s : SetData). s.given) c.in_ok-put.ensures.put ∙ ap (λ n. n + length c.args.points.now) c.in_ok-make_room.ensures.stays.given,
+)
+
+pub returns-clause-full : goal.returns-clause-full
+returns-clause-full g c =
+    (λ is. absurd cc, λ more. absurd (not_full c.args.self.now.given (length c.as_slice.result.now) (length c.args.points.now) c.is_full.ensures.full c.if-is_full.false (many g c) more))
+
+pub returns-clause-stays : goal.returns-clause-stays
+returns-clause-stays g c = tt
+
+pub returns-clause-kept : goal.returns-clause-kept
+returns-clause-kept g c =
+    subst (λ (s : SetData). KeepsNamed (IsTrue g.F.Pages.told) c.args.self.now.names s.names (g.F.Pages.files c.args.folder.now) (g.F.Pages.files c.make_room.new.folder)) (sym c.in_ok-put.ensures.put) c.in_ok-make_room.ensures.kept
+
+pub returns-clause-follows : goal.returns-clause-follows
+returns-clause-follows g c =
+    subst (λ (s : SetData). Follows c.args.self.now.names c.args.self.now.parts s.parts) (sym c.in_ok-put.ensures.put) c.in_ok-make_room.ensures.follows
+
+pub returns-clause-saved : goal.returns-clause-saved
+returns-clause-saved g c = ap (λ (s : SetData). s.saved) c.in_ok-put.ensures.put ∙ c.in_ok-make_room.ensures.saved
+
+pub returns-clause-begun : goal.returns-clause-begun
+returns-clause-begun g c = ap (λ (s : SetData). s.begun) c.in_ok-put.ensures.put ∙ c.in_ok-make_room.ensures.begun
+
+pub returns-clause-snapshots : goal.returns-clause-snapshots
+returns-clause-snapshots g c = ap (λ (s : SetData). s.snapshots) c.in_ok-put.ensures.put ∙ c.in_ok-make_room.ensures.stays.snapshots
+
+pub returns-clause-leaf : goal.returns-clause-leaf
+returns-clause-leaf g c = ap (λ (s : SetData). s.leaf) c.in_ok-put.ensures.put ∙ c.in_ok-make_room.ensures.stays.leaf
+
+pub returns-clause-canon : goal.returns-clause-canon
+returns-clause-canon g c = λ told.
+    subst (λ (s : SetData). AreCanonical g.row.D (g.F.Pages.files c.make_room.new.folder) c.args.self.now.names s.parts) (sym c.in_ok-put.ensures.put) (c.in_ok-make_room.ensures.canon told)
+
+pub returns-clause-unread : goal.returns-clause-unread
+returns-clause-unread g c = λ room. (c.in_ok-make_room.ensures.roomy (subst (λ n. length c.args.self.now.buffer + n ≤ 16384) (sym (many g c)) room)).2
+
+pub returns-clause-files : goal.returns-clause-files
+returns-clause-files g c = λ told room. c.in_ok-make_room.ensures.files told (subst (λ n. length c.args.self.now.buffer + n ≤ 16384) (sym (many g c)) room)
+
+pub returns-clause-room : goal.returns-clause-room
+returns-clause-room g c = λ room. tt
+
+pub returns-clause-parts : goal.returns-clause-parts
+returns-clause-parts g c = λ room.
+    parts_with c.args.self.now c.make_room.new.self c.put.new.self c.args.points.now (c.in_ok-make_room.ensures.roomy (subst (λ n. length c.args.self.now.buffer + n ≤ 16384) (sym (many g c)) room)).1 c.in_ok-put.ensures.put
+
+pub returns-clause-rested : goal.returns-clause-rested
+returns-clause-rested g c = λ settled. c.in_ok-make_room.ensures.rested settled
+
+pub returns-clause-cause : goal.returns-clause-cause
+returns-clause-cause g c =
+    added_caused (g.F.Pages.faults c.args.folder.now) (g.F.Pages.faults c.make_room.new.folder) _ c.in_ok-make_room.ensures.cause.fine
+
+pub returns-clause-whole : goal.returns-clause-whole
+returns-clause-whole g c = λ told i seen. tt
+
+pub returns-clause-shown : goal.returns-clause-shown
+returns-clause-shown g c = tt
+
+pub returns-clause-damage : goal.returns-clause-damage
+returns-clause-damage g c = λ told agrees. tt
+
+pub returns-clause-doubled : goal.returns-clause-doubled
+returns-clause-doubled g c = λ told agrees es read. tt

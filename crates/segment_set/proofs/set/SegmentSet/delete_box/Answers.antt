@@ -8,6 +8,14 @@ use Rattle.segment_view.specs.Parts.{heads_of}
 use Rattle.segment_view.specs.Costs.{AreTouched}
 use Rattle.segment_set.specs.Seen.{Sees}
 use Rattle.segment_set.proofs.Changed.{docs_but, docs_hit}
+use Rattle.segment_set.proofs.Refused.{at_error, never_ok, never_value, same_cause, same_damage}
+use Rattle.segment_set.proofs.Carried.{follows_cached, follows_then, stays_cached, stays_then}
+use Rattle.segment_set.proofs.Causes.{memory_cause}
+use Rattle.segment_set.proofs.Saving.{done_cause}
+use Rattle.segment_set.specs.Sets.{SetData}
+use Rattle.file_names.specs.Names.{is_named}
+use Rattle.segment_file.specs.Damages.{IsLeafDamageOf}
+use Rattle.nearest_query.specs.Segments.{IsSegmentDamage}
 use Rattle.segment_set.proofs.set.SegmentSet.delete_box.Goals as goal
 
 pub returns-in_err-hits-clause-reads : goal.returns-in_err-hits-clause-reads
@@ -38,3 +46,110 @@ returns-clause-count g c = λ told i seen.
 pub returns-clause-reads : goal.returns-clause-reads
 returns-clause-reads g c = λ n are.
     c.in_ok-hits.ensures.reads n (subst (λ (b : Asked). AreTouched g.row.D (in_box b.bounds) (crosses b.bounds) (heads_of c.args.self.now.parts) n) (sym c.new-shape.ensures) are)
+
+pub returns-in_err-hits-clause-seen : goal.returns-in_err-hits-clause-seen
+returns-in_err-hits-clause-seen g c = λ told i seen. never_ok c.from_residual.result c.from_residual.ensures.1 _
+
+pub returns-in_err-hits-clause-count : goal.returns-in_err-hits-clause-count
+returns-in_err-hits-clause-count g c = λ told i seen. never_value c.from_residual.result c.from_residual.ensures.1 _
+
+pub returns-in_err-hits-clause-refused : goal.returns-in_err-hits-clause-refused
+returns-in_err-hits-clause-refused g c = λ told i seen.
+    at_error c.from_residual.result c.from_residual.ensures.1 _ (c.visit.ensures.seen told i seen)
+
+pub returns-in_err-hits-clause-files : goal.returns-in_err-hits-clause-files
+returns-in_err-hits-clause-files g c = c.visit.ensures.files
+
+pub returns-in_err-hits-clause-stays : goal.returns-in_err-hits-clause-stays
+returns-in_err-hits-clause-stays g c = stays_cached c.args.self.now c.visit.new.self c.visit.ensures.alone
+
+pub returns-in_err-hits-clause-follows : goal.returns-in_err-hits-clause-follows
+returns-in_err-hits-clause-follows g c = follows_cached c.args.self.now c.visit.new.self c.visit.ensures.alone
+
+pub returns-in_err-hits-clause-names : goal.returns-in_err-hits-clause-names
+returns-in_err-hits-clause-names g c = ap (λ (s : SetData). s.names) c.visit.ensures.alone.is
+
+pub returns-in_err-hits-clause-saved : goal.returns-in_err-hits-clause-saved
+returns-in_err-hits-clause-saved g c = ap (λ (s : SetData). s.saved) c.visit.ensures.alone.is
+
+pub returns-in_default-clause-files : goal.returns-in_default-clause-files
+returns-in_default-clause-files g c = c.visit.ensures.files
+
+pub returns-in_default-clause-stays : goal.returns-in_default-clause-stays
+returns-in_default-clause-stays g c = stays_cached c.args.self.now c.visit.new.self c.visit.ensures.alone
+
+pub returns-in_default-clause-follows : goal.returns-in_default-clause-follows
+returns-in_default-clause-follows g c = follows_cached c.args.self.now c.visit.new.self c.visit.ensures.alone
+
+pub returns-in_default-clause-names : goal.returns-in_default-clause-names
+returns-in_default-clause-names g c = ap (λ (s : SetData). s.names) c.visit.ensures.alone.is
+
+pub returns-in_default-clause-saved : goal.returns-in_default-clause-saved
+returns-in_default-clause-saved g c = ap (λ (s : SetData). s.saved) c.visit.ensures.alone.is
+
+pub returns-in_err-hits-clause-cause : goal.returns-in_err-hits-clause-cause
+returns-in_err-hits-clause-cause g c =
+    same_cause (g.F.Pages.faults c.args.folder.now) (g.F.Pages.faults c.visit.new.folder) c.in_err-hits.field-0.0 c.from_residual.result c.from_residual.ensures.1 c.in_err-hits.ensures.cause
+
+pub returns-in_err-hits-clause-shown : goal.returns-in_err-hits-clause-shown
+returns-in_err-hits-clause-shown g c = λ trees have.
+    same_damage (IsSegmentDamage g.row.D (heads_of c.args.self.now.parts) trees) c.in_err-hits.field-0.0 c.from_residual.result c.from_residual.ensures.1 (c.in_err-hits.ensures.shown trees have)
+
+pub returns-in_err-hits-clause-damage : goal.returns-in_err-hits-clause-damage
+returns-in_err-hits-clause-damage g c = λ told agrees.
+    same_damage (IsLeafDamageOf (g.F.Pages.files c.args.folder.now)) c.in_err-hits.field-0.0 c.from_residual.result c.from_residual.ensures.1 (c.in_err-hits.ensures.damage told agrees)
+
+pub returns-in_default-clause-seen : goal.returns-in_default-clause-seen
+returns-in_default-clause-seen g c = λ told i seen. tt
+
+pub returns-in_default-clause-count : goal.returns-in_default-clause-count
+returns-in_default-clause-count g c = λ told i seen. tt
+
+pub returns-in_default-clause-refused : goal.returns-in_default-clause-refused
+returns-in_default-clause-refused g c = λ told i seen. c.visit.ensures.seen told i seen
+
+pub returns-in_default-clause-cause : goal.returns-in_default-clause-cause
+returns-in_default-clause-cause g c =
+    memory_cause (g.F.Pages.faults c.args.folder.now) (g.F.Pages.faults c.visit.new.folder) c.in_ok-hits.ensures.cause.fine
+
+pub returns-in_default-clause-whole : goal.returns-in_default-clause-whole
+returns-in_default-clause-whole g c = λ told i seen. tt
+
+pub returns-in_default-clause-shown : goal.returns-in_default-clause-shown
+returns-in_default-clause-shown g c = λ trees have. tt
+
+pub returns-in_default-clause-damage : goal.returns-in_default-clause-damage
+returns-in_default-clause-damage g c = λ told agrees. tt
+
+pub returns-clause-refused : goal.returns-clause-refused
+returns-clause-refused g c = λ told i seen. tt
+
+pub returns-clause-files : goal.returns-clause-files
+returns-clause-files g c = c.visit.ensures.files
+
+pub returns-clause-stays : goal.returns-clause-stays
+returns-clause-stays g c =
+    stays_then c.args.self.now c.visit.new.self c.delete_all.new.self (stays_cached c.args.self.now c.visit.new.self c.visit.ensures.alone) c.delete_all.ensures.stays
+
+pub returns-clause-follows : goal.returns-clause-follows
+returns-clause-follows g c =
+    follows_then c.args.self.now.names c.visit.new.self.names c.args.self.now.parts c.visit.new.self.parts c.delete_all.new.self.parts (λ m named. ap (λ (s : SetData). is_named s.names.names m) c.visit.ensures.alone.is ∙ named) (follows_cached c.args.self.now c.visit.new.self c.visit.ensures.alone) c.delete_all.ensures.follows
+
+pub returns-clause-names : goal.returns-clause-names
+returns-clause-names g c = c.delete_all.ensures.names ∙ ap (λ (s : SetData). s.names) c.visit.ensures.alone.is
+
+pub returns-clause-saved : goal.returns-clause-saved
+returns-clause-saved g c = c.delete_all.ensures.saved ∙ ap (λ (s : SetData). s.saved) c.visit.ensures.alone.is
+
+pub returns-clause-cause : goal.returns-clause-cause
+returns-clause-cause g c =
+    done_cause (g.F.Pages.faults c.args.folder.now) (g.F.Pages.faults c.visit.new.folder) _ c.in_ok-hits.ensures.cause.fine
+
+pub returns-clause-whole : goal.returns-clause-whole
+returns-clause-whole g c = λ told i seen. tt
+
+pub returns-clause-shown : goal.returns-clause-shown
+returns-clause-shown g c = λ trees have. tt
+
+pub returns-clause-damage : goal.returns-clause-damage
+returns-clause-damage g c = λ told agrees. tt

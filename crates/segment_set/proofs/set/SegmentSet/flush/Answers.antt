@@ -6,6 +6,7 @@ use Rattle.segment_view.specs.Parts.{live_in_parts}
 use Rattle.segment_set.specs.Merged.{Rearranges}
 use Rattle.segment_set.specs.Damages.{IsDoubt, IsMergeDamage, IsMergeDamageOf}
 use Rattle.segment_set.proofs.Rearranged.{rearranges_then}
+use Rattle.segment_set.proofs.Refused.{never_ok, same_cause, same_damage}
 use Rattle.segment_set.proofs.set.SegmentSet.flush.Given as given
 use Rattle.segment_set.proofs.set.SegmentSet.flush.Goals as goal
 
@@ -74,3 +75,45 @@ returns-in_err-merge_settle-clause-rested g c = λ settled. c.in_err-merge_settl
 
 pub returns-clause-rested : goal.returns-clause-rested
 returns-clause-rested g c = λ settled. c.spill.ensures.reads ∙ c.in_ok-merge_settle.ensures.rested settled
+
+pub returns-in_err-merge_settle-clause-seen : goal.returns-in_err-merge_settle-clause-seen
+returns-in_err-merge_settle-clause-seen g c = c.in_err-merge_settle.ensures.seen
+
+pub returns-in_err-merge_settle-clause-emptied : goal.returns-in_err-merge_settle-clause-emptied
+returns-in_err-merge_settle-clause-emptied g c = never_ok c.from_residual.result c.from_residual.ensures.1 _
+
+pub returns-in_err-merge_settle-clause-levels : goal.returns-in_err-merge_settle-clause-levels
+returns-in_err-merge_settle-clause-levels g c = never_ok c.from_residual.result c.from_residual.ensures.1 _
+
+pub returns-in_err-merge_settle-clause-stays : goal.returns-in_err-merge_settle-clause-stays
+returns-in_err-merge_settle-clause-stays g c = c.in_err-merge_settle.ensures.stays
+
+pub returns-in_err-merge_settle-clause-kept : goal.returns-in_err-merge_settle-clause-kept
+returns-in_err-merge_settle-clause-kept g c = c.in_err-merge_settle.ensures.kept
+
+pub returns-in_err-merge_settle-clause-follows : goal.returns-in_err-merge_settle-clause-follows
+returns-in_err-merge_settle-clause-follows g c = c.in_err-merge_settle.ensures.follows
+
+pub returns-in_err-merge_settle-clause-begun : goal.returns-in_err-merge_settle-clause-begun
+returns-in_err-merge_settle-clause-begun g c = c.in_err-merge_settle.ensures.begun
+
+pub returns-in_err-merge_settle-clause-canon : goal.returns-in_err-merge_settle-clause-canon
+returns-in_err-merge_settle-clause-canon g c = c.in_err-merge_settle.ensures.canon
+
+pub returns-in_err-merge_settle-clause-cause : goal.returns-in_err-merge_settle-clause-cause
+returns-in_err-merge_settle-clause-cause g c =
+    same_cause (g.F.Pages.faults c.args.folder.now) (g.F.Pages.faults c.merge_settle.new.folder) c.in_err-merge_settle.field-0.0 c.from_residual.result c.from_residual.ensures.1 c.in_err-merge_settle.ensures.cause
+
+pub returns-in_err-merge_settle-clause-shown : goal.returns-in_err-merge_settle-clause-shown
+returns-in_err-merge_settle-clause-shown g c =
+    same_damage (IsMergeDamage g.row.D c.args.self.now.given c.args.self.now.names c.args.self.now.parts) c.in_err-merge_settle.field-0.0 c.from_residual.result c.from_residual.ensures.1 c.in_err-merge_settle.ensures.shown
+
+pub returns-in_err-merge_settle-clause-damage : goal.returns-in_err-merge_settle-clause-damage
+returns-in_err-merge_settle-clause-damage g c = λ told agrees.
+    same_damage (IsMergeDamageOf (g.F.Pages.files c.merge_settle.new.folder) c.args.self.now.given) c.in_err-merge_settle.field-0.0 c.from_residual.result c.from_residual.ensures.1 (c.in_err-merge_settle.ensures.damage told agrees)
+
+pub returns-in_err-merge_settle-clause-saved : goal.returns-in_err-merge_settle-clause-saved
+returns-in_err-merge_settle-clause-saved g c = c.in_err-merge_settle.ensures.saved
+
+pub returns-clause-emptied : goal.returns-clause-emptied
+returns-clause-emptied g c = c.spill.ensures.emptied

@@ -2,9 +2,12 @@ use Rattle.std.proofs.Common.{◌≤◌, ◌∙◌, ℕ, IsTrue, List, Err, leng
 use Rattle.std.proofs.lemmas.Result.{err_from_is_err_and}
 use Rattle.page_cache.proofs.Damages.{on_damage_weaker}
 use Rattle.segment_view.specs.Parts.{live_in_parts, parts_among}
-use Rattle.segment_set.specs.Damages.{IsDoubt, IsMergeDamage}
+use Rattle.segment_set.specs.Damages.{IsDoubt, IsMergeDamage, IsMergeDamageOf}
 use Rattle.segment_set.proofs.Chosen.{unsettled}
 use Rattle.segment_set.proofs.Rearranged.{damage_before, doubt_same, entries_none, entries_then, rearranges_none, rearranges_then}
+use Rattle.segment_set.proofs.Refused.{memory_caused, memory_damage, never_ok, same_cause, same_damage}
+use Rattle.segment_set.proofs.Saving.{cause_after, done_cause}
+use Rattle.page_cache.specs.Evidence.{OnDamage}
 use Rattle.segment_set.proofs.set.SegmentSet.merge_settle.Goals as goal
 
 pub loop-ids-init : goal.loop-ids-init
@@ -95,3 +98,119 @@ returns-clause-rested g c = λ settled. (c.loop-ids.invariant.rested settled).1
 
 pub returns-clause-still : goal.returns-clause-still
 returns-clause-still g c = λ settled. (c.loop-ids.invariant.rested settled).0
+
+pub returns-in_err-ids-clause-seen : goal.returns-in_err-ids-clause-seen
+returns-in_err-ids-clause-seen g c = (c.loop-ids.invariant.moves c.next_merge.ensures.well).seen
+
+pub returns-in_err-ids-clause-buffer : goal.returns-in_err-ids-clause-buffer
+returns-in_err-ids-clause-buffer g c = c.loop-ids.invariant.buffer
+
+pub returns-in_err-ids-clause-stays : goal.returns-in_err-ids-clause-stays
+returns-in_err-ids-clause-stays g c = (c.loop-ids.invariant.moves c.next_merge.ensures.well).stays
+
+pub returns-in_err-ids-clause-kept : goal.returns-in_err-ids-clause-kept
+returns-in_err-ids-clause-kept g c = (c.loop-ids.invariant.moves c.next_merge.ensures.well).kept
+
+pub returns-in_err-ids-clause-follows : goal.returns-in_err-ids-clause-follows
+returns-in_err-ids-clause-follows g c = (c.loop-ids.invariant.moves c.next_merge.ensures.well).follows
+
+pub returns-in_err-ids-clause-saved : goal.returns-in_err-ids-clause-saved
+returns-in_err-ids-clause-saved g c = (c.loop-ids.invariant.moves c.next_merge.ensures.well).saved
+
+pub returns-in_err-ids-clause-begun : goal.returns-in_err-ids-clause-begun
+returns-in_err-ids-clause-begun g c = (c.loop-ids.invariant.moves c.next_merge.ensures.well).begun
+
+pub returns-clause-seen : goal.returns-clause-seen
+returns-clause-seen g c = (c.loop-ids.invariant.moves c.next_merge.ensures.well).seen
+
+pub returns-clause-buffer : goal.returns-clause-buffer
+returns-clause-buffer g c = c.loop-ids.invariant.buffer
+
+pub returns-clause-stays : goal.returns-clause-stays
+returns-clause-stays g c = (c.loop-ids.invariant.moves c.next_merge.ensures.well).stays
+
+pub returns-clause-kept : goal.returns-clause-kept
+returns-clause-kept g c = (c.loop-ids.invariant.moves c.next_merge.ensures.well).kept
+
+pub returns-clause-follows : goal.returns-clause-follows
+returns-clause-follows g c = (c.loop-ids.invariant.moves c.next_merge.ensures.well).follows
+
+pub returns-clause-saved : goal.returns-clause-saved
+returns-clause-saved g c = (c.loop-ids.invariant.moves c.next_merge.ensures.well).saved
+
+pub returns-clause-begun : goal.returns-clause-begun
+returns-clause-begun g c = (c.loop-ids.invariant.moves c.next_merge.ensures.well).begun
+
+pub returns-in_err-ids-clause-levels : goal.returns-in_err-ids-clause-levels
+returns-in_err-ids-clause-levels g c = never_ok c.from_residual.result c.from_residual.ensures.1 _
+
+pub returns-in_err-ids-clause-room : goal.returns-in_err-ids-clause-room
+returns-in_err-ids-clause-room g c = never_ok c.from_residual.result c.from_residual.ensures.1 _
+
+pub returns-in_err-ids-clause-cause : goal.returns-in_err-ids-clause-cause
+returns-in_err-ids-clause-cause g c =
+    memory_caused (g.F.Pages.faults c.args.folder.now) (g.F.Pages.faults c.loop-ids.folder) c.from_residual.result c.from_residual.ensures.1 c.loop-ids.invariant.faults
+
+pub returns-in_err-ids-clause-whole : goal.returns-in_err-ids-clause-whole
+returns-in_err-ids-clause-whole g c = λ told i seen. memory_damage (λ _. ⊥) c.from_residual.result c.from_residual.ensures.1
+
+pub returns-in_err-ids-clause-shown : goal.returns-in_err-ids-clause-shown
+returns-in_err-ids-clause-shown g c =
+    memory_damage (IsMergeDamage g.row.D c.args.self.now.given c.args.self.now.names c.args.self.now.parts) c.from_residual.result c.from_residual.ensures.1
+
+pub returns-in_err-ids-clause-damage : goal.returns-in_err-ids-clause-damage
+returns-in_err-ids-clause-damage g c = λ told agrees.
+    memory_damage (IsMergeDamageOf (g.F.Pages.files c.loop-ids.folder) c.args.self.now.given) c.from_residual.result c.from_residual.ensures.1
+
+pub returns-in_err-ids-clause-doubled : goal.returns-in_err-ids-clause-doubled
+returns-in_err-ids-clause-doubled g c = λ told agrees contents reads.
+    memory_damage (IsDoubt c.args.self.now.given (live_in_parts contents c.args.self.now.parts)) c.from_residual.result c.from_residual.ensures.1
+
+pub returns-clause-cause : goal.returns-clause-cause
+returns-clause-cause g c =
+    done_cause (g.F.Pages.faults c.args.folder.now) (g.F.Pages.faults c.loop-ids.folder) _ c.loop-ids.invariant.faults
+
+pub returns-clause-whole : goal.returns-clause-whole
+returns-clause-whole g c = λ told i seen. tt
+
+pub returns-clause-shown : goal.returns-clause-shown
+returns-clause-shown g c = tt
+
+pub returns-clause-damage : goal.returns-clause-damage
+returns-clause-damage g c = λ told agrees. tt
+
+pub returns-clause-doubled : goal.returns-clause-doubled
+returns-clause-doubled g c = λ told agrees contents reads. tt
+
+pub returns-in_err-merge-clause-seen : goal.returns-in_err-merge-clause-seen
+returns-in_err-merge-clause-seen g c =
+    (rearranges_then g.row.D (IsTrue g.F.Pages.told) (g.F.Pages.files c.args.folder.now) (g.F.Pages.files c.loop-ids.folder) (g.F.Pages.files c.merge.new.folder) c.args.self.now c.loop-ids.self c.merge.new.self c.next_merge.ensures.well.named (c.loop-ids.invariant.moves c.next_merge.ensures.well) c.merge.ensures.moves).seen
+
+pub returns-in_err-merge-clause-saved : goal.returns-in_err-merge-clause-saved
+returns-in_err-merge-clause-saved g c =
+    (rearranges_then g.row.D (IsTrue g.F.Pages.told) (g.F.Pages.files c.args.folder.now) (g.F.Pages.files c.loop-ids.folder) (g.F.Pages.files c.merge.new.folder) c.args.self.now c.loop-ids.self c.merge.new.self c.next_merge.ensures.well.named (c.loop-ids.invariant.moves c.next_merge.ensures.well) c.merge.ensures.moves).saved
+
+pub returns-in_err-merge-clause-begun : goal.returns-in_err-merge-clause-begun
+returns-in_err-merge-clause-begun g c =
+    (rearranges_then g.row.D (IsTrue g.F.Pages.told) (g.F.Pages.files c.args.folder.now) (g.F.Pages.files c.loop-ids.folder) (g.F.Pages.files c.merge.new.folder) c.args.self.now c.loop-ids.self c.merge.new.self c.next_merge.ensures.well.named (c.loop-ids.invariant.moves c.next_merge.ensures.well) c.merge.ensures.moves).begun
+
+pub returns-in_err-merge-clause-buffer : goal.returns-in_err-merge-clause-buffer
+returns-in_err-merge-clause-buffer g c = c.merge.ensures.buffer ∙ c.loop-ids.invariant.buffer
+
+pub returns-in_err-merge-clause-levels : goal.returns-in_err-merge-clause-levels
+returns-in_err-merge-clause-levels g c =
+    never_ok c.from_residual-in_err-merge.result c.from_residual-in_err-merge.ensures.1 _
+
+pub returns-in_err-merge-clause-room : goal.returns-in_err-merge-clause-room
+returns-in_err-merge-clause-room g c =
+    never_ok c.from_residual-in_err-merge.result c.from_residual-in_err-merge.ensures.1 _
+
+pub returns-in_err-merge-clause-cause : goal.returns-in_err-merge-clause-cause
+returns-in_err-merge-clause-cause g c =
+    cause_after (g.F.Pages.faults c.args.folder.now) (g.F.Pages.faults c.loop-ids.folder) (g.F.Pages.faults c.merge.new.folder) c.from_residual-in_err-merge.result c.loop-ids.invariant.faults
+    (same_cause (g.F.Pages.faults c.loop-ids.folder) (g.F.Pages.faults c.merge.new.folder) c.in_err-merge.field-0.0 c.from_residual-in_err-merge.result c.from_residual-in_err-merge.ensures.1 c.in_err-merge.ensures.cause)
+
+pub returns-in_err-merge-clause-damage : goal.returns-in_err-merge-clause-damage
+returns-in_err-merge-clause-damage g c = λ told agrees.
+    same_damage (IsMergeDamageOf (g.F.Pages.files c.merge.new.folder) c.args.self.now.given) c.in_err-merge.field-0.0 c.from_residual-in_err-merge.result c.from_residual-in_err-merge.ensures.1
+    (subst (λ n. OnDamage {T = Unit {0}} (Err c.in_err-merge.field-0.0) (IsMergeDamageOf (g.F.Pages.files c.merge.new.folder) n)) (c.loop-ids.invariant.moves c.next_merge.ensures.well).stays.given (c.in_err-merge.ensures.damage told (c.loop-ids.invariant.entries.agrees told agrees)))

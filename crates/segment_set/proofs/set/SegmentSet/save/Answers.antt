@@ -21,6 +21,7 @@ use Rattle.segment_set.specs.Damages.{IsDoubt, IsMergeDamage, IsMergeDamageOf}
 use Rattle.segment_set.specs.Saved.{IsSaved}
 use Rattle.segment_set.proofs.Carried.{keeps_then, stays_then}
 use Rattle.segment_set.proofs.Saving.{all_fresh, all_written, canon_saved, cause_after, if_ok_both, if_ok_map, no_damage, ok_always, saved_is_stored, sees_saved, stays_saved, well_saved}
+use Rattle.segment_set.proofs.Refused.{never_ok, never_value, same_cause, same_damage}
 use Rattle.segment_set.proofs.set.SegmentSet.save.Goals as goal
 
 pub returns-in_err-flush-clause-whole : goal.returns-in_err-flush-clause-whole
@@ -120,3 +121,60 @@ returns-in_err-flush-clause-rested g c = λ settled. c.in_err-flush.ensures.rest
 
 pub returns-clause-rested : goal.returns-clause-rested
 returns-clause-rested g c = λ settled. c.list_segments.ensures.reads ∙ c.in_ok-flush.ensures.rested settled
+
+pub returns-in_err-flush-clause-seen : goal.returns-in_err-flush-clause-seen
+returns-in_err-flush-clause-seen g c = c.in_err-flush.ensures.seen
+
+pub returns-in_err-flush-clause-emptied : goal.returns-in_err-flush-clause-emptied
+returns-in_err-flush-clause-emptied g c = never_ok c.from_residual.result c.from_residual.ensures.1 _
+
+pub returns-in_err-flush-clause-levels : goal.returns-in_err-flush-clause-levels
+returns-in_err-flush-clause-levels g c = never_ok c.from_residual.result c.from_residual.ensures.1 _
+
+pub returns-in_err-flush-clause-stays : goal.returns-in_err-flush-clause-stays
+returns-in_err-flush-clause-stays g c = c.in_err-flush.ensures.stays
+
+pub returns-in_err-flush-clause-kept : goal.returns-in_err-flush-clause-kept
+returns-in_err-flush-clause-kept g c = c.in_err-flush.ensures.kept
+
+pub returns-in_err-flush-clause-follows : goal.returns-in_err-flush-clause-follows
+returns-in_err-flush-clause-follows g c = c.in_err-flush.ensures.follows
+
+pub returns-in_err-flush-clause-begun : goal.returns-in_err-flush-clause-begun
+returns-in_err-flush-clause-begun g c = c.in_err-flush.ensures.begun
+
+pub returns-in_err-flush-clause-canon : goal.returns-in_err-flush-clause-canon
+returns-in_err-flush-clause-canon g c = c.in_err-flush.ensures.canon
+
+pub returns-in_err-flush-clause-cause : goal.returns-in_err-flush-clause-cause
+returns-in_err-flush-clause-cause g c =
+    same_cause (g.F.Pages.faults c.args.folder.now) (g.F.Pages.faults c.flush.new.folder) c.in_err-flush.field-0.0 c.from_residual.result c.from_residual.ensures.1 c.in_err-flush.ensures.cause
+
+pub returns-in_err-flush-clause-shown : goal.returns-in_err-flush-clause-shown
+returns-in_err-flush-clause-shown g c =
+    same_damage (IsMergeDamage g.row.D c.args.self.now.given c.args.self.now.names c.args.self.now.parts) c.in_err-flush.field-0.0 c.from_residual.result c.from_residual.ensures.1 c.in_err-flush.ensures.shown
+
+pub returns-in_err-flush-clause-damage : goal.returns-in_err-flush-clause-damage
+returns-in_err-flush-clause-damage g c = λ told agrees.
+    same_damage (IsMergeDamageOf (g.F.Pages.files c.flush.new.folder) c.args.self.now.given) c.in_err-flush.field-0.0 c.from_residual.result c.from_residual.ensures.1 (c.in_err-flush.ensures.damage told agrees)
+
+pub returns-in_err-flush-clause-saved : goal.returns-in_err-flush-clause-saved
+returns-in_err-flush-clause-saved g c = never_value c.from_residual.result c.from_residual.ensures.1 _
+
+pub returns-in_err-flush-clause-commit : goal.returns-in_err-flush-clause-commit
+returns-in_err-flush-clause-commit g c = never_value c.from_residual.result c.from_residual.ensures.1 _
+
+pub returns-in_err-flush-clause-fresh : goal.returns-in_err-flush-clause-fresh
+returns-in_err-flush-clause-fresh g c = never_value c.from_residual.result c.from_residual.ensures.1 _
+
+pub returns-in_err-flush-clause-live : goal.returns-in_err-flush-clause-live
+returns-in_err-flush-clause-live g c = λ told. never_value c.from_residual.result c.from_residual.ensures.1 _
+
+pub returns-in_err-flush-clause-stored : goal.returns-in_err-flush-clause-stored
+returns-in_err-flush-clause-stored g c = λ told i seen. never_value c.from_residual.result c.from_residual.ensures.1 _
+
+pub returns-clause-saved : goal.returns-clause-saved
+returns-clause-saved g c = c.list_segments.ensures.saved
+
+pub returns-clause-commit : goal.returns-clause-commit
+returns-clause-commit g c = c.list_segments.ensures.commit
