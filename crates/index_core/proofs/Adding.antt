@@ -1,5 +1,12 @@
 -- Documents are added without a text for each.
-use Rattle.std.proofs.Common.{◌≡◌, ◌≤◌, ◌<◌, ◌+◌, ◌^◌, ℕ, true, false, List, [], ◌∷◌, ◌++◌, length, take, get_or, Result, Ok, Err, OnOk, refl, sym, ap, subst, ◌∙◌, arith, All, ℤ}
+use Rattle.std.proofs.Common.{◌≡◌, ◌≤◌, ◌<◌, ◌+◌, ◌^◌, ℕ, List, [], ◌∷◌, ◌++◌, length, map, take, get_or, Result, Ok, Err, OnOk, refl, sym, ap, subst, ◌∙◌, arith, All, ℤ}
+use Rattle.std.specs.declared.cmp.Ordering.{Ordering}
+use Rattle.std.specs.Ordering.{int_cmp}
+use Rattle.std.specs.Cmp.{IsTotalOrder}
+use Rattle.std.specs.Cmp.Lexicographic.{lists_total, slice_cmp}
+use Rattle.std.specs.FinMap.{empty, entries, entries-insert, len-empty, len-entries}
+use Rattle.std.specs.FinMap.Entries.{put}
+use Rattle.std.proofs.lemmas.Cmp.{int_cmp_total}
 use Rattle.std.proofs.lemmas.Bool.{both_ways}
 use Rattle.std.proofs.lemmas.List.Elements.{All-head}
 use Rattle.std.proofs.lemmas.List.Sums.{fold-append}
@@ -9,12 +16,14 @@ use Rattle.page_cache.specs.declared.faults.PageFault.{PageFault}
 use Rattle.page_cache.specs.declared.faults.PageFault.TheVariants as page
 use Rattle.page_cache.specs.Causes.{HasPageCause}
 use Rattle.page_cache.specs.Evidence.{NotDamaged}
+use Rattle.point_codec.specs.Order.{in_order}
 use Rattle.point_codec.specs.Points.{ordered}
 use Rattle.point_codec.specs.Seen.{coordinates_of}
 use Rattle.point_codec.specs.declared.coordinates.Point.{Point}
-use Rattle.file_names.specs.Names.{NameList}
+use Rattle.file_names.specs.Names.{NameList, is_named}
+use Rattle.file_names.proofs.Listed.{is_named-none}
+use Rattle.outer_io.specs.declared.file_name.FileName.TheVariants.{Segment}
 use Rattle.index_model.specs.State.{Index}
-use Rattle.stored_index.specs.Kept.{SameKept}
 use Rattle.stored_index.proofs.KeptFiles.{kept_after, kept_itself}
 use Rattle.segment_view.specs.Parts.{Part}
 use Rattle.segment_set.specs.Sets.{IsNamed, SetData}
@@ -84,7 +93,7 @@ adds_stopped {T = T} {U = U} D told xs ys a b fault r is adds = subst (Adds D to
   whole = λ t i seen. to_other fault (adds.whole t i seen);
 })
   where
-    to_other : (f : PageFault) → NotDamaged (Err {X = T} f) → NotDamaged (Err {X = U} f)
+    to_other : (f : PageFault) → NotDamaged {T = T} (Err f) → NotDamaged {T = U} (Err f)
     to_other page.Failed whole = tt
     to_other (page.Damaged d) whole = whole
     to_other page.Memory whole = tt
@@ -118,14 +127,17 @@ put_whole (Err add.Failed) whole = tt
 put_whole (Err (add.Damaged d)) whole = whole
 put_whole (Err add.Memory) whole = tt
 
-put_ok : {P : Type 0} (r : Result ℕ AddFault) → OnOk r P → OnOk (added r) P
-put_ok (Ok n) p = p
-put_ok (Err fault) p = tt
+put_ok : (P : Type 0) (r : Result ℕ AddFault) → OnOk r P → OnOk (added r) P
+put_ok P (Ok n) p = p
+put_ok P (Err add.Full) p = tt
+put_ok P (Err add.Failed) p = tt
+put_ok P (Err (add.Damaged d)) p = tt
+put_ok P (Err add.Memory) p = tt
 
 pub adds_one : (D : ℕ) (told : Type 0) (point : List ℤ) (old new : Spot) (r : Result ℕ AddFault) → IsPut D told point old new r → Adds D told (point ∷ []) old new (added r)
 adds_one D told point old new r put = record {
-  seen = λ t i seen. put_ok r (put.seen t i seen);
-  given = put_ok r put.given;
+  seen = λ t i seen. put_ok (Sees D new.files new.session.set (with_point i point)) r (put.seen t i seen);
+  given = put_ok (new.session.set.given ≡ old.session.set.given + 1) r put.given;
   guards = λ t guards. guards_after D told old.files new.files old.session new.session t put.commit put.refused put.keeps put.follows put.leaf guards;
   kept = λ t guards. kept_after_calls D told old.files new.files old.session.set new.session.set.names t put.keeps guards.set;
   canon = λ t. brings_written D told old.files new.files old.session.set.names new.session.set.names old.session.set.parts new.session.set.parts t put.keeps put.follows (put.second t);
@@ -134,8 +146,30 @@ adds_one D told point old new r put = record {
 }
 
 -- the points of a document of one point
+no_pairs : {X : Type 0} (xs : List X) → length xs ≡ 0 → xs ≡ []
+no_pairs [] none = refl
+no_pairs (x ∷ xs) none = absurd (omega (arith, none))
+
+one_in_order : {K : Type 0} (R : K → K → Ordering) (o : IsTotalOrder R) (x : K) → in_order R (x ∷ []) ≡ x ∷ []
+one_in_order {K = K} R o x =
+    ap (map (λ (e : K × Unit {0}). e.0))
+    (entries-insert o empty x tt ∙ ap (put R x tt) (no_pairs (entries (empty {X = Unit {0}} {R = R})) (sym (len-entries (empty {X = Unit {0}} {R = R})) ∙ len-empty R (Unit {0}))))
+
 pub one_ordered : (point : List ℤ) → ordered (point ∷ []) ≡ point ∷ []
-one_ordered point = refl
+one_ordered point = one_in_order (slice_cmp int_cmp) (lists_total int_cmp_total) point
+
+-- what the set's call says of the points that it got, where these are the one
+pub put_seen : (D : ℕ) (told : Type 0) (point : List ℤ) (points : List (List ℤ)) (f g : Files) (s t : SetData) (r : Result ℕ AddFault) → points ≡ point ∷ []
+    → (told → (i : Index) → Sees D f s i → OnOk r (Sees D g t (record i { next = i.next + 1; given = i.given + length points; docs = i.docs ++ record { number = i.next; points = points } ∷ [] })))
+    → told → (i : Index) → Sees D f s i → OnOk r (Sees D g t (with_point i point))
+put_seen D told point points f g s t r is seen = subst
+    (λ (ps : List (List ℤ)). told → (i : Index) → Sees D f s i
+    → OnOk r (Sees D g t (record i { next = i.next + 1; given = i.given + length ps; docs = i.docs ++ record { number = i.next; points = ps } ∷ [] })))
+    is seen
+
+pub put_given : (P : Type 0) (point : List ℤ) (points : List (List ℤ)) (before now : ℕ) (r : Result ℕ AddFault) → points ≡ point ∷ []
+    → OnOk r (P × (now ≡ before + length points)) → OnOk r (now ≡ before + 1)
+put_given P point points before now r is given = on_ok_map r (λ (both : P × (now ≡ before + length points)). both.1 ∙ ap (λ (ps : List (List ℤ)). before + length ps) is) given
 
 -- ---- of the session that the code opened
 
@@ -177,9 +211,17 @@ guards_cache D told f g s u t is h stays same guards = guards_after D told f g u
     (keeps_calm told u.set.names t.names f g (ap (λ (v : SetData). v.names) stays.is) same) (follows_same u.set.names u.set.parts t.parts (ap (λ (v : SetData). v.parts) stays.is))
     (ap (λ (v : SetData). v.leaf) stays.is) (subst (Guards D f) (sym is) guards)
 
+-- ---- a call that gives no name
+
+pub guards_same : (D : ℕ) (files : Files) (s u : SessionData) (t : SetData) → u ≡ s → t.names ≡ u.set.names → t.leaf ≡ u.set.leaf → Follows u.set.names u.set.parts t.parts → Guards D files s
+    → Guards D files (record { set = t; commit = u.commit; refused = u.refused })
+guards_same D files s u t is names leaf follows guards = guards_after D (Unit {0}) files files u (record { set = t; commit = u.commit; refused = u.refused }) tt refl refl
+    (keeps_calm (Unit {0}) u.set.names t.names files files names (λ told. refl)) follows leaf (subst (Guards D files) (sym is) guards)
+
 -- ---- a new set
 
 -- segments whose files are all in an empty list of names are none
 pub bare_parts : (names : NameList) (parts : List Part) → names ≡ record { names = []; next_segment = 0 } → All (IsNamed names) parts → parts ≡ []
 bare_parts names [] is all = refl
-bare_parts names (p ∷ ps) is all = absurd (both_ways false refl (subst (λ (n : NameList). IsNamed n p) is (All-head (IsNamed names) p ps all)))
+bare_parts names (p ∷ ps) is all =
+    absurd (both_ways (is_named [] (Segment p.head.id)) (is_named-none (Segment p.head.id)) (subst (λ (n : NameList). IsNamed n p) is (All-head (IsNamed names) p ps all)))

@@ -1,10 +1,15 @@
 -- A document of one point is added to the set.
-use Rattle.std.proofs.Common.{◌≡◌, ◌≤◌, ◌+◌, ◌^◌, Err, [], ◌∷◌, refl, sym, ap, subst, ◌∙◌, lit<, arith}
+use Rattle.std.proofs.Common.{◌≡◌, List, Err, [], ◌∷◌, ◌++◌, refl, ap, ◌∙◌, lit<}
 use Rattle.std.proofs.lemmas.Result.{err_from_is_err_and}
 use Rattle.page_cache.specs.declared.faults.PageFault.{PageFault}
+use Rattle.point_codec.specs.Points.{ordered}
+use Rattle.point_codec.specs.Seen.{coordinates_of}
+use Rattle.point_codec.specs.declared.coordinates.Point.{Point}
 use Rattle.segment_set.proofs.Sizes.{set_fits}
-use Rattle.index_core.proofs.Adding.{adds_as, adds_memory_as, adds_one, adds_seen, one_ordered}
+use Rattle.index_core.proofs.Adding.{adds_as, adds_memory_as, adds_one, adds_seen, one_ordered, put_given, put_seen}
+use Rattle.index_core.proofs.session.Session.add_point.Given as given
 use Rattle.index_core.proofs.session.Session.add_point.Goals as goal
+use Rattle.index_core.proofs.session.Session.add_point.Goals.{After-drop-of}
 
 pub add-requires-after_bounds : goal.add-requires-after_bounds
 add-requires-after_bounds g c κs = λ _. (set_fits g.row.D c.self.invariant.few, lit< tt)
@@ -12,21 +17,28 @@ add-requires-after_bounds g c κs = λ _. (set_fits g.row.D c.self.invariant.few
 pub returns-in_err-list : goal.returns-in_err-list
 returns-in_err-list g c =
     let p = err_from_is_err_and c.from_residual.result c.from_residual.ensures.1 in
-    adds_seen _ _ _ _ _ _ _ _ _ c.self.view_is (adds_memory_as _ _ _ _ _ (p.1 ∙ ap (λ (e : PageFault). Err e) p.2))
+    adds_memory_as _ _ _ _ _ (p.1 ∙ ap (λ (e : PageFault). Err e) p.2)
+
+-- the points of the document are the one
+made : (g : given.Over) (c : After-drop-of g) → c.of.result ≡ c.args.point.now.c ∷ []
+made g c =
+    c.of.ensures
+    ∙ ap (λ (ps : List (Point g.row.D)). ordered (coordinates_of ps)) (c.push_reserved.ensures.items ∙ ap (λ (ps : List (Point g.row.D)). ps ++ c.args.point.now ∷ []) c.in_ok-list.ensures.items)
+    ∙ one_ordered c.args.point.now.c
 
 pub returns : goal.returns
 returns g c =
     adds_seen _ _ _ _ _ _ _ _ _ c.self.view_is
     (adds_as _ _ _ _ _ _ _ c.added.ensures
-    (adds_one _ _ _ _ _ c.add.result (record {
+    (adds_one _ _ _ _ _ c.add-2.result (record {
       commit = refl;
       refused = refl;
-      leaf = c.add.ensures.leaf;
-      keeps = c.add.ensures.kept;
-      follows = c.add.ensures.follows;
-      second = c.add.ensures.canon;
-      seen = λ told i seen. c.add.ensures.seen told i seen;
-      given = c.add.ensures.given.1;
-      cause = c.add.ensures.cause;
-      whole = λ told i seen. c.add.ensures.whole told i seen;
+      leaf = c.add-2.ensures.leaf;
+      keeps = c.add-2.ensures.kept;
+      follows = c.add-2.ensures.follows;
+      second = c.add-2.ensures.canon;
+      seen = put_seen _ _ _ _ _ _ _ _ _ (made g c) c.add-2.ensures.seen;
+      given = put_given _ _ _ _ _ _ (made g c) c.add-2.ensures.given;
+      cause = c.add-2.ensures.cause;
+      whole = c.add-2.ensures.whole;
     })))

@@ -1,10 +1,11 @@
 -- A document goes.
-use Rattle.std.proofs.Common.{refl, sym, ap, subst, ◌∙◌}
+use Rattle.std.proofs.Common.{sym, ap, subst, ◌∙◌}
 use Rattle.segment_set.specs.Sets.{SetData}
 use Rattle.segment_set.specs.Seen.{Sees}
 use Rattle.segment_set.proofs.Sizes.{set_fits}
 use Rattle.segment_view.specs.Parts.{cleared}
 use Rattle.index_core.specs.Sessions.{SessionData}
+use Rattle.index_core.proofs.Adding.{guards_same}
 use Rattle.index_core.proofs.Bringing.{brings_cleared}
 use Rattle.index_core.proofs.session.Session.take_out.Goals as goal
 
@@ -20,3 +21,7 @@ returns-clause-live g c files i seen = c.delete.ensures.live files i (subst (λ 
 pub returns-clause-canon : goal.returns-clause-canon
 returns-clause-canon g c files =
     brings_cleared g.row.D files c.args.doc _ _ (ap (λ (u : SetData). u.parts) c.delete.ensures.alone ∙ ap (λ (u : SessionData). cleared c.args.doc u.set.parts) c.self.view_is)
+
+pub returns-clause-guards : goal.returns-clause-guards
+returns-clause-guards g c files guards =
+    guards_same g.row.D files _ _ _ c.self.view_is (ap (λ (u : SetData). u.names) c.delete.ensures.alone) (ap (λ (u : SetData). u.leaf) c.delete.ensures.alone) c.delete.ensures.follows guards
