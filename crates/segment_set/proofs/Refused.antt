@@ -13,17 +13,17 @@ use Rattle.segment_set.proofs.Causes.{memory_cause}
 use Rattle.segment_set.proofs.Faulted.{added_cause, added_damage, never_full}
 
 -- it answers no value
-pub never_ok : {T E : Type 0} {Q : E → Type 0} (r : Result T E) → IsErrAnd r Q → (P : Type 0) → OnOk r P
-never_ok (Ok x) h P = absurd h
-never_ok (Err e) h P = tt
+pub never_ok : {T E : Type 0} (Q : E → Type 0) (r : Result T E) → IsErrAnd r Q → (P : Type 0) → OnOk r P
+never_ok Q (Ok x) h P = absurd h
+never_ok Q (Err e) h P = tt
 
-pub never_value : {T E : Type 0} {Q : E → Type 0} (r : Result T E) → IsErrAnd r Q → (P : T → Type 0) → IfOk r P
-never_value (Ok x) h P = absurd h
-never_value (Err e) h P = tt
+pub never_value : {T E : Type 0} (Q : E → Type 0) (r : Result T E) → IsErrAnd r Q → (P : T → Type 0) → IfOk r P
+never_value Q (Ok x) h P = absurd h
+never_value Q (Err e) h P = tt
 
-pub at_error : {T E : Type 0} {Q : E → Type 0} (r : Result T E) → IsErrAnd r Q → (P : Type 0) → P → OnErr r P
-at_error (Ok x) h P p = absurd h
-at_error (Err e) h P p = p
+pub at_error : {T E : Type 0} (Q : E → Type 0) (r : Result T E) → IsErrAnd r Q → (P : Type 0) → P → OnErr r P
+at_error Q (Ok x) h P p = absurd h
+at_error Q (Err e) h P p = p
 
 -- ---- the fault below
 
@@ -38,7 +38,7 @@ other_value before now page.Memory cause = record { later = cause.later; fine = 
 
 pub same_cause : {T U : Type 0} (before now : ℕ) (f : PageFault) (r : Result T PageFault) → IsErrAnd r (λ y. y ≡ f) → HasPageCause {T = U} before now (Err f) → HasPageCause before now r
 same_cause before now f (Ok x) h cause = absurd h
-same_cause {T} {U} before now f (Err e) h cause = subst (λ (y : PageFault). HasPageCause {T = T} before now (Err y)) (sym h) (other_value {T} {U} before now f cause)
+same_cause {T} {U} before now f (Err e) h cause = subst (λ (y : PageFault). HasPageCause {T = T} before now (Err y)) (sym h) (other_value {T = T} {U = U} before now f cause)
 
 -- ---- want of memory
 
@@ -62,7 +62,7 @@ add_cause {T} {U} before now f (Err e) h cause = subst (λ (y : AddFault). HasCa
 
 pub add_not_full : {T : Type 0} (f : PageFault) (r : Result T AddFault) → IsErrAnd r (λ y. y ≡ add_fault f) → IsErrOf r add.Full → ⊥
 add_not_full f (Ok x) h is = absurd h
-add_not_full {T} f (Err e) h is = never_full {T} f (ap (λ (y : AddFault). Err y) (sym h) ∙ is)
+add_not_full {T} f (Err e) h is = never_full {T = T} f (ap (λ (y : AddFault). Err y) (sym h) ∙ is)
 
 pub add_memory_damage : {T : Type 0} (P : Damage → Type 0) (r : Result T AddFault) → IsErrAnd r (λ y. y ≡ add.Memory) → OnAddDamage r P
 add_memory_damage P (Ok x) h = absurd h

@@ -1,5 +1,5 @@
 -- Room is made, and then the document is put into the buffer.
-use Rattle.std.proofs.Common.{◌≡◌, ◌×◌, ◌+◌, ◌≤◌, ◌<◌, ◌∙◌, ℕ, IsTrue, length, refl, sym, ap, subst, arith}
+use Rattle.std.proofs.Common.{◌≡◌, ◌+◌, ◌≤◌, ◌<◌, ◌∙◌, ℕ, IsTrue, length, refl, sym, ap, subst, arith}
 use Rattle.std.proofs.lemmas.Bool.{false≢true}
 use Rattle.std.proofs.lemmas.List.{length-map}
 use Rattle.segment_view.specs.Parts.{live_in_parts}
@@ -89,23 +89,23 @@ pub returns-then-is_full-clause-doubled : goal.returns-then-is_full-clause-doubl
 returns-then-is_full-clause-doubled g c = λ told agrees es read. tt
 
 pub returns-in_err-make_room-clause-seen : goal.returns-in_err-make_room-clause-seen
-returns-in_err-make_room-clause-seen g c = λ told i seen. never_ok c.from_residual.result c.from_residual.ensures.1 _
+returns-in_err-make_room-clause-seen g c = λ told i seen. never_ok _ c.from_residual.result c.from_residual.ensures.1 _
 
 pub returns-in_err-make_room-clause-refused : goal.returns-in_err-make_room-clause-refused
-returns-in_err-make_room-clause-refused g c = λ told i seen. at_error c.from_residual.result c.from_residual.ensures.1 _ (c.in_err-make_room.ensures.seen told i seen)
+returns-in_err-make_room-clause-refused g c = λ told i seen. at_error _ c.from_residual.result c.from_residual.ensures.1 _ (c.in_err-make_room.ensures.seen told i seen)
 
 pub returns-in_err-make_room-clause-number : goal.returns-in_err-make_room-clause-number
-returns-in_err-make_room-clause-number g c = never_value c.from_residual.result c.from_residual.ensures.1 _
+returns-in_err-make_room-clause-number g c = never_value _ c.from_residual.result c.from_residual.ensures.1 _
 
 pub returns-in_err-make_room-clause-given : goal.returns-in_err-make_room-clause-given
-returns-in_err-make_room-clause-given g c = never_ok c.from_residual.result c.from_residual.ensures.1 _
+returns-in_err-make_room-clause-given g c = never_ok _ c.from_residual.result c.from_residual.ensures.1 _
 
 pub returns-in_err-make_room-clause-full : goal.returns-in_err-make_room-clause-full
 returns-in_err-make_room-clause-full g c =
     (λ is. absurd (add_not_full c.in_err-make_room.field-0.0 c.from_residual.result c.from_residual.ensures.1 is), λ more. absurd (not_full c.args.self.now.given (length c.as_slice.result.now) (length c.args.points.now) c.is_full.ensures.full c.if-is_full.false (many g c) more))
 
 pub returns-in_err-make_room-clause-stays : goal.returns-in_err-make_room-clause-stays
-returns-in_err-make_room-clause-stays g c = at_error c.from_residual.result c.from_residual.ensures.1 _ c.in_err-make_room.ensures.stays
+returns-in_err-make_room-clause-stays g c = at_error _ c.from_residual.result c.from_residual.ensures.1 _ c.in_err-make_room.ensures.stays
 
 pub returns-in_err-make_room-clause-kept : goal.returns-in_err-make_room-clause-kept
 returns-in_err-make_room-clause-kept g c = c.in_err-make_room.ensures.kept
@@ -168,17 +168,17 @@ returns-in_err-make_room-clause-doubled g c = λ told agrees es read.
     add_damage (IsDoubt c.args.self.now.given (live_in_parts es c.args.self.now.parts)) c.in_err-make_room.field-0.0 c.from_residual.result c.from_residual.ensures.1 (c.in_err-make_room.ensures.doubled told agrees es read)
 
 pub returns-in_err-put-clause-seen : goal.returns-in_err-put-clause-seen
-returns-in_err-put-clause-seen g c = λ told i seen. never_ok c.from_residual-in_err-put.result c.from_residual-in_err-put.ensures.1 _
+returns-in_err-put-clause-seen g c = λ told i seen. never_ok _ c.from_residual-in_err-put.result c.from_residual-in_err-put.ensures.1 _
 
 pub returns-in_err-put-clause-refused : goal.returns-in_err-put-clause-refused
 returns-in_err-put-clause-refused g c = λ told i seen.
-    at_error c.from_residual-in_err-put.result c.from_residual-in_err-put.ensures.1 _ (subst (λ (s : SetData). Sees g.row.D (g.F.Pages.files c.make_room.new.folder) s i) (sym c.in_err-put.ensures.refused) (c.in_ok-make_room.ensures.seen told i seen))
+    at_error _ c.from_residual-in_err-put.result c.from_residual-in_err-put.ensures.1 _ (subst (λ (s : SetData). Sees g.row.D (g.F.Pages.files c.make_room.new.folder) s i) (sym c.in_err-put.ensures.refused) (c.in_ok-make_room.ensures.seen told i seen))
 
 pub returns-in_err-put-clause-number : goal.returns-in_err-put-clause-number
-returns-in_err-put-clause-number g c = never_value c.from_residual-in_err-put.result c.from_residual-in_err-put.ensures.1 _
+returns-in_err-put-clause-number g c = never_value _ c.from_residual-in_err-put.result c.from_residual-in_err-put.ensures.1 _
 
 pub returns-in_err-put-clause-given : goal.returns-in_err-put-clause-given
-returns-in_err-put-clause-given g c = never_ok c.from_residual-in_err-put.result c.from_residual-in_err-put.ensures.1 _
+returns-in_err-put-clause-given g c = never_ok _ c.from_residual-in_err-put.result c.from_residual-in_err-put.ensures.1 _
 
 pub returns-in_err-put-clause-full : goal.returns-in_err-put-clause-full
 returns-in_err-put-clause-full g c =
@@ -186,7 +186,7 @@ returns-in_err-put-clause-full g c =
 
 pub returns-in_err-put-clause-stays : goal.returns-in_err-put-clause-stays
 returns-in_err-put-clause-stays g c =
-    at_error c.from_residual-in_err-put.result c.from_residual-in_err-put.ensures.1 _ (subst (StaysAlone c.args.self.now) (sym c.in_err-put.ensures.refused) c.in_ok-make_room.ensures.stays)
+    at_error _ c.from_residual-in_err-put.result c.from_residual-in_err-put.ensures.1 _ (subst (StaysAlone c.args.self.now) (sym c.in_err-put.ensures.refused) c.in_ok-make_room.ensures.stays)
 
 pub returns-in_err-put-clause-kept : goal.returns-in_err-put-clause-kept
 returns-in_err-put-clause-kept g c =

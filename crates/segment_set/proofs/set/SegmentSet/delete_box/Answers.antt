@@ -48,14 +48,14 @@ returns-clause-reads g c = λ n are.
     c.in_ok-hits.ensures.reads n (subst (λ (b : Asked). AreTouched g.row.D (in_box b.bounds) (crosses b.bounds) (heads_of c.args.self.now.parts) n) (sym c.new-shape.ensures) are)
 
 pub returns-in_err-hits-clause-seen : goal.returns-in_err-hits-clause-seen
-returns-in_err-hits-clause-seen g c = λ told i seen. never_ok c.from_residual.result c.from_residual.ensures.1 _
+returns-in_err-hits-clause-seen g c = λ told i seen. never_ok _ c.from_residual.result c.from_residual.ensures.1 _
 
 pub returns-in_err-hits-clause-count : goal.returns-in_err-hits-clause-count
-returns-in_err-hits-clause-count g c = λ told i seen. never_value c.from_residual.result c.from_residual.ensures.1 _
+returns-in_err-hits-clause-count g c = λ told i seen. never_value _ c.from_residual.result c.from_residual.ensures.1 _
 
 pub returns-in_err-hits-clause-refused : goal.returns-in_err-hits-clause-refused
 returns-in_err-hits-clause-refused g c = λ told i seen.
-    at_error c.from_residual.result c.from_residual.ensures.1 _ (c.visit.ensures.seen told i seen)
+    at_error _ c.from_residual.result c.from_residual.ensures.1 _ (c.visit.ensures.seen told i seen)
 
 pub returns-in_err-hits-clause-files : goal.returns-in_err-hits-clause-files
 returns-in_err-hits-clause-files g c = c.visit.ensures.files

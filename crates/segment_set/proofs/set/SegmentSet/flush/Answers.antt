@@ -80,10 +80,10 @@ pub returns-in_err-merge_settle-clause-seen : goal.returns-in_err-merge_settle-c
 returns-in_err-merge_settle-clause-seen g c = c.in_err-merge_settle.ensures.seen
 
 pub returns-in_err-merge_settle-clause-emptied : goal.returns-in_err-merge_settle-clause-emptied
-returns-in_err-merge_settle-clause-emptied g c = never_ok c.from_residual.result c.from_residual.ensures.1 _
+returns-in_err-merge_settle-clause-emptied g c = never_ok _ c.from_residual.result c.from_residual.ensures.1 _
 
 pub returns-in_err-merge_settle-clause-levels : goal.returns-in_err-merge_settle-clause-levels
-returns-in_err-merge_settle-clause-levels g c = never_ok c.from_residual.result c.from_residual.ensures.1 _
+returns-in_err-merge_settle-clause-levels g c = never_ok _ c.from_residual.result c.from_residual.ensures.1 _
 
 pub returns-in_err-merge_settle-clause-stays : goal.returns-in_err-merge_settle-clause-stays
 returns-in_err-merge_settle-clause-stays g c = c.in_err-merge_settle.ensures.stays

@@ -99,10 +99,10 @@ pub returns-then-is_settled-clause-begun : goal.returns-then-is_settled-clause-b
 returns-then-is_settled-clause-begun g c = refl
 
 pub returns-in_err-ids-clause-one : goal.returns-in_err-ids-clause-one
-returns-in_err-ids-clause-one g c = λ none. never_ok c.from_residual.result c.from_residual.ensures.1 _
+returns-in_err-ids-clause-one g c = λ none. never_ok _ c.from_residual.result c.from_residual.ensures.1 _
 
 pub returns-in_err-ids-clause-all_live : goal.returns-in_err-ids-clause-all_live
-returns-in_err-ids-clause-all_live g c = λ told none i sees. never_ok c.from_residual.result c.from_residual.ensures.1 _
+returns-in_err-ids-clause-all_live g c = λ told none i sees. never_ok _ c.from_residual.result c.from_residual.ensures.1 _
 
 pub returns-in_err-ids-clause-cause : goal.returns-in_err-ids-clause-cause
 returns-in_err-ids-clause-cause g c =

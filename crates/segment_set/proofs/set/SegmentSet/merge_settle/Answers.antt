@@ -142,10 +142,10 @@ pub returns-clause-begun : goal.returns-clause-begun
 returns-clause-begun g c = (c.loop-ids.invariant.moves c.next_merge.ensures.well).begun
 
 pub returns-in_err-ids-clause-levels : goal.returns-in_err-ids-clause-levels
-returns-in_err-ids-clause-levels g c = never_ok c.from_residual.result c.from_residual.ensures.1 _
+returns-in_err-ids-clause-levels g c = never_ok _ c.from_residual.result c.from_residual.ensures.1 _
 
 pub returns-in_err-ids-clause-room : goal.returns-in_err-ids-clause-room
-returns-in_err-ids-clause-room g c = never_ok c.from_residual.result c.from_residual.ensures.1 _
+returns-in_err-ids-clause-room g c = never_ok _ c.from_residual.result c.from_residual.ensures.1 _
 
 pub returns-in_err-ids-clause-cause : goal.returns-in_err-ids-clause-cause
 returns-in_err-ids-clause-cause g c =
@@ -199,11 +199,11 @@ returns-in_err-merge-clause-buffer g c = c.merge.ensures.buffer ∙ c.loop-ids.i
 
 pub returns-in_err-merge-clause-levels : goal.returns-in_err-merge-clause-levels
 returns-in_err-merge-clause-levels g c =
-    never_ok c.from_residual-in_err-merge.result c.from_residual-in_err-merge.ensures.1 _
+    never_ok _ c.from_residual-in_err-merge.result c.from_residual-in_err-merge.ensures.1 _
 
 pub returns-in_err-merge-clause-room : goal.returns-in_err-merge-clause-room
 returns-in_err-merge-clause-room g c =
-    never_ok c.from_residual-in_err-merge.result c.from_residual-in_err-merge.ensures.1 _
+    never_ok _ c.from_residual-in_err-merge.result c.from_residual-in_err-merge.ensures.1 _
 
 pub returns-in_err-merge-clause-cause : goal.returns-in_err-merge-clause-cause
 returns-in_err-merge-clause-cause g c =

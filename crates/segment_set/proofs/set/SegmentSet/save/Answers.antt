@@ -126,10 +126,10 @@ pub returns-in_err-flush-clause-seen : goal.returns-in_err-flush-clause-seen
 returns-in_err-flush-clause-seen g c = c.in_err-flush.ensures.seen
 
 pub returns-in_err-flush-clause-emptied : goal.returns-in_err-flush-clause-emptied
-returns-in_err-flush-clause-emptied g c = never_ok c.from_residual.result c.from_residual.ensures.1 _
+returns-in_err-flush-clause-emptied g c = never_ok _ c.from_residual.result c.from_residual.ensures.1 _
 
 pub returns-in_err-flush-clause-levels : goal.returns-in_err-flush-clause-levels
-returns-in_err-flush-clause-levels g c = never_ok c.from_residual.result c.from_residual.ensures.1 _
+returns-in_err-flush-clause-levels g c = never_ok _ c.from_residual.result c.from_residual.ensures.1 _
 
 pub returns-in_err-flush-clause-stays : goal.returns-in_err-flush-clause-stays
 returns-in_err-flush-clause-stays g c = c.in_err-flush.ensures.stays
@@ -159,19 +159,19 @@ returns-in_err-flush-clause-damage g c = λ told agrees.
     same_damage (IsMergeDamageOf (g.F.Pages.files c.flush.new.folder) c.args.self.now.given) c.in_err-flush.field-0.0 c.from_residual.result c.from_residual.ensures.1 (c.in_err-flush.ensures.damage told agrees)
 
 pub returns-in_err-flush-clause-saved : goal.returns-in_err-flush-clause-saved
-returns-in_err-flush-clause-saved g c = never_value c.from_residual.result c.from_residual.ensures.1 _
+returns-in_err-flush-clause-saved g c = never_value _ c.from_residual.result c.from_residual.ensures.1 _
 
 pub returns-in_err-flush-clause-commit : goal.returns-in_err-flush-clause-commit
-returns-in_err-flush-clause-commit g c = never_value c.from_residual.result c.from_residual.ensures.1 _
+returns-in_err-flush-clause-commit g c = never_value _ c.from_residual.result c.from_residual.ensures.1 _
 
 pub returns-in_err-flush-clause-fresh : goal.returns-in_err-flush-clause-fresh
-returns-in_err-flush-clause-fresh g c = never_value c.from_residual.result c.from_residual.ensures.1 _
+returns-in_err-flush-clause-fresh g c = never_value _ c.from_residual.result c.from_residual.ensures.1 _
 
 pub returns-in_err-flush-clause-live : goal.returns-in_err-flush-clause-live
-returns-in_err-flush-clause-live g c = λ told. never_value c.from_residual.result c.from_residual.ensures.1 _
+returns-in_err-flush-clause-live g c = λ told. never_value _ c.from_residual.result c.from_residual.ensures.1 _
 
 pub returns-in_err-flush-clause-stored : goal.returns-in_err-flush-clause-stored
-returns-in_err-flush-clause-stored g c = λ told i seen. never_value c.from_residual.result c.from_residual.ensures.1 _
+returns-in_err-flush-clause-stored g c = λ told i seen. never_value _ c.from_residual.result c.from_residual.ensures.1 _
 
 pub returns-clause-saved : goal.returns-clause-saved
 returns-clause-saved g c = c.list_segments.ensures.saved
