@@ -141,10 +141,10 @@ sees_with D files s i points ok seen = record {
 
 -- whether it may be added
 pub full_given : {b : Bool} (given n m : ℕ) → IsTrue b ↔ (2 ^ 24 < given + n) → b ≡ true → n ≡ m → 2 ^ 24 < given + m
-full_given given n m full yes same = subst (λ k. 2 ^ 24 < given + k) same (full.0 yes)
+full_given given n m full is same = subst (λ k. 2 ^ 24 < given + k) same (full.0 is)
 
 pub not_full : {b : Bool} (given n m : ℕ) → IsTrue b ↔ (2 ^ 24 < given + n) → b ≡ false → n ≡ m → 2 ^ 24 < given + m → ⊥
-not_full {b} given n m full no same more = both_ways b no (full.1 (subst (λ k. 2 ^ 24 < given + k) (sym same) more))
+not_full {b} given n m full never same more = both_ways b never (full.1 (subst (λ k. 2 ^ 24 < given + k) (sym same) more))
 
 -- it leaves the segments and adds its points to the buffer
 pub parts_with : (s t u : SetData) (points : List (List ℤ)) → t ≡ s → u ≡ set_with points t → (u.parts ≡ s.parts) × (length u.buffer ≤ length s.buffer + length points)

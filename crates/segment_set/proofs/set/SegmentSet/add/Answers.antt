@@ -10,12 +10,7 @@ use Rattle.segment_set.specs.Damages.{IsDoubt, IsMergeDamage, IsMergeDamageOf}
 use Rattle.segment_set.proofs.Carried.{canon_named, follows_none, keeps_none, stays_none}
 use Rattle.segment_set.proofs.Changed.{full_given, index_with, not_full, parts_with, sees_with}
 use Rattle.segment_set.proofs.Refused.{add_cause, add_damage, add_memory_cause, add_memory_damage, add_memory_not_full, add_not_full, added_caused, at_error, full_cause, never_ok, never_value}
-use Rattle.segment_set.proofs.set.SegmentSet.add.Given as given
 use Rattle.segment_set.proofs.set.SegmentSet.add.Goals as goal
-
--- how many points there are
-many : (g : given.Over) (c : goal.After-is_full g) → length c.as_slice.result.now ≡ length c.args.points.now
-many g c = sym (length-map c.as_slice.result.now _) ∙ ap length c.as_slice.ensures.value
 
 pub returns-then-is_full-clause-seen : goal.returns-then-is_full-clause-seen
 returns-then-is_full-clause-seen g c = λ told i seen. tt
@@ -31,7 +26,7 @@ returns-then-is_full-clause-given g c = tt
 
 pub returns-then-is_full-clause-full : goal.returns-then-is_full-clause-full
 returns-then-is_full-clause-full g c =
-    (λ is. full_given c.args.self.now.given (length c.as_slice.result.now) (length c.args.points.now) c.is_full.ensures.full c.if-is_full.true (many g c), λ more. refl)
+    (λ is. full_given c.args.self.now.given (length c.as_slice.result.now) (length c.args.points.now) c.is_full.ensures.full c.if-is_full.true (sym (length-map c.as_slice.result.now _) ∙ ap length c.as_slice.ensures.value), λ more. refl)
 
 pub returns-then-is_full-clause-stays : goal.returns-then-is_full-clause-stays
 returns-then-is_full-clause-stays g c = stays_none c.args.self.now
@@ -102,7 +97,7 @@ returns-in_err-make_room-clause-given g c = never_ok _ c.from_residual.result c.
 
 pub returns-in_err-make_room-clause-full : goal.returns-in_err-make_room-clause-full
 returns-in_err-make_room-clause-full g c =
-    (λ is. absurd (add_not_full c.in_err-make_room.field-0.0 c.from_residual.result c.from_residual.ensures.1 is), λ more. absurd (not_full c.args.self.now.given (length c.as_slice.result.now) (length c.args.points.now) c.is_full.ensures.full c.if-is_full.false (many g c) more))
+    (λ is. absurd (add_not_full c.in_err-make_room.field-0.0 c.from_residual.result c.from_residual.ensures.1 is), λ more. absurd (not_full c.args.self.now.given (length c.as_slice.result.now) (length c.args.points.now) c.is_full.ensures.full c.if-is_full.false (sym (length-map c.as_slice.result.now _) ∙ ap length c.as_slice.ensures.value) more))
 
 pub returns-in_err-make_room-clause-stays : goal.returns-in_err-make_room-clause-stays
 returns-in_err-make_room-clause-stays g c = at_error _ c.from_residual.result c.from_residual.ensures.1 _ c.in_err-make_room.ensures.stays
@@ -130,19 +125,19 @@ returns-in_err-make_room-clause-canon g c = c.in_err-make_room.ensures.canon
 
 pub returns-in_err-make_room-clause-unread : goal.returns-in_err-make_room-clause-unread
 returns-in_err-make_room-clause-unread g c = λ room.
-    absurd (false≢true (c.in_err-make_room.ensures.roomy (subst (λ n. length c.args.self.now.buffer + n ≤ 16384) (sym (many g c)) room)).0)
+    absurd (false≢true (c.in_err-make_room.ensures.roomy (subst (λ n. length c.args.self.now.buffer + n ≤ 16384) (sym (sym (length-map c.as_slice.result.now _) ∙ ap length c.as_slice.ensures.value)) room)).0)
 
 pub returns-in_err-make_room-clause-files : goal.returns-in_err-make_room-clause-files
 returns-in_err-make_room-clause-files g c = λ told room.
-    absurd (false≢true (c.in_err-make_room.ensures.roomy (subst (λ n. length c.args.self.now.buffer + n ≤ 16384) (sym (many g c)) room)).0)
+    absurd (false≢true (c.in_err-make_room.ensures.roomy (subst (λ n. length c.args.self.now.buffer + n ≤ 16384) (sym (sym (length-map c.as_slice.result.now _) ∙ ap length c.as_slice.ensures.value)) room)).0)
 
 pub returns-in_err-make_room-clause-room : goal.returns-in_err-make_room-clause-room
 returns-in_err-make_room-clause-room g c = λ room.
-    absurd (false≢true (c.in_err-make_room.ensures.roomy (subst (λ n. length c.args.self.now.buffer + n ≤ 16384) (sym (many g c)) room)).0)
+    absurd (false≢true (c.in_err-make_room.ensures.roomy (subst (λ n. length c.args.self.now.buffer + n ≤ 16384) (sym (sym (length-map c.as_slice.result.now _) ∙ ap length c.as_slice.ensures.value)) room)).0)
 
 pub returns-in_err-make_room-clause-parts : goal.returns-in_err-make_room-clause-parts
 returns-in_err-make_room-clause-parts g c = λ room.
-    absurd (false≢true (c.in_err-make_room.ensures.roomy (subst (λ n. length c.args.self.now.buffer + n ≤ 16384) (sym (many g c)) room)).0)
+    absurd (false≢true (c.in_err-make_room.ensures.roomy (subst (λ n. length c.args.self.now.buffer + n ≤ 16384) (sym (sym (length-map c.as_slice.result.now _) ∙ ap length c.as_slice.ensures.value)) room)).0)
 
 pub returns-in_err-make_room-clause-rested : goal.returns-in_err-make_room-clause-rested
 returns-in_err-make_room-clause-rested g c = λ settled. c.in_err-make_room.ensures.rested settled
@@ -182,7 +177,7 @@ returns-in_err-put-clause-given g c = never_ok _ c.from_residual-in_err-put.resu
 
 pub returns-in_err-put-clause-full : goal.returns-in_err-put-clause-full
 returns-in_err-put-clause-full g c =
-    (λ is. absurd (add_memory_not_full c.from_residual-in_err-put.result c.from_residual-in_err-put.ensures.1 is), λ more. absurd (not_full c.args.self.now.given (length c.as_slice.result.now) (length c.args.points.now) c.is_full.ensures.full c.if-is_full.false (many g c) more))
+    (λ is. absurd (add_memory_not_full c.from_residual-in_err-put.result c.from_residual-in_err-put.ensures.1 is), λ more. absurd (not_full c.args.self.now.given (length c.as_slice.result.now) (length c.args.points.now) c.is_full.ensures.full c.if-is_full.false (sym (length-map c.as_slice.result.now _) ∙ ap length c.as_slice.ensures.value) more))
 
 pub returns-in_err-put-clause-stays : goal.returns-in_err-put-clause-stays
 returns-in_err-put-clause-stays g c =
@@ -213,17 +208,17 @@ returns-in_err-put-clause-canon g c = λ told.
     subst (λ (s : SetData). AreCanonical g.row.D (g.F.Pages.files c.make_room.new.folder) c.args.self.now.names s.parts) (sym c.in_err-put.ensures.refused) (c.in_ok-make_room.ensures.canon told)
 
 pub returns-in_err-put-clause-unread : goal.returns-in_err-put-clause-unread
-returns-in_err-put-clause-unread g c = λ room. (c.in_ok-make_room.ensures.roomy (subst (λ n. length c.args.self.now.buffer + n ≤ 16384) (sym (many g c)) room)).2
+returns-in_err-put-clause-unread g c = λ room. (c.in_ok-make_room.ensures.roomy (subst (λ n. length c.args.self.now.buffer + n ≤ 16384) (sym (sym (length-map c.as_slice.result.now _) ∙ ap length c.as_slice.ensures.value)) room)).2
 
 pub returns-in_err-put-clause-files : goal.returns-in_err-put-clause-files
-returns-in_err-put-clause-files g c = λ told room. c.in_ok-make_room.ensures.files told (subst (λ n. length c.args.self.now.buffer + n ≤ 16384) (sym (many g c)) room)
+returns-in_err-put-clause-files g c = λ told room. c.in_ok-make_room.ensures.files told (subst (λ n. length c.args.self.now.buffer + n ≤ 16384) (sym (sym (length-map c.as_slice.result.now _) ∙ ap length c.as_slice.ensures.value)) room)
 
 pub returns-in_err-put-clause-room : goal.returns-in_err-put-clause-room
 returns-in_err-put-clause-room g c = λ room. add_memory_damage (λ _. ⊥) c.from_residual-in_err-put.result c.from_residual-in_err-put.ensures.1
 
 pub returns-in_err-put-clause-parts : goal.returns-in_err-put-clause-parts
 returns-in_err-put-clause-parts g c = λ room.
-    let is = c.in_err-put.ensures.refused ∙ (c.in_ok-make_room.ensures.roomy (subst (λ n. length c.args.self.now.buffer + n ≤ 16384) (sym (many g c)) room)).1 in subst (λ (s : SetData). (s.parts ≡ c.args.self.now.parts) × (length s.buffer ≤ length c.args.self.now.buffer + length c.args.points.now)) (sym is) (refl, omega arith)
+    let is = c.in_err-put.ensures.refused ∙ (c.in_ok-make_room.ensures.roomy (subst (λ n. length c.args.self.now.buffer + n ≤ 16384) (sym (sym (length-map c.as_slice.result.now _) ∙ ap length c.as_slice.ensures.value)) room)).1 in subst (λ (s : SetData). (s.parts ≡ c.args.self.now.parts) × (length s.buffer ≤ length c.args.self.now.buffer + length c.args.points.now)) (sym is) (refl, omega arith)
 
 pub returns-in_err-put-clause-rested : goal.returns-in_err-put-clause-rested
 returns-in_err-put-clause-rested g c = λ settled. c.in_ok-make_room.ensures.rested settled
@@ -266,7 +261,7 @@ returns-clause-given g c = (
 
 pub returns-clause-full : goal.returns-clause-full
 returns-clause-full g c =
-    (λ is. absurd cc, λ more. absurd (not_full c.args.self.now.given (length c.as_slice.result.now) (length c.args.points.now) c.is_full.ensures.full c.if-is_full.false (many g c) more))
+    (λ is. absurd cc, λ more. absurd (not_full c.args.self.now.given (length c.as_slice.result.now) (length c.args.points.now) c.is_full.ensures.full c.if-is_full.false (sym (length-map c.as_slice.result.now _) ∙ ap length c.as_slice.ensures.value) more))
 
 pub returns-clause-stays : goal.returns-clause-stays
 returns-clause-stays g c = tt
@@ -296,17 +291,17 @@ returns-clause-canon g c = λ told.
     subst (λ (s : SetData). AreCanonical g.row.D (g.F.Pages.files c.make_room.new.folder) c.args.self.now.names s.parts) (sym c.in_ok-put.ensures.put) (c.in_ok-make_room.ensures.canon told)
 
 pub returns-clause-unread : goal.returns-clause-unread
-returns-clause-unread g c = λ room. (c.in_ok-make_room.ensures.roomy (subst (λ n. length c.args.self.now.buffer + n ≤ 16384) (sym (many g c)) room)).2
+returns-clause-unread g c = λ room. (c.in_ok-make_room.ensures.roomy (subst (λ n. length c.args.self.now.buffer + n ≤ 16384) (sym (sym (length-map c.as_slice.result.now _) ∙ ap length c.as_slice.ensures.value)) room)).2
 
 pub returns-clause-files : goal.returns-clause-files
-returns-clause-files g c = λ told room. c.in_ok-make_room.ensures.files told (subst (λ n. length c.args.self.now.buffer + n ≤ 16384) (sym (many g c)) room)
+returns-clause-files g c = λ told room. c.in_ok-make_room.ensures.files told (subst (λ n. length c.args.self.now.buffer + n ≤ 16384) (sym (sym (length-map c.as_slice.result.now _) ∙ ap length c.as_slice.ensures.value)) room)
 
 pub returns-clause-room : goal.returns-clause-room
 returns-clause-room g c = λ room. tt
 
 pub returns-clause-parts : goal.returns-clause-parts
 returns-clause-parts g c = λ room.
-    parts_with c.args.self.now c.make_room.new.self c.put.new.self c.args.points.now (c.in_ok-make_room.ensures.roomy (subst (λ n. length c.args.self.now.buffer + n ≤ 16384) (sym (many g c)) room)).1 c.in_ok-put.ensures.put
+    parts_with c.args.self.now c.make_room.new.self c.put.new.self c.args.points.now (c.in_ok-make_room.ensures.roomy (subst (λ n. length c.args.self.now.buffer + n ≤ 16384) (sym (sym (length-map c.as_slice.result.now _) ∙ ap length c.as_slice.ensures.value)) room)).1 c.in_ok-put.ensures.put
 
 pub returns-clause-rested : goal.returns-clause-rested
 returns-clause-rested g c = λ settled. c.in_ok-make_room.ensures.rested settled
