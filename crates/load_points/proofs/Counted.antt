@@ -1,6 +1,6 @@
 -- What a load makes of an index, in the definition's own steps.
 use Rattle.std.proofs.Common.{◌≡◌, ◌≤◌, ◌+◌, ◌^◌, ◌==◌, ◌++◌, ℕ, Bool, true, false, not, cond, nat_lt, List, [], ◌∷◌, length, fold, Option, Some, None, Result, Ok, Err, refl, sym, ap, subst, ◌∙◌, arith, ℤ}
-use Rattle.std.proofs.lemmas.Bool.{both_ways}
+use Rattle.std.proofs.lemmas.Bool.Decides.{nat_tests}
 use Rattle.index_model.specs.State.{Index, State, at_rest, new_index}
 use Rattle.index_model.specs.Script.{Answer}
 use Rattle.index_model.specs.Step.{Outcome, Done, Refused, step, step_on}
@@ -68,7 +68,8 @@ matched_not D i points other = ap (λ b. cond b (refusal (Some i) (dims_text i.d
 -- where not all fit
 pub full_is : (D : ℕ) (stored : State) (i : Index) (points : List (List ℤ)) → opened D stored ≡ Some i → 2 ^ 24 + 1 ≤ i.given + length points → added D stored points ≡ refusal stored full_text
 full_is D stored i points e many =
-    ap (λ b. cond b (refusal stored full_text) _) (ap (λ n. nat_lt (2 ^ 24) (n + length points)) (given_opened D stored i e) ∙ full_true (2 ^ 24) (i.given + length points) many)
+    ap (λ b. cond b (refusal stored full_text) (record { state = with_documents D stored points; text = loaded_text (length points) (next_of stored + length points); refused = 0 }))
+    (ap (λ n. nat_lt (2 ^ 24) (n + length points)) (given_opened D stored i e) ∙ full_true (2 ^ 24) (i.given + length points) many)
 
 -- where all fit
 abbrev pub done_answer : Index → List (List ℤ) → Answer

@@ -119,18 +119,18 @@ some_stored files c state says h =
 
 pub made_loading : (D leaf : ℕ) (files : Files) (s : SessionData) (stored : State) → leaf ≡ greatest_leaf D → Sees D files s.set (new_index D leaf) → (files Commit ≡ None → Guards D files s)
     → s.set.parts ≡ [] → StartsNone files stored → IsLoading D files s stored
-made_loading D leaf files s stored is seen guards bare (no, absent) = record {
+made_loading D leaf files s stored is seen guards bare (none, absent) = record {
   index = new_index D leaf;
   seen = seen;
   guards = guards absent;
-  keeps = subst (IsStored files) (sym no) absent;
-  is = ap (opened D) no ∙ ap (λ n. Some (new_index D n)) (sym is);
+  keeps = subst (IsStored files) (sym none) absent;
+  is = ap (opened D) none ∙ ap (λ n. Some (new_index D n)) (sym is);
   listed = λ p there apart. nil_none p ⊥ (subst (λ (ps : List Part). Contains ps p) bare there);
 }
 
 pub attached_loading : (D : ℕ) (files : Files) (c : CommitData) (s : SessionData) (stored : State) → ((i : Index) → IsStored files (Some i) → Sees D files s.set i) → Guards D files s → IsUnchanged s
     → StartsFrom files c stored → IsLoading D files s stored
-attached_loading D files c s stored seen guards unchanged (says, i, is, holds) = record {
+attached_loading D files c s stored seen guards unchanged (says, (i, is, holds)) = record {
   index = i;
   seen = seen i holds;
   guards = guards;
@@ -228,14 +228,14 @@ unread_commit {T = T} told answer old new fault r is same whole cause =
     loads_fault {T = T} told (IsStored old.files) answer old new fault r is (λ t stored h. inl (subst (λ (f : Files). IsStored f stored) (sym (same t)) h)) whole cause
 
 pub none_keeps : (files : Files) (stored : State) → StartsNone files stored → IsStored files stored
-none_keeps files stored (no, absent) = subst (IsStored files) (sym no) absent
+none_keeps files stored (none, absent) = subst (IsStored files) (sym none) absent
 
 pub starts_keeps : (old new : Files) (c : CommitData) (stored : State) → new ≡ old → StartsFrom old c stored → IsStored new stored
-starts_keeps old new c stored same (says, i, is, holds) = subst (λ (f : Files). IsStored f stored) (sym same) (subst (IsStored old) (sym is) holds)
+starts_keeps old new c stored same (says, (i, is, holds)) = subst (λ (f : Files). IsStored f stored) (sym same) (subst (IsStored old) (sym is) holds)
 
 -- the index that is there has the dimensions of the commit
 pub has_dims : (D : ℕ) (files : Files) (c : CommitData) (stored : State) → c.dims ≡ D → StartsFrom files c stored → HasDims files D stored
-has_dims D files c stored dims (says, i, is, holds) =
+has_dims D files c stored dims (says, (i, is, holds)) =
     (subst (IsStored files) (sym is) holds, (i, is, ap (λ (j : Index). j.dims) holds.is ∙ ap (λ (d : CommitData). d.dims) (one_file (bytes_of (files Commit)) holds.commit c holds.holds.commit says) ∙ dims))
 
 -- what is stored is where the files are the same
@@ -245,7 +245,7 @@ stored_still_there old new stored same h = subst (λ (f : Files). IsStored f sto
 -- as many columns as the index that is there hasn't dimensions
 pub dims_refused : (files : Files) (dims : ℕ) (stored : State) (input : List ℕ) (names : List (List ℕ)) (points : List (List ℤ)) → (length names ≡ dims → ⊥) → points_of names (records_of input) ≡ Ok points → HasDims files dims stored
     → loaded stored input names ≡ refusal stored (dims_text dims)
-dims_refused files dims stored input names points other gives (is_stored, i, is, has) =
+dims_refused files dims stored input names points other gives (is_stored, (i, is, has)) =
     loaded_points (length names) stored input names points refl gives
     ∙ ap (λ (o : State). matched (length names) o points) is
     ∙ matched_not (length names) i points (λ e. other (e ∙ has))

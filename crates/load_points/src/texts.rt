@@ -1,6 +1,6 @@
 //! What a load answers. For want of memory a part of it may be appended.
 
-ghost use Rattle.std.specs.Prelude.{◌≡◌, ◌≢◌, ◌++◌, [], OnOk, slice_index_or};
+ghost use Rattle.std.specs.Prelude.{◌≡◌, ◌≢◌, ◌++◌, [], OnOk, codes, decimal, slice_index_or};
 ghost use Rattle.script_lang.specs.Replies.{ended};
 ghost use Rattle.load_points.specs.Loaded.{csv_text, dims_text, full_text, loaded_text};
 
@@ -49,28 +49,50 @@ pub fn put_csv_fault(
     requires { fault.now ≢ CsvFault.Memory }
     ensures { OnOk result (text.new.items ≡ text.old.items ++ ended (csv_text columns.now fault.now)) }
 {
-    let mut digits = Buffer::new();
     match fault {
-        CsvFault::NoColumn { column } => {
-            text.extend_from_slice(b"no column ")?;
-            text.extend_from_slice(name_of(columns, *column))?;
-        }
-        CsvFault::Length { row } => {
-            text.extend_from_slice(b"record ")?;
-            text.extend_from_slice(digits.format(*row).as_bytes())?;
-            text.extend_from_slice(b" has another length")?;
-        }
-        CsvFault::Value { row, column } => {
-            text.extend_from_slice(b"record ")?;
-            text.extend_from_slice(digits.format(*row).as_bytes())?;
-            text.extend_from_slice(b" column ")?;
-            text.extend_from_slice(name_of(columns, *column))?;
-            text.extend_from_slice(b" is not a whole number")?;
-        }
+        CsvFault::NoColumn { column } => put_no_column(text, name_of(columns, *column)),
+        CsvFault::Length { row } => put_other_length(text, *row),
+        CsvFault::Value { row, column } => put_no_number(text, *row, name_of(columns, *column)),
         CsvFault::Memory => unreachable!(),
     }
+}
+
+/// Appends that no column has this name.
+fn put_no_column(text: &mut Vec<u8>, name: &[u8]) -> Result<(), AllocError>
+    ensures { OnOk result (text.new.items ≡ text.old.items ++ ended (codes "no column " ++ name.now)) }
+{
+    text.extend_from_slice(b"no column ")?;
+    text.extend_from_slice(name)?;
     text.push(b'\n')?;
     Ok(())
+}
+
+/// Appends that this record has not as many fields as the header.
+fn put_other_length(text: &mut Vec<u8>, row: u64) -> Result<(), AllocError>
+    ensures { OnOk result (text.new.items ≡ text.old.items ++ ended (codes "record " ++ decimal row ++ codes " has another length")) }
+{
+    put_record(text, row)?;
+    text.extend_from_slice(b" has another length\n")
+}
+
+/// Appends that what this record has in the column of this name is no coordinate.
+fn put_no_number(text: &mut Vec<u8>, row: u64, name: &[u8]) -> Result<(), AllocError>
+    ensures { OnOk result (text.new.items ≡ text.old.items ++ ended (codes "record " ++ decimal row ++ codes " column " ++ name.now ++ codes " is not a whole number")) }
+{
+    put_record(text, row)?;
+    text.extend_from_slice(b" column ")?;
+    text.extend_from_slice(name)?;
+    text.extend_from_slice(b" is not a whole number\n")?;
+    Ok(())
+}
+
+/// Appends which record it is.
+fn put_record(text: &mut Vec<u8>, row: u64) -> Result<(), AllocError>
+    ensures { OnOk result (text.new.items ≡ text.old.items ++ (codes "record " ++ decimal row)) }
+{
+    let mut digits = Buffer::new();
+    text.extend_from_slice(b"record ")?;
+    text.extend_from_slice(digits.format(row).as_bytes())
 }
 
 /// The name of a column.
