@@ -1,12 +1,10 @@
 -- What a load makes of an index, in the definition's own steps.
-use Rattle.std.proofs.Common.{◌≡◌, ◌≤◌, ◌+◌, ◌^◌, ◌==◌, ◌++◌, ℕ, Bool, true, false, not, cond, nat_lt, List, [], ◌∷◌, length, fold, Option, Some, None, Result, Ok, Err, refl, sym, ap, subst, ◌∙◌, arith, ℤ}
+use Rattle.std.proofs.Common.{◌≡◌, ◌≤◌, ◌+◌, ◌^◌, ◌==◌, ℕ, true, false, not, cond, nat_lt, List, [], ◌∷◌, length, fold, Some, None, Ok, Err, refl, ap, ◌∙◌, arith, ℤ}
 use Rattle.std.proofs.lemmas.Bool.Decides.{nat_tests}
-use Rattle.index_model.specs.State.{Index, State, at_rest, new_index}
+use Rattle.index_model.specs.State.{Index, State, at_rest}
 use Rattle.index_model.specs.Script.{Answer}
-use Rattle.index_model.specs.Step.{Outcome, Done, Refused, step, step_on}
-use Rattle.documents.specs.Documents.{Document}
-use Rattle.script_lang.specs.Requests.{Add}
-use Rattle.script_lang.specs.Replies.{doc_text, ended}
+use Rattle.index_model.specs.Step.{Done, Refused, step_on}
+use Rattle.script_lang.specs.Replies.{doc_text}
 use Rattle.script_lang.specs.declared.faults.Why.TheVariants as why
 use Rattle.index_core.specs.Whole.{with_point, with_points}
 use Rattle.csv_load.specs.Loading.{points_of, records_of}

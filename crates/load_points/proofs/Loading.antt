@@ -1,5 +1,5 @@
 -- A load from one place to another, by what each call of it answered.
-use Rattle.std.proofs.Common.{◌≡◌, ◌≤◌, ◌+◌, ◌^◌, ◌++◌, ℕ, Bool, true, false, List, [], length, Option, Some, None, Result, Ok, Err, OnOk, IfOk, IsErrOf, refl, sym, ap, subst, ◌∙◌, ◌⊎◌, inl, inr, ⊎_elim, ◌↔◌, arith, ℤ}
+use Rattle.std.proofs.Common.{◌≡◌, ◌≤◌, ◌+◌, ◌^◌, ◌++◌, ℕ, Bool, true, false, List, [], length, Some, None, Result, Ok, Err, OnOk, IfOk, refl, sym, ap, subst, ◌∙◌, ◌⊎◌, inl, inr, ⊎_elim, arith, ℤ}
 use Rattle.std.specs.List.{Contains}
 use Rattle.outer_io.specs.declared.file_name.FileName.TheVariants.{Commit}
 use Rattle.outer_io.specs.Files.{Files, bytes_of}
@@ -21,14 +21,12 @@ use Rattle.stored_index.proofs.Whole.{held_for}
 use Rattle.documents.proofs.Lists.{nil_none}
 use Rattle.segment_view.specs.Parts.{Part}
 use Rattle.segment_set.specs.Seen.{Sees}
-use Rattle.index_core.specs.Effects.{BringsCanonical}
 use Rattle.index_core.specs.Sessions.{Guards, IsUnchanged, SessionData}
-use Rattle.index_core.specs.Steps.{SaysCommit, Stores}
 use Rattle.index_core.specs.Whole.{Adds, DoesWhole, HasNewCanonical, IsNewSegment, Spot, with_points}
-use Rattle.index_core.proofs.Answering.{cause_then, fault_cause, fault_to, memory_cause, no_cause}
+use Rattle.index_core.proofs.Answering.{cause_then, fault_to, memory_cause, no_cause}
 use Rattle.csv_load.specs.Loading.{points_of, records_of}
 use Rattle.csv_load.specs.declared.CsvFault.{CsvFault}
-use Rattle.load_points.specs.Loaded.{added, dims_text, full_text, loaded, loaded_by, loaded_text, matched, opened, refusal}
+use Rattle.load_points.specs.Loaded.{dims_text, full_text, loaded, loaded_by, loaded_text, matched, opened, refusal}
 use Rattle.load_points.specs.Loads.{HasDims, IsLoading, Loads, Place, StartsFrom, StartsNone}
 use Rattle.load_points.proofs.Counted.{added_is, done_answer, full_is, loaded_fault, loaded_points, matched_is, matched_not, rest_done}
 use Rattle.index_core.proofs.Bringing.{brings_then}
@@ -212,6 +210,10 @@ all_loaded D told points a b c x y next before after fits first grew adds commit
 }
 
 -- ---- answers
+
+-- what is told where the points are counted
+pub told_count : (before after : List ℕ) (count next many : ℕ) → after ≡ before ++ loaded_text count (next + count) → count ≡ many → after ≡ before ++ loaded_text many (next + many)
+told_count before after count next many grew counted = grew ∙ ap (λ (n : ℕ). before ++ loaded_text n (next + n)) counted
 
 -- a file that is refused for its fault
 pub file_refused : (told : Type 0) (Starts : Starting) (files : Files) (faults : ℕ) (before after : List ℕ) (input : List ℕ) (names : List (List ℕ)) (fault : CsvFault) (r : Result Bool PageFault)

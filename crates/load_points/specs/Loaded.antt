@@ -1,9 +1,9 @@
 -- What loading a CSV file answers and leaves: all its points at once, or the first refusal.
-use Rattle.std.specs.Prelude.{ℕ, ◌+◌, ◌^◌, ◌==◌, not, if◌then◌else◌, nat_lt, List, [], ◌∷◌, ◌++◌, length, fold, slice_index_or, Option, None, Some, Result, Ok, Err, codes, decimal, ℤ}
+use Rattle.std.specs.Prelude.{ℕ, ◌+◌, ◌^◌, ◌==◌, not, if◌then◌else◌, nat_lt, List, [], ◌∷◌, ◌++◌, length, fold, slice_index_or, None, Some, Result, Ok, Err, codes, decimal, ℤ}
 use Rattle.script_lang.specs.Reading.{greatest_leaf}
 use Rattle.script_lang.specs.Replies.{ended}
 use Rattle.script_lang.specs.Requests.{Add}
-use Rattle.index_model.specs.State.{Index, State, new_index}
+use Rattle.index_model.specs.State.{State, new_index}
 use Rattle.index_model.specs.Step.{Outcome, Done, Refused, step}
 use Rattle.index_model.specs.Script.{Answer}
 use Rattle.csv_load.specs.Loading.{points_of, records_of}

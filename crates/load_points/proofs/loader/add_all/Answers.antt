@@ -1,5 +1,5 @@
 -- All points are added where all fit, and refused where not.
-use Rattle.std.proofs.Common.{◌≤◌, ◌+◌, ◌^◌, Err, sym, ap, ◌∙◌, length, arith}
+use Rattle.std.proofs.Common.{Err, ap, ◌∙◌, arith}
 use Rattle.std.proofs.lemmas.List.{length-map}
 use Rattle.std.proofs.lemmas.Result.{err_from_is_err_and}
 use Rattle.page_cache.specs.declared.faults.PageFault.{PageFault}
@@ -16,18 +16,18 @@ given-requires g c = session_fits g.row.D c.requires
 pub add_fitting-requires-after_bounds : goal.add_fitting-requires-after_bounds
 add_fitting-requires-after_bounds g c κs = λ _. (
   session_fits g.row.D c.requires,
-  (point_fits g.row.D c.requires, (c.requires, (c.in-Some.ensures.0 ∙ c.len.ensures, omega (arith, c.in-Some.ensures.1, c.given.ensures.value, c.len.ensures)))),
+  (point_fits g.row.D c.requires, (c.requires, (c.in-Some.ensures.0, omega (arith, c.in-Some.ensures.1, c.given.ensures.value)))),
 )
 
 pub returns-in-Some : goal.returns-in-Some
 returns-in-Some g c = c.add_fitting.ensures
 
-pub returns-in_err-put_full : goal.returns-in_err-put_full
-returns-in_err-put_full g c =
+pub returns-in_err-put_full-in-None : goal.returns-in_err-put_full-in-None
+returns-in_err-put_full-in-None g c =
     let p = err_from_is_err_and c.from_residual.result c.from_residual.ensures.1 in
     loads_no_memory _ _ _ _ _ _ _ _ (p.1 ∙ ap (λ (e : PageFault). Err e) p.2) (λ stored l. l.keeps)
 
-pub returns-in-None : goal.returns-in-None
-returns-in-None g c =
+pub returns-in_ok-put_full-in-None : goal.returns-in_ok-put_full-in-None
+returns-in_ok-put_full-in-None g c =
     let long = length-map c.args.points.now (λ (q : Point g.row.D). q.c) in
-    loading_full g.row.D _ _ _ _ (coordinates_of c.args.points.now) _ _ c.in_ok-put_full.ensures (omega (arith, long, c.in-None.ensures, c.given.ensures.value, c.len.ensures))
+    loading_full g.row.D _ _ _ _ (coordinates_of c.args.points.now) _ _ c.in_ok-put_full-in-None.ensures (omega (arith, long, c.in-None.ensures, c.given.ensures.value))

@@ -1,5 +1,5 @@
 -- All points are added, and what they leave is committed.
-use Rattle.std.proofs.Common.{◌≡◌, ◌≤◌, ◌+◌, ◌^◌, ◌++◌, Err, sym, ap, ◌∙◌, length, arith}
+use Rattle.std.proofs.Common.{Err, sym, ap, ◌∙◌, arith}
 use Rattle.std.proofs.lemmas.List.{length-map}
 use Rattle.std.proofs.lemmas.Result.{err_from_is_err_and}
 use Rattle.page_cache.specs.declared.faults.PageFault.{PageFault}
@@ -7,8 +7,7 @@ use Rattle.point_codec.specs.Seen.{coordinates_of}
 use Rattle.point_codec.specs.declared.coordinates.Point.{Point}
 use Rattle.segment_set.proofs.Sizes.{point_fits}
 use Rattle.index_core.proofs.Sizes.{session_fits}
-use Rattle.load_points.specs.Loaded.{loaded_text}
-use Rattle.load_points.proofs.Loading.{adding_stopped, all_loaded, commit_stopped, loads_no_memory}
+use Rattle.load_points.proofs.Loading.{adding_stopped, all_loaded, commit_stopped, loads_no_memory, told_count}
 use Rattle.load_points.proofs.loader.add_fitting.Goals as goal
 
 pub next-requires : goal.next-requires
@@ -50,7 +49,7 @@ pub returns : goal.returns
 returns g c =
     let long = length-map c.args.points.now (λ (q : Point g.row.D). q.c) in
     all_loaded g.row.D _ (coordinates_of c.args.points.now) _ _ _ tt tt c.next.result _ _ (omega (arith, c.requires.fits, long)) c.next.ensures.value
-    (c.in_ok-put_loaded.ensures ∙ ap (λ n. c.args.text.now.items ++ loaded_text n (c.next.result + n)) (c.requires.counted ∙ sym long)) c.in_ok-add_points.ensures
+    (told_count _ _ c.args.count _ _ c.in_ok-put_loaded.ensures (c.requires.counted ∙ sym long)) c.in_ok-add_points.ensures
     (record {
       seen = c.in_ok-commit.ensures.seen;
       guards = c.in_ok-commit.ensures.guards;

@@ -1,5 +1,5 @@
 -- The points of the file are added, or its fault is told.
-use Rattle.std.proofs.Common.{◌≡◌, List, Ok, refl, sym, ap, ◌∙◌}
+use Rattle.std.proofs.Common.{Ok, rules, refl, sym, ap, ◌∙◌}
 use Rattle.point_codec.specs.Seen.{coordinates_of}
 use Rattle.segment_set.proofs.Sizes.{point_fits}
 use Rattle.index_core.proofs.Sizes.{session_fits}
@@ -21,4 +21,4 @@ returns-in-Err-Memory g c = loads_no_memory _ _ _ _ _ _ _ _ refl (λ stored l. l
 
 pub returns-in-Err : goal.returns-in-Err
 returns-in-Err g c =
-    file_refused _ _ _ _ _ _ c.args.input.now c.args.columns.now c.in-Err.fault c.refuse_file.result (λ stored l. l.keeps) (c.in-Err.ensures.fault c.refuse_file.requires) (c.refuse_file.ensures _ _)
+    file_refused _ _ _ _ _ _ c.args.input.now c.args.columns.now c.in-Err.fault c.refuse_file.result (λ stored l. l.keeps) (c.in-Err.ensures.fault (search rules)) (c.refuse_file.ensures _ _)

@@ -1,7 +1,6 @@
 -- A new index is made, and the file loaded into it.
-use Rattle.std.proofs.Common.{◌≡◌, ◌≤◌, ℕ, zero, suc, refl, sym, ap, subst, ◌∙◌, lit<, arith}
+use Rattle.std.proofs.Common.{◌≤◌, ℕ, zero, suc, refl, sym, subst, arith}
 use Rattle.leaf_codec.specs.Leaves.{leaf_limit}
-use Rattle.index_core.proofs.Answering.{no_cause}
 use Rattle.index_core.proofs.Sizes.{session_fits}
 use Rattle.load_points.proofs.Loading.{loads_as, loads_no_memory, made_loading, none_keeps}
 use Rattle.load_points.proofs.loader.load_new.Goals as goal
@@ -38,4 +37,4 @@ returns-in-Ok g c =
     (λ stored h. refl) c.load_into.ensures
 
 pub returns-in-Err : goal.returns-in-Err
-returns-in-Err g c = loads_no_memory _ _ _ _ _ _ _ _ refl (λ stored h. none_keeps _ stored h)
+returns-in-Err g c = loads_no_memory _ _ _ _ _ _ _ _ refl (λ stored h. none_keeps (g.F.Pages.files c.args.folder.now) stored h)
