@@ -157,6 +157,7 @@ applies D told outcome old new r calm does begins cause whole = record {
   idle = λ is_told e unchanged. absurd cc;
   unchanged = λ e. absurd cc;
   anew = λ e changed. absurd cc;
+  levels = λ e changed none. absurd cc;
   canon = λ is_told i seen guards. calm.brings is_told;
 }
 
@@ -175,6 +176,7 @@ applies_still D told outcome files session before after faults r does begins cau
   idle = λ is_told e unchanged. refl;
   unchanged = λ e. absurd cc;
   anew = λ e changed. absurd cc;
+  levels = λ e changed none. absurd cc;
   canon = λ is_told i seen guards. brings_same D files files session.set.parts session.set.parts refl refl;
 }
 
@@ -237,6 +239,7 @@ applies_told D told outcome committing old new r is = record {
   idle = λ is_told. is.idle tt;
   unchanged = is.unchanged;
   anew = is.anew;
+  levels = is.levels;
   canon = λ is_told. is.canon tt;
 }
 
@@ -258,6 +261,7 @@ applies_as D told o p committing old new r same is = record {
   idle = is.idle;
   unchanged = is.unchanged;
   anew = is.anew;
+  levels = is.levels;
   canon = is.canon;
 }
 

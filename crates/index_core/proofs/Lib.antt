@@ -11,3 +11,4 @@ pub mod Showing
 pub mod Keeping
 pub mod Listed
 pub mod Wholes
+pub mod Lightly

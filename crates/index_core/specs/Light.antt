@@ -1,5 +1,5 @@
 -- What requests leave that need no segment to be written or merged.
-use Rattle.std.specs.Prelude.{◌≡◌, ◌≤◌, ◌+◌, ℕ, Bool, true, false, List, length, All, count_by, Option, Some}
+use Rattle.std.specs.Prelude.{◌≡◌, ◌≤◌, ◌<◌, ◌+◌, ◌^◌, ℕ, Bool, true, false, List, length, All, count_by, Option, None, Some}
 use Rattle.outer_io.specs.Files.{Files}
 use Rattle.merge_policy.specs.Choice.{is_of_level}
 use Rattle.commit_list.specs.Commits.{CommitData}
@@ -33,6 +33,12 @@ is_light asks.Reopen = false
 abbrev pub points_in : Request → ℕ
 points_in (asks.Add points) = length points
 points_in _ = 0
+
+-- the set alone says that it is refused: more points would be given than ever may be, or no merge is begun that could end
+abbrev pub IsBarred : Request → SetData → Type 0
+IsBarred (asks.Add points) s = 2 ^ 24 < s.given + length points
+IsBarred asks.MergeEnd s = s.begun ≡ None
+IsBarred _ s = ⊥
 
 -- what is live now and each snapshot are in segments with these heads
 pub record LooksAt (heads : List Head) (s : SetData) : Type 0 where

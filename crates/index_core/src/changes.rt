@@ -1,6 +1,6 @@
 //! Commands that change the documents, the segments or the snapshots.
 
-ghost use Rattle.std.specs.Prelude.{◌≡◌, ◌≤◌, ◌+◌, ◌^◌, ℕ, false, nat_lt, length, IsTrue};
+ghost use Rattle.std.specs.Prelude.{◌≡◌, ◌≤◌, ◌<◌, ◌+◌, ◌^◌, ℕ, None, false, nat_lt, length, IsTrue, IsOk};
 ghost use Rattle.outer_io.specs.Files.{Files};
 ghost use Rattle.script_lang.specs.Requests as asks;
 ghost use Rattle.index_model.specs.Step.{step_on};
@@ -45,6 +45,7 @@ impl<const D: usize> Session<D> {
         ensures light { length self.old.set.buffer + length points.now ≤ 16384
             → StaysLight (IsTrue F.told) (length points.now) (F.files folder.old) (F.files folder.new) self.old self.new }
         ensures unread { OnRefused result (F.reads folder.new ≡ F.reads folder.old) }
+        ensures barred { 2 ^ 24 < self.old.set.given + length points.now → IsOk result }
     {
         if self.is_full(points) {
             return Ok(Applied::Refused(Why::Full));
@@ -189,6 +190,7 @@ impl<const D: usize> Session<D> {
         ensures reads { ReadsAtMost D (IsTrue F.told) asks.MergeEnd (F.files folder.old) self.old (F.reads folder.old) (F.reads folder.new) }
         ensures damage { ShowsDamage D (IsTrue F.told) asks.MergeEnd (F.files folder.old) (F.files folder.new) self.old self.new result }
         ensures unread { OnRefused result (F.reads folder.new ≡ F.reads folder.old) }
+        ensures barred { self.old.set.begun ≡ None → IsOk result }
         ensures still { KeepsStill (IsTrue F.told) asks.MergeEnd (F.files folder.old) (F.files folder.new) self.old self.new result }
     {
         if !self.set.is_merging() {

@@ -1,6 +1,6 @@
 //! The session.
 
-ghost use Rattle.std.specs.Prelude.{◌≡◌, ◌≤◌, ◌+◌, ℕ, List, [], None, Some, true, false, length, IsTrue, IfOk, OnOk, OnErr};
+ghost use Rattle.std.specs.Prelude.{◌≡◌, ◌≤◌, ◌+◌, ℕ, List, [], None, Some, true, false, length, IsTrue, IsOk, IfOk, OnOk, OnErr};
 ghost use Rattle.outer_io.specs.Files.{Files, bytes_of};
 ghost use Rattle.outer_io.specs.declared.file_name.FileName.TheVariants.{Commit as CommitName};
 ghost use Rattle.leaf_codec.specs.Leaves.{leaf_limit};
@@ -56,7 +56,7 @@ impl<const D: usize> Session<D> {
     ghost use Rattle.index_core.specs.Costs.{ReadsAtMost};
     ghost use Rattle.index_core.specs.Damages.{ShowsDamage};
     ghost use Rattle.index_core.specs.Effects.{BringsCanonical, KeepsStill, Leaves, OnDone, OnRefused};
-    ghost use Rattle.index_core.specs.Light.{CommitsFewOfLevels, StaysLight, is_light, points_in};
+    ghost use Rattle.index_core.specs.Light.{CommitsFewOfLevels, IsBarred, StaysLight, is_light, points_in};
 
     /// A session over a folder that has no index: one without documents.
     pub fn create(alloc: Global, leaf: u16, settings: Settings) -> Result<Session<D>, Memory>
@@ -152,6 +152,8 @@ impl<const D: usize> Session<D> {
         ensures light { is_light (request_of c.now) ≡ true → length self.old.set.buffer + points_in (request_of c.now) ≤ 16384
             → StaysLight (IsTrue F.told) (points_in (request_of c.now)) (F.files folder.old) (F.files folder.new) self.old self.new }
         ensures unread { OnRefused result (F.reads folder.new ≡ F.reads folder.old) }
+        // where the set alone says that it is refused there is no fault
+        ensures barred { IsBarred (request_of c.now) self.old.set → IsOk result }
     {
         self.step(rt, alloc, folder, c, out, gate)
     }
@@ -177,6 +179,7 @@ impl<const D: usize> Session<D> {
         ensures light { is_light (request_of c.now) ≡ true → length self.old.set.buffer + points_in (request_of c.now) ≤ 16384
             → StaysLight (IsTrue F.told) (points_in (request_of c.now)) (F.files folder.old) (F.files folder.new) self.old self.new }
         ensures unread { OnRefused result (F.reads folder.new ≡ F.reads folder.old) }
+        ensures barred { IsBarred (request_of c.now) self.old.set → IsOk result }
     {
         match c {
             Command::Blank => Ok(Applied::Done),

@@ -17,6 +17,8 @@ use Rattle.index_core.specs.Replies.{add_answer}
 use Rattle.index_core.specs.Damages.{ShowsMerge}
 use Rattle.index_core.proofs.Showing.{add_shows, damage_to, merge_none}
 use Rattle.index_core.proofs.Keeping.{add_keeps, answer_keeps, fault_keeps, still_same}
+use Rattle.index_core.proofs.Lightly.{light_added, light_same}
+use Rattle.std.proofs.lemmas.Bool.{both_ways, lt-ltb}
 use Rattle.index_core.proofs.session.Session.add.Goals as goal
 
 pub returns-then-is_full-clause-applies : goal.returns-then-is_full-clause-applies
@@ -87,3 +89,34 @@ pub returns-clause-still : goal.returns-clause-still
 returns-clause-still g c =
     let fits : nat_lt (2 ^ 24) (c.self.inside.set.given + length c.args.points.now) ≡ false = ap (λ (u : SessionData). nat_lt (2 ^ 24) (u.set.given + length c.args.points.now)) c.self.view_is ∙ sym c.is_full.ensures ∙ c.if-is_full.false in
     answer_keeps _ _ _ c.add_answer.ensures (add_keeps _ c.add.result (not_full c.add.result (c.self.inside.set.given + length c.args.points.now) fits c.add.ensures.full))
+
+pub returns-then-is_full-clause-light : goal.returns-then-is_full-clause-light
+returns-then-is_full-clause-light g c room = light_same _ _ _ _
+
+pub returns-in_err-put_doc-clause-light : goal.returns-in_err-put_doc-clause-light
+returns-in_err-put_doc-clause-light g c room = light_same _ _ _ _
+
+pub returns-clause-light : goal.returns-clause-light
+returns-clause-light g c = light_added _ _ _ _ _ _ _ c.self.view_is c.add.ensures.files c.add.ensures.snapshots c.add.ensures.parts
+
+pub returns-then-is_full-clause-unread : goal.returns-then-is_full-clause-unread
+returns-then-is_full-clause-unread g c = refl
+
+pub returns-in_err-put_doc-clause-unread : goal.returns-in_err-put_doc-clause-unread
+returns-in_err-put_doc-clause-unread g c =
+    let p = err_from_is_err_and c.from_residual.result c.from_residual.ensures.1 in
+    fault_keeps _ _ _ (p.1 ∙ ap (λ (e : PageFault). Err e) p.2)
+
+pub returns-clause-unread : goal.returns-clause-unread
+returns-clause-unread g c =
+    let fits : nat_lt (2 ^ 24) (c.self.inside.set.given + length c.args.points.now) ≡ false = ap (λ (u : SessionData). nat_lt (2 ^ 24) (u.set.given + length c.args.points.now)) c.self.view_is ∙ sym c.is_full.ensures ∙ c.if-is_full.false in
+    answer_keeps _ _ _ c.add_answer.ensures (add_keeps _ c.add.result (not_full c.add.result (c.self.inside.set.given + length c.args.points.now) fits c.add.ensures.full))
+
+pub returns-then-is_full-clause-barred : goal.returns-then-is_full-clause-barred
+returns-then-is_full-clause-barred g c over = refl
+
+pub returns-in_err-put_doc-clause-barred : goal.returns-in_err-put_doc-clause-barred
+returns-in_err-put_doc-clause-barred g c over = absurd (both_ways (nat_lt (2 ^ 24) (c.args.self.now.set.given + length c.args.points.now)) (sym c.is_full.ensures ∙ c.if-is_full.false) (lt-ltb (2 ^ 24) (c.args.self.now.set.given + length c.args.points.now) over))
+
+pub returns-clause-barred : goal.returns-clause-barred
+returns-clause-barred g c over = absurd (both_ways (nat_lt (2 ^ 24) (c.args.self.now.set.given + length c.args.points.now)) (sym c.is_full.ensures ∙ c.if-is_full.false) (lt-ltb (2 ^ 24) (c.args.self.now.set.given + length c.args.points.now) over))

@@ -17,6 +17,9 @@ use Rattle.index_model.specs.State.{at_rest}
 use Rattle.std.proofs.Common.{IsTrue}
 use Rattle.index_core.specs.Damages.{ShowsMerge}
 use Rattle.index_core.proofs.Showing.{damage_to, merge_none, merge_to}
+use Rattle.segment_set.specs.Sets.{IsSettled}
+use Rattle.index_core.proofs.Answering.{fault_cause}
+use Rattle.index_core.proofs.Lightly.{commits_few}
 use Rattle.index_core.proofs.session.Session.commit.Goals as goal
 
 pub returns-then-not-is_changed-clause-kept : goal.returns-then-not-is_changed-clause-kept
@@ -218,3 +221,38 @@ returns-in_err-write-clause-damage g c =
 
 pub returns-clause-damage : goal.returns-clause-damage
 returns-clause-damage g c = merge_none _ _ _ _ _ _ c.sweep.ensures.whole
+
+pub returns-then-not-is_changed-clause-levels : goal.returns-then-not-is_changed-clause-levels
+returns-then-not-is_changed-clause-levels g c changed none = absurd (changed (c.is_changed.ensures.unchanged.0 c.if-not-is_changed.true))
+
+pub returns-then-not-is_changed-clause-rested : goal.returns-then-not-is_changed-clause-rested
+returns-then-not-is_changed-clause-rested g c settled = refl
+
+pub returns-in_err-commit-clause-levels : goal.returns-in_err-commit-clause-levels
+returns-in_err-commit-clause-levels g c changed none =
+    let p = err_from_is_err_and c.from_residual.result c.from_residual.ensures.1 in
+    on_ok_none _ _ _ p.1
+
+pub returns-in_err-commit-clause-rested : goal.returns-in_err-commit-clause-rested
+returns-in_err-commit-clause-rested g c settled = c.save.ensures.rested (subst (λ (u : SessionData). IsSettled u.set) (sym c.self.view_is) settled)
+
+pub returns-in_err-write-clause-levels : goal.returns-in_err-write-clause-levels
+returns-in_err-write-clause-levels g c changed none =
+    let p = err_from_is_err_and c.from_residual-in_err-write.result c.from_residual-in_err-write.ensures.1 in
+    on_ok_none _ _ _ p.1
+
+pub returns-in_err-write-clause-rested : goal.returns-in_err-write-clause-rested
+returns-in_err-write-clause-rested g c settled = c.write.ensures.unread ∙ c.save.ensures.rested (subst (λ (u : SessionData). IsSettled u.set) (sym c.self.view_is) settled)
+
+pub returns-clause-levels : goal.returns-clause-levels
+returns-clause-levels g c changed none =
+    on_ok_any c.sweep.result (commits_few _ c.save.new.self c.in_ok-commit.commit _ (c.sweep.ensures.written.0 ∙ c.in_ok-write.ensures.written.0)
+    (c.save.ensures.begun ∙ ap (λ (u : SessionData). u.set.begun) c.self.view_is ∙ none) c.in_ok-commit.ensures.commit c.in_ok-commit.ensures.levels)
+
+pub returns-clause-rested : goal.returns-clause-rested
+returns-clause-rested g c settled = c.sweep.ensures.unread ∙ c.write.ensures.unread ∙ c.save.ensures.rested (subst (λ (u : SessionData). IsSettled u.set) (sym c.self.view_is) settled)
+
+pub returns-in_err-commit-clause-cause : goal.returns-in_err-commit-clause-cause
+returns-in_err-commit-clause-cause g c =
+    let p = err_from_is_err_and c.from_residual.result c.from_residual.ensures.1 in
+    fault_cause _ _ c.in_err-commit.field-0.0 _ (p.1 ∙ ap (λ (e : PageFault). Err e) p.2) c.in_err-commit.ensures.cause

@@ -1,5 +1,5 @@
 -- A commit is answered.
-use Rattle.std.proofs.Common.{Err, ap, ◌∙◌, inr}
+use Rattle.std.proofs.Common.{Err, ap, ◌∙◌, inr, ⊎_elim}
 use Rattle.std.proofs.lemmas.Result.{err_from_is_err_and}
 use Rattle.page_cache.specs.declared.faults.PageFault.{PageFault}
 use Rattle.script_lang.specs.Replies.{ok_text}
@@ -8,6 +8,7 @@ use Rattle.index_model.specs.declared.session.Applied.TheVariants as applied
 use Rattle.index_core.proofs.Answering.{applies_is, begins_itself, begins_same, begins_with, does_done, does_fault, done_cause, fault_to, memory_cause}
 use Rattle.page_cache.specs.declared.faults.PageFault.TheVariants as page
 use Rattle.index_core.proofs.Showing.{damage_to, merge_none, merge_to}
+use Rattle.index_core.proofs.Keeping.{fault_keeps}
 use Rattle.index_core.proofs.session.Session.commit_line.Goals as goal
 
 pub returns-clause-applies : goal.returns-clause-applies
@@ -23,6 +24,7 @@ returns-clause-applies g c = record {
   idle = λ told e unchanged. (c.commit.ensures.idle unchanged).2;
   unchanged = λ e. c.in_ok-commit.ensures.unchanged;
   anew = λ e. c.in_ok-commit.ensures.anew;
+  levels = λ e. c.in_ok-commit.ensures.levels;
   canon = λ told i seen guards. c.commit.ensures.canon told;
 }
 
@@ -40,6 +42,7 @@ returns-in_err-commit-clause-applies g c =
       idle = λ told e unchanged. (c.commit.ensures.idle unchanged).2;
       unchanged = λ e. tt;
       anew = λ e changed. tt;
+      levels = λ e changed none. tt;
       canon = λ told i seen guards. c.commit.ensures.canon told;
     })
 
@@ -57,17 +60,18 @@ returns-in_err-put_ok-clause-applies g c =
       idle = λ told e unchanged. (c.commit.ensures.idle unchanged).2;
       unchanged = λ e. tt;
       anew = λ e changed. tt;
+      levels = λ e changed none. tt;
       canon = λ told i seen guards. c.commit.ensures.canon told;
     })
 
 pub returns-in_err-commit-clause-reads : goal.returns-in_err-commit-clause-reads
-returns-in_err-commit-clause-reads g c unchanged = (c.commit.ensures.idle unchanged).3
+returns-in_err-commit-clause-reads g c which = ⊎_elim (λ unchanged. (c.commit.ensures.idle unchanged).3) (λ settled. c.commit.ensures.rested settled) which
 
 pub returns-in_err-put_ok-clause-reads : goal.returns-in_err-put_ok-clause-reads
-returns-in_err-put_ok-clause-reads g c unchanged = (c.commit.ensures.idle unchanged).3
+returns-in_err-put_ok-clause-reads g c which = ⊎_elim (λ unchanged. (c.commit.ensures.idle unchanged).3) (λ settled. c.commit.ensures.rested settled) which
 
 pub returns-clause-reads : goal.returns-clause-reads
-returns-clause-reads g c unchanged = (c.commit.ensures.idle unchanged).3
+returns-clause-reads g c which = ⊎_elim (λ unchanged. (c.commit.ensures.idle unchanged).3) (λ settled. c.commit.ensures.rested settled) which
 
 pub returns-in_err-commit-clause-damage : goal.returns-in_err-commit-clause-damage
 returns-in_err-commit-clause-damage g c =
@@ -81,3 +85,16 @@ returns-in_err-put_ok-clause-damage g c =
 
 pub returns-clause-damage : goal.returns-clause-damage
 returns-clause-damage g c = merge_none _ _ _ _ _ _ tt
+
+pub returns-in_err-commit-clause-unread : goal.returns-in_err-commit-clause-unread
+returns-in_err-commit-clause-unread g c =
+    let p = err_from_is_err_and c.from_residual.result c.from_residual.ensures.1 in
+    fault_keeps _ _ _ (p.1 ∙ ap (λ (e : PageFault). Err e) p.2)
+
+pub returns-in_err-put_ok-clause-unread : goal.returns-in_err-put_ok-clause-unread
+returns-in_err-put_ok-clause-unread g c =
+    let p = err_from_is_err_and c.from_residual-in_err-put_ok.result c.from_residual-in_err-put_ok.ensures.1 in
+    fault_keeps _ _ _ (p.1 ∙ ap (λ (e : PageFault). Err e) p.2)
+
+pub returns-clause-unread : goal.returns-clause-unread
+returns-clause-unread g c = tt

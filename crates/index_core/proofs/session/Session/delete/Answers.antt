@@ -12,6 +12,7 @@ use Rattle.segment_set.proofs.Sizes.{set_fits}
 use Rattle.index_core.proofs.Bringing.{brings_cleared}
 use Rattle.page_cache.specs.declared.faults.PageFault.TheVariants as page
 use Rattle.index_core.proofs.Showing.{damage_to}
+use Rattle.index_core.proofs.Lightly.{light_deleted, light_same}
 use Rattle.index_core.proofs.session.Session.delete.Goals as goal
 
 pub returns-in_err-put_deleted-clause-applies : goal.returns-in_err-put_deleted-clause-applies
@@ -61,3 +62,15 @@ pub returns-in_err-put_deleted-2-clause-damage : goal.returns-in_err-put_deleted
 returns-in_err-put_deleted-2-clause-damage g c =
     let p = err_from_is_err_and c.from_residual-in_err-put_deleted-2.result c.from_residual-in_err-put_deleted-2.ensures.1 in
     damage_to _ _ page.Memory (p.1 ∙ ap (λ (e : PageFault). Err e) p.2) tt
+
+pub returns-in_err-put_deleted-clause-light : goal.returns-in_err-put_deleted-clause-light
+returns-in_err-put_deleted-clause-light g c files = light_same _ _ _ _
+
+pub returns-then-delete-clause-light : goal.returns-then-delete-clause-light
+returns-then-delete-clause-light g c files = light_deleted _ _ _ _ _ c.self.view_is c.delete.ensures.alone
+
+pub returns-in_err-put_deleted-2-clause-light : goal.returns-in_err-put_deleted-2-clause-light
+returns-in_err-put_deleted-2-clause-light g c files = light_deleted _ _ _ _ _ c.self.view_is c.delete.ensures.alone
+
+pub returns-clause-light : goal.returns-clause-light
+returns-clause-light g c files = light_deleted _ _ _ _ _ c.self.view_is c.delete.ensures.alone

@@ -20,6 +20,7 @@ use Rattle.index_core.specs.Sessions.{SessionData}
 use Rattle.index_core.specs.Costs.{ReadsTouched}
 use Rattle.index_core.specs.Damages.{ShowsLeaf}
 use Rattle.index_core.proofs.Showing.{damage_to, leaf_none, leaf_to}
+use Rattle.index_core.proofs.Keeping.{fault_keeps}
 use Rattle.index_core.proofs.session.Session.delete_box.Goals as goal
 
 pub returns-in_err-hits-clause-applies : goal.returns-in_err-hits-clause-applies
@@ -108,3 +109,19 @@ returns-clause-damage g c = leaf_none _ _ _ _ _ _ tt
 
 pub returns-in_default-clause-damage : goal.returns-in_default-clause-damage
 returns-in_default-clause-damage g c = leaf_none _ _ _ _ _ _ tt
+
+pub returns-in_err-hits-clause-unread : goal.returns-in_err-hits-clause-unread
+returns-in_err-hits-clause-unread g c =
+    let p = err_from_is_err_and c.from_residual.result c.from_residual.ensures.1 in
+    fault_keeps _ _ _ (p.1 ∙ ap (λ (e : PageFault). Err e) p.2)
+
+pub returns-in_err-put_deleted-clause-unread : goal.returns-in_err-put_deleted-clause-unread
+returns-in_err-put_deleted-clause-unread g c =
+    let p = err_from_is_err_and c.from_residual-in_err-put_deleted.result c.from_residual-in_err-put_deleted.ensures.1 in
+    fault_keeps _ _ _ (p.1 ∙ ap (λ (e : PageFault). Err e) p.2)
+
+pub returns-clause-unread : goal.returns-clause-unread
+returns-clause-unread g c = tt
+
+pub returns-in_default-clause-unread : goal.returns-in_default-clause-unread
+returns-in_default-clause-unread g c = tt

@@ -15,6 +15,7 @@ use Rattle.segment_set.specs.Sets.{viewed_parts}
 use Rattle.index_core.specs.Costs.{ReadsTouched}
 use Rattle.index_core.proofs.Showing.{damage_to, leaf_none}
 use Rattle.index_core.proofs.Keeping.{still_same}
+use Rattle.index_core.proofs.Keeping.{fault_keeps}
 use Rattle.index_core.proofs.session.Session.find_in.Goals as goal
 
 pub returns-in_err-shape-clause-applies : goal.returns-in_err-shape-clause-applies
@@ -50,3 +51,11 @@ returns-in_err-shape-clause-still g c = still_same _ _ _
 
 pub returns-clause-still : goal.returns-clause-still
 returns-clause-still g c = c.find.ensures.still
+
+pub returns-in_err-shape-clause-unread : goal.returns-in_err-shape-clause-unread
+returns-in_err-shape-clause-unread g c =
+    let p = err_from_is_err_and c.from_residual.result c.from_residual.ensures.1 in
+    fault_keeps _ _ _ (p.1 ∙ ap (λ (e : PageFault). Err e) p.2)
+
+pub returns-clause-unread : goal.returns-clause-unread
+returns-clause-unread g c = c.find.ensures.unread

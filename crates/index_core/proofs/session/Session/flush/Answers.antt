@@ -1,5 +1,5 @@
 -- The buffer goes to a segment, and the set is seen as before.
-use Rattle.std.proofs.Common.{Err, refl, ap, subst, ◌∙◌, IsTrue}
+use Rattle.std.proofs.Common.{Err, refl, sym, ap, subst, ◌∙◌, IsTrue}
 use Rattle.std.proofs.lemmas.Result.{err_from_is_err_and}
 use Rattle.page_cache.specs.declared.faults.PageFault.{PageFault}
 use Rattle.script_lang.specs.Replies.{ok_text}
@@ -12,6 +12,8 @@ use Rattle.index_core.proofs.Bringing.{brings_written}
 use Rattle.page_cache.specs.declared.faults.PageFault.TheVariants as page
 use Rattle.index_core.specs.Damages.{ShowsMerge}
 use Rattle.index_core.proofs.Showing.{damage_to, merge_none, merge_to}
+use Rattle.segment_set.specs.Sets.{IsSettled}
+use Rattle.index_core.proofs.Keeping.{fault_keeps}
 use Rattle.index_core.proofs.session.Session.flush.Goals as goal
 
 pub returns-clause-applies : goal.returns-clause-applies
@@ -60,3 +62,25 @@ returns-in_err-put_ok-clause-damage g c =
 
 pub returns-clause-damage : goal.returns-clause-damage
 returns-clause-damage g c = merge_none _ _ _ _ _ _ tt
+
+pub returns-in_err-flush-clause-reads : goal.returns-in_err-flush-clause-reads
+returns-in_err-flush-clause-reads g c settled = c.flush.ensures.rested (subst (λ (u : SessionData). IsSettled u.set) (sym c.self.view_is) settled)
+
+pub returns-in_err-put_ok-clause-reads : goal.returns-in_err-put_ok-clause-reads
+returns-in_err-put_ok-clause-reads g c settled = c.flush.ensures.rested (subst (λ (u : SessionData). IsSettled u.set) (sym c.self.view_is) settled)
+
+pub returns-clause-reads : goal.returns-clause-reads
+returns-clause-reads g c settled = c.flush.ensures.rested (subst (λ (u : SessionData). IsSettled u.set) (sym c.self.view_is) settled)
+
+pub returns-in_err-flush-clause-unread : goal.returns-in_err-flush-clause-unread
+returns-in_err-flush-clause-unread g c =
+    let p = err_from_is_err_and c.from_residual.result c.from_residual.ensures.1 in
+    fault_keeps _ _ _ (p.1 ∙ ap (λ (e : PageFault). Err e) p.2)
+
+pub returns-in_err-put_ok-clause-unread : goal.returns-in_err-put_ok-clause-unread
+returns-in_err-put_ok-clause-unread g c =
+    let p = err_from_is_err_and c.from_residual-in_err-put_ok.result c.from_residual-in_err-put_ok.ensures.1 in
+    fault_keeps _ _ _ (p.1 ∙ ap (λ (e : PageFault). Err e) p.2)
+
+pub returns-clause-unread : goal.returns-clause-unread
+returns-clause-unread g c = tt

@@ -12,6 +12,7 @@ use Rattle.index_core.proofs.Bringing.{brings_written}
 use Rattle.page_cache.specs.declared.faults.PageFault.TheVariants as page
 use Rattle.index_core.specs.Damages.{ShowsMerge}
 use Rattle.index_core.proofs.Showing.{damage_to, merge_none, merge_to}
+use Rattle.index_core.proofs.Keeping.{fault_keeps}
 use Rattle.index_core.proofs.session.Session.merge.Goals as goal
 
 pub returns-clause-applies : goal.returns-clause-applies
@@ -60,3 +61,16 @@ returns-in_err-put_ok-clause-damage g c =
 
 pub returns-clause-damage : goal.returns-clause-damage
 returns-clause-damage g c = merge_none _ _ _ _ _ _ tt
+
+pub returns-in_err-merge_all-clause-unread : goal.returns-in_err-merge_all-clause-unread
+returns-in_err-merge_all-clause-unread g c =
+    let p = err_from_is_err_and c.from_residual.result c.from_residual.ensures.1 in
+    fault_keeps _ _ _ (p.1 ∙ ap (λ (e : PageFault). Err e) p.2)
+
+pub returns-in_err-put_ok-clause-unread : goal.returns-in_err-put_ok-clause-unread
+returns-in_err-put_ok-clause-unread g c =
+    let p = err_from_is_err_and c.from_residual-in_err-put_ok.result c.from_residual-in_err-put_ok.ensures.1 in
+    fault_keeps _ _ _ (p.1 ∙ ap (λ (e : PageFault). Err e) p.2)
+
+pub returns-clause-unread : goal.returns-clause-unread
+returns-clause-unread g c = tt

@@ -1,5 +1,5 @@
 -- A merge is begun, where none is.
-use Rattle.std.proofs.Common.{Err, sym, ap, subst, ◌∙◌}
+use Rattle.std.proofs.Common.{Err, refl, sym, ap, subst, ◌∙◌}
 use Rattle.std.proofs.lemmas.Result.{err_from_is_err_and}
 use Rattle.page_cache.specs.declared.faults.PageFault.{PageFault}
 use Rattle.std.proofs.Common.{is_some}
@@ -86,5 +86,18 @@ returns-in_err-put_ok-clause-still g c =
 
 pub returns-clause-still : goal.returns-clause-still
 returns-clause-still g c =
+    let none = sym c.is_merging.ensures ∙ c.if-is_merging.false in
+    answer_keeps _ _ _ c.begin_answer.ensures (begin_keeps _ c.merge_begin.result (λ e. both_ways (is_some c.self.inside.set.begun) none (c.merge_begin.ensures.begun.0 e)))
+
+pub returns-then-is_merging-clause-unread : goal.returns-then-is_merging-clause-unread
+returns-then-is_merging-clause-unread g c = refl
+
+pub returns-in_err-put_ok-clause-unread : goal.returns-in_err-put_ok-clause-unread
+returns-in_err-put_ok-clause-unread g c =
+    let p = err_from_is_err_and c.from_residual.result c.from_residual.ensures.1 in
+    fault_keeps _ _ _ (p.1 ∙ ap (λ (e : PageFault). Err e) p.2)
+
+pub returns-clause-unread : goal.returns-clause-unread
+returns-clause-unread g c =
     let none = sym c.is_merging.ensures ∙ c.if-is_merging.false in
     answer_keeps _ _ _ c.begin_answer.ensures (begin_keeps _ c.merge_begin.result (λ e. both_ways (is_some c.self.inside.set.begun) none (c.merge_begin.ensures.begun.0 e)))

@@ -75,3 +75,25 @@ pub returns-clause-still : goal.returns-clause-still
 returns-clause-still g c =
     let some = sym c.is_merging.ensures ∙ c.if-not-is_merging.false in
     answer_keeps _ _ _ c.end_answer.ensures (end_keeps _ c.merge_end.result (λ e. both_ways (is_some c.self.inside.set.begun) (c.merge_end.ensures.not_begun.0 e) some))
+
+pub returns-then-not-is_merging-clause-unread : goal.returns-then-not-is_merging-clause-unread
+returns-then-not-is_merging-clause-unread g c = refl
+
+pub returns-in_err-put_ok-clause-unread : goal.returns-in_err-put_ok-clause-unread
+returns-in_err-put_ok-clause-unread g c =
+    let p = err_from_is_err_and c.from_residual.result c.from_residual.ensures.1 in
+    fault_keeps _ _ _ (p.1 ∙ ap (λ (e : PageFault). Err e) p.2)
+
+pub returns-clause-unread : goal.returns-clause-unread
+returns-clause-unread g c =
+    let some = sym c.is_merging.ensures ∙ c.if-not-is_merging.false in
+    answer_keeps _ _ _ c.end_answer.ensures (end_keeps _ c.merge_end.result (λ e. both_ways (is_some c.self.inside.set.begun) (c.merge_end.ensures.not_begun.0 e) some))
+
+pub returns-then-not-is_merging-clause-barred : goal.returns-then-not-is_merging-clause-barred
+returns-then-not-is_merging-clause-barred g c none = refl
+
+pub returns-in_err-put_ok-clause-barred : goal.returns-in_err-put_ok-clause-barred
+returns-in_err-put_ok-clause-barred g c none = absurd (both_ways (is_some c.self.inside.set.begun) (ap (λ (u : SessionData). is_some u.set.begun) c.self.view_is ∙ ap is_some none) (sym c.is_merging.ensures ∙ c.if-not-is_merging.false))
+
+pub returns-clause-barred : goal.returns-clause-barred
+returns-clause-barred g c none = absurd (both_ways (is_some c.self.inside.set.begun) (ap (λ (u : SessionData). is_some u.set.begun) c.self.view_is ∙ ap is_some none) (sym c.is_merging.ensures ∙ c.if-not-is_merging.false))

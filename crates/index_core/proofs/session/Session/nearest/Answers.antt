@@ -22,6 +22,7 @@ use Rattle.index_core.specs.Damages.{ShowsLeaf}
 use Rattle.index_core.proofs.Showing.{damage_to, leaf_none, leaf_to}
 use Rattle.std.proofs.Common.{refl}
 use Rattle.index_core.proofs.Keeping.{still_same, still_seen}
+use Rattle.index_core.proofs.Keeping.{fault_keeps}
 use Rattle.index_core.proofs.session.Session.nearest.Goals as goal
 
 pub nearest-requires : goal.nearest-requires
@@ -98,3 +99,19 @@ returns-in_err-put_near-clause-still g c = still_seen _ _ _ _ _ _ c.self.view_is
 
 pub returns-clause-still : goal.returns-clause-still
 returns-clause-still g c = still_seen _ _ _ _ _ _ c.self.view_is (record { set = c.nearest.ensures.alone; commit = refl; refused = refl; files = c.nearest.ensures.files })
+
+pub returns-then-not-has_view-clause-unread : goal.returns-then-not-has_view-clause-unread
+returns-then-not-has_view-clause-unread g c = refl
+
+pub returns-in_err-found-clause-unread : goal.returns-in_err-found-clause-unread
+returns-in_err-found-clause-unread g c =
+    let p = err_from_is_err_and c.from_residual.result c.from_residual.ensures.1 in
+    fault_keeps _ _ _ (p.1 ∙ ap (λ (e : PageFault). Err e) p.2)
+
+pub returns-in_err-put_near-clause-unread : goal.returns-in_err-put_near-clause-unread
+returns-in_err-put_near-clause-unread g c =
+    let p = err_from_is_err_and c.from_residual-in_err-put_near.result c.from_residual-in_err-put_near.ensures.1 in
+    fault_keeps _ _ _ (p.1 ∙ ap (λ (e : PageFault). Err e) p.2)
+
+pub returns-clause-unread : goal.returns-clause-unread
+returns-clause-unread g c = tt

@@ -15,6 +15,7 @@ use Rattle.index_core.proofs.Bringing.{brings_same}
 use Rattle.page_cache.specs.declared.faults.PageFault.TheVariants as page
 use Rattle.index_core.proofs.Showing.{damage_to}
 use Rattle.index_core.proofs.Keeping.{fault_keeps, still_same}
+use Rattle.index_core.proofs.Lightly.{light_released, light_same}
 use Rattle.index_core.proofs.session.Session.release.Goals as goal
 
 pub returns-then-not-has_snapshot-clause-applies : goal.returns-then-not-has_snapshot-clause-applies
@@ -56,3 +57,12 @@ returns-in_err-put_ok-clause-still g c files =
 
 pub returns-clause-still : goal.returns-clause-still
 returns-clause-still g c files = tt
+
+pub returns-then-not-has_snapshot-clause-light : goal.returns-then-not-has_snapshot-clause-light
+returns-then-not-has_snapshot-clause-light g c files = light_same _ _ _ _
+
+pub returns-in_err-put_ok-clause-light : goal.returns-in_err-put_ok-clause-light
+returns-in_err-put_ok-clause-light g c files = light_same _ _ _ _
+
+pub returns-clause-light : goal.returns-clause-light
+returns-clause-light g c files = light_released _ _ _ _ _ c.self.view_is c.release.ensures.kept

@@ -21,6 +21,8 @@ use Rattle.page_cache.specs.Evidence.{FaultShows}
 use Rattle.page_cache.specs.declared.faults.PageFault.TheVariants as page
 use Rattle.segment_set.specs.Damages.{IsAttachDamageOf}
 use Rattle.index_core.proofs.Showing.{anew_attached, anew_none, anew_saved, damage_to}
+use Rattle.index_core.specs.Light.{CommitsFewOfLevels}
+use Rattle.index_core.proofs.Keeping.{fault_keeps}
 use Rattle.index_core.proofs.session.Session.reopen.Goals as goal
 
 pub attach_anew-requires : goal.attach_anew-requires
@@ -40,6 +42,7 @@ returns-in_err-commit-clause-applies g c =
       idle = λ told e unchanged. (c.commit.ensures.idle unchanged).2;
       unchanged = λ e. tt;
       anew = λ e changed. tt;
+      levels = λ e changed none. tt;
       canon = λ told i seen guards. c.commit.ensures.canon told;
     })
 
@@ -57,6 +60,7 @@ returns-in_err-set-clause-applies g c =
       idle = λ told e unchanged. c.attach_anew.ensures.files told ∙ (c.commit.ensures.idle unchanged).2;
       unchanged = λ e. tt;
       anew = λ e changed. tt;
+      levels = λ e changed none. tt;
       canon = λ told i seen guards. subst (λ (f : Files). BringsCanonical g.row.D (g.F.Pages.files c.args.folder.now) f c.args.self.now.set.parts c.commit.new.self.set.parts) (sym (c.attach_anew.ensures.files told)) (c.commit.ensures.canon told);
     })
 
@@ -74,6 +78,7 @@ returns-in_err-put_ok-clause-applies g c =
       idle = λ told e unchanged. c.attach_anew.ensures.files told ∙ (c.commit.ensures.idle unchanged).2;
       unchanged = λ e. tt;
       anew = λ e changed. tt;
+      levels = λ e changed none. tt;
       canon = λ told i seen guards. subst (λ (f : Files). BringsCanonical g.row.D (g.F.Pages.files c.args.folder.now) f c.args.self.now.set.parts c.commit.new.self.set.parts) (sym (c.attach_anew.ensures.files told)) (c.commit.ensures.canon told);
     })
 
@@ -98,6 +103,7 @@ returns-clause-applies g c = record {
       (record { commit = last.commit; is = last.is; done = last.done; same = c.in_ok-set.ensures.unchanged last.commit last.is });
   anew = λ e changed. let written = c.in_ok-commit.ensures.anew changed in
       subst (λ (u : SessionData). IsCommitAnew c.args.self.now.set.names (record u { set = c.in_ok-set.set })) (sym c.self.view_is) (record { commit = written.commit; is = written.is; fresh = written.fresh });
+  levels = λ e changed none. subst (λ (u : SessionData). CommitsFewOfLevels u.commit) (sym c.self.view_is) (c.in_ok-commit.ensures.levels changed none);
   canon = λ told i seen guards. let last = c.in_ok-commit.ensures.unchanged in
       subst (λ (f : Files). BringsCanonical g.row.D (g.F.Pages.files c.args.folder.now) f c.args.self.now.set.parts c.in_ok-set.set.parts) (sym (c.attach_anew.ensures.files told))
       (brings_then _ _ _ _ _ c.commit.new.self.set.parts _ (c.commit.ensures.canon told)
@@ -125,3 +131,21 @@ returns-in_err-put_ok-clause-damage g c =
 
 pub returns-clause-damage : goal.returns-clause-damage
 returns-clause-damage g c = anew_none _ _ _ _ _ _ _ tt
+
+pub returns-in_err-commit-clause-unread : goal.returns-in_err-commit-clause-unread
+returns-in_err-commit-clause-unread g c =
+    let p = err_from_is_err_and c.from_residual.result c.from_residual.ensures.1 in
+    fault_keeps _ _ _ (p.1 ∙ ap (λ (e : PageFault). Err e) p.2)
+
+pub returns-in_err-set-clause-unread : goal.returns-in_err-set-clause-unread
+returns-in_err-set-clause-unread g c =
+    let p = err_from_is_err_and c.from_residual-in_err-set.result c.from_residual-in_err-set.ensures.1 in
+    fault_keeps _ _ _ (p.1 ∙ ap (λ (e : PageFault). Err e) p.2)
+
+pub returns-in_err-put_ok-clause-unread : goal.returns-in_err-put_ok-clause-unread
+returns-in_err-put_ok-clause-unread g c =
+    let p = err_from_is_err_and c.from_residual-in_err-put_ok.result c.from_residual-in_err-put_ok.ensures.1 in
+    fault_keeps _ _ _ (p.1 ∙ ap (λ (e : PageFault). Err e) p.2)
+
+pub returns-clause-unread : goal.returns-clause-unread
+returns-clause-unread g c = tt

@@ -15,6 +15,7 @@ use Rattle.page_cache.specs.declared.faults.PageFault.TheVariants as page
 use Rattle.index_core.proofs.Showing.{damage_to}
 use Rattle.std.proofs.Common.{refl}
 use Rattle.index_core.proofs.Keeping.{answer_keeps, err_each, fault_keeps, snap_keeps, still_seen, still_set}
+use Rattle.index_core.proofs.Lightly.{light_same, light_snapped}
 use Rattle.index_core.proofs.session.Session.snapshot.Goals as goal
 
 pub returns-in_err-put_ok-clause-applies : goal.returns-in_err-put_ok-clause-applies
@@ -53,3 +54,9 @@ returns-in_err-put_ok-clause-still g c files =
 pub returns-clause-still : goal.returns-clause-still
 returns-clause-still g c files = answer_keeps _ _ _ c.snap_answer-answer.ensures (snap_keeps _ c.snapshot.result
     (err_each (λ same. still_seen _ _ _ _ _ _ c.self.view_is (record { set = still_set _ _ same; commit = refl; refused = refl; files = λ told. refl })) c.snapshot.result c.snapshot.ensures.refused))
+
+pub returns-in_err-put_ok-clause-light : goal.returns-in_err-put_ok-clause-light
+returns-in_err-put_ok-clause-light g c files = light_same _ _ _ _
+
+pub returns-clause-light : goal.returns-clause-light
+returns-clause-light g c files = light_snapped _ _ _ _ _ c.snapshot.result c.self.view_is c.snapshot.ensures.kept c.snapshot.ensures.refused

@@ -15,6 +15,7 @@ use Rattle.index_core.proofs.Sizes.{box_fits, session_fits}
 use Rattle.segment_set.specs.Sets.{viewed_parts}
 use Rattle.index_core.specs.Costs.{ReadsTouched}
 use Rattle.index_core.proofs.Keeping.{still_same, still_told}
+use Rattle.index_core.proofs.Lightly.{light_same, light_still, light_told, refused_any}
 use Rattle.index_core.proofs.session.Session.step.Goals as goal
 
 pub returns-in-Delete-clause-applies : goal.returns-in-Delete-clause-applies
@@ -167,7 +168,7 @@ pub returns-in-Create-clause-damage : goal.returns-in-Create-clause-damage
 returns-in-Create-clause-damage g c = rw c.in-Create.is tt
 
 pub returns-in-Flush-clause-reads : goal.returns-in-Flush-clause-reads
-returns-in-Flush-clause-reads g c = rw c.in-Flush.is tt
+returns-in-Flush-clause-reads g c = rw c.in-Flush.is c.flush.ensures.reads
 
 pub returns-in-Merge-clause-reads : goal.returns-in-Merge-clause-reads
 returns-in-Merge-clause-reads g c = rw c.in-Merge.is tt
@@ -231,3 +232,168 @@ returns-in-Commit-clause-leaves g c = rw c.in-Commit.is (leaves_any c.commit_lin
 
 pub returns-in-Reopen-clause-leaves : goal.returns-in-Reopen-clause-leaves
 returns-in-Reopen-clause-leaves g c = rw c.in-Reopen.is (leaves_any c.reopen.result)
+
+pub returns-in-Blank-clause-light : goal.returns-in-Blank-clause-light
+returns-in-Blank-clause-light g c = rw c.in-Blank.is (λ light room. light_same _ _ _ _)
+
+pub returns-in-Create-clause-light : goal.returns-in-Create-clause-light
+returns-in-Create-clause-light g c = rw c.in-Create.is (λ light room. light_same _ _ _ _)
+
+pub returns-in-Add-clause-light : goal.returns-in-Add-clause-light
+returns-in-Add-clause-light g c = rw c.in-Add.is (λ light. c.add.ensures.light)
+
+pub returns-in-Delete-clause-light : goal.returns-in-Delete-clause-light
+returns-in-Delete-clause-light g c = rw c.in-Delete.is (λ light room. light_told _ _ _ _ _ (c.delete.ensures.light _))
+
+pub returns-in-Snapshot-clause-light : goal.returns-in-Snapshot-clause-light
+returns-in-Snapshot-clause-light g c = rw c.in-Snapshot.is (λ light room. light_told _ _ _ _ _ (c.snapshot.ensures.light _))
+
+pub returns-in-Release-clause-light : goal.returns-in-Release-clause-light
+returns-in-Release-clause-light g c = rw c.in-Release.is (λ light room. light_told _ _ _ _ _ (c.release.ensures.light _))
+
+pub returns-in-InBox-clause-light : goal.returns-in-InBox-clause-light
+returns-in-InBox-clause-light g c = rw c.in-InBox.is (λ light room. light_still _ _ _ _ _ _ c.find.ensures.still)
+
+pub returns-in-Polygon-clause-light : goal.returns-in-Polygon-clause-light
+returns-in-Polygon-clause-light g c = rw c.in-Polygon.is (λ light room. light_still _ _ _ _ _ _ c.find_in.ensures.still)
+
+pub returns-in-Nearest-clause-light : goal.returns-in-Nearest-clause-light
+returns-in-Nearest-clause-light g c = rw c.in-Nearest.is (λ light room. light_still _ _ _ _ _ _ c.nearest.ensures.still)
+
+pub returns-in-DeleteBox-clause-light : goal.returns-in-DeleteBox-clause-light
+returns-in-DeleteBox-clause-light g c = rw c.in-DeleteBox.is (λ light room. absurd cc)
+
+pub returns-in-Flush-clause-light : goal.returns-in-Flush-clause-light
+returns-in-Flush-clause-light g c = rw c.in-Flush.is (λ light room. absurd cc)
+
+pub returns-in-Merge-clause-light : goal.returns-in-Merge-clause-light
+returns-in-Merge-clause-light g c = rw c.in-Merge.is (λ light room. absurd cc)
+
+pub returns-in-MergeBegin-clause-light : goal.returns-in-MergeBegin-clause-light
+returns-in-MergeBegin-clause-light g c = rw c.in-MergeBegin.is (λ light room. absurd cc)
+
+pub returns-in-MergeEnd-clause-light : goal.returns-in-MergeEnd-clause-light
+returns-in-MergeEnd-clause-light g c = rw c.in-MergeEnd.is (λ light room. absurd cc)
+
+pub returns-in-Commit-clause-light : goal.returns-in-Commit-clause-light
+returns-in-Commit-clause-light g c = rw c.in-Commit.is (λ light room. absurd cc)
+
+pub returns-in-Reopen-clause-light : goal.returns-in-Reopen-clause-light
+returns-in-Reopen-clause-light g c = rw c.in-Reopen.is (λ light room. absurd cc)
+
+pub returns-in-Blank-clause-unread : goal.returns-in-Blank-clause-unread
+returns-in-Blank-clause-unread g c = tt
+
+pub returns-in-Create-clause-unread : goal.returns-in-Create-clause-unread
+returns-in-Create-clause-unread g c = refl
+
+pub returns-in-Delete-clause-unread : goal.returns-in-Delete-clause-unread
+returns-in-Delete-clause-unread g c = refused_any _ c.delete.result refl
+
+pub returns-in-Snapshot-clause-unread : goal.returns-in-Snapshot-clause-unread
+returns-in-Snapshot-clause-unread g c = refused_any _ c.snapshot.result refl
+
+pub returns-in-Release-clause-unread : goal.returns-in-Release-clause-unread
+returns-in-Release-clause-unread g c = refused_any _ c.release.result refl
+
+pub returns-in-Add-clause-unread : goal.returns-in-Add-clause-unread
+returns-in-Add-clause-unread g c = c.add.ensures.unread
+
+pub returns-in-DeleteBox-clause-unread : goal.returns-in-DeleteBox-clause-unread
+returns-in-DeleteBox-clause-unread g c = c.delete_box.ensures.unread
+
+pub returns-in-InBox-clause-unread : goal.returns-in-InBox-clause-unread
+returns-in-InBox-clause-unread g c = c.find.ensures.unread
+
+pub returns-in-Polygon-clause-unread : goal.returns-in-Polygon-clause-unread
+returns-in-Polygon-clause-unread g c = c.find_in.ensures.unread
+
+pub returns-in-Nearest-clause-unread : goal.returns-in-Nearest-clause-unread
+returns-in-Nearest-clause-unread g c = c.nearest.ensures.unread
+
+pub returns-in-Flush-clause-unread : goal.returns-in-Flush-clause-unread
+returns-in-Flush-clause-unread g c = c.flush.ensures.unread
+
+pub returns-in-Merge-clause-unread : goal.returns-in-Merge-clause-unread
+returns-in-Merge-clause-unread g c = c.merge.ensures.unread
+
+pub returns-in-MergeBegin-clause-unread : goal.returns-in-MergeBegin-clause-unread
+returns-in-MergeBegin-clause-unread g c = c.merge_begin.ensures.unread
+
+pub returns-in-MergeEnd-clause-unread : goal.returns-in-MergeEnd-clause-unread
+returns-in-MergeEnd-clause-unread g c = c.merge_end.ensures.unread
+
+pub returns-in-Commit-clause-unread : goal.returns-in-Commit-clause-unread
+returns-in-Commit-clause-unread g c = c.commit_line.ensures.unread
+
+pub returns-in-Reopen-clause-unread : goal.returns-in-Reopen-clause-unread
+returns-in-Reopen-clause-unread g c = c.reopen.ensures.unread
+
+pub returns-in-Blank-clause-barred : goal.returns-in-Blank-clause-barred
+returns-in-Blank-clause-barred g c = rw c.in-Blank.is (λ bad. absurd bad)
+
+pub returns-in-Create-clause-barred : goal.returns-in-Create-clause-barred
+returns-in-Create-clause-barred g c = rw c.in-Create.is (λ bad. absurd bad)
+
+pub returns-in-Delete-clause-barred : goal.returns-in-Delete-clause-barred
+returns-in-Delete-clause-barred g c = rw c.in-Delete.is (λ bad. absurd bad)
+
+pub returns-in-DeleteBox-clause-barred : goal.returns-in-DeleteBox-clause-barred
+returns-in-DeleteBox-clause-barred g c = rw c.in-DeleteBox.is (λ bad. absurd bad)
+
+pub returns-in-InBox-clause-barred : goal.returns-in-InBox-clause-barred
+returns-in-InBox-clause-barred g c = rw c.in-InBox.is (λ bad. absurd bad)
+
+pub returns-in-Polygon-clause-barred : goal.returns-in-Polygon-clause-barred
+returns-in-Polygon-clause-barred g c = rw c.in-Polygon.is (λ bad. absurd bad)
+
+pub returns-in-Nearest-clause-barred : goal.returns-in-Nearest-clause-barred
+returns-in-Nearest-clause-barred g c = rw c.in-Nearest.is (λ bad. absurd bad)
+
+pub returns-in-Flush-clause-barred : goal.returns-in-Flush-clause-barred
+returns-in-Flush-clause-barred g c = rw c.in-Flush.is (λ bad. absurd bad)
+
+pub returns-in-Merge-clause-barred : goal.returns-in-Merge-clause-barred
+returns-in-Merge-clause-barred g c = rw c.in-Merge.is (λ bad. absurd bad)
+
+pub returns-in-MergeBegin-clause-barred : goal.returns-in-MergeBegin-clause-barred
+returns-in-MergeBegin-clause-barred g c = rw c.in-MergeBegin.is (λ bad. absurd bad)
+
+pub returns-in-Snapshot-clause-barred : goal.returns-in-Snapshot-clause-barred
+returns-in-Snapshot-clause-barred g c = rw c.in-Snapshot.is (λ bad. absurd bad)
+
+pub returns-in-Release-clause-barred : goal.returns-in-Release-clause-barred
+returns-in-Release-clause-barred g c = rw c.in-Release.is (λ bad. absurd bad)
+
+pub returns-in-Commit-clause-barred : goal.returns-in-Commit-clause-barred
+returns-in-Commit-clause-barred g c = rw c.in-Commit.is (λ bad. absurd bad)
+
+pub returns-in-Reopen-clause-barred : goal.returns-in-Reopen-clause-barred
+returns-in-Reopen-clause-barred g c = rw c.in-Reopen.is (λ bad. absurd bad)
+
+pub returns-in-Add-clause-barred : goal.returns-in-Add-clause-barred
+returns-in-Add-clause-barred g c = rw c.in-Add.is c.add.ensures.barred
+
+pub returns-in-MergeEnd-clause-barred : goal.returns-in-MergeEnd-clause-barred
+returns-in-MergeEnd-clause-barred g c = rw c.in-MergeEnd.is c.merge_end.ensures.barred
+
+pub returns-in-Add-clause-leaves : goal.returns-in-Add-clause-leaves
+returns-in-Add-clause-leaves g c = rw c.in-Add.is (leaves_any c.add.result)
+
+pub returns-in-Delete-clause-leaves : goal.returns-in-Delete-clause-leaves
+returns-in-Delete-clause-leaves g c = rw c.in-Delete.is (leaves_any c.delete.result)
+
+pub returns-in-DeleteBox-clause-leaves : goal.returns-in-DeleteBox-clause-leaves
+returns-in-DeleteBox-clause-leaves g c = rw c.in-DeleteBox.is (leaves_any c.delete_box.result)
+
+pub returns-in-Polygon-clause-leaves : goal.returns-in-Polygon-clause-leaves
+returns-in-Polygon-clause-leaves g c = rw c.in-Polygon.is (leaves_any c.find_in.result)
+
+pub returns-in-Nearest-clause-leaves : goal.returns-in-Nearest-clause-leaves
+returns-in-Nearest-clause-leaves g c = rw c.in-Nearest.is (leaves_any c.nearest.result)
+
+pub returns-in-Snapshot-clause-leaves : goal.returns-in-Snapshot-clause-leaves
+returns-in-Snapshot-clause-leaves g c = rw c.in-Snapshot.is (leaves_any c.snapshot.result)
+
+pub returns-in-Release-clause-leaves : goal.returns-in-Release-clause-leaves
+returns-in-Release-clause-leaves g c = rw c.in-Release.is (leaves_any c.release.result)

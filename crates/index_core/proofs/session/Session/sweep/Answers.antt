@@ -61,3 +61,6 @@ sweep-requires g c = (
   λ e. saved_some _ _ (c.requires.saved.0)
       (ap (λ (u : SessionData). u.set.saved) c.self.view_is ∙ c.requires.saved.1) e,
 )
+
+pub returns-clause-unread : goal.returns-clause-unread
+returns-clause-unread g c = c.sweep.ensures.unread
