@@ -1,6 +1,8 @@
 -- How a command that is done at once ends.
 use Rattle.std.proofs.Common.{◌≡◌, ◌==◌, ◌++◌, ℕ, Bool, true, false, cond, List, [], Result, Ok, Err, IfOk, OnErr, OnOk, IsErrOf, refl, sym, ap, ◌∙◌, subst, arith}
+use Rattle.std.proofs.lemmas.Bool.{false≢true}
 use Rattle.std.specs.Prelude.{IsOk}
+use mir.Val.{bool_byte}
 use Rattle.outer_io.specs.Counts.{Rose}
 use Rattle.outer_io.specs.Files.{Files}
 use Rattle.outer_io.specs.Parts.{WritesPart}
@@ -21,13 +23,22 @@ use Rattle.bkd_top.specs.declared.status.Status.{Status}
 use Rattle.bkd_top.specs.declared.status.Status.TheVariants as status
 
 -- the status of a command that is done, or refused
-done_status : (is_refused : Bool) → Status
+abbrev done_status : (is_refused : Bool) → Status
 done_status true = status.SomeRefused 1
 done_status false = status.Done
 
 status_done : (is_refused : Bool) → status_of (Ok (cond is_refused 1 0)) ≡ done_status is_refused
 status_done true = refl
 status_done false = refl
+
+byte_counts : (b : Bool) (m : ℕ) → m ≡ bool_byte b → m ≡ cond b 1 0
+byte_counts true m is = is
+byte_counts false m is = is
+
+-- the count that was handed on is that of one refusal, or none
+pub count_sent : (is_refused : Bool) (m : ℕ) (r : Result ℕ Stop) → m ≡ bool_byte is_refused → IfOk r (λ n. n ≡ m) → IfOk r (λ n. n ≡ cond is_refused 1 0)
+count_sent is_refused m (Ok n) is known = known ∙ byte_counts is_refused m is
+count_sent is_refused m (Err e) is known = tt
 
 module _ (told : Type 0) (b : Before) (a : Answer) (files : Files) (text new : List ℕ) where
   told_done : (is_refused : Bool) → DoesWhole files b.state a [] text (Ok is_refused) → (told → new ≡ b.written ++ text) → EndsWhole told b a files new (done_status is_refused)
@@ -59,7 +70,7 @@ whole_undamaged files stored a before after (Err (page.Damaged d)) does = does
 -- what holds where it is done
 pub of_done : {T E P : Type 0} (r : Result T E) → IsOk r → OnOk r P → P
 of_done (Ok x) is p = p
-of_done (Err e) is p = absurd is
+of_done (Err e) is p = absurd (false≢true is)
 
 -- its text is one that began empty
 pub does_from : (files : Files) (stored : State) (a : Answer) (before after text : List ℕ) (r : Result Bool PageFault) → before ≡ [] → text ≡ after → DoesWhole files stored a before after r → DoesWhole files stored a [] text r

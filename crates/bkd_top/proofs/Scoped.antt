@@ -66,7 +66,7 @@ scope_holds files c s says scope =
 pub none_scope : (files : Files) (s : Scope) → files Commit ≡ None → IsScope files s → s ≡ record { state = None; heads = [] }
 none_scope files s none scope = by s.state s.heads scope.stored scope.heads
   where
-    by : (state : State) (heads : List Head) → IsStored files state → AreStoredHeads files state heads → record { state = state; heads = heads } ≡ record { state = None; heads = [] }
+    by : (state : State) (heads : List Head) → IsStored files state → AreStoredHeads files state heads → ◌≡◌ {A = Scope} (record { state = state; heads = heads }) (record { state = None; heads = [] })
     by None heads stored is = λ i. record { state = None; heads = is i }
     by (Some j) heads stored is = let there = (file_there (files Commit) stored.commit stored.holds.commit).0 in absurd cc
 

@@ -4,7 +4,7 @@ use Rattle.std.proofs.lemmas.Bool.Decides.{nat_tests}
 use Rattle.outer_io.specs.Parts.{WritesPart}
 use Rattle.page_cache.specs.declared.faults.PageFault.{PageFault}
 use Rattle.page_cache.specs.declared.faults.PageFault.TheVariants as page
-use Rattle.page_cache.specs.Evidence.{NotDamaged}
+use Rattle.page_cache.specs.Evidence.{FaultShows}
 use Rattle.explain_queries.specs.Explained.{Scope, Told, TellsLine, TellsLines, followed_by, silence}
 use Rattle.explain_queries.specs.Explains.{IsTold}
 use Rattle.bkd_top.specs.Answers.{IsSent}
@@ -184,7 +184,7 @@ sent_line told s line bytes before text old new is_refused empty is (Err stop.Me
 sent_line told s line bytes before text old new is_refused empty is (Err (stop.Damaged d)) known only sent = let e : IsErrOf {T = Bool} (Err (stop.Damaged d)) stop.SinkFault = only in absurd cc
 
 -- nothing was sent of it
-pub left_line : {T : Type 0} (told : Type 0) (s : Scope) (line : ℕ) (bytes old new : List ℕ) (fault : PageFault) → NotDamaged {T = T} (Err fault) → (r : Result Bool Stop) → r ≡ Err (stop_of fault) → new ≡ old
+pub left_line : (told : Type 0) (s : Scope) (line : ℕ) (bytes old new : List ℕ) (fault : PageFault) → FaultShows (λ _. ⊥) fault → (r : Result Bool Stop) → r ≡ Err (stop_of fault) → new ≡ old
     → SendsLine told s line bytes old new r
 left_line told s line bytes old new page.Failed whole r is same = subst (SendsLine told s line bytes old new) (sym is) (λ t. same)
 left_line told s line bytes old new page.Memory whole r is same = subst (SendsLine told s line bytes old new) (sym is) (λ t. same)
@@ -194,7 +194,7 @@ left_line told s line bytes old new (page.Damaged d) whole r is same = absurd wh
 pub none_told : (told : Type 0) (s : Scope) (line : ℕ) (lines : List (List ℕ)) (old new : List ℕ) → new ≡ old → TellsSome told s line lines old new
 none_told told s line lines old new same = record { done = []; rest = lines; whole = refl; of_done = silence; tells = refl; text = λ t. same ∙ sym (append-nil old) }
 
-pub unread_ends : {T : Type 0} (told : Type 0) (s : Scope) (line refused : ℕ) (lines : List (List ℕ)) (old new : List ℕ) (fault : PageFault) → NotDamaged {T = T} (Err fault) → (r : Result ℕ Stop) → r ≡ Err (stop_of fault)
+pub unread_ends : (told : Type 0) (s : Scope) (line refused : ℕ) (lines : List (List ℕ)) (old new : List ℕ) (fault : PageFault) → FaultShows (λ _. ⊥) fault → (r : Result ℕ Stop) → r ≡ Err (stop_of fault)
     → new ≡ old → EndsTold told s line refused lines old new r
 unread_ends told s line refused lines old new page.Failed whole r is same = subst (EndsTold told s line refused lines old new) (sym is) (none_told told s line lines old new same)
 unread_ends told s line refused lines old new page.Memory whole r is same = subst (EndsTold told s line refused lines old new) (sym is) (none_told told s line lines old new same)

@@ -3,6 +3,7 @@ use Rattle.std.proofs.Common.{◌≡◌, ◌≤◌, ◌+◌, ◌/◌, length, No
 use Rattle.outer_io.specs.declared.file_name.FileName.TheVariants.{Commit}
 use Rattle.outer_io.specs.Files.{Files, bytes_of}
 use Rattle.commit_list.specs.CommitFiles.{IsCommitFile}
+use Rattle.script_lang.specs.Lines.{lines_of}
 use Rattle.stored_index.specs.Opening.{segments_pages}
 use Rattle.explain_queries.specs.Explained.{IsScope, Scope}
 use Rattle.bkd_top.specs.Commands.{EndsTold}
@@ -14,7 +15,7 @@ use Rattle.bkd_top.proofs.explain.explain_lines.Goals as goal
 
 pub returns-in-Ok-None-clause-ends : goal.returns-in-Ok-None-clause-ends
 returns-in-Ok-None-clause-ends g c = λ told s scope.
-    subst (λ (q : Scope). EndsTold (IsTrue g.K.Sink.told) q 1 0 _ _ _ c.explain_none.result) (sym (none_scope _ s (rw c.in-Ok-None.field-0-is at (c.in-Ok-None.ensures.found told)) scope)) c.explain_none.ensures.ends
+    subst (λ (q : Scope). EndsTold (IsTrue g.K.Sink.told) q 1 0 (lines_of c.args.lines.now) (g.K.Sink.written c.args.out.now) (g.K.Sink.written c.explain_none.new.out) c.explain_none.result) (sym (none_scope (g.F.Pages.files c.args.folder.now) s (rw c.in-Ok-None.field-0-is at (c.in-Ok-None.ensures.found told)) scope)) c.explain_none.ensures.ends
 
 pub returns-in-Ok-None-clause-files : goal.returns-in-Ok-None-clause-files
 returns-in-Ok-None-clause-files g c = c.in-Ok-None.ensures.files
@@ -40,7 +41,7 @@ returns-in-Ok-Some-clause-reads g c = λ told pages opening s scope t tells.
     let same = c.in-Ok-Some.ensures.files told in
     let says = rw c.in-Ok-Some.field-0-is at (c.in-Ok-Some.ensures.found told) in
     let first = c.in-Ok-Some.ensures.most told c.in-Ok-Some.commit says in
-    let is = opening_is _ c.in-Ok-Some.commit s pages says scope opening in
+    let is = opening_is (g.F.Pages.files c.args.folder.now) c.in-Ok-Some.commit s pages says scope opening in
     let few = subst (λ (f : Files). g.F.Pages.reads c.explain_stored.new.folder ≤ g.F.Pages.reads c.read_commit.new.folder + segments_pages f c.in-Ok-Some.commit.listed s.heads + t.touched) same
     (c.explain_stored.ensures.reads told (subst (λ (f : Files). IsCommitFile (bytes_of (f Commit)) c.in-Ok-Some.commit) (sym same) says) s (subst (λ (f : Files). IsScope f s) (sym same) scope) t tells) in
     omega (arith, first, is, few)
@@ -50,14 +51,14 @@ returns-in-Ok-Some-clause-cause g c = cause_from _ _ _ _ _ _ _ c.in-Ok-Some.ensu
 
 pub returns-in-Err-clause-ends : goal.returns-in-Err-clause-ends
 returns-in-Err-clause-ends g c = λ told s scope.
-    unread_ends (IsTrue g.K.Sink.told) s 1 0 _ _ _ c.in-Err.fault (not_damaged _ s.state scope.stored (c.in-Err.ensures.absent told) (c.in-Err.ensures.whole told)) c.stopped.result c.stopped.ensures refl
+    unread_ends (IsTrue g.K.Sink.told) s 1 0 _ _ _ c.in-Err.fault (not_damaged (g.F.Pages.files c.args.folder.now) s.state scope.stored (c.in-Err.ensures.absent told) (c.in-Err.ensures.whole told)) c.stopped.result c.stopped.ensures refl
 
 pub returns-in-Err-clause-files : goal.returns-in-Err-clause-files
 returns-in-Err-clause-files g c = c.in-Err.ensures.files
 
 pub returns-in-Err-clause-reads : goal.returns-in-Err-clause-reads
 returns-in-Err-clause-reads g c = λ told pages opening s scope t tells.
-    let few = commit_few _ s pages _ _ scope opening (c.in-Err.ensures.unread told) (c.in-Err.ensures.most told) in omega (arith, few)
+    let few = commit_few (g.F.Pages.files c.args.folder.now) s pages (g.F.Pages.reads c.args.folder.now) (g.F.Pages.reads c.read_commit.new.folder) scope opening (c.in-Err.ensures.unread told) (c.in-Err.ensures.most told) in omega (arith, few)
 
 pub returns-in-Err-clause-cause : goal.returns-in-Err-clause-cause
 returns-in-Err-clause-cause g c = fault_cause _ _ _ c.in-Err.fault c.in-Err.ensures.cause c.stopped.result c.stopped.ensures

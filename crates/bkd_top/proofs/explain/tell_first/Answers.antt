@@ -1,5 +1,5 @@
 -- What is told of a line is sent.
-use Rattle.std.proofs.Common.{IsTrue, refl}
+use Rattle.std.proofs.Common.{Bool, IsTrue, refl}
 use Rattle.page_cache.specs.declared.faults.PageFault.TheVariants as page
 use Rattle.index_core.proofs.Answering.{no_cause}
 use Rattle.bkd_top.proofs.Lined.{fault_cause, page_memory, send_cause, sent_as}
@@ -18,4 +18,4 @@ pub returns-in-Err-clause-ends : goal.returns-in-Err-clause-ends
 returns-in-Err-clause-ends g c = λ sink. refl
 
 pub returns-in-Err-clause-cause : goal.returns-in-Err-clause-cause
-returns-in-Err-clause-cause g c faults = fault_cause faults faults _ page.Memory (page_memory faults) _ refl
+returns-in-Err-clause-cause g c faults = fault_cause {S = Bool} faults faults _ page.Memory (page_memory faults) _ refl
