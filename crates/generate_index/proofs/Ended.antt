@@ -131,3 +131,7 @@ pub ends_unread : {T : Type 0} (old new : Files) (state : State) (answer : Answe
     → IsStored old state → DoesWhole new state answer before after r
 ends_unread {T = T} old new state answer before after fault r is whole same h =
     subst (DoesWhole new state answer before after) (sym is) (does_fault new state answer before after fault (other {T = T} fault whole) (inl (subst (λ (f : Files). IsStored f state) (sym same) h)))
+
+-- where no file changed nothing is listed anew
+pub none_anew : (old new : Files) → new ≡ old → HasNewCanonical old new
+none_anew old new same c says l inside apart head has = absurd (apart c (subst (λ (f : Files). IsCommitFile (bytes_of (f Commit)) c) same says) (l, inside, refl))

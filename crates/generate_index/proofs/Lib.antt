@@ -1,3 +1,4 @@
 pub mod Fewer
 pub mod Making
+pub mod Sums
 pub mod Ended

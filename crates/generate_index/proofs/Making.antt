@@ -65,7 +65,7 @@ makes_stopped {T = T} {U = U} told Before After Later a b fault r is makes = sub
   whole = λ t before. to_other fault (makes.whole t before);
 })
   where
-    to_other : (f : PageFault) → NotDamaged (Err {X = T} f) → NotDamaged (Err {X = U} f)
+    to_other : (f : PageFault) → NotDamaged {T = T} (Err f) → NotDamaged {T = U} (Err f)
     to_other page.Failed whole = tt
     to_other (page.Damaged d) whole = whole
     to_other page.Memory whole = tt

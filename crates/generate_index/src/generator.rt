@@ -197,6 +197,8 @@ fn ask_boxes<R: Threads + Sync, F: Folder, G: Gate>(
     ensures drawn { (seed n : ℕ) → draws.old ≡ draw seed (2 * n) → OnOk result (draws.new ≡ draw seed (2 * (n + 64))) }
 {
     sums_are_small();
+    // so many documents are few
+    let _given = session.given();
     let mut hits: u64 = 0;
     let mut boxes = 0;
     'boxes: while boxes < BOXES {

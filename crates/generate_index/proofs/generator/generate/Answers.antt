@@ -3,11 +3,12 @@ use Rattle.std.proofs.Common.{OnOk, refl, sym, ap, subst, ◌∙◌}
 use Rattle.outer_io.specs.declared.file_name.FileName.TheVariants.{Commit}
 use Rattle.outer_io.specs.Files.{Files}
 use Rattle.index_core.specs.Whole.{DoesWhole, HasNewCanonical}
+use Rattle.index_core.proofs.Answering.{cause_then, done_cause, fault_to}
 use Rattle.index_core.proofs.Wholes.{state_undamaged}
 use Rattle.index_model.specs.State.{State}
 use Rattle.stored_index.specs.Stored.{IsStored}
 use Rattle.drawn_points.specs.Generated.{generated}
-use Rattle.generate_index.proofs.Ended.{commit_there, ends_there, ends_unread, none_there}
+use Rattle.generate_index.proofs.Ended.{commit_there, ends_there, ends_unread, none_anew, none_there}
 use Rattle.generate_index.proofs.generator.generate.Goals as goal
 
 pub returns-in-Ok-Some-clause-generates : goal.returns-in-Ok-Some-clause-generates
@@ -32,3 +33,15 @@ returns-in-Ok-None-clause-canon g c = λ told state h.
 pub returns-in-Err-clause-generates : goal.returns-in-Err-clause-generates
 returns-in-Err-clause-generates g c = λ told state h.
     ends_unread _ _ state _ _ _ c.in-Err.fault _ refl (state_undamaged _ state h (c.in-Err.ensures.absent told) (c.in-Err.ensures.whole told)) (c.in-Err.ensures.files told) h
+
+pub returns-in-Ok-Some-clause-canon : goal.returns-in-Ok-Some-clause-canon
+returns-in-Ok-Some-clause-canon g c = λ told state h. none_anew _ _ (c.in-Ok-Some.ensures.files told)
+
+pub returns-in-Ok-Some-clause-cause : goal.returns-in-Ok-Some-clause-cause
+returns-in-Ok-Some-clause-cause g c = done_cause _ _ _ true c.in-Ok-Some.ensures.cause
+
+pub returns-in-Ok-None-clause-cause : goal.returns-in-Ok-None-clause-cause
+returns-in-Ok-None-clause-cause g c = cause_then _ _ _ _ c.in-Ok-None.ensures.cause.fine c.generate_first.ensures.cause
+
+pub returns-in-Err-clause-cause : goal.returns-in-Err-clause-cause
+returns-in-Err-clause-cause g c = fault_to _ _ c.in-Err.fault c.in-Err.ensures.cause
