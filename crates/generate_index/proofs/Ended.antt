@@ -1,5 +1,5 @@
 -- How generating ends, by what its calls answered.
-use Rattle.std.proofs.Common.{◌≡◌, ◌+◌, ◌++◌, ℕ, Bool, false, true, List, [], length, Some, None, Result, Ok, Err, refl, sym, ap, subst, ◌∙◌, ◌⊎◌, inl, inr, ⊎_elim, arith}
+use Rattle.std.proofs.Common.{◌≡◌, ◌+◌, ◌++◌, ℕ, Bool, false, true, List, [], length, Some, None, Result, Ok, Err, refl, sym, ap, subst, ◌∙◌, inl, inr, ⊎_elim, arith}
 use Rattle.std.specs.Prelude.{codes, decimal}
 use Rattle.std.specs.List.{Contains}
 use Rattle.outer_io.specs.declared.file_name.FileName.TheVariants.{Commit}
@@ -45,10 +45,10 @@ created seed leaf files s faults is all empty none seen guards bare = record {
   bare = bare;
 }
 
-other : {T : Type 0} (f : PageFault) → NotDamaged {T = T} (Err f) → NotDamaged {T = Bool} (Err f)
-other page.Failed whole = tt
-other page.Memory whole = tt
-other (page.Damaged d) whole = whole
+other : (T : Type 0) (f : PageFault) → NotDamaged {T = T} (Err f) → NotDamaged {T = Bool} (Err f)
+other T page.Failed whole = tt
+other T page.Memory whole = tt
+other T (page.Damaged d) whole = whole
 
 -- nothing is stored yet
 still_none : {T : Type 0} (told : Type 0) (seed n : ℕ) (a b : Spot) (r : Result T PageFault) → Makes told (IsMade seed 0 0) (IsMade seed n n) a b r → told → IsCreated seed a → IsStored b.files None
@@ -58,13 +58,17 @@ still_none told seed n a b r makes t new = stored_still a.files b.files None (ma
 pub ends_early : {T : Type 0} (told : Type 0) (seed n : ℕ) (a b : Spot) (answer : Answer) (before after : List ℕ) (fault : PageFault) (r : Result Bool PageFault) → r ≡ Err fault
     → Makes {T = T} told (IsMade seed 0 0) (IsMade seed n n) a b (Err fault) → told → IsCreated seed a → DoesWhole b.files None answer before after r
 ends_early {T = T} told seed n a b answer before after fault r is makes t new = subst (DoesWhole b.files None answer before after) (sym is)
-    (does_fault b.files None answer before after fault (other {T = T} fault (makes.whole t new.made)) (inl (still_none told seed n a b (Err fault) makes t new)))
+    (does_fault b.files None answer before after fault (other T fault (makes.whole t new.made)) (inl (still_none told seed n a b (Err fault) makes t new)))
 
 -- want of memory after that
 pub ends_unsaid : {T : Type 0} (told : Type 0) (seed n : ℕ) (a b : Spot) (x : T) (answer : Answer) (before after : List ℕ) (r : Result Bool PageFault) → r ≡ Err page.Memory
     → Makes told (IsMade seed 0 0) (IsMade seed n n) a b (Ok x) → told → IsCreated seed a → DoesWhole b.files None answer before after r
 ends_unsaid told seed n a b x answer before after r is makes t new =
     subst (DoesWhole b.files None answer before after) (sym is) (does_fault b.files None answer before after page.Memory tt (inl (still_none told seed n a b (Ok x) makes t new)))
+
+-- want of memory where the state is stored
+pub ends_untold : (files : Files) (state : State) (answer : Answer) (before after : List ℕ) (r : Result Bool PageFault) → r ≡ Err page.Memory → IsStored files state → DoesWhole files state answer before after r
+ends_untold files state answer before after r is h = subst (DoesWhole files state answer before after) (sym is) (does_fault files state answer before after page.Memory tt (inl h))
 
 -- want of memory before
 pub ends_uncreated : (files : Files) (answer : Answer) (before after : List ℕ) (r : Result Bool PageFault) → r ≡ Err page.Memory → files Commit ≡ None → DoesWhole files None answer before after r
@@ -77,7 +81,7 @@ unfolding generated
 ends_uncommitted {T = T} told seed n a b c x before after fault r is law makes commits t new =
     let at = makes.made t new.made in
     subst (DoesWhole c.files None (generated None n seed) before after) (sym is)
-    (does_fault c.files None (generated None n seed) before after fault (other {T = T} fault (commits.whole t (drawn_index seed n n) at))
+    (does_fault c.files None (generated None n seed) before after fault (other T fault (commits.whole t (drawn_index seed n n) at))
     (⊎_elim
     (λ same. inl (stored_still b.files c.files None same (still_none told seed n a b (Ok x) makes t new)))
     (λ there. inr (subst (IsStored c.files) (sym law) there))
@@ -127,10 +131,10 @@ none_there files None none h = refl
 none_there files (Some i) none h = absurd (commit_there files h.commit h.holds.commit none)
 
 -- the commit was not read
-pub ends_unread : {T : Type 0} (old new : Files) (state : State) (answer : Answer) (before after : List ℕ) (fault : PageFault) (r : Result Bool PageFault) → r ≡ Err fault → NotDamaged {T = T} (Err fault) → new ≡ old
+pub ends_unread : (T : Type 0) (old new : Files) (state : State) (answer : Answer) (before after : List ℕ) (fault : PageFault) (r : Result Bool PageFault) → r ≡ Err fault → NotDamaged {T = T} (Err fault) → new ≡ old
     → IsStored old state → DoesWhole new state answer before after r
-ends_unread {T = T} old new state answer before after fault r is whole same h =
-    subst (DoesWhole new state answer before after) (sym is) (does_fault new state answer before after fault (other {T = T} fault whole) (inl (subst (λ (f : Files). IsStored f state) (sym same) h)))
+ends_unread T old new state answer before after fault r is whole same h =
+    subst (DoesWhole new state answer before after) (sym is) (does_fault new state answer before after fault (other T fault whole) (inl (subst (λ (f : Files). IsStored f state) (sym same) h)))
 
 -- where no file changed nothing is listed anew
 pub none_anew : (old new : Files) → new ≡ old → HasNewCanonical old new

@@ -1,5 +1,5 @@
 -- A session that makes the index, call after call.
-use Rattle.std.proofs.Common.{◌≡◌, ◌+◌, ℕ, List, [], ◌∷◌, ◌++◌, Result, Ok, Err, OnOk, refl, sym, ap, subst, ◌∙◌, arith, ℤ}
+use Rattle.std.proofs.Common.{◌≡◌, ◌+◌, ℕ, List, [], ◌∷◌, ◌++◌, Result, Ok, Err, OnOk, refl, sym, ap, subst, ◌∙◌, ℤ}
 use Rattle.outer_io.specs.Files.{Files}
 use Rattle.page_cache.specs.declared.faults.PageFault.{PageFault}
 use Rattle.page_cache.specs.declared.faults.PageFault.TheVariants as page
@@ -9,7 +9,6 @@ use Rattle.documents.specs.Documents.{Document}
 use Rattle.index_model.specs.State.{Index, new_index}
 use Rattle.stored_index.specs.Kept.{SameKept}
 use Rattle.stored_index.proofs.KeptFiles.{kept_after, kept_itself}
-use Rattle.segment_view.specs.Parts.{Part}
 use Rattle.segment_set.specs.Seen.{Sees}
 use Rattle.index_core.specs.Sessions.{Guards, SessionData}
 use Rattle.index_core.specs.Effects.{BringsCanonical}
@@ -125,3 +124,11 @@ makes_ok told Before After a b x y makes = record {
   cause = record { later = makes.cause.later; fine = makes.cause.fine; failed = λ e. absurd cc };
   whole = λ t before. tt;
 }
+
+-- by another name of the number of documents
+pub makes_for : {T : Type 0} (told : Type 0) (Before : At) (seed n m : ℕ) (a b : Spot) (r : Result T PageFault) → n ≡ m → Makes told Before (IsMade seed n 0) a b r → Makes told Before (IsMade seed m 0) a b r
+makes_for told Before seed n m a b r same makes = subst (λ k. Makes told Before (IsMade seed k 0) a b r) same makes
+
+-- by another name of the seed
+pub makes_by : {T : Type 0} (told : Type 0) (x seed n : ℕ) (a b : Spot) (r : Result T PageFault) → x ≡ seed → Makes told (IsMade x 0 0) (IsMade x n 0) a b r → Makes told (IsMade seed 0 0) (IsMade seed n 0) a b r
+makes_by told x seed n a b r same makes = subst (λ k. Makes told (IsMade k 0 0) (IsMade k n 0) a b r) same makes

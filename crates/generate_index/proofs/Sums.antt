@@ -1,7 +1,7 @@
 -- The sums of what drawn queries find, one query after the other. They are small, so they never stand still at the greatest number.
-use Rattle.std.proofs.Common.{◌≡◌, ◌≤◌, ◌<◌, ◌+◌, ◌-◌, ◌*◌, ◌^◌, ℕ, min, List, [], ◌∷◌, length, take, get_or, filter, refl, sym, ap, subst, ◌∙◌, arith, ℤ}
+use Rattle.std.proofs.Common.{◌≡◌, ◌≤◌, ◌<◌, ◌+◌, ◌-◌, ◌*◌, ◌^◌, ℕ, min, List, [], ◌∷◌, length, take, get_or, refl, ap, subst, ◌∙◌, arith, ℤ}
 use Rattle.std.proofs.Math.Nat.{mul-le-mul}
-use Rattle.std.specs.List.{fold, range_with_len, sum_by}
+use Rattle.std.specs.List.{fold, sum_by}
 use Rattle.std.proofs.lemmas.List.FromFn.{length-map-range_with_len, sum_by-map-range_with_len_more}
 use Rattle.std.proofs.lemmas.List.Sums.{count_by-le-length, length-filter, sum_by_more, sum_by_more_le}
 use Rattle.point_codec.specs.Points.{Region, in_box}
@@ -9,7 +9,7 @@ use Rattle.point_codec.specs.declared.entries.Near.{Near}
 use Rattle.documents.specs.Documents.{Document, hits}
 use Rattle.documents.specs.Nearest.{found_of, nearest}
 use Rattle.drawn_points.specs.Draws.{point, points}
-use Rattle.drawn_points.specs.Generated.{box_hits, box_round, document, documents, kept, near_sum, stays}
+use Rattle.drawn_points.specs.Generated.{box_hits, box_round, document, documents, near_sum, stays}
 use Rattle.generate_index.specs.Generates.{made_docs}
 
 -- ---- distances

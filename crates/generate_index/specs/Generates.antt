@@ -1,6 +1,5 @@
 -- A session while it generates an index.
 use Rattle.std.specs.Prelude.{ℕ, List, Result, OnOk}
-use Rattle.outer_io.specs.Files.{Files}
 use Rattle.page_cache.specs.declared.faults.PageFault.{PageFault}
 use Rattle.page_cache.specs.Causes.{HasPageCause}
 use Rattle.page_cache.specs.Evidence.{NotDamaged}
@@ -9,7 +8,7 @@ use Rattle.index_model.specs.State.{Index, new_index}
 use Rattle.stored_index.specs.Kept.{SameKept}
 use Rattle.segment_set.specs.Seen.{Sees}
 use Rattle.index_core.specs.Effects.{BringsCanonical}
-use Rattle.index_core.specs.Sessions.{SessionData, Guards}
+use Rattle.index_core.specs.Sessions.{Guards}
 use Rattle.index_core.specs.Whole.{Spot}
 use Rattle.drawn_points.specs.Generated.{documents, kept}
 

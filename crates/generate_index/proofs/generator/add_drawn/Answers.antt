@@ -1,16 +1,16 @@
 -- A document comes for each point that is drawn.
-use Rattle.std.proofs.Common.{◌≡◌, ◌≤◌, ◌+◌, ◌*◌, ◌^◌, Err, refl, sym, ap, subst, ◌∙◌, lit<, arith, IsTrue}
+use Rattle.std.proofs.Common.{◌≡◌, ◌+◌, ◌*◌, Err, refl, ap, ◌∙◌, lit<, arith}
 use Rattle.std.proofs.lemmas.Result.{err_from_is_err_and}
 use Rattle.page_cache.specs.declared.faults.PageFault.{PageFault}
 use Rattle.drawn_points.specs.Draws.{draw}
-use Rattle.generate_index.specs.Generates.{IsMade, Makes}
-use Rattle.generate_index.proofs.Making.{makes_add, makes_none, makes_stopped, makes_then}
+use Rattle.generate_index.proofs.Making.{makes_add, makes_for, makes_none, makes_stopped, makes_then}
 use Rattle.generate_index.proofs.generator.add_drawn.Goals as goal
 
 pub add_point-requires-after_bounds : goal.add_point-requires-after_bounds
 add_point-requires-after_bounds g c κs = λ _. (lit< tt, (lit< tt, omega (arith, c.adds.invariant.given, c.adds-test.true, c.requires.few)))
 
 pub adds-init : goal.adds-init
+unfolding draw
 adds-init g c = record { makes = makes_none _ _ _ tt; given = c.requires.none; drawn = refl; within = omega arith }
 
 pub adds-preserved : goal.adds-preserved
@@ -34,7 +34,7 @@ returns-in_err-add_point-clause-makes g c =
 pub returns-clause-makes : goal.returns-clause-makes
 returns-clause-makes g c =
     let all : c.adds.number ≡ c.args.docs = omega (arith, c.adds-test.false, c.adds.invariant.within) in
-    subst (λ n. Makes (IsTrue g.F.Pages.told) (IsMade c.args.draws.now 0 0) (IsMade c.args.draws.now n 0) _ _ _) all c.adds.invariant.makes
+    makes_for _ _ c.args.draws.now c.adds.number c.args.docs _ _ _ all c.adds.invariant.makes
 
 pub returns-clause-drawn : goal.returns-clause-drawn
 returns-clause-drawn g c =

@@ -1,5 +1,5 @@
 -- The hits of one box after the other.
-use Rattle.std.proofs.Common.{◌≡◌, ◌≤◌, ◌+◌, ◌*◌, ◌^◌, Err, refl, sym, ap, subst, ◌∙◌, arith, add-zero, List, length, IfOk}
+use Rattle.std.proofs.Common.{◌≡◌, ◌≤◌, ◌+◌, ◌*◌, ◌^◌, Err, refl, sym, ap, ◌∙◌, arith, add-zero, length}
 use Rattle.std.proofs.lemmas.Result.{err_from_is_err_and}
 use Rattle.page_cache.specs.declared.faults.PageFault.{PageFault}
 use Rattle.point_codec.specs.Points.{in_box}

@@ -10,7 +10,7 @@ use Rattle.generate_index.proofs.Fewer.{left_is}
 use Rattle.generate_index.proofs.generator.delete_tenths.Goals as goal
 
 pub deletes-init : goal.deletes-init
-deletes-init g c = record {
+deletes-init c = record {
   made = λ files faults seed before. before;
   live = λ files faults seed before. sym (ap length (c.documents_deleted.ensures.none seed c.args.docs) ∙ length-map-range_with_len (document seed) 0 c.args.docs);
   guards = λ files guards. guards;
@@ -19,13 +19,13 @@ deletes-init g c = record {
 }
 
 pub deletes-preserved : goal.deletes-preserved
-deletes-preserved g c = record {
+deletes-preserved c = record {
   made = λ files faults seed before.
       subst (λ (docs : List Document). Sees 2 files c.take_out-goes.new.self.set (record (drawn_index seed c.args.docs c.args.docs) { docs = docs })) (sym (c.documents_deleted.ensures.more seed c.args.docs c.deletes.number c.deletes.invariant.tenth))
       (c.take_out-goes.ensures.seen files (drawn_index seed c.args.docs c.deletes.number) (c.deletes.invariant.made files faults seed before));
   live = λ files faults seed before.
       let seen = c.deletes.invariant.made files faults seed before in
-      c.left.ensures
+      c.left-live.ensures
       ∙ left_is c.deletes.number c.deletes.live (kept c.deletes.number (documents seed c.args.docs)) c.take_out-goes.result seen.docs.ascend (c.take_out-goes.ensures.live files (drawn_index seed c.args.docs c.deletes.number) seen)
       (c.deletes.invariant.live files faults seed before)
       ∙ ap length (sym (c.documents_deleted.ensures.more seed c.args.docs c.deletes.number c.deletes.invariant.tenth));
@@ -35,16 +35,16 @@ deletes-preserved g c = record {
 }
 
 pub returns-clause-made : goal.returns-clause-made
-returns-clause-made g c files faults seed before =
+returns-clause-made c files faults seed before =
     subst (λ (docs : List Document). Sees 2 files c.deletes.session.set (record (drawn_index seed c.args.docs c.args.docs) { docs = docs }))
     (c.documents_deleted.ensures.all seed c.args.docs c.deletes.number c.deletes-test.false) (c.deletes.invariant.made files faults seed before)
 
 pub returns-clause-live : goal.returns-clause-live
-returns-clause-live g c files faults seed before =
+returns-clause-live c files faults seed before =
     c.deletes.invariant.live files faults seed before ∙ ap length (c.documents_deleted.ensures.all seed c.args.docs c.deletes.number c.deletes-test.false)
 
 pub returns-clause-guards : goal.returns-clause-guards
-returns-clause-guards g c = c.deletes.invariant.guards
+returns-clause-guards c = c.deletes.invariant.guards
 
 pub returns-clause-canon : goal.returns-clause-canon
-returns-clause-canon g c = c.deletes.invariant.canon
+returns-clause-canon c = c.deletes.invariant.canon

@@ -1,5 +1,5 @@
 -- Each distance is added.
-use Rattle.std.proofs.Common.{◌<◌, ◌^◌, List, sym, ap, subst, ◌∙◌}
+use Rattle.std.proofs.Common.{◌<◌, ◌^◌, sym, ap, subst, ◌∙◌}
 use Rattle.std.specs.List.{sum_by}
 use Rattle.std.proofs.lemmas.List.{take_all}
 use Rattle.point_codec.specs.declared.entries.Near.{Near}

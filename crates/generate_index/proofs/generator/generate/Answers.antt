@@ -1,27 +1,29 @@
 -- What the folder's commit says decides whether an index is made.
-use Rattle.std.proofs.Common.{OnOk, refl, sym, ap, subst, ◌∙◌}
+use Rattle.std.proofs.Common.{Bool, true, Err, OnOk, refl, sym, ap, subst, ◌∙◌}
+use Rattle.std.proofs.lemmas.Result.{err_from_is_err_and}
 use Rattle.outer_io.specs.declared.file_name.FileName.TheVariants.{Commit}
 use Rattle.outer_io.specs.Files.{Files}
+use Rattle.page_cache.specs.declared.faults.PageFault.{PageFault}
 use Rattle.index_core.specs.Whole.{DoesWhole, HasNewCanonical}
-use Rattle.index_core.proofs.Answering.{cause_then, done_cause, fault_to}
+use Rattle.index_core.proofs.Answering.{cause_then, done_cause, fault_to, memory_cause}
 use Rattle.index_core.proofs.Wholes.{state_undamaged}
 use Rattle.index_model.specs.State.{State}
 use Rattle.stored_index.specs.Stored.{IsStored}
 use Rattle.drawn_points.specs.Generated.{generated}
-use Rattle.generate_index.proofs.Ended.{commit_there, ends_there, ends_unread, none_anew, none_there}
+use Rattle.generate_index.proofs.Ended.{commit_there, ends_there, ends_unread, ends_untold, none_anew, none_there}
 use Rattle.generate_index.proofs.generator.generate.Goals as goal
 
 pub returns-in-Ok-Some-clause-generates : goal.returns-in-Ok-Some-clause-generates
 returns-in-Ok-Some-clause-generates g c = λ told state h.
     let same = c.in-Ok-Some.ensures.files told in
-    ends_there _ state c.args.docs c.args.seed _ _ (λ none. commit_there _ _ (rw c.in-Ok-Some.field-0-is at (c.in-Ok-Some.ensures.found told)) (ap (λ (f : Files). f Commit) (sym same) ∙ none))
-    (subst (λ (f : Files). IsStored f state) (sym same) h) c.in_ok-put_exists.ensures
+    ends_there (g.F.Pages.files c.read_commit.new.folder) state c.args.docs c.args.seed _ _ (λ none. commit_there (g.F.Pages.files c.args.folder.now) _ (rw c.in-Ok-Some.field-0-is at (c.in-Ok-Some.ensures.found told)) (ap (λ (f : Files). f Commit) (sym same) ∙ none))
+    (subst (λ (f : Files). IsStored f state) (sym same) h) c.in_ok-put_exists-in-Ok-Some.ensures
 
 pub returns-in-Ok-None-clause-generates : goal.returns-in-Ok-None-clause-generates
 returns-in-Ok-None-clause-generates g c = λ told state h.
     let same = c.in-Ok-None.ensures.files told in
     let none = rw c.in-Ok-None.field-0-is at (c.in-Ok-None.ensures.found told) in
-    subst (λ (s : State). DoesWhole (g.F.Pages.files c.generate_first.new.folder) s (generated s c.args.docs c.args.seed) _ _ c.generate_first.result) (sym (none_there _ state none h))
+    subst (λ (s : State). DoesWhole (g.F.Pages.files c.generate_first.new.folder) s (generated s c.args.docs c.args.seed) c.args.text.now.items c.generate_first.new.text.items c.generate_first.result) (sym (none_there (g.F.Pages.files c.args.folder.now) state none h))
     (c.generate_first.ensures.generates told (ap (λ (f : Files). f Commit) same ∙ none))
 
 pub returns-in-Ok-None-clause-canon : goal.returns-in-Ok-None-clause-canon
@@ -30,9 +32,9 @@ returns-in-Ok-None-clause-canon g c = λ told state h.
     subst (λ (f : Files). OnOk c.generate_first.result (HasNewCanonical f (g.F.Pages.files c.generate_first.new.folder))) same
     (c.generate_first.ensures.canon told (ap (λ (f : Files). f Commit) same ∙ rw c.in-Ok-None.field-0-is at (c.in-Ok-None.ensures.found told)))
 
-pub returns-in-Err-clause-generates : goal.returns-in-Err-clause-generates
-returns-in-Err-clause-generates g c = λ told state h.
-    ends_unread _ _ state _ _ _ c.in-Err.fault _ refl (state_undamaged _ state h (c.in-Err.ensures.absent told) (c.in-Err.ensures.whole told)) (c.in-Err.ensures.files told) h
+pub returns-clause-generates : goal.returns-clause-generates
+returns-clause-generates g c = λ told state h.
+    ends_unread Bool (g.F.Pages.files c.args.folder.now) (g.F.Pages.files c.read_commit.new.folder) state (generated state c.args.docs c.args.seed) c.args.text.now.items c.args.text.now.items c.in-Err.fault _ refl (state_undamaged (g.F.Pages.files c.args.folder.now) state h (c.in-Err.ensures.absent told) (c.in-Err.ensures.whole told)) (c.in-Err.ensures.files told) h
 
 pub returns-in-Ok-Some-clause-canon : goal.returns-in-Ok-Some-clause-canon
 returns-in-Ok-Some-clause-canon g c = λ told state h. none_anew _ _ (c.in-Ok-Some.ensures.files told)
@@ -43,5 +45,15 @@ returns-in-Ok-Some-clause-cause g c = done_cause _ _ _ true c.in-Ok-Some.ensures
 pub returns-in-Ok-None-clause-cause : goal.returns-in-Ok-None-clause-cause
 returns-in-Ok-None-clause-cause g c = cause_then _ _ _ _ c.in-Ok-None.ensures.cause.fine c.generate_first.ensures.cause
 
-pub returns-in-Err-clause-cause : goal.returns-in-Err-clause-cause
-returns-in-Err-clause-cause g c = fault_to _ _ c.in-Err.fault c.in-Err.ensures.cause
+pub returns-clause-cause : goal.returns-clause-cause
+returns-clause-cause g c = fault_to _ _ c.in-Err.fault c.in-Err.ensures.cause
+
+pub returns-in_err-put_exists-in-Ok-Some-clause-cause : goal.returns-in_err-put_exists-in-Ok-Some-clause-cause
+returns-in_err-put_exists-in-Ok-Some-clause-cause g c =
+    let p = err_from_is_err_and c.from_residual.result c.from_residual.ensures.1 in rw (p.1 ∙ ap (λ (e : PageFault). Err e) p.2) (memory_cause _ _ c.in-Ok-Some.ensures.cause.later)
+
+pub returns-in_err-put_exists-in-Ok-Some-clause-generates : goal.returns-in_err-put_exists-in-Ok-Some-clause-generates
+returns-in_err-put_exists-in-Ok-Some-clause-generates g c = λ told state h.
+    let p = err_from_is_err_and c.from_residual.result c.from_residual.ensures.1 in
+    ends_untold (g.F.Pages.files c.read_commit.new.folder) state (generated state c.args.docs c.args.seed) c.args.text.now.items c.put_exists.new.text.items _ (p.1 ∙ ap (λ (e : PageFault). Err e) p.2)
+    (subst (λ (f : Files). IsStored f state) (sym (c.in-Ok-Some.ensures.files told)) h)

@@ -1,38 +1,42 @@
 -- A session is created and filled, and what it makes is said and committed.
-use Rattle.std.proofs.Common.{◌≤◌, ◌+◌, ◌^◌, Err, false, ap, ◌∙◌, lit<, sym, arith}
+use Rattle.std.proofs.Common.{Err, None, false, ap, ◌∙◌, lit<, sym, arith}
 use Rattle.std.proofs.lemmas.Result.{err_from_is_err_and}
 use Rattle.page_cache.specs.declared.faults.PageFault.{PageFault}
 use Rattle.index_core.proofs.Answering.{cause_then, fault_to, memory_cause}
+use Rattle.drawn_points.specs.Generated.{generated}
 use Rattle.generate_index.proofs.Ended.{cause_done, created, ends_early, ends_made, ends_uncommitted, ends_uncreated, ends_unsaid, made_canon}
 use Rattle.generate_index.proofs.generator.generate_first.Goals as goal
 
 pub create-requires : goal.create-requires
 create-requires g c = (lit< tt, ((omega arith, omega arith), (omega (arith, c.greatest_leaf.ensures), omega (arith, c.greatest_leaf.ensures))))
 
-pub fill-requires-after_bounds : goal.fill-requires-after_bounds
-fill-requires-after_bounds g c κs = λ _. (lit< tt, (c.requires, sym (c.in_ok-session.ensures.seen (g.F.Pages.files c.args.folder.now)).given))
+pub fill-requires-clause-few : goal.fill-requires-clause-few
+fill-requires-clause-few g c κs within = c.requires
+
+pub fill-requires-clause-none : goal.fill-requires-clause-none
+fill-requires-clause-none g c κs within = sym (c.in_ok-session.ensures.seen (g.F.Pages.files c.args.folder.now)).given
 
 pub returns-in_err-session-clause-generates : goal.returns-in_err-session-clause-generates
 returns-in_err-session-clause-generates g c told none =
     let p = err_from_is_err_and c.from_residual.result c.from_residual.ensures.1 in
-    ends_uncreated _ _ _ _ _ (p.1 ∙ ap (λ (e : PageFault). Err e) p.2) none
+    ends_uncreated (g.F.Pages.files c.args.folder.now) (generated None c.args.docs c.args.seed) c.args.text.now.items c.args.text.now.items _ (p.1 ∙ ap (λ (e : PageFault). Err e) p.2) none
 
 pub returns-in_err-summary-clause-generates : goal.returns-in_err-summary-clause-generates
 returns-in_err-summary-clause-generates g c told none =
     let p = err_from_is_err_and c.from_residual-in_err-summary.result c.from_residual-in_err-summary.ensures.1 in
-    ends_early _ c.args.seed c.args.docs _ _ _ _ _ c.in_err-summary.field-0.0 _ (p.1 ∙ ap (λ (e : PageFault). Err e) p.2) c.in_err-summary.ensures.makes told (created c.args.seed _ _ _ _ c.greatest_leaf.ensures (c.documents_deleted.ensures.none c.args.seed 0) (c.documents_added.ensures.none c.args.seed) none (c.in_ok-session.ensures.seen _)
-    (c.in_ok-session.ensures.guards _ none) c.in_ok-session.ensures.bare)
+    ends_early _ c.args.seed c.args.docs _ _ (generated None c.args.docs c.args.seed) c.args.text.now.items c.args.text.now.items c.in_err-summary.field-0.0 _ (p.1 ∙ ap (λ (e : PageFault). Err e) p.2) c.in_err-summary.ensures.makes told (created c.args.seed c.greatest_leaf.result (g.F.Pages.files c.args.folder.now) c.in_ok-session.session (g.F.Pages.faults c.args.folder.now) c.greatest_leaf.ensures (c.documents_deleted.ensures.none c.args.seed 0) (c.documents_added.ensures.none c.args.seed) none (c.in_ok-session.ensures.seen (g.F.Pages.files c.args.folder.now))
+    (c.in_ok-session.ensures.guards (g.F.Pages.files c.args.folder.now) none) c.in_ok-session.ensures.bare)
 
 pub returns-in_err-put_summary-clause-generates : goal.returns-in_err-put_summary-clause-generates
 returns-in_err-put_summary-clause-generates g c told none =
     let p = err_from_is_err_and c.from_residual-in_err-put_summary.result c.from_residual-in_err-put_summary.ensures.1 in
-    ends_unsaid _ c.args.seed c.args.docs _ _ c.in_ok-summary.summary _ _ _ _ (p.1 ∙ ap (λ (e : PageFault). Err e) p.2) c.in_ok-summary.ensures.makes told (created c.args.seed _ _ _ _ c.greatest_leaf.ensures (c.documents_deleted.ensures.none c.args.seed 0) (c.documents_added.ensures.none c.args.seed) none (c.in_ok-session.ensures.seen _)
-    (c.in_ok-session.ensures.guards _ none) c.in_ok-session.ensures.bare)
+    ends_unsaid _ c.args.seed c.args.docs _ _ c.in_ok-summary.summary (generated None c.args.docs c.args.seed) c.args.text.now.items c.put_summary.new.text.items _ (p.1 ∙ ap (λ (e : PageFault). Err e) p.2) c.in_ok-summary.ensures.makes told (created c.args.seed c.greatest_leaf.result (g.F.Pages.files c.args.folder.now) c.in_ok-session.session (g.F.Pages.faults c.args.folder.now) c.greatest_leaf.ensures (c.documents_deleted.ensures.none c.args.seed 0) (c.documents_added.ensures.none c.args.seed) none (c.in_ok-session.ensures.seen (g.F.Pages.files c.args.folder.now))
+    (c.in_ok-session.ensures.guards (g.F.Pages.files c.args.folder.now) none) c.in_ok-session.ensures.bare)
 
 pub returns-in_err-commit-clause-generates : goal.returns-in_err-commit-clause-generates
 returns-in_err-commit-clause-generates g c told none =
     let p = err_from_is_err_and c.from_residual-in_err-commit.result c.from_residual-in_err-commit.ensures.1 in
-    ends_uncommitted _ c.args.seed c.args.docs _ _ _ c.in_ok-summary.summary _ _ c.in_err-commit.field-0.0 _ (p.1 ∙ ap (λ (e : PageFault). Err e) p.2) (c.index_made.ensures c.args.seed c.args.docs (omega (arith, c.requires))) c.in_ok-summary.ensures.makes
+    ends_uncommitted _ c.args.seed c.args.docs _ _ _ c.in_ok-summary.summary c.args.text.now.items c.put_summary.new.text.items c.in_err-commit.field-0.0 _ (p.1 ∙ ap (λ (e : PageFault). Err e) p.2) (c.index_made.ensures c.args.seed c.args.docs (omega (arith, c.requires))) c.in_ok-summary.ensures.makes
     (record {
       seen = c.in_err-commit.ensures.seen;
       guards = c.in_err-commit.ensures.guards;
@@ -43,14 +47,14 @@ returns-in_err-commit-clause-generates g c told none =
       cause = c.in_err-commit.ensures.cause;
       whole = c.in_err-commit.ensures.whole;
     })
-    told (created c.args.seed _ _ _ _ c.greatest_leaf.ensures (c.documents_deleted.ensures.none c.args.seed 0) (c.documents_added.ensures.none c.args.seed) none (c.in_ok-session.ensures.seen _)
-    (c.in_ok-session.ensures.guards _ none) c.in_ok-session.ensures.bare)
+    told (created c.args.seed c.greatest_leaf.result (g.F.Pages.files c.args.folder.now) c.in_ok-session.session (g.F.Pages.faults c.args.folder.now) c.greatest_leaf.ensures (c.documents_deleted.ensures.none c.args.seed 0) (c.documents_added.ensures.none c.args.seed) none (c.in_ok-session.ensures.seen (g.F.Pages.files c.args.folder.now))
+    (c.in_ok-session.ensures.guards (g.F.Pages.files c.args.folder.now) none) c.in_ok-session.ensures.bare)
 
 pub returns-clause-generates : goal.returns-clause-generates
 returns-clause-generates g c told none =
-    ends_made _ c.args.seed c.args.docs _ _ _ c.in_ok-summary.summary tt _ _ _ _ _ _ (c.index_made.ensures c.args.seed c.args.docs (omega (arith, c.requires))) c.in_ok-put_summary.ensures
-    (c.in_ok-summary.ensures.summary told (created c.args.seed _ _ _ _ c.greatest_leaf.ensures (c.documents_deleted.ensures.none c.args.seed 0) (c.documents_added.ensures.none c.args.seed) none (c.in_ok-session.ensures.seen _)
-    (c.in_ok-session.ensures.guards _ none) c.in_ok-session.ensures.bare).made) c.in_ok-summary.ensures.makes
+    ends_made _ c.args.seed c.args.docs _ _ _ c.in_ok-summary.summary tt _ _ _ _ c.args.text.now.items c.put_summary.new.text.items (c.index_made.ensures c.args.seed c.args.docs (omega (arith, c.requires))) c.in_ok-put_summary.ensures
+    (c.in_ok-summary.ensures.summary told (created c.args.seed c.greatest_leaf.result (g.F.Pages.files c.args.folder.now) c.in_ok-session.session (g.F.Pages.faults c.args.folder.now) c.greatest_leaf.ensures (c.documents_deleted.ensures.none c.args.seed 0) (c.documents_added.ensures.none c.args.seed) none (c.in_ok-session.ensures.seen (g.F.Pages.files c.args.folder.now))
+    (c.in_ok-session.ensures.guards (g.F.Pages.files c.args.folder.now) none) c.in_ok-session.ensures.bare).made) c.in_ok-summary.ensures.makes
     (record {
       seen = c.in_ok-commit.ensures.seen;
       guards = c.in_ok-commit.ensures.guards;
@@ -61,8 +65,8 @@ returns-clause-generates g c told none =
       cause = c.in_ok-commit.ensures.cause;
       whole = c.in_ok-commit.ensures.whole;
     })
-    told (created c.args.seed _ _ _ _ c.greatest_leaf.ensures (c.documents_deleted.ensures.none c.args.seed 0) (c.documents_added.ensures.none c.args.seed) none (c.in_ok-session.ensures.seen _)
-    (c.in_ok-session.ensures.guards _ none) c.in_ok-session.ensures.bare)
+    told (created c.args.seed c.greatest_leaf.result (g.F.Pages.files c.args.folder.now) c.in_ok-session.session (g.F.Pages.faults c.args.folder.now) c.greatest_leaf.ensures (c.documents_deleted.ensures.none c.args.seed 0) (c.documents_added.ensures.none c.args.seed) none (c.in_ok-session.ensures.seen (g.F.Pages.files c.args.folder.now))
+    (c.in_ok-session.ensures.guards (g.F.Pages.files c.args.folder.now) none) c.in_ok-session.ensures.bare)
 
 pub returns-clause-canon : goal.returns-clause-canon
 returns-clause-canon g c told none =
@@ -77,8 +81,8 @@ returns-clause-canon g c told none =
       cause = c.in_ok-commit.ensures.cause;
       whole = c.in_ok-commit.ensures.whole;
     })
-    told (created c.args.seed _ _ _ _ c.greatest_leaf.ensures (c.documents_deleted.ensures.none c.args.seed 0) (c.documents_added.ensures.none c.args.seed) none (c.in_ok-session.ensures.seen _)
-    (c.in_ok-session.ensures.guards _ none) c.in_ok-session.ensures.bare)
+    told (created c.args.seed c.greatest_leaf.result (g.F.Pages.files c.args.folder.now) c.in_ok-session.session (g.F.Pages.faults c.args.folder.now) c.greatest_leaf.ensures (c.documents_deleted.ensures.none c.args.seed 0) (c.documents_added.ensures.none c.args.seed) none (c.in_ok-session.ensures.seen (g.F.Pages.files c.args.folder.now))
+    (c.in_ok-session.ensures.guards (g.F.Pages.files c.args.folder.now) none) c.in_ok-session.ensures.bare)
 
 pub returns-in_err-session-clause-cause : goal.returns-in_err-session-clause-cause
 returns-in_err-session-clause-cause g c =
