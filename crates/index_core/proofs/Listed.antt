@@ -1,5 +1,5 @@
 -- Each segment that is listed anew is canonical.
-use Rattle.std.proofs.Common.{◌≡◌, ℕ, List, map, Option, Some, sym, ap, subst, ◌∙◌, ⊎_elim}
+use Rattle.std.proofs.Common.{◌≡◌, ℕ, List, Some, sym, ap, subst, ◌∙◌, ⊎_elim}
 use Rattle.std.specs.List.{Contains}
 use Rattle.std.proofs.lemmas.List.Elements.{All-contains}
 use Rattle.outer_io.specs.declared.file_name.FileName.TheVariants.{Commit, Segment}
@@ -13,7 +13,6 @@ use Rattle.segment_file.specs.Heads.{Head}
 use Rattle.segment_file.specs.Segments.{IsHeadOf}
 use Rattle.segment_file.proofs.Unique.{head_of_segment, one_head}
 use Rattle.segment_view.specs.Parts.{IsRead, Part}
-use Rattle.stored_index.specs.Stored.{HasHead}
 use Rattle.index_model.specs.State.{Index}
 use Rattle.segment_set.specs.Kept.{HasCanonical}
 use Rattle.segment_set.specs.Sets.{SetData}
