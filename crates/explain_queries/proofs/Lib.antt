@@ -2,3 +2,4 @@ pub mod Explaining
 pub mod Sizes
 pub mod There
 pub mod Nearby
+pub mod Asking

@@ -1,5 +1,5 @@
 -- What is told of a query for the nearest.
-use Rattle.std.proofs.Common.{◌≡◌, ◌++◌, ℕ, Bool, false, List, length, Option, Some, refl, sym, ap, subst, ◌∙◌, ℤ}
+use Rattle.std.proofs.Common.{◌≡◌, ◌++◌, ℕ, false, List, length, Option, Some, refl, sym, ap, subst, ◌∙◌, ℤ}
 use Rattle.outer_io.specs.Files.{Files}
 use Rattle.point_codec.specs.declared.entries.Near.{Near}
 use Rattle.documents.specs.Nearest.{found_of, nearest}

@@ -1,6 +1,6 @@
 -- What explaining queries tells. Lines are read as those of a script; of a query it is told how much of the stored segments is tested and touched,
 -- and how much is found, each leaf judged by its own cell.
-use Rattle.std.specs.Prelude.{ℕ, ◌+◌, ◌≡◌, Bool, if◌then◌else◌, nat_lt, List, [], ◌∷◌, ◌++◌, length, map, Option, None, Some, codes, decimal, ℤ}
+use Rattle.std.specs.Prelude.{ℕ, ◌+◌, ◌≡◌, Bool, if◌then◌else◌, nat_lt, List, [], ◌∷◌, ◌++◌, length, Option, None, Some, codes, decimal, ℤ}
 use Rattle.std.specs.List.{last_or}
 use Rattle.std.specs.Option.{option_map}
 use Rattle.outer_io.specs.declared.file_name.FileName.TheVariants.{Commit}

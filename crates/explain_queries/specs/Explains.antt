@@ -22,9 +22,9 @@ abbrev pub InScope : Scope → (Index → Told → Type 0) → Told → Type 0
 InScope s tells t = (i : Index) × (s.state ≡ Some i) × tells i t
 
 -- what is told so is appended, and it is said whether the line is refused
-pub record IsTold (tells : Told → Type 0) (before after : List ℕ) (is_refused : Bool) : Type 0 where
+pub record IsTold (says : Told → Type 0) (before after : List ℕ) (is_refused : Bool) : Type 0 where
   pub told : Told
-  pub tells : tells told
+  pub tells : says told
   pub text : after ≡ before ++ told.text
   pub refused : told.refused ≡ cond is_refused 1 0
 

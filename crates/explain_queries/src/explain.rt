@@ -4,6 +4,9 @@ ghost use Rattle.std.specs.Prelude.{◌≡◌, ◌≢◌, ◌≤◌, ◌++◌, [
 ghost use Rattle.script_lang.specs.Replies.{line_fault_text, why_text};
 ghost use Rattle.script_lang.specs.Seen.{IsWithinLimits, request_of};
 ghost use Rattle.documents.specs.Nearest.{found_of};
+ghost use Rattle.ring_parity.specs.Rings.{all_edges};
+ghost use Rattle.polygon_query.specs.Shape as polygons;
+ghost use Rattle.index_model.specs.Step.{in_plane_polygon};
 ghost use Rattle.explain_queries.specs.Explained.{Tells, TellsLine, TellsNear, TellsShape, reach};
 ghost use Rattle.explain_queries.specs.Explains.{Explains, InScope, IsTold};
 
@@ -13,6 +16,7 @@ use outer_io::Folder;
 use page_cache::PageFault;
 use point_codec::{Near, Point, View};
 use polygon_query::PolygonShape;
+use ring_parity::Rings;
 use script_lang::{Command, First, LineFault, Why, put_line_fault, put_why, read_first, read_line};
 use segment_set::SegmentSet;
 use std::alloc::{AllocError, Global};
@@ -73,29 +77,21 @@ fn explain<const D: usize, F: Folder>(
 {
     match command {
         Command::Blank => Ok(false),
-        Command::InBox {
-            view: View::Now,
-            lo,
-            hi,
-        } => {
-            let mut shape = BoxShape::new(*lo, *hi);
-            tell_shape(alloc, set, folder, &mut shape, reply)
-        }
-        Command::Polygon {
-            view: View::Now,
-            rings,
-        } => {
-            let mut shape = PolygonShape::new(alloc, rings)?;
-            tell_shape(alloc, set, folder, &mut shape, reply)
-        }
-        Command::Nearest {
-            view: View::Now,
-            k,
-            at,
-        } => { tell_near(alloc, set, folder, *k, at, reply) }
-        Command::InBox { .. } | Command::Polygon { .. } | Command::Nearest { .. } => {
-            refuse(number, Why::UnknownSnapshot, reply)
-        }
+        Command::InBox { view, lo, hi } => match view {
+            View::Now => {
+                let mut shape = BoxShape::new(*lo, *hi);
+                tell_shape(alloc, set, folder, &mut shape, reply)
+            }
+            View::Named(_) => refuse_snapshot(number, reply),
+        },
+        Command::Polygon { view, rings } => match view {
+            View::Now => tell_polygon(alloc, set, folder, rings, reply),
+            View::Named(_) => refuse_snapshot(number, reply),
+        },
+        Command::Nearest { view, k, at } => match view {
+            View::Now => tell_near(alloc, set, folder, *k, at, reply),
+            View::Named(_) => refuse_snapshot(number, reply),
+        },
         _ => refuse(number, Why::NotQuery, reply),
     }
 }
@@ -117,6 +113,30 @@ fn refuse(number: u64, why: Why, reply: &mut Vec<u8>) -> Result<bool, PageFault>
 {
     put_why(reply, number, why)?;
     Ok(true)
+}
+
+/// Appends that there is no such snapshot: a stored index has none.
+fn refuse_snapshot(number: u64, reply: &mut Vec<u8>) -> Result<bool, PageFault>
+    ensures refused { IfOk result (λ refused. (refused ≡ true) × (reply.new.items ≡ reply.old.items ++ why_text number Why.UnknownSnapshot)) }
+    ensures memory { OnErr result (IsErrOf result PageFault.Memory) }
+{
+    refuse(number, Why::UnknownSnapshot, reply)
+}
+
+/// Appends what a polygon tests and touches of the stored segments, and how many documents it hits.
+fn tell_polygon<const D: usize, F: Folder>(
+    alloc: Global,
+    set: &mut SegmentSet<D>,
+    folder: &mut F,
+    rings: &Rings,
+    reply: &mut Vec<u8>,
+) -> Result<bool, PageFault>
+    ensures { Explains D (IsTrue F.told) (λ s t. InScope s (λ i u. TellsShape i.dims s.heads i.docs (in_plane_polygon i.dims rings.now) (polygons.crosses i.dims (all_edges rings.now)) u) t)
+        (record { set = set.old; files = F.files folder.old; reads = F.reads folder.old; faults = F.faults folder.old; text = reply.old.items })
+        (record { set = set.new; files = F.files folder.new; reads = F.reads folder.new; faults = F.faults folder.new; text = reply.new.items }) result }
+{
+    let mut shape = PolygonShape::new(alloc, rings)?;
+    tell_shape(alloc, set, folder, &mut shape, reply)
 }
 
 /// Appends what a shape tests and touches of the stored segments, and how many documents it hits.

@@ -8,6 +8,7 @@ use itoa::Buffer;
 use std::alloc::AllocError;
 
 /// Appends what a box or a polygon tests and touches, and how many documents it hits.
+#[tactic(auto, unfolding(crate::specs::Explained::shape_text))]
 pub fn put_shape(reply: &mut Vec<u8>, tally: &Tally, hits: usize) -> Result<(), AllocError>
     ensures { OnOk result (reply.new.items ≡ reply.old.items ++ shape_text tally.now.tested tally.now.touched hits) }
 {
@@ -23,6 +24,7 @@ pub fn put_shape(reply: &mut Vec<u8>, tally: &Tally, hits: usize) -> Result<(), 
 }
 
 /// Appends what a query for the nearest touches, and how many documents it finds.
+#[tactic(auto, unfolding(crate::specs::Explained::near_text))]
 pub fn put_near(reply: &mut Vec<u8>, touched: u64, found: usize) -> Result<(), AllocError>
     ensures { OnOk result (reply.new.items ≡ reply.old.items ++ near_text touched found) }
 {

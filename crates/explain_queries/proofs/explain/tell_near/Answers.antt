@@ -48,4 +48,4 @@ returns g c =
     })
     (λ told s e. near_told g.row.D c.args.k _ _ c.args.at.now.c s e _ _ c.in_ok-found.found.items c.survey_near-touched.result c.len.result _ _ c.survey_near-touched.ensures
     (ap (λ (u : SetData). heads_of u.parts) c.nearest.ensures.alone.is) (c.reach.ensures ∙ ap (λ ns. reach c.args.k (found_of ns)) c.as_slice.ensures.value)
-    (c.in_ok-found.ensures.found told e.index e.seen e.index.docs refl) (c.len.ensures ∙ sym (length-map c.in_ok-found.found.items (λ (n : Near). (n.dist2, n.doc)))) c.in_ok-put_near.ensures)
+    (c.in_ok-found.ensures.found told e.index e.seen e.index.docs refl) (c.len.ensures ∙ c.in_ok-found.found.ok.0 ∙ sym (length-map c.in_ok-found.found.items (λ (n : Near). (n.dist2, n.doc)))) c.in_ok-put_near.ensures)

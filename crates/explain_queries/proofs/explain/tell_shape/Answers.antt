@@ -41,4 +41,4 @@ returns g c =
       whole = c.in_ok-hits.ensures.whole;
     })
     (λ told s e. shape_told g.row.D _ _ _ _ c.survey-tally.result.tested c.survey-tally.result.touched c.len.result _ _ s e c.survey-tally.ensures.tested c.survey-tally.ensures.touched
-    (c.len.ensures ∙ ap length (c.in_ok-hits.ensures.found told e.index e.seen e.index.docs refl ∙ ap (λ (f : List ℤ → Bool). hits f e.index.docs) c.survey-tally.ensures.has)) c.in_ok-put_shape.ensures)
+    (c.len.ensures ∙ c.in_ok-hits.hits.ok.0 ∙ ap length (c.in_ok-hits.ensures.found told e.index e.seen e.index.docs refl ∙ ap (λ (f : List ℤ → Bool). hits f e.index.docs) c.survey-tally.ensures.has)) c.in_ok-put_shape.ensures)
