@@ -1,12 +1,18 @@
 -- What the words ask for, and how it ends.
-use Rattle.std.proofs.Common.{◌≡◌, List, [], Some, None, Option, refl, sym, ap, subst, ◌∙◌, inl, append-nil}
+use Rattle.std.proofs.Common.{◌≡◌, ℕ, true, false, List, [], Some, None, Option, refl, sym, ap, subst, ◌∙◌, inl, append-nil}
+use Rattle.std.proofs.lemmas.Bool.{false≢true}
 use Rattle.outer_io.specs.Files.{Files}
 use Rattle.script_lang.specs.Lines.{lines_of}
 use Rattle.stored_index.specs.Stored.{IsStored}
-use Rattle.command_words.specs.Commands.{Asked, Run, Load, Explain, Check, Generate}
-use Rattle.explain_queries.specs.Explained.{silence}
-use Rattle.bkd_top.specs.Commands.{Before, EndsAsked}
+use Rattle.command_words.specs.Commands.{Asked, Run, Load, Explain, Check, Generate, said}
+use Rattle.command_words.specs.declared.Words.{Words}
+use Rattle.drawn_points.specs.Generated.{generated}
+use Rattle.explain_queries.specs.Explained.{IsScope, Scope, silence}
+use Rattle.load_points.specs.Loaded.{loaded}
+use Rattle.bkd_top.specs.Commands.{Before, EndsAsked, EndsExplain, EndsWhole, Rests, is_served}
 use Rattle.bkd_top.specs.Progress.{start}
+use Rattle.bkd_top.specs.Runs.{Ends}
+use Rattle.bkd_top.specs.declared.status.Status.{Status}
 use Rattle.bkd_top.specs.declared.status.Status.TheVariants as status
 use Rattle.bkd_top.proofs.Going.{stops_here}
 
@@ -24,3 +30,24 @@ no_memory_ends told (Explain cache) b files new keeps still =
     λ scope is. record { done = []; rest = lines_of b.input; whole = refl; of_done = silence; tells = refl; text = λ t. still t ∙ sym (append-nil b.written) }
 no_memory_ends told Check b files new keeps still = record { text = still; stored = keeps }
 no_memory_ends told (Generate docs seed forks) b files new keeps still = record { text = still; stored = inl keeps }
+
+-- what is served is not refused as words of no command
+pub is_there : {P : Type 0} (w : Words) (a : Asked) → said w ≡ a → is_served (Some a) ≡ true → is_served (Some (said w)) ≡ false → P
+is_there w a is served none = absurd (false≢true (sym none ∙ ap (λ (b : Asked). is_served (Some b)) is ∙ served))
+
+-- each command ends as its own definition says
+module _ (told : Type 0) (w : Words) (b : Before) (files : Files) (new : List ℕ) (s : Status) where
+  pub run_ends : (cache forks : ℕ) → said w ≡ Run cache forks → Ends told (start b.state (lines_of b.input) b.written) files new s → EndsAsked told (said w) b files new s
+  run_ends cache forks is ends = subst (λ (a : Asked). EndsAsked told a b files new s) (sym is) ends
+
+  pub load_ends : (columns : List (List ℕ)) (forks : ℕ) → said w ≡ Load columns forks → EndsWhole told b (loaded b.state b.input columns) files new s → EndsAsked told (said w) b files new s
+  load_ends columns forks is ends = subst (λ (a : Asked). EndsAsked told a b files new s) (sym is) ends
+
+  pub explain_ends : (cache : ℕ) → said w ≡ Explain cache → ((scope : Scope) → IsScope b.files scope → EndsExplain told scope (lines_of b.input) b.written new s) → EndsAsked told (said w) b files new s
+  explain_ends cache is ends = subst (λ (a : Asked). EndsAsked told a b files new s) (sym is) ends
+
+  pub check_ends : said w ≡ Check → Rests told b files new → EndsAsked told (said w) b files new s
+  check_ends is ends = subst (λ (a : Asked). EndsAsked told a b files new s) (sym is) ends
+
+  pub generate_ends : (docs seed forks : ℕ) → said w ≡ Generate docs seed forks → EndsWhole told b (generated b.state docs seed) files new s → EndsAsked told (said w) b files new s
+  generate_ends docs seed forks is ends = subst (λ (a : Asked). EndsAsked told a b files new s) (sym is) ends

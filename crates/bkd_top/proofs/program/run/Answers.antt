@@ -1,8 +1,9 @@
 -- The words say which command is run; where they are of none nothing is done.
-use Rattle.std.proofs.Common.{◌≡◌, Bool, true, false, Option, Some, None, refl, sym, ap, subst, ◌∙◌, ◌⊎◌, inl, inr}
+use Rattle.std.proofs.Common.{◌≡◌, Bool, true, false, Option, Some, None, Err, IsTrue, refl, sym, ap, subst, ◌∙◌, ◌⊎◌, inl, inr}
 use Rattle.outer_io.specs.Files.{Files}
 use Rattle.script_lang.specs.Lines.{lines_of}
 use Rattle.command_words.specs.Commands.{Asked}
+use Rattle.command_words.specs.declared.WordsFault.{WordsFault}
 use Rattle.bkd_top.specs.Commands.{Before, EndsAsked, does, is_explain, is_served, is_whole, reads_input}
 use Rattle.bkd_top.proofs.Commanding.{asked_is, no_memory_ends}
 use Rattle.bkd_top.proofs.program.run.Goals as goal
@@ -15,7 +16,9 @@ returns-in-Ok-clause-only_usage g c = λ e. subst (λ (o : Option Asked). is_ser
 
 pub returns-in-Ok-clause-ends : goal.returns-in-Ok-clause-ends
 returns-in-Ok-clause-ends g c = λ source told state h a is.
-    subst (λ (b : Asked). EndsAsked _ b _ _ _ c.run_command.result) (asked_is _ a _ c.in-Ok.ensures.words is) (c.run_command.ensures.ends source told state h)
+    subst (λ (b : Asked). EndsAsked (IsTrue g.K.Sink.told) b
+    (record { state = state; files = g.F.Pages.files c.args.folder.now; input = g.S.Source.left c.args.input.now; written = g.K.Sink.written c.args.out.now })
+    (g.F.Pages.files c.run_command.new.folder) (g.K.Sink.written c.run_command.new.out) c.run_command.result) (asked_is _ a _ c.in-Ok.ensures.words is) (c.run_command.ensures.ends source told state h)
 
 pub returns-in-Ok-clause-source : goal.returns-in-Ok-clause-source
 returns-in-Ok-clause-source g c = λ told e. c.run_command.ensures.source told (subst (λ (o : Option Asked). does (λ a. reads_input a) o ≡ true) c.in-Ok.ensures.words e)
@@ -36,10 +39,10 @@ pub returns-in-Err-Usage-clause-usage : goal.returns-in-Err-Usage-clause-usage
 returns-in-Err-Usage-clause-usage g c = λ e. inl refl
 
 pub returns-in-Err-Usage-clause-only_usage : goal.returns-in-Err-Usage-clause-only_usage
-returns-in-Err-Usage-clause-only_usage g c = λ e. ap is_served (c.read_words.ensures.usage refl)
+returns-in-Err-Usage-clause-only_usage g c = λ e. ap is_served (c.in-Err-Usage.ensures.usage (ap (λ (f : WordsFault). Err f) c.in-Err-Usage.field-0-is))
 
 pub returns-in-Err-Memory-clause-usage : goal.returns-in-Err-Memory-clause-usage
 returns-in-Err-Memory-clause-usage g c = λ e. inr refl
 
 pub returns-in-Err-Memory-clause-ends : goal.returns-in-Err-Memory-clause-ends
-returns-in-Err-Memory-clause-ends g c = λ source told state h a is. no_memory_ends _ a _ _ _ h (λ sink. refl)
+returns-in-Err-Memory-clause-ends g c = λ source told state h a is. no_memory_ends (IsTrue g.K.Sink.told) a _ _ _ h (λ sink. refl)
