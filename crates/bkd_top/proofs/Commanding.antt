@@ -10,6 +10,7 @@ use Rattle.drawn_points.specs.Generated.{generated}
 use Rattle.explain_queries.specs.Explained.{IsScope, Scope, silence}
 use Rattle.load_points.specs.Loaded.{loaded}
 use Rattle.bkd_top.specs.Commands.{Before, EndsAsked, EndsExplain, EndsWhole, Rests, is_served}
+use Rattle.bkd_top.specs.Costs.{is_run}
 use Rattle.bkd_top.specs.Progress.{start}
 use Rattle.bkd_top.specs.Runs.{Ends}
 use Rattle.bkd_top.specs.declared.status.Status.{Status}
@@ -51,3 +52,7 @@ module _ (told : Type 0) (w : Words) (b : Before) (files : Files) (new : List �
 
   pub generate_ends : (docs seed forks : ℕ) → said w ≡ Generate docs seed forks → EndsWhole told b (generated b.state docs seed) files new s → EndsAsked told (said w) b files new s
   generate_ends docs seed forks is ends = subst (λ (a : Asked). EndsAsked told a b files new s) (sym is) ends
+
+-- another command runs no script
+pub not_run : {P : Type 0} (w : Words) (a : Asked) → said w ≡ a → is_run a ≡ false → is_run (said w) ≡ true → P
+not_run w a is other run = absurd (false≢true (sym other ∙ ap (λ (b : Asked). is_run b) (sym is) ∙ run))

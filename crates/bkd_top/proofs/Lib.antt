@@ -8,3 +8,8 @@ pub mod Finished
 pub mod Sizes
 pub mod Commanding
 pub mod Scoped
+pub mod Asking
+pub mod Deciding
+pub mod Passing
+pub mod Leading
+pub mod Starting

@@ -40,7 +40,7 @@ pub record Goes (told : Type 0) (D : ℕ) (from : Place) (files : Files) (s : Se
   pub stands : Stands D files s index stored
   pub progress : Progress told from (place_on line refused index stored rest written)
 
-pub goes_first : {told : Type 0} (D : ℕ) (files : Files) (s : SessionData) (i : Index) (stored : State) (line refused : ℕ) (rest : List (List ℕ)) (written : List ℕ)
+abbrev pub goes_first : {told : Type 0} (D : ℕ) (files : Files) (s : SessionData) (i : Index) (stored : State) (line refused : ℕ) (rest : List (List ℕ)) (written : List ℕ)
     → Stands D files s i stored → Goes told D (place_on line refused i stored rest written) files s line refused rest written
 goes_first D files s i stored line refused rest written h = record {
   index = i;
@@ -55,7 +55,7 @@ line_at number i stored bytes = record { number = number; index = i; stored = st
 module _ {told : Type 0} (D : ℕ) (from : Place) (old files : Files) (s t : SessionData) (line refused : ℕ) (ls : List (List ℕ)) (written new : List ℕ)
     (g : Goes told D from old s line refused ls written) where
   -- one more line is done
-  pub goes_on : (bytes : List ℕ) (rest : List (List ℕ)) → ls ≡ bytes ∷ rest → (is_refused : Bool) (count : ℕ) → count ≡ refused + cond is_refused 1 0
+  abbrev pub goes_on : (bytes : List ℕ) (rest : List (List ℕ)) → ls ≡ bytes ∷ rest → (is_refused : Bool) (count : ℕ) → count ≡ refused + cond is_refused 1 0
       → Answers told D (line_at line g.index g.stored bytes) files t written new (Ok is_refused)
       → Goes told D from files t (line + 1) count rest new
   goes_on bytes rest next is_refused count counted a = record {

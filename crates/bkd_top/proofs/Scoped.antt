@@ -25,7 +25,7 @@ use Rattle.segment_set.specs.Kept.{IsAtRest}
 use Rattle.explain_queries.specs.Explained.{AreStoredHeads, IsScope, Scope}
 use Rattle.explain_queries.specs.Explains.{IsExplaining}
 
-heads_zip : (D : ℕ) (files : Files) (c : Contents) (ls : List Listed) (ps : List Part) → All (IsRead D files c) ps → map (λ (p : Part). p.head.id) ps ≡ map (λ (l : Listed). l.segment) ls
+pub heads_zip : (D : ℕ) (files : Files) (c : Contents) (ls : List Listed) (ps : List Part) → All (IsRead D files c) ps → map (λ (p : Part). p.head.id) ps ≡ map (λ (l : Listed). l.segment) ls
     → AllZip (HasHead D files) ls (heads_of ps)
 heads_zip D files c [] [] reads same = tt
 heads_zip D files c [] (p ∷ ps) reads same = absurd cc

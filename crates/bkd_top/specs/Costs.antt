@@ -22,8 +22,14 @@ use Rattle.index_model.specs.Step.{in_plane_polygon}
 use Rattle.stored_index.specs.Opening.{IsOpening}
 use Rattle.segment_view.specs.Costs.{AreTouched}
 use Rattle.nearest_query.specs.Segments.{AreNearLeaves}
+use Rattle.command_words.specs.Commands.{Asked, Run}
 use Rattle.index_core.specs.Light.{HasFewOfLevels, is_light}
 use Rattle.explain_queries.specs.Explained.{Scope, IsScope, reach}
+
+-- a script is run
+abbrev pub is_run : Asked → Bool
+is_run (Run cache forks) = true
+is_run _ = false
 
 -- ---- what lines ask for
 
@@ -92,16 +98,16 @@ given_of (Some i) = i.given
 abbrev pub HasRoomInLevels : List Head → Type 0
 HasRoomInLevels heads = (level : ℕ) → count_by (λ h. is_of_level level h.entries) heads < 10
 
--- the lines need no segment to be merged: they are light, the points that they add have room in the buffer, and no level of the stored segments is full
-pub record IsLightScript (s : Scope) (lines : List (List ℕ)) : Type 0 where
-  pub asks : AllAsk is_light 1 s.state lines
-  pub points : given_of (state_after 1 s.state lines) ≤ given_of s.state + 16384
-  pub room : HasRoomInLevels s.heads
+-- Lines need no segment to be merged, over segments with these heads: they are light, the points that they add have room in the buffer, and no level of the segments is full.
+pub record AreLight (heads : List Head) (line : ℕ) (state : State) (lines : List (List ℕ)) : Type 0 where
+  pub asks : AllAsk is_light line state lines
+  pub points : given_of (state_after line state lines) ≤ given_of state + 16384
+  pub room : HasRoomInLevels heads
 
 -- a run of queries, or of light lines, reads at most the pages of opening, and a page for each leaf that its queries touch
 abbrev pub RunReadsFew : Files → List (List ℕ) → (before now : ℕ) → Type 0
 RunReadsFew files lines before now =
-    (s : Scope) → IsScope files s → (pages : ℕ) → IsOpening files pages → AllAsk is_query 1 s.state lines ⊎ IsLightScript s lines
+    (s : Scope) → IsScope files s → (pages : ℕ) → IsOpening files pages → AllAsk is_query 1 s.state lines ⊎ AreLight s.heads 1 s.state lines
     → (touched : ℕ) → TouchesLines s.heads 1 s.state lines touched → now ≤ before + pages + touched
 
 -- ---- what they leave

@@ -1,6 +1,7 @@
 pub mod Answers
 pub mod Commands
 pub mod Costs
+pub mod Leads
 pub mod Origins
 pub mod Progress
 pub mod Runs

@@ -9,6 +9,7 @@ ghost use Rattle.script_lang.specs.Seen.{IsWithinLimits, request_of};
 ghost use Rattle.index_model.specs.State.{Index, State};
 ghost use Rattle.index_model.specs.Script.{answer};
 ghost use Rattle.bkd_top.specs.Answers.{Answers, IsOpening, IsSent, IsWithin, Replies, Stands};
+ghost use Rattle.bkd_top.specs.Leads.{Passes};
 ghost use Rattle.bkd_top.specs.Runs.{HasStopCause};
 
 use crate::lines::Work;
@@ -49,6 +50,9 @@ pub fn answer_line<const D: usize, R: Threads + Sync, F: Folder, K: Sink, G: Gat
     ensures answers { IsTrue F.told → (i : Index) → (stored : State) → Stands D (F.files folder.old) session.old i stored
         → Answers (IsTrue K.told) D (record { number = number; index = i; stored = stored; bytes = line.now }) (F.files folder.new) session.new
         (K.written out.old) (K.written out.new) result }
+    ensures passes { IsTrue F.told → (i : Index) → (stored : State) → Stands D (F.files folder.old) session.old i stored
+        → Passes D number i line.now (record { files = F.files folder.old; session = session.old; reads = F.reads folder.old })
+        (record { files = F.files folder.new; session = session.new; reads = F.reads folder.new }) result }
     ensures cause { HasStopCause (F.faults folder.old) (F.faults folder.new) (K.faults out.old) (K.faults out.new) result }
 {
     reply.clear();
@@ -85,6 +89,9 @@ fn reply_to<const D: usize, R: Threads + Sync, F: Folder, G: Gate>(
     requires few { D ≤ 8 }
     ensures replies { IsTrue F.told → (i : Index) → (stored : State) → Stands D (F.files folder.old) session.old i stored
         → Replies D (record { number = number; index = i; stored = stored; bytes = line.now }) (F.files folder.new) session.new reply.old.items reply.new.items result }
+    ensures passes { IsTrue F.told → (i : Index) → (stored : State) → Stands D (F.files folder.old) session.old i stored
+        → Passes D number i line.now (record { files = F.files folder.old; session = session.old; reads = F.reads folder.old })
+        (record { files = F.files folder.new; session = session.new; reads = F.reads folder.new }) result }
     ensures cause { HasPageCause (F.faults folder.old) (F.faults folder.new) result }
 {
     match read_line::<D>(work.alloc, line) {
@@ -107,6 +114,10 @@ fn obey<const D: usize, R: Threads + Sync, F: Folder, G: Gate>(
     ensures replies { IsTrue F.told → (i : Index) → (stored : State) → Stands D (F.files folder.old) session.old i stored
         → (bytes : List ℕ) → read (Some D) bytes ≡ Says (request_of command.now)
         → Replies D (record { number = number; index = i; stored = stored; bytes = bytes }) (F.files folder.new) session.new reply.old.items reply.new.items result }
+    ensures passes { IsTrue F.told → (i : Index) → (stored : State) → Stands D (F.files folder.old) session.old i stored
+        → (bytes : List ℕ) → read (Some D) bytes ≡ Says (request_of command.now)
+        → Passes D number i bytes (record { files = F.files folder.old; session = session.old; reads = F.reads folder.old })
+        (record { files = F.files folder.new; session = session.new; reads = F.reads folder.new }) result }
     ensures cause { HasPageCause (F.faults folder.old) (F.faults folder.new) result }
 {
     match session.apply(work.rt, work.alloc, folder, command, reply, work.gate) {

@@ -7,6 +7,7 @@ ghost use Rattle.script_lang.specs.Lines.{lines_of};
 ghost use Rattle.index_model.specs.State.{Index, State};
 ghost use Rattle.stored_index.specs.Stored.{IsStored};
 ghost use Rattle.bkd_top.specs.Answers.{IsEnd, Stands};
+ghost use Rattle.bkd_top.specs.Leads.{Closes, Leads, LeadsAll, LeadsFrom};
 ghost use Rattle.bkd_top.specs.Origins.{dims_of, IsFrom, IsMade};
 ghost use Rattle.bkd_top.specs.Progress.{start};
 ghost use Rattle.bkd_top.specs.Runs.{EndsLines, HasStopCause};
@@ -50,6 +51,8 @@ pub fn run_lines<R: Threads + Sync, F: Folder, K: Sink, G: Gate>(
     requires { length script.now ≤ 2 ^ 32 }
     ensures ends { IsTrue F.told → (state : State) → IsStored (F.files folder.old) state
         → EndsLines (IsTrue K.told) (start state (lines_of script.now) (K.written out.old)) (F.files folder.new) (K.written out.new) result }
+    ensures leads { IsTrue F.told → (state : State) → IsStored (F.files folder.old) state
+        → LeadsAll state (lines_of script.now) (F.files folder.old) (F.files folder.new) (F.reads folder.old) (F.reads folder.new) result }
     ensures cause { HasStopCause (F.faults folder.old) (F.faults folder.new) (K.faults out.old) (K.faults out.new) result }
 {
     match read_commit(work.alloc, folder) {
@@ -76,6 +79,8 @@ fn run_first<R: Threads + Sync, F: Folder, K: Sink, G: Gate>(
     requires { length script.now ≤ 2 ^ 32 }
     ensures ends { IsTrue F.told → F.files folder.old CommitName ≡ None
         → EndsLines (IsTrue K.told) (start None (lines_of script.now) (K.written out.old)) (F.files folder.new) (K.written out.new) result }
+    ensures leads { IsTrue F.told → F.files folder.old CommitName ≡ None
+        → LeadsAll None (lines_of script.now) (F.files folder.old) (F.files folder.new) (F.reads folder.old) (F.reads folder.new) result }
     ensures cause { HasStopCause (F.faults folder.old) (F.faults folder.new) (K.faults out.old) (K.faults out.new) result }
 {
     let mut reply = Vec::new(work.alloc);
@@ -127,6 +132,8 @@ fn run_from<R: Threads + Sync, F: Folder, K: Sink, G: Gate>(
           written = K.written out.old;
         })
         (F.files folder.new) (K.written out.new) result }
+    ensures leads { IsTrue F.told → (i : Index) → (stored : State) → IsFrom (F.files folder.old) origin i stored
+        → LeadsFrom origin i stored script.entry.line (lines_of script.entry.rest.now) (F.files folder.old) (F.files folder.new) (F.reads folder.old) (F.reads folder.new) result }
     ensures cause { HasStopCause (F.faults folder.old) (F.faults folder.new) (K.faults out.old) (K.faults out.new) result }
 {
     match origin.dims() {
@@ -165,6 +172,8 @@ fn run_over<const D: usize, R: Threads + Sync, F: Folder, K: Sink, G: Gate>(
           written = K.written out.old;
         })
         (F.files folder.new) (K.written out.new) result }
+    ensures leads { IsTrue F.told → (i : Index) → (stored : State) → IsFrom (F.files folder.old) origin i stored
+        → LeadsFrom origin i stored script.entry.line (lines_of script.entry.rest.now) (F.files folder.old) (F.files folder.new) (F.reads folder.old) (F.reads folder.new) result }
     ensures cause { HasStopCause (F.faults folder.old) (F.faults folder.new) (K.faults out.old) (K.faults out.new) result }
 {
     match open::<D, F>(work.alloc, work.settings, origin, folder) {
@@ -195,6 +204,9 @@ fn run_made<const D: usize, R: Threads + Sync, F: Folder, K: Sink, G: Gate>(
           written = K.written out.old;
         })
         (F.files folder.new) (K.written out.new) result }
+    ensures leads { IsTrue F.told → (i : Index) → (stored : State) → Stands D (F.files folder.old) session.old i stored
+        → Leads script.entry.line i (lines_of script.entry.rest.now) (record { files = F.files folder.old; session = session.old; reads = F.reads folder.old })
+        (record { files = F.files folder.new; session = session.new; reads = F.reads folder.new }) result }
     ensures cause { HasStopCause (F.faults folder.old) (F.faults folder.new) (K.faults out.old) (K.faults out.new) result }
 {
     let mut reply = Vec::new(work.alloc);
@@ -222,6 +234,9 @@ fn finish<const D: usize, R: Threads + Sync, F: Folder, G: Gate>(
 ) -> Result<u64, Stop>
     ensures ends { IsTrue F.told → (i : Index) → (stored : State) → Stands D (F.files folder.old) session.old i stored
         → IsEnd (F.files folder.new) i stored refused result }
+    ensures closes { IsTrue F.told → (i : Index) → (stored : State) → Stands D (F.files folder.old) session.old i stored
+        → Closes D i (record { files = F.files folder.old; session = session.old; reads = F.reads folder.old })
+        (record { files = F.files folder.new; session = session.new; reads = F.reads folder.new }) result }
     ensures cause { (sink : ℕ) → HasStopCause (F.faults folder.old) (F.faults folder.new) sink sink result }
 {
     match session.commit(work.rt, work.alloc, folder, work.gate) {

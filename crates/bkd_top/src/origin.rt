@@ -5,6 +5,7 @@ ghost use Rattle.page_cache.specs.Causes.{HasPageCause};
 ghost use Rattle.page_cache.specs.Evidence.{NotDamaged};
 ghost use Rattle.index_model.specs.State.{Index, State};
 ghost use Rattle.bkd_top.specs.Answers.{Stands};
+ghost use Rattle.bkd_top.specs.Leads.{Opens};
 ghost use Rattle.bkd_top.specs.Origins.{dims_of, IsFrom, IsMade};
 
 use commit_list::Commit;
@@ -50,6 +51,8 @@ pub fn open<const D: usize, F: Folder>(
     requires made { IsMade origin }
     ensures stands { IsTrue F.told → (i : Index) → (stored : State) → IsFrom (F.files folder.old) origin i stored
         → IfOk result (λ s. Stands D (F.files folder.new) s i stored) }
+    ensures opens { IsTrue F.told → (i : Index) → (stored : State) → IsFrom (F.files folder.old) origin i stored
+        → Opens origin i stored (F.files folder.old) (F.reads folder.old) (F.reads folder.new) result }
     ensures files { IsTrue F.told → F.files folder.new ≡ F.files folder.old }
     ensures cause { HasPageCause (F.faults folder.old) (F.faults folder.new) result }
     ensures whole { IsTrue F.told → (i : Index) → (stored : State) → IsFrom (F.files folder.old) origin i stored → NotDamaged result }

@@ -9,7 +9,8 @@ ghost use Rattle.bkd_top.specs.Progress.{start};
 ghost use Rattle.bkd_top.specs.Runs.{Ends, GoesOn, DoesNothing, IsDamaged};
 ghost use Rattle.command_words.specs.Commands.{Asked, IsWithin, asked, said};
 ghost use Rattle.index_core.specs.Whole.{HasNewCanonical};
-ghost use Rattle.bkd_top.specs.Commands.{EndsAsked, IsAnswer, ReadsFew, does, is_explain, is_served, is_whole, reads_input};
+ghost use Rattle.bkd_top.specs.Commands.{EndsAsked, IsAnswer, ReadsFew, does, is_explain, is_served, reads_input};
+ghost use Rattle.bkd_top.specs.Costs.{AllAsk, KeepsLevels, RunReadsFew, begins_no_merge, is_query, is_run};
 
 use crate::explain::run_explain;
 use crate::lines::{Work, run_lines};
@@ -61,9 +62,15 @@ pub fn run<S: Source, F: Folder, K: Sink, R: Threads + Sync, G: Gate>(
     ensures files { IsTrue F.told → does (λ a. is_explain a) (asked (map string_bytes words.now)) ≡ true → F.files folder.new ≡ F.files folder.old }
     ensures reads { IsTrue S.told → IsTrue F.told → does (λ a. is_explain a) (asked (map string_bytes words.now)) ≡ true
         → ReadsFew (F.files folder.old) (lines_of (S.left input.old)) (F.reads folder.old) (F.reads folder.new) }
-    // each segment that loading or generating has the commit list anew is canonical
-    ensures canon { IsTrue F.told → (state : State) → IsStored (F.files folder.old) state → does (λ a. is_whole a) (asked (map string_bytes words.now)) ≡ true
-        → IsAnswer result → HasNewCanonical (F.files folder.old) (F.files folder.new) }
+    // each segment that the commit lists anew is canonical
+    ensures canon { IsTrue F.told → (state : State) → IsStored (F.files folder.old) state → IsAnswer result → HasNewCanonical (F.files folder.old) (F.files folder.new) }
+    // a script that begins no merge leaves few segments of each level; one of queries changes no file, whatever the status; and it, or one that needs no segment to be merged, reads little
+    ensures levels { IsTrue S.told → IsTrue F.told → (state : State) → IsStored (F.files folder.old) state → does (λ a. is_run a) (asked (map string_bytes words.now)) ≡ true
+        → AllAsk begins_no_merge 1 state (lines_of (S.left input.old)) → IsAnswer result → KeepsLevels (F.files folder.old) (F.files folder.new) }
+    ensures still { IsTrue S.told → IsTrue F.told → (state : State) → IsStored (F.files folder.old) state → does (λ a. is_run a) (asked (map string_bytes words.now)) ≡ true
+        → AllAsk is_query 1 state (lines_of (S.left input.old)) → F.files folder.new ≡ F.files folder.old }
+    ensures run_reads { IsTrue S.told → IsTrue F.told → does (λ a. is_run a) (asked (map string_bytes words.now)) ≡ true
+        → RunReadsFew (F.files folder.old) (lines_of (S.left input.old)) (F.reads folder.old) (F.reads folder.new) }
     // why it ended otherwise
     ensures damaged { IsTrue F.told → (state : State) → IsStored (F.files folder.old) state → IsDamaged result → ⊥ }
     ensures source_fault { result ≡ Status.SourceFault → Rose (S.faults input.old) (S.faults input.new) }
@@ -100,8 +107,13 @@ fn run_command<S: Source, F: Folder, K: Sink, R: Threads + Sync, G: Gate>(
     ensures files { IsTrue F.told → is_explain (said words) ≡ true → F.files folder.new ≡ F.files folder.old }
     ensures reads { IsTrue S.told → IsTrue F.told → is_explain (said words) ≡ true
         → ReadsFew (F.files folder.old) (lines_of (S.left input.old)) (F.reads folder.old) (F.reads folder.new) }
-    ensures canon { IsTrue F.told → (state : State) → IsStored (F.files folder.old) state → is_whole (said words) ≡ true
-        → IsAnswer result → HasNewCanonical (F.files folder.old) (F.files folder.new) }
+    ensures canon { IsTrue F.told → (state : State) → IsStored (F.files folder.old) state → IsAnswer result → HasNewCanonical (F.files folder.old) (F.files folder.new) }
+    ensures levels { IsTrue S.told → IsTrue F.told → (state : State) → IsStored (F.files folder.old) state → is_run (said words) ≡ true
+        → AllAsk begins_no_merge 1 state (lines_of (S.left input.old)) → IsAnswer result → KeepsLevels (F.files folder.old) (F.files folder.new) }
+    ensures still { IsTrue S.told → IsTrue F.told → (state : State) → IsStored (F.files folder.old) state → is_run (said words) ≡ true
+        → AllAsk is_query 1 state (lines_of (S.left input.old)) → F.files folder.new ≡ F.files folder.old }
+    ensures run_reads { IsTrue S.told → IsTrue F.told → is_run (said words) ≡ true
+        → RunReadsFew (F.files folder.old) (lines_of (S.left input.old)) (F.reads folder.old) (F.reads folder.new) }
     ensures damaged { IsTrue F.told → (state : State) → IsStored (F.files folder.old) state → IsDamaged result → ⊥ }
     ensures source_fault { result ≡ Status.SourceFault → Rose (S.faults input.old) (S.faults input.new) }
     ensures too_large { IsTrue S.told → result ≡ Status.TooLarge → 2 ^ 29 < length (S.left input.old) }
@@ -148,6 +160,12 @@ pub fn run_script<S: Source, F: Folder, K: Sink, R: Threads + Sync, G: Gate>(
     ensures never_usage { result ≡ Status.Usage → ⊥ }
     ensures ends { IsTrue S.told → IsTrue F.told → (state : State) → IsStored (F.files folder.old) state
         → Ends (IsTrue K.told) (start state (lines_of (S.left input.old)) (K.written out.old)) (F.files folder.new) (K.written out.new) result }
+    ensures canon { IsTrue F.told → (state : State) → IsStored (F.files folder.old) state → IsAnswer result → HasNewCanonical (F.files folder.old) (F.files folder.new) }
+    ensures levels { IsTrue S.told → IsTrue F.told → (state : State) → IsStored (F.files folder.old) state → AllAsk begins_no_merge 1 state (lines_of (S.left input.old))
+        → IsAnswer result → KeepsLevels (F.files folder.old) (F.files folder.new) }
+    ensures still { IsTrue S.told → IsTrue F.told → (state : State) → IsStored (F.files folder.old) state → AllAsk is_query 1 state (lines_of (S.left input.old))
+        → F.files folder.new ≡ F.files folder.old }
+    ensures reads { IsTrue S.told → IsTrue F.told → RunReadsFew (F.files folder.old) (lines_of (S.left input.old)) (F.reads folder.old) (F.reads folder.new) }
     ensures source { IsTrue S.told → GoesOn result → S.left input.new ≡ [] }
     ensures untouched { DoesNothing result → (folder.new ≡ folder.old) × (out.new ≡ out.old) }
     ensures damaged { IsTrue F.told → (state : State) → IsStored (F.files folder.old) state → IsDamaged result → ⊥ }
@@ -179,6 +197,11 @@ fn run_text<F: Folder, K: Sink, R: Threads + Sync, G: Gate>(
     ensures lines { DoesNothing result → ⊥ }
     ensures ends { IsTrue F.told → (state : State) → IsStored (F.files folder.old) state
         → Ends (IsTrue K.told) (start state (lines_of script.now) (K.written out.old)) (F.files folder.new) (K.written out.new) result }
+    ensures canon { IsTrue F.told → (state : State) → IsStored (F.files folder.old) state → IsAnswer result → HasNewCanonical (F.files folder.old) (F.files folder.new) }
+    ensures levels { IsTrue F.told → (state : State) → IsStored (F.files folder.old) state → AllAsk begins_no_merge 1 state (lines_of script.now)
+        → IsAnswer result → KeepsLevels (F.files folder.old) (F.files folder.new) }
+    ensures still { IsTrue F.told → (state : State) → IsStored (F.files folder.old) state → AllAsk is_query 1 state (lines_of script.now) → F.files folder.new ≡ F.files folder.old }
+    ensures reads { IsTrue F.told → RunReadsFew (F.files folder.old) (lines_of script.now) (F.reads folder.old) (F.reads folder.new) }
     ensures damaged { IsTrue F.told → (state : State) → IsStored (F.files folder.old) state → IsDamaged result → ⊥ }
     ensures folder_fault { result ≡ Status.FolderFault → Rose (F.faults folder.old) (F.faults folder.new) }
     ensures sink_fault { result ≡ Status.SinkFault → Rose (K.faults out.old) (K.faults out.new) }

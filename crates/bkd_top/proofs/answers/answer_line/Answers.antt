@@ -1,7 +1,9 @@
 -- The answer is sent, or the line is left.
-use Rattle.std.proofs.Common.{IsTrue, refl}
+use Rattle.std.proofs.Common.{Bool, Err, IsTrue, Ok, ap, refl, sym, ◌∙◌}
+use Rattle.std.specs.Prelude.{is_ok}
 use Rattle.index_core.proofs.Sizes.{session_fits}
 use Rattle.bkd_top.proofs.Lined.{line_at, sent_answers, sent_as, left_answers, send_cause, fault_cause}
+use Rattle.bkd_top.proofs.Passing.{passes_to}
 use Rattle.bkd_top.proofs.answers.answer_line.Goals as goal
 
 pub reply_to-requires-after_bounds : goal.reply_to-requires-after_bounds
@@ -21,3 +23,11 @@ returns-in-Err-clause-answers g c = λ told i stored h.
 
 pub returns-in-Err-clause-cause : goal.returns-in-Err-clause-cause
 returns-in-Err-clause-cause g c = fault_cause _ _ _ c.in-Err.fault c.in-Err.ensures.cause c.stopped.result c.stopped.ensures
+
+pub returns-in-Ok-clause-passes : goal.returns-in-Ok-clause-passes
+returns-in-Ok-clause-passes g c = λ told i stored h.
+    passes_to g.row.D c.args.number i c.args.line.now _ _ (Ok c.in-Ok.refused) c.send.result (λ e. refl) (c.in-Ok.ensures.passes told i stored h)
+
+pub returns-in-Err-clause-passes : goal.returns-in-Err-clause-passes
+returns-in-Err-clause-passes g c = λ told i stored h.
+    passes_to {S = Bool} g.row.D c.args.number i c.args.line.now _ _ (Err c.in-Err.fault) c.stopped.result (λ e. sym (ap is_ok c.stopped.ensures) ∙ e) (c.in-Err.ensures.passes told i stored h)

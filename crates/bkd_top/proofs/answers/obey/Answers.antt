@@ -1,8 +1,10 @@
 -- The session does what the command asks, and the answer says so.
-use Rattle.std.proofs.Common.{false}
+use Rattle.std.proofs.Common.{IsTrue, Err, Ok, false, refl}
 use Rattle.script_lang.specs.Seen.{request_of}
 use Rattle.bkd_top.proofs.Answered.{done_replies, refused_replies, fault_replies}
 use Rattle.bkd_top.proofs.Lined.{page_done, page_then, page_same}
+use Rattle.index_model.specs.declared.session.Applied.{Applied}
+use Rattle.bkd_top.proofs.Passing.{passes_applied, passes_to}
 use Rattle.bkd_top.proofs.answers.obey.Goals as goal
 
 pub returns-in-Ok-Done-clause-replies : goal.returns-in-Ok-Done-clause-replies
@@ -30,3 +32,51 @@ returns-in-Err-clause-replies g c = λ told i stored h bytes reads.
 
 pub returns-in-Err-clause-cause : goal.returns-in-Err-clause-cause
 returns-in-Err-clause-cause g c = page_same _ _ c.in-Err.fault c.in-Err.ensures.cause
+
+pub returns-in-Ok-Done-clause-passes : goal.returns-in-Ok-Done-clause-passes
+returns-in-Ok-Done-clause-passes g c = λ told i stored h bytes reads.
+    passes_to g.row.D _ i bytes _ _ (Ok c.in-Ok-Done.field-0) _ (λ e. refl)
+    (passes_applied g.row.D (IsTrue g.F.Pages.told) told c.args.number i bytes (request_of c.args.command.now) _ _ _ _ (Ok c.in-Ok-Done.field-0) h.seen reads (record {
+      does = c.in-Ok-Done.ensures.does told i h.seen h.guards;
+      canon = c.in-Ok-Done.ensures.canon told i h.seen h.guards;
+      kept = c.in-Ok-Done.ensures.kept told h.guards;
+      idle = c.in-Ok-Done.ensures.idle told;
+      levels = c.in-Ok-Done.ensures.levels;
+      reads = c.in-Ok-Done.ensures.reads;
+      still = c.in-Ok-Done.ensures.still;
+      light = c.in-Ok-Done.ensures.light;
+      unread = c.in-Ok-Done.ensures.unread;
+      barred = c.in-Ok-Done.ensures.barred;
+    }))
+
+pub returns-in-Ok-Refused-clause-passes : goal.returns-in-Ok-Refused-clause-passes
+returns-in-Ok-Refused-clause-passes g c = λ told i stored h bytes reads.
+    passes_to g.row.D _ i bytes _ _ (Ok c.in-Ok-Refused.field-0) c.refuse.result (λ e. refl)
+    (passes_applied g.row.D (IsTrue g.F.Pages.told) told c.args.number i bytes (request_of c.args.command.now) _ _ _ _ (Ok c.in-Ok-Refused.field-0) h.seen reads (record {
+      does = c.in-Ok-Refused.ensures.does told i h.seen h.guards;
+      canon = c.in-Ok-Refused.ensures.canon told i h.seen h.guards;
+      kept = c.in-Ok-Refused.ensures.kept told h.guards;
+      idle = c.in-Ok-Refused.ensures.idle told;
+      levels = c.in-Ok-Refused.ensures.levels;
+      reads = c.in-Ok-Refused.ensures.reads;
+      still = c.in-Ok-Refused.ensures.still;
+      light = c.in-Ok-Refused.ensures.light;
+      unread = c.in-Ok-Refused.ensures.unread;
+      barred = c.in-Ok-Refused.ensures.barred;
+    }))
+
+pub returns-in-Err-clause-passes : goal.returns-in-Err-clause-passes
+returns-in-Err-clause-passes g c = λ told i stored h bytes reads.
+    passes_to {S = Applied} g.row.D _ i bytes _ _ (Err c.in-Err.fault) _ (λ e. e)
+    (passes_applied g.row.D (IsTrue g.F.Pages.told) told c.args.number i bytes (request_of c.args.command.now) _ _ _ _ (Err c.in-Err.fault) h.seen reads (record {
+      does = c.in-Err.ensures.does told i h.seen h.guards;
+      canon = c.in-Err.ensures.canon told i h.seen h.guards;
+      kept = c.in-Err.ensures.kept told h.guards;
+      idle = c.in-Err.ensures.idle told;
+      levels = c.in-Err.ensures.levels;
+      reads = c.in-Err.ensures.reads;
+      still = c.in-Err.ensures.still;
+      light = c.in-Err.ensures.light;
+      unread = c.in-Err.ensures.unread;
+      barred = c.in-Err.ensures.barred;
+    }))

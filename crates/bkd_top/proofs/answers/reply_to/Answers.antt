@@ -5,6 +5,7 @@ use Rattle.script_lang.specs.Seen.{request_of}
 use Rattle.script_lang.specs.declared.faults.LineFault.TheVariants as fault
 use Rattle.bkd_top.proofs.Answered.{unread_replies, fault_read}
 use Rattle.bkd_top.proofs.Lined.{page_memory, page_still}
+use Rattle.bkd_top.proofs.Passing.{passes_none, passes_unread}
 use Rattle.bkd_top.proofs.Sizes.{command_fits}
 use Rattle.bkd_top.proofs.answers.reply_to.Goals as goal
 
@@ -28,3 +29,14 @@ returns-in-Err-clause-replies g c = λ told i stored h.
 
 pub returns-in-Err-clause-cause : goal.returns-in-Err-clause-cause
 returns-in-Err-clause-cause g c = page_still _ c.refuse_line.result c.refuse_line.ensures.memory
+
+pub returns-in-Ok-clause-passes : goal.returns-in-Ok-clause-passes
+returns-in-Ok-clause-passes g c = λ told i stored h. c.obey.ensures.passes told i stored h c.args.line.now c.in-Ok.ensures.reads
+
+pub returns-in-Err-Memory-clause-passes : goal.returns-in-Err-Memory-clause-passes
+returns-in-Err-Memory-clause-passes g c = λ told i stored h. passes_none g.row.D c.args.number i c.args.line.now _ _
+
+pub returns-in-Err-clause-passes : goal.returns-in-Err-clause-passes
+returns-in-Err-clause-passes g c = λ told i stored h.
+    let other : c.in-Err.fault ≢ fault.Memory = search rules in
+    passes_unread g.row.D c.args.number i c.args.line.now c.in-Err.fault _ c.refuse_line.result h.seen.dims (fault_read (request_of {D = g.row.D}) c.in-Err.fault _ other c.in-Err.ensures.reads)

@@ -1,6 +1,7 @@
 -- What the lines left is committed, or the run stops.
 use Rattle.std.proofs.Common.{refl}
 use Rattle.bkd_top.proofs.Lined.{stops_end, ok_cause, fault_cause}
+use Rattle.bkd_top.proofs.Leading.{closes_by, closes_fails}
 use Rattle.bkd_top.proofs.lines.finish.Goals as goal
 
 pub returns-in-Ok-clause-ends : goal.returns-in-Ok-clause-ends
@@ -15,3 +16,31 @@ returns-in-Err-clause-ends g c = λ told i stored h.
 
 pub returns-in-Err-clause-cause : goal.returns-in-Err-clause-cause
 returns-in-Err-clause-cause g c = λ sink. fault_cause _ _ sink c.in-Err.fault c.in-Err.ensures.cause c.stopped.result c.stopped.ensures
+
+pub returns-in-Ok-clause-closes : goal.returns-in-Ok-clause-closes
+returns-in-Ok-clause-closes g c = λ told i stored h.
+    closes_by g.row.D i _ _ _ h.seen (record {
+      seen = c.in-Ok.ensures.seen told i h.seen;
+      guards = c.in-Ok.ensures.guards told h.guards;
+      says = c.in-Ok.ensures.kept told h.guards;
+      unchanged = c.in-Ok.ensures.unchanged;
+      canon = c.in-Ok.ensures.canon told;
+      files = λ u. (c.in-Ok.ensures.idle u).2;
+      unread = λ u. (c.in-Ok.ensures.idle u).3;
+      rested = c.in-Ok.ensures.rested;
+      levels = c.in-Ok.ensures.levels;
+    })
+
+pub returns-in-Err-clause-closes : goal.returns-in-Err-clause-closes
+returns-in-Err-clause-closes g c = λ told i stored h.
+    closes_fails g.row.D i _ _ c.stopped.result _ c.stopped.ensures h.seen (record {
+      seen = c.in-Err.ensures.seen told i h.seen;
+      guards = c.in-Err.ensures.guards told h.guards;
+      says = tt;
+      unchanged = tt;
+      canon = c.in-Err.ensures.canon told;
+      files = λ u. (c.in-Err.ensures.idle u).2;
+      unread = λ u. (c.in-Err.ensures.idle u).3;
+      rested = c.in-Err.ensures.rested;
+      levels = λ n none. tt;
+    })

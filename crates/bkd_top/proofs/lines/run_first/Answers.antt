@@ -5,11 +5,13 @@ use Rattle.outer_io.specs.declared.file_name.FileName.TheVariants.{Commit}
 use Rattle.index_model.specs.State.{new_index}
 use Rattle.bkd_top.proofs.Going.{start_here, no_lines, refused_more, at_most_one}
 use Rattle.bkd_top.proofs.Lined.{stops_first, finishes_first, first_goes_on, made_ends, first_cause, cause_on}
+use Rattle.bkd_top.proofs.Starting.{leads_none, leads_same, made_leads, nears_first, nears_on}
 use Rattle.bkd_top.proofs.lines.run_first.Goals as goal
 
 pub lines-init : goal.lines-init
 lines-init g c = record {
   going = start_here _;
+  near = nears_first _;
   room = omega (arith, c.requires);
   counted = omega arith;
   folder = refl;
@@ -22,6 +24,7 @@ lines-preserved g c =
     record {
       going = first_goes_on _ _ _ _ _ c.lines.invariant.going _ _ _ c.first_line.ensures.line _
           (refused_more c.lines.refused _ _ _ same.refused c.from-refused.ensures) same.state c.in-Ok-Nothing.ensures.text;
+      near = nears_on _ _ _ c.lines.invariant.near _ _ c.first_line.ensures.line same.state;
       room = omega (arith, c.lines.invariant.room, c.first_line.ensures.shorter);
       counted = omega (arith, c.lines.invariant.counted, at_most_one _ _ c.from-refused.ensures);
       folder = c.lines.invariant.folder;
@@ -66,3 +69,20 @@ returns-clause-cause g c = record {
   folder = λ e. absurd cc;
   sink = λ e. absurd cc;
 }
+
+pub returns-in-Ok-Made-clause-leads : goal.returns-in-Ok-Made-clause-leads
+returns-in-Ok-Made-clause-leads g c = λ told none.
+    let made = rw c.in-Ok-Made.field-0-is at c.in-Ok-Made.ensures.opening in
+    let same = ap (λ f. g.F.Pages.files f) c.lines.invariant.folder in
+    let still : g.F.Pages.files c.lines.folder Commit ≡ None = rw same none in
+    leads_same None _ _ _ _ _ _ _ c.run_from.result same (ap (λ f. g.F.Pages.reads f) c.lines.invariant.folder)
+    (made_leads _ _ _ c.lines.invariant.near _ _ c.first_line.ensures.line c.in-Ok-Made.dims c.in-Ok-Made.leaf made.0 _ _ _ _ still c.run_from.result
+    (c.run_from.ensures.leads told (new_index c.in-Ok-Made.dims c.in-Ok-Made.leaf) None (still, refl, refl)))
+
+pub returns-in-Err-clause-leads : goal.returns-in-Err-clause-leads
+returns-in-Err-clause-leads g c = λ told none.
+    leads_none None _ _ _ _ _ _ (ap (λ f. g.F.Pages.files f) c.lines.invariant.folder) (ap (λ f. g.F.Pages.reads f) c.lines.invariant.folder)
+
+pub returns-clause-leads : goal.returns-clause-leads
+returns-clause-leads g c = λ told none.
+    leads_none None _ _ _ _ _ _ (ap (λ f. g.F.Pages.files f) c.lines.invariant.folder) (ap (λ f. g.F.Pages.reads f) c.lines.invariant.folder)

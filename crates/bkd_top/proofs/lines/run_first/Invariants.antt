@@ -2,6 +2,7 @@ use Rattle.std.proofs.Common.{◌≡◌, ◌≤◌, ◌<◌, ◌+◌, ◌^◌, l
 use Rattle.script_lang.specs.Lines.{lines_of}
 use Rattle.bkd_top.specs.Progress.{Progress}
 use Rattle.bkd_top.proofs.Lined.{place_off}
+use Rattle.bkd_top.proofs.Starting.{Nears}
 use Rattle.bkd_top.proofs.lines.run_first.Given as goal
 
 -- the lines so far were done as the script says, and the folder was left alone
@@ -10,6 +11,7 @@ invariant-lines g l = record {
   going : Progress (IsTrue g.K.Sink.told)
       (place_off l.initial.line l.initial.refused (lines_of l.initial.rest) (g.K.Sink.written l.initial.out))
       (place_off l.line l.refused (lines_of l.rest) (g.K.Sink.written l.out));
+  near : Nears (lines_of l.initial.rest) l.line (lines_of l.rest);
   room : l.line + length l.rest < 2 ^ 64;
   counted : l.refused ≤ l.line;
   folder : l.folder ≡ l.initial.folder;

@@ -4,6 +4,7 @@ use Rattle.script_lang.specs.Lines.{lines_of}
 use Rattle.bkd_top.specs.Progress.{start}
 use Rattle.bkd_top.proofs.Ending.{cause_from}
 use Rattle.bkd_top.proofs.Lined.{unopened, fault_cause, from_none, from_some, not_damaged}
+use Rattle.bkd_top.proofs.Starting.{leads_first, leads_some, leads_unread}
 use Rattle.bkd_top.proofs.lines.run_lines.Goals as goal
 
 pub returns-in-Ok-None-clause-ends : goal.returns-in-Ok-None-clause-ends
@@ -28,3 +29,17 @@ returns-in-Err-clause-ends g c = λ told state h.
 
 pub returns-in-Err-clause-cause : goal.returns-in-Err-clause-cause
 returns-in-Err-clause-cause g c = fault_cause _ _ _ c.in-Err.fault c.in-Err.ensures.cause c.stopped.result c.stopped.ensures
+
+pub returns-in-Ok-None-clause-leads : goal.returns-in-Ok-None-clause-leads
+returns-in-Ok-None-clause-leads g c = λ told state h.
+    let none = rw c.in-Ok-None.field-0-is at (c.in-Ok-None.ensures.found told) in
+    leads_first state _ _ _ _ _ _ _ c.run_first.result (c.in-Ok-None.ensures.files told) h none (c.in-Ok-None.ensures.unread told none) (c.run_first.ensures.leads told)
+
+pub returns-in-Ok-Some-clause-leads : goal.returns-in-Ok-Some-clause-leads
+returns-in-Ok-Some-clause-leads g c = λ told state h.
+    let says = rw c.in-Ok-Some.field-0-is at (c.in-Ok-Some.ensures.found told) in
+    leads_some state _ _ _ _ _ _ _ c.run_from.result (c.in-Ok-Some.ensures.files told) h c.in-Ok-Some.commit says (c.in-Ok-Some.ensures.most told c.in-Ok-Some.commit says) (c.run_from.ensures.leads told)
+
+pub returns-in-Err-clause-leads : goal.returns-in-Err-clause-leads
+returns-in-Err-clause-leads g c = λ told state h.
+    leads_unread state _ _ _ _ _ c.stopped.result _ (c.in-Err.ensures.files told) (c.in-Err.ensures.unread told) (c.in-Err.ensures.most told) c.stopped.ensures

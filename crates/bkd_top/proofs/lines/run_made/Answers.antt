@@ -4,6 +4,7 @@ use Rattle.std.proofs.lemmas.Bool.Decides.{nat_tests}
 use Rattle.index_core.proofs.Sizes.{session_fits}
 use Rattle.bkd_top.proofs.Ending.{cause_from}
 use Rattle.bkd_top.proofs.Going.{no_lines, refused_more, at_most_one}
+use Rattle.bkd_top.proofs.Leading.{led_ends, led_first, led_on, led_stops}
 use Rattle.bkd_top.proofs.Lined.{goes_first, goes_on, stops_at, ends_then, end_lines, cause_to}
 use Rattle.bkd_top.proofs.lines.run_made.Goals as goal
 
@@ -15,7 +16,7 @@ finish-requires-after_bounds g c κs = λ _. session_fits g.row.D c.requires.few
 
 pub lines-init : goal.lines-init
 lines-init g c = record {
-  going = λ told i stored h. goes_first g.row.D (g.F.Pages.files c.args.folder.now) c.args.session.now i stored _ _ _ _ h;
+  going = λ told i stored h. (goes_first g.row.D (g.F.Pages.files c.args.folder.now) c.args.session.now i stored _ _ _ _ h, led_first g.row.D _ i _ _);
   room = c.requires.lines;
   counted = c.requires.refused;
   folder_later = omega arith;
@@ -26,8 +27,11 @@ pub lines-preserved : goal.lines-preserved
 lines-preserved g c = record {
   going = λ told i stored h.
       let so_far = c.lines.invariant.going told i stored h in
-      goes_on g.row.D _ _ _ _ _ _ _ _ _ _ so_far _ _ c.first_line.ensures.line c.in-Ok.is_refused _ (refused_more c.lines.refused c.in-Ok.is_refused _ _ refl c.from-refused.ensures)
-      (c.in-Ok.ensures.answers told so_far.index so_far.stored so_far.stands);
+      let answered = c.in-Ok.ensures.answers told so_far.0.index so_far.0.stored so_far.0.stands in (
+        goes_on g.row.D _ _ _ _ _ _ _ _ _ _ so_far.0 _ _ c.first_line.ensures.line c.in-Ok.is_refused _ (refused_more c.lines.refused c.in-Ok.is_refused _ _ refl c.from-refused.ensures) answered,
+        led_on g.row.D _ i _ _ _ so_far.0.index _ _ so_far.1 _ _ c.first_line.ensures.line _ c.in-Ok.is_refused (c.in-Ok.ensures.passes told so_far.0.index so_far.0.stored so_far.0.stands)
+            answered.0.index answered.0.state,
+      );
   room = omega (arith, c.lines.invariant.room, c.first_line.ensures.shorter);
   counted = omega (arith, c.lines.invariant.counted, at_most_one _ _ c.from-refused.ensures);
   folder_later = omega (arith, c.lines.invariant.folder_later, c.answer_line.ensures.cause.folder_later);
@@ -37,7 +41,7 @@ lines-preserved g c = record {
 pub returns-in-Err-clause-ends : goal.returns-in-Err-clause-ends
 returns-in-Err-clause-ends g c = λ told i stored h.
     let so_far = c.lines.invariant.going told i stored h in
-    stops_at g.row.D _ _ _ _ c.answer_line.new.session _ _ _ _ _ so_far _ _ c.first_line.ensures.line c.in-Err.stop (c.in-Err.ensures.answers told so_far.index so_far.stored so_far.stands)
+    stops_at g.row.D _ _ _ _ c.answer_line.new.session _ _ _ _ _ so_far.0 _ _ c.first_line.ensures.line c.in-Err.stop (c.in-Err.ensures.answers told so_far.0.index so_far.0.stored so_far.0.stands)
 
 pub returns-in-Err-clause-cause : goal.returns-in-Err-clause-cause
 returns-in-Err-clause-cause g c = cause_from _ _ _ _ _ _ _ c.lines.invariant.folder_later c.lines.invariant.sink_later (cause_to _ _ _ _ c.in-Err.stop c.in-Err.ensures.cause)
@@ -46,8 +50,18 @@ pub returns-clause-ends : goal.returns-clause-ends
 returns-clause-ends g c = λ told i stored h.
     let none : length c.lines.rest.now ≡ 0 = grind (arith, nat_tests) in
     let so_far = c.lines.invariant.going told i stored h in
-    ends_then g.row.D _ _ _ _ _ _ _ so_far (no_lines _ none) _ c.finish.result
-    (end_lines (IsTrue g.K.Sink.told) _ so_far.index so_far.stored c.lines.line c.lines.refused _ c.finish.result (c.finish.ensures.ends told so_far.index so_far.stored so_far.stands))
+    ends_then g.row.D _ _ _ _ _ _ _ so_far.0 (no_lines _ none) _ c.finish.result
+    (end_lines (IsTrue g.K.Sink.told) _ so_far.0.index so_far.0.stored c.lines.line c.lines.refused _ c.finish.result (c.finish.ensures.ends told so_far.0.index so_far.0.stored so_far.0.stands))
 
 pub returns-clause-cause : goal.returns-clause-cause
 returns-clause-cause g c = cause_from _ _ _ _ _ _ _ c.lines.invariant.folder_later c.lines.invariant.sink_later (c.finish.ensures.cause _)
+
+pub returns-in-Err-clause-leads : goal.returns-in-Err-clause-leads
+returns-in-Err-clause-leads g c = λ told i stored h.
+    let so_far = c.lines.invariant.going told i stored h in
+    led_stops g.row.D _ i _ _ _ so_far.0.index _ _ so_far.1 _ _ c.first_line.ensures.line _ c.in-Err.stop c.in-Err.stop (c.in-Err.ensures.passes told so_far.0.index so_far.0.stored so_far.0.stands)
+
+pub returns-clause-leads : goal.returns-clause-leads
+returns-clause-leads g c = λ told i stored h.
+    let so_far = c.lines.invariant.going told i stored h in
+    led_ends g.row.D _ i _ _ _ so_far.0.index _ _ so_far.1 so_far.0.stands.seen _ c.finish.result (c.finish.ensures.closes told so_far.0.index so_far.0.stored so_far.0.stands)

@@ -4,6 +4,7 @@ use Rattle.script_lang.specs.Lines.{lines_of}
 use Rattle.index_core.proofs.Sizes.{session_fits}
 use Rattle.bkd_top.proofs.Ending.{cause_from}
 use Rattle.bkd_top.proofs.Lined.{place_on, unopened, fault_cause, origin_keeps}
+use Rattle.bkd_top.proofs.Starting.{open_fails, open_leads}
 use Rattle.bkd_top.proofs.lines.run_over.Goals as goal
 
 pub open-requires : goal.open-requires
@@ -25,3 +26,12 @@ returns-in-Err-clause-ends g c = λ told i stored h.
 
 pub returns-in-Err-clause-cause : goal.returns-in-Err-clause-cause
 returns-in-Err-clause-cause g c = fault_cause _ _ _ c.in-Err.fault c.in-Err.ensures.cause c.stopped.result c.stopped.ensures
+
+pub returns-in-Ok-clause-leads : goal.returns-in-Ok-clause-leads
+returns-in-Ok-clause-leads g c = λ told i stored h.
+    open_leads c.args.origin i stored c.args.script.line (lines_of c.args.script.rest.now) _ _ _ _ (c.in-Ok.ensures.files told) _ _ c.run_made.result (c.in-Ok.ensures.opens told i stored h)
+    (c.run_made.ensures.leads told i stored (c.in-Ok.ensures.stands told i stored h))
+
+pub returns-in-Err-clause-leads : goal.returns-in-Err-clause-leads
+returns-in-Err-clause-leads g c = λ told i stored h.
+    open_fails c.args.origin i stored c.args.script.line (lines_of c.args.script.rest.now) _ _ _ _ (c.in-Err.ensures.files told) c.in-Err.fault (c.in-Err.ensures.opens told i stored h) c.stopped.result _ c.stopped.ensures

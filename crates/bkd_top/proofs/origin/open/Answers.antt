@@ -5,6 +5,7 @@ use Rattle.script_lang.specs.Reading.{greatest_leaf}
 use Rattle.index_core.proofs.Sizes.{session_fits}
 use Rattle.bkd_top.proofs.Lined.{page_memory, page_none}
 use Rattle.bkd_top.proofs.Opened.{made_stands, attached_stands}
+use Rattle.bkd_top.proofs.Starting.{opens_new, opens_none, opens_stored}
 use Rattle.bkd_top.proofs.origin.open.Goals as goal
 
 pub create-requires : goal.create-requires
@@ -41,3 +42,19 @@ pub returns-in-Stored-clause-whole : goal.returns-in-Stored-clause-whole
 returns-in-Stored-clause-whole g c = λ told i stored h.
     let from = rw c.in-Stored.is at h in
     c.attach.ensures.whole told from.0 (Some i) from.1
+
+pub returns-in_ok-create-in-New-clause-opens : goal.returns-in_ok-create-in-New-clause-opens
+returns-in_ok-create-in-New-clause-opens g c = λ told i stored h.
+    rw c.in-New.is (opens_new g.row.D _ _ _ _ _ i stored (rw c.in-New.is at c.requires.dims) c.in_ok-create-in-New.ensures.seen c.in_ok-create-in-New.ensures.bare (rw c.in-New.is at h))
+
+pub returns-in_err-create-in-New-clause-opens : goal.returns-in_err-create-in-New-clause-opens
+returns-in_err-create-in-New-clause-opens g c = λ told i stored h.
+    let p = err_from_is_err_and c.from_residual.result c.from_residual.ensures.1 in
+    rw (p.1, c.in-New.is) (opens_none _ _ _ _ i stored _ (rw c.in-New.is at h))
+
+pub returns-in-Stored-clause-opens : goal.returns-in-Stored-clause-opens
+returns-in-Stored-clause-opens g c = λ told i stored h.
+    let from = rw c.in-Stored.is at h in
+    rw c.in-Stored.is
+    (opens_stored g.row.D _ _ _ _ c.in-Stored.commit i stored (rw c.in-Stored.is at c.requires.dims) (c.attach.ensures.files told) from (c.attach.ensures.reads told) c.attach.result
+    (c.attach.ensures.seen told from.0 i from.1) (c.attach.ensures.guards told from.0) c.attach.ensures.unchanged)

@@ -2,7 +2,8 @@
 use Rattle.std.proofs.Common.{IsTrue, refl, ap}
 use Rattle.command_words.specs.Commands.{said}
 use Rattle.bkd_top.specs.declared.status.Status.TheVariants as status
-use Rattle.bkd_top.proofs.Commanding.{check_ends, explain_ends, generate_ends, is_there, load_ends, run_ends}
+use Rattle.bkd_top.proofs.Commanding.{check_ends, explain_ends, generate_ends, is_there, load_ends, not_run, run_ends}
+use Rattle.bkd_top.proofs.Starting.{canonical_still}
 use Rattle.bkd_top.proofs.program.run_command.Goals as goal
 
 pub returns-in-Run-clause-usage : goal.returns-in-Run-clause-usage
@@ -32,7 +33,7 @@ returns-in-Load-clause-ends g c = λ source told state h.
     _ _ (ap said c.in-Load.is) (rw c.as_slice.ensures.value at (c.run_load.ensures.ends source told state h))
 
 pub returns-in-Load-clause-canon : goal.returns-in-Load-clause-canon
-returns-in-Load-clause-canon g c = λ told state h e. c.run_load.ensures.canon told state h
+returns-in-Load-clause-canon g c = c.run_load.ensures.canon
 
 pub returns-in-Explain-clause-usage : goal.returns-in-Explain-clause-usage
 returns-in-Explain-clause-usage g c = λ e. absurd (c.run_explain.ensures.never_usage e)
@@ -67,4 +68,58 @@ returns-in-Generate-clause-ends g c = λ source told state h.
     _ _ _ (ap said c.in-Generate.is) (c.run_generate.ensures.ends told state h (g.S.Source.left c.args.input.now))
 
 pub returns-in-Generate-clause-canon : goal.returns-in-Generate-clause-canon
-returns-in-Generate-clause-canon g c = λ told state h e. c.run_generate.ensures.canon told state h
+returns-in-Generate-clause-canon g c = c.run_generate.ensures.canon
+
+pub returns-in-Run-clause-canon : goal.returns-in-Run-clause-canon
+returns-in-Run-clause-canon g c = c.run_script.ensures.canon
+
+pub returns-in-Run-clause-levels : goal.returns-in-Run-clause-levels
+returns-in-Run-clause-levels g c = λ source told state h e. c.run_script.ensures.levels source told state h
+
+pub returns-in-Run-clause-still : goal.returns-in-Run-clause-still
+returns-in-Run-clause-still g c = λ source told state h e. c.run_script.ensures.still source told state h
+
+pub returns-in-Run-clause-run_reads : goal.returns-in-Run-clause-run_reads
+returns-in-Run-clause-run_reads g c = λ source told e. c.run_script.ensures.reads source told
+
+pub returns-in-Explain-clause-canon : goal.returns-in-Explain-clause-canon
+returns-in-Explain-clause-canon g c = λ told state h a. canonical_still _ _ (c.run_explain.ensures.files told)
+
+pub returns-in-Check-clause-canon : goal.returns-in-Check-clause-canon
+returns-in-Check-clause-canon g c = λ told state h a. absurd a
+
+pub returns-in-Load-clause-levels : goal.returns-in-Load-clause-levels
+returns-in-Load-clause-levels g c = λ source told state h e. not_run c.args.words _ (ap said c.in-Load.is) refl e
+
+pub returns-in-Load-clause-still : goal.returns-in-Load-clause-still
+returns-in-Load-clause-still g c = λ source told state h e. not_run c.args.words _ (ap said c.in-Load.is) refl e
+
+pub returns-in-Load-clause-run_reads : goal.returns-in-Load-clause-run_reads
+returns-in-Load-clause-run_reads g c = λ source told e. not_run c.args.words _ (ap said c.in-Load.is) refl e
+
+pub returns-in-Explain-clause-levels : goal.returns-in-Explain-clause-levels
+returns-in-Explain-clause-levels g c = λ source told state h e. not_run c.args.words _ (ap said c.in-Explain.is) refl e
+
+pub returns-in-Explain-clause-still : goal.returns-in-Explain-clause-still
+returns-in-Explain-clause-still g c = λ source told state h e. not_run c.args.words _ (ap said c.in-Explain.is) refl e
+
+pub returns-in-Explain-clause-run_reads : goal.returns-in-Explain-clause-run_reads
+returns-in-Explain-clause-run_reads g c = λ source told e. not_run c.args.words _ (ap said c.in-Explain.is) refl e
+
+pub returns-in-Check-clause-levels : goal.returns-in-Check-clause-levels
+returns-in-Check-clause-levels g c = λ source told state h e. not_run c.args.words _ (ap said c.in-Check.is) refl e
+
+pub returns-in-Check-clause-still : goal.returns-in-Check-clause-still
+returns-in-Check-clause-still g c = λ source told state h e. not_run c.args.words _ (ap said c.in-Check.is) refl e
+
+pub returns-in-Check-clause-run_reads : goal.returns-in-Check-clause-run_reads
+returns-in-Check-clause-run_reads g c = λ source told e. not_run c.args.words _ (ap said c.in-Check.is) refl e
+
+pub returns-in-Generate-clause-levels : goal.returns-in-Generate-clause-levels
+returns-in-Generate-clause-levels g c = λ source told state h e. not_run c.args.words _ (ap said c.in-Generate.is) refl e
+
+pub returns-in-Generate-clause-still : goal.returns-in-Generate-clause-still
+returns-in-Generate-clause-still g c = λ source told state h e. not_run c.args.words _ (ap said c.in-Generate.is) refl e
+
+pub returns-in-Generate-clause-run_reads : goal.returns-in-Generate-clause-run_reads
+returns-in-Generate-clause-run_reads g c = λ source told e. not_run c.args.words _ (ap said c.in-Generate.is) refl e

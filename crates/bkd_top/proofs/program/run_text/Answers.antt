@@ -1,7 +1,9 @@
 -- The status says how the lines ended.
 use Rattle.std.proofs.Common.{sym, subst, ◌∙◌}
+use Rattle.bkd_top.specs.Commands.{IsAnswer}
 use Rattle.bkd_top.specs.Runs.{DoesNothing, IsDamaged}
 use Rattle.bkd_top.proofs.Ending.{status_ends, never_damaged, does_lines, folder_stopped, sink_stopped}
+use Rattle.bkd_top.proofs.Starting.{when_answered}
 use Rattle.bkd_top.proofs.program.run_text.Goals as goal
 
 pub returns-clause-lines : goal.returns-clause-lines
@@ -18,3 +20,15 @@ returns-clause-folder_fault g c = λ e. c.run_lines.ensures.cause.folder (folder
 
 pub returns-clause-sink_fault : goal.returns-clause-sink_fault
 returns-clause-sink_fault g c = λ e. c.run_lines.ensures.cause.sink (sink_stopped c.run_lines.result (sym c.status_of.ensures ∙ e))
+
+pub returns-clause-canon : goal.returns-clause-canon
+returns-clause-canon g c = λ told state h a. when_answered c.run_lines.result (subst IsAnswer c.status_of.ensures a) (c.run_lines.ensures.leads told state h).canon
+
+pub returns-clause-levels : goal.returns-clause-levels
+returns-clause-levels g c = λ told state h asks a. when_answered c.run_lines.result (subst IsAnswer c.status_of.ensures a) ((c.run_lines.ensures.leads told state h).levels asks)
+
+pub returns-clause-still : goal.returns-clause-still
+returns-clause-still g c = λ told state h asks. (c.run_lines.ensures.leads told state h).still asks
+
+pub returns-clause-reads : goal.returns-clause-reads
+returns-clause-reads g c = λ told s scope. (c.run_lines.ensures.leads told s.state scope.stored).reads s scope
