@@ -1,5 +1,5 @@
 -- What lines ask for, and what becomes of the index.
-use Rattle.std.proofs.Common.{◌≡◌, ◌≤◌, ◌+◌, ◌^◌, ◌<◌, ℕ, Bool, true, false, not, if◌then◌else◌, nat_lt, nat_le, List, [], ◌∷◌, ◌++◌, length, filter, Option, None, Some, refl, sym, ap, subst, ◌∙◌, ◌⊎◌, inl, inr, ⊎_elim, arith, ℤ}
+use Rattle.std.proofs.Common.{◌≡◌, ◌≤◌, ◌+◌, ◌^◌, ◌<◌, ℕ, Bool, true, false, not, if◌then◌else◌, nat_lt, nat_le, List, [], ◌∷◌, ◌++◌, length, filter, Option, None, Some, refl, sym, ap, subst, ◌∙◌, ◌⊎◌, inl, inr, arith, ℤ}
 use Rattle.std.specs.Prelude.{is_some}
 use Rattle.std.specs.Option.{option_map}
 use Rattle.std.specs.Str.{bytes_eq}
@@ -16,7 +16,7 @@ use Rattle.index_model.specs.State.{Index, State, snapshot_of, viewed_docs}
 use Rattle.index_model.specs.Step.{Outcome, Done, Refused, answered, fine, step, step_on}
 use Rattle.index_model.specs.Script.{Answer, answer, answer_of, answer_to, state_after}
 use Rattle.index_core.specs.Light.{is_light, points_in}
-use Rattle.bkd_top.specs.Costs.{AllAsk, AsksOnly, TouchesLine, TouchesLines, TouchesReading, begins_no_merge, given_of, is_query}
+use Rattle.bkd_top.specs.Costs.{AllAsk, AsksOnly, TouchesLine, TouchesLines, begins_no_merge, given_of, is_query}
 
 -- ---- an outcome
 

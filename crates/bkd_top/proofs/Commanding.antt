@@ -1,5 +1,5 @@
 -- What the words ask for, and how it ends.
-use Rattle.std.proofs.Common.{◌≡◌, ℕ, true, false, List, [], Some, None, Option, refl, sym, ap, subst, ◌∙◌, inl, append-nil}
+use Rattle.std.proofs.Common.{◌≡◌, ℕ, true, false, List, [], Some, Option, refl, sym, ap, subst, ◌∙◌, inl, append-nil}
 use Rattle.std.proofs.lemmas.Bool.{false≢true}
 use Rattle.outer_io.specs.Files.{Files}
 use Rattle.script_lang.specs.Lines.{lines_of}

@@ -1,5 +1,5 @@
 -- How a command that is done at once ends.
-use Rattle.std.proofs.Common.{◌≡◌, ◌==◌, ◌++◌, ℕ, Bool, true, false, cond, List, [], Result, Ok, Err, IfOk, OnErr, OnOk, IsErrOf, refl, sym, ap, ◌∙◌, subst, arith}
+use Rattle.std.proofs.Common.{◌≡◌, ◌==◌, ◌++◌, ℕ, Bool, true, false, cond, List, [], Result, Ok, Err, IfOk, OnErr, OnOk, IsErrOf, refl, sym, ap, ◌∙◌, subst}
 use Rattle.std.proofs.lemmas.Bool.{false≢true}
 use Rattle.std.specs.Prelude.{IsOk}
 use mir.Val.{bool_byte}
@@ -15,7 +15,7 @@ use Rattle.index_model.specs.State.{State}
 use Rattle.index_core.specs.Whole.{DoesWhole}
 use Rattle.bkd_top.specs.Answers.{IsSent}
 use Rattle.bkd_top.specs.Commands.{Before, EndsWhole, IsAnswer}
-use Rattle.bkd_top.specs.Runs.{DoesNothing, IsDamaged}
+use Rattle.bkd_top.specs.Runs.{IsDamaged}
 use Rattle.bkd_top.specs.Stops.{status_of, stop_of}
 use Rattle.bkd_top.specs.declared.stop.Stop.{Stop}
 use Rattle.bkd_top.specs.declared.stop.Stop.TheVariants as stop

@@ -1,6 +1,6 @@
 -- What lines do on their way, one after the other, and with the commit at their end.
-use Rattle.std.proofs.Common.{◌≡◌, ◌≤◌, ◌<◌, ◌+◌, ◌&&◌, ℕ, Bool, true, false, not, cond, List, [], ◌∷◌, length, map, Option, None, Some, Result, Ok, Err, OnOk, refl, sym, ap, subst, ◌∙◌, ◌⊎◌, inl, inr, ⊎_elim, arith}
-use Rattle.std.specs.List.{Contains, count_by, sum_by, zip}
+use Rattle.std.proofs.Common.{◌≡◌, ◌≤◌, ◌<◌, ◌+◌, ◌&&◌, ℕ, Bool, true, false, not, cond, List, [], ◌∷◌, length, Option, None, Some, Result, Ok, Err, OnOk, refl, sym, ap, subst, ◌∙◌, ◌⊎◌, inl, inr, ⊎_elim, arith}
+use Rattle.std.specs.List.{count_by, zip}
 use Rattle.std.proofs.lemmas.List.Sums.{sum_by-cons}
 use Rattle.outer_io.specs.declared.file_name.FileName.TheVariants.{Commit}
 use Rattle.outer_io.specs.Files.{Files, bytes_of}
@@ -14,14 +14,14 @@ use Rattle.segment_view.specs.Parts.{Part, heads_of}
 use Rattle.segment_set.specs.Sets.{BegunMerge, IsSettled, SetData, pins_of, sizes_of}
 use Rattle.segment_set.specs.Seen.{Sees}
 use Rattle.index_core.specs.Effects.{BringsCanonical}
-use Rattle.index_core.specs.Light.{CommitsFewOfLevels, HasFewOfLevels, LooksAt, is_light}
-use Rattle.index_core.specs.Sessions.{Guards, IsUnchanged, SessionData}
+use Rattle.index_core.specs.Light.{CommitsFewOfLevels, LooksAt, is_light}
+use Rattle.index_core.specs.Sessions.{Guards, IsUnchanged}
 use Rattle.index_core.specs.Steps.{SaysCommit}
 use Rattle.index_core.specs.Whole.{HasNewCanonical}
 use Rattle.index_core.proofs.Bringing.{brings_same, brings_then}
 use Rattle.index_core.proofs.Listed.{new_canonical}
-use Rattle.bkd_top.specs.Costs.{AllAsk, AreLight, AsksOnly, HasRoomInLevels, KeepsLevels, TouchesLine, TouchesLines, begins_no_merge, given_of, is_query}
-use Rattle.bkd_top.specs.Leads.{AreListed, Closes, HasRoom, Leads, Passes, Spot, StaysFew}
+use Rattle.bkd_top.specs.Costs.{AllAsk, AreLight, HasRoomInLevels, KeepsLevels, TouchesLines, begins_no_merge, given_of, is_query}
+use Rattle.bkd_top.specs.Leads.{AreListed, Closes, HasRoom, Leads, Passes, Spot}
 use Rattle.bkd_top.proofs.Asking.{Rested, all_first, all_rest, all_weaker, light_begins, line_rests, lines_give, queries_stay, query_light, state_rest, touches_parts}
 use Rattle.bkd_top.proofs.Deciding.{unchanged_or_not}
 use Rattle.bkd_top.proofs.Passing.{begins_none}

@@ -1,7 +1,7 @@
 -- What one line does on its way, by what the session did with its request.
-use Rattle.std.proofs.Common.{◌≡◌, ◌≤◌, ◌+◌, ◌<◌, ◌^◌, ℕ, Bool, true, false, cond, List, [], ◌∷◌, length, map, Option, None, Some, Result, Ok, Err, OnOk, refl, sym, ap, subst, ◌∙◌, ◌⊎◌, inl, inr, ⊎_elim, add-zero, arith, ℤ}
+use Rattle.std.proofs.Common.{◌≡◌, ◌≤◌, ◌+◌, ◌<◌, ◌^◌, ℕ, Bool, true, false, cond, List, [], ◌∷◌, length, Option, None, Some, Result, Ok, Err, OnOk, refl, sym, ap, subst, ◌∙◌, inl, inr, ⊎_elim, arith, ℤ}
 use Rattle.std.specs.Prelude.{IsOk, is_ok, is_some}
-use Rattle.std.specs.List.{All, AllZip, Contains}
+use Rattle.std.specs.List.{All, AllZip}
 use Rattle.std.specs.Option.{option_map}
 use Rattle.std.specs.Str.{bytes_eq}
 use Rattle.std.proofs.lemmas.List.Elements.{All-head, All-tail}
@@ -12,7 +12,7 @@ use Rattle.point_codec.specs.Points.{Item, Region, in_box}
 use Rattle.cell_relate.specs.Boxes as boxes
 use Rattle.documents.specs.Documents.{Document}
 use Rattle.documents.specs.Entries.{AreDocs}
-use Rattle.documents.specs.Nearest.{found_of, nearest}
+use Rattle.documents.specs.Nearest.{nearest}
 use Rattle.documents.specs.NearestEntries.{ComesBefore, IsNearest, nears_of}
 use Rattle.documents.proofs.Lists.{nil_none, pairs_none}
 use Rattle.nearest_query.specs.Segments.{AreNearLeaves, bound_of}
@@ -24,7 +24,7 @@ use Rattle.script_lang.specs.Requests as asks
 use Rattle.script_lang.specs.declared.faults.LineFault.{LineFault}
 use Rattle.script_lang.specs.declared.faults.Why.{Why}
 use Rattle.point_codec.specs.declared.entries.Near.{Near}
-use Rattle.index_model.specs.State.{Index, Snapshot, State, snapshot_of, viewed_docs}
+use Rattle.index_model.specs.State.{Index, Snapshot, snapshot_of, viewed_docs}
 use Rattle.ring_parity.specs.Rings.{all_edges}
 use Rattle.polygon_query.specs.Shape as polygons
 use Rattle.index_model.specs.Step.{Outcome, Done, Refused, in_plane_polygon, step_on}
@@ -33,8 +33,8 @@ use Rattle.index_model.specs.declared.session.Applied.{Applied}
 use Rattle.index_model.specs.declared.session.Applied.TheVariants as applied
 use Rattle.segment_view.specs.Costs.{AreTouched}
 use Rattle.segment_view.specs.Parts.{Contents, Part, heads_of}
-use Rattle.segment_set.specs.Sets.{BegunMerge, NamedView, SetData, buffer_in, parts_in, view_of, viewed_buffer, viewed_parts}
-use Rattle.segment_set.specs.Seen.{Sees, ShowsSnapshot, StandsOver, entries_seen}
+use Rattle.segment_set.specs.Sets.{BegunMerge, NamedView, SetData, buffer_in, parts_in, view_of, viewed_parts}
+use Rattle.segment_set.specs.Seen.{Sees, ShowsSnapshot, entries_seen}
 use Rattle.segment_set.specs.Kept.{IsAsCommitted, StaysButCache}
 use Rattle.index_core.specs.Costs.{ReadsAtMost, ReadsNear, ReadsTouched}
 use Rattle.index_core.specs.Effects.{BringsCanonical, KeepsStill, OnDone, OnRefused}
@@ -45,7 +45,7 @@ use Rattle.index_core.proofs.Bringing.{brings_same}
 use Rattle.explain_queries.specs.Explained.{reach}
 use Rattle.explain_queries.proofs.Explaining.{reach_is}
 use Rattle.explain_queries.proofs.There.{are_nearest, there, there_found}
-use Rattle.bkd_top.specs.Costs.{AsksOnly, KeepsLevels, TouchesLine, TouchesOn, TouchesReading, TouchesView, given_of, is_query}
+use Rattle.bkd_top.specs.Costs.{KeepsLevels, TouchesOn, TouchesReading, TouchesView, given_of, is_query}
 use Rattle.bkd_top.specs.Leads.{HasRoom, Passes, Spot, StaysFew}
 use Rattle.bkd_top.proofs.Asking.{Asks, IsRefusal, asked, begin_refused, full_of, full_or_given, light_gives, read_state, refusal_state, unread_state}
 use Rattle.bkd_top.proofs.Deciding.{unchanged_or_not}

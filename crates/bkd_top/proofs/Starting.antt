@@ -1,5 +1,5 @@
 -- What a run does on its way from the opening on.
-use Rattle.std.proofs.Common.{◌≡◌, ◌≤◌, ◌+◌, ◌/◌, ℕ, Bool, false, List, [], ◌∷◌, ◌++◌, length, map, Option, None, Some, Result, Ok, Err, IfOk, OnOk, refl, sym, ap, subst, ◌∙◌, ◌⊎◌, inl, inr, ⊎_elim, arith}
+use Rattle.std.proofs.Common.{◌≡◌, ◌≤◌, ◌+◌, ◌/◌, ℕ, Bool, false, List, [], ◌∷◌, ◌++◌, length, map, None, Some, Result, Ok, Err, IfOk, OnOk, refl, sym, ap, subst, ◌∙◌, ◌⊎◌, inl, inr, arith}
 use Rattle.std.specs.List.{All, AllZip, Contains}
 use Rattle.std.proofs.lemmas.List.Elements.{All-nil}
 use Rattle.outer_io.specs.declared.file_name.FileName.TheVariants.{Commit}
@@ -15,20 +15,19 @@ use Rattle.segment_file.specs.Heads.{Head}
 use Rattle.script_lang.specs.Requests.{Request}
 use Rattle.index_model.specs.State.{Index, Snapshot, State, new_index}
 use Rattle.index_model.specs.Script.{answer, state_after}
-use Rattle.stored_index.specs.Stored.{HasHead, HaveHeads, HaveLive, HoldsState, IsStored}
-use Rattle.stored_index.specs.Opening.{IsOpening, segments_pages}
-use Rattle.stored_index.specs.Kept.{ListsFile}
+use Rattle.stored_index.specs.Stored.{HasHead, HaveHeads, HaveLive, IsStored}
+use Rattle.stored_index.specs.Opening.{segments_pages}
 use Rattle.stored_index.proofs.Parts.{heads_once}
 use Rattle.segment_view.specs.Parts.{Contents, Part, heads_of, live_in_parts}
 use Rattle.segment_set.specs.Sets.{NamedView, SetData}
-use Rattle.segment_set.specs.Seen.{Sees, ShowsSnapshot, entries_seen}
+use Rattle.segment_set.specs.Seen.{Sees, ShowsSnapshot}
 use Rattle.index_core.specs.Light.{LooksAt, is_light}
 use Rattle.index_core.specs.Sessions.{Guards, IsLast, IsUnchanged, SessionData}
 use Rattle.index_core.specs.Whole.{HasNewCanonical}
 use Rattle.index_core.proofs.Listed.{attached_listed}
 use Rattle.explain_queries.specs.Explained.{IsScope, Scope}
-use Rattle.bkd_top.specs.Costs.{AllAsk, AreLight, AsksOnly, KeepsLevels, RunReadsFew, TouchesLines, begins_no_merge, given_of, is_query}
-use Rattle.bkd_top.specs.Leads.{AreListed, IsFresh, Leads, LeadsAll, LeadsFrom, Opens, Spot, origin_pages}
+use Rattle.bkd_top.specs.Costs.{AllAsk, AreLight, KeepsLevels, RunReadsFew, TouchesLines, begins_no_merge, given_of, is_query}
+use Rattle.bkd_top.specs.Leads.{AreListed, Leads, LeadsAll, LeadsFrom, Opens, Spot}
 use Rattle.bkd_top.specs.Commands.{IsAnswer}
 use Rattle.bkd_top.specs.Origins.{IsFrom}
 use Rattle.bkd_top.specs.Stops.{status_of}

@@ -1,5 +1,5 @@
 -- How the lines of queries that are explained are joined to those before them.
-use Rattle.std.proofs.Common.{◌≡◌, ◌≤◌, ◌<◌, ◌+◌, ◌==◌, ℕ, suc, Bool, true, false, cond, List, [], ◌∷◌, ◌++◌, length, Result, Ok, Err, IfOk, OnErr, IsErrOf, refl, sym, ap, ◌∙◌, subst, append_assoc, append-nil, add_assoc, add-zero, zero-add, length-append, arith}
+use Rattle.std.proofs.Common.{◌≡◌, ◌≤◌, ◌+◌, ◌==◌, ℕ, suc, Bool, true, false, cond, List, [], ◌∷◌, ◌++◌, length, Result, Ok, Err, IfOk, OnErr, IsErrOf, refl, sym, ap, ◌∙◌, subst, append_assoc, append-nil, add_assoc, add-zero, zero-add, length-append, arith}
 use Rattle.std.proofs.lemmas.Bool.Decides.{nat_tests}
 use Rattle.outer_io.specs.Parts.{WritesPart}
 use Rattle.page_cache.specs.declared.faults.PageFault.{PageFault}
@@ -9,12 +9,10 @@ use Rattle.explain_queries.specs.Explained.{Scope, Told, TellsLine, TellsLines, 
 use Rattle.explain_queries.specs.Explains.{IsTold}
 use Rattle.bkd_top.specs.Answers.{IsSent}
 use Rattle.bkd_top.specs.Commands.{EndsExplain, EndsTold, SendsLine, Stage, Tellings, TellsAll, TellsPart, TellsSome}
-use Rattle.bkd_top.specs.Runs.{DoesNothing, IsDamaged}
+use Rattle.bkd_top.specs.Runs.{IsDamaged}
 use Rattle.bkd_top.specs.Stops.{status_of, stop_of}
 use Rattle.bkd_top.specs.declared.stop.Stop.{Stop}
 use Rattle.bkd_top.specs.declared.stop.Stop.TheVariants as stop
-use Rattle.bkd_top.specs.declared.status.Status.{Status}
-use Rattle.bkd_top.specs.declared.status.Status.TheVariants as status
 use Rattle.bkd_top.proofs.Ending.{counted}
 
 step_length : (line : ℕ) (ls : List (List ℕ)) → line + 1 + length ls ≡ line + suc (length ls)

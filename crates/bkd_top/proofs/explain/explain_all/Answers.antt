@@ -1,5 +1,5 @@
 -- Each line is told after those before it.
-use Rattle.std.proofs.Common.{◌≡◌, length, arith, refl, sym, ap, ◌∙◌, IsTrue}
+use Rattle.std.proofs.Common.{◌≡◌, length, arith, refl, ◌∙◌}
 use Rattle.std.proofs.lemmas.Bool.Decides.{nat_tests}
 use Rattle.segment_set.proofs.Sizes.{set_fits}
 use Rattle.bkd_top.proofs.Ending.{cause_from}

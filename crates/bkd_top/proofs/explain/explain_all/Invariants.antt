@@ -1,4 +1,4 @@
-use Rattle.std.proofs.Common.{◌≡◌, ◌≤◌, ◌<◌, ◌+◌, ◌^◌, List, length, IsTrue}
+use Rattle.std.proofs.Common.{◌≡◌, ◌≤◌, ◌<◌, ◌+◌, ◌^◌, length, IsTrue}
 use Rattle.script_lang.specs.Lines.{lines_of}
 use Rattle.explain_queries.specs.Explained.{Scope, Told, TellsLines}
 use Rattle.explain_queries.specs.Explains.{IsExplaining}

@@ -1,5 +1,5 @@
 -- The lines are told over what the folder stores: no index, or the one whose commit was read.
-use Rattle.std.proofs.Common.{◌≡◌, ◌≤◌, ◌+◌, ◌/◌, length, None, IsTrue, arith, refl, sym, subst, ◌∙◌}
+use Rattle.std.proofs.Common.{◌≤◌, ◌+◌, IsTrue, arith, refl, sym, subst, ◌∙◌}
 use Rattle.outer_io.specs.declared.file_name.FileName.TheVariants.{Commit}
 use Rattle.outer_io.specs.Files.{Files, bytes_of}
 use Rattle.commit_list.specs.CommitFiles.{IsCommitFile}

@@ -1,5 +1,5 @@
 -- Each line is told after those before it.
-use Rattle.std.proofs.Common.{◌≡◌, length, arith, refl, IsTrue}
+use Rattle.std.proofs.Common.{◌≡◌, length, arith, refl}
 use Rattle.std.proofs.lemmas.Bool.Decides.{nat_tests}
 use Rattle.bkd_top.proofs.Ending.{cause_from}
 use Rattle.bkd_top.proofs.Going.{at_most_one, no_lines, refused_more}

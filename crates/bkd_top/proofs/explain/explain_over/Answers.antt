@@ -1,5 +1,5 @@
 -- The lines are told over the index that was opened, or none is.
-use Rattle.std.proofs.Common.{◌≤◌, ◌+◌, IsTrue, arith, refl, sym, subst, ◌∙◌}
+use Rattle.std.proofs.Common.{IsTrue, arith, refl, sym, subst, ◌∙◌}
 use Rattle.outer_io.specs.Files.{Files}
 use Rattle.segment_set.proofs.Sizes.{set_fits}
 use Rattle.explain_queries.specs.Explains.{IsExplaining}

@@ -3,7 +3,7 @@ use Rattle.std.proofs.Common.{Bool, IsTrue, refl}
 use Rattle.page_cache.specs.declared.faults.PageFault.TheVariants as page
 use Rattle.index_core.proofs.Answering.{no_cause}
 use Rattle.bkd_top.proofs.Lined.{fault_cause, page_memory, send_cause, sent_as}
-use Rattle.bkd_top.proofs.Telling.{left_line, sent_line}
+use Rattle.bkd_top.proofs.Telling.{sent_line}
 use Rattle.bkd_top.proofs.explain.tell_first.Goals as goal
 
 pub returns-in-Ok-clause-ends : goal.returns-in-Ok-clause-ends

@@ -1,10 +1,8 @@
 -- The words say which command is run; where they are of none nothing is done.
-use Rattle.std.proofs.Common.{arith, ◌≡◌, Bool, true, false, Option, Some, None, Err, IsTrue, refl, sym, ap, subst, ◌∙◌, ◌⊎◌, inl, inr}
-use Rattle.outer_io.specs.Files.{Files}
-use Rattle.script_lang.specs.Lines.{lines_of}
+use Rattle.std.proofs.Common.{arith, ◌≡◌, true, false, Option, Err, IsTrue, refl, sym, ap, subst, inl, inr}
 use Rattle.command_words.specs.Commands.{Asked}
 use Rattle.command_words.specs.declared.WordsFault.{WordsFault}
-use Rattle.bkd_top.specs.Commands.{Before, EndsAsked, does, is_explain, is_served, reads_input}
+use Rattle.bkd_top.specs.Commands.{EndsAsked, does, is_explain, is_served, reads_input}
 use Rattle.bkd_top.specs.Costs.{is_run}
 use Rattle.bkd_top.proofs.Commanding.{asked_is, no_memory_ends}
 use Rattle.bkd_top.proofs.program.run.Goals as goal
