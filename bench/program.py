@@ -32,7 +32,7 @@ LIMIT = 536_870_912
 
 
 class Run:
-    """A run of a program: its wall time in seconds, its processor time, its greatest memory in bytes, its status and what it wrote."""
+    """A run of a program: its wall time in seconds, its processor time, its status and what it wrote."""
 
     def __init__(self, words, source=None, keep=False):
         with tempfile.TemporaryFile() as kept, open(source or os.devnull, "rb") as text:
@@ -44,7 +44,6 @@ class Run:
             child.returncode = os.waitstatus_to_exitcode(status)
             self.status = child.returncode
             self.processor = used.ru_utime + used.ru_stime
-            self.memory = used.ru_maxrss * 1024
             self.said = said.decode()
             kept.seek(0)
             self.text = kept.read().decode() if keep else ""
@@ -181,13 +180,23 @@ def load(data):
         print("  forks %s %s, processor %s" % (forks, milliseconds(run.wall), milliseconds(run.processor)))
 
 
+# a process started by a large one counts that one's memory as its own, so a small one starts it
+STARTER = """
+import resource, subprocess, sys
+with open(sys.argv[1], "rb") as text:
+    status = subprocess.run(sys.argv[2:], stdin=text, stdout=subprocess.DEVNULL).returncode
+print(resource.getrusage(resource.RUSAGE_CHILDREN).ru_maxrss * 1024)
+sys.exit(status)
+"""
+
+
 def memory(data):
-    print("memory: the greatest resident memory of loading, its input and a run over an empty folder taken off")
-    bare = bkd(data.empty("none"), "run").done().memory
+    print("memory: the greatest resident memory of loading, its input taken off")
     for count in (data.count, 2 * data.count, 4 * data.count):
         source = data.csv(count)
-        run = bkd(data.empty("loaded"), "load", "--columns", "x,y", source=source).done()
-        beside = run.memory - bare - os.path.getsize(source)
+        words = [PROGRAM, data.empty("loaded"), "load", "--columns", "x,y"]
+        run = Run([sys.executable, "-c", STARTER, source, *words], keep=True).done()
+        beside = int(run.text) - os.path.getsize(source)
         print("  %9d points %7.1f MB, %5.1f bytes a point" % (count, beside / 1e6, beside / count))
 
 
