@@ -147,6 +147,11 @@ fn cut<R: Threads + Sync + Abort>(
     room: usize,
     folder: &mut MemFolder,
 ) -> Result<Status, Fail> {
+    let whole = row.text.as_bytes();
+    if room > whole.len() {
+        return Err("more room than text".into());
+    }
+    let wanted = &whole[..room];
     let mut list = Vec::new(alloc);
     for word in row.words {
         list.push(String::from_str(alloc, word)?)?;
@@ -162,7 +167,7 @@ fn cut<R: Threads + Sync + Abort>(
         &mut sink,
         &OpenGate,
     );
-    assert_eq!(rt; sink.bytes(), &row.text.as_bytes()[..room]);
+    assert_eq!(rt; sink.bytes(), wanted);
     Ok(status)
 }
 

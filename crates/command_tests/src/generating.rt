@@ -28,6 +28,9 @@ fn generated<R: Threads + Sync>(
         },
         gate: &OpenGate,
     };
+    if docs > 1_000_000 {
+        return Err("too many documents".into());
+    }
     let mut text = Vec::new(alloc);
     let refused = generate(&work, docs, seed, folder, &mut text)?;
     let text = std::str::from_utf8(text.as_slice()).unwrap_or("no text");

@@ -65,7 +65,7 @@ fn each_call_fails(rt: HostRuntime) -> Result<(), Fail> {
                 let done = load_column(&rt, alloc, &mut folder, b"a\n5\n6\n7\n")?;
                 folder.plan(Vec::new(alloc), None);
                 let after = next_of(alloc, &mut folder)?;
-                let whole = Some(before.unwrap_or(0) + 3);
+                let whole = before.unwrap_or(0).checked_add(3);
                 match done {
                     Ok(refused) => {
                         assert!(rt; !refused && after == whole);

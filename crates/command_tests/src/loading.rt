@@ -24,6 +24,9 @@ fn loaded<R: Threads + Sync>(
     for name in names {
         columns.push(Bytes::new(name.as_bytes().to_vec(alloc)?))?;
     }
+    if columns.is_empty() || columns.len() > 8 {
+        return Err("not 1 to 8 columns".into());
+    }
     let work = Work {
         rt,
         alloc,
