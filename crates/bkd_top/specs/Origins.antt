@@ -23,3 +23,8 @@ IsMade (origin.Stored commit) = Unit {0}
 abbrev pub IsFrom : Files → Origin → Index → State → Type 0
 IsFrom files (origin.New dims leaf) i stored = (files Commit ≡ None) × (i ≡ new_index dims leaf) × (stored ≡ None)
 IsFrom files (origin.Stored commit) i stored = IsCommitFile (bytes_of (files Commit)) commit × IsStored files (Some i) × (stored ≡ Some i)
+
+-- no index is there, or the folder's commit is this
+abbrev pub IsThere : Files → Origin → Type 0
+IsThere files (origin.New dims leaf) = files Commit ≡ None
+IsThere files (origin.Stored commit) = IsCommitFile (bytes_of (files Commit)) commit

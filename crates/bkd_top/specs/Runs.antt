@@ -3,6 +3,7 @@ use Rattle.std.specs.Prelude.{ℕ, ◌+◌, ◌<◌, ◌≤◌, ◌≡◌, ◌�
 use Rattle.outer_io.specs.Counts.{Rose}
 use Rattle.outer_io.specs.Files.{Files}
 use Rattle.outer_io.specs.Parts.{WritesPart}
+use Rattle.page_cache.specs.declared.faults.Damage.{Damage}
 use Rattle.index_model.specs.State.{State}
 use Rattle.index_model.specs.Script.{answer, text_of, state_after, refused_in, final, commits, stored_after}
 use Rattle.stored_index.specs.Stored.{IsStored}
@@ -106,3 +107,23 @@ IsDamaged (status.SomeRefused count) = ⊥
 IsDamaged status.SinkFault = ⊥
 IsDamaged status.Memory = ⊥
 IsDamaged status.FolderFault = ⊥
+
+-- P holds of the damage, where a run stops for one
+abbrev pub OnStopDamage : {T : Type 0} → Result T Stop → (Damage → Type 0) → Type 0
+OnStopDamage (Ok x) P = Unit {0}
+OnStopDamage (Err stop.SinkFault) P = Unit {0}
+OnStopDamage (Err stop.FolderFault) P = Unit {0}
+OnStopDamage (Err (stop.Damaged damage)) P = P damage
+OnStopDamage (Err stop.Memory) P = Unit {0}
+
+-- P holds of the damage, where a run ends as damaged
+abbrev pub OnStatusDamage : Status → (Damage → Type 0) → Type 0
+OnStatusDamage (status.Damaged damage) P = P damage
+OnStatusDamage status.Usage P = Unit {0}
+OnStatusDamage status.SourceFault P = Unit {0}
+OnStatusDamage status.TooLarge P = Unit {0}
+OnStatusDamage status.Done P = Unit {0}
+OnStatusDamage (status.SomeRefused count) P = Unit {0}
+OnStatusDamage status.SinkFault P = Unit {0}
+OnStatusDamage status.Memory P = Unit {0}
+OnStatusDamage status.FolderFault P = Unit {0}

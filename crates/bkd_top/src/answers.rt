@@ -3,6 +3,9 @@
 ghost use Rattle.std.specs.Prelude.{◌≡◌, ◌≢◌, ◌≤◌, ◌++◌, ◌⊎◌, ℕ, List, Some, None, true, IfOk, IsErrOf, OnErr, IsTrue};
 ghost use Rattle.outer_io.specs.Faults.{Rose};
 ghost use Rattle.page_cache.specs.Causes.{HasPageCause};
+ghost use Rattle.page_cache.specs.Evidence.{OnDamage};
+ghost use Rattle.segment_set.specs.Evidence.{IsEvident};
+ghost use Rattle.index_core.specs.Sessions.{Trusts};
 ghost use Rattle.script_lang.specs.Reading.{Says, read};
 ghost use Rattle.script_lang.specs.Replies.{line_fault_text, why_text};
 ghost use Rattle.script_lang.specs.Seen.{IsWithinLimits, request_of};
@@ -10,7 +13,7 @@ ghost use Rattle.index_model.specs.State.{Index, State};
 ghost use Rattle.index_model.specs.Script.{answer};
 ghost use Rattle.bkd_top.specs.Answers.{Answers, IsOpening, IsSent, IsWithin, Replies, Stands};
 ghost use Rattle.bkd_top.specs.Leads.{Passes};
-ghost use Rattle.bkd_top.specs.Runs.{HasStopCause};
+ghost use Rattle.bkd_top.specs.Runs.{HasStopCause, OnStopDamage};
 
 use crate::lines::Work;
 use crate::status::Memory;
@@ -54,6 +57,8 @@ pub fn answer_line<const D: usize, R: Threads + Sync, F: Folder, K: Sink, G: Gat
         → Passes D number i line.now (record { files = F.files folder.old; session = session.old; reads = F.reads folder.old })
         (record { files = F.files folder.new; session = session.new; reads = F.reads folder.new }) result }
     ensures cause { HasStopCause (F.faults folder.old) (F.faults folder.new) (K.faults out.old) (K.faults out.new) result }
+    ensures trusts { IsTrue F.told → Trusts D (F.files folder.old) session.old → Trusts D (F.files folder.new) session.new }
+    ensures evident { OnStopDamage result (IsEvident (IsTrue F.told × Trusts D (F.files folder.old) session.old) (F.files folder.new)) }
 {
     reply.clear();
     match reply_to(work, session, folder, number, line, reply) {
@@ -93,6 +98,8 @@ fn reply_to<const D: usize, R: Threads + Sync, F: Folder, G: Gate>(
         → Passes D number i line.now (record { files = F.files folder.old; session = session.old; reads = F.reads folder.old })
         (record { files = F.files folder.new; session = session.new; reads = F.reads folder.new }) result }
     ensures cause { HasPageCause (F.faults folder.old) (F.faults folder.new) result }
+    ensures trusts { IsTrue F.told → Trusts D (F.files folder.old) session.old → Trusts D (F.files folder.new) session.new }
+    ensures evident { OnDamage result (IsEvident (IsTrue F.told × Trusts D (F.files folder.old) session.old) (F.files folder.new)) }
 {
     match read_line::<D>(work.alloc, line) {
         Ok(command) => obey(work, session, folder, number, &command, reply),
@@ -119,6 +126,8 @@ fn obey<const D: usize, R: Threads + Sync, F: Folder, G: Gate>(
         → Passes D number i bytes (record { files = F.files folder.old; session = session.old; reads = F.reads folder.old })
         (record { files = F.files folder.new; session = session.new; reads = F.reads folder.new }) result }
     ensures cause { HasPageCause (F.faults folder.old) (F.faults folder.new) result }
+    ensures trusts { IsTrue F.told → Trusts D (F.files folder.old) session.old → Trusts D (F.files folder.new) session.new }
+    ensures evident { OnDamage result (IsEvident (IsTrue F.told × Trusts D (F.files folder.old) session.old) (F.files folder.new)) }
 {
     match session.apply(work.rt, work.alloc, folder, command, reply, work.gate) {
         Ok(Applied::Done) => Ok(false),

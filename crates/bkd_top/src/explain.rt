@@ -8,10 +8,12 @@ ghost use Rattle.commit_list.specs.CommitFiles.{IsCommitFile};
 ghost use Rattle.script_lang.specs.Lines.{lines_of};
 ghost use Rattle.index_model.specs.State.{State};
 ghost use Rattle.stored_index.specs.Stored.{IsStored};
+ghost use Rattle.segment_set.specs.Evidence.{IsEvident};
+ghost use Rattle.segment_set.specs.Faithful.{IsFaithful};
 ghost use Rattle.explain_queries.specs.Explained.{IsScope, Scope, TellsLine, TellsLines, Told};
 ghost use Rattle.explain_queries.specs.Explains.{IsExplaining};
 ghost use Rattle.bkd_top.specs.Commands.{EndsExplain, EndsTold, OpensFew, ReadsFew, SendsLine};
-ghost use Rattle.bkd_top.specs.Runs.{DoesNothing, GoesOn, HasStopCause, IsDamaged};
+ghost use Rattle.bkd_top.specs.Runs.{DoesNothing, GoesOn, HasStopCause, IsDamaged, OnStatusDamage, OnStopDamage};
 
 use crate::answers::send;
 use crate::program::MAX_INPUT;
@@ -44,6 +46,7 @@ pub fn run_explain<S: Source, F: Folder, K: Sink>(
     ensures source { IsTrue S.told → GoesOn result → S.left input.new ≡ [] }
     ensures untouched { DoesNothing result → (folder.new ≡ folder.old) × (out.new ≡ out.old) }
     ensures damaged { IsTrue F.told → (state : State) → IsStored (F.files folder.old) state → IsDamaged result → ⊥ }
+    ensures evident { OnStatusDamage result (IsEvident (IsTrue F.told) (F.files folder.new)) }
     ensures source_fault { result ≡ Status.SourceFault → Rose (S.faults input.old) (S.faults input.new) }
     ensures too_large { IsTrue S.told → result ≡ Status.TooLarge → 2 ^ 29 < length (S.left input.old) }
     ensures not_larger { IsTrue S.told → GoesOn result → length (S.left input.old) ≤ 2 ^ 29 }
@@ -74,6 +77,7 @@ fn explain_lines<F: Folder, K: Sink>(
     ensures files { IsTrue F.told → F.files folder.new ≡ F.files folder.old }
     ensures reads { IsTrue F.told → ReadsFew (F.files folder.old) (lines_of lines.now) (F.reads folder.old) (F.reads folder.new) }
     ensures cause { HasStopCause (F.faults folder.old) (F.faults folder.new) (K.faults out.old) (K.faults out.new) result }
+    ensures evident { OnStopDamage result (IsEvident (IsTrue F.told) (F.files folder.new)) }
 {
     match read_commit(alloc, folder) {
         Ok(None) => explain_none(alloc, lines, out),
@@ -87,6 +91,7 @@ fn explain_none<K: Sink>(alloc: Global, lines: &[u8], out: &mut K) -> Result<u64
     requires { length lines.now ≤ 2 ^ 32 }
     ensures ends { EndsTold (IsTrue K.told) (record { state = None; heads = [] }) 1 0 (lines_of lines.now) (K.written out.old) (K.written out.new) result }
     ensures cause { (faults : ℕ) → HasStopCause faults faults (K.faults out.old) (K.faults out.new) result }
+    ensures undamaged { OnStopDamage result (λ _. ⊥) }
 {
     let mut reply = Vec::new(alloc);
     let mut rest = lines;
@@ -113,6 +118,7 @@ fn tell_first<K: Sink>(
 ) -> Result<bool, Stop>
     ensures ends { SendsLine (IsTrue K.told) (record { state = None; heads = [] }) number line.now (K.written out.old) (K.written out.new) result }
     ensures cause { (faults : ℕ) → HasStopCause faults faults (K.faults out.old) (K.faults out.new) result }
+    ensures undamaged { OnStopDamage result (λ _. ⊥) }
 {
     reply.clear();
     match explain_first(number, line, reply) {
@@ -139,6 +145,7 @@ fn explain_stored<F: Folder, K: Sink>(
     ensures reads { IsTrue F.told → IsCommitFile (bytes_of (F.files folder.old CommitName)) commit
         → OpensFew (F.files folder.old) commit (lines_of lines.now) (F.reads folder.old) (F.reads folder.new) }
     ensures cause { HasStopCause (F.faults folder.old) (F.faults folder.new) (K.faults out.old) (K.faults out.new) result }
+    ensures evident { OnStopDamage result (IsEvident (IsTrue F.told × IsCommitFile (bytes_of (F.files folder.old CommitName)) commit) (F.files folder.new)) }
 {
     match commit.dims() {
         1 => explain_over::<1, F, K>(alloc, cache_pages, commit, lines, folder, out),
@@ -173,6 +180,7 @@ fn explain_over<const D: usize, F: Folder, K: Sink>(
     ensures reads { IsTrue F.told → IsCommitFile (bytes_of (F.files folder.old CommitName)) commit
         → OpensFew (F.files folder.old) commit (lines_of lines.now) (F.reads folder.old) (F.reads folder.new) }
     ensures cause { HasStopCause (F.faults folder.old) (F.faults folder.new) (K.faults out.old) (K.faults out.new) result }
+    ensures evident { OnStopDamage result (IsEvident (IsTrue F.told × IsCommitFile (bytes_of (F.files folder.old CommitName)) commit) (F.files folder.new)) }
 {
     // nothing is built
     let settings = Settings {
@@ -202,6 +210,7 @@ fn explain_all<const D: usize, F: Folder, K: Sink>(
     ensures reads { IsTrue F.told → (s : Scope) → IsExplaining D (F.files folder.old) set.old s → (t : Told) → TellsLines s 1 (lines_of lines.now) t
         → F.reads folder.new ≤ F.reads folder.old + t.touched }
     ensures cause { HasStopCause (F.faults folder.old) (F.faults folder.new) (K.faults out.old) (K.faults out.new) result }
+    ensures evident { OnStopDamage result (IsEvident (IsTrue F.told × IsFaithful D (F.files folder.old) set.old) (F.files folder.new)) }
 {
     let mut reply = Vec::new(alloc);
     let mut rest = lines;
@@ -238,6 +247,8 @@ fn tell_line<const D: usize, F: Folder, K: Sink>(
     ensures reads { IsTrue F.told → (s : Scope) → IsExplaining D (F.files folder.old) set.old s → (t : Told) → TellsLine s number line.now t
         → F.reads folder.new ≤ F.reads folder.old + t.touched }
     ensures cause { HasStopCause (F.faults folder.old) (F.faults folder.new) (K.faults out.old) (K.faults out.new) result }
+    ensures faithful { IsTrue F.told → IsFaithful D (F.files folder.old) set.old → IsFaithful D (F.files folder.new) set.new }
+    ensures evident { OnStopDamage result (IsEvident (IsTrue F.told × IsFaithful D (F.files folder.old) set.old) (F.files folder.new)) }
 {
     reply.clear();
     match explain_line(alloc, set, folder, number, line, reply) {

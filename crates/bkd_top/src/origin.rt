@@ -2,11 +2,13 @@
 
 ghost use Rattle.std.specs.Prelude.{◌≡◌, ◌≤◌, IsTrue, IfOk};
 ghost use Rattle.page_cache.specs.Causes.{HasPageCause};
-ghost use Rattle.page_cache.specs.Evidence.{NotDamaged};
+ghost use Rattle.page_cache.specs.Evidence.{NotDamaged, OnDamage};
+ghost use Rattle.segment_set.specs.Evidence.{IsEvident};
+ghost use Rattle.index_core.specs.Sessions.{Trusts};
 ghost use Rattle.index_model.specs.State.{Index, State};
 ghost use Rattle.bkd_top.specs.Answers.{Stands};
 ghost use Rattle.bkd_top.specs.Leads.{Opens};
-ghost use Rattle.bkd_top.specs.Origins.{dims_of, IsFrom, IsMade};
+ghost use Rattle.bkd_top.specs.Origins.{dims_of, IsFrom, IsMade, IsThere};
 
 use commit_list::Commit;
 use index_core::{Session, Settings};
@@ -56,6 +58,8 @@ pub fn open<const D: usize, F: Folder>(
     ensures files { IsTrue F.told → F.files folder.new ≡ F.files folder.old }
     ensures cause { HasPageCause (F.faults folder.old) (F.faults folder.new) result }
     ensures whole { IsTrue F.told → (i : Index) → (stored : State) → IsFrom (F.files folder.old) origin i stored → NotDamaged result }
+    ensures trusts { IsTrue F.told → IsThere (F.files folder.old) origin → IfOk result (Trusts D (F.files folder.new)) }
+    ensures evident { OnDamage result (IsEvident (IsTrue F.told × IsThere (F.files folder.old) origin) (F.files folder.new)) }
 {
     match origin {
         Origin::New { dims: _, leaf } => Ok(Session::create(alloc, leaf, settings)?),

@@ -5,8 +5,9 @@ ghost use Rattle.outer_io.specs.Faults.{Rose};
 ghost use Rattle.script_lang.specs.Lines.{lines_of};
 ghost use Rattle.index_model.specs.State.{State};
 ghost use Rattle.stored_index.specs.Stored.{IsStored};
+ghost use Rattle.segment_set.specs.Evidence.{IsEvident};
 ghost use Rattle.bkd_top.specs.Progress.{start};
-ghost use Rattle.bkd_top.specs.Runs.{Ends, GoesOn, DoesNothing, IsDamaged};
+ghost use Rattle.bkd_top.specs.Runs.{Ends, GoesOn, DoesNothing, IsDamaged, OnStatusDamage};
 ghost use Rattle.command_words.specs.Commands.{Asked, IsWithin, asked, said};
 ghost use Rattle.index_core.specs.Whole.{HasNewCanonical};
 ghost use Rattle.bkd_top.specs.Commands.{EndsAsked, IsAnswer, ReadsFew, does, is_explain, is_served, reads_input};
@@ -73,6 +74,7 @@ pub fn run<S: Source, F: Folder, K: Sink, R: Threads + Sync, G: Gate>(
         → RunReadsFew (F.files folder.old) (lines_of (S.left input.old)) (F.reads folder.old) (F.reads folder.new) }
     // why it ended otherwise
     ensures damaged { IsTrue F.told → (state : State) → IsStored (F.files folder.old) state → IsDamaged result → ⊥ }
+    ensures evident { OnStatusDamage result (IsEvident (IsTrue F.told) (F.files folder.new)) }
     ensures source_fault { result ≡ Status.SourceFault → Rose (S.faults input.old) (S.faults input.new) }
     ensures too_large { IsTrue S.told → result ≡ Status.TooLarge → 2 ^ 29 < length (S.left input.old) }
     ensures not_larger { IsTrue S.told → does (λ a. reads_input a) (asked (map string_bytes words.now)) ≡ true → GoesOn result → length (S.left input.old) ≤ 2 ^ 29 }
@@ -115,6 +117,7 @@ fn run_command<S: Source, F: Folder, K: Sink, R: Threads + Sync, G: Gate>(
     ensures run_reads { IsTrue S.told → IsTrue F.told → is_run (said words) ≡ true
         → RunReadsFew (F.files folder.old) (lines_of (S.left input.old)) (F.reads folder.old) (F.reads folder.new) }
     ensures damaged { IsTrue F.told → (state : State) → IsStored (F.files folder.old) state → IsDamaged result → ⊥ }
+    ensures evident { OnStatusDamage result (IsEvident (IsTrue F.told) (F.files folder.new)) }
     ensures source_fault { result ≡ Status.SourceFault → Rose (S.faults input.old) (S.faults input.new) }
     ensures too_large { IsTrue S.told → result ≡ Status.TooLarge → 2 ^ 29 < length (S.left input.old) }
     ensures not_larger { IsTrue S.told → reads_input (said words) ≡ true → GoesOn result → length (S.left input.old) ≤ 2 ^ 29 }
@@ -169,6 +172,7 @@ pub fn run_script<S: Source, F: Folder, K: Sink, R: Threads + Sync, G: Gate>(
     ensures source { IsTrue S.told → GoesOn result → S.left input.new ≡ [] }
     ensures untouched { DoesNothing result → (folder.new ≡ folder.old) × (out.new ≡ out.old) }
     ensures damaged { IsTrue F.told → (state : State) → IsStored (F.files folder.old) state → IsDamaged result → ⊥ }
+    ensures evident { OnStatusDamage result (IsEvident (IsTrue F.told) (F.files folder.new)) }
     ensures source_fault { result ≡ Status.SourceFault → Rose (S.faults input.old) (S.faults input.new) }
     ensures too_large { IsTrue S.told → result ≡ Status.TooLarge → 2 ^ 29 < length (S.left input.old) }
     ensures not_larger { IsTrue S.told → GoesOn result → length (S.left input.old) ≤ 2 ^ 29 }
@@ -203,6 +207,7 @@ fn run_text<F: Folder, K: Sink, R: Threads + Sync, G: Gate>(
     ensures still { IsTrue F.told → (state : State) → IsStored (F.files folder.old) state → AllAsk is_query 1 state (lines_of script.now) → F.files folder.new ≡ F.files folder.old }
     ensures reads { IsTrue F.told → RunReadsFew (F.files folder.old) (lines_of script.now) (F.reads folder.old) (F.reads folder.new) }
     ensures damaged { IsTrue F.told → (state : State) → IsStored (F.files folder.old) state → IsDamaged result → ⊥ }
+    ensures evident { OnStatusDamage result (IsEvident (IsTrue F.told) (F.files folder.new)) }
     ensures folder_fault { result ≡ Status.FolderFault → Rose (F.faults folder.old) (F.faults folder.new) }
     ensures sink_fault { result ≡ Status.SinkFault → Rose (K.faults out.old) (K.faults out.new) }
 {

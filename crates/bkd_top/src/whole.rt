@@ -4,15 +4,17 @@ ghost use Rattle.std.specs.Prelude.{◌≡◌, ◌≤◌, ◌<◌, ◌^◌, ℕ,
 ghost use Rattle.outer_io.specs.Faults.{Rose};
 ghost use Rattle.outer_io.specs.Files.{Files};
 ghost use Rattle.page_cache.specs.Causes.{HasPageCause};
-ghost use Rattle.page_cache.specs.Evidence.{NotDamaged};
+ghost use Rattle.page_cache.specs.Evidence.{NotDamaged, OnDamage};
+ghost use Rattle.page_cache.specs.declared.faults.Damage.{Damage};
 ghost use Rattle.index_model.specs.Script.{Answer};
 ghost use Rattle.index_model.specs.State.{State};
 ghost use Rattle.stored_index.specs.Stored.{IsStored};
+ghost use Rattle.segment_set.specs.Evidence.{IsEvident};
 ghost use Rattle.drawn_points.specs.Generated.{generated};
 ghost use Rattle.load_points.specs.Loaded.{loaded};
 ghost use Rattle.index_core.specs.Whole.{DoesWhole, HasNewCanonical};
 ghost use Rattle.bkd_top.specs.Commands.{Before, EndsWhole, IsAnswer};
-ghost use Rattle.bkd_top.specs.Runs.{DoesNothing, GoesOn, IsDamaged};
+ghost use Rattle.bkd_top.specs.Runs.{DoesNothing, GoesOn, IsDamaged, OnStatusDamage};
 
 use crate::answers::send;
 use crate::program::MAX_INPUT;
@@ -55,6 +57,7 @@ pub fn run_load<S: Source, F: Folder, K: Sink, R: Threads + Sync, G: Gate>(
     ensures untouched { DoesNothing result → (folder.new ≡ folder.old) × (out.new ≡ out.old) }
     ensures canon { IsTrue F.told → (state : State) → IsStored (F.files folder.old) state → IsAnswer result → HasNewCanonical (F.files folder.old) (F.files folder.new) }
     ensures damaged { IsTrue F.told → (state : State) → IsStored (F.files folder.old) state → IsDamaged result → ⊥ }
+    ensures evident { OnStatusDamage result (IsEvident (IsTrue F.told) (F.files folder.new)) }
     ensures source_fault { result ≡ Status.SourceFault → Rose (S.faults input.old) (S.faults input.new) }
     ensures too_large { IsTrue S.told → result ≡ Status.TooLarge → 2 ^ 29 < length (S.left input.old) }
     ensures not_larger { IsTrue S.told → GoesOn result → length (S.left input.old) ≤ 2 ^ 29 }
@@ -98,6 +101,7 @@ fn load_file<F: Folder, K: Sink, R: Threads + Sync, G: Gate>(
         (loaded state file.now columns.now) (F.files folder.new) (K.written out.new) result }
     ensures canon { IsTrue F.told → (state : State) → IsStored (F.files folder.old) state → IsAnswer result → HasNewCanonical (F.files folder.old) (F.files folder.new) }
     ensures damaged { IsTrue F.told → (state : State) → IsStored (F.files folder.old) state → IsDamaged result → ⊥ }
+    ensures evident { OnStatusDamage result (IsEvident (IsTrue F.told) (F.files folder.new)) }
     ensures folder_fault { result ≡ Status.FolderFault → Rose (F.faults folder.old) (F.faults folder.new) }
     ensures sink_fault { result ≡ Status.SinkFault → Rose (K.faults out.old) (K.faults out.new) }
 {
@@ -135,6 +139,7 @@ pub fn run_generate<F: Folder, K: Sink, R: Threads + Sync, G: Gate>(
         (generated state docs seed) (F.files folder.new) (K.written out.new) result }
     ensures canon { IsTrue F.told → (state : State) → IsStored (F.files folder.old) state → IsAnswer result → HasNewCanonical (F.files folder.old) (F.files folder.new) }
     ensures damaged { IsTrue F.told → (state : State) → IsStored (F.files folder.old) state → IsDamaged result → ⊥ }
+    ensures evident { OnStatusDamage result (IsEvident (IsTrue F.told) (F.files folder.new)) }
     ensures folder_fault { result ≡ Status.FolderFault → Rose (F.faults folder.old) (F.faults folder.new) }
     ensures sink_fault { result ≡ Status.SinkFault → Rose (K.faults out.old) (K.faults out.new) }
 {
@@ -160,6 +165,7 @@ fn tell<K: Sink>(out: &mut K, done: Result<bool, PageFault>, text: &[u8]) -> Sta
     ensures answer { IsAnswer result → IsOk done }
     ensures folder_fault { (old new : ℕ) → HasPageCause old new done → result ≡ Status.FolderFault → Rose old new }
     ensures damaged { NotDamaged done → IsDamaged result → ⊥ }
+    ensures evident { (P : Damage → Type 0) → OnDamage done P → OnStatusDamage result P }
     ensures sink_fault { result ≡ Status.SinkFault → Rose (K.faults out.old) (K.faults out.new) }
 {
     match done {

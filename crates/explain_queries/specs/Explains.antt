@@ -3,11 +3,13 @@ use Rattle.std.specs.Prelude.{ℕ, ◌+◌, ◌≡◌, ◌≤◌, Bool, cond, Li
 use Rattle.outer_io.specs.Files.{Files}
 use Rattle.page_cache.specs.declared.faults.PageFault.{PageFault}
 use Rattle.page_cache.specs.Causes.{HasPageCause}
-use Rattle.page_cache.specs.Evidence.{NotDamaged}
+use Rattle.page_cache.specs.Evidence.{NotDamaged, OnDamage}
 use Rattle.index_model.specs.State.{Index}
 use Rattle.segment_view.specs.Parts.{heads_of}
 use Rattle.segment_set.specs.Sets.{SetData}
 use Rattle.segment_set.specs.Seen.{Sees}
+use Rattle.segment_set.specs.Evidence.{IsEvident}
+use Rattle.segment_set.specs.Faithful.{IsFaithful}
 use Rattle.explain_queries.specs.Explained.{Scope, Told}
 
 -- the set with these files is seen as the index that is looked at, and its segments have these heads
@@ -44,3 +46,5 @@ pub record Explains (D : ℕ) (told : Type 0) (tells : Scope → Told → Type 0
   pub reads : told → (s : Scope) → IsExplaining D old.files old.set s → (t : Told) → tells s t → new.reads ≤ old.reads + t.touched
   pub cause : HasPageCause old.faults new.faults result
   pub whole : told → (s : Scope) → IsExplaining D old.files old.set s → NotDamaged result
+  pub faithful : told → IsFaithful D old.files old.set → IsFaithful D new.files new.set
+  pub evident : OnDamage result (IsEvident (told × IsFaithful D old.files old.set) new.files)

@@ -2,11 +2,13 @@
 use Rattle.std.specs.Prelude.{ℕ, List, Result, OnOk}
 use Rattle.page_cache.specs.declared.faults.PageFault.{PageFault}
 use Rattle.page_cache.specs.Causes.{HasPageCause}
-use Rattle.page_cache.specs.Evidence.{NotDamaged}
+use Rattle.page_cache.specs.Evidence.{NotDamaged, OnDamage}
 use Rattle.documents.specs.Documents.{Document}
 use Rattle.index_model.specs.State.{Index, new_index}
 use Rattle.stored_index.specs.Kept.{SameKept}
 use Rattle.segment_set.specs.Seen.{Sees}
+use Rattle.segment_set.specs.Evidence.{IsEvident}
+use Rattle.segment_set.specs.Faithful.{IsFaithful}
 use Rattle.index_core.specs.Effects.{BringsCanonical}
 use Rattle.index_core.specs.Sessions.{Guards}
 use Rattle.index_core.specs.Whole.{Spot}
@@ -32,3 +34,5 @@ pub record Makes {T : Type 0} (told : Type 0) (Before After : Spot → Type 0) (
   pub canon : told → BringsCanonical 2 old.files new.files old.session.set.parts new.session.set.parts
   pub cause : HasPageCause old.faults new.faults result
   pub whole : told → Before old → NotDamaged result
+  pub faithful : told → IsFaithful 2 old.files old.session.set → IsFaithful 2 new.files new.session.set
+  pub evident : OnDamage result (IsEvident (told × IsFaithful 2 old.files old.session.set) new.files)

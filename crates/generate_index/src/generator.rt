@@ -5,9 +5,12 @@ ghost use Rattle.std.specs.List.{sum_by};
 ghost use Rattle.outer_io.specs.Files.{Files};
 ghost use Rattle.outer_io.specs.declared.file_name.FileName.TheVariants.{Commit as CommitName};
 ghost use Rattle.page_cache.specs.Causes.{HasPageCause};
+ghost use Rattle.page_cache.specs.Evidence.{OnDamage};
 ghost use Rattle.documents.specs.Nearest.{found_of};
 ghost use Rattle.index_model.specs.State.{State};
 ghost use Rattle.stored_index.specs.Stored.{IsStored};
+ghost use Rattle.segment_set.specs.Evidence.{IsEvident};
+ghost use Rattle.segment_set.specs.Faithful.{IsFaithful};
 ghost use Rattle.index_core.specs.Sessions.{Guards};
 ghost use Rattle.index_core.specs.Effects.{BringsCanonical};
 ghost use Rattle.index_core.specs.Whole.{DoesWhole, HasNewCanonical};
@@ -63,6 +66,7 @@ pub fn generate<R: Threads + Sync, F: Folder, G: Gate>(
     ensures unchanged { IsTrue F.told → IfOk result (λ refused. refused ≡ true → F.files folder.new ≡ F.files folder.old) }
     ensures canon { IsTrue F.told → (state : State) → IsStored (F.files folder.old) state → OnOk result (HasNewCanonical (F.files folder.old) (F.files folder.new)) }
     ensures cause { HasPageCause (F.faults folder.old) (F.faults folder.new) result }
+    ensures evident { OnDamage result (IsEvident (IsTrue F.told) (F.files folder.new)) }
 {
     match read_commit(work.alloc, folder) {
         Ok(Some(_)) => {
@@ -88,6 +92,7 @@ fn generate_first<R: Threads + Sync, F: Folder, G: Gate>(
     ensures done { IfOk result (λ refused. refused ≡ true → ⊥) }
     ensures canon { IsTrue F.told → F.files folder.old CommitName ≡ None → OnOk result (HasNewCanonical (F.files folder.old) (F.files folder.new)) }
     ensures cause { HasPageCause (F.faults folder.old) (F.faults folder.new) result }
+    ensures evident { OnDamage result (IsEvident (IsTrue F.told) (F.files folder.new)) }
 {
     index_made();
     documents_added();
@@ -162,6 +167,7 @@ fn delete_tenths(session: &mut Session<2>, docs: u32) -> u32
         → IsMade seed docs docs (record { files = files; session = session.new; faults = faults }) }
     ensures live { (files : Files) (faults seed : ℕ) → IsMade seed docs 0 (record { files = files; session = session.old; faults = faults }) → result ≡ length (made_docs seed docs) }
     ensures guards { (files : Files) → Guards 2 files session.old → Guards 2 files session.new }
+    ensures faithful { (files : Files) → IsFaithful 2 files session.old.set → IsFaithful 2 files session.new.set }
     ensures canon { (files : Files) → BringsCanonical 2 files files session.old.set.parts session.new.set.parts }
 {
     documents_deleted();

@@ -1,23 +1,22 @@
 -- What the damage shows that a request answers: by what it carries, and of the files where those are told and the kept pages are theirs.
 use Rattle.std.specs.Prelude.{◌≡◌, ◌⊎◌, ℕ, List, Option, Some, Result}
 use Rattle.outer_io.specs.Files.{Files}
-use Rattle.inner_pack.specs.Trees.{IndexTree}
 use Rattle.page_cache.specs.Cache.{Agrees}
 use Rattle.page_cache.specs.Evidence.{NotDamaged, OnDamage}
 use Rattle.page_cache.specs.declared.faults.PageFault.{PageFault}
 use Rattle.commit_list.specs.Commits.{CommitData}
 use Rattle.segment_file.specs.Damages.{IsLeafDamageOf}
-use Rattle.nearest_query.specs.Segments.{HaveTrees, IsSegmentDamage}
 use Rattle.script_lang.specs.Requests.{Request}
 use Rattle.script_lang.specs.Requests as asks
-use Rattle.segment_view.specs.Parts.{AreRead, Contents, Part, heads_of, live_in_parts}
+use Rattle.segment_view.specs.Parts.{AreRead, Contents, Part, live_in_parts}
+use Rattle.segment_view.specs.Damages.{IsPartDamage}
 use Rattle.segment_set.specs.Sets.{SetData, viewed_parts}
 use Rattle.segment_set.specs.Damages.{IsAttachDamage, IsAttachDamageOf, IsDoubt, IsMergeDamage, IsMergeDamageOf}
 use Rattle.index_core.specs.Sessions.{SessionData}
 
 -- of a search: a leaf of one of the segments
 pub record ShowsLeaf {T : Type 0} (D : ℕ) (told : Type 0) (files : Files) (s : SetData) (parts : List Part) (result : Result T PageFault) : Type 0 where
-  pub shown : (trees : ℕ → IndexTree) → HaveTrees D (heads_of parts) trees → OnDamage result (IsSegmentDamage D (heads_of parts) trees)
+  pub shown : OnDamage result (IsPartDamage D parts)
   pub damage : told → Agrees files s.cache → OnDamage result (IsLeafDamageOf files)
 
 -- Of what may merge: a leaf of a segment, or entries that are none of documents. Where the files hold the segments it is the latter.

@@ -13,6 +13,7 @@ use Rattle.segment_view.specs.Parts.{Part}
 use Rattle.file_names.specs.Names.{NameList, is_named}
 use Rattle.segment_set.specs.Sets.{SetData, IsWell}
 use Rattle.segment_set.specs.Kept.{IsAsCommitted, IsWithin, StaysButCache}
+use Rattle.segment_set.specs.Faithful.{IsFaithful}
 
 -- the dimensions of a commit, where there is one
 abbrev pub HasDims : ℕ → Option CommitData → Type 0
@@ -64,6 +65,11 @@ IsLast files s (Some c) = IsLastCommit files s c
 pub record Guards (D : ℕ) (files : Files) (s : SessionData) : Type 0 where
   pub set : GuardsSet D files s.set
   pub last : s.refused ≡ false → IsLast files s.set s.commit
+
+-- the session guards the files, and what its set keeps of them is theirs
+pub record Trusts (D : ℕ) (files : Files) (s : SessionData) : Type 0 where
+  pub guards : Guards D files s
+  pub faithful : IsFaithful D files s.set
 
 -- nothing changed since the last commit: there is one, none was refused since, and the set is as it says
 pub record IsUnchanged (s : SessionData) : Type 0 where

@@ -4,7 +4,7 @@ use Rattle.outer_io.specs.declared.file_name.FileName.TheVariants.{Commit}
 use Rattle.outer_io.specs.Files.{Files, bytes_of}
 use Rattle.page_cache.specs.declared.faults.PageFault.{PageFault}
 use Rattle.page_cache.specs.Causes.{HasPageCause}
-use Rattle.page_cache.specs.Evidence.{NotDamaged}
+use Rattle.page_cache.specs.Evidence.{NotDamaged, OnDamage}
 use Rattle.commit_list.specs.Commits.{CommitData}
 use Rattle.commit_list.specs.CommitFiles.{IsCommitFile}
 use Rattle.bkd_reader.specs.Hits.{Begins}
@@ -18,7 +18,9 @@ use Rattle.stored_index.specs.Stored.{IsStored}
 use Rattle.stored_index.specs.Kept.{SameKept}
 use Rattle.segment_set.specs.Sets.{SetData}
 use Rattle.segment_set.specs.Seen.{Sees}
-use Rattle.index_core.specs.Sessions.{SessionData, Guards, IsCommitAnew, IsUnchanged}
+use Rattle.segment_set.specs.Evidence.{IsEvident}
+use Rattle.segment_set.specs.Faithful.{IsFaithful}
+use Rattle.index_core.specs.Sessions.{Guards, IsCommitAnew, IsUnchanged, SessionData, Trusts}
 use Rattle.index_core.specs.Effects.{BringsCanonical, OnDone}
 use Rattle.index_core.specs.Light.{CommitsFewOfLevels}
 
@@ -81,6 +83,8 @@ pub record Applies (D : ℕ) (told : Type 0) (outcome : Index → Outcome) (comm
   pub stored : told → (i : Index) → Sees D old.files old.session.set i → Guards D old.files old.session → committing ≡ true → Stores old.files new.files i new.session.set result
   pub cause : HasPageCause old.faults new.faults result
   pub whole : told → (i : Index) → Sees D old.files old.session.set i → Guards D old.files old.session → NotDamaged result
+  pub faithful : told → IsFaithful D old.files old.session.set → IsFaithful D new.files new.session.set
+  pub evident : OnDamage result (IsEvident (told × Trusts D old.files old.session) new.files)
   pub idle : told → committing ≡ true → IsUnchanged old.session → new.files ≡ old.files
   pub unchanged : committing ≡ true → OnDone result (IsUnchanged new.session)
   pub anew : committing ≡ true → (IsUnchanged old.session → ⊥) → OnDone result (IsCommitAnew old.session.set.names new.session)

@@ -5,7 +5,7 @@ use Rattle.outer_io.specs.Files.{Files, bytes_of}
 use Rattle.page_cache.specs.declared.faults.PageFault.{PageFault}
 use Rattle.page_cache.specs.declared.faults.PageFault.TheVariants as page
 use Rattle.page_cache.specs.Causes.{HasPageCause}
-use Rattle.page_cache.specs.Evidence.{NotDamaged}
+use Rattle.page_cache.specs.Evidence.{NotDamaged, OnDamage}
 use Rattle.commit_list.specs.declared.listed.Listed.{Listed}
 use Rattle.commit_list.specs.Commits.{CommitData}
 use Rattle.commit_list.specs.CommitFiles.{IsCommitFile}
@@ -16,6 +16,8 @@ use Rattle.stored_index.specs.Kept.{ListsFile, SameKept}
 use Rattle.stored_index.specs.Stored.{HasHead, IsStored}
 use Rattle.segment_set.specs.Kept.{HasCanonical}
 use Rattle.segment_set.specs.Seen.{Sees}
+use Rattle.segment_set.specs.Evidence.{IsEvident}
+use Rattle.segment_set.specs.Faithful.{IsFaithful}
 use Rattle.segment_set.specs.declared.faults.AddFault.{AddFault}
 use Rattle.segment_set.specs.declared.faults.AddFault.TheVariants as add
 use Rattle.index_core.specs.Sessions.{Guards, SessionData}
@@ -45,6 +47,8 @@ pub record Adds {T : Type 0} (D : ℕ) (told : Type 0) (points : List (List ℤ)
   pub canon : told → BringsCanonical D old.files new.files old.session.set.parts new.session.set.parts
   pub cause : HasPageCause old.faults new.faults result
   pub whole : told → (i : Index) → Sees D old.files old.session.set i → NotDamaged result
+  pub faithful : told → IsFaithful D old.files old.session.set → IsFaithful D new.files new.session.set
+  pub evident : OnDamage result (IsEvident (told × IsFaithful D old.files old.session.set) new.files)
 
 -- what becomes of a document that is added where all points fit, so that `Full` is never answered
 abbrev pub added : Result ℕ AddFault → Result (Unit {0}) PageFault

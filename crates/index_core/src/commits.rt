@@ -16,6 +16,8 @@ ghost use Rattle.index_model.specs.Step.{step_on};
 ghost use Rattle.stored_index.specs.Stored.{IsStored};
 ghost use Rattle.stored_index.specs.Kept.{ListsFile, SameKept};
 ghost use Rattle.segment_set.specs.Seen.{Sees};
+ghost use Rattle.segment_set.specs.Evidence.{IsEvident};
+ghost use Rattle.segment_set.specs.Faithful.{IsFaithful};
 ghost use Rattle.segment_view.specs.Parts.{Part};
 ghost use Rattle.segment_set.specs.Damages.{IsAttachDamage, IsAttachDamageOf};
 ghost use Rattle.segment_set.specs.Sets.{IsSettled};
@@ -74,6 +76,9 @@ impl<const D: usize> Session<D> {
         ensures whole { IsTrue F.told → (i : Index) → Sees D (F.files folder.old) self.old.set i → NotDamaged result }
         // what a damage shows
         ensures damage { ShowsMerge D (IsTrue F.told) (F.files folder.old) (F.files folder.new) self.old.set result }
+        // whatever the files hold
+        ensures faithful { IsTrue F.told → IsFaithful D (F.files folder.old) self.old.set → IsFaithful D (F.files folder.new) self.new.set }
+        ensures evident { OnDamage result (IsEvident (IsTrue F.told × IsFaithful D (F.files folder.old) self.old.set) (F.files folder.new)) }
     {
         if !self.is_changed() {
             return Ok(());
@@ -110,6 +115,7 @@ impl<const D: usize> Session<D> {
         requires emptied { self.old.set.buffer ≡ [] }
         ensures set { self.new.set ≡ self.old.set }
         ensures others { IsTrue F.told → SameButTwo CommitNew CommitName (F.files folder.old) (F.files folder.new) }
+        ensures faithful { IsTrue F.told → IsFaithful D (F.files folder.old) self.old.set → IsFaithful D (F.files folder.new) self.new.set }
         ensures written { OnOk result ((self.new.commit ≡ Some commit) × (self.new.refused ≡ false)) }
         ensures seen { IsTrue F.told → (i : Index) → Sees D (F.files folder.old) self.old.set i → Sees D (F.files folder.new) self.new.set i }
         ensures guards { IsTrue F.told → GuardsSet D (F.files folder.old) self.old.set
@@ -143,6 +149,7 @@ impl<const D: usize> Session<D> {
         requires written { self.old.refused ≡ false }
         ensures alone { StaysButFiles self.old.set self.new.set }
         ensures segments { IsTrue F.told → (p : Part) → Contains self.old.set.parts p → F.files folder.new (Segment p.head.id) ≡ F.files folder.old (Segment p.head.id) }
+        ensures faithful { IsTrue F.told → IsFaithful D (F.files folder.old) self.old.set → IsFaithful D (F.files folder.new) self.new.set }
         ensures written { (self.new.commit ≡ self.old.commit) × (self.new.refused ≡ false) }
         ensures seen { IsTrue F.told → (i : Index) → Sees D (F.files folder.old) self.old.set i → Sees D (F.files folder.new) self.new.set i }
         ensures guards { IsTrue F.told → Guards D (F.files folder.old) self.old → Guards D (F.files folder.new) self.new }
@@ -210,6 +217,7 @@ impl<const D: usize> Session<D> {
         ensures seen { IsTrue F.told → self.now.refused ≡ false → Guards D (F.files folder.old) self.now → (i : Index) → IsStored (F.files folder.old) (Some i)
             → IfOk result (λ s. Sees D (F.files folder.old) s i) }
         ensures guards { IsTrue F.told → self.now.refused ≡ false → Guards D (F.files folder.old) self.now → IfOk result (λ s. Guards D (F.files folder.old) (record self.now { set = s })) }
+        ensures faithful { IsTrue F.told → IfOk result (IsFaithful D (F.files folder.old)) }
         ensures emptied { IfOk result (λ s. s.buffer ≡ []) }
         ensures unchanged { (c : CommitData) → self.now.commit ≡ Some c → IfOk result (λ s. IsAsCommitted s c) }
         ensures files { IsTrue F.told → F.files folder.new ≡ F.files folder.old }
@@ -217,6 +225,7 @@ impl<const D: usize> Session<D> {
         ensures whole { IsTrue F.told → self.now.refused ≡ false → Guards D (F.files folder.old) self.now → (state : State) → IsStored (F.files folder.old) state → NotDamaged result }
         ensures shown { (c : CommitData) → self.now.commit ≡ Some c → OnDamage result (IsAttachDamage c) }
         ensures damage { IsTrue F.told → (c : CommitData) → self.now.commit ≡ Some c → OnDamage result (IsAttachDamageOf (F.files folder.old) c) }
+        ensures evident { OnDamage result (IsEvident (IsTrue F.told × (self.now.refused ≡ false) × Guards D (F.files folder.old) self.now) (F.files folder.old)) }
     {
         let Some(commit) = &self.commit else {
             unreachable!()

@@ -4,11 +4,13 @@ ghost use Rattle.std.specs.Prelude.{◌≡◌, ◌≤◌, ◌+◌, ◌^◌, ◌�
 ghost use Rattle.outer_io.specs.Files.{Files};
 ghost use Rattle.point_codec.specs.Seen.{coordinates_of};
 ghost use Rattle.page_cache.specs.Causes.{HasPageCause};
-ghost use Rattle.page_cache.specs.Evidence.{NotDamaged};
+ghost use Rattle.page_cache.specs.Evidence.{NotDamaged, OnDamage};
 ghost use Rattle.documents.specs.Documents.{deleted, hits, is_live};
 ghost use Rattle.documents.specs.Nearest.{found_of, nearest};
 ghost use Rattle.index_model.specs.State.{Index};
 ghost use Rattle.segment_set.specs.Seen.{Sees};
+ghost use Rattle.segment_set.specs.Evidence.{IsEvident};
+ghost use Rattle.segment_set.specs.Faithful.{IsFaithful};
 ghost use Rattle.index_core.specs.Sessions.{Guards};
 ghost use Rattle.index_core.specs.Effects.{BringsCanonical};
 ghost use Rattle.index_core.specs.Whole.{Adds, added};
@@ -87,6 +89,7 @@ impl<const D: usize> Session<D> {
         ensures seen { (files : Files) (i : Index) → Sees D files self.old.set i → Sees D files self.new.set (record i { docs = deleted doc i.docs }) }
         ensures live { (files : Files) (i : Index) → Sees D files self.old.set i → result ≡ is_live doc i.docs }
         ensures guards { (files : Files) → Guards D files self.old → Guards D files self.new }
+        ensures faithful { (files : Files) → IsFaithful D files self.old.set → IsFaithful D files self.new.set }
         ensures canon { (files : Files) → BringsCanonical D files files self.old.set.parts self.new.set.parts }
     {
         self.set.delete(doc)
@@ -106,6 +109,8 @@ impl<const D: usize> Session<D> {
         ensures parts { self.new.set.parts ≡ self.old.set.parts }
         ensures cause { HasPageCause (F.faults folder.old) (F.faults folder.new) result }
         ensures whole { IsTrue F.told → (i : Index) → Sees D (F.files folder.old) self.old.set i → NotDamaged result }
+        ensures faithful { IsTrue F.told → IsFaithful D (F.files folder.old) self.old.set → IsFaithful D (F.files folder.new) self.new.set }
+        ensures evident { OnDamage result (IsEvident (IsTrue F.told × IsFaithful D (F.files folder.old) self.old.set) (F.files folder.new)) }
     {
         self.set.visit(alloc, folder, &View::Now, shape)
     }
@@ -127,6 +132,8 @@ impl<const D: usize> Session<D> {
         ensures parts { self.new.set.parts ≡ self.old.set.parts }
         ensures cause { HasPageCause (F.faults folder.old) (F.faults folder.new) result }
         ensures whole { IsTrue F.told → (i : Index) → Sees D (F.files folder.old) self.old.set i → NotDamaged result }
+        ensures faithful { IsTrue F.told → IsFaithful D (F.files folder.old) self.old.set → IsFaithful D (F.files folder.new) self.new.set }
+        ensures evident { OnDamage result (IsEvident (IsTrue F.told × IsFaithful D (F.files folder.old) self.old.set) (F.files folder.new)) }
     {
         self.set.nearest(alloc, folder, &View::Now, at, k)
     }

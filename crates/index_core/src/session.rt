@@ -17,6 +17,8 @@ ghost use Rattle.stored_index.specs.Stored.{HaveHeads, HaveLive, IsStored, IsUnd
 ghost use Rattle.stored_index.specs.Opening.{segments_pages};
 ghost use Rattle.segment_set.specs.Damages.{IsAttachDamage, IsAttachDamageOf};
 ghost use Rattle.segment_set.specs.Seen.{Sees};
+ghost use Rattle.segment_set.specs.Evidence.{IsEvident};
+ghost use Rattle.segment_set.specs.Faithful.{IsFaithful};
 
 use bkd_build::Gate;
 use cell_relate::BoxShape;
@@ -51,7 +53,7 @@ impl<const D: usize> Model for Session<D> {
 }
 
 impl<const D: usize> Session<D> {
-    ghost use Rattle.index_core.specs.Sessions.{Guards, IsCommitAnew, IsUnchanged};
+    ghost use Rattle.index_core.specs.Sessions.{Guards, IsCommitAnew, IsUnchanged, Trusts};
     ghost use Rattle.index_core.specs.Steps.{Applies, DoesOver, KeepsOver, Stores, is_committing};
     ghost use Rattle.index_core.specs.Costs.{ReadsAtMost};
     ghost use Rattle.index_core.specs.Damages.{ShowsDamage};
@@ -65,6 +67,7 @@ impl<const D: usize> Session<D> {
         requires greatest_leaf { leaf ≤ leaf_limit D }
         ensures seen { IfOk result (λ s. (files : Files) → Sees D files s.set (new_index D leaf)) }
         ensures guards { IfOk result (λ s. (files : Files) → files CommitName ≡ None → Guards D files s) }
+        ensures faithful { IfOk result (λ s. (files : Files) → IsFaithful D files s.set) }
         ensures bare { IfOk result (λ s. s.set.parts ≡ []) }
     {
         let set = SegmentSet::new(alloc, leaf, settings)?;
@@ -89,6 +92,7 @@ impl<const D: usize> Session<D> {
         ensures seen { IsTrue F.told → IsCommitFile (bytes_of (F.files folder.old CommitName)) commit → (i : Index) → IsStored (F.files folder.old) (Some i)
             → IfOk result (λ s. Sees D (F.files folder.old) s.set i) }
         ensures guards { IsTrue F.told → IsCommitFile (bytes_of (F.files folder.old CommitName)) commit → IfOk result (Guards D (F.files folder.old)) }
+        ensures faithful { IsTrue F.told → IfOk result (λ s. IsFaithful D (F.files folder.old) s.set) }
         ensures files { IsTrue F.told → F.files folder.new ≡ F.files folder.old }
         ensures cause { HasPageCause (F.faults folder.old) (F.faults folder.new) result }
         ensures unchanged { IfOk result IsUnchanged }
@@ -100,6 +104,7 @@ impl<const D: usize> Session<D> {
         ensures undefined { IsTrue F.told → IsCommitFile (bytes_of (F.files folder.old CommitName)) commit → OnDamage result (λ _. IsUndefined (F.files folder.old)) }
         ensures shown { OnDamage result (IsAttachDamage commit) }
         ensures damage { IsTrue F.told → OnDamage result (IsAttachDamageOf (F.files folder.old) commit) }
+        ensures evident { OnDamage result (IsEvident (IsTrue F.told × IsCommitFile (bytes_of (F.files folder.old CommitName)) commit) (F.files folder.old)) }
     {
         let _dims = commit.dims();
         Ok(Session {
@@ -146,6 +151,9 @@ impl<const D: usize> Session<D> {
         // what it costs, and what a damage shows
         ensures reads { ReadsAtMost D (IsTrue F.told) (request_of c.now) (F.files folder.old) self.old (F.reads folder.old) (F.reads folder.new) }
         ensures damage { ShowsDamage D (IsTrue F.told) (request_of c.now) (F.files folder.old) (F.files folder.new) self.old self.new result }
+        // Whatever the files hold, what the set keeps of them is theirs; and a damage is shown by what it carries, and is true of the files.
+        ensures faithful { IsTrue F.told → IsFaithful D (F.files folder.old) self.old.set → IsFaithful D (F.files folder.new) self.new.set }
+        ensures evident { OnDamage result (IsEvident (IsTrue F.told × Trusts D (F.files folder.old) self.old) (F.files folder.new)) }
         // blank lines, queries and what is refused leave all but the kept pages
         ensures still { KeepsStill (IsTrue F.told) (request_of c.now) (F.files folder.old) (F.files folder.new) self.old self.new result }
         // where no segment has to be written the files and segments stay, and what is refused reads nothing

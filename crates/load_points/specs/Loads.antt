@@ -4,6 +4,7 @@ use Rattle.outer_io.specs.declared.file_name.FileName.TheVariants.{Commit}
 use Rattle.outer_io.specs.Files.{Files, bytes_of}
 use Rattle.page_cache.specs.declared.faults.PageFault.{PageFault}
 use Rattle.page_cache.specs.Causes.{HasPageCause}
+use Rattle.page_cache.specs.Evidence.{OnDamage}
 use Rattle.commit_list.specs.Commits.{CommitData}
 use Rattle.commit_list.specs.CommitFiles.{IsCommitFile}
 use Rattle.index_model.specs.State.{Index, State}
@@ -11,6 +12,7 @@ use Rattle.index_model.specs.Script.{Answer}
 use Rattle.stored_index.specs.Stored.{IsStored}
 use Rattle.segment_view.specs.Parts.{Part}
 use Rattle.segment_set.specs.Seen.{Sees}
+use Rattle.segment_set.specs.Evidence.{IsEvident}
 use Rattle.index_core.specs.Sessions.{SessionData, Guards}
 use Rattle.index_core.specs.Whole.{DoesWhole, HasNewCanonical, IsNewSegment}
 use Rattle.load_points.specs.Loaded.{opened}
@@ -21,12 +23,14 @@ pub record Place : Type 0 where
   pub faults : ℕ
   pub text : List ℕ
 
--- From the one place to the other a load that starts so is answered so. A refused one changes no file, and each segment that is listed anew is canonical.
-pub record Loads (told : Type 0) (Starts : State → Type 0) (answer : State → Answer) (old new : Place) (result : Result Bool PageFault) : Type 0 where
+-- From the one place to the other a load that starts so is answered so. A refused one changes no file, each segment that is listed anew is canonical, and a damage
+-- is shown by what it carries, and is true of files that are trusted.
+pub record Loads (told trusts : Type 0) (Starts : State → Type 0) (answer : State → Answer) (old new : Place) (result : Result Bool PageFault) : Type 0 where
   pub does : told → (stored : State) → Starts stored → DoesWhole new.files stored (answer stored) old.text new.text result
   pub unchanged : told → IfOk result (λ refused. refused ≡ true → new.files ≡ old.files)
   pub canon : told → (stored : State) → Starts stored → OnOk result (HasNewCanonical old.files new.files)
   pub cause : HasPageCause old.faults new.faults result
+  pub evident : OnDamage result (IsEvident (told × trusts) new.files)
 
 -- ---- where it starts
 

@@ -1,12 +1,17 @@
 //! The points of a file go into the index of a folder.
 
-ghost use Rattle.std.specs.Prelude.{◌≡◌, ◌≢◌, ◌≤◌, ◌<◌, ◌+◌, ◌^◌, MatchOption, ℕ, true, length, Ok, Err, IsTrue, IfOk, IfErr, OnOk, List, ℤ};
-ghost use Rattle.outer_io.specs.Files.{Files};
+ghost use Rattle.std.specs.Prelude.{◌≡◌, ◌≢◌, ◌≤◌, ◌<◌, ◌+◌, ◌^◌, MatchOption, ℕ, true, length, None, Ok, Err, IsTrue, IfOk, IfErr, OnOk, List, ℤ};
+ghost use Rattle.outer_io.specs.Files.{Files, bytes_of};
+ghost use Rattle.outer_io.specs.declared.file_name.FileName.TheVariants.{Commit as CommitName};
 ghost use Rattle.point_codec.specs.Seen.{coordinates_of};
 ghost use Rattle.page_cache.specs.Causes.{HasPageCause};
+ghost use Rattle.page_cache.specs.Evidence.{OnDamage};
+ghost use Rattle.commit_list.specs.CommitFiles.{IsCommitFile};
 ghost use Rattle.csv_load.specs.Loading.{points_of, records_of};
 ghost use Rattle.index_model.specs.State.{State};
 ghost use Rattle.stored_index.specs.Stored.{IsStored};
+ghost use Rattle.segment_set.specs.Evidence.{IsEvident};
+ghost use Rattle.index_core.specs.Sessions.{Trusts};
 ghost use Rattle.index_core.specs.Whole.{DoesWhole, HasNewCanonical};
 ghost use Rattle.load_points.specs.Loaded.{loaded, loaded_by, matched};
 ghost use Rattle.load_points.specs.Loads.{HasDims, IsLoading, Loads, StartsFrom, StartsNone};
@@ -44,6 +49,7 @@ pub fn load<R: Threads + Sync, F: Folder, G: Gate>(
     ensures unchanged { IsTrue F.told → IfOk result (λ refused. refused ≡ true → F.files folder.new ≡ F.files folder.old) }
     ensures canon { IsTrue F.told → (state : State) → IsStored (F.files folder.old) state → OnOk result (HasNewCanonical (F.files folder.old) (F.files folder.new)) }
     ensures cause { HasPageCause (F.faults folder.old) (F.faults folder.new) result }
+    ensures evident { OnDamage result (IsEvident (IsTrue F.told) (F.files folder.new)) }
 {
     match read_commit(work.alloc, folder) {
         Ok(Some(commit)) => load_stored(work, commit, columns, input, folder, text),
@@ -62,7 +68,7 @@ fn load_first<R: Threads + Sync, F: Folder, G: Gate>(
 ) -> Result<bool, PageFault>
     requires some { 1 ≤ length columns.now }
     requires few { length columns.now ≤ 8 }
-    ensures { Loads (IsTrue F.told) (StartsNone (F.files folder.old)) (λ stored. loaded stored input.now columns.now)
+    ensures { Loads (IsTrue F.told) (F.files folder.old CommitName ≡ None) (StartsNone (F.files folder.old)) (λ stored. loaded stored input.now columns.now)
         (record { files = F.files folder.old; faults = F.faults folder.old; text = text.old.items }) (record { files = F.files folder.new; faults = F.faults folder.new; text = text.new.items }) result }
 {
     match columns.len() {
@@ -88,7 +94,7 @@ fn load_new<const D: usize, R: Threads + Sync, F: Folder, G: Gate>(
     requires some { 1 ≤ D }
     requires few { D ≤ 8 }
     requires named { length columns.now ≡ D }
-    ensures { Loads (IsTrue F.told) (StartsNone (F.files folder.old)) (λ stored. loaded stored input.now columns.now)
+    ensures { Loads (IsTrue F.told) (F.files folder.old CommitName ≡ None) (StartsNone (F.files folder.old)) (λ stored. loaded stored input.now columns.now)
         (record { files = F.files folder.old; faults = F.faults folder.old; text = text.old.items }) (record { files = F.files folder.new; faults = F.faults folder.new; text = text.new.items }) result }
 {
     match Session::<D>::create(work.alloc, greatest_leaf(D as u8), work.settings) {
@@ -108,7 +114,7 @@ fn load_stored<R: Threads + Sync, F: Folder, G: Gate>(
 ) -> Result<bool, PageFault>
     requires some { 1 ≤ length columns.now }
     requires few { length columns.now ≤ 8 }
-    ensures { Loads (IsTrue F.told) (StartsFrom (F.files folder.old) commit) (λ stored. loaded stored input.now columns.now)
+    ensures { Loads (IsTrue F.told) (IsCommitFile (bytes_of (F.files folder.old CommitName)) commit) (StartsFrom (F.files folder.old) commit) (λ stored. loaded stored input.now columns.now)
         (record { files = F.files folder.old; faults = F.faults folder.old; text = text.old.items }) (record { files = F.files folder.new; faults = F.faults folder.new; text = text.new.items }) result }
 {
     match commit.dims() {
@@ -137,7 +143,7 @@ fn load_over<const D: usize, R: Threads + Sync, F: Folder, G: Gate>(
     requires most_dims { D ≤ 8 }
     requires some { 1 ≤ length columns.now }
     requires few { length columns.now ≤ 8 }
-    ensures { Loads (IsTrue F.told) (StartsFrom (F.files folder.old) commit) (λ stored. loaded stored input.now columns.now)
+    ensures { Loads (IsTrue F.told) (IsCommitFile (bytes_of (F.files folder.old CommitName)) commit) (StartsFrom (F.files folder.old) commit) (λ stored. loaded stored input.now columns.now)
         (record { files = F.files folder.old; faults = F.faults folder.old; text = text.old.items }) (record { files = F.files folder.new; faults = F.faults folder.new; text = text.new.items }) result }
 {
     match Session::<D>::attach(work.alloc, folder, commit, work.settings) {
@@ -159,7 +165,7 @@ fn load_open<const D: usize, R: Threads + Sync, F: Folder, G: Gate>(
     requires most_dims { D ≤ 8 }
     requires some { 1 ≤ length columns.now }
     requires few { length columns.now ≤ 8 }
-    ensures { Loads (IsTrue F.told) (λ stored. IsLoading D (F.files folder.old) session.old stored × HasDims (F.files folder.old) D stored) (λ stored. loaded stored input.now columns.now)
+    ensures { Loads (IsTrue F.told) (Trusts D (F.files folder.old) session.old) (λ stored. IsLoading D (F.files folder.old) session.old stored × HasDims (F.files folder.old) D stored) (λ stored. loaded stored input.now columns.now)
         (record { files = F.files folder.old; faults = F.faults folder.old; text = text.old.items }) (record { files = F.files folder.new; faults = F.faults folder.new; text = text.new.items }) result }
 {
     let count = columns.len();
@@ -182,7 +188,7 @@ fn load_into<const D: usize, R: Threads + Sync, F: Folder, G: Gate>(
     requires some { 1 ≤ D }
     requires few { D ≤ 8 }
     requires named { length columns.now ≡ D }
-    ensures { Loads (IsTrue F.told) (IsLoading D (F.files folder.old) session.old) (λ stored. loaded stored input.now columns.now)
+    ensures { Loads (IsTrue F.told) (Trusts D (F.files folder.old) session.old) (IsLoading D (F.files folder.old) session.old) (λ stored. loaded stored input.now columns.now)
         (record { files = F.files folder.old; faults = F.faults folder.old; text = text.old.items }) (record { files = F.files folder.new; faults = F.faults folder.new; text = text.new.items }) result }
 {
     match read_points::<D>(work.alloc, input, columns) {
@@ -201,7 +207,7 @@ fn add_all<const D: usize, R: Threads + Sync, F: Folder, G: Gate>(
     text: &mut Vec<u8>,
 ) -> Result<bool, PageFault>
     requires { D ≤ 8 }
-    ensures { Loads (IsTrue F.told) (IsLoading D (F.files folder.old) session.old) (λ stored. matched D stored (coordinates_of points.now))
+    ensures { Loads (IsTrue F.told) (Trusts D (F.files folder.old) session.old) (IsLoading D (F.files folder.old) session.old) (λ stored. matched D stored (coordinates_of points.now))
         (record { files = F.files folder.old; faults = F.faults folder.old; text = text.old.items }) (record { files = F.files folder.new; faults = F.faults folder.new; text = text.new.items }) result }
 {
     match fitting(session.given(), points.len()) {
@@ -236,7 +242,7 @@ fn add_fitting<const D: usize, R: Threads + Sync, F: Folder, G: Gate>(
     requires few { D ≤ 8 }
     requires counted { count ≡ length points.now }
     requires fits { session.old.set.given + length points.now ≤ 2 ^ 24 }
-    ensures { Loads (IsTrue F.told) (IsLoading D (F.files folder.old) session.old) (λ stored. matched D stored (coordinates_of points.now))
+    ensures { Loads (IsTrue F.told) (Trusts D (F.files folder.old) session.old) (IsLoading D (F.files folder.old) session.old) (λ stored. matched D stored (coordinates_of points.now))
         (record { files = F.files folder.old; faults = F.faults folder.old; text = text.old.items }) (record { files = F.files folder.new; faults = F.faults folder.new; text = text.new.items }) result }
 {
     put_loaded(text, count, session.next() + count)?;
@@ -256,7 +262,7 @@ fn refuse_dims(
     requires some { 1 ≤ length columns.now }
     requires few { length columns.now ≤ 8 }
     requires other { length columns.now ≢ dims }
-    ensures { (files : Files) (faults : ℕ) → Loads (Unit {0}) (HasDims files dims) (λ stored. loaded stored input.now columns.now)
+    ensures { (files : Files) (faults : ℕ) → Loads (Unit {0}) (Unit {0}) (HasDims files dims) (λ stored. loaded stored input.now columns.now)
         (record { files = files; faults = faults; text = text.old.items }) (record { files = files; faults = faults; text = text.new.items }) result }
 {
     match look_through(alloc, columns, input) {
@@ -272,7 +278,7 @@ fn refuse_dims(
 /// Refuses a file for its fault.
 fn refuse_file(text: &mut Vec<u8>, columns: &[Bytes], fault: &CsvFault) -> Result<bool, PageFault>
     requires { fault.now ≢ CsvFault.Memory }
-    ensures { (files : Files) (faults : ℕ) → Loads (Unit {0}) (IsStored files) (λ stored. loaded_by columns.now stored (Err fault.now))
+    ensures { (files : Files) (faults : ℕ) → Loads (Unit {0}) (Unit {0}) (IsStored files) (λ stored. loaded_by columns.now stored (Err fault.now))
         (record { files = files; faults = faults; text = text.old.items }) (record { files = files; faults = faults; text = text.new.items }) result }
 {
     put_csv_fault(text, columns, fault)?;

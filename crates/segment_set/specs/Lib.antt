@@ -9,3 +9,5 @@ pub mod Runs
 pub mod Saved
 pub mod Swept
 pub mod Opened
+pub mod Evidence
+pub mod Faithful

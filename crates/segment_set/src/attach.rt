@@ -31,6 +31,8 @@ impl<const D: usize> SegmentSet<D> {
     ghost use Rattle.segment_set.specs.Seen.{Sees};
     ghost use Rattle.segment_set.specs.Kept.{IsAtRest};
     ghost use Rattle.segment_set.specs.Damages.{IsAttachDamage, IsAttachDamageOf};
+    ghost use Rattle.segment_set.specs.Faithful.{IsFaithful};
+    ghost use Rattle.segment_set.specs.Evidence.{IsEvident};
 
     /// The set of a commit's segments. It reads their heads, indexes and live bits, no leaf, and answers Unequal, Beyond or Doubled where
     /// these show it.
@@ -47,6 +49,7 @@ impl<const D: usize> SegmentSet<D> {
         ensures commit { IfOk result (λ s. IsAtRest s c.now) }
         ensures names { IfOk result (λ s. (m : FileName) → (is_named s.names.names m ≡ true) ↔ ListsFile c.now m) }
         ensures live { IsTrue F.told → IfOk result (λ s. HaveLive (F.files folder.old) c.now (lives_of s.parts)) }
+        ensures faithful { IsTrue F.told → IfOk result (IsFaithful D (F.files folder.old)) }
         ensures files { IsTrue F.told → F.files folder.new ≡ F.files folder.old }
         ensures reads { IsTrue F.told → (heads : List Head) (sets : List LiveSet) → HaveHeads (F.files folder.old) c.now heads → HaveLive (F.files folder.old) c.now sets
             → F.reads folder.new ≤ F.reads folder.old + segments_pages (F.files folder.old) c.now.listed heads }
@@ -56,6 +59,7 @@ impl<const D: usize> SegmentSet<D> {
         ensures undefined { IsTrue F.told → IsCommitFile (bytes_of (F.files folder.old CommitName)) c.now → OnDamage result (λ _. IsUndefined (F.files folder.old)) }
         ensures shown { OnDamage result (IsAttachDamage c.now) }
         ensures damage { IsTrue F.told → OnDamage result (IsAttachDamageOf (F.files folder.old) c.now) }
+        ensures evident { OnDamage result (IsEvident (IsTrue F.told × IsCommitFile (bytes_of (F.files folder.old CommitName)) c.now) (F.files folder.old)) }
     {
         let names = names_of(alloc, c)?;
         let segments = open_all::<D, F>(alloc, folder, c)?;

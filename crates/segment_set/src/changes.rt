@@ -3,18 +3,17 @@
 ghost use Rattle.std.specs.Prelude.{◌≡◌, ◌≤◌, ◌<◌, ◌+◌, ◌^◌, ◌++◌, ◌∷◌, ◌&&◌, ◌↔◌, ℕ, [], not, nat_eq, length, filter, All, IsTrue, IsOk, IfOk, OnOk, OnErr, IsErrOf};
 ghost use Rattle.outer_io.specs.Files.{Files};
 ghost use Rattle.point_codec.specs.Points.{ArePoints, in_box};
-ghost use Rattle.inner_pack.specs.Trees.{IndexTree};
 ghost use Rattle.cell_relate.specs.Boxes.{crosses};
 ghost use Rattle.page_cache.specs.Cache.{Agrees};
 ghost use Rattle.page_cache.specs.Causes.{HasPageCause};
 ghost use Rattle.page_cache.specs.Evidence.{OnDamage, NotDamaged};
 ghost use Rattle.segment_file.specs.Damages.{IsLeafDamageOf};
-ghost use Rattle.nearest_query.specs.Segments.{HaveTrees, IsSegmentDamage};
 ghost use Rattle.documents.specs.Documents.{deleted, hits, is_live, without};
 ghost use Rattle.documents.specs.Entries.{is_among};
 ghost use Rattle.index_model.specs.State.{Index};
 ghost use Rattle.segment_view.specs.Parts.{Contents, AreRead, heads_of, live_in_parts};
 ghost use Rattle.segment_view.specs.Costs.{AreTouched};
+ghost use Rattle.segment_view.specs.Damages.{IsPartDamage};
 
 use crate::buffer::{put_document, take_document};
 use crate::faults::AddFault;
@@ -40,6 +39,8 @@ impl<const D: usize> SegmentSet<D> {
     ghost use Rattle.segment_set.specs.Seen.{Sees};
     ghost use Rattle.segment_set.specs.Kept.{AreCanonical, Follows, KeepsNamed, StaysAlone};
     ghost use Rattle.segment_set.specs.Damages.{IsDoubt, IsMergeDamage, IsMergeDamageOf};
+    ghost use Rattle.segment_set.specs.Faithful.{IsFaithful};
+    ghost use Rattle.segment_set.specs.Evidence.{IsEvident};
     ghost use Rattle.segment_set.specs.declared.faults.AddFault.TheVariants.{Full, Failed};
 
     /// Adds a document with these points, and answers its number. Full exactly where more than 16,777,216 points would be given. Where the
@@ -67,6 +68,7 @@ impl<const D: usize> SegmentSet<D> {
         ensures snapshots { self.new.snapshots ≡ self.old.snapshots }
         ensures leaf { self.new.leaf ≡ self.old.leaf }
         ensures canon { IsTrue F.told → AreCanonical D (F.files folder.new) self.old.names self.new.parts }
+        ensures faithful { IsTrue F.told → IsFaithful D (F.files folder.old) self.old → IsFaithful D (F.files folder.new) self.new }
         // where the buffer has room nothing is read or written
         ensures unread { length self.old.buffer + length points.now ≤ 16384 → F.reads folder.new ≡ F.reads folder.old }
         ensures files { IsTrue F.told → length self.old.buffer + length points.now ≤ 16384 → F.files folder.new ≡ F.files folder.old }
@@ -82,6 +84,7 @@ impl<const D: usize> SegmentSet<D> {
         ensures damage { IsTrue F.told → Agrees (F.files folder.old) self.old.cache → OnAddDamage result (IsMergeDamageOf (F.files folder.new) self.old.given) }
         ensures doubled { IsTrue F.told → Agrees (F.files folder.old) self.old.cache → (c : Contents) → AreRead D (F.files folder.old) c self.old.parts
             → OnAddDamage result (IsDoubt self.old.given (live_in_parts c self.old.parts)) }
+        ensures evident { OnAddDamage result (IsEvident (IsTrue F.told × IsFaithful D (F.files folder.old) self.old) (F.files folder.new)) }
     {
         let count = points.as_slice().len() as u32;
         if self.is_full(count) {
@@ -130,6 +133,7 @@ impl<const D: usize> SegmentSet<D> {
         ensures saved { self.new.saved ≡ self.old.saved }
         ensures begun { self.new.begun ≡ self.old.begun }
         ensures canon { IsTrue F.told → AreCanonical D (F.files folder.new) self.old.names self.new.parts }
+        ensures faithful { IsTrue F.told → IsFaithful D (F.files folder.old) self.old → IsFaithful D (F.files folder.new) self.new }
         // what an error says
         ensures cause { HasPageCause (F.faults folder.old) (F.faults folder.new) result }
         ensures whole { IsTrue F.told → (i : Index) → Sees D (F.files folder.old) self.old i → NotDamaged result }
@@ -137,6 +141,7 @@ impl<const D: usize> SegmentSet<D> {
         ensures damage { IsTrue F.told → Agrees (F.files folder.old) self.old.cache → OnDamage result (IsMergeDamageOf (F.files folder.new) self.old.given) }
         ensures doubled { IsTrue F.told → Agrees (F.files folder.old) self.old.cache → (c : Contents) → AreRead D (F.files folder.old) c self.old.parts
             → OnDamage result (IsDoubt self.old.given (live_in_parts c self.old.parts)) }
+        ensures evident { OnDamage result (IsEvident (IsTrue F.told × IsFaithful D (F.files folder.old) self.old) (F.files folder.new)) }
     {
         if self.has_room(count) {
             return Ok(());
@@ -168,6 +173,7 @@ impl<const D: usize> SegmentSet<D> {
         ensures seen { (files : Files) (i : Index) → Sees D files self.old i → Sees D files self.new (record i { docs = deleted doc i.docs }) }
         ensures live { (files : Files) (i : Index) → Sees D files self.old i → result ≡ is_live doc i.docs }
         ensures alone { self.new ≡ set_but doc self.old }
+        ensures faithful { (files : Files) → IsFaithful D files self.old → IsFaithful D files self.new }
         ensures dead { is_live_in self.new ≡ (λ n. is_live_in self.old n && not (nat_eq n doc)) }
         ensures follows { Follows self.old.names self.old.parts self.new.parts }
     {
@@ -196,13 +202,15 @@ impl<const D: usize> SegmentSet<D> {
         ensures follows { Follows self.old.names self.old.parts self.new.parts }
         ensures names { self.new.names ≡ self.old.names }
         ensures saved { self.new.saved ≡ self.old.saved }
+        ensures faithful { IsTrue F.told → IsFaithful D (F.files folder.old) self.old → IsFaithful D (F.files folder.new) self.new }
         // what it costs, and what an error says
         ensures reads { (n : ℕ) → AreTouched D (in_box (record { lo = lo.now.c; hi = hi.now.c })) (crosses (record { lo = lo.now.c; hi = hi.now.c })) (heads_of self.old.parts) n
             → F.reads folder.new ≤ F.reads folder.old + n }
         ensures cause { HasPageCause (F.faults folder.old) (F.faults folder.new) result }
         ensures whole { IsTrue F.told → (i : Index) → Sees D (F.files folder.old) self.old i → NotDamaged result }
-        ensures shown { (trees : ℕ → IndexTree) → HaveTrees D (heads_of self.old.parts) trees → OnDamage result (IsSegmentDamage D (heads_of self.old.parts) trees) }
+        ensures shown { OnDamage result (IsPartDamage D self.old.parts) }
         ensures damage { IsTrue F.told → Agrees (F.files folder.old) self.old.cache → OnDamage result (IsLeafDamageOf (F.files folder.old)) }
+        ensures evident { OnDamage result (IsEvident (IsTrue F.told × IsFaithful D (F.files folder.old) self.old) (F.files folder.new)) }
     {
         let mut shape = BoxShape::new(*lo, *hi);
         let hits = self.visit(alloc, folder, &View::Now, &mut shape)?;
@@ -217,6 +225,7 @@ impl<const D: usize> SegmentSet<D> {
     pub fn delete_all(&mut self, docs: &[u32])
         ensures seen { (files : Files) (i : Index) → Sees D files self.old i
             → Sees D files self.new (record i { docs = filter (λ d. not (is_among docs.now d.number)) i.docs }) }
+        ensures faithful { (files : Files) → IsFaithful D files self.old → IsFaithful D files self.new }
         ensures stays { StaysAlone self.old self.new }
         ensures follows { Follows self.old.names self.old.parts self.new.parts }
         ensures names { self.new.names ≡ self.old.names }

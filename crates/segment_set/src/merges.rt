@@ -28,6 +28,8 @@ impl<const D: usize> SegmentSet<D> {
     ghost use Rattle.segment_set.specs.Merged.{IsApart, IsEnded, IsWhole, KeepsEntries, Rearranges, chosen_ids};
     ghost use Rattle.segment_set.specs.Merges.{IsMerged};
     ghost use Rattle.segment_set.specs.Damages.{IsDoubt, IsMergeDamage, IsMergeDamageOf};
+    ghost use Rattle.segment_set.specs.Faithful.{IsFaithful};
+    ghost use Rattle.segment_set.specs.Evidence.{IsEvident};
     ghost use Rattle.segment_set.specs.declared.faults.BeginFault.TheVariants as begin;
     ghost use Rattle.segment_set.specs.declared.faults.EndFault.TheVariants as end;
 
@@ -49,6 +51,7 @@ impl<const D: usize> SegmentSet<D> {
         ensures saved { self.new.saved ≡ self.old.saved }
         ensures begun { self.new.begun ≡ self.old.begun }
         ensures canon { IsTrue F.told → AreCanonical D (F.files folder.new) self.old.names self.new.parts }
+        ensures faithful { IsTrue F.told → IsFaithful D (F.files folder.old) self.old → IsFaithful D (F.files folder.new) self.new }
         // where the policy chooses nothing, nothing is read
         ensures rested { IsSettled self.old → F.reads folder.new ≡ F.reads folder.old }
         // what an error says
@@ -58,6 +61,7 @@ impl<const D: usize> SegmentSet<D> {
         ensures damage { IsTrue F.told → Agrees (F.files folder.old) self.old.cache → OnDamage result (IsMergeDamageOf (F.files folder.new) self.old.given) }
         ensures doubled { IsTrue F.told → Agrees (F.files folder.old) self.old.cache → (c : Contents) → AreRead D (F.files folder.old) c self.old.parts
             → OnDamage result (IsDoubt self.old.given (live_in_parts c self.old.parts)) }
+        ensures evident { OnDamage result (IsEvident (IsTrue F.told × IsFaithful D (F.files folder.old) self.old) (F.files folder.new)) }
     {
         self.merge_settle(rt, alloc, folder, gate)?;
         self.spill(rt, alloc, folder, gate)
@@ -82,6 +86,7 @@ impl<const D: usize> SegmentSet<D> {
         ensures saved { self.new.saved ≡ self.old.saved }
         ensures begun { self.new.begun ≡ self.old.begun }
         ensures canon { IsTrue F.told → AreCanonical D (F.files folder.new) self.old.names self.new.parts }
+        ensures faithful { IsTrue F.told → IsFaithful D (F.files folder.old) self.old → IsFaithful D (F.files folder.new) self.new }
         // where the policy chooses nothing, nothing is done
         ensures rested { IsSettled self.old → F.reads folder.new ≡ F.reads folder.old }
         ensures still { IsSettled self.old → self.new ≡ self.old }
@@ -92,6 +97,7 @@ impl<const D: usize> SegmentSet<D> {
         ensures damage { IsTrue F.told → Agrees (F.files folder.old) self.old.cache → OnDamage result (IsMergeDamageOf (F.files folder.new) self.old.given) }
         ensures doubled { IsTrue F.told → Agrees (F.files folder.old) self.old.cache → (c : Contents) → AreRead D (F.files folder.old) c self.old.parts
             → OnDamage result (IsDoubt self.old.given (live_in_parts c self.old.parts)) }
+        ensures evident { OnDamage result (IsEvident (IsTrue F.told × IsFaithful D (F.files folder.old) self.old) (F.files folder.new)) }
     {
         while let Some(ids) = self.next_merge(alloc)? {
             self.merge(rt, alloc, folder, ids.as_slice(), gate)?;
@@ -121,6 +127,7 @@ impl<const D: usize> SegmentSet<D> {
         ensures saved { self.new.saved ≡ self.old.saved }
         ensures begun { self.new.begun ≡ self.old.begun }
         ensures canon { IsTrue F.told → AreCanonical D (F.files folder.new) self.old.names self.new.parts }
+        ensures faithful { IsTrue F.told → IsFaithful D (F.files folder.old) self.old → IsFaithful D (F.files folder.new) self.new }
         // what an error says
         ensures cause { HasPageCause (F.faults folder.old) (F.faults folder.new) result }
         ensures whole { IsTrue F.told → (i : Index) → Sees D (F.files folder.old) self.old i → NotDamaged result }
@@ -128,6 +135,7 @@ impl<const D: usize> SegmentSet<D> {
         ensures damage { IsTrue F.told → Agrees (F.files folder.old) self.old.cache → OnDamage result (IsMergeDamageOf (F.files folder.new) self.old.given) }
         ensures doubled { IsTrue F.told → Agrees (F.files folder.old) self.old.cache → (c : Contents) → AreRead D (F.files folder.old) c self.old.parts
             → OnDamage result (IsDoubt self.old.given (live_in_parts c self.old.parts)) }
+        ensures evident { OnDamage result (IsEvident (IsTrue F.told × IsFaithful D (F.files folder.old) self.old) (F.files folder.new)) }
     {
         let ids = self.unpinned(alloc)?;
         if self.is_settled(ids.as_slice()) {
@@ -156,6 +164,7 @@ impl<const D: usize> SegmentSet<D> {
         ensures files { IsTrue F.told → F.files folder.new ≡ F.files folder.old }
         ensures alone { StaysButMerge self.old self.new }
         ensures stays { OnErr result (StaysButCache self.old self.new) }
+        ensures faithful { IsTrue F.told → IsFaithful D (F.files folder.old) self.old → IsFaithful D (F.files folder.new) self.new }
         // what an error says
         ensures cause { HasCauseOf begin.Failed (F.faults folder.old) (F.faults folder.new) result }
         ensures whole { IsTrue F.told → (i : Index) → Sees D (F.files folder.old) self.old i → OnBeginDamage result (λ _. ⊥) }
@@ -163,6 +172,7 @@ impl<const D: usize> SegmentSet<D> {
         ensures damage { IsTrue F.told → Agrees (F.files folder.old) self.old.cache → OnBeginDamage result (IsMergeDamageOf (F.files folder.new) self.old.given) }
         ensures doubled { IsTrue F.told → Agrees (F.files folder.old) self.old.cache → (c : Contents) → AreRead D (F.files folder.old) c self.old.parts
             → OnBeginDamage result (IsDoubt self.old.given (live_in_parts c self.old.parts)) }
+        ensures evident { OnBeginDamage result (IsEvident (IsTrue F.told × IsFaithful D (F.files folder.old) self.old) (F.files folder.new)) }
     {
         if self.begun.is_some() {
             return Err(BeginFault::Begun);
@@ -201,6 +211,7 @@ impl<const D: usize> SegmentSet<D> {
         ensures follows { Follows self.old.names self.old.parts self.new.parts }
         ensures saved { self.new.saved ≡ self.old.saved }
         ensures canon { IsTrue F.told → AreCanonical D (F.files folder.new) self.old.names self.new.parts }
+        ensures faithful { IsTrue F.told → IsFaithful D (F.files folder.old) self.old → IsFaithful D (F.files folder.new) self.new }
         ensures unread { F.reads folder.new ≡ F.reads folder.old }
         // what an error says
         ensures cause { HasCauseOf end.Failed (F.faults folder.old) (F.faults folder.new) result }
@@ -273,6 +284,7 @@ impl<const D: usize> SegmentSet<D> {
         requires { IsApart ids.now (inputs_of self.old.begun) self.old.parts }
         ensures moves { Rearranges D (IsTrue F.told) (F.files folder.old) (F.files folder.new) self.old self.new }
         ensures entries { KeepsEntries D (IsTrue F.told) (F.files folder.old) (F.files folder.new) self.old self.new }
+        ensures faithful { IsTrue F.told → IsFaithful D (F.files folder.old) self.old → IsFaithful D (F.files folder.new) self.new }
         ensures buffer { self.new.buffer ≡ self.old.buffer }
         ensures merged { OnOk result (IsMerged D (IsTrue F.told) self.old.leaf self.old.names self.new.names (F.files folder.old) (F.files folder.new) self.old.cache ids.now
             self.old.parts self.new.parts) }
@@ -283,6 +295,7 @@ impl<const D: usize> SegmentSet<D> {
         ensures damage { IsTrue F.told → Agrees (F.files folder.old) self.old.cache → OnDamage result (IsMergeDamageOf (F.files folder.new) self.old.given) }
         ensures doubled { IsTrue F.told → Agrees (F.files folder.old) self.old.cache → (c : Contents) → AreRead D (F.files folder.old) c self.old.parts
             → OnDamage result (IsDoubt self.old.given (live_in_parts c self.old.parts)) }
+        ensures evident { OnDamage result (IsEvident (IsTrue F.told × IsFaithful D (F.files folder.old) self.old) (F.files folder.new)) }
     {
         let plan = self.plan();
         merge(
@@ -309,6 +322,7 @@ impl<const D: usize> SegmentSet<D> {
         requires { length self.old.parts < 200 }
         ensures well { IsWell D self.old }
         ensures moves { Rearranges D (IsTrue F.told) (F.files folder.old) (F.files folder.new) self.old self.new }
+        ensures faithful { IsTrue F.told → IsFaithful D (F.files folder.old) self.old → IsFaithful D (F.files folder.new) self.new }
         ensures emptied { OnOk result (self.new.buffer ≡ []) }
         ensures one_more { (level : ℕ) → free_count level (sizes_of self.new.parts) (pins_of self.new.begun self.new.parts)
             ≤ free_count level (sizes_of self.old.parts) (pins_of self.old.begun self.old.parts) + 1 }

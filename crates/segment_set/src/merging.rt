@@ -22,6 +22,8 @@ ghost use Rattle.segment_set.specs.Sets.{IsNamed};
 ghost use Rattle.segment_set.specs.Kept.{KeepsNamed};
 ghost use Rattle.segment_set.specs.Merges.{IsGathered, IsMerged, IsPut, IsSpilled, MakesLive, Replaces, living};
 ghost use Rattle.segment_set.specs.Damages.{IsDoubt, IsMergeDamage, IsMergeDamageOf};
+ghost use Rattle.segment_set.specs.Evidence.{IsEvident};
+ghost use Rattle.segment_set.specs.Faithful.{HasFileHead};
 
 use bkd_build::Gate;
 use file_names::FileNames;
@@ -123,6 +125,7 @@ pub(crate) fn gathered<const D: usize, R: Threads + Sync, F: Pages, G: Gate>(
     ensures damage { IsTrue F.told → Agrees (F.files folder.old) cache.old → OnDamage result (IsMergeDamageOf (F.files folder.new) plan.now.given) }
     ensures doubled { IsTrue F.told → Agrees (F.files folder.old) cache.old → (c : Contents) → AreRead D (F.files folder.old) c segments.now
         → OnDamage result (IsDoubt plan.now.given (live_in_parts c segments.now)) }
+    ensures evident { OnDamage result (IsEvident (IsTrue F.told × Agrees (F.files folder.old) cache.old × All (HasFileHead D (F.files folder.old)) segments.now) (F.files folder.new)) }
 {
     let mut entries = gather(alloc, segments, ids, cache, folder)?;
     if entries.is_empty() {
@@ -214,6 +217,7 @@ pub(crate) fn merge<const D: usize, R: Threads + Sync, F: Folder, G: Gate>(
     ensures damage { IsTrue F.told → Agrees (F.files folder.old) cache.old → OnDamage result (IsMergeDamageOf (F.files folder.new) plan.now.given) }
     ensures doubled { IsTrue F.told → Agrees (F.files folder.old) cache.old → (c : Contents) → AreRead D (F.files folder.old) c segments.old
         → OnDamage result (IsDoubt plan.now.given (live_in_parts c segments.old)) }
+    ensures evident { OnDamage result (IsEvident (IsTrue F.told × Agrees (F.files folder.old) cache.old × All (HasFileHead D (F.files folder.old)) segments.old) (F.files folder.new)) }
 {
     let built = gathered(rt, alloc, segments, ids, cache, folder, plan, gate)?;
     replace(alloc, folder, names, segments, built.as_ref(), ids)

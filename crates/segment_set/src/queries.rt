@@ -3,7 +3,6 @@
 ghost use Rattle.std.specs.Prelude.{◌≡◌, ◌≤◌, ◌+◌, ◌*◌, ℕ, List, Some, length, IsTrue, IfOk};
 ghost use Rattle.point_codec.specs.Seen.{items_of};
 ghost use Rattle.point_codec.specs.declared.entries.Near.{Near};
-ghost use Rattle.inner_pack.specs.Trees.{IndexTree};
 ghost use Rattle.page_cache.specs.Cache.{Agrees};
 ghost use Rattle.page_cache.specs.Causes.{HasPageCause};
 ghost use Rattle.page_cache.specs.Evidence.{OnDamage, NotDamaged};
@@ -11,11 +10,12 @@ ghost use Rattle.segment_file.specs.Damages.{IsLeafDamageOf};
 ghost use Rattle.documents.specs.Documents.{Document, hits};
 ghost use Rattle.documents.specs.Nearest.{found_of, nearest};
 ghost use Rattle.documents.specs.NearestEntries.{IsNearest, nears_of};
-ghost use Rattle.nearest_query.specs.Segments.{AreNearLeaves, HaveTrees, IsSegmentDamage, bound_of};
+ghost use Rattle.nearest_query.specs.Segments.{AreNearLeaves, bound_of};
 ghost use Rattle.script_lang.specs.Seen.{viewed};
 ghost use Rattle.index_model.specs.State.{Index, viewed_docs};
 ghost use Rattle.segment_view.specs.Parts.{Contents, heads_of};
 ghost use Rattle.segment_view.specs.Costs.{AreTested, AreTouched, leaves_in};
+ghost use Rattle.segment_view.specs.Damages.{IsPartDamage};
 
 use crate::set::SegmentSet;
 use crate::snapshots::{Snapshot, snapshot_named};
@@ -31,6 +31,8 @@ impl<const D: usize> SegmentSet<D> {
     ghost use Rattle.segment_set.specs.Sets.{HasView, viewed_buffer, viewed_parts};
     ghost use Rattle.segment_set.specs.Seen.{Sees, StandsOver, entries_seen};
     ghost use Rattle.segment_set.specs.Kept.{StaysButCache};
+    ghost use Rattle.segment_set.specs.Faithful.{IsFaithful};
+    ghost use Rattle.segment_set.specs.Evidence.{IsEvident};
 
     /// The numbers of the view's documents that the shape has, ascending. Only leaves whose own cell is not outside are read, and only
     /// entries of the buffer and of leaves whose own cell the shape crosses are tested.
@@ -47,6 +49,7 @@ impl<const D: usize> SegmentSet<D> {
         // what stays
         ensures seen { IsTrue F.told → (i : Index) → Sees D (F.files folder.old) self.old i → Sees D (F.files folder.new) self.new i }
         ensures alone { StaysButCache self.old self.new }
+        ensures faithful { IsTrue F.told → IsFaithful D (F.files folder.old) self.old → IsFaithful D (F.files folder.new) self.new }
         ensures files { IsTrue F.told → F.files folder.new ≡ F.files folder.old }
         ensures has { S.has shape.new ≡ S.has shape.old }
         ensures crosses { S.crosses shape.new ≡ S.crosses shape.old }
@@ -59,9 +62,9 @@ impl<const D: usize> SegmentSet<D> {
         // what an error says
         ensures cause { HasPageCause (F.faults folder.old) (F.faults folder.new) result }
         ensures whole { IsTrue F.told → (i : Index) → Sees D (F.files folder.old) self.old i → NotDamaged result }
-        ensures shown { (trees : ℕ → IndexTree) → HaveTrees D (heads_of (viewed_parts (viewed view.now) self.old)) trees
-            → OnDamage result (IsSegmentDamage D (heads_of (viewed_parts (viewed view.now) self.old)) trees) }
+        ensures shown { OnDamage result (IsPartDamage D (viewed_parts (viewed view.now) self.old)) }
         ensures damage { IsTrue F.told → Agrees (F.files folder.old) self.old.cache → OnDamage result (IsLeafDamageOf (F.files folder.old)) }
+        ensures evident { OnDamage result (IsEvident (IsTrue F.told × IsFaithful D (F.files folder.old) self.old) (F.files folder.new)) }
     {
         let (segments, buffer) = view_of(
             &self.segments,
@@ -91,6 +94,7 @@ impl<const D: usize> SegmentSet<D> {
         // what stays
         ensures seen { IsTrue F.told → (i : Index) → Sees D (F.files folder.old) self.old i → Sees D (F.files folder.new) self.new i }
         ensures alone { StaysButCache self.old self.new }
+        ensures faithful { IsTrue F.told → IsFaithful D (F.files folder.old) self.old → IsFaithful D (F.files folder.new) self.new }
         ensures files { IsTrue F.told → F.files folder.new ≡ F.files folder.old }
         // what it costs: the leaves as near as the last of those found
         ensures reads { IsTrue F.told → (c : Contents) → StandsOver D (F.files folder.old) c self.old
@@ -100,9 +104,9 @@ impl<const D: usize> SegmentSet<D> {
         // what an error says
         ensures cause { HasPageCause (F.faults folder.old) (F.faults folder.new) result }
         ensures whole { IsTrue F.told → (i : Index) → Sees D (F.files folder.old) self.old i → NotDamaged result }
-        ensures shown { (trees : ℕ → IndexTree) → HaveTrees D (heads_of (viewed_parts (viewed view.now) self.old)) trees
-            → OnDamage result (IsSegmentDamage D (heads_of (viewed_parts (viewed view.now) self.old)) trees) }
+        ensures shown { OnDamage result (IsPartDamage D (viewed_parts (viewed view.now) self.old)) }
         ensures damage { IsTrue F.told → Agrees (F.files folder.old) self.old.cache → OnDamage result (IsLeafDamageOf (F.files folder.old)) }
+        ensures evident { OnDamage result (IsEvident (IsTrue F.told × IsFaithful D (F.files folder.old) self.old) (F.files folder.new)) }
     {
         let (segments, buffer) = view_of(
             &self.segments,

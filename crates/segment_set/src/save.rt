@@ -38,6 +38,8 @@ impl<const D: usize> SegmentSet<D> {
     ghost use Rattle.segment_set.specs.Seen.{Sees};
     ghost use Rattle.segment_set.specs.Kept.{AreCanonical, Follows, IsCommitOf, StaysAlone};
     ghost use Rattle.segment_set.specs.Damages.{IsDoubt, IsMergeDamage, IsMergeDamageOf};
+    ghost use Rattle.segment_set.specs.Faithful.{IsFaithful};
+    ghost use Rattle.segment_set.specs.Evidence.{IsEvident};
 
     /// Flushes, writes the live bits of each segment under a generation that the list of names doesn't have, and answers the commit that
     /// lists the segments of now with them.
@@ -66,6 +68,7 @@ impl<const D: usize> SegmentSet<D> {
         ensures follows { Follows self.old.names self.old.parts self.new.parts }
         ensures begun { self.new.begun ≡ self.old.begun }
         ensures canon { IsTrue F.told → AreCanonical D (F.files folder.new) self.old.names self.new.parts }
+        ensures faithful { IsTrue F.told → IsFaithful D (F.files folder.old) self.old → IsFaithful D (F.files folder.new) self.new }
         // where the policy chooses nothing, nothing is read
         ensures rested { IsSettled self.old → F.reads folder.new ≡ F.reads folder.old }
         // what an error says
@@ -75,6 +78,7 @@ impl<const D: usize> SegmentSet<D> {
         ensures damage { IsTrue F.told → Agrees (F.files folder.old) self.old.cache → OnDamage result (IsMergeDamageOf (F.files folder.new) self.old.given) }
         ensures doubled { IsTrue F.told → Agrees (F.files folder.old) self.old.cache → (c : Contents) → AreRead D (F.files folder.old) c self.old.parts
             → OnDamage result (IsDoubt self.old.given (live_in_parts c self.old.parts)) }
+        ensures evident { OnDamage result (IsEvident (IsTrue F.told × IsFaithful D (F.files folder.old) self.old) (F.files folder.new)) }
     {
         self.flush(rt, alloc, folder, gate)?;
         self.list_segments(alloc, folder)
@@ -87,6 +91,7 @@ impl<const D: usize> SegmentSet<D> {
         folder: &mut F,
     ) -> Result<Commit, PageFault>
         ensures alone { StaysButSaved self.old self.new }
+        ensures faithful { IsTrue F.told → IsFaithful D (F.files folder.old) self.old → IsFaithful D (F.files folder.new) self.new }
         ensures kept { KeepsNamed (IsTrue F.told) self.old.names self.new.names (F.files folder.old) (F.files folder.new) }
         ensures saved { IfOk result (λ c. self.new.saved ≡ Some c) }
         ensures commit { IfOk result (IsCommitOf D self.new) }

@@ -89,6 +89,7 @@ impl<const D: usize> SegmentSet<D> {
     ghost use Rattle.live_bits.specs.LiveSet.{IsLiveSet};
     ghost use Rattle.segment_set.specs.Sets.{IsWell};
     ghost use Rattle.segment_set.specs.Kept.{IsAsCommitted};
+    ghost use Rattle.segment_set.specs.Faithful.{IsFaithful};
 
     /// A set without documents, over a folder without an index.
     pub fn new(alloc: Global, leaf: u16, settings: Settings) -> Result<SegmentSet<D>, Memory>
@@ -96,6 +97,7 @@ impl<const D: usize> SegmentSet<D> {
         requires least_leaf { 2 ≤ leaf }
         requires greatest_leaf { leaf ≤ leaf_limit D }
         ensures seen { IfOk result (λ s. (files : Files) → Sees D files s (new_index D leaf)) }
+        ensures faithful { IfOk result (λ s. (files : Files) → IsFaithful D files s) }
         ensures unsaved { IfOk result (λ s. s.saved ≡ None) }
         ensures names { IfOk result (λ s. s.names ≡ record { names = []; next_segment = 0 }) }
     {

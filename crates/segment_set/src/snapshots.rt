@@ -41,6 +41,7 @@ impl<const D: usize> Snapshot<D> {
 impl<const D: usize> SegmentSet<D> {
     ghost use Rattle.segment_set.specs.Sets.{NamedView, SetData, has_name};
     ghost use Rattle.segment_set.specs.Seen.{Sees};
+    ghost use Rattle.segment_set.specs.Faithful.{IsFaithful};
     ghost use Rattle.segment_set.specs.declared.faults.SnapFault.TheVariants.{Taken, TooMany};
 
     /// Whether a snapshot has this name.
@@ -54,6 +55,7 @@ impl<const D: usize> SegmentSet<D> {
     pub fn snapshot(&mut self, alloc: Global, name: Name) -> Result<(), SnapFault>
         ensures seen { (files : Files) (i : Index) → Sees D files self.old i
             → OnOk result (Sees D files self.new (record i { snapshots = i.snapshots ++ record { name = name; docs = i.docs } ∷ [] })) }
+        ensures faithful { (files : Files) → IsFaithful D files self.old → IsFaithful D files self.new }
         ensures taken { IsErrOf result Taken ↔ (has_name name self.old.snapshots ≡ true) }
         ensures too_many { IsErrOf result TooMany ↔ ((has_name name self.old.snapshots ≡ false) × (16 ≤ length self.old.snapshots)) }
         ensures refused { OnErr result (self.new ≡ self.old) }
@@ -82,6 +84,7 @@ impl<const D: usize> SegmentSet<D> {
         ensures found { result ≡ has_name name.now self.old.snapshots }
         ensures seen { (files : Files) (i : Index) → Sees D files self.old i
             → Sees D files self.new (record i { snapshots = filter (λ s. not (bytes_eq s.name name.now)) i.snapshots }) }
+        ensures faithful { (files : Files) → IsFaithful D files self.old → IsFaithful D files self.new }
         ensures kept { self.new ≡ record self.old { snapshots = filter (λ v. not (bytes_eq v.name name.now)) self.old.snapshots } }
     {
         let found = has_name(self.snapshots.as_slice(), name);

@@ -23,6 +23,7 @@ use page_cache::PageCache;
 impl<const D: usize> SegmentSet<D> {
     ghost use Rattle.segment_set.specs.Seen.{Sees};
     ghost use Rattle.segment_set.specs.Kept.{IsNeeded, StaysButFiles};
+    ghost use Rattle.segment_set.specs.Faithful.{IsFaithful};
     ghost use Rattle.segment_set.specs.Swept.{IsSwept, IsUnneeded, shows_file};
 
     /// Removes every file of the list of names but those that the last save lists and those that a view needs. After Ok only these are in the
@@ -40,6 +41,7 @@ impl<const D: usize> SegmentSet<D> {
         ensures gone { IsTrue F.told → OnOk result ((c : CommitData) → self.old.saved ≡ Some c → (m : FileName) → is_named self.old.names.names m ≡ true
             → (IsNeeded self.old c m → ⊥) → F.files folder.new m ≡ None) }
         ensures alone { StaysButFiles self.old self.new }
+        ensures faithful { IsTrue F.told → IsFaithful D (F.files folder.old) self.old → IsFaithful D (F.files folder.new) self.new }
         ensures unread { F.reads folder.new ≡ F.reads folder.old }
         ensures cause { HasCause (F.faults folder.old) (F.faults folder.new) result }
     {
@@ -55,6 +57,7 @@ impl<const D: usize> SegmentSet<D> {
         requires { place < length self.old.names.names }
         ensures seen { IsTrue F.told → (i : Index) → Sees D (F.files folder.old) self.old i → Sees D (F.files folder.new) self.new i }
         ensures swept { IsSwept (IsTrue F.told) self.old self.new (F.files folder.old) (F.files folder.new) }
+        ensures faithful { IsTrue F.told → IsFaithful D (F.files folder.old) self.old → IsFaithful D (F.files folder.new) self.new }
         ensures front { (c : CommitData) → self.old.saved ≡ Some c → All (IsNeeded self.old c) (take place self.old.names.names)
             → IfOk result (λ n. All (IsNeeded self.old c) (take n self.new.names.names)) }
         ensures next { IfOk result (λ n. length self.new.names.names - n < length self.old.names.names - place) }
@@ -84,6 +87,7 @@ impl<const D: usize> SegmentSet<D> {
         requires unneeded { IsUnneeded self.old name.now }
         ensures seen { IsTrue F.told → (i : Index) → Sees D (F.files folder.old) self.old i → Sees D (F.files folder.new) self.new i }
         ensures swept { IsSwept (IsTrue F.told) self.old self.new (F.files folder.old) (F.files folder.new) }
+        ensures faithful { IsTrue F.told → IsFaithful D (F.files folder.old) self.old → IsFaithful D (F.files folder.new) self.new }
         ensures names { OnOk result (self.new.names.names ≡ filter (λ n. not (same_name n name.now)) self.old.names.names) }
         ensures unread { F.reads folder.new ≡ F.reads folder.old }
         ensures cause { HasCause (F.faults folder.old) (F.faults folder.new) result }

@@ -5,13 +5,21 @@ use Rattle.inner_pack.specs.Places.{front}
 use Rattle.inner_pack.specs.Trees.{IndexTree}
 use Rattle.inner_pack.specs.Bodies.{HasTree}
 use Rattle.page_cache.specs.declared.faults.Damage.{Damage}
-use Rattle.segment_file.specs.Heads.{Head}
+use Rattle.segment_file.specs.Heads.{Head, HasRanges}
 use Rattle.segment_file.specs.Damages.{IsLeafDamage}
 use Rattle.segment_view.specs.Parts.{Part}
 
--- a leaf that is read through the head isn't spelled in its page, or the page is none for its place, or the file ends before it
+-- the head may be one of a segment of so many dimensions, its index has a tree, and a leaf of this isn't spelled in its page, or the page is none for
+-- its place, or the file ends before it
+pub record HasReadDamage (D : ℕ) (head : Head) (d : Damage) : Type 0 where
+  pub ranges : HasRanges D head
+  pub root : Region
+  pub tree : IndexTree
+  pub has : HasTree D head.index root tree
+  pub shows : IsLeafDamage D head 0 front tree d
+
 abbrev pub IsReadDamage : ℕ → Head → Damage → Type 0
-IsReadDamage D head d = (root : Region) (tree : IndexTree) → HasTree D head.index root tree → IsLeafDamage D head 0 front tree d
+IsReadDamage D head d = ∥ HasReadDamage D head d ∥₁
 
 -- one of the segments has such a leaf
 abbrev pub IsPartDamage : ℕ → List Part → Damage → Type 0

@@ -1,20 +1,17 @@
 //! The live entries of some of the segments.
 
 ghost use Rattle.std.specs.Prelude.{◌≡◌, ◌≤◌, ◌<◌, ◌+◌, ◌^◌, ◌++◌, ℕ, List, [], ◌∷◌, true, All, IsTrue, IfOk, OnOk};
-ghost use Rattle.point_codec.specs.Points.{Item, Region};
+ghost use Rattle.point_codec.specs.Points.{Item};
 ghost use Rattle.point_codec.specs.Seen.{items_of};
 ghost use Rattle.live_bits.specs.LiveSet.{is_live};
-ghost use Rattle.inner_pack.specs.Places.{front};
-ghost use Rattle.inner_pack.specs.Trees.{IndexTree};
-ghost use Rattle.inner_pack.specs.Bodies.{HasTree};
 ghost use Rattle.page_cache.specs.Cache.{Agrees};
 ghost use Rattle.page_cache.specs.Causes.{HasPageCause};
 ghost use Rattle.page_cache.specs.Evidence.{OnDamage, NotDamaged};
-ghost use Rattle.segment_file.specs.Damages.{IsLeafDamage, IsLeafDamageOf};
+ghost use Rattle.segment_file.specs.Damages.{IsLeafDamageOf};
 ghost use Rattle.segment_view.specs.Parts.{Contents, IsRead, AreRead, part_of, heads_of, ids_of, live_in_parts, parts_among, has_live};
 ghost use Rattle.segment_view.specs.Costs.{leaves_in};
 ghost use Rattle.segment_view.specs.Calm.{IsCalm};
-ghost use Rattle.segment_view.specs.Damages.{IsPartDamage};
+ghost use Rattle.segment_view.specs.Damages.{IsPartDamage, IsReadDamage};
 
 use crate::segments::Segments;
 use live_bits::LiveBits;
@@ -100,7 +97,7 @@ fn append_live<const D: usize, F: Pages>(
     ensures reads { F.reads folder.new ≤ F.reads folder.old + head.now.index.leaves }
     ensures calm { IsCalm F.told (F.files folder.old) (F.files folder.new) cache.old cache.new (head.now.id ∷ []) }
     ensures cause { HasPageCause (F.faults folder.old) (F.faults folder.new) result }
-    ensures shown { (root : Region) (t : IndexTree) → HasTree D head.now.index root t → OnDamage result (IsLeafDamage D head.now 0 front t) }
+    ensures shown { OnDamage result (IsReadDamage D head.now) }
     ensures damage { IsTrue F.told → Agrees (F.files folder.old) cache.old → OnDamage result (IsLeafDamageOf (F.files folder.old)) }
     ensures whole { IsTrue F.told → Agrees (F.files folder.old) cache.old → (c : Contents) → IsRead D (F.files folder.old) c (part_of head.now live.now) → NotDamaged result }
 {

@@ -1,22 +1,24 @@
 //! The documents nearest to a point.
 
-ghost use Rattle.std.specs.Prelude.{◌≡◌, ◌≤◌, ◌+◌, ◌++◌, ℕ, List, IsTrue, IfOk};
+ghost use Rattle.std.specs.Prelude.{◌≡◌, ◌≤◌, ◌+◌, ◌++◌, ℕ, List, All, IsTrue, IfOk};
 ghost use Rattle.point_codec.specs.declared.entries.Near.{Near};
 ghost use Rattle.point_codec.specs.Seen.{items_of};
-ghost use Rattle.inner_pack.specs.Trees.{IndexTree};
 ghost use Rattle.page_cache.specs.Cache.{Agrees};
 ghost use Rattle.page_cache.specs.Causes.{HasPageCause};
 ghost use Rattle.page_cache.specs.Evidence.{OnDamage, NotDamaged};
+ghost use Rattle.segment_file.specs.Heads.{IsHead};
 ghost use Rattle.segment_file.specs.Damages.{IsLeafDamageOf};
 ghost use Rattle.documents.specs.NearestEntries.{IsNearest, nears_of};
-ghost use Rattle.nearest_query.specs.Segments.{AreNearLeaves, HaveTrees, IsSegmentDamage, bound_of};
+ghost use Rattle.nearest_query.specs.Segments.{AreNearLeaves, bound_of};
 ghost use Rattle.segment_view.specs.Parts.{Contents, AreRead, heads_of, ids_of, live_in_parts};
 ghost use Rattle.segment_view.specs.Calm.{IsCalm};
+ghost use Rattle.segment_view.specs.Damages.{IsPartDamage};
 
 use crate::segments::Segments;
 use outer_io::Pages;
 use page_cache::{PageCache, PageFault};
 use point_codec::{Entry, Near, Point};
+use segment_file::SegmentHead;
 use std::alloc::Global;
 
 /// The `k` numbers that are nearest to a point among the live entries of the segments and those of the buffer, the nearest
@@ -44,10 +46,11 @@ pub fn nearest<const D: usize, F: Pages>(
     ensures calm { IsCalm F.told (F.files folder.old) (F.files folder.new) cache.old cache.new (ids_of segments.now) }
     // What an error says.
     ensures cause { HasPageCause (F.faults folder.old) (F.faults folder.new) result }
-    ensures shown { (trees : ℕ → IndexTree) → HaveTrees D (heads_of segments.now) trees → OnDamage result (IsSegmentDamage D (heads_of segments.now) trees) }
+    ensures shown { OnDamage result (IsPartDamage D segments.now) }
     ensures damage { IsTrue F.told → Agrees (F.files folder.old) cache.old → OnDamage result (IsLeafDamageOf (F.files folder.old)) }
     ensures whole { IsTrue F.told → Agrees (F.files folder.old) cache.old → (c : Contents) → AreRead D (F.files folder.old) c segments.now → NotDamaged result }
 {
+    have_trees(segments.heads());
     nearest_query::nearest(
         alloc,
         segments.heads(),
@@ -58,4 +61,13 @@ pub fn nearest<const D: usize, F: Pages>(
         at,
         k,
     )
+}
+
+/// The index of each head spells a tree: said for proofs, nothing is done.
+fn have_trees<const D: usize>(heads: &[SegmentHead<D>])
+    ensures { All (λ h. ∥ IsHead D h ∥₁) heads.now }
+{
+    for head in heads {
+        head.index().is_spelled();
+    }
 }

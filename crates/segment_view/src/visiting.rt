@@ -2,21 +2,17 @@
 
 ghost use Rattle.std.specs.Prelude.{◌≡◌, ◌≤◌, ◌+◌, ◌*◌, ◌++◌, ℕ, [], ◌∷◌, length, IsTrue, IfOk, OnOk};
 ghost use Rattle.std.specs.List.Sorted.{IsStrictlyIncreasing};
-ghost use Rattle.point_codec.specs.Points.{Region};
 ghost use Rattle.point_codec.specs.Seen.{items_of};
-ghost use Rattle.inner_pack.specs.Places.{front};
-ghost use Rattle.inner_pack.specs.Trees.{IndexTree};
-ghost use Rattle.inner_pack.specs.Bodies.{HasTree};
 ghost use Rattle.page_cache.specs.Cache.{Agrees};
 ghost use Rattle.page_cache.specs.Causes.{HasPageCause};
 ghost use Rattle.page_cache.specs.Evidence.{OnDamage, NotDamaged};
-ghost use Rattle.segment_file.specs.Damages.{IsLeafDamage, IsLeafDamageOf};
+ghost use Rattle.segment_file.specs.Damages.{IsLeafDamageOf};
 ghost use Rattle.documents.specs.Entries.{numbers_found};
-ghost use Rattle.nearest_query.specs.Segments.{HaveTrees, IsSegmentDamage};
 ghost use Rattle.segment_view.specs.Parts.{Contents, IsRead, AreRead, part_of, heads_of, ids_of, live_in_parts};
 ghost use Rattle.segment_view.specs.Costs.{leaves_in, AreTested, AreTouched};
 ghost use Rattle.segment_view.specs.Found.{AreFound};
 ghost use Rattle.segment_view.specs.Calm.{IsCalm};
+ghost use Rattle.segment_view.specs.Damages.{IsPartDamage, IsReadDamage};
 
 use crate::segments::Segments;
 use bkd_reader::intersect;
@@ -53,7 +49,7 @@ pub fn visit<const D: usize, S: Shape<D>, F: Pages>(
     ensures calm { IsCalm F.told (F.files folder.old) (F.files folder.new) cache.old cache.new (ids_of segments.now) }
     // What an error says.
     ensures cause { HasPageCause (F.faults folder.old) (F.faults folder.new) result }
-    ensures shown { (trees : ℕ → IndexTree) → HaveTrees D (heads_of segments.now) trees → OnDamage result (IsSegmentDamage D (heads_of segments.now) trees) }
+    ensures shown { OnDamage result (IsPartDamage D segments.now) }
     ensures damage { IsTrue F.told → Agrees (F.files folder.old) cache.old → OnDamage result (IsLeafDamageOf (F.files folder.old)) }
     ensures whole { IsTrue F.told → Agrees (F.files folder.old) cache.old → (c : Contents) → AreRead D (F.files folder.old) c segments.now → NotDamaged result }
 {
@@ -83,7 +79,7 @@ fn visit_segments<const D: usize, S: Shape<D>, F: Pages>(
     ensures crosses { S.crosses shape.new ≡ S.crosses shape.old }
     ensures calm { IsCalm F.told (F.files folder.old) (F.files folder.new) cache.old cache.new (ids_of segments.now) }
     ensures cause { HasPageCause (F.faults folder.old) (F.faults folder.new) result }
-    ensures shown { (trees : ℕ → IndexTree) → HaveTrees D (heads_of segments.now) trees → OnDamage result (IsSegmentDamage D (heads_of segments.now) trees) }
+    ensures shown { OnDamage result (IsPartDamage D segments.now) }
     ensures damage { IsTrue F.told → Agrees (F.files folder.old) cache.old → OnDamage result (IsLeafDamageOf (F.files folder.old)) }
     ensures whole { IsTrue F.told → Agrees (F.files folder.old) cache.old → (c : Contents) → AreRead D (F.files folder.old) c segments.now → NotDamaged result }
 {
@@ -113,7 +109,7 @@ fn visit_one<const D: usize, S: Shape<D>, F: Pages>(
     ensures crosses { S.crosses shape.new ≡ S.crosses shape.old }
     ensures calm { IsCalm F.told (F.files folder.old) (F.files folder.new) cache.old cache.new (head.now.id ∷ []) }
     ensures cause { HasPageCause (F.faults folder.old) (F.faults folder.new) result }
-    ensures shown { (root : Region) (t : IndexTree) → HasTree D head.now.index root t → OnDamage result (IsLeafDamage D head.now 0 front t) }
+    ensures shown { OnDamage result (IsReadDamage D head.now) }
     ensures damage { IsTrue F.told → Agrees (F.files folder.old) cache.old → OnDamage result (IsLeafDamageOf (F.files folder.old)) }
     ensures whole { IsTrue F.told → Agrees (F.files folder.old) cache.old → (c : Contents) → IsRead D (F.files folder.old) c (part_of head.now live.now) → NotDamaged result }
 {

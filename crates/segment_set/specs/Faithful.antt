@@ -1,0 +1,17 @@
+-- When what a set keeps of its files is theirs, whatever else the files hold.
+use Rattle.std.specs.Prelude.{ℕ, All}
+use Rattle.outer_io.specs.Files.{Files}
+use Rattle.page_cache.specs.Cache.{Agrees}
+use Rattle.segment_view.specs.Parts.{Part}
+use Rattle.segment_set.specs.Sets.{SetData}
+use Rattle.segment_set.specs.Evidence.{IsHeadIn}
+
+-- the segment's head is that of its file
+abbrev pub HasFileHead : ℕ → Files → Part → Type 0
+HasFileHead D files p = ∥ IsHeadIn files D p.head ∥₁
+
+-- the kept pages are those of the files, and so is the head of each segment of each view
+pub record IsFaithful (D : ℕ) (files : Files) (s : SetData) : Type 0 where
+  pub pages : Agrees files s.cache
+  pub heads : All (HasFileHead D files) s.parts
+  pub kept : All (λ v. All (HasFileHead D files) v.parts) s.snapshots
