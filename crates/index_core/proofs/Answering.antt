@@ -6,7 +6,7 @@ use Rattle.outer_io.specs.Files.{Files}
 use Rattle.page_cache.specs.declared.faults.PageFault.{PageFault}
 use Rattle.page_cache.specs.declared.faults.PageFault.TheVariants as page
 use Rattle.page_cache.specs.Causes.{HasPageCause}
-use Rattle.page_cache.specs.Evidence.{NotDamaged}
+use Rattle.page_cache.specs.Evidence.{FaultShows, NotDamaged, OnDamage}
 use Rattle.commit_list.specs.Commits.{CommitData}
 use Rattle.bkd_reader.specs.Hits.{Begins}
 use Rattle.index_model.specs.State.{Index}
@@ -28,8 +28,11 @@ use Rattle.segment_set.specs.Faults.{HasCauseOf, OnAddDamage, OnBeginDamage, OnE
 use Rattle.segment_set.specs.Sets.{NamedView, SetData}
 use Rattle.segment_set.specs.Seen.{Sees}
 use Rattle.segment_set.specs.Kept.{Follows, KeepsNamed, StaysButCache}
+use Rattle.segment_set.specs.Evidence.{IsEvident}
+use Rattle.segment_set.specs.Faithful.{IsFaithful}
 use Rattle.segment_set.proofs.Carried.{follows_same, keeps_calm}
-use Rattle.index_core.specs.Sessions.{SessionData}
+use Rattle.segment_set.proofs.Evident.{none_evident, on_evident_less}
+use Rattle.index_core.specs.Sessions.{SessionData, Trusts}
 use Rattle.index_core.specs.Effects.{BringsCanonical}
 use Rattle.index_core.specs.Steps.{Applies, DoesOver, Place}
 use Rattle.index_core.specs.Replies.{add_answer, begin_answer, end_answer, snap_answer, text_after}
@@ -133,7 +136,7 @@ does_as D files o p i s before after r same does = subst (λ (q : Outcome). Does
 
 -- ---- a command that doesn't commit
 
--- what a call on the set leaves of the session and of what guards its files, and which segments it brings
+-- what a call on the set leaves of the session and of what guards its files, which segments it brings, and that what the set keeps of the files stays theirs
 pub record IsCalm (D : ℕ) (told : Type 0) (old new : Place) : Type 0 where
   pub commit : new.session.commit ≡ old.session.commit
   pub refused : new.session.refused ≡ old.session.refused
@@ -141,12 +144,13 @@ pub record IsCalm (D : ℕ) (told : Type 0) (old new : Place) : Type 0 where
   pub keeps : KeepsNamed told old.session.set.names new.session.set.names old.files new.files
   pub follows : Follows old.session.set.names old.session.set.parts new.session.set.parts
   pub brings : told → BringsCanonical D old.files new.files old.session.set.parts new.session.set.parts
+  pub faithful : told → IsFaithful D old.files old.session.set → IsFaithful D new.files new.session.set
 
 pub applies : (D : ℕ) (told : Type 0) (outcome : Index → Outcome) (old new : Place) (r : Result Applied PageFault) → IsCalm D told old new
     → (told → (i : Index) → Sees D old.files old.session.set i → DoesOver D new.files (outcome i) i new.session.set old.text new.text r)
     → Begins old.text new.text → HasPageCause old.faults new.faults r → (told → (i : Index) → Sees D old.files old.session.set i → NotDamaged r)
-    → Applies D told outcome false old new r
-applies D told outcome old new r calm does begins cause whole = record {
+    → OnDamage r (IsEvident (told × IsFaithful D old.files old.session.set) new.files) → Applies D told outcome false old new r
+applies D told outcome old new r calm does begins cause whole evident = record {
   does = λ is_told i seen guards. does is_told i seen;
   begins = begins;
   guards = λ is_told. guards_after D told old.files new.files old.session new.session is_told calm.commit calm.refused calm.keeps calm.follows calm.leaf;
@@ -154,12 +158,20 @@ applies D told outcome old new r calm does begins cause whole = record {
   stored = λ is_told i seen guards e. absurd cc;
   cause = cause;
   whole = λ is_told i seen guards. whole is_told i seen;
+  faithful = calm.faithful;
+  evident = on_evident_less (told × IsFaithful D old.files old.session.set) (told × Trusts D old.files old.session) new.files r (λ (is_told, trusts). (is_told, trusts.faithful)) evident;
   idle = λ is_told e unchanged. absurd cc;
   unchanged = λ e. absurd cc;
   anew = λ e changed. absurd cc;
   levels = λ e changed none. absurd cc;
   canon = λ is_told i seen guards. calm.brings is_told;
 }
+
+-- a damage that is evident where what the set keeps is the files' is so where the session guards them, too
+pub trusts_shows : (D : ℕ) (told : Type 0) (old new : Files) (s : SessionData) (fault : PageFault) → FaultShows (IsEvident (told × IsFaithful D old s.set) new) fault
+    → FaultShows (IsEvident (told × Trusts D old s) new) fault
+trusts_shows D told old new s fault evident =
+    on_evident_less {X = Unit {0}} (told × IsFaithful D old s.set) (told × Trusts D old s) new (Err fault) (λ (is_told, trusts). (is_told, trusts.faithful)) evident
 
 -- where nothing was changed
 pub applies_still : (D : ℕ) (told : Type 0) (outcome : Index → Outcome) (files : Files) (session : SessionData) (before after : List ℕ) (faults : ℕ) (r : Result Applied PageFault)
@@ -173,6 +185,8 @@ applies_still D told outcome files session before after faults r does begins cau
   stored = λ is_told i seen guards e. absurd cc;
   cause = cause;
   whole = λ is_told i seen guards. whole;
+  faithful = λ is_told faithful. faithful;
+  evident = none_evident (told × Trusts D files session) files r whole;
   idle = λ is_told e unchanged. refl;
   unchanged = λ e. absurd cc;
   anew = λ e changed. absurd cc;
@@ -191,25 +205,27 @@ applies_memory D told outcome files session before after faults r is same =
 -- the set handed a fault on, and is seen as before
 pub applies_fault : {T : Type 0} (D : ℕ) (told : Type 0) (outcome : Index → Outcome) (old new : Place) (r : Result Applied PageFault) (fault : PageFault) → IsCalm D told old new → r ≡ Err fault
     → (told → (i : Index) → Sees D old.files old.session.set i → Sees D new.files new.session.set i) → Begins old.text new.text
-    → HasPageCause {T = T} old.faults new.faults (Err fault) → (told → (i : Index) → Sees D old.files old.session.set i → NotDamaged {T = T} (Err fault)) → Applies D told outcome false old new r
-applies_fault D told outcome old new r fault calm same seen begins cause whole = applies D told outcome old new r calm
+    → HasPageCause {T = T} old.faults new.faults (Err fault) → (told → (i : Index) → Sees D old.files old.session.set i → NotDamaged {T = T} (Err fault))
+    → FaultShows (IsEvident (told × IsFaithful D old.files old.session.set) new.files) fault → Applies D told outcome false old new r
+applies_fault D told outcome old new r fault calm same seen begins cause whole evident = applies D told outcome old new r calm
     (λ is_told i sees. subst (DoesOver D new.files (outcome i) i new.session.set old.text new.text) (sym same) (does_fault D new.files (outcome i) i new.session.set old.text new.text fault (seen is_told i sees)))
     begins
     (fault_cause old.faults new.faults fault r same cause)
     (λ is_told i sees. subst NotDamaged (sym same) (whole is_told i sees))
+    (subst (λ q. OnDamage q (IsEvident (told × IsFaithful D old.files old.session.set) new.files)) (sym same) evident)
 
 -- it was done, but there is no memory for the reply: the set is seen as before
 pub applies_unsaid : {T : Type 0} (D : ℕ) (told : Type 0) (outcome : Index → Outcome) (old new : Place) (r : Result Applied PageFault) (x : T) → IsCalm D told old new → r ≡ Err page.Memory
     → (told → (i : Index) → Sees D old.files old.session.set i → Sees D new.files new.session.set i) → new.text ≡ old.text → HasPageCause old.faults new.faults (Ok x) → Applies D told outcome false old new r
 applies_unsaid {T = T} D told outcome old new r x calm same seen text cause = applies_fault {T = T} D told outcome old new r page.Memory calm same seen
-    ([], text ∙ sym (append-nil old.text)) (memory_cause old.faults new.faults cause.later) (λ is_told i sees. tt)
+    ([], text ∙ sym (append-nil old.text)) (memory_cause old.faults new.faults cause.later) (λ is_told i sees. tt) tt
 
 -- a command whose call on the set is done, and whose reply was written
 pub applies_done : {T : Type 0} (D : ℕ) (told : Type 0) (outcome : Index → Outcome) (old new : Place) (x : T) (text : List ℕ) → IsCalm D told old new
     → (told → (i : Index) → Sees D old.files old.session.set i → DoesOver D new.files (outcome i) i new.session.set old.text new.text (Ok applied.Done))
     → new.text ≡ old.text ++ text → HasPageCause old.faults new.faults (Ok x) → Applies D told outcome false old new (Ok applied.Done)
 applies_done D told outcome old new x text calm does grew cause =
-    applies D told outcome old new (Ok applied.Done) calm does (text, grew) (done_cause old.faults new.faults x applied.Done cause) (λ is_told i sees. tt)
+    applies D told outcome old new (Ok applied.Done) calm does (text, grew) (done_cause old.faults new.faults x applied.Done cause) (λ is_told i sees. tt) tt
 
 -- a command that is refused before anything is done
 pub applies_refused : (D : ℕ) (told : Type 0) (outcome : Index → Outcome) (files : Files) (session : SessionData) (text : List ℕ) (faults : ℕ) (cause : Why)
@@ -236,6 +252,8 @@ applies_told D told outcome committing old new r is = record {
   stored = λ is_told. is.stored tt;
   cause = is.cause;
   whole = λ is_told. is.whole tt;
+  faithful = λ is_told. is.faithful tt;
+  evident = on_evident_less (Unit {0} × Trusts D old.files old.session) (told × Trusts D old.files old.session) new.files r (λ (is_told, trusts). (tt, trusts)) is.evident;
   idle = λ is_told. is.idle tt;
   unchanged = is.unchanged;
   anew = is.anew;
@@ -258,6 +276,8 @@ applies_as D told o p committing old new r same is = record {
   stored = is.stored;
   cause = is.cause;
   whole = is.whole;
+  faithful = is.faithful;
+  evident = is.evident;
   idle = is.idle;
   unchanged = is.unchanged;
   anew = is.anew;
@@ -269,25 +289,26 @@ applies_as D told o p committing old new r same is = record {
 
 -- a call that changes nothing that guards the files, nor a file
 pub calm_like : (D : ℕ) (told : Type 0) (files after : Files) (s t : SetData) (commit : Option CommitData) (refused : Bool) (text new_text : List ℕ) (faults new_faults : ℕ) → t.names ≡ s.names → t.leaf ≡ s.leaf
-    → Follows s.names s.parts t.parts → (told → after ≡ files) → (told → BringsCanonical D files after s.parts t.parts)
+    → Follows s.names s.parts t.parts → (told → after ≡ files) → (told → BringsCanonical D files after s.parts t.parts) → (told → IsFaithful D files s → IsFaithful D after t)
     → IsCalm D told (record { files = files; session = record { set = s; commit = commit; refused = refused }; text = text; faults = faults })
     (record { files = after; session = record { set = t; commit = commit; refused = refused }; text = new_text; faults = new_faults })
-calm_like D told files after s t commit refused text new_text faults new_faults names leaf follows same brings = record {
+calm_like D told files after s t commit refused text new_text faults new_faults names leaf follows same brings faithful = record {
   commit = refl;
   refused = refl;
   leaf = leaf;
   keeps = keeps_calm told s.names t.names files after names same;
   follows = follows;
   brings = brings;
+  faithful = faithful;
 }
 
 -- one that only reads
-pub calm_cache : (D : ℕ) (told : Type 0) (files after : Files) (s t : SetData) (commit : Option CommitData) (refused : Bool) (text new_text : List ℕ) (faults new_faults : ℕ) → StaysButCache s t → (told → after ≡ files)
+pub calm_cache : (D : ℕ) (told : Type 0) (files after : Files) (s t : SetData) (commit : Option CommitData) (refused : Bool) (text new_text : List ℕ) (faults new_faults : ℕ) → StaysButCache s t → (told → after ≡ files) → (told → IsFaithful D files s → IsFaithful D after t)
     → IsCalm D told (record { files = files; session = record { set = s; commit = commit; refused = refused }; text = text; faults = faults })
     (record { files = after; session = record { set = t; commit = commit; refused = refused }; text = new_text; faults = new_faults })
-calm_cache D told files after s t commit refused text new_text faults new_faults stays same =
+calm_cache D told files after s t commit refused text new_text faults new_faults stays same faithful =
     calm_like D told files after s t commit refused text new_text faults new_faults (ap (λ (u : SetData). u.names) stays.is) (ap (λ (u : SetData). u.leaf) stays.is)
-    (follows_same s.names s.parts t.parts (ap (λ (u : SetData). u.parts) stays.is)) same (λ is_told. brings_same D files after s.parts t.parts (same is_told) (ap (λ (u : SetData). u.parts) stays.is))
+    (follows_same s.names s.parts t.parts (ap (λ (u : SetData). u.parts) stays.is)) same (λ is_told. brings_same D files after s.parts t.parts (same is_told) (ap (λ (u : SetData). u.parts) stays.is)) faithful
 
 -- a text that is cut to its length of before
 pub cut_back : (n : ℕ) (text more : List ℕ) → n ≡ length text → take n (text ++ more) ≡ text
@@ -313,12 +334,12 @@ whole_snap (Err snap.TooMany) = tt
 whole_snap (Err snap.Memory) = tt
 
 pub calm_snap : {T : Type 0} (D : ℕ) (told : Type 0) (files : Files) (s t : SetData) (views : List NamedView) (r : Result T SnapFault) (commit : Option CommitData) (refused : Bool) (text new_text : List ℕ) (faults : ℕ)
-    → OnOk r (t ≡ record s { snapshots = views }) → OnErr r (t ≡ s)
+    → OnOk r (t ≡ record s { snapshots = views }) → OnErr r (t ≡ s) → (IsFaithful D files s → IsFaithful D files t)
     → IsCalm D told (record { files = files; session = record { set = s; commit = commit; refused = refused }; text = text; faults = faults })
     (record { files = files; session = record { set = t; commit = commit; refused = refused }; text = new_text; faults = faults })
-calm_snap D told files s t views (Ok x) commit refused text new_text faults done same =
+calm_snap D told files s t views (Ok x) commit refused text new_text faults done same faithful =
     calm_like D told files files s t commit refused text new_text faults faults (ap (λ (u : SetData). u.names) done) (ap (λ (u : SetData). u.leaf) done)
-    (follows_same s.names s.parts t.parts (ap (λ (u : SetData). u.parts) done)) (λ is_told. refl) (λ is_told. brings_same D files files s.parts t.parts refl (ap (λ (u : SetData). u.parts) done))
-calm_snap D told files s t views (Err e) commit refused text new_text faults done same =
+    (follows_same s.names s.parts t.parts (ap (λ (u : SetData). u.parts) done)) (λ is_told. refl) (λ is_told. brings_same D files files s.parts t.parts refl (ap (λ (u : SetData). u.parts) done)) (λ is_told. faithful)
+calm_snap D told files s t views (Err e) commit refused text new_text faults done same faithful =
     calm_like D told files files s t commit refused text new_text faults faults (ap (λ (u : SetData). u.names) same) (ap (λ (u : SetData). u.leaf) same)
-    (follows_same s.names s.parts t.parts (ap (λ (u : SetData). u.parts) same)) (λ is_told. refl) (λ is_told. brings_same D files files s.parts t.parts refl (ap (λ (u : SetData). u.parts) same))
+    (follows_same s.names s.parts t.parts (ap (λ (u : SetData). u.parts) same)) (λ is_told. refl) (λ is_told. brings_same D files files s.parts t.parts refl (ap (λ (u : SetData). u.parts) same)) (λ is_told. faithful)

@@ -1,5 +1,5 @@
 -- What is stored: by a commit since which nothing changed, and by one that was written.
-use Rattle.std.proofs.Common.{◌≡◌, ◌≤◌, ◌↔◌, ℕ, Bool, true, false, List, [], ◌∷◌, ◌++◌, length, map, Option, None, Some, Result, Ok, Err, IfOk, OnOk, refl, sym, ap, subst, ◌∙◌, ◌⊎◌, inl, inr, ⊎_elim, arith}
+use Rattle.std.proofs.Common.{◌≡◌, ◌≤◌, ◌↔◌, ℕ, Bool, true, false, List, [], ◌∷◌, ◌++◌, length, map, get_or, Option, None, Some, Result, Ok, Err, IfOk, OnOk, refl, sym, ap, subst, ◌∙◌, ◌⊎◌, inl, inr, ⊎_elim, arith}
 use Rattle.std.specs.List.{All, AllZip, Contains, filter}
 use Rattle.std.proofs.lemmas.Bool.{both_ways}
 use Rattle.std.proofs.lemmas.List.{append-nil}
@@ -12,6 +12,7 @@ use Rattle.live_bits.specs.LiveSet.{IsLiveSet, LiveSet, is_live}
 use Rattle.documents.specs.Entries.{AreDocs}
 use Rattle.documents.proofs.Lists.{cons_head, cons_tail}
 use Rattle.page_cache.specs.declared.faults.PageFault.{PageFault}
+use Rattle.page_cache.proofs.Agreement.{agrees_other}
 use Rattle.commit_list.specs.declared.listed.Listed.{Listed}
 use Rattle.commit_list.specs.Commits.{CommitData}
 use Rattle.commit_list.specs.CommitFiles.{IsCommitFile, IsWrittenCommit}
@@ -19,7 +20,7 @@ use Rattle.commit_list.specs.Layout.{commit_body}
 use Rattle.commit_list.proofs.CommitPages.{one_file}
 use Rattle.segment_file.specs.LiveFiles.{IsLiveFile}
 use Rattle.segment_file.proofs.LiveReads.{set_is}
-use Rattle.segment_file.specs.Segments.{IsSegment}
+use Rattle.segment_file.specs.Segments.{IsHeadOf, IsSegment}
 use Rattle.stored_index.specs.Segments.{SegmentData, all_live_entries, live_sets, places}
 use Rattle.stored_index.specs.Stored.{HoldAll, HoldsFiles, IsStored, index_of}
 use Rattle.stored_index.specs.Kept.{ListsFile, SameKept}
@@ -30,6 +31,7 @@ use Rattle.segment_view.specs.Parts.{AreRead, Contents, IsRead, Part, ids_of, li
 use Rattle.segment_set.specs.Sets.{IsWell, SetData}
 use Rattle.segment_set.specs.Seen.{Sees}
 use Rattle.segment_set.specs.Kept.{IsAsCommitted, IsCommitOf, StaysButFiles}
+use Rattle.segment_set.specs.Faithful.{HasFileHead, IsFaithful}
 use Rattle.segment_set.proofs.Standing.{stands_alike}
 use Rattle.index_core.specs.Sessions.{CoversPart, Guards, HasDims, IsLast, IsLastCommit, IsSound, IsUnchanged, ListsOnlyNamed, SessionData}
 use Rattle.index_core.specs.Steps.{KeepsOver, SaysCommit, Stores}
@@ -200,7 +202,22 @@ written_is_seen D f g s i well others seen = record {
   snapshots = seen.snapshots;
 }
 
+-- nor is what the set keeps of the files any other's, for it keeps pages and heads of segments' files alone
+heads_written : (D : ℕ) (f g : Files) (parts : List Part) → SameButTwo CommitNew Commit f g → All (HasFileHead D f) parts → All (HasFileHead D g) parts
+heads_written D f g parts others heads k d lt =
+    subst (λ (b : Option (List ℕ)). ∥ IsHeadOf D (bytes_of b) (get_or parts k d).head ∥₁) (sym (others (Segment (get_or parts k d).head.id) (λ e. cc) (λ e. cc))) (heads k d lt)
+
+pub faithful_written : (D : ℕ) (f g : Files) (s : SetData) → SameButTwo CommitNew Commit f g → IsFaithful D f s → IsFaithful D g s
+faithful_written D f g s others faithful = record {
+  pages = agrees_other f g s.cache (λ id kept. others (Segment id) (λ e. cc) (λ e. cc)) faithful.pages;
+  heads = heads_written D f g s.parts others faithful.heads;
+  kept = λ k v lt. heads_written D f g (get_or s.snapshots k v).parts others (faithful.kept k v lt);
+}
+
 -- of the session that the code opened
+pub faithful_done : (D : ℕ) (f g : Files) (s u : SessionData) → u ≡ s → SameButTwo CommitNew Commit f g → IsFaithful D f s.set → IsFaithful D g u.set
+faithful_done D f g s u same others faithful = faithful_written D f g u.set others (subst (λ (v : SessionData). IsFaithful D f v.set) (sym same) faithful)
+
 pub seen_done : (D : ℕ) (f g : Files) (s u : SessionData) (i : Index) → u ≡ s → IsWell D u.set → SameButTwo CommitNew Commit f g → Sees D f s.set i → Sees D g u.set i
 seen_done D f g s u i same well others seen = written_is_seen D f g u.set i well others (subst (λ (v : SessionData). Sees D f v.set i) (sym same) seen)
 

@@ -49,12 +49,12 @@ begin_shows P (Err begin.Memory) p = tt
 -- ---- searches
 
 pub leaf_none : {T : Type 0} (D : ℕ) (told : Type 0) (files : Files) (s : SetData) (parts : List Part) (r : Result T PageFault) → NotDamaged r → ShowsLeaf D told files s parts r
-leaf_none D told files s parts r none = record { shown = λ trees have. damage_none _ r none; damage = λ is_told agrees. damage_none _ r none }
+leaf_none D told files s parts r none = record { shown = damage_none _ r none; damage = λ is_told agrees. damage_none _ r none }
 
 pub leaf_to : {T U : Type 0} (D : ℕ) (told : Type 0) (files : Files) (s : SetData) (parts : List Part) (r : Result U PageFault) (fault : PageFault) → r ≡ Err fault
     → ShowsLeaf {T = T} D told files s parts (Err fault) → ShowsLeaf D told files s parts r
 leaf_to D told files s parts r fault is shows = record {
-  shown = λ trees have. damage_to _ r fault is (shows.shown trees have);
+  shown = damage_to _ r fault is shows.shown;
   damage = λ is_told agrees. damage_to _ r fault is (shows.damage is_told agrees);
 }
 

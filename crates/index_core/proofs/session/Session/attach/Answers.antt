@@ -39,3 +39,11 @@ pub returns-in_err-attach-clause-undefined : goal.returns-in_err-attach-clause-u
 returns-in_err-attach-clause-undefined g c told says =
     let p = err_from_is_err_and c.from_residual.result c.from_residual.ensures.1 in
     rw (p.1, p.2) (c.in_err-attach.ensures.undefined told says)
+
+pub returns-in_err-attach-clause-evident : goal.returns-in_err-attach-clause-evident
+returns-in_err-attach-clause-evident g c =
+    let p = err_from_is_err_and c.from_residual.result c.from_residual.ensures.1 in
+    rw (p.1, p.2) (c.in_err-attach.ensures.evident)
+
+pub returns-clause-faithful : goal.returns-clause-faithful
+returns-clause-faithful g c told = c.in_ok-attach.ensures.faithful told

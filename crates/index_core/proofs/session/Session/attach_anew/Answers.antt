@@ -7,6 +7,7 @@ use Rattle.index_core.proofs.Committing.{on_ok_each, some_same}
 use Rattle.segment_set.proofs.Sizes.{set_fits}
 use Rattle.page_cache.specs.Evidence.{OnDamage}
 use Rattle.segment_set.specs.Damages.{IsAttachDamage, IsAttachDamageOf}
+use Rattle.segment_set.proofs.Evident.{on_evident_less}
 use Rattle.index_core.proofs.session.Session.attach_anew.Goals as goal
 
 pub attach-requires : goal.attach-requires
@@ -34,3 +35,9 @@ returns-clause-shown g c last is = subst (λ d. OnDamage c.attach.result (IsAtta
 
 pub returns-clause-damage : goal.returns-clause-damage
 returns-clause-damage g c told last is = subst (λ d. OnDamage c.attach.result (IsAttachDamageOf (g.F.Pages.files c.args.folder.now) d)) (some_same _ _ (sym c.in-Some.is ∙ ap (λ (u : SessionData). u.commit) c.self.view_is ∙ is)) (c.attach.ensures.damage told)
+
+pub returns-clause-faithful : goal.returns-clause-faithful
+returns-clause-faithful g c told = c.attach.ensures.faithful told
+
+pub returns-clause-evident : goal.returns-clause-evident
+returns-clause-evident g c = on_evident_less _ _ _ c.attach.result (λ (told, done, guards). (told, says_last _ _ _ _ c.self.view_is c.in-Some.is done guards)) c.attach.ensures.evident

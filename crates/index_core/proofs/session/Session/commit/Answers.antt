@@ -20,6 +20,10 @@ use Rattle.index_core.proofs.Showing.{damage_to, merge_none, merge_to}
 use Rattle.segment_set.specs.Sets.{IsSettled}
 use Rattle.index_core.proofs.Answering.{fault_cause}
 use Rattle.index_core.proofs.Lightly.{commits_few}
+use Rattle.page_cache.specs.Evidence.{FaultShows}
+use Rattle.segment_set.specs.Evidence.{IsEvident}
+use Rattle.segment_set.specs.Faithful.{IsFaithful}
+use Rattle.segment_set.proofs.Evident.{none_evident}
 use Rattle.index_core.proofs.session.Session.commit.Goals as goal
 
 pub returns-then-not-is_changed-clause-kept : goal.returns-then-not-is_changed-clause-kept
@@ -256,3 +260,28 @@ pub returns-in_err-commit-clause-cause : goal.returns-in_err-commit-clause-cause
 returns-in_err-commit-clause-cause g c =
     let p = err_from_is_err_and c.from_residual.result c.from_residual.ensures.1 in
     fault_cause _ _ c.in_err-commit.field-0.0 _ (p.1 ∙ ap (λ (e : PageFault). Err e) p.2) c.in_err-commit.ensures.cause
+
+pub returns-in_err-commit-clause-faithful : goal.returns-in_err-commit-clause-faithful
+returns-in_err-commit-clause-faithful g c told faithful = c.save.ensures.faithful told (subst (λ (u : SessionData). IsFaithful g.row.D (g.F.Pages.files c.args.folder.now) u.set) (sym c.self.view_is) faithful)
+
+pub returns-in_err-write-clause-faithful : goal.returns-in_err-write-clause-faithful
+returns-in_err-write-clause-faithful g c told faithful =
+    c.write.ensures.faithful told (c.save.ensures.faithful told (subst (λ (u : SessionData). IsFaithful g.row.D (g.F.Pages.files c.args.folder.now) u.set) (sym c.self.view_is) faithful))
+
+pub returns-clause-faithful : goal.returns-clause-faithful
+returns-clause-faithful g c told faithful =
+    c.sweep.ensures.faithful told (c.write.ensures.faithful told (c.save.ensures.faithful told (subst (λ (u : SessionData). IsFaithful g.row.D (g.F.Pages.files c.args.folder.now) u.set) (sym c.self.view_is) faithful)))
+
+pub returns-in_err-commit-clause-evident : goal.returns-in_err-commit-clause-evident
+returns-in_err-commit-clause-evident g c =
+    let p = err_from_is_err_and c.from_residual.result c.from_residual.ensures.1 in
+    damage_to _ _ c.in_err-commit.field-0.0 (p.1 ∙ ap (λ (e : PageFault). Err e) p.2)
+    (subst (λ (u : SessionData). FaultShows (IsEvident (IsTrue g.F.Pages.told × IsFaithful g.row.D (g.F.Pages.files c.args.folder.now) u.set) (g.F.Pages.files c.save.new.folder)) c.in_err-commit.field-0.0) c.self.view_is c.in_err-commit.ensures.evident)
+
+pub returns-in_err-write-clause-evident : goal.returns-in_err-write-clause-evident
+returns-in_err-write-clause-evident g c =
+    let p = err_from_is_err_and c.from_residual-in_err-write.result c.from_residual-in_err-write.ensures.1 in
+    none_evident _ _ _ (damage_to _ _ c.in_err-write.field-0.0 (p.1 ∙ ap (λ (e : PageFault). Err e) p.2) c.in_err-write.ensures.whole)
+
+pub returns-clause-evident : goal.returns-clause-evident
+returns-clause-evident g c = none_evident _ _ _ c.sweep.ensures.whole

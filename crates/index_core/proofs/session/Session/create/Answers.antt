@@ -15,3 +15,6 @@ leaf-leaf-requires g c = set_fits g.row.D c.requires.dims.1
 
 pub returns-clause-bare : goal.returns-clause-bare
 returns-clause-bare g c = bare_parts _ _ c.in_ok-set.ensures.names c.leaf-leaf.ensures.well.named
+
+pub returns-clause-faithful : goal.returns-clause-faithful
+returns-clause-faithful g c = c.in_ok-set.ensures.faithful

@@ -8,6 +8,7 @@ use Rattle.segment_set.specs.Kept.{StaysButFiles}
 use Rattle.index_core.specs.Sessions.{Guards, SessionData}
 use Rattle.index_core.proofs.Guarding.{saved_is, saved_some, session_swept}
 use Rattle.segment_set.proofs.Sizes.{set_fits}
+use Rattle.segment_set.specs.Faithful.{IsFaithful}
 use Rattle.index_core.proofs.session.Session.sweep.Goals as goal
 
 pub returns-clause-seen : goal.returns-clause-seen
@@ -64,3 +65,6 @@ sweep-requires g c = (
 
 pub returns-clause-unread : goal.returns-clause-unread
 returns-clause-unread g c = c.sweep.ensures.unread
+
+pub returns-clause-faithful : goal.returns-clause-faithful
+returns-clause-faithful g c told faithful = c.sweep.ensures.faithful told (subst (λ (u : SessionData). IsFaithful g.row.D (g.F.Pages.files c.args.folder.now) u.set) (sym c.self.view_is) faithful)

@@ -2,7 +2,7 @@
 use Rattle.std.proofs.Common.{refl, ap, ◌∙◌}
 use Rattle.index_core.specs.Sessions.{SessionData}
 use Rattle.index_core.proofs.Guarding.{guards_done, guards_undone}
-use Rattle.index_core.proofs.Committing.{kept_undone, seen_done, stores_done, stores_undone, which_says}
+use Rattle.index_core.proofs.Committing.{faithful_done, kept_undone, seen_done, stores_done, stores_undone, which_says}
 use Rattle.segment_set.proofs.Sizes.{set_fits}
 use Rattle.index_core.proofs.session.Session.write.Goals as goal
 
@@ -47,3 +47,9 @@ returns-in-Ok-clause-unread g c = c.write_commit.ensures.reads
 
 pub returns-in-Err-clause-unread : goal.returns-in-Err-clause-unread
 returns-in-Err-clause-unread g c = c.write_commit.ensures.reads
+
+pub returns-in-Ok-clause-faithful : goal.returns-in-Ok-clause-faithful
+returns-in-Ok-clause-faithful g c told faithful = faithful_done _ _ _ _ _ c.self.view_is (c.write_commit.ensures.others told) faithful
+
+pub returns-in-Err-clause-faithful : goal.returns-in-Err-clause-faithful
+returns-in-Err-clause-faithful g c told faithful = faithful_done _ _ _ _ _ c.self.view_is (c.write_commit.ensures.others told) faithful
