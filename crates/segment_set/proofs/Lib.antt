@@ -30,3 +30,5 @@ pub mod Wholes
 pub mod Chosen
 pub mod Doubted
 pub mod Lively
+pub mod Evident
+pub mod Faithful

@@ -1,17 +1,22 @@
-use Rattle.std.proofs.Common.{◌≡◌, ◌≤◌, List, length, All, true, Err, ap, sym, subst, ◌∙◌, inl, inr, arith}
+use Rattle.std.proofs.Common.{◌≡◌, ◌≤◌, List, length, All, true, Err, IsTrue, ap, sym, subst, ◌∙◌, inl, inr, arith}
 use Rattle.std.proofs.lemmas.Bool.Decides.{nat_tests}
+use Rattle.std.proofs.lemmas.List.Elements.{All-filter}
 use Rattle.std.proofs.lemmas.Result.{err_from_is_err_and}
 use Rattle.point_codec.specs.Points.{Item}
 use Rattle.point_codec.specs.Seen.{items_of}
 use Rattle.point_codec.specs.declared.entries.Entry.{Entry}
-use Rattle.documents.specs.Entries.{MakeDocs}
+use Rattle.documents.specs.Entries.{MakeDocs, is_among}
+use Rattle.page_cache.specs.Cache.{Agrees}
 use Rattle.segment_file.specs.Damages.{IsLeafDamageOf}
 use Rattle.nearest_query.proofs.Parts.{on_damage}
-use Rattle.segment_view.specs.Parts.{live_in_parts, parts_among, has_live}
+use Rattle.segment_view.specs.Parts.{Part, live_in_parts, parts_among, has_live}
 use Rattle.segment_view.specs.Damages.{IsPartDamage}
 use Rattle.segment_set.specs.Merges.{HoldsLive, IsGathered}
 use Rattle.segment_set.specs.Damages.{IsDoubt, IsMergeDamage, IsMergeDamageOf, Doubt}
+use Rattle.segment_set.specs.Evidence.{IsEvident}
+use Rattle.segment_set.specs.Faithful.{HasFileHead}
 use Rattle.segment_set.proofs.Doubted.{doubt_among, part_shown, whole_shows}
+use Rattle.segment_set.proofs.Evident.{doubt_evident, on_evident_at, on_part_evident}
 use Rattle.segment_set.proofs.Fresh.{gathered_of, holds_live, items_length}
 use Rattle.segment_set.proofs.Spilled.{some_is}
 use Rattle.segment_set.proofs.merging.gathered.Goals as goal
@@ -91,3 +96,22 @@ returns-in_err-build_of-clause-doubled g c =
     rw (p.1, p.2)
     (on_damage {T = Unit {0}} (IsDoubt c.args.plan.now.given (items_of c.as_mut_slice.result.now)) (IsDoubt c.args.plan.now.given (live_in_parts contents c.args.segments.now)) (Err c.in_err-build_of.field-0.0)
     (λ d h. doubt_among c.args.plan.now.given contents c.args.ids.now c.args.segments.now d (subst (λ (xs : List Item). IsDoubt c.args.plan.now.given xs d) same h)) c.in_err-build_of.ensures.shown)
+
+pub returns-in_err-entries-clause-evident : goal.returns-in_err-entries-clause-evident
+returns-in_err-entries-clause-evident g c =
+    let p = err_from_is_err_and c.from_residual.result c.from_residual.ensures.1 in
+    let files = g.F.Pages.files c.args.folder.now in
+    let told = IsTrue g.F.Pages.told × Agrees files c.args.cache.now × All (HasFileHead g.row.D files) c.args.segments.now in
+    rw (p.1, p.2)
+    (on_evident_at {X = Unit {0}} told told files (g.F.Pages.files c.gather.new.folder) (Err c.in_err-entries.field-0.0) (λ t. t) (λ t. c.in_err-entries.ensures.calm.files t.0)
+    (on_part_evident {X = Unit {0}} told g.row.D files (parts_among c.args.ids.now c.args.segments.now) (Err c.in_err-entries.field-0.0)
+    (λ t. All-filter (λ (q : Part). is_among c.args.ids.now q.head.id) (HasFileHead g.row.D files) c.args.segments.now t.2) (λ t. c.in_err-entries.ensures.damage t.0 t.1) c.in_err-entries.ensures.shown))
+
+pub returns-in_err-build_of-clause-evident : goal.returns-in_err-build_of-clause-evident
+returns-in_err-build_of-clause-evident g c =
+    let p = err_from_is_err_and c.from_residual-in_err-build_of.result c.from_residual-in_err-build_of.ensures.1 in
+    let files = g.F.Pages.files c.args.folder.now in
+    let told = IsTrue g.F.Pages.told × Agrees files c.args.cache.now × All (HasFileHead g.row.D files) c.args.segments.now in
+    rw (p.1, p.2)
+    (on_damage {T = Unit {0}} (IsDoubt c.args.plan.now.given (items_of c.as_mut_slice.result.now)) (IsEvident told (g.F.Pages.files c.gather.new.folder)) (Err c.in_err-build_of.field-0.0)
+    (λ d h. doubt_evident told (g.F.Pages.files c.gather.new.folder) c.args.plan.now.given (items_of c.as_mut_slice.result.now) d h) c.in_err-build_of.ensures.shown)

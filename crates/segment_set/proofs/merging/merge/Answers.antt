@@ -1,11 +1,14 @@
-use Rattle.std.proofs.Common.{IsTrue, Option, subst, ap, ◌∙◌}
+use Rattle.std.proofs.Common.{All, IsTrue, Option, subst, ap, ◌∙◌}
 use Rattle.std.proofs.lemmas.Result.{err_from_is_err_and, on_ok_weaker}
+use Rattle.page_cache.specs.Cache.{Agrees}
 use Rattle.segment_build.specs.NewSegments.{NewSegmentData}
 use Rattle.segment_set.specs.Merges.{Replaces, living}
 use Rattle.segment_set.specs.Damages.{IsDoubt, IsMergeDamage, IsMergeDamageOf}
 use Rattle.segment_view.specs.Parts.{live_in_parts}
+use Rattle.segment_set.specs.Faithful.{HasFileHead}
 use Rattle.segment_set.proofs.Doubted.{whole_shows}
 use Rattle.segment_set.proofs.Ended.{living_whole}
+use Rattle.segment_set.proofs.Evident.{none_evident}
 use Rattle.segment_set.proofs.merging.merge.Goals as goal
 
 pub returns-in_err-built-clause-whole : goal.returns-in_err-built-clause-whole
@@ -47,3 +50,13 @@ returns-clause-damage g c = λ told agrees. whole_shows (IsMergeDamageOf (g.F.Pa
 
 pub returns-clause-doubled : goal.returns-clause-doubled
 returns-clause-doubled g c = λ told agrees contents reads. whole_shows (IsDoubt c.args.plan.now.given (live_in_parts contents c.args.segments.now)) c.replace.result c.replace.ensures.whole
+
+pub returns-in_err-built-clause-evident : goal.returns-in_err-built-clause-evident
+returns-in_err-built-clause-evident g c =
+    let p = err_from_is_err_and c.from_residual.result c.from_residual.ensures.1 in
+    rw (p.1, p.2) c.in_err-built.ensures.evident
+
+pub returns-clause-evident : goal.returns-clause-evident
+returns-clause-evident g c =
+    let files = g.F.Pages.files c.args.folder.now in
+    none_evident (IsTrue g.F.Pages.told × Agrees files c.args.cache.now × All (HasFileHead g.row.D files) c.args.segments.now) (g.F.Pages.files c.replace.new.folder) c.replace.result c.replace.ensures.whole

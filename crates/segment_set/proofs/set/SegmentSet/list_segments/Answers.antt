@@ -6,7 +6,9 @@ use Rattle.commit_list.specs.Commits.{CommitData}
 use Rattle.segment_set.specs.Sets.{IsWell, SetData}
 use Rattle.segment_set.specs.Kept.{IsCommitOf, KeepsNamed}
 use Rattle.segment_set.specs.Saved.{IsSaved}
+use Rattle.segment_set.specs.Faithful.{IsFaithful}
 use Rattle.segment_set.proofs.Saving.{IsLine, but_saved, commit_of_set, is_commit, saved_lines, well_names}
+use Rattle.segment_set.proofs.Faithful.{faithful_saved}
 use Rattle.segment_set.proofs.set.SegmentSet.list_segments.Goals as goal
 
 pub invariant_of-self : goal.invariant_of-self
@@ -89,3 +91,18 @@ returns-in_err-again-clause-reads g c = c.write_lives.ensures.reads
 
 pub returns-clause-reads : goal.returns-clause-reads
 returns-clause-reads g c = c.write_lives.ensures.reads
+
+pub returns-in_err-listed-clause-faithful : goal.returns-in_err-listed-clause-faithful
+returns-in_err-listed-clause-faithful g c = λ told faithful.
+    faithful_saved g.row.D (IsTrue g.F.Pages.told) (g.F.Pages.files c.args.folder.now) (g.F.Pages.files c.write_lives.new.folder) _ c.write_lives.new.names c.self.inside.saved c.self.invariant c.write_lives.ensures.kept told
+    (subst (IsFaithful g.row.D (g.F.Pages.files c.args.folder.now)) (sym c.self.view_is) faithful)
+
+pub returns-in_err-again-clause-faithful : goal.returns-in_err-again-clause-faithful
+returns-in_err-again-clause-faithful g c = λ told faithful.
+    faithful_saved g.row.D (IsTrue g.F.Pages.told) (g.F.Pages.files c.args.folder.now) (g.F.Pages.files c.write_lives.new.folder) _ c.write_lives.new.names c.self.inside.saved c.self.invariant c.write_lives.ensures.kept told
+    (subst (IsFaithful g.row.D (g.F.Pages.files c.args.folder.now)) (sym c.self.view_is) faithful)
+
+pub returns-clause-faithful : goal.returns-clause-faithful
+returns-clause-faithful g c = λ told faithful.
+    faithful_saved g.row.D (IsTrue g.F.Pages.told) (g.F.Pages.files c.args.folder.now) (g.F.Pages.files c.write_lives.new.folder) _ c.write_lives.new.names (Some c.new-kept.result) c.self.invariant c.write_lives.ensures.kept told
+    (subst (IsFaithful g.row.D (g.F.Pages.files c.args.folder.now)) (sym c.self.view_is) faithful)

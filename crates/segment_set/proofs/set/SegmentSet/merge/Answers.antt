@@ -1,4 +1,4 @@
-use Rattle.std.proofs.Common.{◌≡◌, ◌≤◌, length, lit<, IsTrue, sym, ap, subst, ◌∙◌}
+use Rattle.std.proofs.Common.{◌≡◌, ◌≤◌, length, lit<, All, IsTrue, sym, ap, subst, ◌∙◌}
 use Rattle.std.specs.Result.{OnOk}
 use Rattle.std.proofs.lemmas.Result.{on_ok_weaker}
 use Rattle.point_codec.specs.Seen.{items_of}
@@ -11,6 +11,9 @@ use Rattle.segment_set.specs.Seen.{Sees}
 use Rattle.segment_set.specs.Damages.{IsDoubt, IsMergeDamage, IsMergeDamageOf}
 use Rattle.segment_set.specs.Merged.{IsApart, KeepsEntries, Rearranges}
 use Rattle.segment_set.specs.Merges.{IsMerged}
+use Rattle.segment_set.specs.Faithful.{HasFileHead, IsFaithful}
+use Rattle.segment_set.proofs.Evident.{on_evident_less}
+use Rattle.segment_set.proofs.Faithful.{faithful_rearranged}
 use Rattle.segment_set.proofs.Moved.{moved}
 use Rattle.segment_set.proofs.Rearranged.{entries_merged, rearranges_after}
 use Rattle.segment_set.proofs.Sizes.{set_fits}
@@ -79,17 +82,28 @@ merge-requires-after_bounds g c = λ lifetimes outlive. (
 pub invariant_of-self : goal.invariant_of-self
 invariant_of-self g c = (after g c).well
 
+moves : (g : given.Over) (c : goal.After-merge g) → Rearranges g.row.D (IsTrue g.F.Pages.told) (g.F.Pages.files c.args.folder.now) (g.F.Pages.files c.merge.new.folder) (was g c) (is g c)
+moves g c =
+    rearranges_after g.row.D (IsTrue g.F.Pages.told) (g.F.Pages.files c.args.folder.now) (g.F.Pages.files c.merge.new.folder) {s = was g c} c.merge.new.names c.merge.new.segments (items_of c.self.inside.buffer.items) c.merge.new.cache
+    c.merge.ensures.kept (after g c)
+
+entries : (g : given.Over) (c : goal.After-merge g) → KeepsEntries g.row.D (IsTrue g.F.Pages.told) (g.F.Pages.files c.args.folder.now) (g.F.Pages.files c.merge.new.folder) (was g c) (is g c)
+entries g c =
+    entries_merged g.row.D (IsTrue g.F.Pages.told) (g.F.Pages.files c.args.folder.now) (g.F.Pages.files c.merge.new.folder) {s = was g c} c.self.invariant c.merge.new.names c.args.ids.now c.merge.new.segments c.merge.new.cache
+    c.merge.ensures.kept c.merge.ensures.agrees c.merge.ensures.others c.merge.result (merged g c) c.merge.ensures.refused
+
 pub returns-clause-moves : goal.returns-clause-moves
 returns-clause-moves g c =
-    subst (λ (s : SetData). Rearranges g.row.D (IsTrue g.F.Pages.told) (g.F.Pages.files c.args.folder.now) (g.F.Pages.files c.merge.new.folder) s (is g c)) c.self.view_is
-    (rearranges_after g.row.D (IsTrue g.F.Pages.told) (g.F.Pages.files c.args.folder.now) (g.F.Pages.files c.merge.new.folder) {s = was g c} c.merge.new.names c.merge.new.segments (items_of c.self.inside.buffer.items) c.merge.new.cache
-    c.merge.ensures.kept (after g c))
+    subst (λ (s : SetData). Rearranges g.row.D (IsTrue g.F.Pages.told) (g.F.Pages.files c.args.folder.now) (g.F.Pages.files c.merge.new.folder) s (is g c)) c.self.view_is (moves g c)
 
 pub returns-clause-entries : goal.returns-clause-entries
 returns-clause-entries g c =
-    subst (λ (s : SetData). KeepsEntries g.row.D (IsTrue g.F.Pages.told) (g.F.Pages.files c.args.folder.now) (g.F.Pages.files c.merge.new.folder) s (is g c)) c.self.view_is
-    (entries_merged g.row.D (IsTrue g.F.Pages.told) (g.F.Pages.files c.args.folder.now) (g.F.Pages.files c.merge.new.folder) {s = was g c} c.self.invariant c.merge.new.names c.args.ids.now c.merge.new.segments c.merge.new.cache
-    c.merge.ensures.kept c.merge.ensures.agrees c.merge.ensures.others c.merge.result (merged g c) c.merge.ensures.refused)
+    subst (λ (s : SetData). KeepsEntries g.row.D (IsTrue g.F.Pages.told) (g.F.Pages.files c.args.folder.now) (g.F.Pages.files c.merge.new.folder) s (is g c)) c.self.view_is (entries g c)
+
+pub returns-clause-faithful : goal.returns-clause-faithful
+returns-clause-faithful g c = λ told faithful.
+    faithful_rearranged g.row.D (IsTrue g.F.Pages.told) (g.F.Pages.files c.args.folder.now) (g.F.Pages.files c.merge.new.folder) (was g c) (is g c) c.self.invariant (moves g c) told ((entries g c).agrees told)
+    (subst (IsFaithful g.row.D (g.F.Pages.files c.args.folder.now)) (sym c.self.view_is) faithful)
 
 pub returns-clause-buffer : goal.returns-clause-buffer
 returns-clause-buffer g c = ap (λ (s : SetData). s.buffer) c.self.view_is
@@ -132,3 +146,10 @@ returns-clause-doubled g c = λ told agrees contents reads.
     (subst (λ n. OnDamage c.merge.result (IsDoubt n (live_in_parts contents c.self.inside.segments))) (given_is g c)
     (c.merge.ensures.doubled told (subst (λ (s : SetData). Agrees (g.F.Pages.files c.args.folder.now) s.cache) (sym c.self.view_is) agrees) contents
     (subst (λ (s : SetData). AreRead g.row.D (g.F.Pages.files c.args.folder.now) contents s.parts) (sym c.self.view_is) reads)))
+
+pub returns-clause-evident : goal.returns-clause-evident
+returns-clause-evident g c =
+    let files = g.F.Pages.files c.args.folder.now in
+    on_evident_less (IsTrue g.F.Pages.told × Agrees files c.self.inside.cache × All (HasFileHead g.row.D files) c.self.inside.segments) (IsTrue g.F.Pages.told × IsFaithful g.row.D files c.args.self.now)
+    (g.F.Pages.files c.merge.new.folder) c.merge.result
+    (λ t. let faithful = subst (IsFaithful g.row.D files) (sym c.self.view_is) t.1 in (t.0, faithful.pages, faithful.heads)) c.merge.ensures.evident

@@ -3,12 +3,16 @@ use Rattle.std.specs.Result.{OnOk}
 use Rattle.std.specs.List.{All}
 use Rattle.std.proofs.lemmas.Bool.Decides.{nat_tests}
 use Rattle.std.proofs.lemmas.Result.{on_err_weaker, on_ok_weaker}
+use Rattle.outer_io.specs.declared.file_name.FileName.TheVariants.{Segment}
 use Rattle.point_codec.specs.Seen.{items_of}
+use Rattle.page_cache.proofs.Agreement.{agrees_other}
 use Rattle.segment_view.specs.Parts.{Part}
 use Rattle.merge_policy.specs.Choice.{free_count}
 use Rattle.segment_set.specs.Sets.{IsNamed, IsWell, SetData, inputs_of, pins_of, sizes_of}
 use Rattle.segment_set.specs.Merged.{Rearranges}
 use Rattle.segment_set.specs.Merges.{IsSpilled, part_at}
+use Rattle.segment_set.specs.Faithful.{IsFaithful}
+use Rattle.segment_set.proofs.Faithful.{faithful_rearranged}
 use Rattle.segment_set.proofs.Fresh.{items_length}
 use Rattle.segment_set.proofs.Leveled.{free_placed, pinned}
 use Rattle.segment_set.proofs.Moved.{moved}
@@ -96,11 +100,24 @@ returns-then-is_empty-clause-emptied g c =
 pub invariant_of-self : goal.invariant_of-self
 invariant_of-self g c = (after g c).well
 
+moves : (g : given.Over) (c : goal.After-spill g) → Rearranges g.row.D (IsTrue g.F.Pages.told) (g.F.Pages.files c.args.folder.now) (g.F.Pages.files c.spill.new.folder) (was g c) (is g c)
+moves g c =
+    rearranges_after g.row.D (IsTrue g.F.Pages.told) (g.F.Pages.files c.args.folder.now) (g.F.Pages.files c.spill.new.folder) {s = was g c} c.spill.new.names c.spill.new.segments (items_of c.spill.new.buffer.items) c.self.inside.cache
+    c.spill.ensures.kept (after g c)
+
 pub returns-clause-moves : goal.returns-clause-moves
 returns-clause-moves g c =
-    subst (λ (s : SetData). Rearranges g.row.D (IsTrue g.F.Pages.told) (g.F.Pages.files c.args.folder.now) (g.F.Pages.files c.spill.new.folder) s (is g c)) c.self.view_is
-    (rearranges_after g.row.D (IsTrue g.F.Pages.told) (g.F.Pages.files c.args.folder.now) (g.F.Pages.files c.spill.new.folder) {s = was g c} c.spill.new.names c.spill.new.segments (items_of c.spill.new.buffer.items) c.self.inside.cache
-    c.spill.ensures.kept (after g c))
+    subst (λ (s : SetData). Rearranges g.row.D (IsTrue g.F.Pages.told) (g.F.Pages.files c.args.folder.now) (g.F.Pages.files c.spill.new.folder) s (is g c)) c.self.view_is (moves g c)
+
+pub returns-then-is_empty-clause-faithful : goal.returns-then-is_empty-clause-faithful
+returns-then-is_empty-clause-faithful g c = λ told faithful. faithful
+
+-- the cache stays, and the files of which it keeps pages are named
+pub returns-clause-faithful : goal.returns-clause-faithful
+returns-clause-faithful g c = λ told faithful.
+    faithful_rearranged g.row.D (IsTrue g.F.Pages.told) (g.F.Pages.files c.args.folder.now) (g.F.Pages.files c.spill.new.folder) (was g c) (is g c) c.self.invariant (moves g c) told
+    (agrees_other (g.F.Pages.files c.args.folder.now) (g.F.Pages.files c.spill.new.folder) c.self.inside.cache (λ id kept. c.spill.ensures.kept.files told (Segment id) (c.self.invariant.cached id kept)))
+    (subst (IsFaithful g.row.D (g.F.Pages.files c.args.folder.now)) (sym c.self.view_is) faithful)
 
 pub returns-clause-one_more : goal.returns-clause-one_more
 returns-clause-one_more g c = λ level.

@@ -1,0 +1,268 @@
+-- A damage is shown by what it carries and is true of the files, from what the crates below say of it.
+use Rattle.std.proofs.Common.{◌≡◌, ◌≢◌, ℕ, ◌<◌, List, Result, Ok, Err, sym, subst, ◌⊎◌, inl, inr, arith}
+use Rattle.std.proofs.Math.Logic.{∥∥₁_elim, ∥∥₁_map, ∥∥₁_prop}
+use Rattle.std.proofs.lemmas.Grind.{merely}
+use Rattle.std.specs.List.{All, Contains}
+use Rattle.std.proofs.lemmas.List.Elements.{All-contains}
+use Rattle.outer_io.specs.declared.file_name.FileName.{FileName}
+use Rattle.outer_io.specs.declared.file_name.FileName.TheVariants.{Commit, Segment, Live}
+use Rattle.outer_io.specs.Files.{Files, bytes_of}
+use Rattle.point_codec.specs.Points.{Item, Region}
+use Rattle.live_bits.specs.LiveSet.{LiveSet}
+use Rattle.page_file.specs.Page.{IsPage}
+use Rattle.page_cache.specs.FilePages.{kind_of, number_of}
+use Rattle.page_cache.specs.Evidence.{OnDamage, NotDamaged, IsShown, IsTrueOf, IsFileDamage, IsFileDamageOf}
+use Rattle.page_cache.specs.declared.faults.Damage.{Damage}
+use Rattle.page_cache.specs.declared.faults.Damage.TheVariants.{Page, Leaf, Body, Missing, Size, Unequal, Beyond, Doubled}
+use Rattle.page_cache.specs.declared.faults.PageFault.{PageFault}
+use Rattle.page_cache.specs.declared.faults.PageFault.TheVariants.{Failed, Damaged, Memory}
+use Rattle.page_cache.proofs.Damages.{on_damage_weaker}
+use Rattle.inner_pack.specs.Places.{front}
+use Rattle.inner_pack.specs.Trees.{IndexTree}
+use Rattle.inner_pack.specs.Bodies.{HasTree}
+use Rattle.commit_list.specs.declared.listed.Listed.{Listed}
+use Rattle.commit_list.specs.Commits.{CommitData}
+use Rattle.commit_list.specs.CommitFiles.{IsCommitFile, IsCommitDamage, IsCommitDamageOf}
+use Rattle.segment_file.specs.Heads.{Head, HasRanges}
+use Rattle.segment_file.specs.Damages.{BeginsNoHead, BeginsNoSet, IsHeadDamage, IsHeadDamageOf, IsLeafDamage, IsLeafDamageOf, IsLiveDamage, IsLiveDamageOf}
+use Rattle.stored_index.specs.Segments.{places}
+use Rattle.stored_index.specs.Stored.{HaveLive}
+use Rattle.segment_view.specs.Parts.{Part}
+use Rattle.segment_view.specs.Damages.{IsPartDamage}
+use Rattle.segment_set.specs.Damages.{IsAttachDamage, IsAttachDamageOf, IsDoubt, IsMisplaced, IsUnequal, IsUnequalOf}
+use Rattle.segment_set.specs.Evidence.{ArePair, HasNoBody, InHead, InList, IsEvident, IsHeadIn, IsLiveBeyond, IsTrueDamage, LacksLeaf, OfGiven, ShowsItself}
+use Rattle.segment_set.specs.Faithful.{HasFileHead}
+
+-- ---- of the same files, where more is told
+
+pub evident_at : (S T : Type 0) (f g : Files) (d : Damage) → (T → S) → (T → g ≡ f) → IsEvident S f d → IsEvident T g d
+evident_at S T f g d back same h = record { shows = h.shows; of_files = λ t. subst (λ (u : Files). IsTrueDamage u d) (sym (same t)) (h.of_files (back t)) }
+
+pub evident_less : (S T : Type 0) (files : Files) (d : Damage) → (T → S) → IsEvident S files d → IsEvident T files d
+evident_less S T files d back h = record { shows = h.shows; of_files = λ t. h.of_files (back t) }
+
+pub on_evident_at : {X : Type 0} (S T : Type 0) (f g : Files) (r : Result X PageFault) → (T → S) → (T → g ≡ f) → OnDamage r (IsEvident S f) → OnDamage r (IsEvident T g)
+on_evident_at S T f g r back same = on_damage_weaker r (IsEvident S f) (IsEvident T g) (λ d h. evident_at S T f g d back same h)
+
+pub on_evident_less : {X : Type 0} (S T : Type 0) (files : Files) (r : Result X PageFault) → (T → S) → OnDamage r (IsEvident S files) → OnDamage r (IsEvident T files)
+on_evident_less S T files r back = on_damage_weaker r (IsEvident S files) (IsEvident T files) (λ d h. evident_less S T files d back h)
+
+-- where no damage is answered
+pub none_evident : {X : Type 0} (T : Type 0) (files : Files) (r : Result X PageFault) → NotDamaged r → OnDamage r (IsEvident T files)
+none_evident T files r whole = on_damage_weaker r (λ d. ⊥) (IsEvident T files) (λ d h. absurd h) whole
+
+-- a damage that is true of the files has this form
+abbrev IsCarried : Files → Damage → Type 0
+IsCarried files d = IsTrueOf (λ file page offset len. Unit {0}) (ArePair files) (IsLiveBeyond files) (λ doc. Unit {0}) files d
+
+-- what is told of the files counts in an answer
+on_told : {X : Type 0} (T : Type 0) (r : Result X PageFault) (P Q R : Damage → Type 0) → ((d : Damage) → (T → P d) → Q d → R d) → (T → OnDamage r P) → OnDamage r Q → OnDamage r R
+on_told T (Ok x) P Q R f h k = tt
+on_told T (Err Failed) P Q R f h k = tt
+on_told T (Err (Damaged d)) P Q R f h k = f d h k
+on_told T (Err Memory) P Q R f h k = tt
+
+-- ---- a leaf
+
+leaf_shows : (P : ℕ → Head → Type 0) (D : ℕ) (head : Head) (root : Region) (tree : IndexTree) → P D head → HasTree D head.index root tree → (d : Damage) → IsLeafDamage D head 0 front tree d
+    → IsShown (LacksLeaf P) HasNoBody d
+leaf_shows P D head root tree is has (Page file number bytes) h = subst (λ (name : FileName). IsPage (kind_of name) (number_of name) number bytes.value.b → ⊥) (sym h.0) h.1
+leaf_shows P D head root tree is has (Leaf file number offset len bytes) h = (
+  subst (λ (name : FileName). IsPage (kind_of name) (number_of name) number bytes.value.b) (sym h.0) h.1,
+  record { D = D; head = head; is = is; root = root; tree = tree; has = has; file_is = h.0; none = h.2 },
+)
+leaf_shows P D head root tree is has (Size file size needed) h = let short : size < needed = h.1 in let apart : size ≢ needed = omega arith in apart
+leaf_shows P D head root tree is has (Body file bytes) h = absurd h
+leaf_shows P D head root tree is has (Missing file) h = absurd h
+leaf_shows P D head root tree is has (Unequal file said found) h = absurd h
+leaf_shows P D head root tree is has (Beyond doc next) h = absurd h
+leaf_shows P D head root tree is has (Doubled doc) h = absurd h
+
+leaf_carried : (files : Files) (d : Damage) → IsLeafDamageOf files d → IsCarried files d
+leaf_carried files (Page file number bytes) h = h
+leaf_carried files (Leaf file number offset len bytes) h = (h, tt)
+leaf_carried files (Size file size needed) h = h
+leaf_carried files (Body file bytes) h = absurd h
+leaf_carried files (Missing file) h = absurd h
+leaf_carried files (Unequal file said found) h = absurd h
+leaf_carried files (Beyond doc next) h = absurd h
+leaf_carried files (Doubled doc) h = absurd h
+
+-- of a segment that is read, whose head is that of its file
+pub part_evident : (T : Type 0) (D : ℕ) (files : Files) (parts : List Part) (d : Damage) → (T → All (HasFileHead D files) parts) → (T → IsLeafDamageOf files d) → IsPartDamage D parts d → IsEvident T files d
+part_evident T D files parts d heads true (p, there, read) = record {
+  shows = ∥∥₁_map read (λ r. leaf_shows HasRanges D p.head r.root r.tree r.ranges r.has d r.shows);
+  of_files = λ t. record {
+    shows = ∥∥₁_elim (All-contains (HasFileHead D files) parts p (heads t) there) ∥∥₁_prop (λ is. ∥∥₁_map read (λ r. leaf_shows (IsHeadIn files) D p.head r.root r.tree is r.has d r.shows));
+    carries = merely (leaf_carried files d (true t));
+  };
+}
+
+pub on_part_evident : {X : Type 0} (T : Type 0) (D : ℕ) (files : Files) (parts : List Part) (r : Result X PageFault) → (T → All (HasFileHead D files) parts) → (T → OnDamage r (IsLeafDamageOf files))
+    → OnDamage r (IsPartDamage D parts) → OnDamage r (IsEvident T files)
+on_part_evident T D files parts r heads =
+    on_told T r (IsLeafDamageOf files) (IsPartDamage D parts) (IsEvident T files) (λ d true read. part_evident T D files parts d heads true read)
+
+-- ---- entries that are none of documents
+
+doubt_shows : (P : ℕ → Head → Type 0) (given : ℕ) (items : List Item) (d : Damage) → IsDoubt given items d → IsShown (LacksLeaf P) HasNoBody d
+doubt_shows P given items (Unequal file said found) h = let is : said ≡ given = h.1 in let more : given < found = h.2 in let apart : said ≢ found = omega arith in apart
+doubt_shows P given items (Doubled doc) h = tt
+doubt_shows P given items (Page file number bytes) h = absurd h
+doubt_shows P given items (Leaf file number offset len bytes) h = absurd h
+doubt_shows P given items (Body file bytes) h = absurd h
+doubt_shows P given items (Missing file) h = absurd h
+doubt_shows P given items (Size file size needed) h = absurd h
+doubt_shows P given items (Beyond doc next) h = absurd h
+
+doubt_carried : (files : Files) (given : ℕ) (items : List Item) (d : Damage) → IsDoubt given items d → IsCarried files d
+doubt_carried files given items (Unequal file said found) h = OfGiven h.0
+doubt_carried files given items (Doubled doc) h = tt
+doubt_carried files given items (Page file number bytes) h = absurd h
+doubt_carried files given items (Leaf file number offset len bytes) h = absurd h
+doubt_carried files given items (Body file bytes) h = absurd h
+doubt_carried files given items (Missing file) h = absurd h
+doubt_carried files given items (Size file size needed) h = absurd h
+doubt_carried files given items (Beyond doc next) h = absurd h
+
+pub doubt_evident : (T : Type 0) (files : Files) (given : ℕ) (items : List Item) (d : Damage) → IsDoubt given items d → IsEvident T files d
+doubt_evident T files given items d h = record {
+  shows = merely (doubt_shows HasRanges given items d h);
+  of_files = λ t. record { shows = merely (doubt_shows (IsHeadIn files) given items d h); carries = merely (doubt_carried files given items d h) };
+}
+
+-- ---- the segments that a commit lists
+
+head_shows : (P : ℕ → Head → Type 0) (id : ℕ) (d : Damage) → IsHeadDamage id d → IsShown (LacksLeaf P) HasNoBody d
+head_shows P id (Page file number bytes) h = h.1
+head_shows P id (Missing file) h = tt
+head_shows P id (Size file size needed) h = h.1
+head_shows P id (Body file bytes) h = subst (λ (name : FileName). HasNoBody name bytes) (sym h.0) h.1
+head_shows P id (Unequal file said found) h = h.1
+head_shows P id (Leaf file number offset len bytes) h = absurd h
+head_shows P id (Beyond doc next) h = absurd h
+head_shows P id (Doubled doc) h = absurd h
+
+live_shows : (P : ℕ → Head → Type 0) (segment generation : ℕ) (d : Damage) → IsLiveDamage segment generation d → IsShown (LacksLeaf P) HasNoBody d
+live_shows P segment generation (Page file number bytes) h = h.1
+live_shows P segment generation (Missing file) h = tt
+live_shows P segment generation (Size file size needed) h = h.1
+live_shows P segment generation (Body file bytes) h = subst (λ (name : FileName). HasNoBody name bytes) (sym h.0) h.1
+live_shows P segment generation (Unequal file said found) h = absurd h
+live_shows P segment generation (Leaf file number offset len bytes) h = absurd h
+live_shows P segment generation (Beyond doc next) h = absurd h
+live_shows P segment generation (Doubled doc) h = absurd h
+
+unequal_shows : (P : ℕ → Head → Type 0) (s : Listed) (d : Damage) → IsUnequal s d → IsShown (LacksLeaf P) HasNoBody d
+unequal_shows P s (Unequal file said found) h = h.1
+unequal_shows P s (Page file number bytes) h = absurd h
+unequal_shows P s (Leaf file number offset len bytes) h = absurd h
+unequal_shows P s (Body file bytes) h = absurd h
+unequal_shows P s (Missing file) h = absurd h
+unequal_shows P s (Size file size needed) h = absurd h
+unequal_shows P s (Beyond doc next) h = absurd h
+unequal_shows P s (Doubled doc) h = absurd h
+
+misplaced_shows : (P : ℕ → Head → Type 0) (beyond doubled : ℕ → Type 0) (n : ℕ) (d : Damage) → IsMisplaced beyond doubled n d → IsShown (LacksLeaf P) HasNoBody d
+misplaced_shows P beyond doubled n (Beyond doc next) h = omega (arith, h.0, h.1)
+misplaced_shows P beyond doubled n (Doubled doc) h = tt
+misplaced_shows P beyond doubled n (Page file number bytes) h = absurd h
+misplaced_shows P beyond doubled n (Leaf file number offset len bytes) h = absurd h
+misplaced_shows P beyond doubled n (Body file bytes) h = absurd h
+misplaced_shows P beyond doubled n (Missing file) h = absurd h
+misplaced_shows P beyond doubled n (Size file size needed) h = absurd h
+misplaced_shows P beyond doubled n (Unequal file said found) h = absurd h
+
+attach_shows : (P : ℕ → Head → Type 0) (c : CommitData) (d : Damage) → IsAttachDamage c d → IsShown (LacksLeaf P) HasNoBody d
+attach_shows P c d (inl (s, there, inl h)) = head_shows P s.segment d h
+attach_shows P c d (inl (s, there, inr (inl h))) = live_shows P s.segment s.generation d h
+attach_shows P c d (inl (s, there, inr (inr h))) = unequal_shows P s d h
+attach_shows P c d (inr h) = misplaced_shows P (λ doc. Unit {0}) (λ doc. Unit {0}) c.next d h
+
+head_carried : (files : Files) (c : CommitData) → IsCommitFile (bytes_of (files Commit)) c → (d : Damage) → IsHeadDamageOf c.dims files d → IsCarried files d
+head_carried files c says (Page file number bytes) h = h
+head_carried files c says (Missing file) h = h
+head_carried files c says (Size file size needed) h = h
+head_carried files c says (Body file bytes) h = h
+head_carried files c says (Unequal file said found) h = InHead c says h
+head_carried files c says (Leaf file number offset len bytes) h = absurd h
+head_carried files c says (Beyond doc next) h = absurd h
+head_carried files c says (Doubled doc) h = absurd h
+
+live_carried : (files : Files) (d : Damage) → IsLiveDamageOf files d → IsCarried files d
+live_carried files (Page file number bytes) h = h
+live_carried files (Missing file) h = h
+live_carried files (Size file size needed) h = h
+live_carried files (Body file bytes) h = h
+live_carried files (Unequal file said found) h = absurd h
+live_carried files (Leaf file number offset len bytes) h = absurd h
+live_carried files (Beyond doc next) h = absurd h
+live_carried files (Doubled doc) h = absurd h
+
+unequal_carried : (files : Files) (c : CommitData) → IsCommitFile (bytes_of (files Commit)) c → (s : Listed) → Contains c.listed s → (d : Damage) → IsUnequalOf files c s d → IsCarried files d
+unequal_carried files c says s there (Unequal file said found) h = InList c says s there h
+unequal_carried files c says s there (Page file number bytes) h = absurd h
+unequal_carried files c says s there (Leaf file number offset len bytes) h = absurd h
+unequal_carried files c says s there (Body file bytes) h = absurd h
+unequal_carried files c says s there (Missing file) h = absurd h
+unequal_carried files c says s there (Size file size needed) h = absurd h
+unequal_carried files c says s there (Beyond doc next) h = absurd h
+unequal_carried files c says s there (Doubled doc) h = absurd h
+
+misplaced_carried : (files : Files) (c : CommitData) → IsCommitFile (bytes_of (files Commit)) c → (sets : List LiveSet) → HaveLive files c sets → (d : Damage)
+    → IsMisplaced (λ doc. 1 ≤ places doc sets) (λ doc. 2 ≤ places doc sets) c.next d → IsCarried files d
+misplaced_carried files c says sets live (Beyond doc next) h = record { commit = c; says = says; next_is = h.0; sets = sets; live = live; there = h.2 }
+misplaced_carried files c says sets live (Doubled doc) h = tt
+misplaced_carried files c says sets live (Page file number bytes) h = absurd h
+misplaced_carried files c says sets live (Leaf file number offset len bytes) h = absurd h
+misplaced_carried files c says sets live (Body file bytes) h = absurd h
+misplaced_carried files c says sets live (Missing file) h = absurd h
+misplaced_carried files c says sets live (Size file size needed) h = absurd h
+misplaced_carried files c says sets live (Unequal file said found) h = absurd h
+
+attach_carried : (files : Files) (c : CommitData) → IsCommitFile (bytes_of (files Commit)) c → (d : Damage) → IsAttachDamageOf files c d → IsCarried files d
+attach_carried files c says d (inl (s, there, inl h)) = head_carried files c says d h
+attach_carried files c says d (inl (s, there, inr (inl h))) = live_carried files d h
+attach_carried files c says d (inl (s, there, inr (inr h))) = unequal_carried files c says s there d h
+attach_carried files c says d (inr (sets, live, h)) = misplaced_carried files c says sets live d h
+
+pub attach_evident : (T : Type 0) (files : Files) (c : CommitData) (d : Damage) → (T → IsCommitFile (bytes_of (files Commit)) c) → (T → IsAttachDamageOf files c d) → IsAttachDamage c d → IsEvident T files d
+attach_evident T files c d says true h = record {
+  shows = merely (attach_shows HasRanges c d h);
+  of_files = λ t. record { shows = merely (attach_shows (IsHeadIn files) c d h); carries = merely (attach_carried files c (says t) d (true t)) };
+}
+
+pub on_attach_evident : {X : Type 0} (T : Type 0) (files : Files) (c : CommitData) (r : Result X PageFault) → (T → IsCommitFile (bytes_of (files Commit)) c) → (T → OnDamage r (IsAttachDamageOf files c))
+    → OnDamage r (IsAttachDamage c) → OnDamage r (IsEvident T files)
+on_attach_evident T files c r says = on_told T r (IsAttachDamageOf files c) (IsAttachDamage c) (IsEvident T files) (λ d true h. attach_evident T files c d says true h)
+
+-- ---- the Commit file
+
+commit_shows : (P : ℕ → Head → Type 0) (d : Damage) → IsCommitDamage d → IsShown (LacksLeaf P) HasNoBody d
+commit_shows P (Page file number bytes) h = h.1
+commit_shows P (Missing file) h = tt
+commit_shows P (Size file size needed) h = h.1
+commit_shows P (Body file bytes) h = subst (λ (name : FileName). HasNoBody name bytes) (sym h.0) h.1
+commit_shows P (Leaf file number offset len bytes) h = absurd h
+commit_shows P (Unequal file said found) h = absurd h
+commit_shows P (Beyond doc next) h = absurd h
+commit_shows P (Doubled doc) h = absurd h
+
+commit_carried : (files : Files) (d : Damage) → IsCommitDamageOf files d → IsCarried files d
+commit_carried files (Page file number bytes) h = h
+commit_carried files (Missing file) h = h
+commit_carried files (Size file size needed) h = h
+commit_carried files (Body file bytes) h = h
+commit_carried files (Leaf file number offset len bytes) h = absurd h
+commit_carried files (Unequal file said found) h = absurd h
+commit_carried files (Beyond doc next) h = absurd h
+commit_carried files (Doubled doc) h = absurd h
+
+pub commit_evident : (T : Type 0) (files : Files) (d : Damage) → (T → IsCommitDamageOf files d) → IsCommitDamage d → IsEvident T files d
+commit_evident T files d true h = record {
+  shows = merely (commit_shows HasRanges d h);
+  of_files = λ t. record { shows = merely (commit_shows (IsHeadIn files) d h); carries = merely (commit_carried files d (true t)) };
+}
+
+pub on_commit_evident : {X : Type 0} (T : Type 0) (files : Files) (r : Result X PageFault) → (T → OnDamage r (IsCommitDamageOf files)) → OnDamage r IsCommitDamage → OnDamage r (IsEvident T files)
+on_commit_evident T files r = on_told T r (IsCommitDamageOf files) IsCommitDamage (IsEvident T files) (λ d true h. commit_evident T files d true h)
