@@ -1,9 +1,9 @@
 -- What is stored: by a commit since which nothing changed, and by one that was written.
-use Rattle.std.proofs.Common.{◌≡◌, ◌≤◌, ◌↔◌, ℕ, Bool, true, false, List, [], ◌∷◌, ◌++◌, length, map, get_or, Option, None, Some, Result, Ok, Err, IfOk, OnOk, refl, sym, ap, subst, ◌∙◌, ◌⊎◌, inl, inr, ⊎_elim, arith}
+use Rattle.std.proofs.Common.{◌≡◌, ◌≤◌, ◌↔◌, ℕ, Bool, true, false, List, [], ◌∷◌, ◌++◌, length, map, Option, None, Some, Result, Ok, Err, IfOk, OnOk, refl, sym, ap, subst, ◌∙◌, ◌⊎◌, inl, inr, ⊎_elim, arith}
 use Rattle.std.specs.List.{All, AllZip, Contains, filter}
 use Rattle.std.proofs.lemmas.Bool.{both_ways}
 use Rattle.std.proofs.lemmas.List.{append-nil}
-use Rattle.std.proofs.lemmas.List.Elements.{All-head, All-tail}
+use Rattle.std.proofs.lemmas.List.Elements.{All-head, All-tail, All-weaker}
 use Rattle.outer_io.specs.declared.file_name.FileName.{FileName}
 use Rattle.outer_io.specs.declared.file_name.FileName.TheVariants.{Commit, CommitNew, Segment, Live}
 use Rattle.outer_io.specs.Files.{Files, bytes_of, SameButTwo}
@@ -28,7 +28,7 @@ use Rattle.stored_index.proofs.KeptFiles.{kept_after, kept_but_commits}
 use Rattle.stored_index.proofs.Whole.{stored_from}
 use Rattle.index_model.specs.State.{Index, at_rest}
 use Rattle.segment_view.specs.Parts.{AreRead, Contents, IsRead, Part, ids_of, live_in_parts, lives_of}
-use Rattle.segment_set.specs.Sets.{IsWell, SetData}
+use Rattle.segment_set.specs.Sets.{IsWell, NamedView, SetData}
 use Rattle.segment_set.specs.Seen.{Sees}
 use Rattle.segment_set.specs.Kept.{IsAsCommitted, IsCommitOf, StaysButFiles}
 use Rattle.segment_set.specs.Faithful.{HasFileHead, IsFaithful}
@@ -202,16 +202,16 @@ written_is_seen D f g s i well others seen = record {
   snapshots = seen.snapshots;
 }
 
--- nor is what the set keeps of the files any other's, for it keeps pages and heads of segments' files alone
+-- nor does what the set keeps of the files change, since it keeps pages and heads of segments' files alone
 heads_written : (D : ℕ) (f g : Files) (parts : List Part) → SameButTwo CommitNew Commit f g → All (HasFileHead D f) parts → All (HasFileHead D g) parts
-heads_written D f g parts others heads k d lt =
-    subst (λ (b : Option (List ℕ)). ∥ IsHeadOf D (bytes_of b) (get_or parts k d).head ∥₁) (sym (others (Segment (get_or parts k d).head.id) (λ e. cc) (λ e. cc))) (heads k d lt)
+heads_written D f g parts others heads = All-weaker (HasFileHead D f) (HasFileHead D g)
+    (λ p has. subst (λ (b : Option (List ℕ)). ∥ IsHeadOf D (bytes_of b) p.head ∥₁) (sym (others (Segment p.head.id) (λ e. cc) (λ e. cc))) has) parts heads
 
 pub faithful_written : (D : ℕ) (f g : Files) (s : SetData) → SameButTwo CommitNew Commit f g → IsFaithful D f s → IsFaithful D g s
 faithful_written D f g s others faithful = record {
   pages = agrees_other f g s.cache (λ id kept. others (Segment id) (λ e. cc) (λ e. cc)) faithful.pages;
   heads = heads_written D f g s.parts others faithful.heads;
-  kept = λ k v lt. heads_written D f g (get_or s.snapshots k v).parts others (faithful.kept k v lt);
+  kept = All-weaker (λ (v : NamedView). All (HasFileHead D f) v.parts) (λ (v : NamedView). All (HasFileHead D g) v.parts) (λ v has. heads_written D f g v.parts others has) s.snapshots faithful.kept;
 }
 
 -- of the session that the code opened
