@@ -1,17 +1,15 @@
 -- A damage is shown by what it carries and is true of the files, from what the crates below say of it.
-use Rattle.std.proofs.Common.{◌≡◌, ◌≢◌, ℕ, ◌<◌, List, Result, Ok, Err, sym, subst, ◌⊎◌, inl, inr, arith}
+use Rattle.std.proofs.Common.{◌≡◌, ◌≢◌, ℕ, ◌≤◌, ◌<◌, List, Result, Ok, Err, sym, subst, inl, inr, arith}
 use Rattle.std.proofs.Math.Logic.{∥∥₁_elim, ∥∥₁_map, ∥∥₁_prop}
 use Rattle.std.proofs.lemmas.Grind.{merely}
 use Rattle.std.specs.List.{All, Contains}
 use Rattle.std.proofs.lemmas.List.Elements.{All-contains}
 use Rattle.outer_io.specs.declared.file_name.FileName.{FileName}
-use Rattle.outer_io.specs.declared.file_name.FileName.TheVariants.{Commit, Segment, Live}
+use Rattle.outer_io.specs.declared.file_name.FileName.TheVariants.{Commit}
 use Rattle.outer_io.specs.Files.{Files, bytes_of}
 use Rattle.point_codec.specs.Points.{Item, Region}
 use Rattle.live_bits.specs.LiveSet.{LiveSet}
-use Rattle.page_file.specs.Page.{IsPage}
-use Rattle.page_cache.specs.FilePages.{kind_of, number_of}
-use Rattle.page_cache.specs.Evidence.{OnDamage, NotDamaged, IsShown, IsTrueOf, IsFileDamage, IsFileDamageOf}
+use Rattle.page_cache.specs.Evidence.{OnDamage, NotDamaged, IsShown, IsTrueOf}
 use Rattle.page_cache.specs.declared.faults.Damage.{Damage}
 use Rattle.page_cache.specs.declared.faults.Damage.TheVariants.{Page, Leaf, Body, Missing, Size, Unequal, Beyond, Doubled}
 use Rattle.page_cache.specs.declared.faults.PageFault.{PageFault}
@@ -24,13 +22,13 @@ use Rattle.commit_list.specs.declared.listed.Listed.{Listed}
 use Rattle.commit_list.specs.Commits.{CommitData}
 use Rattle.commit_list.specs.CommitFiles.{IsCommitFile, IsCommitDamage, IsCommitDamageOf}
 use Rattle.segment_file.specs.Heads.{Head, HasRanges}
-use Rattle.segment_file.specs.Damages.{BeginsNoHead, BeginsNoSet, IsHeadDamage, IsHeadDamageOf, IsLeafDamage, IsLeafDamageOf, IsLiveDamage, IsLiveDamageOf}
+use Rattle.segment_file.specs.Damages.{IsHeadDamage, IsHeadDamageOf, IsLeafDamage, IsLeafDamageOf, IsLiveDamage, IsLiveDamageOf}
 use Rattle.stored_index.specs.Segments.{places}
 use Rattle.stored_index.specs.Stored.{HaveLive}
 use Rattle.segment_view.specs.Parts.{Part}
 use Rattle.segment_view.specs.Damages.{IsPartDamage}
 use Rattle.segment_set.specs.Damages.{IsAttachDamage, IsAttachDamageOf, IsDoubt, IsMisplaced, IsUnequal, IsUnequalOf}
-use Rattle.segment_set.specs.Evidence.{ArePair, HasNoBody, InHead, InList, IsEvident, IsHeadIn, IsLiveBeyond, IsTrueDamage, LacksLeaf, OfGiven, ShowsItself}
+use Rattle.segment_set.specs.Evidence.{ArePair, HasNoBody, InHead, InList, IsEvident, IsHeadIn, IsLiveBeyond, IsTrueDamage, LacksLeaf, OfGiven}
 use Rattle.segment_set.specs.Faithful.{HasFileHead}
 
 -- ---- of the same files, where more is told
@@ -66,9 +64,9 @@ on_told T (Err Memory) P Q R f h k = tt
 
 leaf_shows : (P : ℕ → Head → Type 0) (D : ℕ) (head : Head) (root : Region) (tree : IndexTree) → P D head → HasTree D head.index root tree → (d : Damage) → IsLeafDamage D head 0 front tree d
     → IsShown (LacksLeaf P) HasNoBody d
-leaf_shows P D head root tree is has (Page file number bytes) h = subst (λ (name : FileName). IsPage (kind_of name) (number_of name) number bytes.value.b → ⊥) (sym h.0) h.1
+leaf_shows P D head root tree is has (Page file number bytes) h = subst (λ (name : FileName). IsShown (LacksLeaf P) HasNoBody (Page name number bytes)) (sym h.0) h.1
 leaf_shows P D head root tree is has (Leaf file number offset len bytes) h = (
-  subst (λ (name : FileName). IsPage (kind_of name) (number_of name) number bytes.value.b) (sym h.0) h.1,
+  (subst (λ (name : FileName). IsShown (λ file page from long part. Unit {0}) HasNoBody (Leaf name number offset len bytes)) (sym h.0) (h.1, tt)).0,
   record { D = D; head = head; is = is; root = root; tree = tree; has = has; file_is = h.0; none = h.2 },
 )
 leaf_shows P D head root tree is has (Size file size needed) h = let short : size < needed = h.1 in let apart : size ≢ needed = omega arith in apart

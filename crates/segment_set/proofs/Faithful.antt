@@ -1,7 +1,7 @@
 -- What a set keeps of its files stays theirs.
-use Rattle.std.proofs.Common.{◌≡◌, ℕ, true, List, Option, refl, sym, ap, subst, ◌⊎◌, ⊎_elim}
+use Rattle.std.proofs.Common.{◌≡◌, ℕ, true, List, get_or, Option, refl, sym, ap, subst, ⊎_elim}
 use Rattle.std.proofs.Math.Logic.{∥∥₁_map}
-use Rattle.std.specs.List.{All, Contains, map}
+use Rattle.std.specs.List.{All, Contains}
 use Rattle.std.proofs.lemmas.List.Elements.{All-contains, All-contains_itself, All-map, All-weaker}
 use Rattle.outer_io.specs.declared.file_name.FileName.{FileName}
 use Rattle.outer_io.specs.declared.file_name.FileName.TheVariants.{Segment}
@@ -13,7 +13,7 @@ use Rattle.commit_list.specs.Commits.{CommitData}
 use Rattle.segment_file.specs.Heads.{Head}
 use Rattle.segment_file.specs.Segments.{IsHeadOf}
 use Rattle.segment_file.proofs.Unique.{head_of_segment}
-use Rattle.segment_view.specs.Parts.{Part, cleared}
+use Rattle.segment_view.specs.Parts.{Part}
 use Rattle.file_names.specs.Names.{NameList, is_named}
 use Rattle.segment_set.specs.Sets.{IsNamed, IsWell, NamedView, SetData, set_but}
 use Rattle.segment_set.specs.Kept.{AreCanonical, Follows, HasCanonical, KeepsNamed, StaysButCache}
@@ -30,7 +30,7 @@ head_alike D f g p q same file has =
 
 heads_alike : (D : ℕ) (f g : Files) (names : NameList) (parts : List Part) → All (IsNamed names) parts → ((m : FileName) → is_named names.names m ≡ true → g m ≡ f m)
     → All (HasFileHead D f) parts → All (HasFileHead D g) parts
-heads_alike D f g names parts named same has k p lt = subst (λ b. ∥ IsHeadOf D (bytes_of b) _ ∥₁) (sym (same _ (named k p lt))) (has k p lt)
+heads_alike D f g names parts named same has k p lt = head_alike D f g (get_or parts k p) (get_or parts k p) refl (same _ (named k p lt)) (has k p lt)
 
 views_alike : (D : ℕ) (f g : Files) (names : NameList) (views : List NamedView) → All (λ v. All (IsNamed names) v.parts) views → ((m : FileName) → is_named names.names m ≡ true → g m ≡ f m)
     → All (λ v. All (HasFileHead D f) v.parts) views → All (λ v. All (HasFileHead D g) v.parts) views
