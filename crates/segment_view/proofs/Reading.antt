@@ -1,28 +1,20 @@
 -- Calls that only read, one after another.
-use Rattle.std.proofs.Common.{◌≡◌, ℕ, ◌<◌, Bool, true, false, cond, length, List, [], ◌∷◌, get_or, refl, sym, ap, subst, ◌∙◌, ◌⊎◌, inl, inr, ⊎_elim, Some, Result, Ok, Err}
+use Rattle.std.proofs.Common.{◌≡◌, ℕ, Bool, true, false, cond, List, [], ◌∷◌, refl, sym, ap, subst, ◌∙◌, ◌⊎◌, inl, inr, ⊎_elim, Result}
 use Rattle.std.specs.Prelude.{IsTrue}
-use Rattle.std.specs.List.{Contains, slice_get}
-use Rattle.std.proofs.lemmas.Option.{get_or_from_slice_get, slice_get_within}
-use Rattle.std.proofs.lemmas.List.{get_or-map, length-map}
+use Rattle.std.specs.List.{Contains}
 use Rattle.outer_io.specs.Files.{Files}
-use Rattle.inner_pack.specs.Places.{front}
-use Rattle.inner_pack.specs.Trees.{IndexTree}
-use Rattle.inner_pack.specs.Bodies.{HasTree}
-use Rattle.point_codec.specs.Points.{Region}
 use Rattle.page_cache.specs.declared.cache.PageCache.{PageCache}
 use Rattle.page_cache.specs.declared.faults.PageFault.{PageFault}
 use Rattle.page_cache.specs.Cache.{KeepsFile, Agrees}
-use Rattle.page_cache.specs.declared.faults.PageFault.TheVariants.{Failed, Damaged, Memory}
-use Rattle.page_cache.specs.Evidence.{FaultShows, OnDamage}
+use Rattle.page_cache.specs.Evidence.{OnDamage}
 use Rattle.segment_file.specs.Heads.{Head}
-use Rattle.segment_file.specs.Damages.{IsLeafDamage}
 use Rattle.documents.specs.Entries.{is_among}
 use Rattle.documents.proofs.Lists.{cons_cases, cons_head, in_filter, in_map, nil_none, of_filter}
-use Rattle.nearest_query.specs.Segments.{HaveTrees, IsSegmentDamage, HasId, no_head}
+use Rattle.nearest_query.specs.Segments.{HasId}
 use Rattle.nearest_query.proofs.Parts.{on_damage}
 use Rattle.segment_view.specs.Parts.{Part, heads_of, ids_of, parts_among}
 use Rattle.segment_view.specs.Calm.{IsCalm}
-use Rattle.segment_view.specs.Damages.{IsReadDamage, IsPartDamage}
+use Rattle.segment_view.specs.Damages.{IsPartDamage}
 use Rattle.segment_view.proofs.Beside.{ids_heads}
 
 pub calm_none : (told : Bool) (files : Files) (cache : PageCache) (ids : List ℕ) → IsCalm told files files cache cache ids
@@ -60,21 +52,6 @@ among_in ids parts p there id h = by (is_among ids p.head.id) refl h
     by true e k = id_in (parts_among ids parts) p (in_filter (λ (q : Part). is_among ids q.head.id) parts p there e) id k
     by false e k = nil_none id (Contains (ids_of (parts_among ids parts)) id) k
 
-pub head_at : (parts : List Part) (i : ℕ) (p : Part) → slice_get parts i ≡ Some p → get_or (heads_of parts) i no_head ≡ p.head
-head_at parts i p is =
-    get_or-map (λ (q : Part). q.head) parts i p no_head (slice_get_within parts i p is)
-    ∙ ap (λ (q : Part). q.head) (get_or_from_slice_get parts i p p is)
-
--- a damage of the segment at a place is one of the segments
-pub shown_at : (D : ℕ) (parts : List Part) (i : ℕ) (p : Part) (trees : ℕ → IndexTree) (fault : PageFault) → slice_get parts i ≡ Some p → HaveTrees D (heads_of parts) trees
-    → ((root : Region) (t : IndexTree) → HasTree D p.head.index root t → FaultShows (IsLeafDamage D p.head 0 front t) fault) → FaultShows (IsSegmentDamage D (heads_of parts) trees) fault
-shown_at D parts i p trees fault is have shown =
-    let within : i < length (heads_of parts) = subst (λ n. i < n) (sym (length-map parts (λ (q : Part). q.head))) (slice_get_within parts i p is) in
-    let tree = have i within in
-    on_damage {T = Unit {0}} (IsLeafDamage D p.head 0 front (trees i)) (IsSegmentDamage D (heads_of parts) trees) (Err fault)
-    (λ d h. (i, within, subst (λ (x : Head). IsLeafDamage D x 0 front (trees i) d) (sym (head_at parts i p is)) h))
-    (shown tree.0 (trees i) (subst (λ (x : Head). HasTree D x.index tree.0 (trees i)) (head_at parts i p is) tree.1))
-
 -- told by ids, as the nearest query tells it by heads
 pub id_of : (parts : List Part) (id : ℕ) → HasId (heads_of parts) id → Contains (ids_of parts) id
 id_of parts id h = subst (Contains (ids_of parts)) h.2 (subst (λ (ns : List ℕ). Contains ns h.0.id) (sym (ids_heads parts)) (in_map (λ (x : Head). x.id) (heads_of parts) h.0 h.1))
@@ -94,13 +71,6 @@ calm_alone told old new before after id files agrees others = record {
 }
 
 -- ---- damages
-
--- what is shown of each tree is shown of all
-pub shown_each : {T : Type 0} (D : ℕ) (head : Head) (r : Result T PageFault) → ((root : Region) (t : IndexTree) → HasTree D head.index root t → OnDamage r (IsLeafDamage D head 0 front t)) → OnDamage r (IsReadDamage D head)
-shown_each D head (Ok v) shown = tt
-shown_each D head (Err Failed) shown = tt
-shown_each D head (Err (Damaged d)) shown = shown
-shown_each D head (Err Memory) shown = tt
 
 -- a damage of a segment, where its id is among some, is one of those of the list
 pub part_among : {T : Type 0} (D : ℕ) (ids : List ℕ) (parts : List Part) (p : Part) → Contains parts p → (r : Result T PageFault) → OnDamage r (IsPartDamage D (parts_among ids (p ∷ []))) → OnDamage r (IsPartDamage D (parts_among ids parts))

@@ -1,7 +1,8 @@
-use Rattle.std.proofs.Common.{◌<◌, ◌^◌, ◌++◌, List, ap, sym, subst, ◌∙◌}
+use Rattle.std.proofs.Common.{◌<◌, ◌^◌, ◌++◌, List, Err, ap, sym, subst, ◌∙◌}
 use Rattle.std.specs.List.{All}
 use Rattle.std.proofs.lemmas.List.{append-nil, map-append}
 use Rattle.std.proofs.lemmas.List.Elements.{All-append}
+use Rattle.std.proofs.lemmas.Result.{err_from_is_err_and}
 use Rattle.point_codec.specs.Points.{Item}
 use Rattle.point_codec.specs.Seen.{items_of}
 use Rattle.point_codec.specs.declared.entries.Entry.{Entry}
@@ -9,6 +10,7 @@ use Rattle.segment_view.specs.Parts.{part_of}
 use Rattle.segment_view.proofs.Living.{live_one, nothing_live, numbers_below}
 use Rattle.segment_view.proofs.Reading.{calm_alone}
 use Rattle.segment_view.proofs.Counting.{le_by_tree}
+use Rattle.segment_view.proofs.Shown.{read_shown}
 use Rattle.segment_view.proofs.gathering.append_live.Goals as goal
 
 pub returns-then-live_count-eq0-clause-entries : goal.returns-then-live_count-eq0-clause-entries
@@ -32,6 +34,12 @@ pub returns-in_err-more-clause-calm : goal.returns-in_err-more-clause-calm
 returns-in_err-more-clause-calm g c =
     let read = c.in_err-more.ensures in
     calm_alone g.F.Pages.told (g.F.Pages.files c.args.folder.now) (g.F.Pages.files c.read_entries.new.folder) c.args.cache.now c.read_entries.new.cache c.args.head.now.id read.files read.agrees read.others
+
+pub returns-in_err-more-clause-shown : goal.returns-in_err-more-clause-shown
+returns-in_err-more-clause-shown g c =
+    let e = err_from_is_err_and c.from_residual.result c.from_residual.ensures.1 in
+    rw (e.1, e.2)
+    (read_shown {T = Unit {0}} g.row.D c.args.head.now c.index.result.now (Err c.in_err-more.field-0.0) c.index.ensures.ranges c.index.ensures.value c.is_spelled.ensures c.in_err-more.ensures.shown)
 
 pub returns-in_err-append-clause-calm : goal.returns-in_err-append-clause-calm
 returns-in_err-append-clause-calm g c =

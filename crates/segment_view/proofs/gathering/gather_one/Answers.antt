@@ -15,7 +15,7 @@ use Rattle.segment_view.specs.Costs.{leaves_in}
 use Rattle.segment_view.specs.Calm.{IsCalm}
 use Rattle.segment_view.specs.Damages.{IsReadDamage, IsPartDamage}
 use Rattle.segment_view.proofs.Living.{live_in_one}
-use Rattle.segment_view.proofs.Reading.{among_one, shown_each}
+use Rattle.segment_view.proofs.Reading.{among_one}
 use Rattle.segment_view.proofs.gathering.gather_one.Goals as goal
 
 -- a segment whose id is one of these is read
@@ -40,7 +40,7 @@ returns g c =
       calm = subst (λ (ps : List Part). IsCalm g.F.Pages.told (g.F.Pages.files c.args.folder.now) (g.F.Pages.files c.append_live.new.folder) c.args.cache.now c.append_live.new.cache (ids_of ps)) same one.calm;
       cause = one.cause;
       shown = subst (λ (ps : List Part). OnDamage c.append_live.result (IsPartDamage g.row.D ps)) same
-          (on_damage (IsReadDamage g.row.D p.head) (IsPartDamage g.row.D (p ∷ [])) c.append_live.result (λ d h. (p, cons_head p [], h)) (shown_each g.row.D p.head c.append_live.result one.shown));
+          (on_damage (IsReadDamage g.row.D p.head) (IsPartDamage g.row.D (p ∷ [])) c.append_live.result (λ d h. (p, cons_head p [], h)) one.shown);
       damage = one.damage;
       whole = one.whole;
     }

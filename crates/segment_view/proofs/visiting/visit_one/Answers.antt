@@ -10,6 +10,7 @@ use Rattle.segment_view.proofs.Living.{live_one}
 use Rattle.segment_view.proofs.Reading.{calm_alone}
 use Rattle.segment_view.proofs.Counting.{le_by_tree, one_counted}
 use Rattle.segment_view.proofs.Hits.{hits_live}
+use Rattle.segment_view.proofs.Shown.{read_shown}
 use Rattle.segment_view.proofs.visiting.visit_one.Goals as goal
 
 pub returns-clause-found : goal.returns-clause-found
@@ -46,3 +47,6 @@ pub returns-clause-calm : goal.returns-clause-calm
 returns-clause-calm g c =
     calm_alone g.F.Pages.told (g.F.Pages.files c.args.folder.now) (g.F.Pages.files c.intersect.new.folder) c.args.cache.now c.intersect.new.cache c.args.head.now.id
     c.intersect.ensures.files c.intersect.ensures.agrees c.intersect.ensures.others
+
+pub returns-clause-shown : goal.returns-clause-shown
+returns-clause-shown g c = read_shown g.row.D c.args.head.now c.index.result.now c.intersect.result c.index.ensures.ranges c.index.ensures.value c.is_spelled.ensures c.intersect.ensures.shown

@@ -1,4 +1,4 @@
-use Rattle.std.proofs.Common.{◌++◌, ℕ, List, [], ◌∷◌, ap, sym, subst, ◌∙◌, arith, take}
+use Rattle.std.proofs.Common.{◌++◌, ℕ, List, [], ◌∷◌, Err, ap, sym, subst, ◌∙◌, arith, take}
 use Rattle.std.proofs.lemmas.List.{append_assoc}
 use Rattle.std.proofs.lemmas.List.Elements.{All-contains}
 use Rattle.std.proofs.lemmas.Result.{err_from_is_err_and}
@@ -6,10 +6,12 @@ use Rattle.inner_pack.specs.Trees.{IndexTree}
 use Rattle.segment_file.specs.Heads.{Head, count_of}
 use Rattle.bkd_reader.specs.Counts.{tested, touched}
 use Rattle.documents.specs.Entries.{numbers_found}
+use Rattle.nearest_query.proofs.Parts.{on_damage}
 use Rattle.segment_view.specs.Parts.{IsRead, part_of, ids_of, live_in_parts}
 use Rattle.segment_view.specs.Costs.{AreTested, AreTouched}
+use Rattle.segment_view.specs.Damages.{IsReadDamage, IsPartDamage}
 use Rattle.segment_view.proofs.Living.{part_in}
-use Rattle.segment_view.proofs.Reading.{calm_then, calm_more, agrees_after, id_in, shown_at}
+use Rattle.segment_view.proofs.Reading.{calm_then, calm_more, agrees_after, id_in}
 use Rattle.segment_view.proofs.Stepwise.{counted_more, counted_upto, leaves_more, leaves_upto, found_parts_more}
 use Rattle.segment_view.proofs.visiting.visit_segments.Goals as goal
 
@@ -89,9 +91,12 @@ returns-in_err-visit_one-clause-calm g c =
     (calm_more g.F.Pages.told (g.F.Pages.files c.loop-i.folder) (g.F.Pages.files c.visit_one.new.folder) c.loop-i.cache c.visit_one.new.cache (p.head.id ∷ []) (ids_of parts) (id_in parts p (part_in parts c.loop-i.i p c.part.ensures)) c.in_err-visit_one.ensures.calm)
 
 pub returns-in_err-visit_one-clause-shown : goal.returns-in_err-visit_one-clause-shown
-returns-in_err-visit_one-clause-shown g c = λ trees have.
+returns-in_err-visit_one-clause-shown g c =
     let e = err_from_is_err_and c.from_residual.result c.from_residual.ensures.1 in
-    rw (e.1, e.2) (shown_at g.row.D c.args.segments.now c.loop-i.i (part_of c.part.result.0.now c.part.result.1.now) trees c.in_err-visit_one.field-0.0 c.part.ensures have c.in_err-visit_one.ensures.shown)
+    let parts = c.args.segments.now in
+    let p = part_of c.part.result.0.now c.part.result.1.now in
+    rw (e.1, e.2)
+    (on_damage {T = Unit {0}} (IsReadDamage g.row.D p.head) (IsPartDamage g.row.D parts) (Err c.in_err-visit_one.field-0.0) (λ d h. (p, part_in parts c.loop-i.i p c.part.ensures, h)) c.in_err-visit_one.ensures.shown)
 
 pub returns-in_err-visit_one-clause-whole : goal.returns-in_err-visit_one-clause-whole
 returns-in_err-visit_one-clause-whole g c = λ told agrees es read.
