@@ -32,3 +32,4 @@ pub mod Doubted
 pub mod Lively
 pub mod Evident
 pub mod Faithful
+pub mod Viewing

@@ -2,12 +2,15 @@
 use Rattle.std.proofs.Common.{◌≡◌, ◌≤◌, ℕ, List, sym, ap, subst}
 use Rattle.std.specs.Prelude.{Contains, IsTrue}
 use Rattle.std.proofs.lemmas.Result.{err_from_is_err_and}
+use Rattle.outer_io.specs.declared.file_name.FileName.TheVariants.{Commit}
+use Rattle.outer_io.specs.Files.{bytes_of}
 use Rattle.point_codec.specs.Seen.{items_of}
 use Rattle.live_bits.specs.LiveSet.{LiveSet}
 use Rattle.page_cache.specs.declared.faults.Damage.{Damage}
 use Rattle.page_cache.specs.Evidence.{FaultShows}
 use Rattle.page_cache.proofs.Damages.{fault_weaker}
 use Rattle.commit_list.specs.declared.listed.Listed.{Listed}
+use Rattle.commit_list.specs.CommitFiles.{IsCommitFile}
 use Rattle.stored_index.specs.Segments.{places}
 use Rattle.segment_view.specs.Parts.{lives_of}
 use Rattle.segment_set.specs.Sets.{IsWell, SetData}
@@ -15,8 +18,11 @@ use Rattle.segment_set.specs.Seen.{Sees}
 use Rattle.segment_set.specs.Kept.{IsAtRest}
 use Rattle.segment_set.specs.Damages.{IsAttachDamage, IsAttachDamageOf, IsMisplaced}
 use Rattle.segment_set.specs.Opened.{IsListedDamage, IsListedDamageOf}
+use Rattle.segment_set.specs.Faithful.{IsFaithful}
 use Rattle.segment_set.proofs.Attaching.{at_rest_attached, attached_is, listed_of, listed_shown, misplaced_of, misplaced_shown, opened_heads, opened_lives, sees_attached, undefined_fault, well_attached, whole_listed, whole_placed}
+use Rattle.segment_set.proofs.Evident.{on_attach_evident}
 use Rattle.segment_set.proofs.Saving.{done_cause}
+use Rattle.segment_set.proofs.Viewing.{faithful_attached}
 use Rattle.segment_set.proofs.set.SegmentSet.attach.Goals as goal
 
 pub returns-in_err-segments-clause-whole : goal.returns-in_err-segments-clause-whole
@@ -115,5 +121,24 @@ returns-clause-commit g c =
 pub returns-clause-live : goal.returns-clause-live
 returns-clause-live g c = λ told. opened_lives (IsTrue g.F.Pages.told) (g.F.Pages.files c.args.folder.now) c.args.c.now c.in_ok-segments.segments told c.in_ok-segments.ensures.opened
 
+pub returns-clause-faithful : goal.returns-clause-faithful
+returns-clause-faithful g c = λ told.
+    let files = g.F.Pages.files c.args.folder.now in
+    subst (IsFaithful g.row.D files)
+    (sym (attached_is c.args.c.now c.in_ok-names.names c.in_ok-segments.segments c.in_ok-cache.cache _ _ _ _ _ c.leaf.ensures.value c.next-2.ensures.value c.given.ensures.value (ap items_of c.new-2.ensures.items) c.new-3.ensures.items))
+    (faithful_attached g.row.D (IsTrue g.F.Pages.told) files c.args.c.now c.in_ok-names.names c.in_ok-segments.segments c.in_ok-cache.cache c.requires told c.in_ok-segments.ensures.opened (c.in_ok-cache.ensures.agrees files))
+
 pub returns-clause-cause : goal.returns-clause-cause
 returns-clause-cause g c = done_cause (g.F.Pages.faults c.args.folder.now) (g.F.Pages.faults c.open_all.new.folder) _ c.in_ok-segments.ensures.cause.fine
+
+pub returns-in_err-segments-clause-evident : goal.returns-in_err-segments-clause-evident
+returns-in_err-segments-clause-evident g c =
+    let files = g.F.Pages.files c.args.folder.now in
+    on_attach_evident (IsTrue g.F.Pages.told × IsCommitFile (bytes_of (files Commit)) c.args.c.now) files c.args.c.now c.from_residual-in_err-segments.result (λ h. h.1)
+    (λ h. returns-in_err-segments-clause-damage g c h.0) (returns-in_err-segments-clause-shown g c)
+
+pub returns-in_err-check_numbers-clause-evident : goal.returns-in_err-check_numbers-clause-evident
+returns-in_err-check_numbers-clause-evident g c =
+    let files = g.F.Pages.files c.args.folder.now in
+    on_attach_evident (IsTrue g.F.Pages.told × IsCommitFile (bytes_of (files Commit)) c.args.c.now) files c.args.c.now c.from_residual-in_err-check_numbers.result (λ h. h.1)
+    (λ h. returns-in_err-check_numbers-clause-damage g c h.0) (returns-in_err-check_numbers-clause-shown g c)

@@ -5,9 +5,11 @@ use Rattle.documents.specs.Documents.{deleted}
 use Rattle.segment_set.specs.Sets.{IsWell, SetData, is_live_in, set_but}
 use Rattle.segment_set.specs.Seen.{Sees}
 use Rattle.segment_set.specs.Kept.{Follows}
+use Rattle.segment_set.specs.Faithful.{IsFaithful}
 use Rattle.segment_set.proofs.Buffered.{ordered_items}
 use Rattle.segment_set.proofs.Carried.{follows_cleared}
 use Rattle.segment_set.proofs.Changed.{live_either, live_seen, live_without, sees_but, set_but_is}
+use Rattle.segment_set.proofs.Faithful.{faithful_but}
 use Rattle.segment_set.proofs.Sizes.{entry_fits}
 use Rattle.segment_set.proofs.Well.{well_but}
 use Rattle.segment_set.proofs.set.SegmentSet.delete.Given as given
@@ -61,6 +63,9 @@ returns-clause-live g c files i seen =
 
 pub returns-clause-alone : goal.returns-clause-alone
 returns-clause-alone g c = whole g c
+
+pub returns-clause-faithful : goal.returns-clause-faithful
+returns-clause-faithful g c files keeps = subst (IsFaithful g.row.D files) (sym (whole g c)) (faithful_but g.row.D files c.args.doc c.args.self.now keeps)
 
 pub returns-clause-dead : goal.returns-clause-dead
 returns-clause-dead g c = ap is_live_in (whole g c) ∙ live_without c.args.doc c.args.self.now

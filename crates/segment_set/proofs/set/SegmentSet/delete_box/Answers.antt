@@ -1,5 +1,6 @@
 -- The hits of a visit are taken out.
 use Rattle.std.proofs.Common.{◌≡◌, ℕ, List, length, refl, sym, ap, subst, ◌∙◌}
+use Rattle.std.specs.Prelude.{IsTrue}
 use Rattle.std.proofs.lemmas.Result.{err_from_is_err_and}
 use Rattle.point_codec.specs.Points.{Region, in_box}
 use Rattle.cell_relate.specs.Boxes.{Asked, crosses}
@@ -15,7 +16,9 @@ use Rattle.segment_set.proofs.Saving.{done_cause}
 use Rattle.segment_set.specs.Sets.{SetData}
 use Rattle.file_names.specs.Names.{is_named}
 use Rattle.segment_file.specs.Damages.{IsLeafDamageOf}
-use Rattle.nearest_query.specs.Segments.{IsSegmentDamage}
+use Rattle.segment_view.specs.Damages.{IsPartDamage}
+use Rattle.segment_set.specs.Faithful.{IsFaithful}
+use Rattle.segment_set.specs.Evidence.{IsEvident}
 use Rattle.segment_set.proofs.set.SegmentSet.delete_box.Goals as goal
 
 pub returns-in_err-hits-clause-reads : goal.returns-in_err-hits-clause-reads
@@ -92,12 +95,26 @@ returns-in_err-hits-clause-cause g c =
     same_cause (g.F.Pages.faults c.args.folder.now) (g.F.Pages.faults c.visit.new.folder) c.in_err-hits.field-0.0 c.from_residual.result c.from_residual.ensures.1 c.in_err-hits.ensures.cause
 
 pub returns-in_err-hits-clause-shown : goal.returns-in_err-hits-clause-shown
-returns-in_err-hits-clause-shown g c = λ trees have.
-    same_damage (IsSegmentDamage g.row.D (heads_of c.args.self.now.parts) trees) c.in_err-hits.field-0.0 c.from_residual.result c.from_residual.ensures.1 (c.in_err-hits.ensures.shown trees have)
+returns-in_err-hits-clause-shown g c =
+    same_damage (IsPartDamage g.row.D c.args.self.now.parts) c.in_err-hits.field-0.0 c.from_residual.result c.from_residual.ensures.1 c.in_err-hits.ensures.shown
 
 pub returns-in_err-hits-clause-damage : goal.returns-in_err-hits-clause-damage
 returns-in_err-hits-clause-damage g c = λ told agrees.
     same_damage (IsLeafDamageOf (g.F.Pages.files c.args.folder.now)) c.in_err-hits.field-0.0 c.from_residual.result c.from_residual.ensures.1 (c.in_err-hits.ensures.damage told agrees)
+
+pub returns-in_err-hits-clause-faithful : goal.returns-in_err-hits-clause-faithful
+returns-in_err-hits-clause-faithful g c = λ told keeps. c.visit.ensures.faithful told keeps
+
+pub returns-in_err-hits-clause-evident : goal.returns-in_err-hits-clause-evident
+returns-in_err-hits-clause-evident g c =
+    same_damage (IsEvident (IsTrue g.F.Pages.told × IsFaithful g.row.D (g.F.Pages.files c.args.folder.now) c.args.self.now) (g.F.Pages.files c.visit.new.folder))
+    c.in_err-hits.field-0.0 c.from_residual.result c.from_residual.ensures.1 c.in_err-hits.ensures.evident
+
+pub returns-in_default-clause-faithful : goal.returns-in_default-clause-faithful
+returns-in_default-clause-faithful g c = λ told keeps. c.visit.ensures.faithful told keeps
+
+pub returns-in_default-clause-evident : goal.returns-in_default-clause-evident
+returns-in_default-clause-evident g c = tt
 
 pub returns-in_default-clause-seen : goal.returns-in_default-clause-seen
 returns-in_default-clause-seen g c = λ told i seen. tt
@@ -116,7 +133,7 @@ pub returns-in_default-clause-whole : goal.returns-in_default-clause-whole
 returns-in_default-clause-whole g c = λ told i seen. tt
 
 pub returns-in_default-clause-shown : goal.returns-in_default-clause-shown
-returns-in_default-clause-shown g c = λ trees have. tt
+returns-in_default-clause-shown g c = tt
 
 pub returns-in_default-clause-damage : goal.returns-in_default-clause-damage
 returns-in_default-clause-damage g c = λ told agrees. tt
@@ -149,7 +166,13 @@ pub returns-clause-whole : goal.returns-clause-whole
 returns-clause-whole g c = λ told i seen. tt
 
 pub returns-clause-shown : goal.returns-clause-shown
-returns-clause-shown g c = λ trees have. tt
+returns-clause-shown g c = tt
 
 pub returns-clause-damage : goal.returns-clause-damage
 returns-clause-damage g c = λ told agrees. tt
+
+pub returns-clause-faithful : goal.returns-clause-faithful
+returns-clause-faithful g c = λ told keeps. c.delete_all.ensures.faithful (g.F.Pages.files c.visit.new.folder) (c.visit.ensures.faithful told keeps)
+
+pub returns-clause-evident : goal.returns-clause-evident
+returns-clause-evident g c = tt

@@ -2,18 +2,19 @@
 use Rattle.std.proofs.Common.{◌≡◌, ℕ, List, sym, ap, subst, ◌∙◌, lit<}
 use Rattle.point_codec.specs.Points.{Item}
 use Rattle.point_codec.specs.Seen.{items_of}
-use Rattle.inner_pack.specs.Trees.{IndexTree}
 use Rattle.page_cache.specs.Cache.{Agrees}
 use Rattle.page_cache.specs.Evidence.{OnDamage}
 use Rattle.documents.specs.NearestEntries.{IsNearest, nears_of}
-use Rattle.nearest_query.specs.Segments.{AreNearLeaves, HaveTrees, IsSegmentDamage, bound_of}
+use Rattle.nearest_query.specs.Segments.{AreNearLeaves, bound_of}
 use Rattle.script_lang.specs.Seen.{viewed}
 use Rattle.segment_view.specs.Parts.{AreRead, Part, heads_of}
+use Rattle.segment_view.specs.Damages.{IsPartDamage}
 use Rattle.index_model.specs.State.{Index}
 use Rattle.segment_set.specs.Sets.{SetData, buffer_at, parts_at, viewed_buffer, viewed_parts}
 use Rattle.segment_set.specs.Seen.{Sees, entries_seen}
 use Rattle.segment_set.proofs.Sizes.{entry_fits, point_fits}
 use Rattle.segment_set.proofs.Viewed.{looked_buffer, looked_nearest, looked_parts, looked_read, looked_sees, looked_well, viewed_read}
+use Rattle.segment_set.proofs.Viewing.{looked_evident, looked_faithful}
 use Rattle.segment_set.proofs.set.SegmentSet.nearest.Given as given
 use Rattle.segment_set.proofs.set.SegmentSet.nearest.Goals as goal
 
@@ -63,6 +64,12 @@ pub returns-clause-whole : goal.returns-clause-whole
 returns-clause-whole g c told i seen =
     c.nearest.ensures.whole told (agreed g c i seen) seen.contents (looked_read _ _ _ i _ _ (parts_are g c) seen)
 
+pub returns-clause-faithful : goal.returns-clause-faithful
+returns-clause-faithful g c told keeps = looked_faithful g.row.D _ _ _ _ _ _ _ c.self.view_is c.nearest.ensures.calm told keeps
+
 pub returns-clause-shown : goal.returns-clause-shown
-returns-clause-shown g c =
-    subst (λ (ps : List Part). (trees : ℕ → IndexTree) → HaveTrees g.row.D (heads_of ps) trees → OnDamage c.nearest.result (IsSegmentDamage g.row.D (heads_of ps) trees)) (parts_are g c) c.nearest.ensures.shown
+returns-clause-shown g c = subst (λ (ps : List Part). OnDamage c.nearest.result (IsPartDamage g.row.D ps)) (parts_are g c) c.nearest.ensures.shown
+
+pub returns-clause-evident : goal.returns-clause-evident
+returns-clause-evident g c =
+    looked_evident g.row.D _ _ _ _ _ (viewed c.args.view.now) c.view_of.result.0.now _ _ c.nearest.result c.self.view_is (parts_are g c) c.nearest.ensures.calm c.nearest.ensures.shown c.nearest.ensures.damage

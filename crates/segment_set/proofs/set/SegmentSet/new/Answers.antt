@@ -7,7 +7,9 @@ use Rattle.file_names.specs.Names.{NameList, is_named}
 use Rattle.file_names.proofs.Listed.{is_named-none}
 use Rattle.segment_set.specs.Sets.{IsWell, SetData}
 use Rattle.segment_set.specs.Seen.{Sees}
+use Rattle.segment_set.specs.Faithful.{IsFaithful}
 use Rattle.segment_set.proofs.Empty.{empty_is, empty_set, sees_empty, well_empty}
+use Rattle.segment_set.proofs.Viewing.{faithful_empty}
 use Rattle.segment_set.proofs.set.SegmentSet.new.Given as given
 use Rattle.segment_set.proofs.set.SegmentSet.new.Goals as goal
 
@@ -25,3 +27,7 @@ pub returns-clause-seen : goal.returns-clause-seen
 returns-clause-seen g c files =
     subst (λ (s : SetData). Sees g.row.D files s (new_index g.row.D c.args.leaf)) (sym (fields g c))
     (sees_empty g.row.D c.args.leaf c.new.result c.in_ok-new.field-0 files (c.in_ok-new.ensures.agrees files))
+
+pub returns-clause-faithful : goal.returns-clause-faithful
+returns-clause-faithful g c files =
+    subst (IsFaithful g.row.D files) (sym (fields g c)) (faithful_empty g.row.D c.args.leaf c.new.result c.in_ok-new.field-0 files (c.in_ok-new.ensures.agrees files))

@@ -6,7 +6,9 @@ use Rattle.point_codec.specs.Seen.{items_of}
 use Rattle.index_model.specs.State.{Snapshot}
 use Rattle.segment_set.specs.Sets.{IsWell, SetData}
 use Rattle.segment_set.specs.Seen.{Sees}
+use Rattle.segment_set.specs.Faithful.{IsFaithful}
 use Rattle.segment_set.proofs.Snapped.{released_is, sees_released, set_released, well_released}
+use Rattle.segment_set.proofs.Viewing.{faithful_released}
 use Rattle.segment_set.proofs.set.SegmentSet.release.Given as given
 use Rattle.segment_set.proofs.set.SegmentSet.release.Goals as goal
 
@@ -38,6 +40,9 @@ pub returns-clause-seen : goal.returns-clause-seen
 returns-clause-seen g c files i seen =
     subst (λ (s : SetData). Sees g.row.D files s (record i { snapshots = filter (λ (t : Snapshot). not (bytes_eq t.name c.args.name.now)) i.snapshots })) (sym (whole g c))
     (sees_released g.row.D files c.args.self.now i c.args.name.now seen)
+
+pub returns-clause-faithful : goal.returns-clause-faithful
+returns-clause-faithful g c files keeps = subst (IsFaithful g.row.D files) (sym (whole g c)) (faithful_released g.row.D files c.args.self.now c.args.name.now keeps)
 
 pub returns-clause-kept : goal.returns-clause-kept
 returns-clause-kept g c = whole g c

@@ -8,6 +8,7 @@ use Rattle.file_names.specs.Names.{NameList}
 use Rattle.segment_set.specs.Sets.{IsWell, SetData}
 use Rattle.segment_set.proofs.Well.{well_cache}
 use Rattle.segment_set.proofs.Sweeping.{names_but, sees_swept, swept_removed, swept_torn, well_swept}
+use Rattle.segment_set.proofs.Viewing.{faithful_swept}
 use Rattle.segment_set.proofs.set.SegmentSet.remove_file.Goals as goal
 
 pub invariant_of-self : goal.invariant_of-self
@@ -72,3 +73,17 @@ returns-clause-swept g c =
 
 pub returns-clause-names : goal.returns-clause-names
 returns-clause-names g c = c.remove-2.ensures.names ∙ ap (λ (u : SetData). filter (λ (n : FileName). not (same_name n c.args.name.now)) u.names.names) c.self.view_is
+
+pub returns-in_err-remove-clause-faithful : goal.returns-in_err-remove-clause-faithful
+returns-in_err-remove-clause-faithful g c = λ told keeps.
+    let files = g.F.Pages.files c.args.folder.now in
+    faithful_swept g.row.D c.args.self.now _ c.args.name.now files (g.F.Pages.files c.remove.new.self) c.requires.unneeded c.forget.ensures.gone (c.in_err-remove.ensures.others told)
+    (c.forget.ensures.agrees files (subst (λ (u : SetData). Agrees files u.cache) (sym c.self.view_is) keeps.pages))
+    (ap (λ (u : SetData). u.parts) c.self.view_is) (ap (λ (u : SetData). u.snapshots) c.self.view_is) keeps
+
+pub returns-clause-faithful : goal.returns-clause-faithful
+returns-clause-faithful g c = λ told keeps.
+    let files = g.F.Pages.files c.args.folder.now in
+    faithful_swept g.row.D c.args.self.now _ c.args.name.now files (g.F.Pages.files c.remove.new.self) c.requires.unneeded c.forget.ensures.gone (c.in_ok-remove.ensures.others told)
+    (c.forget.ensures.agrees files (subst (λ (u : SetData). Agrees files u.cache) (sym c.self.view_is) keeps.pages))
+    (ap (λ (u : SetData). u.parts) c.self.view_is) (ap (λ (u : SetData). u.snapshots) c.self.view_is) keeps

@@ -19,6 +19,8 @@ use Rattle.segment_set.specs.Sets.{BegunMerge, pins_of, sizes_of}
 use Rattle.segment_set.specs.Kept.{Follows, IsCommitOf}
 use Rattle.segment_set.specs.Damages.{IsDoubt, IsMergeDamage, IsMergeDamageOf}
 use Rattle.segment_set.specs.Saved.{IsSaved}
+use Rattle.segment_set.specs.Faithful.{IsFaithful}
+use Rattle.segment_set.specs.Evidence.{IsEvident}
 use Rattle.segment_set.proofs.Carried.{keeps_then, stays_then}
 use Rattle.segment_set.proofs.Saving.{all_fresh, all_written, canon_saved, cause_after, if_ok_both, if_ok_map, no_damage, ok_always, saved_is_stored, sees_saved, stays_saved, well_saved}
 use Rattle.segment_set.proofs.Refused.{never_ok, never_value, same_cause, same_damage}
@@ -158,6 +160,14 @@ pub returns-in_err-flush-clause-damage : goal.returns-in_err-flush-clause-damage
 returns-in_err-flush-clause-damage g c = λ told agrees.
     same_damage (IsMergeDamageOf (g.F.Pages.files c.flush.new.folder) c.args.self.now.given) c.in_err-flush.field-0.0 c.from_residual.result c.from_residual.ensures.1 (c.in_err-flush.ensures.damage told agrees)
 
+pub returns-in_err-flush-clause-faithful : goal.returns-in_err-flush-clause-faithful
+returns-in_err-flush-clause-faithful g c = λ told keeps. c.in_err-flush.ensures.faithful told keeps
+
+pub returns-in_err-flush-clause-evident : goal.returns-in_err-flush-clause-evident
+returns-in_err-flush-clause-evident g c =
+    same_damage (IsEvident (IsTrue g.F.Pages.told × IsFaithful g.row.D (g.F.Pages.files c.args.folder.now) c.args.self.now) (g.F.Pages.files c.flush.new.folder))
+    c.in_err-flush.field-0.0 c.from_residual.result c.from_residual.ensures.1 c.in_err-flush.ensures.evident
+
 pub returns-in_err-flush-clause-saved : goal.returns-in_err-flush-clause-saved
 returns-in_err-flush-clause-saved g c = never_value _ c.from_residual.result c.from_residual.ensures.1 _
 
@@ -178,3 +188,10 @@ returns-clause-saved g c = c.list_segments.ensures.saved
 
 pub returns-clause-commit : goal.returns-clause-commit
 returns-clause-commit g c = c.list_segments.ensures.commit
+
+pub returns-clause-faithful : goal.returns-clause-faithful
+returns-clause-faithful g c = λ told keeps. c.list_segments.ensures.faithful told (c.in_ok-flush.ensures.faithful told keeps)
+
+pub returns-clause-evident : goal.returns-clause-evident
+returns-clause-evident g c =
+    no_damage c.list_segments.result (IsEvident (IsTrue g.F.Pages.told × IsFaithful g.row.D (g.F.Pages.files c.args.folder.now) c.args.self.now) (g.F.Pages.files c.list_segments.new.folder)) c.list_segments.ensures.whole

@@ -3,7 +3,9 @@ use Rattle.std.proofs.Common.{◌≡◌, ◌<◌, ◌++◌, [], ◌∷◌, sym, 
 use Rattle.point_codec.specs.Seen.{items_of}
 use Rattle.segment_set.specs.Sets.{IsWell, SetData}
 use Rattle.segment_set.specs.Seen.{Sees}
+use Rattle.segment_set.specs.Faithful.{IsFaithful}
 use Rattle.segment_set.proofs.Snapped.{sees_snapped, set_snapped, snapped_is, well_snapped}
+use Rattle.segment_set.proofs.Viewing.{faithful_snapped}
 use Rattle.segment_set.proofs.set.SegmentSet.snapshot.Given as given
 use Rattle.segment_set.proofs.set.SegmentSet.snapshot.Goals as goal
 
@@ -36,3 +38,7 @@ pub returns-clause-seen : goal.returns-clause-seen
 returns-clause-seen g c files i seen =
     subst (λ (s : SetData). Sees g.row.D files s (record i { snapshots = i.snapshots ++ record { name = c.args.name; docs = i.docs } ∷ [] })) (sym (fields g c ∙ ap (set_snapped c.args.name) c.self.view_is))
     (sees_snapped g.row.D files c.args.self.now i c.args.name seen)
+
+pub returns-clause-faithful : goal.returns-clause-faithful
+returns-clause-faithful g c files keeps =
+    subst (IsFaithful g.row.D files) (sym (fields g c ∙ ap (set_snapped c.args.name) c.self.view_is)) (faithful_snapped g.row.D files c.args.self.now c.args.name keeps)

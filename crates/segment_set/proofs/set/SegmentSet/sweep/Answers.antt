@@ -9,6 +9,7 @@ use Rattle.segment_set.proofs.set.SegmentSet.sweep.Goals as goal
 pub names-init : goal.names-init
 names-init g c = record {
   seen = λ told i seen. seen;
+  faithful = λ told keeps. keeps;
   swept = swept_none (IsTrue g.F.Pages.told) c.args.self.now (g.F.Pages.files c.args.folder.now);
   front = λ k saved. All-nil (IsNeeded c.args.self.now k);
   reads = refl;
@@ -21,6 +22,7 @@ names-preserved g c =
     let one = c.in_ok-place.ensures in
     record {
       seen = λ told i seen. one.seen told i (was.seen told i seen);
+      faithful = λ told keeps. one.faithful told (was.faithful told keeps);
       swept = swept_then (IsTrue g.F.Pages.told) c.args.self.now c.names.self c.sweep_at.new.self (g.F.Pages.files c.args.folder.now) (g.F.Pages.files c.names.folder) (g.F.Pages.files c.sweep_at.new.folder) was.swept one.swept;
       front = λ k saved.
           front_before c.args.self.now c.names.self k (take c.in_ok-place.place c.sweep_at.new.self.names.names) was.swept.alone
@@ -28,6 +30,12 @@ names-preserved g c =
       reads = one.unread ∙ was.reads;
       faults = one.cause.fine ∙ was.faults;
     }
+
+pub returns-clause-faithful : goal.returns-clause-faithful
+returns-clause-faithful g c = λ told keeps. c.names.invariant.faithful told keeps
+
+pub returns-in_err-place-clause-faithful : goal.returns-in_err-place-clause-faithful
+returns-in_err-place-clause-faithful g c = λ told keeps. c.in_err-place.ensures.faithful told (c.names.invariant.faithful told keeps)
 
 pub returns-clause-swept : goal.returns-clause-swept
 returns-clause-swept g c = λ k saved m there.

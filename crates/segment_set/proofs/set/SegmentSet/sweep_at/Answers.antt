@@ -23,3 +23,12 @@ returns-clause-front g c = λ k saved all.
 pub returns-clause-next : goal.returns-clause-next
 returns-clause-next g c =
     shorter_at c.args.self.now.names.names c.remove_file.new.self.names.names c.args.place c.name_at-name.result c.name_at-name.ensures.name c.in_ok-remove_file.ensures.names
+
+pub returns-then-needs-clause-faithful : goal.returns-then-needs-clause-faithful
+returns-then-needs-clause-faithful g c = λ told keeps. keeps
+
+pub returns-in_err-remove_file-clause-faithful : goal.returns-in_err-remove_file-clause-faithful
+returns-in_err-remove_file-clause-faithful g c = λ told keeps. c.in_err-remove_file.ensures.faithful told keeps
+
+pub returns-clause-faithful : goal.returns-clause-faithful
+returns-clause-faithful g c = λ told keeps. c.in_ok-remove_file.ensures.faithful told keeps
