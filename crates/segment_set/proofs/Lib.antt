@@ -33,3 +33,4 @@ pub mod Lively
 pub mod Evident
 pub mod Faithful
 pub mod Viewing
+pub mod Trusted

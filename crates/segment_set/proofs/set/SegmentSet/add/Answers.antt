@@ -7,9 +7,12 @@ use Rattle.segment_set.specs.Sets.{SetData}
 use Rattle.segment_set.specs.Seen.{Sees}
 use Rattle.segment_set.specs.Kept.{AreCanonical, Follows, KeepsNamed, StaysAlone}
 use Rattle.segment_set.specs.Damages.{IsDoubt, IsMergeDamage, IsMergeDamageOf}
+use Rattle.segment_set.specs.Evidence.{IsEvident}
+use Rattle.segment_set.specs.Faithful.{IsFaithful}
 use Rattle.segment_set.proofs.Carried.{canon_named, follows_none, keeps_none, stays_none}
 use Rattle.segment_set.proofs.Changed.{full_given, index_with, not_full, parts_with, sees_with}
 use Rattle.segment_set.proofs.Refused.{add_cause, add_damage, add_memory_cause, add_memory_damage, add_memory_not_full, add_not_full, added_caused, at_error, full_cause, never_ok, never_value}
+use Rattle.segment_set.proofs.Trusted.{IsTrusted, faithful_with}
 use Rattle.segment_set.proofs.set.SegmentSet.add.Goals as goal
 
 pub returns-then-is_full-clause-seen : goal.returns-then-is_full-clause-seen
@@ -321,3 +324,30 @@ returns-clause-damage g c = λ told agrees. tt
 
 pub returns-clause-doubled : goal.returns-clause-doubled
 returns-clause-doubled g c = λ told agrees es read. tt
+
+pub returns-then-is_full-clause-faithful : goal.returns-then-is_full-clause-faithful
+returns-then-is_full-clause-faithful g c = λ told faithful. faithful
+
+pub returns-then-is_full-clause-evident : goal.returns-then-is_full-clause-evident
+returns-then-is_full-clause-evident g c = tt
+
+pub returns-in_err-make_room-clause-faithful : goal.returns-in_err-make_room-clause-faithful
+returns-in_err-make_room-clause-faithful g c = c.in_err-make_room.ensures.faithful
+
+pub returns-in_err-make_room-clause-evident : goal.returns-in_err-make_room-clause-evident
+returns-in_err-make_room-clause-evident g c =
+    add_damage (IsEvident (IsTrusted g.F.Pages.told g.row.D (g.F.Pages.files c.args.folder.now) c.args.self.now) (g.F.Pages.files c.make_room.new.folder)) c.in_err-make_room.field-0.0 c.from_residual.result c.from_residual.ensures.1 c.in_err-make_room.ensures.evident
+
+pub returns-in_err-put-clause-faithful : goal.returns-in_err-put-clause-faithful
+returns-in_err-put-clause-faithful g c = λ told faithful. subst (IsFaithful g.row.D (g.F.Pages.files c.make_room.new.folder)) (sym c.in_err-put.ensures.refused) (c.in_ok-make_room.ensures.faithful told faithful)
+
+pub returns-in_err-put-clause-evident : goal.returns-in_err-put-clause-evident
+returns-in_err-put-clause-evident g c = add_memory_damage (IsEvident (IsTrusted g.F.Pages.told g.row.D (g.F.Pages.files c.args.folder.now) c.args.self.now) (g.F.Pages.files c.make_room.new.folder)) c.from_residual-in_err-put.result c.from_residual-in_err-put.ensures.1
+
+pub returns-clause-faithful : goal.returns-clause-faithful
+returns-clause-faithful g c = λ told faithful.
+    subst (IsFaithful g.row.D (g.F.Pages.files c.make_room.new.folder)) (sym c.in_ok-put.ensures.put)
+    (faithful_with g.row.D (g.F.Pages.files c.make_room.new.folder) c.args.points.now c.make_room.new.self (c.in_ok-make_room.ensures.faithful told faithful))
+
+pub returns-clause-evident : goal.returns-clause-evident
+returns-clause-evident g c = tt

@@ -104,3 +104,15 @@ returns-clause-damage g c = c.flush.ensures.damage
 
 pub returns-clause-doubled : goal.returns-clause-doubled
 returns-clause-doubled g c = c.flush.ensures.doubled
+
+pub returns-then-has_room-clause-faithful : goal.returns-then-has_room-clause-faithful
+returns-then-has_room-clause-faithful g c = λ told faithful. faithful
+
+pub returns-then-has_room-clause-evident : goal.returns-then-has_room-clause-evident
+returns-then-has_room-clause-evident g c = tt
+
+pub returns-clause-faithful : goal.returns-clause-faithful
+returns-clause-faithful g c = c.flush.ensures.faithful
+
+pub returns-clause-evident : goal.returns-clause-evident
+returns-clause-evident g c = c.flush.ensures.evident

@@ -6,7 +6,9 @@ use Rattle.segment_set.proofs.Wholes.{merged_one, settled_one}
 use Rattle.segment_set.proofs.Refused.{memory_caused, memory_damage, never_ok}
 use Rattle.segment_set.proofs.Saving.{done_cause}
 use Rattle.segment_set.specs.Damages.{IsDoubt, IsMergeDamage, IsMergeDamageOf}
+use Rattle.segment_set.specs.Evidence.{IsEvident}
 use Rattle.segment_view.specs.Parts.{live_in_parts}
+use Rattle.segment_set.proofs.Trusted.{IsTrusted}
 use Rattle.segment_set.proofs.set.SegmentSet.merge_all.Goals as goal
 
 pub returns-in_err-ids-clause-stays : goal.returns-in_err-ids-clause-stays
@@ -156,3 +158,21 @@ returns-clause-damage g c = c.merge.ensures.damage
 
 pub returns-clause-doubled : goal.returns-clause-doubled
 returns-clause-doubled g c = c.merge.ensures.doubled
+
+pub returns-in_err-ids-clause-faithful : goal.returns-in_err-ids-clause-faithful
+returns-in_err-ids-clause-faithful g c = λ told faithful. faithful
+
+pub returns-in_err-ids-clause-evident : goal.returns-in_err-ids-clause-evident
+returns-in_err-ids-clause-evident g c = memory_damage (IsEvident (IsTrusted g.F.Pages.told g.row.D (g.F.Pages.files c.args.folder.now) c.args.self.now) (g.F.Pages.files c.args.folder.now)) c.from_residual.result c.from_residual.ensures.1
+
+pub returns-then-is_settled-clause-faithful : goal.returns-then-is_settled-clause-faithful
+returns-then-is_settled-clause-faithful g c = λ told faithful. faithful
+
+pub returns-then-is_settled-clause-evident : goal.returns-then-is_settled-clause-evident
+returns-then-is_settled-clause-evident g c = tt
+
+pub returns-clause-faithful : goal.returns-clause-faithful
+returns-clause-faithful g c = c.merge.ensures.faithful
+
+pub returns-clause-evident : goal.returns-clause-evident
+returns-clause-evident g c = c.merge.ensures.evident

@@ -13,6 +13,7 @@ use Rattle.segment_set.specs.Seen.{Sees}
 use Rattle.segment_set.specs.Damages.{IsDoubt, IsMergeDamage, IsMergeDamageOf}
 use Rattle.segment_set.specs.Merged.{chosen_ids, each_once}
 use Rattle.segment_set.specs.Merges.{IsGathered, MakesLive}
+use Rattle.segment_set.specs.Evidence.{IsEvident}
 use Rattle.segment_set.proofs.Faulted.{begun_cause, begun_damage, begun_memory}
 use Rattle.segment_set.proofs.Moved.{moved}
 use Rattle.segment_set.proofs.Sizes.{set_fits}
@@ -20,6 +21,7 @@ use Rattle.segment_set.proofs.Sources.{begun_seen, begun_well, chosen_few, chose
 use Rattle.segment_set.proofs.Steps.{cached_more}
 use Rattle.segment_set.proofs.Viewed.{looked_sees}
 use Rattle.segment_set.proofs.Well.{well_cache}
+use Rattle.segment_set.proofs.Trusted.{IsTrusted, faithful_looked, on_evident_set}
 use Rattle.segment_set.proofs.set.SegmentSet.merge_begin.Given as given
 use Rattle.segment_set.proofs.set.SegmentSet.merge_begin.Goals as goal
 
@@ -144,3 +146,18 @@ returns-clause-seen g c = λ told i seen.
 
 pub returns-clause-inputs : goal.returns-clause-inputs
 returns-clause-inputs g c = (merge_of g c, refl, subst (λ (s : SetData). c.in_ok-inputs.inputs.items ≡ chosen_ids c.args.which.now (ids_of s.parts)) c.self.view_is (chosen g c))
+
+pub returns-in_err-built-clause-faithful : goal.returns-in_err-built-clause-faithful
+returns-in_err-built-clause-faithful g c =
+    faithful_looked g.row.D g.F.Pages.told (g.F.Pages.files c.args.folder.now) (g.F.Pages.files c.gathered.new.folder) (set_of c.self.inside) c.args.self.now (ids_of (parts_among c.as_slice-2.result.now c.self.inside.segments)) c.self.inside.begun c.gathered.new.cache c.self.view_is c.gathered.ensures.calm
+
+pub returns-in_err-built-clause-evident : goal.returns-in_err-built-clause-evident
+returns-in_err-built-clause-evident g c =
+    let p = err_from_is_err_and c.from_residual-in_err-built.result c.from_residual-in_err-built.ensures.1 in
+    rw (p.1, p.2)
+    (begun_damage (Unit {0}) (Unit {0}) (IsEvident (IsTrusted g.F.Pages.told g.row.D (g.F.Pages.files c.args.folder.now) c.args.self.now) (g.F.Pages.files c.gathered.new.folder)) c.in_err-built.field-0.0
+    (on_evident_set {X = Unit {0}} g.row.D g.F.Pages.told (g.F.Pages.files c.args.folder.now) (g.F.Pages.files c.gathered.new.folder) (set_of c.self.inside) c.args.self.now (Err c.in_err-built.field-0.0) c.self.view_is c.in_err-built.ensures.evident))
+
+pub returns-clause-faithful : goal.returns-clause-faithful
+returns-clause-faithful g c =
+    faithful_looked g.row.D g.F.Pages.told (g.F.Pages.files c.args.folder.now) (g.F.Pages.files c.gathered.new.folder) (set_of c.self.inside) c.args.self.now (ids_of (parts_among c.as_slice-2.result.now c.self.inside.segments)) (Some (merge_of g c)) c.gathered.new.cache c.self.view_is c.gathered.ensures.calm

@@ -1,4 +1,4 @@
-use Rattle.std.proofs.Common.{◌≡◌, ℕ, true, IsTrue, List, Option, sym, ap, subst, ◌∙◌, lit<}
+use Rattle.std.proofs.Common.{◌≡◌, ℕ, true, IsTrue, List, Option, sym, ap, subst, ◌∙◌, lit<, None, refl}
 use Rattle.std.proofs.lemmas.List.Elements.{All-contains}
 use Rattle.std.proofs.lemmas.Result.{err_from_is_err_and}
 use Rattle.point_codec.specs.Seen.{items_of}
@@ -12,6 +12,7 @@ use Rattle.segment_set.specs.Seen.{Sees}
 use Rattle.segment_set.specs.Kept.{AreCanonical, Follows, StaysAlone}
 use Rattle.segment_set.specs.Merged.{IsEnded}
 use Rattle.segment_set.specs.Merges.{Replaces, living}
+use Rattle.segment_set.specs.Faithful.{IsFaithful}
 use Rattle.segment_set.proofs.Ended.{end_canon, end_follows, end_parts, end_seen, end_stays, end_well}
 use Rattle.segment_set.proofs.Faulted.{ended_cause}
 use Rattle.segment_set.proofs.Moved.{moved}
@@ -19,6 +20,8 @@ use Rattle.segment_set.proofs.Sizes.{built_fits}
 use Rattle.segment_set.proofs.Spilled.{refused_after, some_is}
 use Rattle.segment_set.proofs.Standing.{ids_named}
 use Rattle.segment_set.proofs.Steps.{IsAfter}
+use Rattle.segment_set.proofs.Faithful.{faithful_named}
+use Rattle.segment_set.proofs.Trusted.{faithful_replaced}
 use Rattle.segment_set.proofs.set.SegmentSet.merge_end.Given as given
 use Rattle.segment_set.proofs.set.SegmentSet.merge_end.Goals as goal
 
@@ -132,3 +135,17 @@ returns-clause-canon g c = λ told.
     subst (λ (s : SetData). AreCanonical g.row.D (g.F.Pages.files c.replace.new.folder) s.names c.replace.new.segments) c.self.view_is
     (end_canon g.row.D (IsTrue g.F.Pages.told) (g.F.Pages.files c.args.folder.now) (g.F.Pages.files c.replace.new.folder) {s = set_of c.self.inside} c.replace.new.names c.replace.new.segments c.in_ok-replace.ensures.kept c.in-Some.begun c.in-Some.is (replaced g c)
     c.self.invariant told)
+
+pub returns-in_err-replace-clause-faithful : goal.returns-in_err-replace-clause-faithful
+returns-in_err-replace-clause-faithful g c = λ told faithful.
+    faithful_named g.row.D (g.F.Pages.files c.args.folder.now) (g.F.Pages.files c.replace.new.folder) (set_of c.self.inside) (moved (set_of c.self.inside) c.replace.new.names c.replace.new.segments (items_of c.self.inside.buffer.items) c.self.inside.begun c.self.inside.cache) c.self.invariant (c.in_err-replace.ensures.kept.files told) c.in_err-replace.ensures.refused refl refl
+    (subst (IsFaithful g.row.D (g.F.Pages.files c.args.folder.now)) (sym c.self.view_is) faithful)
+
+pub returns-clause-faithful : goal.returns-clause-faithful
+returns-clause-faithful g c = λ told faithful.
+    faithful_replaced g.row.D (IsTrue g.F.Pages.told) (g.F.Pages.files c.args.folder.now) (g.F.Pages.files c.replace.new.folder) (set_of c.self.inside) (moved (set_of c.self.inside) c.replace.new.names c.replace.new.segments (items_of c.self.inside.buffer.items) None c.self.inside.cache) c.self.invariant c.in_ok-replace.ensures.kept
+    (end_follows g.row.D (IsTrue g.F.Pages.told) (g.F.Pages.files c.args.folder.now) (g.F.Pages.files c.replace.new.folder) {s = set_of c.self.inside} c.replace.new.names c.replace.new.segments c.in_ok-replace.ensures.kept c.in-Some.begun c.in-Some.is (replaced g c)
+    c.self.invariant)
+    (end_canon g.row.D (IsTrue g.F.Pages.told) (g.F.Pages.files c.args.folder.now) (g.F.Pages.files c.replace.new.folder) {s = set_of c.self.inside} c.replace.new.names c.replace.new.segments c.in_ok-replace.ensures.kept c.in-Some.begun c.in-Some.is (replaced g c)
+    c.self.invariant)
+    refl refl told (subst (IsFaithful g.row.D (g.F.Pages.files c.args.folder.now)) (sym c.self.view_is) faithful)

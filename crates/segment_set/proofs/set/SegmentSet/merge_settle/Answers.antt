@@ -3,11 +3,13 @@ use Rattle.std.proofs.lemmas.Result.{err_from_is_err_and}
 use Rattle.page_cache.proofs.Damages.{on_damage_weaker}
 use Rattle.segment_view.specs.Parts.{live_in_parts, parts_among}
 use Rattle.segment_set.specs.Damages.{IsDoubt, IsMergeDamage, IsMergeDamageOf}
+use Rattle.segment_set.specs.Evidence.{IsEvident}
 use Rattle.segment_set.proofs.Chosen.{unsettled}
 use Rattle.segment_set.proofs.Rearranged.{damage_before, doubt_same, entries_none, entries_then, rearranges_none, rearranges_then}
 use Rattle.segment_set.proofs.Refused.{memory_caused, memory_damage, never_ok, same_cause, same_damage}
 use Rattle.segment_set.proofs.Saving.{cause_after, done_cause}
 use Rattle.page_cache.specs.Evidence.{OnDamage}
+use Rattle.segment_set.proofs.Trusted.{IsTrusted, on_evident_before}
 use Rattle.segment_set.proofs.set.SegmentSet.merge_settle.Goals as goal
 
 pub loop-ids-init : goal.loop-ids-init
@@ -17,6 +19,7 @@ loop-ids-init g c = record {
   buffer = refl;
   faults = refl;
   rested = λ settled. (refl, refl);
+  faithful = λ told faithful. faithful;
 }
 
 pub loop-ids-preserved : goal.loop-ids-preserved
@@ -26,6 +29,7 @@ loop-ids-preserved g c = record {
   buffer = c.merge.ensures.buffer ∙ c.loop-ids.invariant.buffer;
   faults = c.in_ok-merge.ensures.cause.fine ∙ c.loop-ids.invariant.faults;
   rested = λ settled. absurd (unsettled c.args.self.now c.loop-ids.self (c.loop-ids.invariant.rested settled).0 settled (rw c.in-Some.is at c.in_ok-ids.ensures.ten));
+  faithful = λ told faithful. c.merge.ensures.faithful told (c.loop-ids.invariant.faithful told faithful);
 }
 
 pub loop-ids-smaller : goal.loop-ids-smaller
@@ -214,3 +218,23 @@ pub returns-in_err-merge-clause-damage : goal.returns-in_err-merge-clause-damage
 returns-in_err-merge-clause-damage g c = λ told agrees.
     same_damage (IsMergeDamageOf (g.F.Pages.files c.merge.new.folder) c.args.self.now.given) c.in_err-merge.field-0.0 c.from_residual-in_err-merge.result c.from_residual-in_err-merge.ensures.1
     (subst (λ n. OnDamage {T = Unit {0}} (Err c.in_err-merge.field-0.0) (IsMergeDamageOf (g.F.Pages.files c.merge.new.folder) n)) (c.loop-ids.invariant.moves c.next_merge.ensures.well).stays.given (c.in_err-merge.ensures.damage told (c.loop-ids.invariant.entries.agrees told agrees)))
+
+pub returns-in_err-ids-clause-faithful : goal.returns-in_err-ids-clause-faithful
+returns-in_err-ids-clause-faithful g c = c.loop-ids.invariant.faithful
+
+pub returns-in_err-ids-clause-evident : goal.returns-in_err-ids-clause-evident
+returns-in_err-ids-clause-evident g c = memory_damage (IsEvident (IsTrusted g.F.Pages.told g.row.D (g.F.Pages.files c.args.folder.now) c.args.self.now) (g.F.Pages.files c.loop-ids.folder)) c.from_residual.result c.from_residual.ensures.1
+
+pub returns-in_err-merge-clause-faithful : goal.returns-in_err-merge-clause-faithful
+returns-in_err-merge-clause-faithful g c = λ told faithful. c.merge.ensures.faithful told (c.loop-ids.invariant.faithful told faithful)
+
+pub returns-in_err-merge-clause-evident : goal.returns-in_err-merge-clause-evident
+returns-in_err-merge-clause-evident g c =
+    same_damage (IsEvident (IsTrusted g.F.Pages.told g.row.D (g.F.Pages.files c.args.folder.now) c.args.self.now) (g.F.Pages.files c.merge.new.folder)) c.in_err-merge.field-0.0 c.from_residual-in_err-merge.result c.from_residual-in_err-merge.ensures.1
+    (on_evident_before {X = Unit {0}} g.row.D g.F.Pages.told (g.F.Pages.files c.args.folder.now) (g.F.Pages.files c.loop-ids.folder) (g.F.Pages.files c.merge.new.folder) c.args.self.now c.loop-ids.self (Err c.in_err-merge.field-0.0) c.loop-ids.invariant.faithful c.in_err-merge.ensures.evident)
+
+pub returns-clause-faithful : goal.returns-clause-faithful
+returns-clause-faithful g c = c.loop-ids.invariant.faithful
+
+pub returns-clause-evident : goal.returns-clause-evident
+returns-clause-evident g c = tt

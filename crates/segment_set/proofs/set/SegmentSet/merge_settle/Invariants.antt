@@ -1,6 +1,7 @@
 use Rattle.std.proofs.Common.{◌≡◌, IsTrue, length}
 use Rattle.segment_set.specs.Sets.{IsSettled, IsWell}
 use Rattle.segment_set.specs.Merged.{KeepsEntries, Rearranges}
+use Rattle.segment_set.specs.Faithful.{IsFaithful}
 use Rattle.segment_set.proofs.set.SegmentSet.merge_settle.Given as goal
 
 abbrev pub invariant-loop-ids : goal.invariant-loop-ids
@@ -10,6 +11,7 @@ invariant-loop-ids g l = record {
   buffer : l.self.buffer ≡ l.initial.self.buffer;
   faults : g.F.Pages.faults l.folder ≡ g.F.Pages.faults l.initial.folder;
   rested : IsSettled l.initial.self → (l.self ≡ l.initial.self) × (g.F.Pages.reads l.folder ≡ g.F.Pages.reads l.initial.folder);
+  faithful : IsTrue g.F.Pages.told → IsFaithful g.row.D (g.F.Pages.files l.initial.folder) l.initial.self → IsFaithful g.row.D (g.F.Pages.files l.folder) l.self;
 }
 
 -- each merge takes the place of two segments at least

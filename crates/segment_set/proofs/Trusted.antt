@@ -1,0 +1,57 @@
+-- What a set keeps of its files after calls that merge and add, and what is evident of a set.
+use Rattle.std.proofs.Common.{◌≡◌, ℕ, Bool, IsTrue, List, Option, Result, ℤ, refl, sym, subst}
+use Rattle.std.specs.List.{All}
+use Rattle.outer_io.specs.Files.{Files}
+use Rattle.page_cache.specs.declared.cache.PageCache.{PageCache}
+use Rattle.page_cache.specs.declared.faults.PageFault.{PageFault}
+use Rattle.page_cache.specs.Cache.{Agrees}
+use Rattle.page_cache.specs.Evidence.{OnDamage}
+use Rattle.segment_view.specs.Calm.{IsCalm}
+use Rattle.segment_set.specs.Sets.{BegunMerge, IsWell, SetData, set_with}
+use Rattle.segment_set.specs.Kept.{AreCanonical, Follows, KeepsNamed}
+use Rattle.segment_set.specs.Evidence.{IsEvident}
+use Rattle.segment_set.specs.Faithful.{HasFileHead, IsFaithful}
+use Rattle.segment_set.proofs.Evident.{on_evident_less}
+use Rattle.segment_set.proofs.Faithful.{faithful_named, faithful_parts}
+
+-- the files are told, and what the set keeps of them is theirs
+abbrev pub IsTrusted : (told : Bool) (D : ℕ) → Files → SetData → Type 0
+IsTrusted told D files s = IsTrue told × IsFaithful D files s
+
+-- ---- what stays theirs
+
+-- what was built took the place of segments, or a refusal left them, and the cache stays
+pub faithful_replaced : (D : ℕ) (told : Type 0) (f g : Files) (s t : SetData) → IsWell D s → KeepsNamed told s.names t.names f g → Follows s.names s.parts t.parts → (told → AreCanonical D g s.names t.parts)
+    → t.snapshots ≡ s.snapshots → t.cache ≡ s.cache → told → IsFaithful D f s → IsFaithful D g t
+faithful_replaced D told f g s t well kept follows canon snapshots cache is_told faithful =
+    let others = faithful_named D f g s (record t { parts = s.parts }) well (kept.files is_told) refl snapshots cache faithful in
+    record {
+      pages = others.pages;
+      heads = faithful_parts D f g s.names s.parts t.parts well.named (kept.files is_told) follows (canon is_told) faithful.heads;
+      kept = others.kept;
+    }
+
+-- a call that looks at segments, and may begin a merge. `s` is the set as its fields have it, `t` as the caller sees it
+pub faithful_looked : (D : ℕ) (told : Bool) (f g : Files) (s t : SetData) (ids : List ℕ) (begun : Option BegunMerge) (cache : PageCache) → s ≡ t → IsCalm told f g s.cache cache ids → IsTrue told → IsFaithful D f t
+    → IsFaithful D g (record s { begun = begun; cache = cache })
+faithful_looked D told f g s t ids begun cache same calm is_told faithful =
+    let was = subst (IsFaithful D f) (sym same) faithful in
+    subst (λ (h : Files). IsFaithful D h (record s { begun = begun; cache = cache })) (sym (calm.files is_told))
+    (record { pages = calm.agrees is_told was.pages; heads = was.heads; kept = was.kept })
+
+-- a document was added
+pub faithful_with : (D : ℕ) (files : Files) (points : List (List ℤ)) (s : SetData) → IsFaithful D files s → IsFaithful D files (set_with points s)
+faithful_with D files points s faithful = record { pages = faithful.pages; heads = faithful.heads; kept = faithful.kept }
+
+-- ---- what a damage shows
+
+-- what is evident of the cache and the segments of now is so of the set
+pub on_evident_set : {X : Type 0} (D : ℕ) (told : Bool) (f g : Files) (s t : SetData) (r : Result X PageFault) → s ≡ t → OnDamage r (IsEvident (IsTrue told × Agrees f s.cache × All (HasFileHead D f) s.parts) g)
+    → OnDamage r (IsEvident (IsTrusted told D f t) g)
+on_evident_set D told f g s t r same = on_evident_less (IsTrue told × Agrees f s.cache × All (HasFileHead D f) s.parts) (IsTrusted told D f t) g r
+    (λ trusted. let was = subst (IsFaithful D f) (sym same) trusted.1 in (trusted.0, was.pages, was.heads))
+
+-- and of a set before from which what is kept stays theirs
+pub on_evident_before : {X : Type 0} (D : ℕ) (told : Bool) (f g h : Files) (s t : SetData) (r : Result X PageFault) → (IsTrue told → IsFaithful D f s → IsFaithful D g t) → OnDamage r (IsEvident (IsTrusted told D g t) h)
+    → OnDamage r (IsEvident (IsTrusted told D f s) h)
+on_evident_before D told f g h s t r stays = on_evident_less (IsTrusted told D g t) (IsTrusted told D f s) h r (λ trusted. (trusted.0, stays trusted.0 trusted.1))
