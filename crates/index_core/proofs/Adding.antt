@@ -12,10 +12,11 @@ use Rattle.std.proofs.lemmas.List.Elements.{All-head}
 use Rattle.std.proofs.lemmas.List.Sums.{fold-append}
 use Rattle.std.proofs.lemmas.List.{length-append, length-map, length-take-le, map-append, take_all, take_more}
 use Rattle.outer_io.specs.Files.{Files}
+use Rattle.page_cache.specs.declared.faults.Damage.{Damage}
 use Rattle.page_cache.specs.declared.faults.PageFault.{PageFault}
 use Rattle.page_cache.specs.declared.faults.PageFault.TheVariants as page
 use Rattle.page_cache.specs.Causes.{HasPageCause}
-use Rattle.page_cache.specs.Evidence.{NotDamaged}
+use Rattle.page_cache.specs.Evidence.{NotDamaged, OnDamage}
 use Rattle.point_codec.specs.Order.{in_order}
 use Rattle.point_codec.specs.Points.{ordered}
 use Rattle.point_codec.specs.Seen.{coordinates_of}
@@ -29,7 +30,10 @@ use Rattle.segment_view.specs.Parts.{Part}
 use Rattle.segment_set.specs.Sets.{IsNamed, SetData}
 use Rattle.segment_set.specs.Seen.{Sees}
 use Rattle.segment_set.specs.Kept.{AreCanonical, Follows, KeepsNamed, StaysButCache}
+use Rattle.segment_set.specs.Evidence.{IsEvident}
+use Rattle.segment_set.specs.Faithful.{IsFaithful}
 use Rattle.segment_set.proofs.Carried.{follows_same, keeps_calm}
+use Rattle.segment_set.proofs.Evident.{on_evident_less}
 use Rattle.segment_set.specs.Faults.{HasCauseOf, OnAddDamage}
 use Rattle.segment_set.specs.declared.faults.AddFault.{AddFault}
 use Rattle.segment_set.specs.declared.faults.AddFault.TheVariants as add
@@ -49,6 +53,8 @@ adds_none D told at x = record {
   canon = λ t. brings_same D at.files at.files at.session.set.parts at.session.set.parts refl refl;
   cause = no_cause at.faults x;
   whole = λ t i seen. tt;
+  faithful = λ t faithful. faithful;
+  evident = tt;
 }
 
 -- for want of memory nothing is
@@ -61,6 +67,8 @@ adds_no_memory D told points at = record {
   canon = λ t. brings_same D at.files at.files at.session.set.parts at.session.set.parts refl refl;
   cause = memory_cause at.faults at.faults (omega arith);
   whole = λ t i seen. tt;
+  faithful = λ t faithful. faithful;
+  evident = tt;
 }
 
 on_ok_map : {T E P Q : Type 0} (r : Result T E) → (P → Q) → OnOk r P → OnOk r Q
@@ -78,6 +86,8 @@ adds_then D told xs ys a b c x r first second = record {
   canon = λ t. brings_then D a.files b.files c.files a.session.set.parts b.session.set.parts c.session.set.parts (first.canon t) (second.canon t);
   cause = cause_then a.faults b.faults c.faults r first.cause.fine second.cause;
   whole = λ t i seen. second.whole t (with_points i xs) (first.seen t i seen);
+  faithful = λ t faithful. second.faithful t (first.faithful t faithful);
+  evident = on_evident_less (told × IsFaithful D b.files b.session.set) (told × IsFaithful D a.files a.session.set) c.files r (λ (t, faithful). (t, first.faithful t faithful)) second.evident;
 }
 
 -- after a fault it says the same of all that were to come
@@ -91,6 +101,8 @@ adds_stopped {T = T} {U = U} D told xs ys a b fault r is adds = subst (Adds D to
   canon = adds.canon;
   cause = fault_to a.faults b.faults fault adds.cause;
   whole = λ t i seen. to_other fault (adds.whole t i seen);
+  faithful = adds.faithful;
+  evident = adds.evident;
 })
   where
     to_other : (f : PageFault) → NotDamaged {T = T} (Err f) → NotDamaged {T = U} (Err f)
@@ -112,6 +124,8 @@ pub record IsPut (D : ℕ) (told : Type 0) (point : List ℤ) (old new : Spot) (
   pub given : OnOk r (new.session.set.given ≡ old.session.set.given + 1)
   pub cause : HasCauseOf add.Failed old.faults new.faults r
   pub whole : told → (i : Index) → Sees D old.files old.session.set i → OnAddDamage r (λ _. ⊥)
+  pub faithful : told → IsFaithful D old.files old.session.set → IsFaithful D new.files new.session.set
+  pub evident : OnAddDamage r (IsEvident (told × IsFaithful D old.files old.session.set) new.files)
 
 put_cause : (before now : ℕ) (r : Result ℕ AddFault) → HasCauseOf add.Failed before now r → HasPageCause before now (added r)
 put_cause before now (Ok n) cause = record { later = cause.later; fine = cause.fine; failed = λ e. absurd cc }
@@ -120,12 +134,12 @@ put_cause before now (Err add.Failed) cause = record { later = cause.later; fine
 put_cause before now (Err (add.Damaged d)) cause = record { later = cause.later; fine = tt; failed = λ e. absurd cc }
 put_cause before now (Err add.Memory) cause = memory_cause before now cause.later
 
-put_whole : (r : Result ℕ AddFault) → OnAddDamage r (λ _. ⊥) → NotDamaged (added r)
-put_whole (Ok n) whole = tt
-put_whole (Err add.Full) whole = tt
-put_whole (Err add.Failed) whole = tt
-put_whole (Err (add.Damaged d)) whole = whole
-put_whole (Err add.Memory) whole = tt
+put_shows : (P : Damage → Type 0) (r : Result ℕ AddFault) → OnAddDamage r P → OnDamage (added r) P
+put_shows P (Ok n) p = tt
+put_shows P (Err add.Full) p = tt
+put_shows P (Err add.Failed) p = tt
+put_shows P (Err (add.Damaged d)) p = p
+put_shows P (Err add.Memory) p = tt
 
 put_ok : (P : Type 0) (r : Result ℕ AddFault) → OnOk r P → OnOk (added r) P
 put_ok P (Ok n) p = p
@@ -142,7 +156,9 @@ adds_one D told point old new r put = record {
   kept = λ t guards. kept_after_calls D told old.files new.files old.session.set new.session.set.names t put.keeps guards.set;
   canon = λ t. brings_written D told old.files new.files old.session.set.names new.session.set.names old.session.set.parts new.session.set.parts t put.keeps put.follows (put.second t);
   cause = put_cause old.faults new.faults r put.cause;
-  whole = λ t i seen. put_whole r (put.whole t i seen);
+  whole = λ t i seen. put_shows (λ _. ⊥) r (put.whole t i seen);
+  faithful = put.faithful;
+  evident = put_shows (IsEvident (told × IsFaithful D old.files old.session.set) new.files) r put.evident;
 }
 
 -- the points of a document of one point
@@ -210,6 +226,13 @@ pub guards_cache : (D : ℕ) (told : Type 0) (f g : Files) (s u : SessionData) (
 guards_cache D told f g s u t is h stays same guards = guards_after D told f g u (record { set = t; commit = u.commit; refused = u.refused }) h refl refl
     (keeps_calm told u.set.names t.names f g (ap (λ (v : SetData). v.names) stays.is) same) (follows_same u.set.names u.set.parts t.parts (ap (λ (v : SetData). v.parts) stays.is))
     (ap (λ (v : SetData). v.leaf) stays.is) (subst (Guards D f) (sym is) guards)
+
+pub faithful_seen : (D : ℕ) (f g : Files) (s u : SessionData) (t : SetData) → u ≡ s → (IsFaithful D f u.set → IsFaithful D g t) → IsFaithful D f s.set → IsFaithful D g t
+faithful_seen D f g s u t is faithful was = faithful (subst (λ (v : SessionData). IsFaithful D f v.set) (sym is) was)
+
+pub evident_seen : {T : Type 0} (D : ℕ) (told : Type 0) (f g : Files) (s u : SessionData) (r : Result T PageFault) → u ≡ s → OnDamage r (IsEvident (told × IsFaithful D f u.set) g)
+    → OnDamage r (IsEvident (told × IsFaithful D f s.set) g)
+evident_seen D told f g s u r is evident = subst (λ (v : SessionData). OnDamage r (IsEvident (told × IsFaithful D f v.set) g)) is evident
 
 -- ---- a call that gives no name
 

@@ -37,12 +37,13 @@ returns-clause-applies g c =
     applies_is _ _ _ _ _ _ _ _ c.add_answer.ensures
     (applies_seen _ _ _ _ _ _ _ _ _ _ _ c.self.view_is
     (applies _ _ _ _ _ _
-    (record { commit = refl; refused = refl; leaf = c.add.ensures.leaf; keeps = c.add.ensures.kept; follows = c.add.ensures.follows; brings = λ told. brings_written _ _ _ _ _ _ _ _ told c.add.ensures.kept c.add.ensures.follows (c.add.ensures.canon told) })
+    (record { commit = refl; refused = refl; leaf = c.add.ensures.leaf; keeps = c.add.ensures.kept; follows = c.add.ensures.follows; brings = λ told. brings_written _ _ _ _ _ _ _ _ told c.add.ensures.kept c.add.ensures.follows (c.add.ensures.canon told); faithful = c.add.ensures.faithful })
     (λ told i seen. does_add _ _ _ _ _ i _ c.add.result _ _ seen fits full (c.add.ensures.seen told i seen) (c.add.ensures.refused told i seen)
     (c.in_ok-put_doc.ensures.ok ∙ ap (λ n. c.args.out.now.items ++ doc_text n) c.next.ensures))
     (begins_with _ _ _ c.in_ok-put_doc.ensures.ok)
     (cause_add _ _ c.add.result full c.add.ensures.cause)
-    (λ told i seen. whole_add c.add.result (c.add.ensures.whole told i seen))))
+    (λ told i seen. whole_add c.add.result (c.add.ensures.whole told i seen))
+    (add_shows _ c.add.result c.add.ensures.evident)))
 
 pub next-requires : goal.next-requires
 next-requires g c = set_fits g.row.D c.self.invariant.few

@@ -41,4 +41,6 @@ returns g c =
       given = put_given _ _ _ _ _ _ (made g c) c.add-2.ensures.given;
       cause = c.add-2.ensures.cause;
       whole = c.add-2.ensures.whole;
+      faithful = c.add-2.ensures.faithful;
+      evident = c.add-2.ensures.evident;
     })))

@@ -23,17 +23,17 @@ returns-in_err-put_deleted-clause-applies g c files faults =
 pub returns-then-delete-clause-applies : goal.returns-then-delete-clause-applies
 returns-then-delete-clause-applies g c files faults = applies_seen _ _ _ _ _ _ _ _ _ _ _ c.self.view_is
     (applies _ _ _ _ _ _
-    (calm_like _ _ _ _ _ _ _ _ _ _ _ _ (ap (λ (u : SetData). u.names) c.delete.ensures.alone) (ap (λ (u : SetData). u.leaf) c.delete.ensures.alone) c.delete.ensures.follows (λ told. refl) (λ told. brings_cleared _ files _ _ _ (ap (λ (u : SetData). u.parts) c.delete.ensures.alone)))
+    (calm_like _ _ _ _ _ _ _ _ _ _ _ _ (ap (λ (u : SetData). u.names) c.delete.ensures.alone) (ap (λ (u : SetData). u.leaf) c.delete.ensures.alone) c.delete.ensures.follows (λ told. refl) (λ told. brings_cleared _ files _ _ _ (ap (λ (u : SetData). u.parts) c.delete.ensures.alone)) (λ told. c.delete.ensures.faithful files))
     (λ told i seen. does_delete _ _ _ i _ c.delete.result _ _ (c.delete.ensures.live files i seen) (c.delete.ensures.seen files i seen)
     (c.in_ok-put_deleted.ensures.ok ∙ ap (λ b. c.args.out.now.items ++ deleted_text (cond b 1 0)) (sym c.if-delete.true)))
-    (begins_with _ _ _ c.in_ok-put_deleted.ensures.ok) (no_cause faults applied.Done) (λ told i seen. tt))
+    (begins_with _ _ _ c.in_ok-put_deleted.ensures.ok) (no_cause faults applied.Done) (λ told i seen. tt) tt)
 
 pub returns-in_err-put_deleted-2-clause-applies : goal.returns-in_err-put_deleted-2-clause-applies
 returns-in_err-put_deleted-2-clause-applies g c files faults =
     let p = err_from_is_err_and c.from_residual-in_err-put_deleted-2.result c.from_residual-in_err-put_deleted-2.ensures.1 in
     applies_seen _ _ _ _ _ _ _ _ _ _ _ c.self.view_is
     (applies_unsaid {T = Unit {0}} _ _ _ _ _ _ tt
-    (calm_like _ _ _ _ _ _ _ _ _ _ _ _ (ap (λ (u : SetData). u.names) c.delete.ensures.alone) (ap (λ (u : SetData). u.leaf) c.delete.ensures.alone) c.delete.ensures.follows (λ told. refl) (λ told. brings_cleared _ files _ _ _ (ap (λ (u : SetData). u.parts) c.delete.ensures.alone)))
+    (calm_like _ _ _ _ _ _ _ _ _ _ _ _ (ap (λ (u : SetData). u.names) c.delete.ensures.alone) (ap (λ (u : SetData). u.leaf) c.delete.ensures.alone) c.delete.ensures.follows (λ told. refl) (λ told. brings_cleared _ files _ _ _ (ap (λ (u : SetData). u.parts) c.delete.ensures.alone)) (λ told. c.delete.ensures.faithful files))
     (p.1 ∙ ap (λ (e : PageFault). Err e) p.2) (λ told i seen. seen_deleted _ _ _ i _ (sym (c.delete.ensures.live files i seen) ∙ c.if-delete.false) (c.delete.ensures.seen files i seen))
     (c.in_err-put_deleted-2.ensures.memory ∙ c.truncate.ensures.items ∙ ap (take c.len-before.result) c.in_ok-put_deleted.ensures.ok ∙ cut_back c.len-before.result _ _ (c.len-before.ensures ∙ c.args.out.now.ok.0))
     (no_cause faults tt))
@@ -45,10 +45,10 @@ returns-clause-applies g c files faults =
     let grew : c.put_deleted-2.new.out.items ≡ c.args.out.now.items ++ deleted_text 0 = c.in_ok-put_deleted-2.ensures.ok ∙ ap (λ xs. xs ++ deleted_text 0) cut in
     applies_seen _ _ _ _ _ _ _ _ _ _ _ c.self.view_is
     (applies _ _ _ _ _ _
-    (calm_like _ _ _ _ _ _ _ _ _ _ _ _ (ap (λ (u : SetData). u.names) c.delete.ensures.alone) (ap (λ (u : SetData). u.leaf) c.delete.ensures.alone) c.delete.ensures.follows (λ told. refl) (λ told. brings_cleared _ files _ _ _ (ap (λ (u : SetData). u.parts) c.delete.ensures.alone)))
+    (calm_like _ _ _ _ _ _ _ _ _ _ _ _ (ap (λ (u : SetData). u.names) c.delete.ensures.alone) (ap (λ (u : SetData). u.leaf) c.delete.ensures.alone) c.delete.ensures.follows (λ told. refl) (λ told. brings_cleared _ files _ _ _ (ap (λ (u : SetData). u.parts) c.delete.ensures.alone)) (λ told. c.delete.ensures.faithful files))
     (λ told i seen. does_delete _ _ _ i _ c.delete.result _ _ (c.delete.ensures.live files i seen) (c.delete.ensures.seen files i seen)
     (grew ∙ ap (λ b. c.args.out.now.items ++ deleted_text (cond b 1 0)) (sym c.if-delete.false)))
-    (begins_with _ _ _ grew) (no_cause faults applied.Done) (λ told i seen. tt))
+    (begins_with _ _ _ grew) (no_cause faults applied.Done) (λ told i seen. tt) tt)
 
 pub delete-requires : goal.delete-requires
 delete-requires g c = set_fits g.row.D c.self.invariant.few

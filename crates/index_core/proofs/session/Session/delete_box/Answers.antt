@@ -27,14 +27,14 @@ pub returns-in_err-hits-clause-applies : goal.returns-in_err-hits-clause-applies
 returns-in_err-hits-clause-applies g c =
     let p = err_from_is_err_and c.from_residual.result c.from_residual.ensures.1 in
     applies_seen _ _ _ _ _ _ _ _ _ _ _ c.self.view_is
-    (applies_fault _ _ _ _ _ _ c.in_err-hits.field-0.0 (calm_cache _ _ _ _ _ _ _ _ _ _ _ _ c.visit.ensures.alone c.visit.ensures.files)
-    (p.1 ∙ ap (λ (e : PageFault). Err e) p.2) c.visit.ensures.seen (begins_itself _) c.in_err-hits.ensures.cause c.in_err-hits.ensures.whole)
+    (applies_fault _ _ _ _ _ _ c.in_err-hits.field-0.0 (calm_cache _ _ _ _ _ _ _ _ _ _ _ _ c.visit.ensures.alone c.visit.ensures.files c.visit.ensures.faithful)
+    (p.1 ∙ ap (λ (e : PageFault). Err e) p.2) c.visit.ensures.seen (begins_itself _) c.in_err-hits.ensures.cause c.in_err-hits.ensures.whole c.in_err-hits.ensures.evident)
 
 pub returns-in_err-put_deleted-clause-applies : goal.returns-in_err-put_deleted-clause-applies
 returns-in_err-put_deleted-clause-applies g c =
     let p = err_from_is_err_and c.from_residual-in_err-put_deleted.result c.from_residual-in_err-put_deleted.ensures.1 in
     applies_seen _ _ _ _ _ _ _ _ _ _ _ c.self.view_is
-    (applies_unsaid _ _ _ _ _ _ c.in_ok-hits.hits (calm_cache _ _ _ _ _ _ _ _ _ _ _ _ c.visit.ensures.alone c.visit.ensures.files)
+    (applies_unsaid _ _ _ _ _ _ c.in_ok-hits.hits (calm_cache _ _ _ _ _ _ _ _ _ _ _ _ c.visit.ensures.alone c.visit.ensures.files c.visit.ensures.faithful)
     (p.1 ∙ ap (λ (e : PageFault). Err e) p.2) c.visit.ensures.seen c.in_err-put_deleted.ensures.memory c.in_ok-hits.ensures.cause)
 
 pub returns-clause-applies : goal.returns-clause-applies
@@ -45,7 +45,8 @@ returns-clause-applies g c =
     (calm_like _ _ _ _ _ _ _ _ _ _ _ _ (c.delete_all.ensures.names ∙ ap (λ (u : SetData). u.names) c.visit.ensures.alone.is) (c.delete_all.ensures.stays.leaf ∙ ap (λ (u : SetData). u.leaf) c.visit.ensures.alone.is)
     (subst (λ (u : SetData). Follows u.names u.parts c.delete_all.new.self.parts) c.visit.ensures.alone.is c.delete_all.ensures.follows) c.visit.ensures.files
     (λ told. brings_then _ _ _ _ _ c.visit.new.self.parts _ (brings_same _ _ _ _ _ (c.visit.ensures.files told) (ap (λ (u : SetData). u.parts) c.visit.ensures.alone.is))
-    (brings_named _ _ _ _ _ _ _ _ told (λ t. refl) c.delete_all.ensures.names c.delete_all.ensures.follows c.leaf-leaf.ensures.well.named)))
+    (brings_named _ _ _ _ _ _ _ _ told (λ t. refl) c.delete_all.ensures.names c.delete_all.ensures.follows c.leaf-leaf.ensures.well.named))
+    (λ told faithful. c.delete_all.ensures.faithful _ (c.visit.ensures.faithful told faithful)))
     (λ told i seen. does_delete_box _ _ _ _ _ i _ _ c.as_slice.result.now _ _ seen
     (c.as_slice.ensures.value ∙ c.in_ok-hits.ensures.found told i seen i.docs refl ∙ ap (λ (s : Asked). hits (in_box s.bounds) i.docs) c.new-shape.ensures)
     (c.delete_all.ensures.seen _ i (c.visit.ensures.seen told i seen))
@@ -55,7 +56,7 @@ returns-clause-applies g c =
 pub returns-in_default-clause-applies : goal.returns-in_default-clause-applies
 returns-in_default-clause-applies g c =
     applies_seen _ _ _ _ _ _ _ _ _ _ _ c.self.view_is
-    (applies_unsaid _ _ _ _ _ _ c.in_ok-hits.hits (calm_cache _ _ _ _ _ _ _ _ _ _ _ _ c.visit.ensures.alone c.visit.ensures.files)
+    (applies_unsaid _ _ _ _ _ _ c.in_ok-hits.hits (calm_cache _ _ _ _ _ _ _ _ _ _ _ _ c.visit.ensures.alone c.visit.ensures.files c.visit.ensures.faithful)
     refl c.visit.ensures.seen refl c.in_ok-hits.ensures.cause)
 
 pub leaf-leaf-requires : goal.leaf-leaf-requires

@@ -33,19 +33,19 @@ pub returns-in_err-hits-clause-applies : goal.returns-in_err-hits-clause-applies
 returns-in_err-hits-clause-applies g c =
     let p = err_from_is_err_and c.from_residual.result c.from_residual.ensures.1 in
     applies_seen _ _ _ _ _ _ _ _ _ _ _ c.self.view_is
-    (applies_fault _ _ _ _ _ _ c.in_err-hits.field-0.0 (calm_cache _ _ _ _ _ _ _ _ _ _ _ _ c.visit.ensures.alone c.visit.ensures.files)
-    (p.1 ∙ ap (λ (e : PageFault). Err e) p.2) c.visit.ensures.seen (begins_itself _) c.in_err-hits.ensures.cause c.in_err-hits.ensures.whole)
+    (applies_fault _ _ _ _ _ _ c.in_err-hits.field-0.0 (calm_cache _ _ _ _ _ _ _ _ _ _ _ _ c.visit.ensures.alone c.visit.ensures.files c.visit.ensures.faithful)
+    (p.1 ∙ ap (λ (e : PageFault). Err e) p.2) c.visit.ensures.seen (begins_itself _) c.in_err-hits.ensures.cause c.in_err-hits.ensures.whole c.in_err-hits.ensures.evident)
 
 pub returns-in_err-put_hits-clause-applies : goal.returns-in_err-put_hits-clause-applies
 returns-in_err-put_hits-clause-applies g c =
     let p = err_from_is_err_and c.from_residual-in_err-put_hits.result c.from_residual-in_err-put_hits.ensures.1 in
     applies_seen _ _ _ _ _ _ _ _ _ _ _ c.self.view_is
-    (applies_unsaid _ _ _ _ _ _ c.in_ok-hits.hits (calm_cache _ _ _ _ _ _ _ _ _ _ _ _ c.visit.ensures.alone c.visit.ensures.files)
+    (applies_unsaid _ _ _ _ _ _ c.in_ok-hits.hits (calm_cache _ _ _ _ _ _ _ _ _ _ _ _ c.visit.ensures.alone c.visit.ensures.files c.visit.ensures.faithful)
     (p.1 ∙ ap (λ (e : PageFault). Err e) p.2) c.visit.ensures.seen c.in_err-put_hits.ensures.memory c.in_ok-hits.ensures.cause)
 
 pub returns-clause-applies : goal.returns-clause-applies
 returns-clause-applies g c = applies_seen _ _ _ _ _ _ _ _ _ _ _ c.self.view_is
-    (applies_done _ _ _ _ _ c.in_ok-hits.hits _ (calm_cache _ _ _ _ _ _ _ _ _ _ _ _ c.visit.ensures.alone c.visit.ensures.files)
+    (applies_done _ _ _ _ _ c.in_ok-hits.hits _ (calm_cache _ _ _ _ _ _ _ _ _ _ _ _ c.visit.ensures.alone c.visit.ensures.files c.visit.ensures.faithful)
     (λ told i seen.
     let has = (subst (λ (u : SessionData). HasView (viewed c.args.view.now) u.set) (sym c.self.view_is) (c.has_view.ensures.0 c.if-not-has_view.false)) in
     let docs = view_docs _ _ _ i (viewed c.args.view.now) seen has in

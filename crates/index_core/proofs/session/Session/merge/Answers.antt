@@ -19,7 +19,7 @@ pub returns-clause-applies : goal.returns-clause-applies
 unfolding step_on
 returns-clause-applies g c = applies_seen _ _ _ _ _ _ _ _ _ _ _ c.self.view_is
     (applies_done _ _ _ _ _ c.in_ok-merge_all.field-0 ok_text
-    (record { commit = refl; refused = refl; leaf = c.merge_all.ensures.stays.leaf; keeps = c.merge_all.ensures.kept; follows = c.merge_all.ensures.follows; brings = λ told. brings_written _ _ _ _ _ _ _ _ told c.merge_all.ensures.kept c.merge_all.ensures.follows (c.merge_all.ensures.canon told) })
+    (record { commit = refl; refused = refl; leaf = c.merge_all.ensures.stays.leaf; keeps = c.merge_all.ensures.kept; follows = c.merge_all.ensures.follows; brings = λ told. brings_written _ _ _ _ _ _ _ _ told c.merge_all.ensures.kept c.merge_all.ensures.follows (c.merge_all.ensures.canon told); faithful = c.merge_all.ensures.faithful })
     (λ told i seen. does_done _ _ i i _ ok_text _ _ (c.merge_all.ensures.seen told i seen) c.in_ok-put_ok.ensures.ok)
     c.in_ok-put_ok.ensures.ok c.in_ok-merge_all.ensures.cause)
 
@@ -28,15 +28,15 @@ returns-in_err-merge_all-clause-applies g c =
     let p = err_from_is_err_and c.from_residual.result c.from_residual.ensures.1 in
     applies_seen _ _ _ _ _ _ _ _ _ _ _ c.self.view_is
     (applies_fault _ _ _ _ _ _ c.in_err-merge_all.field-0.0
-    (record { commit = refl; refused = refl; leaf = c.merge_all.ensures.stays.leaf; keeps = c.merge_all.ensures.kept; follows = c.merge_all.ensures.follows; brings = λ told. brings_written _ _ _ _ _ _ _ _ told c.merge_all.ensures.kept c.merge_all.ensures.follows (c.merge_all.ensures.canon told) })
-    (p.1 ∙ ap (λ (e : PageFault). Err e) p.2) c.merge_all.ensures.seen (begins_itself _) c.in_err-merge_all.ensures.cause c.in_err-merge_all.ensures.whole)
+    (record { commit = refl; refused = refl; leaf = c.merge_all.ensures.stays.leaf; keeps = c.merge_all.ensures.kept; follows = c.merge_all.ensures.follows; brings = λ told. brings_written _ _ _ _ _ _ _ _ told c.merge_all.ensures.kept c.merge_all.ensures.follows (c.merge_all.ensures.canon told); faithful = c.merge_all.ensures.faithful })
+    (p.1 ∙ ap (λ (e : PageFault). Err e) p.2) c.merge_all.ensures.seen (begins_itself _) c.in_err-merge_all.ensures.cause c.in_err-merge_all.ensures.whole c.in_err-merge_all.ensures.evident)
 
 pub returns-in_err-put_ok-clause-applies : goal.returns-in_err-put_ok-clause-applies
 returns-in_err-put_ok-clause-applies g c =
     let p = err_from_is_err_and c.from_residual-in_err-put_ok.result c.from_residual-in_err-put_ok.ensures.1 in
     applies_seen _ _ _ _ _ _ _ _ _ _ _ c.self.view_is
     (applies_unsaid _ _ _ _ _ _ c.in_ok-merge_all.field-0
-    (record { commit = refl; refused = refl; leaf = c.merge_all.ensures.stays.leaf; keeps = c.merge_all.ensures.kept; follows = c.merge_all.ensures.follows; brings = λ told. brings_written _ _ _ _ _ _ _ _ told c.merge_all.ensures.kept c.merge_all.ensures.follows (c.merge_all.ensures.canon told) })
+    (record { commit = refl; refused = refl; leaf = c.merge_all.ensures.stays.leaf; keeps = c.merge_all.ensures.kept; follows = c.merge_all.ensures.follows; brings = λ told. brings_written _ _ _ _ _ _ _ _ told c.merge_all.ensures.kept c.merge_all.ensures.follows (c.merge_all.ensures.canon told); faithful = c.merge_all.ensures.faithful })
     (p.1 ∙ ap (λ (e : PageFault). Err e) p.2) c.merge_all.ensures.seen c.in_err-put_ok.ensures.memory c.in_ok-merge_all.ensures.cause)
 
 pub merge_all-requires-after_bounds : goal.merge_all-requires-after_bounds

@@ -39,12 +39,13 @@ returns-clause-applies g c =
     (applies _ _ _ _ _ _
     (calm_like _ _ _ _ _ _ _ _ _ _ _ _ (ap (λ (u : SetData). u.names) c.merge_begin.ensures.alone.is) (ap (λ (u : SetData). u.leaf) c.merge_begin.ensures.alone.is)
     (follows_same _ _ _ (ap (λ (u : SetData). u.parts) c.merge_begin.ensures.alone.is)) c.merge_begin.ensures.files
-    (λ told. brings_same _ _ _ _ _ (c.merge_begin.ensures.files told) (ap (λ (u : SetData). u.parts) c.merge_begin.ensures.alone.is)))
+    (λ told. brings_same _ _ _ _ _ (c.merge_begin.ensures.files told) (ap (λ (u : SetData). u.parts) c.merge_begin.ensures.alone.is)) c.merge_begin.ensures.faithful)
     (λ told i seen. does_begin _ _ _ _ _ i _ c.merge_begin.result _ _ seen none (λ e. both_ways (is_some c.self.inside.set.begun) none (c.merge_begin.ensures.begun.0 e))
     (c.merge_begin.ensures.seen told i seen) (c.merge_begin.ensures.refused told i seen) c.in_ok-put_ok.ensures.ok)
     (begins_with _ _ _ c.in_ok-put_ok.ensures.ok)
     (cause_begin _ _ c.merge_begin.result (λ e. both_ways (is_some c.self.inside.set.begun) none (c.merge_begin.ensures.begun.0 e)) c.merge_begin.ensures.cause)
-    (λ told i seen. whole_begin c.merge_begin.result (c.merge_begin.ensures.whole told i seen))))
+    (λ told i seen. whole_begin c.merge_begin.result (c.merge_begin.ensures.whole told i seen))
+    (begin_shows _ c.merge_begin.result c.merge_begin.ensures.evident)))
 
 pub is_merging-requires : goal.is_merging-requires
 is_merging-requires g c = set_fits g.row.D c.self.invariant.few

@@ -15,7 +15,7 @@ use Rattle.index_core.proofs.Leaving.{end_leaves}
 use Rattle.index_core.proofs.Bringing.{brings_written}
 use Rattle.page_cache.specs.Evidence.{NotDamaged}
 use Rattle.page_cache.specs.declared.faults.PageFault.TheVariants as page
-use Rattle.index_core.proofs.Showing.{damage_to}
+use Rattle.index_core.proofs.Showing.{damage_none, damage_to}
 use Rattle.index_core.proofs.Keeping.{answer_keeps, end_keeps, fault_keeps, still_same}
 use Rattle.index_core.proofs.session.Session.merge_end.Goals as goal
 
@@ -34,12 +34,13 @@ returns-clause-applies g c =
     applies_is _ _ _ _ _ _ _ _ c.end_answer.ensures
     (applies_seen _ _ _ _ _ _ _ _ _ _ _ c.self.view_is
     (applies _ _ _ _ _ _
-    (record { commit = refl; refused = refl; leaf = c.merge_end.ensures.stays.leaf; keeps = c.merge_end.ensures.kept; follows = c.merge_end.ensures.follows; brings = λ told. brings_written _ _ _ _ _ _ _ _ told c.merge_end.ensures.kept c.merge_end.ensures.follows (c.merge_end.ensures.canon told) })
+    (record { commit = refl; refused = refl; leaf = c.merge_end.ensures.stays.leaf; keeps = c.merge_end.ensures.kept; follows = c.merge_end.ensures.follows; brings = λ told. brings_written _ _ _ _ _ _ _ _ told c.merge_end.ensures.kept c.merge_end.ensures.follows (c.merge_end.ensures.canon told); faithful = c.merge_end.ensures.faithful })
     (λ told i seen. does_end _ _ _ _ _ i c.merge_end.result _ _ seen some (λ e. both_ways (is_some c.self.inside.set.begun) (c.merge_end.ensures.not_begun.0 e) some)
     (c.merge_end.ensures.seen told i seen) (c.merge_end.ensures.refused told i seen) c.in_ok-put_ok.ensures.ok)
     (begins_with _ _ _ c.in_ok-put_ok.ensures.ok)
     (cause_end _ _ c.merge_end.result (λ e. both_ways (is_some c.self.inside.set.begun) (c.merge_end.ensures.not_begun.0 e) some) c.merge_end.ensures.cause)
-    (λ told i seen. whole_end c.merge_end.result c.merge_end.ensures.whole)))
+    (λ told i seen. whole_end c.merge_end.result c.merge_end.ensures.whole)
+    (damage_none _ _ (whole_end c.merge_end.result c.merge_end.ensures.whole))))
 
 pub is_merging-requires : goal.is_merging-requires
 is_merging-requires g c = set_fits g.row.D c.self.invariant.few

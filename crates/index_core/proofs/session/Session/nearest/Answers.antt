@@ -37,20 +37,20 @@ pub returns-in_err-found-clause-applies : goal.returns-in_err-found-clause-appli
 returns-in_err-found-clause-applies g c =
     let p = err_from_is_err_and c.from_residual.result c.from_residual.ensures.1 in
     applies_seen _ _ _ _ _ _ _ _ _ _ _ c.self.view_is
-    (applies_fault _ _ _ _ _ _ c.in_err-found.field-0.0 (calm_cache _ _ _ _ _ _ _ _ _ _ _ _ c.nearest.ensures.alone c.nearest.ensures.files)
-    (p.1 ∙ ap (λ (e : PageFault). Err e) p.2) c.nearest.ensures.seen (begins_itself _) c.in_err-found.ensures.cause c.in_err-found.ensures.whole)
+    (applies_fault _ _ _ _ _ _ c.in_err-found.field-0.0 (calm_cache _ _ _ _ _ _ _ _ _ _ _ _ c.nearest.ensures.alone c.nearest.ensures.files c.nearest.ensures.faithful)
+    (p.1 ∙ ap (λ (e : PageFault). Err e) p.2) c.nearest.ensures.seen (begins_itself _) c.in_err-found.ensures.cause c.in_err-found.ensures.whole c.in_err-found.ensures.evident)
 
 pub returns-in_err-put_near-clause-applies : goal.returns-in_err-put_near-clause-applies
 returns-in_err-put_near-clause-applies g c =
     let p = err_from_is_err_and c.from_residual-in_err-put_near.result c.from_residual-in_err-put_near.ensures.1 in
     applies_seen _ _ _ _ _ _ _ _ _ _ _ c.self.view_is
-    (applies_unsaid _ _ _ _ _ _ c.in_ok-found.found (calm_cache _ _ _ _ _ _ _ _ _ _ _ _ c.nearest.ensures.alone c.nearest.ensures.files)
+    (applies_unsaid _ _ _ _ _ _ c.in_ok-found.found (calm_cache _ _ _ _ _ _ _ _ _ _ _ _ c.nearest.ensures.alone c.nearest.ensures.files c.nearest.ensures.faithful)
     (p.1 ∙ ap (λ (e : PageFault). Err e) p.2) c.nearest.ensures.seen c.in_err-put_near.ensures.memory c.in_ok-found.ensures.cause)
 
 pub returns-clause-applies : goal.returns-clause-applies
 unfolding step_on
 returns-clause-applies g c = applies_seen _ _ _ _ _ _ _ _ _ _ _ c.self.view_is
-    (applies_done _ _ _ _ _ c.in_ok-found.found _ (calm_cache _ _ _ _ _ _ _ _ _ _ _ _ c.nearest.ensures.alone c.nearest.ensures.files)
+    (applies_done _ _ _ _ _ c.in_ok-found.found _ (calm_cache _ _ _ _ _ _ _ _ _ _ _ _ c.nearest.ensures.alone c.nearest.ensures.files c.nearest.ensures.faithful)
     (λ told i seen.
     let has = (subst (λ (u : SessionData). HasView (viewed c.args.view.now) u.set) (sym c.self.view_is) (c.has_view.ensures.0 c.if-not-has_view.false)) in
     let docs = view_docs _ _ _ i (viewed c.args.view.now) seen has in

@@ -32,9 +32,9 @@ returns-clause-applies g c files faults = applies_seen _ _ _ _ _ _ _ _ _ _ _ c.s
     (applies _ _ _ _ _ _
     (calm_like _ _ _ _ _ _ _ _ _ _ _ _ (ap (λ (u : SetData). u.names) c.release.ensures.kept) (ap (λ (u : SetData). u.leaf) c.release.ensures.kept)
     (follows_same _ _ _ (ap (λ (u : SetData). u.parts) c.release.ensures.kept)) (λ told. refl)
-    (λ told. brings_same _ _ _ _ _ refl (ap (λ (u : SetData). u.parts) c.release.ensures.kept)))
+    (λ told. brings_same _ _ _ _ _ refl (ap (λ (u : SetData). u.parts) c.release.ensures.kept)) (λ told. c.release.ensures.faithful files))
     (λ told i seen. does_release _ _ _ _ i _ _ _ seen (sym c.has_snapshot.ensures ∙ c.if-not-has_snapshot.false) (c.release.ensures.seen files i seen) c.in_ok-put_ok.ensures.ok)
-    (begins_with _ _ _ c.in_ok-put_ok.ensures.ok) (no_cause faults applied.Done) (λ told i seen. tt))
+    (begins_with _ _ _ c.in_ok-put_ok.ensures.ok) (no_cause faults applied.Done) (λ told i seen. tt) tt)
 
 pub has_snapshot-requires : goal.has_snapshot-requires
 has_snapshot-requires g c = set_fits g.row.D c.self.invariant.few

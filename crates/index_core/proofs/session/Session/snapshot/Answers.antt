@@ -12,7 +12,7 @@ use Rattle.segment_set.proofs.Sizes.{set_fits}
 use Rattle.std.proofs.Common.{sym, subst}
 use Rattle.page_cache.specs.Evidence.{NotDamaged}
 use Rattle.page_cache.specs.declared.faults.PageFault.TheVariants as page
-use Rattle.index_core.proofs.Showing.{damage_to}
+use Rattle.index_core.proofs.Showing.{damage_none, damage_to}
 use Rattle.std.proofs.Common.{refl}
 use Rattle.index_core.proofs.Keeping.{answer_keeps, err_each, fault_keeps, snap_keeps, still_seen, still_set}
 use Rattle.index_core.proofs.Lightly.{light_same, light_snapped}
@@ -31,9 +31,9 @@ returns-clause-applies g c files faults =
     ∙ ap (text_after (snap_answer c.snapshot.result) (length c.args.out.now.items)) c.in_ok-put_ok.ensures.ok in
     applies_is _ _ _ _ _ _ _ _ c.snap_answer-answer.ensures
     (applies_seen _ _ _ _ _ _ _ _ _ _ _ c.self.view_is
-    (applies _ _ _ _ _ _ (calm_snap _ _ _ _ _ _ c.snapshot.result _ _ _ _ _ c.snapshot.ensures.kept c.snapshot.ensures.refused)
+    (applies _ _ _ _ _ _ (calm_snap _ _ _ _ _ _ c.snapshot.result _ _ _ _ _ c.snapshot.ensures.kept c.snapshot.ensures.refused (c.snapshot.ensures.faithful files))
     (λ told i seen. does_snapshot _ _ _ _ i _ c.snapshot.result _ _ seen (c.snapshot.ensures.seen files i seen) c.snapshot.ensures.refused c.snapshot.ensures.taken c.snapshot.ensures.too_many grew)
-    (begins_after (snap_answer c.snapshot.result) _ ok_text _ grew) (cause_snap faults c.snapshot.result) (λ told i seen. whole_snap c.snapshot.result)))
+    (begins_after (snap_answer c.snapshot.result) _ ok_text _ grew) (cause_snap faults c.snapshot.result) (λ told i seen. whole_snap c.snapshot.result) (damage_none _ _ (whole_snap c.snapshot.result))))
 
 pub snapshot-requires : goal.snapshot-requires
 snapshot-requires g c = set_fits g.row.D c.self.invariant.few

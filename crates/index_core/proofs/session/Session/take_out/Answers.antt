@@ -5,7 +5,7 @@ use Rattle.segment_set.specs.Seen.{Sees}
 use Rattle.segment_set.proofs.Sizes.{set_fits}
 use Rattle.segment_view.specs.Parts.{cleared}
 use Rattle.index_core.specs.Sessions.{SessionData}
-use Rattle.index_core.proofs.Adding.{guards_same}
+use Rattle.index_core.proofs.Adding.{faithful_seen, guards_same}
 use Rattle.index_core.proofs.Bringing.{brings_cleared}
 use Rattle.index_core.proofs.session.Session.take_out.Goals as goal
 
@@ -25,3 +25,6 @@ returns-clause-canon g c files =
 pub returns-clause-guards : goal.returns-clause-guards
 returns-clause-guards g c files guards =
     guards_same g.row.D files _ _ _ c.self.view_is (ap (λ (u : SetData). u.names) c.delete.ensures.alone) (ap (λ (u : SetData). u.leaf) c.delete.ensures.alone) c.delete.ensures.follows guards
+
+pub returns-clause-faithful : goal.returns-clause-faithful
+returns-clause-faithful g c files = faithful_seen g.row.D files files _ _ _ c.self.view_is (c.delete.ensures.faithful files)
