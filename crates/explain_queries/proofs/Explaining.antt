@@ -7,7 +7,7 @@ use Rattle.point_codec.specs.Points.{Region}
 use Rattle.page_cache.specs.declared.faults.PageFault.{PageFault}
 use Rattle.page_cache.specs.declared.faults.PageFault.TheVariants as page
 use Rattle.page_cache.specs.Causes.{HasPageCause}
-use Rattle.page_cache.specs.Evidence.{NotDamaged}
+use Rattle.page_cache.specs.Evidence.{NotDamaged, OnDamage}
 use Rattle.documents.specs.Documents.{hits}
 use Rattle.documents.specs.Nearest.{found_of}
 use Rattle.nearest_query.specs.Segments.{bound_of, last_of}
@@ -27,6 +27,8 @@ use Rattle.script_lang.specs.Replies.{line_fault_text}
 use Rattle.segment_set.specs.Sets.{SetData}
 use Rattle.segment_set.specs.Seen.{Sees}
 use Rattle.segment_set.specs.Kept.{StaysButCache}
+use Rattle.segment_set.specs.Evidence.{IsEvident}
+use Rattle.segment_set.specs.Faithful.{IsFaithful}
 use Rattle.explain_queries.specs.Explained.{Scope, Tells, TellsIn, TellsLine, TellsOn, TellsReading, TellsShape, Told, reach, refusal, shape_text}
 use Rattle.explain_queries.specs.Explains.{Explains, InScope, IsExplaining, IsTold, Place}
 
@@ -44,6 +46,10 @@ no_cause faults x = record { later = omega arith; fine = refl; failed = λ e. ab
 memory_cause : {T : Type 0} (before now : ℕ) → before ≤ now → HasPageCause {T = T} before now (Err page.Memory)
 memory_cause before now later = record { later = later; fine = tt; failed = λ e. absurd cc }
 
+-- a set that stays is faithful to the files that stay
+faithful_still : (D : ℕ) (old new : Place) → new.set ≡ old.set → new.files ≡ old.files → IsFaithful D old.files old.set → IsFaithful D new.files new.set
+faithful_still D old new set files h = subst (λ (u : SetData). IsFaithful D new.files u) (sym set) (subst (λ (f : Files). IsFaithful D f old.set) (sym files) h)
+
 -- this is told, whatever the index is
 pub explains_text : (D : ℕ) (told : Type 0) (tells : Telling) (old new : Place) (t : Told) (is_refused : Bool) → new.set ≡ old.set → new.files ≡ old.files → new.reads ≡ old.reads → new.faults ≡ old.faults
     → new.text ≡ old.text ++ t.text → t.refused ≡ cond is_refused 1 0 → ((s : Scope) → IsExplaining D old.files old.set s → tells s t) → Explains D told tells old new (Ok is_refused)
@@ -54,6 +60,8 @@ explains_text D told tells old new t is_refused set files reads faults text refu
   reads = λ told_so s e u h. omega (arith, reads);
   cause = subst (λ n. HasPageCause old.faults n (Ok is_refused)) (sym faults) (no_cause old.faults is_refused);
   whole = λ told_so s e. tt;
+  faithful = λ told_so. faithful_still D old new set files;
+  evident = tt;
 }
 
 -- for want of memory nothing is told
@@ -66,6 +74,8 @@ explains_no_memory D told tells old new r is set files reads faults = subst (Exp
   reads = λ told_so s e u h. omega (arith, reads);
   cause = memory_cause old.faults new.faults (omega (arith, faults));
   whole = λ told_so s e. tt;
+  faithful = λ told_so. faithful_still D old new set files;
+  evident = tt;
 })
 
 -- what is told is as the line's own definition says
@@ -78,6 +88,8 @@ explains_as D told tells others old new r to from explains = record {
   reads = λ told_so s e t h. explains.reads told_so s e t (from s t e h);
   cause = explains.cause;
   whole = explains.whole;
+  faithful = explains.faithful;
+  evident = explains.evident;
 }
   where
     if_ok_map : {P Q : Bool → Type 0} (q : Result Bool PageFault) → ((b : Bool) → P b → Q b) → IfOk q P → IfOk q Q
@@ -94,6 +106,8 @@ pub record Looks {T : Type 0} (D : ℕ) (told : Type 0) (old new : Place) (tells
   pub reads : told → (s : Scope) → IsExplaining D old.files old.set s → (t : Told) → tells s t → new.reads ≤ old.reads + t.touched
   pub cause : HasPageCause old.faults new.faults result
   pub whole : told → (i : Index) → Sees D old.files old.set i → NotDamaged result
+  pub faithful : told → IsFaithful D old.files old.set → IsFaithful D new.files new.set
+  pub evident : OnDamage result (IsEvident (told × IsFaithful D old.files old.set) new.files)
 
 looks_stays : {T : Type 0} (D : ℕ) (told : Type 0) (old new : Place) (tells : Telling) (r : Result T PageFault) → Looks D told old new tells r → told → (s : Scope) → IsExplaining D old.files old.set s → IsExplaining D new.files new.set s
 looks_stays D told old new tells r looks t s e = record {
@@ -112,6 +126,8 @@ explains_fault {T = T} D told tells old new fault r is looks = subst (Explains D
   reads = looks.reads;
   cause = record { later = looks.cause.later; fine = tt; failed = λ e. let same : fault ≡ page.Failed = cc in looks.cause.failed (ap (λ (f : PageFault). Err f) same) };
   whole = λ t s e. other fault (looks.whole t e.index e.seen);
+  faithful = looks.faithful;
+  evident = looks.evident;
 })
   where
     other : (f : PageFault) → NotDamaged {T = T} (Err f) → NotDamaged {T = Bool} (Err f)
@@ -128,6 +144,8 @@ explains_unsaid D told tells old new x r is looks = subst (Explains D told tells
   reads = looks.reads;
   cause = memory_cause old.faults new.faults looks.cause.later;
   whole = λ t s e. tt;
+  faithful = looks.faithful;
+  evident = tt;
 })
 
 -- it is done, and told
@@ -140,6 +158,8 @@ explains_done D told tells old new x looks tells_so = record {
   reads = looks.reads;
   cause = record { later = looks.cause.later; fine = looks.cause.fine; failed = λ e. absurd cc };
   whole = λ t s e. tt;
+  faithful = looks.faithful;
+  evident = tt;
 }
 
 -- ---- shapes

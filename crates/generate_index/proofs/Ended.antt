@@ -7,9 +7,9 @@ use Rattle.outer_io.specs.Files.{Files, bytes_of}
 use Rattle.page_cache.specs.declared.faults.PageFault.{PageFault}
 use Rattle.page_cache.specs.declared.faults.PageFault.TheVariants as page
 use Rattle.page_cache.specs.Causes.{HasPageCause}
-use Rattle.page_cache.specs.Evidence.{NotDamaged}
+use Rattle.page_cache.specs.Evidence.{FaultShows, NotDamaged, OnDamage}
 use Rattle.commit_list.specs.Commits.{CommitData}
-use Rattle.commit_list.specs.CommitFiles.{IsCommitFile}
+use Rattle.commit_list.specs.CommitFiles.{IsCommitDamage, IsCommitDamageOf, IsCommitFile}
 use Rattle.commit_list.proofs.CommitPages.{file_there}
 use Rattle.documents.proofs.Lists.{nil_none}
 use Rattle.documents.specs.Documents.{Document}
@@ -20,6 +20,8 @@ use Rattle.stored_index.specs.Stored.{IsStored}
 use Rattle.stored_index.proofs.KeptFiles.{stored_still}
 use Rattle.segment_view.specs.Parts.{Part}
 use Rattle.segment_set.specs.Seen.{Sees}
+use Rattle.segment_set.specs.Evidence.{IsEvident}
+use Rattle.segment_set.proofs.Evident.{on_commit_evident, on_evident_at, on_evident_less}
 use Rattle.index_core.specs.Sessions.{Guards, SessionData}
 use Rattle.index_core.specs.Whole.{DoesWhole, HasNewCanonical, Spot}
 use Rattle.index_core.proofs.Bringing.{brings_then}
@@ -139,3 +141,18 @@ ends_unread T old new state answer before after fault r is whole same h =
 -- where no file changed nothing is listed anew
 pub none_anew : (old new : Files) → new ≡ old → HasNewCanonical old new
 none_anew old new same c says l inside apart head has = absurd (apart c (subst (λ (f : Files). IsCommitFile (bytes_of (f Commit)) c) same says) (l, inside, refl))
+
+-- ---- what a damage shows
+
+-- want of memory is none
+pub memory_evident : (told : Type 0) (files : Files) (r : Result Bool PageFault) → r ≡ Err page.Memory → OnDamage r (IsEvident told files)
+memory_evident told files r is = subst (λ (q : Result Bool PageFault). OnDamage q (IsEvident told files)) (sym is) tt
+
+-- a fault of a call on a set that is faithful
+pub fault_evident : (told trusts : Type 0) (files : Files) (fault : PageFault) (r : Result Bool PageFault) → r ≡ Err fault → (told → trusts) → FaultShows (IsEvident (told × trusts) files) fault → OnDamage r (IsEvident told files)
+fault_evident told trusts files fault r is trusted evident = subst (λ (q : Result Bool PageFault). OnDamage q (IsEvident told files)) (sym is)
+    (on_evident_less {X = Bool} (told × trusts) told files (Err fault) (λ t. (t, trusted t)) evident)
+
+-- the commit was not read, and no file changed
+pub unread_evident : (told : Type 0) (old new : Files) (fault : PageFault) → (told → new ≡ old) → (told → FaultShows (IsCommitDamageOf old) fault) → FaultShows IsCommitDamage fault → FaultShows (IsEvident told new) fault
+unread_evident told old new fault same damage shown = on_evident_at {X = Bool} told told old new (Err fault) (λ t. t) same (on_commit_evident {X = Bool} told old (Err fault) damage shown)

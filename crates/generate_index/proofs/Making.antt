@@ -4,12 +4,15 @@ use Rattle.outer_io.specs.Files.{Files}
 use Rattle.page_cache.specs.declared.faults.PageFault.{PageFault}
 use Rattle.page_cache.specs.declared.faults.PageFault.TheVariants as page
 use Rattle.page_cache.specs.Causes.{HasPageCause}
-use Rattle.page_cache.specs.Evidence.{NotDamaged}
+use Rattle.page_cache.specs.Evidence.{NotDamaged, OnDamage}
 use Rattle.documents.specs.Documents.{Document}
 use Rattle.index_model.specs.State.{Index, new_index}
 use Rattle.stored_index.specs.Kept.{SameKept}
 use Rattle.stored_index.proofs.KeptFiles.{kept_after, kept_itself}
 use Rattle.segment_set.specs.Seen.{Sees}
+use Rattle.segment_set.specs.Evidence.{IsEvident}
+use Rattle.segment_set.specs.Faithful.{IsFaithful}
+use Rattle.segment_set.proofs.Evident.{on_evident_less}
 use Rattle.index_core.specs.Sessions.{Guards, SessionData}
 use Rattle.index_core.specs.Effects.{BringsCanonical}
 use Rattle.index_core.specs.Whole.{Adds, Spot, with_points}
@@ -39,6 +42,8 @@ makes_none told Before at x = record {
   canon = λ t. brings_same 2 at.files at.files at.session.set.parts at.session.set.parts refl refl;
   cause = no_cause at.faults x;
   whole = λ t before. tt;
+  faithful = λ t faithful. faithful;
+  evident = tt;
 }
 
 -- some, and then more
@@ -50,6 +55,8 @@ makes_then told Before Between After a b c x r first second = record {
   canon = λ t. brings_then 2 a.files b.files c.files a.session.set.parts b.session.set.parts c.session.set.parts (first.canon t) (second.canon t);
   cause = cause_then a.faults b.faults c.faults r first.cause.fine second.cause;
   whole = λ t before. second.whole t (first.made t before);
+  faithful = λ t faithful. second.faithful t (first.faithful t faithful);
+  evident = on_evident_less (told × IsFaithful 2 b.files b.session.set) (told × IsFaithful 2 a.files a.session.set) c.files r (λ h. (h.0, first.faithful h.0 h.1)) second.evident;
 }
 
 -- after a fault it says the same of all that was to come
@@ -62,6 +69,8 @@ makes_stopped {T = T} {U = U} told Before After Later a b fault r is makes = sub
   canon = makes.canon;
   cause = fault_to a.faults b.faults fault makes.cause;
   whole = λ t before. to_other fault (makes.whole t before);
+  faithful = makes.faithful;
+  evident = makes.evident;
 })
   where
     to_other : (f : PageFault) → NotDamaged {T = T} (Err f) → NotDamaged {T = U} (Err f)
@@ -79,6 +88,8 @@ makes_add told seed n p a b r drawn all more_all more adds = record {
   canon = adds.canon;
   cause = adds.cause;
   whole = λ t before. adds.whole t (drawn_index seed n 0) before;
+  faithful = adds.faithful;
+  evident = adds.evident;
 }
   where
     grown : kept 0 (documents seed n) ++ record { number = n; points = p ∷ [] } ∷ [] ≡ kept 0 (documents seed (n + 1))
@@ -90,28 +101,33 @@ makes_add told seed n p a b r drawn all more_all more adds = record {
 -- a call that only reads
 pub makes_reads : {T : Type 0} (told : Type 0) (i : Index) (a b : Spot) (r : Result T PageFault) → (told → Sees 2 a.files a.session.set i → Sees 2 b.files b.session.set i)
     → (told → Guards 2 a.files a.session → Guards 2 b.files b.session) → (told → b.files ≡ a.files) → b.session.set.parts ≡ a.session.set.parts → HasPageCause a.faults b.faults r
-    → (told → Sees 2 a.files a.session.set i → NotDamaged r) → Makes told (λ (at : Spot). Sees 2 at.files at.session.set i) (λ (at : Spot). Sees 2 at.files at.session.set i) a b r
-makes_reads told i a b r seen guards files parts cause whole = record {
+    → (told → Sees 2 a.files a.session.set i → NotDamaged r) → (told → IsFaithful 2 a.files a.session.set → IsFaithful 2 b.files b.session.set)
+    → OnDamage r (IsEvident (told × IsFaithful 2 a.files a.session.set) b.files) → Makes told (λ (at : Spot). Sees 2 at.files at.session.set i) (λ (at : Spot). Sees 2 at.files at.session.set i) a b r
+makes_reads told i a b r seen guards files parts cause whole faithful evident = record {
   made = λ t before. on_ok_any r (seen t before);
   guards = guards;
   kept = λ t g. subst (λ (f : Files). SameKept a.files f) (sym (files t)) (kept_itself a.files);
   canon = λ t. brings_same 2 a.files b.files a.session.set.parts b.session.set.parts (files t) parts;
   cause = cause;
   whole = whole;
+  faithful = faithful;
+  evident = evident;
 }
 
 -- documents were taken out, without a call on the folder
 pub makes_deletes : {T : Type 0} (told : Type 0) (seed n : ℕ) (files : Files) (faults : ℕ) (s t : SessionData) (x : T)
     → ((files : Files) (faults seed : ℕ) → IsMade seed n 0 (record { files = files; session = s; faults = faults }) → IsMade seed n n (record { files = files; session = t; faults = faults }))
-    → ((files : Files) → Guards 2 files s → Guards 2 files t) → ((files : Files) → BringsCanonical 2 files files s.set.parts t.set.parts)
+    → ((files : Files) → Guards 2 files s → Guards 2 files t) → ((files : Files) → IsFaithful 2 files s.set → IsFaithful 2 files t.set) → ((files : Files) → BringsCanonical 2 files files s.set.parts t.set.parts)
     → Makes told (IsMade seed n 0) (IsMade seed n n) (record { files = files; session = s; faults = faults }) (record { files = files; session = t; faults = faults }) (Ok x)
-makes_deletes told seed n files faults s t x made guards canon = record {
+makes_deletes told seed n files faults s t x made guards faithful canon = record {
   made = λ h before. made files faults seed before;
   guards = λ h. guards files;
   kept = λ h g. kept_itself files;
   canon = λ h. canon files;
   cause = no_cause faults x;
   whole = λ h before. tt;
+  faithful = λ h. faithful files;
+  evident = tt;
 }
 
 -- the value that is handed on is another one
@@ -123,6 +139,8 @@ makes_ok told Before After a b x y makes = record {
   canon = makes.canon;
   cause = record { later = makes.cause.later; fine = makes.cause.fine; failed = λ e. absurd cc };
   whole = λ t before. tt;
+  faithful = makes.faithful;
+  evident = tt;
 }
 
 -- by another name of the number of documents

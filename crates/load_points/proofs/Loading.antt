@@ -6,10 +6,10 @@ use Rattle.outer_io.specs.Files.{Files, bytes_of}
 use Rattle.page_cache.specs.declared.faults.PageFault.{PageFault}
 use Rattle.page_cache.specs.declared.faults.PageFault.TheVariants as page
 use Rattle.page_cache.specs.Causes.{HasPageCause}
-use Rattle.page_cache.specs.Evidence.{NotDamaged}
+use Rattle.page_cache.specs.Evidence.{FaultShows, NotDamaged, OnDamage}
 use Rattle.commit_list.specs.declared.listed.Listed.{Listed}
 use Rattle.commit_list.specs.Commits.{CommitData}
-use Rattle.commit_list.specs.CommitFiles.{IsCommitFile}
+use Rattle.commit_list.specs.CommitFiles.{IsCommitDamage, IsCommitDamageOf, IsCommitFile}
 use Rattle.commit_list.proofs.CommitPages.{file_there, one_file}
 use Rattle.index_model.specs.State.{Index, State, at_rest, new_index}
 use Rattle.index_model.specs.Script.{Answer}
@@ -21,7 +21,10 @@ use Rattle.stored_index.proofs.Whole.{held_for}
 use Rattle.documents.proofs.Lists.{nil_none}
 use Rattle.segment_view.specs.Parts.{Part}
 use Rattle.segment_set.specs.Seen.{Sees}
-use Rattle.index_core.specs.Sessions.{Guards, IsUnchanged, SessionData}
+use Rattle.segment_set.specs.Evidence.{IsEvident}
+use Rattle.segment_set.specs.Faithful.{IsFaithful}
+use Rattle.segment_set.proofs.Evident.{on_commit_evident, on_evident_at, on_evident_less}
+use Rattle.index_core.specs.Sessions.{Guards, IsUnchanged, SessionData, Trusts}
 use Rattle.index_core.specs.Whole.{Adds, DoesWhole, HasNewCanonical, IsNewSegment, Spot, with_points}
 use Rattle.index_core.proofs.Answering.{cause_then, fault_to, memory_cause, no_cause}
 use Rattle.csv_load.specs.Loading.{points_of, records_of}
@@ -39,14 +42,15 @@ Starting = State → Type 0
 -- ---- faults
 
 -- a fault of a call after which what was stored, or what the answer leaves, is
-pub loads_fault : {T : Type 0} (told : Type 0) (Starts : Starting) (answer : State → Answer) (old new : Place) (fault : PageFault) (r : Result Bool PageFault) → r ≡ Err fault
+pub loads_fault : {T : Type 0} (told trusts : Type 0) (Starts : Starting) (answer : State → Answer) (old new : Place) (fault : PageFault) (r : Result Bool PageFault) → r ≡ Err fault
     → (told → (stored : State) → Starts stored → IsStored new.files stored ⊎ IsStored new.files (answer stored).state) → (told → (stored : State) → Starts stored → NotDamaged {T = T} (Err fault))
-    → HasPageCause {T = T} old.faults new.faults (Err fault) → Loads told Starts answer old new r
-loads_fault {T = T} told Starts answer old new fault r is stored whole cause = subst (Loads told Starts answer old new) (sym is) (record {
+    → HasPageCause {T = T} old.faults new.faults (Err fault) → OnDamage {T = T} (Err fault) (IsEvident (told × trusts) new.files) → Loads told trusts Starts answer old new r
+loads_fault {T = T} told trusts Starts answer old new fault r is stored whole cause evident = subst (Loads told trusts Starts answer old new) (sym is) (record {
   does = λ t state h. does_fault new.files state (answer state) old.text new.text fault (other fault (whole t state h)) (stored t state h);
   unchanged = λ t. tt;
   canon = λ t state h. tt;
   cause = fault_to old.faults new.faults fault cause;
+  evident = evident;
 })
   where
     other : (f : PageFault) → NotDamaged {T = T} (Err f) → NotDamaged {T = Bool} (Err f)
@@ -55,22 +59,23 @@ loads_fault {T = T} told Starts answer old new fault r is stored whole cause = s
     other (page.Damaged d) whole = whole
 
 -- for want of memory nothing is changed
-pub loads_no_memory : (told : Type 0) (Starts : Starting) (answer : State → Answer) (files : Files) (faults : ℕ) (before after : List ℕ) (r : Result Bool PageFault) → r ≡ Err page.Memory
+pub loads_no_memory : (told trusts : Type 0) (Starts : Starting) (answer : State → Answer) (files : Files) (faults : ℕ) (before after : List ℕ) (r : Result Bool PageFault) → r ≡ Err page.Memory
     → ((stored : State) → Starts stored → IsStored files stored)
-    → Loads told Starts answer (record { files = files; faults = faults; text = before }) (record { files = files; faults = faults; text = after }) r
-loads_no_memory told Starts answer files faults before after r is keeps =
-    loads_fault {T = Bool} told Starts answer _ _ page.Memory r is (λ t state h. inl (keeps state h)) (λ t state h. tt) (memory_cause faults faults (omega arith))
+    → Loads told trusts Starts answer (record { files = files; faults = faults; text = before }) (record { files = files; faults = faults; text = after }) r
+loads_no_memory told trusts Starts answer files faults before after r is keeps =
+    loads_fault {T = Bool} told trusts Starts answer _ _ page.Memory r is (λ t state h. inl (keeps state h)) (λ t state h. tt) (memory_cause faults faults (omega arith)) tt
 
 -- ---- refusals
 
-pub loads_refused : (told : Type 0) (Starts : Starting) (answer : State → Answer) (files : Files) (faults : ℕ) (before after cause : List ℕ) → after ≡ before ++ ended cause
+pub loads_refused : (told trusts : Type 0) (Starts : Starting) (answer : State → Answer) (files : Files) (faults : ℕ) (before after cause : List ℕ) → after ≡ before ++ ended cause
     → ((stored : State) → Starts stored → IsStored files stored) → ((stored : State) → Starts stored → answer stored ≡ refusal stored cause)
-    → Loads told Starts answer (record { files = files; faults = faults; text = before }) (record { files = files; faults = faults; text = after }) (Ok true)
-loads_refused told Starts answer files faults before after cause grew keeps is = record {
+    → Loads told trusts Starts answer (record { files = files; faults = faults; text = before }) (record { files = files; faults = faults; text = after }) (Ok true)
+loads_refused told trusts Starts answer files faults before after cause grew keeps is = record {
   does = λ t state h. subst (λ (a : Answer). DoesWhole files state a before after (Ok true)) (sym (is state h)) (grew, refl, keeps state h);
   unchanged = λ t e. refl;
   canon = λ t state h c says l inside apart head has. absurd (old_is_new files c says l inside apart);
   cause = no_cause faults true;
+  evident = tt;
 }
   where
     old_is_new : (files : Files) (c : CommitData) (says : IsCommitFile (bytes_of (files Commit)) c) (l : Listed) → Contains c.listed l → IsNewSegment files l.segment → ⊥
@@ -78,29 +83,37 @@ loads_refused told Starts answer files faults before after cause grew keeps is =
 
 -- ---- the same from elsewhere
 
--- it starts so wherever it starts otherwise, and the answers are the same
-pub loads_as : (told : Type 0) (From Starts : Starting) (other answer : State → Answer) (old new : Place) (r : Result Bool PageFault) → ((stored : State) → From stored → Starts stored)
-    → ((stored : State) → From stored → other stored ≡ answer stored) → Loads told Starts answer old new r → Loads told From other old new r
-loads_as told From Starts other answer old new r starts same loads = record {
+-- it starts so wherever it starts otherwise, the answers are the same, and the files are trusted so wherever they are otherwise
+pub loads_as : (told trusted trusts : Type 0) (From Starts : Starting) (other answer : State → Answer) (old new : Place) (r : Result Bool PageFault) → (trusted → trusts)
+    → ((stored : State) → From stored → Starts stored) → ((stored : State) → From stored → other stored ≡ answer stored) → Loads told trusts Starts answer old new r → Loads told trusted From other old new r
+loads_as told trusted trusts From Starts other answer old new r more starts same loads = record {
   does = λ t state h. subst (λ (a : Answer). DoesWhole new.files state a old.text new.text r) (sym (same state h)) (loads.does t state (starts state h));
   unchanged = loads.unchanged;
   canon = λ t state h. loads.canon t state (starts state h);
   cause = loads.cause;
+  evident = on_evident_less (told × trusts) (told × trusted) new.files r (λ h. (h.0, more h.1)) loads.evident;
 }
 
 -- what is said of files that tell themselves
-pub loads_told : (told : Type 0) (Starts : Starting) (answer : State → Answer) (old new : Place) (r : Result Bool PageFault) → Loads (Unit {0}) Starts answer old new r → Loads told Starts answer old new r
-loads_told told Starts answer old new r loads =
-    record { does = λ t. loads.does tt; unchanged = λ t. loads.unchanged tt; canon = λ t. loads.canon tt; cause = loads.cause }
+pub loads_told : (told trusts : Type 0) (Starts : Starting) (answer : State → Answer) (old new : Place) (r : Result Bool PageFault) → Loads (Unit {0}) trusts Starts answer old new r → Loads told trusts Starts answer old new r
+loads_told told trusts Starts answer old new r loads = record {
+  does = λ t. loads.does tt;
+  unchanged = λ t. loads.unchanged tt;
+  canon = λ t. loads.canon tt;
+  cause = loads.cause;
+  evident = on_evident_less (Unit {0} × trusts) (told × trusts) new.files r (λ h. (tt, h.1)) loads.evident;
+}
 
 -- after a call that left the files
-pub loads_after : {U : Type 0} (told : Type 0) (From Starts : Starting) (answer : State → Answer) (old middle new : Place) (x : U) (r : Result Bool PageFault) → (told → middle.files ≡ old.files)
-    → middle.text ≡ old.text → HasPageCause old.faults middle.faults (Ok x) → (told → (stored : State) → From stored → Starts stored) → Loads told Starts answer middle new r → Loads told From answer old new r
-loads_after told From Starts answer old middle new x r same text cause starts loads = record {
+pub loads_after : {U : Type 0} (told trusted trusts : Type 0) (From Starts : Starting) (answer : State → Answer) (old middle new : Place) (x : U) (r : Result Bool PageFault) → (told → middle.files ≡ old.files)
+    → middle.text ≡ old.text → HasPageCause old.faults middle.faults (Ok x) → (told → trusted → trusts) → (told → (stored : State) → From stored → Starts stored) → Loads told trusts Starts answer middle new r
+    → Loads told trusted From answer old new r
+loads_after told trusted trusts From Starts answer old middle new x r same text cause more starts loads = record {
   does = λ t state h. subst (λ (bytes : List ℕ). DoesWhole new.files state (answer state) bytes new.text r) text (loads.does t state (starts t state h));
   unchanged = λ t. subst (λ (f : Files). IfOk r (λ refused. refused ≡ true → new.files ≡ f)) (same t) (loads.unchanged t);
   canon = λ t state h. subst (λ (f : Files). OnOk r (HasNewCanonical f new.files)) (same t) (loads.canon t state (starts t state h));
   cause = cause_then old.faults middle.faults new.faults r cause.fine loads.cause;
+  evident = on_evident_less (told × trusts) (told × trusted) new.files r (λ h. (h.0, more h.0 h.1)) loads.evident;
 }
 
 -- ---- a session is opened
@@ -151,10 +164,10 @@ loading_rests D files s (Some i) l = ap at_rest (sym (is_some _ _ l.is) ∙ l.ke
 -- ---- all points are added
 
 -- where not all fit
-pub loading_full : (D : ℕ) (told : Type 0) (files : Files) (s : SessionData) (faults : ℕ) (points : List (List ℤ)) (before after : List ℕ) → after ≡ before ++ ended full_text → 2 ^ 24 + 1 ≤ s.set.given + length points
-    → Loads told (IsLoading D files s) (λ stored. matched D stored points) (record { files = files; faults = faults; text = before }) (record { files = files; faults = faults; text = after }) (Ok true)
-loading_full D told files s faults points before after grew many =
-    loads_refused told (IsLoading D files s) _ files faults before after full_text grew (λ stored l. l.keeps)
+pub loading_full : (D : ℕ) (told trusts : Type 0) (files : Files) (s : SessionData) (faults : ℕ) (points : List (List ℤ)) (before after : List ℕ) → after ≡ before ++ ended full_text → 2 ^ 24 + 1 ≤ s.set.given + length points
+    → Loads told trusts (IsLoading D files s) (λ stored. matched D stored points) (record { files = files; faults = faults; text = before }) (record { files = files; faults = faults; text = after }) (Ok true)
+loading_full D told trusts files s faults points before after grew many =
+    loads_refused told trusts (IsLoading D files s) _ files faults before after full_text grew (λ stored l. l.keeps)
     (λ stored l. matched_is D stored l.index points l.is l.seen.dims ∙ full_is D stored l.index points l.is (subst (λ n. 2 ^ 24 + 1 ≤ n + length points) (sym l.seen.given) many))
 
 -- the answer where all fit
@@ -166,16 +179,18 @@ fitting D files s stored points l fits =
 -- a fault while they are added: what was stored is
 pub adding_stopped : {T : Type 0} (D : ℕ) (told : Type 0) (answer : State → Answer) (points : List (List ℤ)) (a b : Spot) (before after : List ℕ) (fault : PageFault) (r : Result Bool PageFault) → r ≡ Err fault
     → Adds {T = T} D told points a b (Err fault)
-    → Loads told (IsLoading D a.files a.session) answer (record { files = a.files; faults = a.faults; text = before }) (record { files = b.files; faults = b.faults; text = after }) r
-adding_stopped D told answer points a b before after fault r is adds = loads_fault told (IsLoading D a.files a.session) answer _ _ fault r is
+    → Loads told (Trusts D a.files a.session) (IsLoading D a.files a.session) answer (record { files = a.files; faults = a.faults; text = before }) (record { files = b.files; faults = b.faults; text = after }) r
+adding_stopped {T = T} D told answer points a b before after fault r is adds = loads_fault told (Trusts D a.files a.session) (IsLoading D a.files a.session) answer _ _ fault r is
     (λ t stored l. inl (stored_still a.files b.files stored (adds.kept t l.guards) l.keeps))
     (λ t stored l. adds.whole t l.index l.seen) adds.cause
+    (on_evident_less {X = T} (told × IsFaithful D a.files a.session.set) (told × Trusts D a.files a.session) b.files (Err fault) (λ h. (h.0, h.1.faithful)) adds.evident)
 
 -- a fault of the commit after them: what was stored is, or all of it
 pub commit_stopped : {T U : Type 0} (D : ℕ) (told : Type 0) (points : List (List ℤ)) (a b c : Spot) (x : U) (before after : List ℕ) (fault : PageFault) (r : Result Bool PageFault) → r ≡ Err fault
     → a.session.set.given + length points ≤ 2 ^ 24 → Adds D told points a b (Ok x) → IsCommitted {T = T} D told b c (Err fault)
-    → Loads told (IsLoading D a.files a.session) (λ stored. matched D stored points) (record { files = a.files; faults = a.faults; text = before }) (record { files = c.files; faults = c.faults; text = after }) r
-commit_stopped D told points a b c x before after fault r is fits adds commits = loads_fault told (IsLoading D a.files a.session) _ _ _ fault r is
+    → OnDamage {T = T} (Err fault) (IsEvident (told × IsFaithful D b.files b.session.set) c.files)
+    → Loads told (Trusts D a.files a.session) (IsLoading D a.files a.session) (λ stored. matched D stored points) (record { files = a.files; faults = a.faults; text = before }) (record { files = c.files; faults = c.faults; text = after }) r
+commit_stopped {T = T} D told points a b c x before after fault r is fits adds commits evident = loads_fault told (Trusts D a.files a.session) (IsLoading D a.files a.session) _ _ _ fault r is
     (λ t stored l. ⊎_elim
     (λ same. inl (stored_still b.files c.files stored same (stored_still a.files b.files stored (adds.kept t l.guards) l.keeps)))
     (λ there. inr (subst (IsStored c.files) (sym (ap (λ (n : Answer). n.state) (fitting D a.files a.session stored points l fits)))
@@ -183,12 +198,13 @@ commit_stopped D told points a b c x before after fault r is fits adds commits =
     (commits.stored t (with_points l.index points) (adds.seen t l.index l.seen) (adds.guards t l.guards)))
     (λ t stored l. commits.whole t (with_points l.index points) (adds.seen t l.index l.seen))
     (cause_then a.faults b.faults c.faults (Err fault) adds.cause.fine commits.cause)
+    (on_evident_less {X = T} (told × IsFaithful D b.files b.session.set) (told × Trusts D a.files a.session) c.files (Err fault) (λ h. (h.0, adds.faithful h.0 h.1.faithful)) evident)
 
 -- all came, and are stored
 pub all_loaded : {T U : Type 0} (D : ℕ) (told : Type 0) (points : List (List ℤ)) (a b c : Spot) (x : U) (y : T) (next : ℕ) (before after : List ℕ)
     → a.session.set.given + length points ≤ 2 ^ 24 → next ≡ a.session.set.next → after ≡ before ++ loaded_text (length points) (next + length points)
     → Adds D told points a b (Ok x) → IsCommitted D told b c (Ok y)
-    → Loads told (IsLoading D a.files a.session) (λ stored. matched D stored points) (record { files = a.files; faults = a.faults; text = before }) (record { files = c.files; faults = c.faults; text = after }) (Ok false)
+    → Loads told (Trusts D a.files a.session) (IsLoading D a.files a.session) (λ stored. matched D stored points) (record { files = a.files; faults = a.faults; text = before }) (record { files = c.files; faults = c.faults; text = after }) (Ok false)
 all_loaded D told points a b c x y next before after fits first grew adds commits = record {
   does = λ t stored l.
       let at = adds.seen t l.index l.seen in
@@ -207,6 +223,7 @@ all_loaded D told points a b c x y next before after fits first grew adds commit
       (commits.says t guards) commits.unchanged;
   cause = let one = adds.cause.fine in let two = commits.cause.fine in let late = adds.cause.later in let more = commits.cause.later in
       record { later = omega arith; fine = two ∙ one; failed = λ e. absurd cc };
+  evident = tt;
 }
 
 -- ---- answers
@@ -216,18 +233,32 @@ pub told_count : (before after : List ℕ) (count next many : ℕ) → after ≡
 told_count before after count next many grew counted = grew ∙ ap (λ (n : ℕ). before ++ loaded_text n (next + n)) counted
 
 -- a file that is refused for its fault
-pub file_refused : (told : Type 0) (Starts : Starting) (files : Files) (faults : ℕ) (before after : List ℕ) (input : List ℕ) (names : List (List ℕ)) (fault : CsvFault) (r : Result Bool PageFault)
+pub file_refused : (told trusts : Type 0) (Starts : Starting) (files : Files) (faults : ℕ) (before after : List ℕ) (input : List ℕ) (names : List (List ℕ)) (fault : CsvFault) (r : Result Bool PageFault)
     → ((stored : State) → Starts stored → IsStored files stored) → points_of names (records_of input) ≡ Err fault
-    → Loads (Unit {0}) (IsStored files) (λ stored. loaded_by names stored (Err fault)) (record { files = files; faults = faults; text = before }) (record { files = files; faults = faults; text = after }) r
-    → Loads told Starts (λ stored. loaded stored input names) (record { files = files; faults = faults; text = before }) (record { files = files; faults = faults; text = after }) r
-file_refused told Starts files faults before after input names fault r keeps fails loads =
-    loads_as told Starts (IsStored files) _ _ _ _ r keeps (λ stored h. loaded_fault stored input names fault fails) (loads_told told (IsStored files) _ _ _ r loads)
+    → Loads (Unit {0}) (Unit {0}) (IsStored files) (λ stored. loaded_by names stored (Err fault)) (record { files = files; faults = faults; text = before }) (record { files = files; faults = faults; text = after }) r
+    → Loads told trusts Starts (λ stored. loaded stored input names) (record { files = files; faults = faults; text = before }) (record { files = files; faults = faults; text = after }) r
+file_refused told trusts Starts files faults before after input names fault r keeps fails loads =
+    loads_as told trusts (Unit {0}) Starts (IsStored files) _ _ _ _ r (λ h. tt) keeps (λ stored h. loaded_fault stored input names fault fails) (loads_told told (Unit {0}) (IsStored files) _ _ _ r loads)
 
 -- the commit was not read
 pub unread_commit : {T : Type 0} (told : Type 0) (answer : State → Answer) (old new : Place) (fault : PageFault) (r : Result Bool PageFault) → r ≡ Err fault → (told → new.files ≡ old.files)
-    → (told → (stored : State) → IsStored old.files stored → NotDamaged {T = T} (Err fault)) → HasPageCause {T = T} old.faults new.faults (Err fault) → Loads told (IsStored old.files) answer old new r
-unread_commit {T = T} told answer old new fault r is same whole cause =
-    loads_fault {T = T} told (IsStored old.files) answer old new fault r is (λ t stored h. inl (subst (λ (f : Files). IsStored f stored) (sym (same t)) h)) whole cause
+    → (told → (stored : State) → IsStored old.files stored → NotDamaged {T = T} (Err fault)) → HasPageCause {T = T} old.faults new.faults (Err fault)
+    → (told → OnDamage {T = T} (Err fault) (IsCommitDamageOf old.files)) → OnDamage {T = T} (Err fault) IsCommitDamage → Loads told (Unit {0}) (IsStored old.files) answer old new r
+unread_commit {T = T} told answer old new fault r is same whole cause damage shown =
+    loads_fault {T = T} told (Unit {0}) (IsStored old.files) answer old new fault r is (λ t stored h. inl (subst (λ (f : Files). IsStored f stored) (sym (same t)) h)) whole cause
+    (on_evident_at {X = T} told (told × Unit {0}) old.files new.files (Err fault) (λ h. h.0) (λ h. same h.0) (on_commit_evident {X = T} told old.files (Err fault) damage shown))
+
+-- a damage of files that are the same
+pub evident_still : (told trusts : Type 0) (old new : Files) (fault : PageFault) → (told → new ≡ old) → FaultShows (IsEvident (told × trusts) old) fault → FaultShows (IsEvident (told × trusts) new) fault
+evident_still told trusts old new fault same evident = on_evident_at {X = Bool} (told × trusts) (told × trusts) old new (Err fault) (λ h. h) (λ h. same h.0) evident
+
+-- where it starts the files are trusted, where what a session is made of is so
+pub made_trusts : (D : ℕ) (files : Files) (s : SessionData) → (files Commit ≡ None → Guards D files s) → IsFaithful D files s.set → files Commit ≡ None → Trusts D files s
+made_trusts D files s guards faithful none = record { guards = guards none; faithful = faithful }
+
+-- where the files are the same, a session that is trusted there is so still
+pub trusts_still : (D : ℕ) (old new : Files) (s : SessionData) → new ≡ old → Guards D old s → IsFaithful D old s.set → Trusts D new s
+trusts_still D old new s same guards faithful = subst (λ (f : Files). Trusts D f s) (sym same) (record { guards = guards; faithful = faithful })
 
 pub none_keeps : (files : Files) (stored : State) → StartsNone files stored → IsStored files stored
 none_keeps files stored (none, absent) = subst (IsStored files) (sym none) absent

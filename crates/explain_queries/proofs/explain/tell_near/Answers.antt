@@ -22,6 +22,8 @@ returns-in_err-found g c =
       reads = λ told s e t tells. c.nearest.ensures.reads told e.seen.contents e.seen.stands (nearby g.row.D c.args.k _ _ c.args.at.now.c s e) (nearby_is g.row.D c.args.k _ _ c.args.at.now.c s e) t.touched (near_touches g.row.D c.args.k _ _ c.args.at.now.c s e t tells);
       cause = c.in_err-found.ensures.cause;
       whole = c.in_err-found.ensures.whole;
+      faithful = c.nearest.ensures.faithful;
+      evident = c.in_err-found.ensures.evident;
     })
 
 pub returns-in_err-put_near : goal.returns-in_err-put_near
@@ -34,6 +36,8 @@ returns-in_err-put_near g c =
       reads = λ told s e t tells. c.nearest.ensures.reads told e.seen.contents e.seen.stands (nearby g.row.D c.args.k _ _ c.args.at.now.c s e) (nearby_is g.row.D c.args.k _ _ c.args.at.now.c s e) t.touched (near_touches g.row.D c.args.k _ _ c.args.at.now.c s e t tells);
       cause = c.in_ok-found.ensures.cause;
       whole = c.in_ok-found.ensures.whole;
+      faithful = c.nearest.ensures.faithful;
+      evident = c.in_ok-found.ensures.evident;
     })
 
 pub returns : goal.returns
@@ -45,6 +49,8 @@ returns g c =
       reads = λ told s e t tells. c.nearest.ensures.reads told e.seen.contents e.seen.stands (nearby g.row.D c.args.k _ _ c.args.at.now.c s e) (nearby_is g.row.D c.args.k _ _ c.args.at.now.c s e) t.touched (near_touches g.row.D c.args.k _ _ c.args.at.now.c s e t tells);
       cause = c.in_ok-found.ensures.cause;
       whole = c.in_ok-found.ensures.whole;
+      faithful = c.nearest.ensures.faithful;
+      evident = c.in_ok-found.ensures.evident;
     })
     (λ told s e. near_told g.row.D c.args.k _ _ c.args.at.now.c s e _ _ c.in_ok-found.found.items c.survey_near-touched.result c.len.result _ _ c.survey_near-touched.ensures
     (ap (λ (u : SetData). heads_of u.parts) c.nearest.ensures.alone.is) (c.reach.ensures ∙ ap (λ ns. reach c.args.k (found_of ns)) c.as_slice.ensures.value)

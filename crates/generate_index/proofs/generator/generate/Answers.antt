@@ -1,5 +1,5 @@
 -- What the folder's commit says decides whether an index is made.
-use Rattle.std.proofs.Common.{Bool, true, Err, OnOk, refl, sym, ap, subst, ◌∙◌}
+use Rattle.std.proofs.Common.{Bool, true, Err, IsTrue, OnOk, refl, sym, ap, subst, ◌∙◌}
 use Rattle.std.proofs.lemmas.Result.{err_from_is_err_and}
 use Rattle.outer_io.specs.declared.file_name.FileName.TheVariants.{Commit}
 use Rattle.outer_io.specs.Files.{Files}
@@ -10,7 +10,7 @@ use Rattle.index_core.proofs.Wholes.{state_undamaged}
 use Rattle.index_model.specs.State.{State}
 use Rattle.stored_index.specs.Stored.{IsStored}
 use Rattle.drawn_points.specs.Generated.{generated}
-use Rattle.generate_index.proofs.Ended.{commit_there, ends_there, ends_unread, ends_untold, none_anew, none_there}
+use Rattle.generate_index.proofs.Ended.{commit_there, ends_there, ends_unread, ends_untold, memory_evident, none_anew, none_there, unread_evident}
 use Rattle.generate_index.proofs.generator.generate.Goals as goal
 
 pub returns-in-Ok-Some-clause-generates : goal.returns-in-Ok-Some-clause-generates
@@ -35,6 +35,17 @@ returns-in-Ok-None-clause-canon g c = λ told state h.
 pub returns-clause-generates : goal.returns-clause-generates
 returns-clause-generates g c = λ told state h.
     ends_unread Bool (g.F.Pages.files c.args.folder.now) (g.F.Pages.files c.read_commit.new.folder) state (generated state c.args.docs c.args.seed) c.args.text.now.items c.args.text.now.items c.in-Err.fault _ refl (state_undamaged (g.F.Pages.files c.args.folder.now) state h (c.in-Err.ensures.absent told) (c.in-Err.ensures.whole told)) (c.in-Err.ensures.files told) h
+
+pub returns-clause-evident : goal.returns-clause-evident
+returns-clause-evident g c = unread_evident (IsTrue g.F.Pages.told) (g.F.Pages.files c.args.folder.now) (g.F.Pages.files c.read_commit.new.folder) c.in-Err.fault c.in-Err.ensures.files c.in-Err.ensures.damage c.in-Err.ensures.shown
+
+pub returns-in-Ok-None-clause-evident : goal.returns-in-Ok-None-clause-evident
+returns-in-Ok-None-clause-evident g c = c.generate_first.ensures.evident
+
+pub returns-in_err-put_exists-in-Ok-Some-clause-evident : goal.returns-in_err-put_exists-in-Ok-Some-clause-evident
+returns-in_err-put_exists-in-Ok-Some-clause-evident g c =
+    let p = err_from_is_err_and c.from_residual.result c.from_residual.ensures.1 in
+    memory_evident (IsTrue g.F.Pages.told) (g.F.Pages.files c.read_commit.new.folder) _ (p.1 ∙ ap (λ (e : PageFault). Err e) p.2)
 
 pub returns-in-Ok-Some-clause-canon : goal.returns-in-Ok-Some-clause-canon
 returns-in-Ok-Some-clause-canon g c = λ told state h. none_anew _ _ (c.in-Ok-Some.ensures.files told)

@@ -25,9 +25,9 @@ returns-in-Some g c = c.add_fitting.ensures
 pub returns-in_err-put_full-in-None : goal.returns-in_err-put_full-in-None
 returns-in_err-put_full-in-None g c =
     let p = err_from_is_err_and c.from_residual.result c.from_residual.ensures.1 in
-    loads_no_memory _ _ _ _ _ _ _ _ (p.1 ∙ ap (λ (e : PageFault). Err e) p.2) (λ stored l. l.keeps)
+    loads_no_memory _ _ _ _ _ _ _ _ _ (p.1 ∙ ap (λ (e : PageFault). Err e) p.2) (λ stored l. l.keeps)
 
 pub returns-in_ok-put_full-in-None : goal.returns-in_ok-put_full-in-None
 returns-in_ok-put_full-in-None g c =
     let long = length-map c.args.points.now (λ (q : Point g.row.D). q.c) in
-    loading_full g.row.D _ _ _ _ (coordinates_of c.args.points.now) _ _ c.in_ok-put_full-in-None.ensures (omega (arith, long, c.in-None.ensures, c.given.ensures.value))
+    loading_full g.row.D _ _ _ _ _ (coordinates_of c.args.points.now) _ _ c.in_ok-put_full-in-None.ensures (omega (arith, long, c.in-None.ensures, c.given.ensures.value))

@@ -22,7 +22,7 @@ commit-requires-after_bounds g c κs = λ _. session_fits g.row.D c.requires.few
 pub returns-in_err-put_loaded : goal.returns-in_err-put_loaded
 returns-in_err-put_loaded g c =
     let p = err_from_is_err_and c.from_residual.result c.from_residual.ensures.1 in
-    loads_no_memory _ _ _ _ _ _ _ _ (p.1 ∙ ap (λ (e : PageFault). Err e) p.2) (λ stored l. l.keeps)
+    loads_no_memory _ _ _ _ _ _ _ _ _ (p.1 ∙ ap (λ (e : PageFault). Err e) p.2) (λ stored l. l.keeps)
 
 pub returns-in_err-add_points : goal.returns-in_err-add_points
 returns-in_err-add_points g c =
@@ -43,7 +43,7 @@ returns-in_err-commit g c =
       brings = c.in_err-commit.ensures.canon;
       cause = c.in_err-commit.ensures.cause;
       whole = c.in_err-commit.ensures.whole;
-    })
+    }) c.in_err-commit.ensures.evident
 
 pub returns : goal.returns
 returns g c =

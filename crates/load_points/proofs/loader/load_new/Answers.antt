@@ -2,7 +2,7 @@
 use Rattle.std.proofs.Common.{◌≤◌, ℕ, zero, suc, refl, sym, subst, arith}
 use Rattle.leaf_codec.specs.Leaves.{leaf_limit}
 use Rattle.index_core.proofs.Sizes.{session_fits}
-use Rattle.load_points.proofs.Loading.{loads_as, loads_no_memory, made_loading, none_keeps}
+use Rattle.load_points.proofs.Loading.{loads_as, loads_no_memory, made_loading, made_trusts, none_keeps}
 use Rattle.load_points.proofs.loader.load_new.Goals as goal
 
 -- a leaf has room for two entries at least
@@ -32,9 +32,9 @@ load_into-requires-after_bounds g c κs = λ _. (session_fits g.row.D c.requires
 
 pub returns-in-Ok : goal.returns-in-Ok
 returns-in-Ok g c =
-    loads_as _ _ _ _ _ _ _ c.load_into.result
+    loads_as _ _ _ _ _ _ _ _ _ c.load_into.result (made_trusts g.row.D _ _ (c.in-Ok.ensures.guards _) (c.in-Ok.ensures.faithful _))
     (λ stored h. made_loading g.row.D _ _ _ stored c.greatest_leaf.ensures (c.in-Ok.ensures.seen _) (c.in-Ok.ensures.guards _) c.in-Ok.ensures.bare h)
     (λ stored h. refl) c.load_into.ensures
 
 pub returns-in-Err : goal.returns-in-Err
-returns-in-Err g c = loads_no_memory _ _ _ _ _ _ _ _ refl (λ stored h. none_keeps (g.F.Pages.files c.args.folder.now) stored h)
+returns-in-Err g c = loads_no_memory _ _ _ _ _ _ _ _ _ refl (λ stored h. none_keeps (g.F.Pages.files c.args.folder.now) stored h)

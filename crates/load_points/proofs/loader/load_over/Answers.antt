@@ -1,7 +1,7 @@
 -- The index is opened, and the file loaded into it.
 use Rattle.std.proofs.Common.{Some, refl, inl}
 use Rattle.index_core.proofs.Sizes.{session_fits}
-use Rattle.load_points.proofs.Loading.{attached_loading, has_dims, loads_after, loads_fault, starts_keeps, starts_still}
+use Rattle.load_points.proofs.Loading.{attached_loading, evident_still, has_dims, loads_after, loads_fault, starts_keeps, starts_still, trusts_still}
 use Rattle.load_points.proofs.loader.load_over.Goals as goal
 
 pub attach-requires : goal.attach-requires
@@ -12,12 +12,14 @@ load_open-requires-after_bounds g c κs = λ _. (session_fits g.row.D c.requires
 
 pub returns-in-Ok : goal.returns-in-Ok
 returns-in-Ok g c =
-    loads_after _ _ _ _ _ _ _ _ c.load_open.result c.in-Ok.ensures.files refl c.in-Ok.ensures.cause
+    loads_after _ _ _ _ _ _ _ _ _ _ c.load_open.result c.in-Ok.ensures.files refl c.in-Ok.ensures.cause
+    (λ told says. trusts_still g.row.D _ _ _ (c.in-Ok.ensures.files told) (c.in-Ok.ensures.guards told says) (c.in-Ok.ensures.faithful told))
     (λ told stored h. starts_still g.row.D _ _ c.args.commit _ stored (c.in-Ok.ensures.files told)
     (attached_loading g.row.D _ c.args.commit _ stored (c.in-Ok.ensures.seen told h.0) (c.in-Ok.ensures.guards told h.0) c.in-Ok.ensures.unchanged h) (has_dims g.row.D _ c.args.commit stored c.requires.dims h))
     c.load_open.ensures
 
 pub returns-in-Err : goal.returns-in-Err
 returns-in-Err g c =
-    loads_fault _ _ _ _ _ c.in-Err.fault _ refl (λ told stored h. inl (starts_keeps _ _ _ stored (c.in-Err.ensures.files told) h))
+    loads_fault _ _ _ _ _ _ c.in-Err.fault _ refl (λ told stored h. inl (starts_keeps _ _ _ stored (c.in-Err.ensures.files told) h))
     (λ told stored h. c.in-Err.ensures.whole told h.0 (Some h.1.0) h.1.2) c.in-Err.ensures.cause
+    (evident_still _ _ (g.F.Pages.files c.args.folder.now) (g.F.Pages.files c.attach.new.folder) c.in-Err.fault c.in-Err.ensures.files c.in-Err.ensures.evident)

@@ -9,7 +9,7 @@ use Rattle.load_points.proofs.loader.refuse_file.Goals as goal
 pub returns-in_err-put_csv_fault : goal.returns-in_err-put_csv_fault
 returns-in_err-put_csv_fault c files faults =
     let p = err_from_is_err_and c.from_residual.result c.from_residual.ensures.1 in
-    loads_no_memory _ _ _ files faults _ _ _ (p.1 ∙ ap (λ (e : PageFault). Err e) p.2) (λ stored h. h)
+    loads_no_memory _ _ _ _ files faults _ _ _ (p.1 ∙ ap (λ (e : PageFault). Err e) p.2) (λ stored h. h)
 
 pub returns : goal.returns
-returns c files faults = loads_refused _ _ _ files faults _ _ (csv_text c.args.columns.now c.args.fault.now) c.in_ok-put_csv_fault.ensures (λ stored h. h) (λ stored h. refl)
+returns c files faults = loads_refused _ _ _ _ files faults _ _ (csv_text c.args.columns.now c.args.fault.now) c.in_ok-put_csv_fault.ensures (λ stored h. h) (λ stored h. refl)
