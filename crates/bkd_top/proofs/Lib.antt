@@ -13,3 +13,4 @@ pub mod Deciding
 pub mod Passing
 pub mod Leading
 pub mod Starting
+pub mod Shown

@@ -4,6 +4,7 @@ use Rattle.std.specs.Prelude.{is_ok}
 use Rattle.index_core.proofs.Sizes.{session_fits}
 use Rattle.bkd_top.proofs.Lined.{line_at, sent_answers, sent_as, left_answers, send_cause, fault_cause}
 use Rattle.bkd_top.proofs.Passing.{passes_to}
+use Rattle.bkd_top.proofs.Shown.{fault_shows, sink_shows}
 use Rattle.bkd_top.proofs.answers.answer_line.Goals as goal
 
 pub reply_to-requires-after_bounds : goal.reply_to-requires-after_bounds
@@ -31,3 +32,15 @@ returns-in-Ok-clause-passes g c = λ told i stored h.
 pub returns-in-Err-clause-passes : goal.returns-in-Err-clause-passes
 returns-in-Err-clause-passes g c = λ told i stored h.
     passes_to {S = Bool} g.row.D c.args.number i c.args.line.now _ _ (Err c.in-Err.fault) c.stopped.result (λ e. sym (ap is_ok c.stopped.ensures) ∙ e) (c.in-Err.ensures.passes told i stored h)
+
+pub returns-in-Ok-clause-trusts : goal.returns-in-Ok-clause-trusts
+returns-in-Ok-clause-trusts g c = c.in-Ok.ensures.trusts
+
+pub returns-in-Ok-clause-evident : goal.returns-in-Ok-clause-evident
+returns-in-Ok-clause-evident g c = sink_shows _ c.send.result c.send.ensures.cause
+
+pub returns-in-Err-clause-trusts : goal.returns-in-Err-clause-trusts
+returns-in-Err-clause-trusts g c = c.in-Err.ensures.trusts
+
+pub returns-in-Err-clause-evident : goal.returns-in-Err-clause-evident
+returns-in-Err-clause-evident g c = fault_shows _ c.in-Err.fault c.in-Err.ensures.evident c.stopped.result c.stopped.ensures

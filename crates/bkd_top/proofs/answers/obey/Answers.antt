@@ -5,6 +5,7 @@ use Rattle.bkd_top.proofs.Answered.{done_replies, refused_replies, fault_replies
 use Rattle.bkd_top.proofs.Lined.{page_done, page_then, page_same}
 use Rattle.index_model.specs.declared.session.Applied.{Applied}
 use Rattle.bkd_top.proofs.Passing.{passes_applied, passes_to}
+use Rattle.bkd_top.proofs.Shown.{memory_shows}
 use Rattle.bkd_top.proofs.answers.obey.Goals as goal
 
 pub returns-in-Ok-Done-clause-replies : goal.returns-in-Ok-Done-clause-replies
@@ -80,3 +81,18 @@ returns-in-Err-clause-passes g c = λ told i stored h bytes reads.
       unread = c.in-Err.ensures.unread;
       barred = c.in-Err.ensures.barred;
     }))
+
+pub returns-in-Ok-Done-clause-trusts : goal.returns-in-Ok-Done-clause-trusts
+returns-in-Ok-Done-clause-trusts g c = λ told h. record { guards = c.in-Ok-Done.ensures.guards told h.guards; faithful = c.in-Ok-Done.ensures.faithful told h.faithful }
+
+pub returns-in-Ok-Refused-clause-trusts : goal.returns-in-Ok-Refused-clause-trusts
+returns-in-Ok-Refused-clause-trusts g c = λ told h. record { guards = c.in-Ok-Refused.ensures.guards told h.guards; faithful = c.in-Ok-Refused.ensures.faithful told h.faithful }
+
+pub returns-in-Ok-Refused-clause-evident : goal.returns-in-Ok-Refused-clause-evident
+returns-in-Ok-Refused-clause-evident g c = memory_shows _ c.refuse.result c.refuse.ensures.memory
+
+pub returns-in-Err-clause-trusts : goal.returns-in-Err-clause-trusts
+returns-in-Err-clause-trusts g c = λ told h. record { guards = c.in-Err.ensures.guards told h.guards; faithful = c.in-Err.ensures.faithful told h.faithful }
+
+pub returns-in-Err-clause-evident : goal.returns-in-Err-clause-evident
+returns-in-Err-clause-evident g c = c.in-Err.ensures.evident

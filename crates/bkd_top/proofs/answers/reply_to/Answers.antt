@@ -7,6 +7,7 @@ use Rattle.bkd_top.proofs.Answered.{unread_replies, fault_read}
 use Rattle.bkd_top.proofs.Lined.{page_memory, page_still}
 use Rattle.bkd_top.proofs.Passing.{passes_none, passes_unread}
 use Rattle.bkd_top.proofs.Sizes.{command_fits}
+use Rattle.bkd_top.proofs.Shown.{memory_shows}
 use Rattle.bkd_top.proofs.answers.reply_to.Goals as goal
 
 pub obey-requires-after_bounds : goal.obey-requires-after_bounds
@@ -40,3 +41,18 @@ pub returns-in-Err-clause-passes : goal.returns-in-Err-clause-passes
 returns-in-Err-clause-passes g c = λ told i stored h.
     let other : c.in-Err.fault ≢ fault.Memory = search rules in
     passes_unread g.row.D c.args.number i c.args.line.now c.in-Err.fault _ c.refuse_line.result h.seen.dims (fault_read (request_of {D = g.row.D}) c.in-Err.fault _ other c.in-Err.ensures.reads)
+
+pub returns-in-Ok-clause-trusts : goal.returns-in-Ok-clause-trusts
+returns-in-Ok-clause-trusts g c = c.obey.ensures.trusts
+
+pub returns-in-Ok-clause-evident : goal.returns-in-Ok-clause-evident
+returns-in-Ok-clause-evident g c = c.obey.ensures.evident
+
+pub returns-in-Err-Memory-clause-trusts : goal.returns-in-Err-Memory-clause-trusts
+returns-in-Err-Memory-clause-trusts g c = λ told h. h
+
+pub returns-in-Err-clause-trusts : goal.returns-in-Err-clause-trusts
+returns-in-Err-clause-trusts g c = λ told h. h
+
+pub returns-in-Err-clause-evident : goal.returns-in-Err-clause-evident
+returns-in-Err-clause-evident g c = memory_shows _ c.refuse_line.result c.refuse_line.ensures.memory

@@ -6,6 +6,7 @@ use Rattle.bkd_top.proofs.Ending.{cause_from}
 use Rattle.bkd_top.proofs.Going.{at_most_one, no_lines, refused_more}
 use Rattle.bkd_top.proofs.Lined.{cause_to}
 use Rattle.bkd_top.proofs.Telling.{left_end, left_here, left_on, line_stops, stage_all, stage_here, stage_sent}
+use Rattle.bkd_top.proofs.Shown.{same_stop, stop_less}
 use Rattle.bkd_top.proofs.explain.explain_all.Goals as goal
 
 pub tell_line-requires : goal.tell_line-requires
@@ -16,6 +17,7 @@ lines-init g c = record {
   going = λ told s e. (stage_here _ s _, e);
   left = λ told s e t tells. left_here s _ _ _ t tells;
   files = λ told. refl;
+  faithful = λ told h. h;
   room = omega (arith, c.requires.lines);
   counted = omega arith;
   folder_later = omega arith;
@@ -33,6 +35,7 @@ lines-preserved g c = record {
       let so_far = c.lines.invariant.going told s e in
       left_on s _ _ _ _ _ _ _ _ c.first_line.ensures.line (c.lines.invariant.left told s e t tells) (c.in-Ok.ensures.reads told s so_far.1);
   files = λ told. c.in-Ok.ensures.files told ∙ c.lines.invariant.files told;
+  faithful = λ told h. c.in-Ok.ensures.faithful told (c.lines.invariant.faithful told h);
   room = omega (arith, c.lines.invariant.room, c.first_line.ensures.shorter);
   counted = omega (arith, c.lines.invariant.counted, at_most_one _ _ c.from-refused.ensures);
   folder_later = omega (arith, c.lines.invariant.folder_later, c.tell_line.ensures.cause.folder_later);
@@ -73,3 +76,6 @@ returns-clause-cause g c = record {
   folder = λ e. absurd cc;
   sink = λ e. absurd cc;
 }
+
+pub returns-in-Err-clause-evident : goal.returns-in-Err-clause-evident
+returns-in-Err-clause-evident g c = stop_less _ _ _ _ (λ p. (p.0, c.lines.invariant.faithful p.0 p.1)) (same_stop _ c.in-Err.stop c.in-Err.ensures.evident)

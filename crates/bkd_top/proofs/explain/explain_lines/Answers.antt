@@ -1,7 +1,8 @@
 -- The lines are told over what the folder stores: no index, or the one whose commit was read.
-use Rattle.std.proofs.Common.{◌≤◌, ◌+◌, IsTrue, arith, refl, sym, subst, ◌∙◌}
+use Rattle.std.proofs.Common.{◌≤◌, ◌+◌, IsTrue, arith, refl, sym, subst, ◌∙◌, Option, Err}
 use Rattle.outer_io.specs.declared.file_name.FileName.TheVariants.{Commit}
 use Rattle.outer_io.specs.Files.{Files, bytes_of}
+use Rattle.commit_list.specs.Commits.{CommitData}
 use Rattle.commit_list.specs.CommitFiles.{IsCommitFile}
 use Rattle.script_lang.specs.Lines.{lines_of}
 use Rattle.stored_index.specs.Opening.{segments_pages}
@@ -11,6 +12,8 @@ use Rattle.bkd_top.proofs.Ending.{cause_from}
 use Rattle.bkd_top.proofs.Lined.{fault_cause, not_damaged}
 use Rattle.bkd_top.proofs.Scoped.{commit_few, none_scope, opening_is}
 use Rattle.bkd_top.proofs.Telling.{unread_ends}
+use Rattle.segment_set.proofs.Evident.{on_commit_evident}
+use Rattle.bkd_top.proofs.Shown.{fault_at, fault_shows, none_shows, says_after, stop_less}
 use Rattle.bkd_top.proofs.explain.explain_lines.Goals as goal
 
 pub returns-in-Ok-None-clause-ends : goal.returns-in-Ok-None-clause-ends
@@ -62,3 +65,16 @@ returns-in-Err-clause-reads g c = λ told pages opening s scope t tells.
 
 pub returns-in-Err-clause-cause : goal.returns-in-Err-clause-cause
 returns-in-Err-clause-cause g c = fault_cause _ _ _ c.in-Err.fault c.in-Err.ensures.cause c.stopped.result c.stopped.ensures
+
+pub returns-in-Ok-None-clause-evident : goal.returns-in-Ok-None-clause-evident
+returns-in-Ok-None-clause-evident g c = none_shows _ c.explain_none.result c.explain_none.ensures.undamaged
+
+pub returns-in-Ok-Some-clause-evident : goal.returns-in-Ok-Some-clause-evident
+returns-in-Ok-Some-clause-evident g c =
+    stop_less _ _ _ c.explain_stored.result (λ told. (told, says_after _ _ c.in-Ok-Some.commit (c.in-Ok-Some.ensures.files told) (rw c.in-Ok-Some.field-0-is at (c.in-Ok-Some.ensures.found told)))) c.explain_stored.ensures.evident
+
+pub returns-in-Err-clause-evident : goal.returns-in-Err-clause-evident
+returns-in-Err-clause-evident g c =
+    fault_shows _ c.in-Err.fault
+    (fault_at _ _ _ _ c.in-Err.fault (λ told. told) c.in-Err.ensures.files (on_commit_evident {X = Option CommitData} (IsTrue g.F.Pages.told) (g.F.Pages.files c.args.folder.now) (Err c.in-Err.fault) c.in-Err.ensures.damage c.in-Err.ensures.shown))
+    c.stopped.result c.stopped.ensures

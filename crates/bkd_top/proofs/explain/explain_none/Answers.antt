@@ -5,6 +5,7 @@ use Rattle.bkd_top.proofs.Ending.{cause_from}
 use Rattle.bkd_top.proofs.Going.{at_most_one, no_lines, refused_more}
 use Rattle.bkd_top.proofs.Lined.{cause_to}
 use Rattle.bkd_top.proofs.Telling.{line_stops, stage_all, stage_here, stage_sent}
+use Rattle.bkd_top.proofs.Shown.{same_stop}
 use Rattle.bkd_top.proofs.explain.explain_none.Goals as goal
 
 pub lines-init : goal.lines-init
@@ -31,3 +32,6 @@ returns-clause-ends g c =
 
 pub returns-clause-cause : goal.returns-clause-cause
 returns-clause-cause g c faults = record { folder_later = omega arith; sink_later = c.lines.invariant.sink_later; folder = λ e. absurd cc; sink = λ e. absurd cc }
+
+pub returns-in-Err-clause-undamaged : goal.returns-in-Err-clause-undamaged
+returns-in-Err-clause-undamaged g c = same_stop _ c.in-Err.stop c.in-Err.ensures.undamaged

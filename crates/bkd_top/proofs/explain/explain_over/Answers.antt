@@ -7,6 +7,8 @@ use Rattle.bkd_top.proofs.Ending.{cause_from}
 use Rattle.bkd_top.proofs.Lined.{fault_cause}
 use Rattle.bkd_top.proofs.Scoped.{attached_explains, scope_holds}
 use Rattle.bkd_top.proofs.Telling.{unread_ends}
+use Rattle.bkd_top.proofs.Shown.{fault_at, fault_shows, stop_less}
+use Rattle.segment_set.specs.Faithful.{IsFaithful}
 use Rattle.bkd_top.proofs.explain.explain_over.Goals as goal
 
 pub attach-requires : goal.attach-requires
@@ -47,3 +49,11 @@ returns-clause-reads g c = λ told says s scope t tells.
 
 pub returns-clause-cause : goal.returns-clause-cause
 returns-clause-cause g c = fault_cause _ _ _ c.in-Err.fault c.in-Err.ensures.cause c.stopped.result c.stopped.ensures
+
+pub returns-in-Ok-clause-evident : goal.returns-in-Ok-clause-evident
+returns-in-Ok-clause-evident g c =
+    stop_less _ _ _ c.explain_all.result (λ p. (p.0, subst (λ (f : Files). IsFaithful g.row.D f c.in-Ok.set) (sym (c.in-Ok.ensures.files p.0)) (c.in-Ok.ensures.faithful p.0))) c.explain_all.ensures.evident
+
+pub returns-clause-evident : goal.returns-clause-evident
+returns-clause-evident g c =
+    fault_shows _ c.in-Err.fault (fault_at _ _ _ _ c.in-Err.fault (λ p. p) (λ p. c.in-Err.ensures.files p.0) c.in-Err.ensures.evident) c.stopped.result c.stopped.ensures

@@ -4,6 +4,7 @@ use Rattle.bkd_top.specs.Runs.{DoesNothing, IsDamaged}
 use Rattle.bkd_top.proofs.Ending.{does_lines, folder_stopped, sink_stopped}
 use Rattle.bkd_top.proofs.Scoped.{scope_of}
 use Rattle.bkd_top.proofs.Telling.{none_told, told_ends, told_undamaged}
+use Rattle.bkd_top.proofs.Shown.{status_shows}
 use Rattle.bkd_top.proofs.explain.run_explain.Goals as goal
 
 pub returns-in-Ok-clause-never_usage : goal.returns-in-Ok-clause-never_usage
@@ -46,3 +47,6 @@ returns-in-Err-TooLarge-clause-ends g c = λ source told s scope sink. refl
 
 pub returns-in-Err-Memory-clause-ends : goal.returns-in-Err-Memory-clause-ends
 returns-in-Err-Memory-clause-ends g c = λ source told s scope. none_told _ s _ _ _ _ refl
+
+pub returns-in-Ok-clause-evident : goal.returns-in-Ok-clause-evident
+returns-in-Ok-clause-evident g c = rw c.status_of.ensures (status_shows _ c.explain_lines.result c.explain_lines.ensures.evident)

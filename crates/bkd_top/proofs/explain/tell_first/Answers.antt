@@ -4,6 +4,7 @@ use Rattle.page_cache.specs.declared.faults.PageFault.TheVariants as page
 use Rattle.index_core.proofs.Answering.{no_cause}
 use Rattle.bkd_top.proofs.Lined.{fault_cause, page_memory, send_cause, sent_as}
 use Rattle.bkd_top.proofs.Telling.{sent_line}
+use Rattle.bkd_top.proofs.Shown.{sink_shows}
 use Rattle.bkd_top.proofs.explain.tell_first.Goals as goal
 
 pub returns-in-Ok-clause-ends : goal.returns-in-Ok-clause-ends
@@ -19,3 +20,6 @@ returns-in-Err-clause-ends g c = λ sink. refl
 
 pub returns-in-Err-clause-cause : goal.returns-in-Err-clause-cause
 returns-in-Err-clause-cause g c faults = fault_cause {S = Bool} faults faults _ page.Memory (page_memory faults) _ refl
+
+pub returns-in-Ok-clause-undamaged : goal.returns-in-Ok-clause-undamaged
+returns-in-Ok-clause-undamaged g c = sink_shows _ c.send.result c.send.ensures.cause

@@ -3,6 +3,7 @@ use Rattle.std.proofs.Common.{IsTrue, refl}
 use Rattle.segment_set.proofs.Sizes.{set_fits}
 use Rattle.bkd_top.proofs.Lined.{fault_cause, send_cause, sent_as}
 use Rattle.bkd_top.proofs.Telling.{left_line, sent_line}
+use Rattle.bkd_top.proofs.Shown.{fault_shows, sink_shows}
 use Rattle.bkd_top.proofs.explain.tell_line.Goals as goal
 
 pub explain_line-requires : goal.explain_line-requires
@@ -40,3 +41,15 @@ returns-in-Err-clause-reads g c = c.in-Err.ensures.reads
 
 pub returns-in-Err-clause-cause : goal.returns-in-Err-clause-cause
 returns-in-Err-clause-cause g c = fault_cause _ _ _ c.in-Err.fault c.in-Err.ensures.cause c.stopped.result c.stopped.ensures
+
+pub returns-in-Ok-clause-faithful : goal.returns-in-Ok-clause-faithful
+returns-in-Ok-clause-faithful g c = c.in-Ok.ensures.faithful
+
+pub returns-in-Ok-clause-evident : goal.returns-in-Ok-clause-evident
+returns-in-Ok-clause-evident g c = sink_shows _ c.send.result c.send.ensures.cause
+
+pub returns-in-Err-clause-faithful : goal.returns-in-Err-clause-faithful
+returns-in-Err-clause-faithful g c = c.in-Err.ensures.faithful
+
+pub returns-in-Err-clause-evident : goal.returns-in-Err-clause-evident
+returns-in-Err-clause-evident g c = fault_shows _ c.in-Err.fault c.in-Err.ensures.evident c.stopped.result c.stopped.ensures

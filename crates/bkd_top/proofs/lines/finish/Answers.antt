@@ -2,6 +2,7 @@
 use Rattle.std.proofs.Common.{refl}
 use Rattle.bkd_top.proofs.Lined.{stops_end, ok_cause, fault_cause}
 use Rattle.bkd_top.proofs.Leading.{closes_by, closes_fails}
+use Rattle.bkd_top.proofs.Shown.{fault_at, fault_shows}
 use Rattle.bkd_top.proofs.lines.finish.Goals as goal
 
 pub returns-in-Ok-clause-ends : goal.returns-in-Ok-clause-ends
@@ -44,3 +45,7 @@ returns-in-Err-clause-closes g c = λ told i stored h.
       rested = c.in-Err.ensures.rested;
       levels = λ n none. tt;
     })
+
+pub returns-in-Err-clause-evident : goal.returns-in-Err-clause-evident
+returns-in-Err-clause-evident g c =
+    fault_shows _ c.in-Err.fault (fault_at _ _ _ _ c.in-Err.fault (λ p. (p.0, p.1.faithful)) (λ p. refl) c.in-Err.ensures.evident) c.stopped.result c.stopped.ensures

@@ -1,10 +1,15 @@
 -- The lines are done on what the folder stores: no index, or the one whose commit was read.
-use Rattle.std.proofs.Common.{IsTrue, refl, arith}
+use Rattle.std.proofs.Common.{IsTrue, refl, arith, Option, Err, ap, ◌∙◌}
+use Rattle.outer_io.specs.declared.file_name.FileName.TheVariants.{Commit}
+use Rattle.outer_io.specs.Files.{Files}
+use Rattle.commit_list.specs.Commits.{CommitData}
 use Rattle.script_lang.specs.Lines.{lines_of}
 use Rattle.bkd_top.specs.Progress.{start}
 use Rattle.bkd_top.proofs.Ending.{cause_from}
 use Rattle.bkd_top.proofs.Lined.{unopened, fault_cause, from_none, from_some, not_damaged}
 use Rattle.bkd_top.proofs.Starting.{leads_first, leads_some, leads_unread}
+use Rattle.segment_set.proofs.Evident.{on_commit_evident}
+use Rattle.bkd_top.proofs.Shown.{fault_at, fault_shows, says_after, stop_less}
 use Rattle.bkd_top.proofs.lines.run_lines.Goals as goal
 
 pub returns-in-Ok-None-clause-ends : goal.returns-in-Ok-None-clause-ends
@@ -43,3 +48,17 @@ returns-in-Ok-Some-clause-leads g c = λ told state h.
 pub returns-in-Err-clause-leads : goal.returns-in-Err-clause-leads
 returns-in-Err-clause-leads g c = λ told state h.
     leads_unread state _ _ _ _ _ c.stopped.result _ (c.in-Err.ensures.files told) (c.in-Err.ensures.unread told) (c.in-Err.ensures.most told) c.stopped.ensures
+
+pub returns-in-Ok-None-clause-evident : goal.returns-in-Ok-None-clause-evident
+returns-in-Ok-None-clause-evident g c =
+    stop_less _ _ _ c.run_first.result (λ told. (told, ap (λ (f : Files). f Commit) (c.in-Ok-None.ensures.files told) ∙ rw c.in-Ok-None.field-0-is at (c.in-Ok-None.ensures.found told))) c.run_first.ensures.evident
+
+pub returns-in-Ok-Some-clause-evident : goal.returns-in-Ok-Some-clause-evident
+returns-in-Ok-Some-clause-evident g c =
+    stop_less _ _ _ c.run_from.result (λ told. (told, says_after _ _ c.in-Ok-Some.commit (c.in-Ok-Some.ensures.files told) (rw c.in-Ok-Some.field-0-is at (c.in-Ok-Some.ensures.found told)))) c.run_from.ensures.evident
+
+pub returns-in-Err-clause-evident : goal.returns-in-Err-clause-evident
+returns-in-Err-clause-evident g c =
+    fault_shows _ c.in-Err.fault
+    (fault_at _ _ _ _ c.in-Err.fault (λ told. told) c.in-Err.ensures.files (on_commit_evident {X = Option CommitData} (IsTrue g.F.Pages.told) (g.F.Pages.files c.args.folder.now) (Err c.in-Err.fault) c.in-Err.ensures.damage c.in-Err.ensures.shown))
+    c.stopped.result c.stopped.ensures

@@ -6,6 +6,7 @@ use Rattle.bkd_top.proofs.Ending.{cause_from}
 use Rattle.bkd_top.proofs.Going.{no_lines, refused_more, at_most_one}
 use Rattle.bkd_top.proofs.Leading.{led_ends, led_first, led_on, led_stops}
 use Rattle.bkd_top.proofs.Lined.{goes_first, goes_on, stops_at, ends_then, end_lines, cause_to}
+use Rattle.bkd_top.proofs.Shown.{same_stop, stop_less}
 use Rattle.bkd_top.proofs.lines.run_made.Goals as goal
 
 pub answer_line-requires-after_bounds : goal.answer_line-requires-after_bounds
@@ -17,6 +18,7 @@ finish-requires-after_bounds g c κs = λ _. session_fits g.row.D c.requires.few
 pub lines-init : goal.lines-init
 lines-init g c = record {
   going = λ told i stored h. (goes_first g.row.D (g.F.Pages.files c.args.folder.now) c.args.session.now i stored _ _ _ _ h, led_first g.row.D _ i _ _);
+  trusts = λ told h. h;
   room = c.requires.lines;
   counted = c.requires.refused;
   folder_later = omega arith;
@@ -32,6 +34,7 @@ lines-preserved g c = record {
         led_on g.row.D _ i _ _ _ so_far.0.index _ _ so_far.1 _ _ c.first_line.ensures.line _ c.in-Ok.is_refused (c.in-Ok.ensures.passes told so_far.0.index so_far.0.stored so_far.0.stands)
             answered.0.index answered.0.state,
       );
+  trusts = λ told h. c.in-Ok.ensures.trusts told (c.lines.invariant.trusts told h);
   room = omega (arith, c.lines.invariant.room, c.first_line.ensures.shorter);
   counted = omega (arith, c.lines.invariant.counted, at_most_one _ _ c.from-refused.ensures);
   folder_later = omega (arith, c.lines.invariant.folder_later, c.answer_line.ensures.cause.folder_later);
@@ -65,3 +68,9 @@ pub returns-clause-leads : goal.returns-clause-leads
 returns-clause-leads g c = λ told i stored h.
     let so_far = c.lines.invariant.going told i stored h in
     led_ends g.row.D _ i _ _ _ so_far.0.index _ _ so_far.1 so_far.0.stands.seen _ c.finish.result (c.finish.ensures.closes told so_far.0.index so_far.0.stored so_far.0.stands)
+
+pub returns-in-Err-clause-evident : goal.returns-in-Err-clause-evident
+returns-in-Err-clause-evident g c = stop_less _ _ _ _ (λ p. (p.0, c.lines.invariant.trusts p.0 p.1)) (same_stop _ c.in-Err.stop c.in-Err.ensures.evident)
+
+pub returns-clause-evident : goal.returns-clause-evident
+returns-clause-evident g c = stop_less _ _ _ c.finish.result (λ p. (p.0, c.lines.invariant.trusts p.0 p.1)) c.finish.ensures.evident

@@ -1,12 +1,13 @@
 use Rattle.std.proofs.Common.{◌≤◌, ◌<◌, ◌+◌, ◌^◌, length, IsTrue}
 use Rattle.script_lang.specs.Lines.{lines_of}
+use Rattle.index_core.specs.Sessions.{Trusts}
 use Rattle.index_model.specs.State.{Index, State}
 use Rattle.bkd_top.specs.Answers.{Stands}
 use Rattle.bkd_top.proofs.Leading.{Led}
 use Rattle.bkd_top.proofs.Lined.{Goes, place_on}
 use Rattle.bkd_top.proofs.lines.run_made.Given as goal
 
--- the lines so far were done as the script says
+-- the lines so far were done as the script says, and the session is trusted with the files as before them
 abbrev pub invariant-lines : goal.invariant-lines
 invariant-lines g l = record {
   going : IsTrue g.F.Pages.told → (i : Index) → (stored : State) → Stands g.row.D (g.F.Pages.files l.initial.folder) l.initial.session i stored
@@ -14,6 +15,7 @@ invariant-lines g l = record {
       (g.F.Pages.files l.folder) l.session l.line l.refused (lines_of l.rest) (g.K.Sink.written l.out))
       × Led g.row.D l.initial.line i (lines_of l.initial.rest) (record { files = g.F.Pages.files l.initial.folder; session = l.initial.session; reads = g.F.Pages.reads l.initial.folder })
       l.line so_far.index (lines_of l.rest) (record { files = g.F.Pages.files l.folder; session = l.session; reads = g.F.Pages.reads l.folder });
+  trusts : IsTrue g.F.Pages.told → Trusts g.row.D (g.F.Pages.files l.initial.folder) l.initial.session → Trusts g.row.D (g.F.Pages.files l.folder) l.session;
   room : l.line + length l.rest < 2 ^ 64;
   counted : l.refused ≤ l.line;
   folder_later : g.F.Pages.faults l.initial.folder ≤ g.F.Pages.faults l.folder;

@@ -5,6 +5,7 @@ use Rattle.index_core.proofs.Sizes.{session_fits}
 use Rattle.bkd_top.proofs.Ending.{cause_from}
 use Rattle.bkd_top.proofs.Lined.{place_on, unopened, fault_cause, origin_keeps}
 use Rattle.bkd_top.proofs.Starting.{open_fails, open_leads}
+use Rattle.bkd_top.proofs.Shown.{fault_shows, stop_less}
 use Rattle.bkd_top.proofs.lines.run_over.Goals as goal
 
 pub open-requires : goal.open-requires
@@ -35,3 +36,9 @@ returns-in-Ok-clause-leads g c = λ told i stored h.
 pub returns-in-Err-clause-leads : goal.returns-in-Err-clause-leads
 returns-in-Err-clause-leads g c = λ told i stored h.
     open_fails c.args.origin i stored c.args.script.line (lines_of c.args.script.rest.now) _ _ _ _ (c.in-Err.ensures.files told) c.in-Err.fault (c.in-Err.ensures.opens told i stored h) c.stopped.result _ c.stopped.ensures
+
+pub returns-in-Ok-clause-evident : goal.returns-in-Ok-clause-evident
+returns-in-Ok-clause-evident g c = stop_less _ _ _ c.run_made.result (λ p. (p.0, c.in-Ok.ensures.trusts p.0 p.1)) c.run_made.ensures.evident
+
+pub returns-in-Err-clause-evident : goal.returns-in-Err-clause-evident
+returns-in-Err-clause-evident g c = fault_shows _ c.in-Err.fault c.in-Err.ensures.evident c.stopped.result c.stopped.ensures

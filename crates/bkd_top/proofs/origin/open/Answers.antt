@@ -6,6 +6,8 @@ use Rattle.index_core.proofs.Sizes.{session_fits}
 use Rattle.bkd_top.proofs.Lined.{page_memory, page_none}
 use Rattle.bkd_top.proofs.Opened.{made_stands, attached_stands}
 use Rattle.bkd_top.proofs.Starting.{opens_new, opens_none, opens_stored}
+use Rattle.segment_set.proofs.Evident.{on_evident_at}
+use Rattle.bkd_top.proofs.Shown.{attached_trusts}
 use Rattle.bkd_top.proofs.origin.open.Goals as goal
 
 pub create-requires : goal.create-requires
@@ -58,3 +60,24 @@ returns-in-Stored-clause-opens g c = λ told i stored h.
     rw c.in-Stored.is
     (opens_stored g.row.D _ _ _ _ c.in-Stored.commit i stored (rw c.in-Stored.is at c.requires.dims) (c.attach.ensures.files told) from (c.attach.ensures.reads told) c.attach.result
     (c.attach.ensures.seen told from.0 i from.1) (c.attach.ensures.guards told from.0) c.attach.ensures.unchanged)
+
+pub returns-in_ok-create-in-New-clause-trusts : goal.returns-in_ok-create-in-New-clause-trusts
+returns-in_ok-create-in-New-clause-trusts g c = λ told there. record { guards = c.in_ok-create-in-New.ensures.guards _ (rw c.in-New.is at there); faithful = c.in_ok-create-in-New.ensures.faithful _ }
+
+pub returns-in_err-create-in-New-clause-trusts : goal.returns-in_err-create-in-New-clause-trusts
+returns-in_err-create-in-New-clause-trusts g c = λ told there.
+    let p = err_from_is_err_and c.from_residual.result c.from_residual.ensures.1 in
+    rw p.1 tt
+
+pub returns-in_err-create-in-New-clause-evident : goal.returns-in_err-create-in-New-clause-evident
+returns-in_err-create-in-New-clause-evident g c =
+    let p = err_from_is_err_and c.from_residual.result c.from_residual.ensures.1 in
+    rw (p.1, p.2) tt
+
+pub returns-in-Stored-clause-trusts : goal.returns-in-Stored-clause-trusts
+returns-in-Stored-clause-trusts g c = λ told there.
+    attached_trusts g.row.D _ _ c.attach.result (c.attach.ensures.files told) (c.attach.ensures.guards told (rw c.in-Stored.is at there)) (c.attach.ensures.faithful told)
+
+pub returns-in-Stored-clause-evident : goal.returns-in-Stored-clause-evident
+returns-in-Stored-clause-evident g c =
+    on_evident_at _ _ _ _ c.attach.result (λ p. (p.0, rw c.in-Stored.is at p.1)) (λ p. c.attach.ensures.files p.0) c.attach.ensures.evident

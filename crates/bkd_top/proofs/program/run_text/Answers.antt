@@ -4,6 +4,7 @@ use Rattle.bkd_top.specs.Commands.{IsAnswer}
 use Rattle.bkd_top.specs.Runs.{DoesNothing, IsDamaged}
 use Rattle.bkd_top.proofs.Ending.{status_ends, never_damaged, does_lines, folder_stopped, sink_stopped}
 use Rattle.bkd_top.proofs.Starting.{when_answered}
+use Rattle.bkd_top.proofs.Shown.{status_shows}
 use Rattle.bkd_top.proofs.program.run_text.Goals as goal
 
 pub returns-clause-lines : goal.returns-clause-lines
@@ -32,3 +33,6 @@ returns-clause-still g c = λ told state h asks. (c.run_lines.ensures.leads told
 
 pub returns-clause-reads : goal.returns-clause-reads
 returns-clause-reads g c = λ told s scope. (c.run_lines.ensures.leads told s.state scope.stored).reads s scope
+
+pub returns-clause-evident : goal.returns-clause-evident
+returns-clause-evident g c = rw c.status_of.ensures (status_shows _ c.run_lines.result c.run_lines.ensures.evident)

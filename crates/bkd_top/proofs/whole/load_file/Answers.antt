@@ -15,3 +15,6 @@ returns-clause-damaged g c = λ told state h. c.tell.ensures.damaged (whole_unda
 
 pub returns-clause-folder_fault : goal.returns-clause-folder_fault
 returns-clause-folder_fault g c = c.tell.ensures.folder_fault _ _ c.load-done.ensures.cause
+
+pub returns-clause-evident : goal.returns-clause-evident
+returns-clause-evident g c = c.tell.ensures.evident _ c.load-done.ensures.evident

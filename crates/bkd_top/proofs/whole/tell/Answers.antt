@@ -5,6 +5,7 @@ use Rattle.bkd_top.specs.Runs.{DoesNothing, IsDamaged}
 use Rattle.bkd_top.specs.Stops.{status_of}
 use Rattle.bkd_top.proofs.Ending.{does_lines, folder_stopped, sink_stopped}
 use Rattle.bkd_top.proofs.Finished.{count_sent, fault_ends, fault_no_answer, fault_no_sink, fault_rose, fault_undamaged, sent_ends, sent_no_folder, sent_undamaged}
+use Rattle.bkd_top.proofs.Shown.{fault_status, sink_shows, status_shows}
 use Rattle.bkd_top.proofs.whole.tell.Goals as goal
 
 pub returns-in-Ok-clause-done : goal.returns-in-Ok-clause-done
@@ -42,3 +43,9 @@ returns-in-Err-clause-damaged g c = λ whole d. fault_undamaged c.in-Err.fault (
 
 pub returns-in-Err-clause-sink_fault : goal.returns-in-Err-clause-sink_fault
 returns-in-Err-clause-sink_fault g c = λ e. fault_no_sink c.in-Err.fault (sym (c.status_of-in-Err.ensures ∙ ap status_of c.stopped.ensures) ∙ e)
+
+pub returns-in-Ok-clause-evident : goal.returns-in-Ok-clause-evident
+returns-in-Ok-clause-evident g c = λ P h. rw c.status_of.ensures (status_shows P c.send.result (sink_shows P c.send.result c.send.ensures.cause))
+
+pub returns-in-Err-clause-evident : goal.returns-in-Err-clause-evident
+returns-in-Err-clause-evident g c = λ P h. rw c.status_of-in-Err.ensures (rw c.stopped.ensures (fault_status P c.in-Err.fault (rw c.in-Err.is at h)))
