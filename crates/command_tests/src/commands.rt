@@ -82,6 +82,7 @@ fn meets_a_damaged_leaf(rt: HostRuntime) -> Result<(), Fail> {
     let mut bytes = folder.get(&name).ok_or("no segment")?.to_vec(alloc)?;
     assert_eq!(rt; bytes.len(), 3 * 4096);
     bytes[2 * 4096 + 100] ^= 1;
+    let page = bytes.as_slice()[2 * 4096..].to_vec(alloc)?;
     folder.put(name, bytes)?;
     for words in [[".", "run"].as_slice(), &[".", "explain"]] {
         let (status, _) = called(&rt, alloc, words, "box 1000 0 1001 0\n", &mut folder)?;
@@ -93,10 +94,11 @@ fn meets_a_damaged_leaf(rt: HostRuntime) -> Result<(), Fail> {
                 Damage::Page {
                     file,
                     number,
-                    bytes: _,
+                    bytes,
                 },
             ) => {
                 assert!(rt; file == FileName::Segment(0) && number == 2);
+                assert_eq!(rt; bytes.b.as_slice(), page.as_slice());
             }
             _ => return Err("not damaged".into()),
         }
