@@ -31,6 +31,9 @@ names-preserved g c =
       faults = one.cause.fine ∙ was.faults;
     }
 
+pub returns-in_err-place-clause-seen : goal.returns-in_err-place-clause-seen
+returns-in_err-place-clause-seen g c = λ told i seen. c.in_err-place.ensures.seen told i (c.names.invariant.seen told i seen)
+
 pub returns-clause-faithful : goal.returns-clause-faithful
 returns-clause-faithful g c = λ told keeps. c.names.invariant.faithful told keeps
 
