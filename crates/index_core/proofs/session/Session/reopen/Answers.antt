@@ -62,7 +62,7 @@ returns-in_err-set-clause-applies g c =
       cause = fault_to _ _ c.in_err-set.field-0.0 (cause_then _ _ _ _ c.in_ok-commit.ensures.cause.fine c.in_err-set.ensures.cause);
       whole = λ told i seen guards. c.in_err-set.ensures.whole told c.in_ok-commit.ensures.committed.1 (c.commit.ensures.guards told guards) (Some (at_rest i)) (c.in_ok-commit.ensures.stored told i seen guards).0;
       faithful = λ told faithful. subst (λ (f : Files). IsFaithful g.row.D f c.commit.new.self.set) (sym (c.attach_anew.ensures.files told)) (c.commit.ensures.faithful told faithful);
-      evident = on_evident_at {X = Unit {0}} _ _ _ _ (Err c.in_err-set.field-0.0) (λ (told, trusts). (told, (c.in_ok-commit.ensures.committed.1, c.commit.ensures.guards told trusts.guards)))
+      evident = on_evident_at {X = Unit {0}} _ _ _ _ (Err c.in_err-set.field-0.0) (λ (told, trusts). (told, c.in_ok-commit.ensures.committed.1, c.commit.ensures.guards told trusts.guards))
           (λ (told, trusts). c.attach_anew.ensures.files told) c.in_err-set.ensures.evident;
       idle = λ told e unchanged. c.attach_anew.ensures.files told ∙ (c.commit.ensures.idle unchanged).2;
       unchanged = λ e. tt;
