@@ -252,6 +252,10 @@ unread_commit {T = T} told answer old new fault r is same whole cause damage sho
 pub evident_still : (told trusts : Type 0) (old new : Files) (fault : PageFault) → (told → new ≡ old) → FaultShows (IsEvident (told × trusts) old) fault → FaultShows (IsEvident (told × trusts) new) fault
 evident_still told trusts old new fault same evident = on_evident_at {X = Bool} (told × trusts) (told × trusts) old new (Err fault) (λ h. h) (λ h. same h.0) evident
 
+-- and of files that are trusted whatever they hold
+pub evident_all : (told : Type 0) (files : Files) (r : Result Bool PageFault) → OnDamage r (IsEvident (told × Unit {0}) files) → OnDamage r (IsEvident told files)
+evident_all told files r = on_evident_less (told × Unit {0}) told files r (λ t. (t, tt))
+
 -- where it starts the files are trusted, where what a session is made of is so
 pub made_trusts : (D : ℕ) (files : Files) (s : SessionData) → (files Commit ≡ None → Guards D files s) → IsFaithful D files s.set → files Commit ≡ None → Trusts D files s
 made_trusts D files s guards faithful none = record { guards = guards none; faithful = faithful }

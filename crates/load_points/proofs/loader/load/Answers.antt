@@ -1,13 +1,12 @@
 -- What the folder's commit says decides where the file goes.
-use Rattle.std.proofs.Common.{refl, sym, ap, subst, ◌∙◌}
+use Rattle.std.proofs.Common.{Err, IsTrue, refl, sym, ap, subst, ◌∙◌}
 use Rattle.outer_io.specs.declared.file_name.FileName.TheVariants.{Commit}
 use Rattle.outer_io.specs.Files.{Files, bytes_of}
 use Rattle.commit_list.specs.CommitFiles.{IsCommitFile}
 use Rattle.stored_index.specs.Stored.{IsStored}
 use Rattle.load_points.specs.Loaded.{loaded}
-use Rattle.segment_set.proofs.Evident.{on_evident_less}
 use Rattle.index_core.proofs.Wholes.{state_undamaged}
-use Rattle.load_points.proofs.Loading.{loads_after, none_stored, some_stored, stored_still_there, unread_commit}
+use Rattle.load_points.proofs.Loading.{evident_all, loads_after, none_stored, some_stored, stored_still_there, unread_commit}
 use Rattle.load_points.proofs.loader.load.Goals as goal
 
 -- the clauses are those of one record
@@ -23,7 +22,7 @@ returns-in-Ok-Some g c =
       unchanged = whole.unchanged;
       canon = whole.canon;
       cause = whole.cause;
-      evident = on_evident_less _ _ _ _ (λ told. (told, tt)) whole.evident;
+      evident = evident_all (IsTrue g.F.Pages.told) (g.F.Pages.files c.load_stored.new.folder) c.load_stored.result whole.evident;
     }
 
 pub returns-in-Ok-None : goal.returns-in-Ok-None
@@ -37,7 +36,7 @@ returns-in-Ok-None g c =
       unchanged = whole.unchanged;
       canon = whole.canon;
       cause = whole.cause;
-      evident = on_evident_less _ _ _ _ (λ told. (told, tt)) whole.evident;
+      evident = evident_all (IsTrue g.F.Pages.told) (g.F.Pages.files c.load_first.new.folder) c.load_first.result whole.evident;
     }
 
 pub returns-in-Err : goal.returns-in-Err
@@ -51,5 +50,5 @@ returns-in-Err g c =
       unchanged = whole.unchanged;
       canon = whole.canon;
       cause = whole.cause;
-      evident = on_evident_less _ _ _ _ (λ told. (told, tt)) whole.evident;
+      evident = evident_all (IsTrue g.F.Pages.told) (g.F.Pages.files c.read_commit.new.folder) (Err c.in-Err.fault) whole.evident;
     }
