@@ -1,11 +1,10 @@
 //! Commands that are done at once, with one text: loading and generating.
 
-ghost use Rattle.std.specs.Prelude.{◌≡◌, ◌≤◌, ◌<◌, ◌^◌, ℕ, List, length, [], IsTrue, IsOk};
+ghost use Rattle.std.specs.Prelude.{◌≡◌, ◌≤◌, ◌<◌, ◌^◌, ℕ, Bool, List, length, [], IsTrue, IsOk};
 ghost use Rattle.outer_io.specs.Faults.{Rose};
 ghost use Rattle.outer_io.specs.Files.{Files};
 ghost use Rattle.page_cache.specs.Causes.{HasPageCause};
 ghost use Rattle.page_cache.specs.Evidence.{NotDamaged, OnDamage};
-ghost use Rattle.page_cache.specs.declared.faults.Damage.{Damage};
 ghost use Rattle.index_model.specs.Script.{Answer};
 ghost use Rattle.index_model.specs.State.{State};
 ghost use Rattle.stored_index.specs.Stored.{IsStored};
@@ -165,7 +164,7 @@ fn tell<K: Sink>(out: &mut K, done: Result<bool, PageFault>, text: &[u8]) -> Sta
     ensures answer { IsAnswer result → IsOk done }
     ensures folder_fault { (old new : ℕ) → HasPageCause old new done → result ≡ Status.FolderFault → Rose old new }
     ensures damaged { NotDamaged done → IsDamaged result → ⊥ }
-    ensures evident { (P : Damage → Type 0) → OnDamage done P → OnStatusDamage result P }
+    ensures evident { (told : Bool) (files : Files) → OnDamage done (IsEvident (IsTrue told) files) → OnStatusDamage result (IsEvident (IsTrue told) files) }
     ensures sink_fault { result ≡ Status.SinkFault → Rose (K.faults out.old) (K.faults out.new) }
 {
     match done {

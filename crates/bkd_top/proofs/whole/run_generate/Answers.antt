@@ -17,4 +17,4 @@ pub returns-clause-folder_fault : goal.returns-clause-folder_fault
 returns-clause-folder_fault g c = c.tell.ensures.folder_fault _ _ c.generate-done.ensures.cause
 
 pub returns-clause-evident : goal.returns-clause-evident
-returns-clause-evident g c = c.tell.ensures.evident _ c.generate-done.ensures.evident
+returns-clause-evident g c = c.tell.ensures.evident g.F.Pages.told (g.F.Pages.files c.generate-done.new.folder) c.generate-done.ensures.evident

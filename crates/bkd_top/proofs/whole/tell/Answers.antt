@@ -1,5 +1,6 @@
 -- The text of a command that is done is sent, and a fault says what was left.
 use Rattle.std.proofs.Common.{IsTrue, sym, ap, subst, ◌∙◌}
+use Rattle.segment_set.specs.Evidence.{IsEvident}
 use Rattle.bkd_top.specs.Commands.{IsAnswer}
 use Rattle.bkd_top.specs.Runs.{DoesNothing, IsDamaged}
 use Rattle.bkd_top.specs.Stops.{status_of}
@@ -45,7 +46,10 @@ pub returns-in-Err-clause-sink_fault : goal.returns-in-Err-clause-sink_fault
 returns-in-Err-clause-sink_fault g c = λ e. fault_no_sink c.in-Err.fault (sym (c.status_of-in-Err.ensures ∙ ap status_of c.stopped.ensures) ∙ e)
 
 pub returns-in-Ok-clause-evident : goal.returns-in-Ok-clause-evident
-returns-in-Ok-clause-evident g c = λ P h. rw c.status_of.ensures (status_shows P c.send.result (sink_shows P c.send.result c.send.ensures.cause))
+returns-in-Ok-clause-evident g c = λ told files h.
+    let P = IsEvident (IsTrue told) files in
+    rw c.status_of.ensures (status_shows P c.send.result (sink_shows P c.send.result c.send.ensures.cause))
 
 pub returns-in-Err-clause-evident : goal.returns-in-Err-clause-evident
-returns-in-Err-clause-evident g c = λ P h. rw c.status_of-in-Err.ensures (rw c.stopped.ensures (fault_status P c.in-Err.fault (rw c.in-Err.is at h)))
+returns-in-Err-clause-evident g c = λ told files h.
+    rw c.status_of-in-Err.ensures (rw c.stopped.ensures (fault_status (IsEvident (IsTrue told) files) c.in-Err.fault (rw c.in-Err.is at h)))
