@@ -36,11 +36,11 @@ sink_shows P (Err stop.Memory) only = tt
 sink_shows {T} P (Err (stop.Damaged d)) only = let e : IsErrOf {T = T} (Err (stop.Damaged d)) stop.SinkFault = only in absurd cc
 
 -- a line where no index is there stops for one of these two
-pub first_shows : {S T : Type 0} (P : Damage → Type 0) (e : Stop) → IsErrOf {T = S} (Err e) stop.SinkFault ⊎ IsErrOf {T = S} (Err e) stop.Memory → OnStopDamage {T = T} (Err e) P
-first_shows P stop.SinkFault cause = tt
-first_shows P stop.FolderFault cause = tt
-first_shows P stop.Memory cause = tt
-first_shows P (stop.Damaged d) cause = absurd (elim cause as (λ _. ⊥) [ inl e ↦ cc | inr e ↦ cc ])
+pub first_shows : (S T : Type 0) (P : Damage → Type 0) (e : Stop) → IsErrOf {T = S} (Err e) stop.SinkFault ⊎ IsErrOf {T = S} (Err e) stop.Memory → OnStopDamage {T = T} (Err e) P
+first_shows S T P stop.SinkFault cause = tt
+first_shows S T P stop.FolderFault cause = tt
+first_shows S T P stop.Memory cause = tt
+first_shows S T P (stop.Damaged d) cause = absurd (elim cause as (λ _. ⊥) [ inl e ↦ cc | inr e ↦ cc ])
 
 -- all holds of a damage that isn't
 pub none_shows : {T : Type 0} (P : Damage → Type 0) (result : Result T Stop) → OnStopDamage result (λ _. ⊥) → OnStopDamage result P
@@ -52,21 +52,21 @@ none_shows P (Err (stop.Damaged d)) h = absurd h
 
 -- ---- from a call to the end
 
-stop_shows : {T : Type 0} (P : Damage → Type 0) (fault : PageFault) → FaultShows P fault → OnStopDamage {T = T} (Err (stop_of fault)) P
-stop_shows P page.Failed h = tt
-stop_shows P page.Memory h = tt
-stop_shows P (page.Damaged d) h = h
+stop_shows : (T : Type 0) (P : Damage → Type 0) (fault : PageFault) → FaultShows P fault → OnStopDamage {T = T} (Err (stop_of fault)) P
+stop_shows T P page.Failed h = tt
+stop_shows T P page.Memory h = tt
+stop_shows T P (page.Damaged d) h = h
 
 -- a run stops for a fault
 pub fault_shows : {T : Type 0} (P : Damage → Type 0) (fault : PageFault) → FaultShows P fault → (result : Result T Stop) → result ≡ Err (stop_of fault) → OnStopDamage result P
-fault_shows {T} P fault h result is = subst (λ (r : Result T Stop). OnStopDamage r P) (sym is) (stop_shows {T = T} P fault h)
+fault_shows {T} P fault h result is = subst (λ (r : Result T Stop). OnStopDamage r P) (sym is) (stop_shows T P fault h)
 
 -- the same stop of another call
-pub same_stop : {S T : Type 0} (P : Damage → Type 0) (e : Stop) → OnStopDamage {T = S} (Err e) P → OnStopDamage {T = T} (Err e) P
-same_stop P stop.SinkFault h = tt
-same_stop P stop.FolderFault h = tt
-same_stop P stop.Memory h = tt
-same_stop P (stop.Damaged d) h = h
+pub same_stop : (S T : Type 0) (P : Damage → Type 0) (e : Stop) → OnStopDamage {T = S} (Err e) P → OnStopDamage {T = T} (Err e) P
+same_stop S T P stop.SinkFault h = tt
+same_stop S T P stop.FolderFault h = tt
+same_stop S T P stop.Memory h = tt
+same_stop S T P (stop.Damaged d) h = h
 
 counted_shows : (P : Damage → Type 0) (b : Bool) (count : ℕ) → OnStatusDamage (counted b count) P
 counted_shows P true count = tt

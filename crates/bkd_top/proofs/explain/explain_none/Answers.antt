@@ -1,5 +1,5 @@
 -- Each line is told after those before it.
-use Rattle.std.proofs.Common.{◌≡◌, length, arith, refl}
+use Rattle.std.proofs.Common.{◌≡◌, Bool, ℕ, length, arith, refl}
 use Rattle.std.proofs.lemmas.Bool.Decides.{nat_tests}
 use Rattle.bkd_top.proofs.Ending.{cause_from}
 use Rattle.bkd_top.proofs.Going.{at_most_one, no_lines, refused_more}
@@ -34,4 +34,4 @@ pub returns-clause-cause : goal.returns-clause-cause
 returns-clause-cause g c faults = record { folder_later = omega arith; sink_later = c.lines.invariant.sink_later; folder = λ e. absurd cc; sink = λ e. absurd cc }
 
 pub returns-in-Err-clause-undamaged : goal.returns-in-Err-clause-undamaged
-returns-in-Err-clause-undamaged g c = same_stop _ c.in-Err.stop c.in-Err.ensures.undamaged
+returns-in-Err-clause-undamaged g c = same_stop Bool ℕ (λ _. ⊥) c.in-Err.stop c.in-Err.ensures.undamaged

@@ -1,5 +1,5 @@
 -- Each line goes on from those before it; the one that makes an index hands the rest on, and else the last one ends the script.
-use Rattle.std.proofs.Common.{◌≡◌, ◌≤◌, length, arith, refl, ap, None}
+use Rattle.std.proofs.Common.{◌≡◌, ◌≤◌, ℕ, length, arith, refl, ap, None}
 use Rattle.std.proofs.lemmas.Bool.Decides.{nat_tests}
 use Rattle.outer_io.specs.declared.file_name.FileName.TheVariants.{Commit}
 use Rattle.index_model.specs.State.{new_index}
@@ -94,4 +94,4 @@ returns-in-Ok-Made-clause-evident g c =
     stop_less _ _ _ c.run_from.result (λ p. let still : g.F.Pages.files c.lines.folder Commit ≡ None = rw same p.1 in (p.0, still)) c.run_from.ensures.evident
 
 pub returns-in-Err-clause-evident : goal.returns-in-Err-clause-evident
-returns-in-Err-clause-evident g c = first_shows _ c.in-Err.stop c.in-Err.ensures.cause
+returns-in-Err-clause-evident g c = first_shows ℕ ℕ _ c.in-Err.stop c.in-Err.ensures.cause

@@ -1,6 +1,7 @@
 -- Each line goes on from those before it; after the last one what they leave is committed.
-use Rattle.std.proofs.Common.{◌≡◌, length, arith, refl, IsTrue}
+use Rattle.std.proofs.Common.{◌≡◌, Bool, ℕ, length, arith, refl, IsTrue}
 use Rattle.std.proofs.lemmas.Bool.Decides.{nat_tests}
+use Rattle.index_core.specs.Sessions.{Trusts}
 use Rattle.index_core.proofs.Sizes.{session_fits}
 use Rattle.bkd_top.proofs.Ending.{cause_from}
 use Rattle.bkd_top.proofs.Going.{no_lines, refused_more, at_most_one}
@@ -50,8 +51,9 @@ pub returns-in-Err-clause-cause : goal.returns-in-Err-clause-cause
 returns-in-Err-clause-cause g c = cause_from _ _ _ _ _ _ _ c.lines.invariant.folder_later c.lines.invariant.sink_later (cause_to _ _ _ _ c.in-Err.stop c.in-Err.ensures.cause)
 
 pub returns-clause-ends : goal.returns-clause-ends
-returns-clause-ends g c = λ told i stored h.
-    let none : length c.lines.rest.now ≡ 0 = grind (arith, nat_tests) in
+returns-clause-ends g c =
+    let none : length c.lines.rest.now ≡ 0 = grind (arith, nat_tests) steps 40000000 in
+    λ told i stored h.
     let so_far = c.lines.invariant.going told i stored h in
     ends_then g.row.D _ _ _ _ _ _ _ so_far.0 (no_lines _ none) _ c.finish.result
     (end_lines (IsTrue g.K.Sink.told) _ so_far.0.index so_far.0.stored c.lines.line c.lines.refused _ c.finish.result (c.finish.ensures.ends told so_far.0.index so_far.0.stored so_far.0.stands))
@@ -70,7 +72,11 @@ returns-clause-leads g c = λ told i stored h.
     led_ends g.row.D _ i _ _ _ so_far.0.index _ _ so_far.1 so_far.0.stands.seen _ c.finish.result (c.finish.ensures.closes told so_far.0.index so_far.0.stored so_far.0.stands)
 
 pub returns-in-Err-clause-evident : goal.returns-in-Err-clause-evident
-returns-in-Err-clause-evident g c = stop_less _ _ _ _ (λ p. (p.0, c.lines.invariant.trusts p.0 p.1)) (same_stop _ c.in-Err.stop c.in-Err.ensures.evident)
+returns-in-Err-clause-evident g c =
+    stop_less (IsTrue g.F.Pages.told × Trusts g.row.D (g.F.Pages.files c.lines.folder) c.lines.session) (IsTrue g.F.Pages.told × Trusts g.row.D (g.F.Pages.files c.args.folder.now) c.args.session.now)
+    (g.F.Pages.files c.answer_line.new.folder) _ (λ p. (p.0, c.lines.invariant.trusts p.0 p.1)) (same_stop Bool ℕ _ c.in-Err.stop c.in-Err.ensures.evident)
 
 pub returns-clause-evident : goal.returns-clause-evident
-returns-clause-evident g c = stop_less _ _ _ c.finish.result (λ p. (p.0, c.lines.invariant.trusts p.0 p.1)) c.finish.ensures.evident
+returns-clause-evident g c =
+    stop_less (IsTrue g.F.Pages.told × Trusts g.row.D (g.F.Pages.files c.lines.folder) c.lines.session) (IsTrue g.F.Pages.told × Trusts g.row.D (g.F.Pages.files c.args.folder.now) c.args.session.now)
+    (g.F.Pages.files c.finish.new.folder) c.finish.result (λ p. (p.0, c.lines.invariant.trusts p.0 p.1)) c.finish.ensures.evident
