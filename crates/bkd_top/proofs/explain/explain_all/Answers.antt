@@ -1,5 +1,5 @@
 -- Each line is told after those before it.
-use Rattle.std.proofs.Common.{◌≡◌, Bool, ℕ, IsTrue, length, arith, refl, ◌∙◌}
+use Rattle.std.proofs.Common.{◌≡◌, Bool, ℕ, IsTrue, length, arith, refl, ◌∙◌, Err}
 use Rattle.std.proofs.lemmas.Bool.Decides.{nat_tests}
 use Rattle.segment_set.specs.Faithful.{IsFaithful}
 use Rattle.segment_set.proofs.Sizes.{set_fits}
@@ -80,5 +80,5 @@ returns-clause-cause g c = record {
 
 pub returns-in-Err-clause-evident : goal.returns-in-Err-clause-evident
 returns-in-Err-clause-evident g c =
-    stop_less (IsTrue g.F.Pages.told × IsFaithful g.row.D (g.F.Pages.files c.lines.folder) c.lines.set) (IsTrue g.F.Pages.told × IsFaithful g.row.D (g.F.Pages.files c.args.folder.now) c.args.set.now)
-    (g.F.Pages.files c.tell_line.new.folder) _ (λ p. (p.0, c.lines.invariant.faithful p.0 p.1)) (same_stop Bool ℕ _ c.in-Err.stop c.in-Err.ensures.evident)
+    stop_less {X = ℕ} (IsTrue g.F.Pages.told × IsFaithful g.row.D (g.F.Pages.files c.lines.folder) c.lines.set) (IsTrue g.F.Pages.told × IsFaithful g.row.D (g.F.Pages.files c.args.folder.now) c.args.set.now)
+    (g.F.Pages.files c.tell_line.new.folder) (Err c.in-Err.stop) (λ p. (p.0, c.lines.invariant.faithful p.0 p.1)) (same_stop Bool ℕ _ c.in-Err.stop c.in-Err.ensures.evident)

@@ -6,6 +6,7 @@ use Rattle.index_model.specs.State.{new_index}
 use Rattle.bkd_top.proofs.Going.{start_here, no_lines, refused_more, at_most_one}
 use Rattle.bkd_top.proofs.Lined.{stops_first, finishes_first, first_goes_on, made_ends, first_cause, cause_on}
 use Rattle.bkd_top.proofs.Starting.{leads_none, leads_same, made_leads, nears_first, nears_on}
+use Rattle.bkd_top.specs.declared.answers.Opening.{Opening}
 use Rattle.bkd_top.proofs.Shown.{first_shows, stop_less}
 use Rattle.bkd_top.proofs.lines.run_first.Goals as goal
 
@@ -94,4 +95,4 @@ returns-in-Ok-Made-clause-evident g c =
     stop_less _ _ _ c.run_from.result (λ p. let still : g.F.Pages.files c.lines.folder Commit ≡ None = rw same p.1 in (p.0, still)) c.run_from.ensures.evident
 
 pub returns-in-Err-clause-evident : goal.returns-in-Err-clause-evident
-returns-in-Err-clause-evident g c = first_shows ℕ ℕ _ c.in-Err.stop c.in-Err.ensures.cause
+returns-in-Err-clause-evident g c = first_shows Opening ℕ _ c.in-Err.stop c.in-Err.ensures.cause

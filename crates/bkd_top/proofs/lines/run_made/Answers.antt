@@ -1,5 +1,5 @@
 -- Each line goes on from those before it; after the last one what they leave is committed.
-use Rattle.std.proofs.Common.{◌≡◌, Bool, ℕ, length, arith, refl, IsTrue}
+use Rattle.std.proofs.Common.{◌≡◌, Bool, ℕ, length, arith, refl, IsTrue, Err}
 use Rattle.std.proofs.lemmas.Bool.Decides.{nat_tests}
 use Rattle.index_core.specs.Sessions.{Trusts}
 use Rattle.index_core.proofs.Sizes.{session_fits}
@@ -73,8 +73,8 @@ returns-clause-leads g c = λ told i stored h.
 
 pub returns-in-Err-clause-evident : goal.returns-in-Err-clause-evident
 returns-in-Err-clause-evident g c =
-    stop_less (IsTrue g.F.Pages.told × Trusts g.row.D (g.F.Pages.files c.lines.folder) c.lines.session) (IsTrue g.F.Pages.told × Trusts g.row.D (g.F.Pages.files c.args.folder.now) c.args.session.now)
-    (g.F.Pages.files c.answer_line.new.folder) _ (λ p. (p.0, c.lines.invariant.trusts p.0 p.1)) (same_stop Bool ℕ _ c.in-Err.stop c.in-Err.ensures.evident)
+    stop_less {X = ℕ} (IsTrue g.F.Pages.told × Trusts g.row.D (g.F.Pages.files c.lines.folder) c.lines.session) (IsTrue g.F.Pages.told × Trusts g.row.D (g.F.Pages.files c.args.folder.now) c.args.session.now)
+    (g.F.Pages.files c.answer_line.new.folder) (Err c.in-Err.stop) (λ p. (p.0, c.lines.invariant.trusts p.0 p.1)) (same_stop Bool ℕ _ c.in-Err.stop c.in-Err.ensures.evident)
 
 pub returns-clause-evident : goal.returns-clause-evident
 returns-clause-evident g c =
