@@ -1,12 +1,12 @@
 -- The damages of a page are damages of its file, and these are damages as the crates above know them.
-use Rattle.std.proofs.Common.{◌≢◌, ℕ, ◌<◌, inr, List, Result, Ok, Err, arith}
+use Rattle.std.proofs.Common.{◌≢◌, ℕ, ◌<◌, List, Result, Ok, Err, arith}
 use Rattle.outer_io.specs.declared.file_name.FileName.{FileName}
 use Rattle.outer_io.specs.Files.{Files}
 use Rattle.page_cache.specs.declared.faults.Damage.{Damage}
 use Rattle.page_cache.specs.declared.faults.Damage.TheVariants.{Page, Leaf, Body, Missing, Size, Unequal, Beyond, Doubled}
 use Rattle.page_cache.specs.declared.faults.PageFault.{PageFault}
 use Rattle.page_cache.specs.declared.faults.PageFault.TheVariants.{Failed, Damaged, Memory}
-use Rattle.page_cache.specs.Evidence.{FaultShows, OnDamage, IsShown, IsTrueOf, IsPageDamage, IsPageDamageOf, IsFileDamage, IsFileDamageOf}
+use Rattle.page_cache.specs.Evidence.{FaultShows, OnDamage, IsShown, IsPageDamage, IsPageDamageOf, IsFileDamage, IsFileDamageOf}
 
 -- what follows of a damage follows of the fault that is one, and of the answer that has it
 pub fault_weaker : (f : PageFault) (P Q : Damage → Type 0) → ((d : Damage) → P d → Q d) → FaultShows P f → FaultShows Q f
@@ -39,7 +39,7 @@ file_from_page name n (Doubled doc) h = h
 
 pub file_from_page_of : (files : Files) (name : FileName) (n : ℕ) (d : Damage) → IsPageDamage name n d → IsPageDamageOf files n d → IsFileDamageOf files d
 file_from_page_of files name n (Page file number bytes) h k = k
-file_from_page_of files name n (Size file size needed) h k = inr (n, h.1, k)
+file_from_page_of files name n (Size file size needed) h k = record { number = n; page_end = h.1; seen = k; short = h.2 }
 file_from_page_of files name n (Leaf file number offset len bytes) h k = k
 file_from_page_of files name n (Body file bytes) h k = k
 file_from_page_of files name n (Missing file) h k = absurd k
@@ -58,17 +58,6 @@ shown_from_file leaf body name (Unequal file said found) h = absurd h
 shown_from_file leaf body name (Beyond doc next) h = absurd h
 shown_from_file leaf body name (Doubled doc) h = absurd h
 
-pub true_from_file : (place : FileName → ℕ → ℕ → ℕ → Type 0) (pairs : FileName → ℕ → ℕ → Type 0) (beyond : ℕ → ℕ → Type 0) (doubled : ℕ → Type 0)
-    (files : Files) (d : Damage) → IsFileDamageOf files d → IsTrueOf place pairs beyond doubled files d
-true_from_file place pairs beyond doubled files (Page file number bytes) h = h
-true_from_file place pairs beyond doubled files (Size file size needed) h = h
-true_from_file place pairs beyond doubled files (Leaf file number offset len bytes) h = absurd h
-true_from_file place pairs beyond doubled files (Body file bytes) h = absurd h
-true_from_file place pairs beyond doubled files (Missing file) h = h
-true_from_file place pairs beyond doubled files (Unequal file said found) h = absurd h
-true_from_file place pairs beyond doubled files (Beyond doc next) h = absurd h
-true_from_file place pairs beyond doubled files (Doubled doc) h = absurd h
-
 -- the same of answers
 pub on_file_from_page : {T : Type 0} (r : Result T PageFault) (name : FileName) (n : ℕ) → OnDamage r (IsPageDamage name n) → OnDamage r (IsFileDamage name)
 on_file_from_page r name n = on_damage_weaker r (IsPageDamage name n) (IsFileDamage name) (file_from_page name n)
@@ -80,7 +69,3 @@ on_file_from_page_of r files name n = on_damage_both r (IsPageDamage name n) (Is
 pub on_shown_from_file : {T : Type 0} (r : Result T PageFault) (leaf : FileName → ℕ → ℕ → ℕ → List ℕ → Type 0) (body : FileName → List ℕ → Type 0) (name : FileName)
     → OnDamage r (IsFileDamage name) → OnDamage r (IsShown leaf body)
 on_shown_from_file r leaf body name = on_damage_weaker r (IsFileDamage name) (IsShown leaf body) (shown_from_file leaf body name)
-
-pub on_true_from_file : {T : Type 0} (r : Result T PageFault) (place : FileName → ℕ → ℕ → ℕ → Type 0) (pairs : FileName → ℕ → ℕ → Type 0)
-    (beyond : ℕ → ℕ → Type 0) (doubled : ℕ → Type 0) (files : Files) → OnDamage r (IsFileDamageOf files) → OnDamage r (IsTrueOf place pairs beyond doubled files)
-on_true_from_file r place pairs beyond doubled files = on_damage_weaker r (IsFileDamageOf files) (IsTrueOf place pairs beyond doubled files) (true_from_file place pairs beyond doubled files)

@@ -3,7 +3,7 @@ use Rattle.std.specs.Prelude.{◌≡◌, ◌≢◌, ℕ, ◌+◌, ◌*◌, ◌�
 use Rattle.outer_io.specs.declared.file_name.FileName.{FileName}
 use Rattle.outer_io.specs.Files.{Files, bytes_of}
 use Rattle.page_file.specs.Page.{IsPage, payload_of}
-use Rattle.page_cache.specs.FilePages.{kind_of, number_of, page_at, ArePages, payloads_of}
+use Rattle.page_cache.specs.FilePages.{kind_of, number_of, page_at, IsFilePage, ArePages, payloads_of}
 use Rattle.page_cache.specs.declared.faults.Damage.{Damage}
 use Rattle.page_cache.specs.declared.faults.Damage.TheVariants.{Page, Leaf, Body, Missing, Size, Unequal, Beyond, Doubled}
 use Rattle.page_cache.specs.declared.faults.PageFault.{PageFault}
@@ -54,22 +54,25 @@ pub record ArePayloadsOf (files : Files) (file : FileName) (payloads : List ℕ)
 abbrev pub seen_end : Files → FileName → ℕ → ℕ
 seen_end files file number = max (4096 * number) (length (bytes_of (files file)))
 
--- size is the end of the file; where a page was read that it doesn't have whole, as that page shows it
-abbrev pub IsEndOf : Files → FileName → ℕ → ℕ → Type 0
-IsEndOf files file size needed = (size ≡ length (bytes_of (files file))) ⊎ ((number : ℕ) × (needed ≡ 4096 * (number + 1)) × (size ≡ seen_end files file number))
+-- The file ends before page `number` of it does, which was read and is needed to its end. Size is the file's end as that page shows it.
+pub record IsCut (files : Files) (file : FileName) (size needed : ℕ) : Type 0 where
+  pub number : ℕ
+  pub page_end : needed ≡ 4096 * (number + 1)
+  pub seen : size ≡ seen_end files file number
+  pub short : size < needed
 
--- a damage is true of the files. `place file page offset length` says that a leaf of the file has this place;
--- `pairs file said found` that the two numbers are a pair of the file that must agree; `beyond doc next` that the
--- number is live and next the commit's; `doubled doc` that two live entries have the number
-abbrev pub IsTrueOf : (place : FileName → ℕ → ℕ → ℕ → Type 0) (pairs : FileName → ℕ → ℕ → Type 0) (beyond : ℕ → ℕ → Type 0) (doubled : ℕ → Type 0) → Files → Damage → Type 0
-IsTrueOf place pairs beyond doubled files (Page file number bytes) = IsPageOf files file number bytes.value.b
-IsTrueOf place pairs beyond doubled files (Leaf file number offset len bytes) = IsPageOf files file number bytes.value.b × place file number offset len
-IsTrueOf place pairs beyond doubled files (Body file bytes) = ArePayloadsOf files file bytes
-IsTrueOf place pairs beyond doubled files (Missing file) = files file ≡ None
-IsTrueOf place pairs beyond doubled files (Size file size needed) = IsEndOf files file size needed
-IsTrueOf place pairs beyond doubled files (Unequal file said found) = pairs file said found
-IsTrueOf place pairs beyond doubled files (Beyond doc next) = beyond doc next
-IsTrueOf place pairs beyond doubled files (Doubled doc) = doubled doc
+-- The file has size bytes, and needed are the pages that its first page asks for. `asks payload pages` says that a first page of this payload asks for
+-- so many.
+pub record HasOtherSize (asks : List ℕ → ℕ → Type 0) (files : Files) (file : FileName) (size needed : ℕ) : Type 0 where
+  pub has : size ≡ length (bytes_of (files file))
+  pub first : IsFilePage file (bytes_of (files file)) 0
+  pub pages : ℕ
+  pub asked : asks (payload_of (page_at (bytes_of (files file)) 0)) pages
+  pub needs : needed ≡ 4096 * pages
+
+-- one of the two: so the layout needs so many bytes
+abbrev pub IsSizeOf : (asks : List ℕ → ℕ → Type 0) → Files → FileName → (size needed : ℕ) → Type 0
+IsSizeOf asks files file size needed = IsCut files file size needed ⊎ HasOtherSize asks files file size needed
 
 -- where the damage is one of size, so many bytes were needed
 abbrev pub SizeNeeds : ℕ → Damage → Type 0
@@ -132,7 +135,7 @@ IsFileDamage name (Doubled doc) = ⊥
 abbrev pub IsFileDamageOf : Files → Damage → Type 0
 IsFileDamageOf files (Page file number bytes) = IsPageOf files file number bytes.value.b
 IsFileDamageOf files (Missing file) = files file ≡ None
-IsFileDamageOf files (Size file size needed) = IsEndOf files file size needed
+IsFileDamageOf files (Size file size needed) = IsCut files file size needed
 IsFileDamageOf files (Leaf file number offset len bytes) = ⊥
 IsFileDamageOf files (Body file bytes) = ⊥
 IsFileDamageOf files (Unequal file said found) = ⊥

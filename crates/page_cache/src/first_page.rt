@@ -121,7 +121,6 @@ impl FirstPage {
         ensures failed { IsErrOf result page.Failed → ⊥ }
         ensures shown { OnDamage result (IsFileDamage (first_name self.now)) }
         ensures size { OnDamage result (IsSizeDamage (first_name self.now) (first_size self.now) (4096 * pages)) }
-        ensures damage { (files : Files) → IsFirstPage files self.now → OnDamage result (IsFileDamageOf files) }
     {
         let needed = PAGE_LEN as u64 * u64::from(pages);
         if self.size == needed {
