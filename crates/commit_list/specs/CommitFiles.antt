@@ -4,10 +4,10 @@ use Rattle.outer_io.specs.declared.file_name.FileName.TheVariants.{Commit}
 use Rattle.outer_io.specs.Files.{Files}
 use Rattle.page_cache.specs.declared.faults.Damage.{Damage}
 use Rattle.page_cache.specs.declared.faults.Damage.TheVariants.{Page, Leaf, Body, Missing, Size, Unequal, Beyond, Doubled}
-use Rattle.page_cache.specs.Bodies.{filled, IsBodyFile}
-use Rattle.page_cache.specs.Evidence.{IsFileDamage, IsFileDamageOf, ArePayloadsOf}
+use Rattle.page_cache.specs.Bodies.{filled, pages_for, IsBodyFile}
+use Rattle.page_cache.specs.Evidence.{IsFileDamage, IsFileDamageOf, IsSizeOf, ArePayloadsOf}
 use Rattle.commit_list.specs.Commits.{CommitData}
-use Rattle.commit_list.specs.Layout.{commit_body, SpellsCommit}
+use Rattle.commit_list.specs.Layout.{commit_body, BeginsBody, SpellsCommit}
 
 -- a Commit file of these bytes says this commit: it is one body, and this the commit's, in one of the layouts
 pub record IsCommitFile (bytes : List ℕ) (c : CommitData) : Type 0 where
@@ -39,6 +39,12 @@ pub record BeginsNone (payload : List ℕ) : Type 0 where
 abbrev pub IsNoCommitBody : List ℕ → Type 0
 IsNoCommitBody payloads = BeginsNone payloads ⊎ HasNoFilled payloads
 
+-- the first page of a Commit file asks for the pages of the body that it begins
+pub record AsksCommit (payload : List ℕ) (pages : ℕ) : Type 0 where
+  pub len : ℕ
+  pub begins : BeginsBody payload len
+  pub pages_are : pages ≡ pages_for len
+
 -- what a damage of the Commit file carries shows it
 abbrev pub IsCommitDamage : Damage → Type 0
 IsCommitDamage (Page file number bytes) = IsFileDamage Commit (Page file number bytes)
@@ -54,7 +60,7 @@ IsCommitDamage (Doubled doc) = ⊥
 abbrev pub IsCommitDamageOf : Files → Damage → Type 0
 IsCommitDamageOf files (Page file number bytes) = IsFileDamageOf files (Page file number bytes)
 IsCommitDamageOf files (Missing file) = IsFileDamageOf files (Missing file)
-IsCommitDamageOf files (Size file size needed) = IsFileDamageOf files (Size file size needed)
+IsCommitDamageOf files (Size file size needed) = IsSizeOf AsksCommit files file size needed
 IsCommitDamageOf files (Body file bytes) = ArePayloadsOf files file bytes
 IsCommitDamageOf files (Leaf file number offset len bytes) = ⊥
 IsCommitDamageOf files (Unequal file said found) = ⊥

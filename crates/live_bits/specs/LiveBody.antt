@@ -39,6 +39,16 @@ pub record IsLiveBody (segment generation : ℕ) (s : LiveSet) (bytes : List ℕ
   pub numbers : s.live ≡ live_in s.base s.span bits
   pub spelling : bytes ≡ head segment generation s.base s.span (length s.live) ++ bits
 
+-- the bytes begin with what stands before the bits, and so say how long the body is
+pub record SaysLength (segment generation : ℕ) (front : List ℕ) (length : ℕ) : Type 0 where
+  pub base : ℕ
+  pub span : ℕ
+  pub count : ℕ
+  pub rest : List ℕ
+  pub begins : front ≡ head segment generation base span count ++ rest
+  pub limit : base + span ≤ 16777216
+  pub long : length ≡ 36 + (span + 7) / 8
+
 -- no set has these bytes as its body
 abbrev pub HasNoSet : ℕ → ℕ → List ℕ → Type 0
 HasNoSet segment generation bytes = (s : LiveSet) → IsLiveBody segment generation s bytes → ⊥

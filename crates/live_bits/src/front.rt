@@ -2,7 +2,7 @@
 
 ghost use Rattle.std.specs.Prelude.{◌≡◌, ◌≢◌, ◌≤◌, ◌++◌, ℕ, List, length, IfSome, IfNone};
 ghost use Rattle.live_bits.specs.LiveSet.{LiveSet};
-ghost use Rattle.live_bits.specs.LiveBody.{IsLiveBody};
+ghost use Rattle.live_bits.specs.LiveBody.{IsLiveBody, SaysLength};
 
 use crate::body::{LIMIT, fields_of};
 
@@ -11,6 +11,7 @@ use crate::body::{LIMIT, fields_of};
 pub fn body_len(segment: u64, generation: u64, front: &[u8]) -> Option<u32>
     ensures some { IfSome result (λ n. (s : LiveSet) (body x y : List ℕ) → 36 ≤ length front.now → IsLiveBody segment generation s body
         → front.now ++ x ≡ body ++ y → length body ≡ n) }
+    ensures said { IfSome result (SaysLength segment generation front.now) }
     ensures few { IfSome result (λ n. (36 ≤ n) × (n ≤ 2097188)) }
     ensures none { IfNone result ((s : LiveSet) (body x y : List ℕ) → 36 ≤ length front.now → IsLiveBody segment generation s body
         → front.now ++ x ≢ body ++ y) }

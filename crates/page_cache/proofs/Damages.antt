@@ -1,12 +1,14 @@
 -- The damages of a page are damages of its file, and these are damages as the crates above know them.
-use Rattle.std.proofs.Common.{◌≢◌, ℕ, ◌<◌, List, Result, Ok, Err, arith}
+use Rattle.std.proofs.Common.{◌≡◌, ◌≢◌, ℕ, ◌*◌, ◌<◌, inr, List, Result, Ok, Err, sym, subst, ◌∙◌, arith}
 use Rattle.outer_io.specs.declared.file_name.FileName.{FileName}
 use Rattle.outer_io.specs.Files.{Files}
 use Rattle.page_cache.specs.declared.faults.Damage.{Damage}
 use Rattle.page_cache.specs.declared.faults.Damage.TheVariants.{Page, Leaf, Body, Missing, Size, Unequal, Beyond, Doubled}
 use Rattle.page_cache.specs.declared.faults.PageFault.{PageFault}
 use Rattle.page_cache.specs.declared.faults.PageFault.TheVariants.{Failed, Damaged, Memory}
-use Rattle.page_cache.specs.Evidence.{FaultShows, OnDamage, IsShown, IsPageDamage, IsPageDamageOf, IsFileDamage, IsFileDamageOf}
+use Rattle.page_cache.specs.FirstPages.{first_name, first_payload, first_size, IsFirstPage}
+use Rattle.page_cache.specs.declared.first_page.FirstPage.{FirstPage}
+use Rattle.page_cache.specs.Evidence.{FaultShows, OnDamage, IsShown, IsSizeOf, IsPageDamage, IsPageDamageOf, IsFileDamage, IsFileDamageOf}
 
 -- what follows of a damage follows of the fault that is one, and of the answer that has it
 pub fault_weaker : (f : PageFault) (P Q : Damage → Type 0) → ((d : Damage) → P d → Q d) → FaultShows P f → FaultShows Q f
@@ -57,6 +59,13 @@ shown_from_file leaf body name (Missing file) h = tt
 shown_from_file leaf body name (Unequal file said found) h = absurd h
 shown_from_file leaf body name (Beyond doc next) h = absurd h
 shown_from_file leaf body name (Doubled doc) h = absurd h
+
+-- the size that a first page doesn't have
+pub other_size : (asks : List ℕ → ℕ → Type 0) (files : Files) (p : FirstPage) (pages : ℕ) (file : FileName) (size needed : ℕ) → IsFirstPage files p → asks (first_payload p) pages
+    → (file ≡ first_name p) × (size ≡ first_size p) × (needed ≡ 4096 * pages) → IsSizeOf asks files file size needed
+other_size asks files p pages file size needed first asked e =
+    subst (λ (name : FileName). IsSizeOf asks files name size needed) (sym e.0)
+    (inr (record { has = e.1 ∙ first.size; first = first.page; pages = pages; asked = subst (λ (l : List ℕ). asks l pages) first.payload asked; needs = e.2 }))
 
 -- the same of answers
 pub on_file_from_page : {T : Type 0} (r : Result T PageFault) (name : FileName) (n : ℕ) → OnDamage r (IsPageDamage name n) → OnDamage r (IsFileDamage name)

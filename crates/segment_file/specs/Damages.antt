@@ -1,23 +1,45 @@
 -- What a damage of a segment's file or of a file of live bits shows: by what it carries alone, and of the files where those are told.
-use Rattle.std.specs.Prelude.{◌≡◌, ◌≢◌, ℕ, ◌^◌, ◌<◌, ◌⊎◌, List, ◌++◌, None, slice_index}
+use Rattle.std.specs.Prelude.{◌≡◌, ◌≢◌, ℕ, ◌+◌, ◌^◌, ◌<◌, ◌⊎◌, List, ◌++◌, None, slice_index}
 use Rattle.outer_io.specs.declared.file_name.FileName.{FileName}
-use Rattle.outer_io.specs.declared.file_name.FileName.TheVariants.{Segment, Live}
+use Rattle.outer_io.specs.declared.file_name.FileName.TheVariants.{Commit, CommitNew, Segment, Live}
 use Rattle.outer_io.specs.Files.{Files, bytes_of}
 use Rattle.point_codec.specs.Points.{Item, Region}
 use Rattle.leaf_codec.specs.Leaves.{SpellsLeafIn}
 use Rattle.live_bits.specs.LiveSet.{LiveSet}
-use Rattle.live_bits.specs.LiveBody.{IsLiveBody}
+use Rattle.live_bits.specs.LiveBody.{IsLiveBody, SaysLength}
 use Rattle.inner_pack.specs.Places.{Spot}
 use Rattle.inner_pack.specs.Trees.{IndexTree}
 use Rattle.inner_pack.specs.Bodies.{pages_of}
 use Rattle.page_file.specs.Page.{IsPage, payload_of}
 use Rattle.page_cache.specs.FilePages.{kind_of, number_of, page_at}
-use Rattle.page_cache.specs.Bodies.{filled}
-use Rattle.page_cache.specs.Evidence.{IsPageOf, ArePayloadsOf, IsEndOf}
+use Rattle.page_cache.specs.Bodies.{filled, pages_for}
+use Rattle.page_cache.specs.Evidence.{IsPageOf, ArePayloadsOf, IsCut, IsSizeOf}
 use Rattle.page_cache.specs.declared.faults.Damage.{Damage}
 use Rattle.page_cache.specs.declared.faults.Damage.TheVariants.{Page, Leaf, Body, Missing, Size, Unequal, Beyond, Doubled}
-use Rattle.segment_file.specs.Heads.{Head, IsHead, fields_of, fields_bytes, page_of, count_of}
+use Rattle.segment_file.specs.Heads.{Head, Fields, AreFields, IsHead, fields_of, fields_bytes, page_of, count_of}
 use Rattle.segment_file.specs.Segments.{SpellsHead, part_of, IsLeafOf}
+
+-- ---- how many pages a file needs
+
+-- the fields of a segment's first page ask for so many: its own, those of the index, and the leaf pages
+pub record AsksSegment (payload : List ℕ) (pages : ℕ) : Type 0 where
+  pub fields : Fields
+  pub are : AreFields fields
+  pub is : payload ≡ filled (fields_bytes fields)
+  pub pages_are : pages ≡ 1 + pages_for fields.index_length + fields.leaf_pages
+
+-- the first page of live bits asks for those of a body of the length that it says
+pub record AsksLive (segment generation : ℕ) (payload : List ℕ) (pages : ℕ) : Type 0 where
+  pub len : ℕ
+  pub says : SaysLength segment generation payload len
+  pub pages_are : pages ≡ pages_for len
+
+-- the first page of the file has this payload and asks for so many pages
+abbrev pub AsksFor : FileName → (payload : List ℕ) → (pages : ℕ) → Type 0
+AsksFor (Segment id) payload pages = AsksSegment payload pages
+AsksFor (Live segment generation) payload pages = AsksLive segment generation payload pages
+AsksFor Commit payload pages = ⊥
+AsksFor CommitNew payload pages = ⊥
 
 -- ---- a leaf that is read through a head
 
@@ -47,7 +69,7 @@ IsLeafDamage D head first s t (Doubled doc) = ⊥
 -- and it is true of the files
 abbrev pub IsLeafDamageOf : Files → Damage → Type 0
 IsLeafDamageOf files (Page file number bytes) = IsPageOf files file number bytes.value.b
-IsLeafDamageOf files (Size file size needed) = IsEndOf files file size needed
+IsLeafDamageOf files (Size file size needed) = IsCut files file size needed
 IsLeafDamageOf files (Leaf file number offset len bytes) = IsPageOf files file number bytes.value.b
 IsLeafDamageOf files (Body file bytes) = ⊥
 IsLeafDamageOf files (Missing file) = ⊥
@@ -85,7 +107,7 @@ IsHeadDamage id (Doubled doc) = ⊥
 abbrev pub IsHeadDamageOf : (D : ℕ) → Files → Damage → Type 0
 IsHeadDamageOf D files (Page file number bytes) = IsPageOf files file number bytes.value.b
 IsHeadDamageOf D files (Missing file) = files file ≡ None
-IsHeadDamageOf D files (Size file size needed) = IsEndOf files file size needed
+IsHeadDamageOf D files (Size file size needed) = IsSizeOf (AsksFor file) files file size needed
 IsHeadDamageOf D files (Body file bytes) = ArePayloadsOf files file bytes
 IsHeadDamageOf D files (Unequal file said found) = AreHeadPair D (bytes_of (files file)) said found
 IsHeadDamageOf D files (Leaf file number offset len bytes) = ⊥
@@ -135,7 +157,7 @@ IsLiveDamage segment generation (Doubled doc) = ⊥
 abbrev pub IsLiveDamageOf : Files → Damage → Type 0
 IsLiveDamageOf files (Page file number bytes) = IsPageOf files file number bytes.value.b
 IsLiveDamageOf files (Missing file) = files file ≡ None
-IsLiveDamageOf files (Size file size needed) = IsEndOf files file size needed
+IsLiveDamageOf files (Size file size needed) = IsSizeOf (AsksFor file) files file size needed
 IsLiveDamageOf files (Body file bytes) = ArePayloadsOf files file bytes
 IsLiveDamageOf files (Leaf file number offset len bytes) = ⊥
 IsLiveDamageOf files (Unequal file said found) = ⊥

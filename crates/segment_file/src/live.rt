@@ -4,7 +4,7 @@ ghost use Rattle.std.specs.Prelude.{◌≡◌, ◌≢◌, ◌≤◌, ◌+◌, �
 ghost use Rattle.outer_io.specs.Files.{bytes_of, SameBut};
 ghost use Rattle.outer_io.specs.declared.file_name.FileName.TheVariants.{Live};
 ghost use Rattle.live_bits.specs.LiveSet.{LiveSet, IsLiveSet};
-ghost use Rattle.live_bits.specs.LiveBody.{IsLiveBody};
+ghost use Rattle.live_bits.specs.LiveBody.{IsLiveBody, SaysLength};
 ghost use Rattle.page_cache.specs.declared.faults.PageFault.TheVariants as page;
 ghost use Rattle.page_cache.specs.Bodies.{pages_for as pages_for_body};
 ghost use Rattle.page_cache.specs.Causes.{HasPageCause, HasSegCause};
@@ -90,6 +90,7 @@ pub fn read_live<F: Pages>(
 fn said_len(alloc: Global, id: u64, generation: u64, payload: &[u8]) -> Result<u32, PageFault>
     requires long { length payload.now ≡ 4064 }
     ensures len { IfOk result (λ n. (s : LiveSet) (body x y : List ℕ) → IsLiveBody id generation s body → payload.now ++ x ≡ body ++ y → length body ≡ n) }
+    ensures said { IfOk result (SaysLength id generation payload.now) }
     ensures few { IfOk result (λ n. (36 ≤ n) × (n ≤ 2097188)) }
     ensures shown { OnDamage result (IsLiveDamage id generation) }
     ensures carried { OnDamage result (IsBodyDamage (Live id generation) payload.now) }

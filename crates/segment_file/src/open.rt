@@ -143,7 +143,7 @@ fn check_size(first: &FirstPage, id: u64, fields: HeadFields) -> Result<(), Page
     requires { first_name first.now ≡ Segment id }
     ensures ok { IsOk result ↔ (first_size first.now ≡ 4096 * (1 + pages_for_body fields.index_length + fields.leaf_pages)) }
     ensures shown { OnDamage result (IsHeadDamage id) }
-    ensures damage { (D : ℕ) (files : Files) → IsFirstPage files first.now → OnDamage result (IsHeadDamageOf D files) }
+    ensures damage { (D : ℕ) (files : Files) → IsFirstPage files first.now → HasFields (first_payload first.now) fields → OnDamage result (IsHeadDamageOf D files) }
     ensures no_fault { IsErrOf result page.Failed → ⊥ }
 {
     let pages = 1 + u64::from(pages_for(fields.index_length)) + u64::from(fields.leaf_pages);

@@ -1,4 +1,5 @@
 pub mod Parts
+pub mod Held
 pub mod Costs
 pub mod Found
 pub mod Calm

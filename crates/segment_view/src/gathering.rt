@@ -9,6 +9,7 @@ ghost use Rattle.page_cache.specs.Causes.{HasPageCause};
 ghost use Rattle.page_cache.specs.Evidence.{OnDamage, NotDamaged};
 ghost use Rattle.segment_file.specs.Damages.{IsLeafDamageOf};
 ghost use Rattle.segment_view.specs.Parts.{Contents, IsRead, AreRead, part_of, heads_of, ids_of, live_in_parts, parts_among, has_live};
+ghost use Rattle.segment_view.specs.Held.{HasOwnHead, AreHeld};
 ghost use Rattle.segment_view.specs.Costs.{leaves_in};
 ghost use Rattle.segment_view.specs.Calm.{IsCalm};
 ghost use Rattle.segment_view.specs.Damages.{IsPartDamage, IsReadDamage};
@@ -35,6 +36,9 @@ pub fn gather<const D: usize, F: Pages>(
 ) -> Result<Vec<Entry<D>>, PageFault>
     ensures entries { IsTrue F.told → Agrees (F.files folder.old) cache.old → (c : Contents) → AreRead D (F.files folder.old) c segments.now
         → IfOk result (λ v. items_of v.items ≡ live_in_parts c (parts_among ids.now segments.now)) }
+    // where no more is known of the files than their heads
+    ensures held { IsTrue F.told → Agrees (F.files folder.old) cache.old → All (HasOwnHead D (F.files folder.old)) segments.now
+        → IfOk result (λ v. AreHeld D (F.files folder.old) (parts_among ids.now segments.now) (items_of v.items)) }
     // Over every folder.
     ensures live { IfOk result (λ v. All (λ x. has_live x.doc (parts_among ids.now segments.now) ≡ true) (items_of v.items)) }
     ensures numbers { IfOk result (λ v. All (λ e. e.doc < 2 ^ 24) v.items) }
