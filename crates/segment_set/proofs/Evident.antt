@@ -1,15 +1,17 @@
 -- A damage is shown by what it carries and is true of the files, from what the crates below say of it.
-use Rattle.std.proofs.Common.{◌≡◌, ◌≢◌, ℕ, ◌≤◌, ◌<◌, List, Result, Ok, Err, sym, subst, inl, inr, arith}
+use Rattle.std.proofs.Common.{◌≡◌, ◌≢◌, ℕ, ◌≤◌, ◌<◌, Bool, true, false, cond, List, [], ◌∷◌, filter, Result, Ok, Err, refl, sym, ap, subst, inl, inr, arith}
 use Rattle.std.proofs.Math.Logic.{∥∥₁_elim, ∥∥₁_map, ∥∥₁_prop}
 use Rattle.std.proofs.lemmas.Grind.{merely}
 use Rattle.std.specs.List.{All, Contains}
-use Rattle.std.proofs.lemmas.List.Elements.{All-contains}
+use Rattle.std.specs.List.Sorted.{IsStrictlyIncreasing}
+use Rattle.std.proofs.lemmas.List.Elements.{All-nil, All-cons, All-head, All-tail, All-contains}
+use Rattle.std.proofs.lemmas.List.Kept.{IsStrictlyIncreasing-filter}
 use Rattle.outer_io.specs.declared.file_name.FileName.{FileName}
-use Rattle.outer_io.specs.declared.file_name.FileName.TheVariants.{Commit}
+use Rattle.outer_io.specs.declared.file_name.FileName.TheVariants.{Commit, CommitNew, Segment, Live}
 use Rattle.outer_io.specs.Files.{Files, bytes_of}
 use Rattle.point_codec.specs.Points.{Item, Region}
 use Rattle.live_bits.specs.LiveSet.{LiveSet}
-use Rattle.page_cache.specs.Evidence.{OnDamage, NotDamaged, IsShown, IsTrueOf}
+use Rattle.page_cache.specs.Evidence.{OnDamage, NotDamaged, IsShown, IsSizeOf}
 use Rattle.page_cache.specs.declared.faults.Damage.{Damage}
 use Rattle.page_cache.specs.declared.faults.Damage.TheVariants.{Page, Leaf, Body, Missing, Size, Unequal, Beyond, Doubled}
 use Rattle.page_cache.specs.declared.faults.PageFault.{PageFault}
@@ -20,15 +22,17 @@ use Rattle.inner_pack.specs.Trees.{IndexTree}
 use Rattle.inner_pack.specs.Bodies.{HasTree}
 use Rattle.commit_list.specs.declared.listed.Listed.{Listed}
 use Rattle.commit_list.specs.Commits.{CommitData}
-use Rattle.commit_list.specs.CommitFiles.{IsCommitFile, IsCommitDamage, IsCommitDamageOf}
+use Rattle.commit_list.specs.CommitFiles.{IsCommitFile, AsksCommit, IsCommitDamage, IsCommitDamageOf}
 use Rattle.segment_file.specs.Heads.{Head, HasRanges}
-use Rattle.segment_file.specs.Damages.{IsHeadDamage, IsHeadDamageOf, IsLeafDamage, IsLeafDamageOf, IsLiveDamage, IsLiveDamageOf}
+use Rattle.segment_file.specs.Damages.{AsksFor, IsHeadDamage, IsHeadDamageOf, IsLeafDamage, IsLeafDamageOf, IsLiveDamage, IsLiveDamageOf}
 use Rattle.stored_index.specs.Segments.{places}
 use Rattle.stored_index.specs.Stored.{HaveLive}
-use Rattle.segment_view.specs.Parts.{Part}
+use Rattle.documents.specs.Entries.{is_among}
+use Rattle.segment_view.specs.Parts.{Part, ids_of, parts_among}
+use Rattle.segment_view.specs.Held.{HasOwnHead, AreHeld}
 use Rattle.segment_view.specs.Damages.{IsPartDamage}
 use Rattle.segment_set.specs.Damages.{IsAttachDamage, IsAttachDamageOf, IsDoubt, IsMisplaced, IsUnequal, IsUnequalOf}
-use Rattle.segment_set.specs.Evidence.{ArePair, HasNoBody, InHead, InList, IsEvident, IsHeadIn, IsLiveBeyond, IsTrueDamage, LacksLeaf, OfGiven}
+use Rattle.segment_set.specs.Evidence.{AsksPages, HasNoBody, InEntries, InHead, InList, InSets, IsEvident, IsHeadIn, IsListed, IsTrueDamage, IsTrueOf, LacksLeaf, OfGiven}
 use Rattle.segment_set.specs.Faithful.{HasFileHead}
 
 -- ---- of the same files, where more is told
@@ -48,10 +52,6 @@ on_evident_less S T files r back = on_damage_weaker r (IsEvident S files) (IsEvi
 -- where no damage is answered
 pub none_evident : {X : Type 0} (T : Type 0) (files : Files) (r : Result X PageFault) → NotDamaged r → OnDamage r (IsEvident T files)
 none_evident T files r whole = on_damage_weaker r (λ d. ⊥) (IsEvident T files) (λ d h. absurd h) whole
-
--- a damage that is true of the files has this form
-abbrev IsCarried : Files → Damage → Type 0
-IsCarried files d = IsTrueOf (λ file page offset len. Unit {0}) (ArePair files) (IsLiveBeyond files) (λ doc. Unit {0}) files d
 
 -- what is told of the files counts in an answer
 on_told : {X : Type 0} (T : Type 0) (r : Result X PageFault) (P Q R : Damage → Type 0) → ((d : Damage) → (T → P d) → Q d → R d) → (T → OnDamage r P) → OnDamage r Q → OnDamage r R
@@ -76,10 +76,10 @@ leaf_shows P D head root tree is has (Unequal file said found) h = absurd h
 leaf_shows P D head root tree is has (Beyond doc next) h = absurd h
 leaf_shows P D head root tree is has (Doubled doc) h = absurd h
 
-leaf_carried : (files : Files) (d : Damage) → IsLeafDamageOf files d → IsCarried files d
+leaf_carried : (files : Files) (d : Damage) → IsLeafDamageOf files d → IsTrueOf files d
 leaf_carried files (Page file number bytes) h = h
-leaf_carried files (Leaf file number offset len bytes) h = (h, tt)
-leaf_carried files (Size file size needed) h = h
+leaf_carried files (Leaf file number offset len bytes) h = h
+leaf_carried files (Size file size needed) h = inl h
 leaf_carried files (Body file bytes) h = absurd h
 leaf_carried files (Missing file) h = absurd h
 leaf_carried files (Unequal file said found) h = absurd h
@@ -113,20 +113,49 @@ doubt_shows P given items (Missing file) h = absurd h
 doubt_shows P given items (Size file size needed) h = absurd h
 doubt_shows P given items (Beyond doc next) h = absurd h
 
-doubt_carried : (files : Files) (given : ℕ) (items : List Item) (d : Damage) → IsDoubt given items d → IsCarried files d
-doubt_carried files given items (Unequal file said found) h = OfGiven h.0
-doubt_carried files given items (Doubled doc) h = tt
-doubt_carried files given items (Page file number bytes) h = absurd h
-doubt_carried files given items (Leaf file number offset len bytes) h = absurd h
-doubt_carried files given items (Body file bytes) h = absurd h
-doubt_carried files given items (Missing file) h = absurd h
-doubt_carried files given items (Size file size needed) h = absurd h
-doubt_carried files given items (Beyond doc next) h = absurd h
+-- the entries were read of segments, each of another id
+pub record AreOfFiles (D : ℕ) (files : Files) (items : List Item) : Type 0 where
+  pub parts : List Part
+  pub ascend : IsStrictlyIncreasing (ids_of parts)
+  pub held : AreHeld D files parts items
 
-pub doubt_evident : (T : Type 0) (files : Files) (given : ℕ) (items : List Item) (d : Damage) → IsDoubt given items d → IsEvident T files d
-doubt_evident T files given items d h = record {
+-- what is known to be there of each is there of all
+all_merely : {A : Type 0} (P : A → Type 0) (xs : List A) → All (λ x. ∥ P x ∥₁) xs → ∥ All P xs ∥₁
+all_merely P [] h = merely (All-nil P)
+all_merely P (x ∷ xs) h = ∥∥₁_elim (All-head (λ y. ∥ P y ∥₁) x xs h) ∥∥₁_prop (λ p. ∥∥₁_map (all_merely P xs (All-tail (λ y. ∥ P y ∥₁) x xs h)) (λ ps. All-cons P x xs p ps))
+
+ids_among : (ids : List ℕ) (parts : List Part) → ids_of (parts_among ids parts) ≡ filter (λ n. is_among ids n) (ids_of parts)
+ids_among ids [] = refl
+ids_among ids (p ∷ ps) = by (is_among ids p.head.id) (ids_among ids ps)
+  where
+    by : (b : Bool) → ids_of (parts_among ids ps) ≡ filter (λ n. is_among ids n) (ids_of ps)
+        → ids_of (cond b (p ∷ parts_among ids ps) (parts_among ids ps)) ≡ cond b (p.head.id ∷ filter (λ n. is_among ids n) (ids_of ps)) (filter (λ n. is_among ids n) (ids_of ps))
+    by true e = ap (λ ns. p.head.id ∷ ns) e
+    by false e = e
+
+-- entries that were gathered of segments whose heads are those of their files
+pub gathered_of_files : (D : ℕ) (files : Files) (ids : List ℕ) (parts : List Part) (items : List Item) → IsStrictlyIncreasing (ids_of parts) → All (HasFileHead D files) parts
+    → (All (HasOwnHead D files) parts → AreHeld D files (parts_among ids parts) items) → ∥ AreOfFiles D files items ∥₁
+gathered_of_files D files ids parts items up heads held = ∥∥₁_map (all_merely (HasOwnHead D files) parts heads) (λ own. record {
+  parts = parts_among ids parts;
+  ascend = subst IsStrictlyIncreasing (sym (ids_among ids parts)) (IsStrictlyIncreasing-filter (λ n. is_among ids n) (ids_of parts) up);
+  held = held own;
+})
+
+doubt_carried : (D : ℕ) (files : Files) (given : ℕ) (items : List Item) → AreOfFiles D files items → (d : Damage) → IsDoubt given items d → IsTrueOf files d
+doubt_carried D files given items of (Unequal file said found) h = let is : said ≡ given = h.1 in let more : given < found = h.2 in OfGiven h.0 (omega arith)
+doubt_carried D files given items of (Doubled doc) h = InEntries D of.parts of.ascend items of.held h
+doubt_carried D files given items of (Page file number bytes) h = absurd h
+doubt_carried D files given items of (Leaf file number offset len bytes) h = absurd h
+doubt_carried D files given items of (Body file bytes) h = absurd h
+doubt_carried D files given items of (Missing file) h = absurd h
+doubt_carried D files given items of (Size file size needed) h = absurd h
+doubt_carried D files given items of (Beyond doc next) h = absurd h
+
+pub doubt_evident : (T : Type 0) (D : ℕ) (files : Files) (given : ℕ) (items : List Item) (d : Damage) → (T → ∥ AreOfFiles D files items ∥₁) → IsDoubt given items d → IsEvident T files d
+doubt_evident T D files given items d of h = record {
   shows = merely (doubt_shows HasRanges given items d h);
-  of_files = λ t. record { shows = merely (doubt_shows (IsHeadIn files) given items d h); carries = merely (doubt_carried files given items d h) };
+  of_files = λ t. record { shows = merely (doubt_shows (IsHeadIn files) given items d h); carries = ∥∥₁_map (of t) (λ read. doubt_carried D files given items read d h) };
 }
 
 -- ---- the segments that a commit lists
@@ -177,27 +206,43 @@ attach_shows P c d (inl (s, there, inr (inl h))) = live_shows P s.segment s.gene
 attach_shows P c d (inl (s, there, inr (inr h))) = unequal_shows P s d h
 attach_shows P c d (inr h) = misplaced_shows P (λ doc. Unit {0}) (λ doc. Unit {0}) c.next d h
 
-head_carried : (files : Files) (c : CommitData) → IsCommitFile (bytes_of (files Commit)) c → (d : Damage) → IsHeadDamageOf c.dims files d → IsCarried files d
-head_carried files c says (Page file number bytes) h = h
-head_carried files c says (Missing file) h = h
-head_carried files c says (Size file size needed) h = h
-head_carried files c says (Body file bytes) h = h
-head_carried files c says (Unequal file said found) h = InHead c says h
-head_carried files c says (Leaf file number offset len bytes) h = absurd h
-head_carried files c says (Beyond doc next) h = absurd h
-head_carried files c says (Doubled doc) h = absurd h
+-- a file that isn't there is one that the commit lists
+missing_listed : (files : Files) (c : CommitData) → IsCommitFile (bytes_of (files Commit)) c → (file : FileName) → IsAttachDamage c (Missing file) → IsListed files file
+missing_listed files c says file (inl (s, there, inl h)) = record { commit = c; says = says; listed = s; there = there; is = inl h }
+missing_listed files c says file (inl (s, there, inr (inl h))) = record { commit = c; says = says; listed = s; there = there; is = inr h }
+missing_listed files c says file (inl (s, there, inr (inr h))) = absurd h
+missing_listed files c says file (inr h) = absurd h
 
-live_carried : (files : Files) (d : Damage) → IsLiveDamageOf files d → IsCarried files d
-live_carried files (Page file number bytes) h = h
-live_carried files (Missing file) h = h
-live_carried files (Size file size needed) h = h
-live_carried files (Body file bytes) h = h
-live_carried files (Unequal file said found) h = absurd h
-live_carried files (Leaf file number offset len bytes) h = absurd h
-live_carried files (Beyond doc next) h = absurd h
-live_carried files (Doubled doc) h = absurd h
+-- the pages that a file of a segment asks for
+pages_asked : (files : Files) (file : FileName) (size needed : ℕ) → IsSizeOf (AsksFor file) files file size needed → IsSizeOf (AsksPages file) files file size needed
+pages_asked files (Segment id) size needed h = h
+pages_asked files (Live segment generation) size needed h = h
+pages_asked files Commit size needed (inl h) = inl h
+pages_asked files Commit size needed (inr h) = absurd h.asked
+pages_asked files CommitNew size needed (inl h) = inl h
+pages_asked files CommitNew size needed (inr h) = absurd h.asked
 
-unequal_carried : (files : Files) (c : CommitData) → IsCommitFile (bytes_of (files Commit)) c → (s : Listed) → Contains c.listed s → (d : Damage) → IsUnequalOf files c s d → IsCarried files d
+head_carried : (files : Files) (c : CommitData) → IsCommitFile (bytes_of (files Commit)) c → (d : Damage) → IsAttachDamage c d → IsHeadDamageOf c.dims files d → IsTrueOf files d
+head_carried files c says (Page file number bytes) named h = h
+head_carried files c says (Missing file) named h = (h, missing_listed files c says file named)
+head_carried files c says (Size file size needed) named h = pages_asked files file size needed h
+head_carried files c says (Body file bytes) named h = h
+head_carried files c says (Unequal file said found) named h = InHead c says h
+head_carried files c says (Leaf file number offset len bytes) named h = absurd h
+head_carried files c says (Beyond doc next) named h = absurd h
+head_carried files c says (Doubled doc) named h = absurd h
+
+live_carried : (files : Files) (c : CommitData) → IsCommitFile (bytes_of (files Commit)) c → (d : Damage) → IsAttachDamage c d → IsLiveDamageOf files d → IsTrueOf files d
+live_carried files c says (Page file number bytes) named h = h
+live_carried files c says (Missing file) named h = (h, missing_listed files c says file named)
+live_carried files c says (Size file size needed) named h = pages_asked files file size needed h
+live_carried files c says (Body file bytes) named h = h
+live_carried files c says (Unequal file said found) named h = absurd h
+live_carried files c says (Leaf file number offset len bytes) named h = absurd h
+live_carried files c says (Beyond doc next) named h = absurd h
+live_carried files c says (Doubled doc) named h = absurd h
+
+unequal_carried : (files : Files) (c : CommitData) → IsCommitFile (bytes_of (files Commit)) c → (s : Listed) → Contains c.listed s → (d : Damage) → IsUnequalOf files c s d → IsTrueOf files d
 unequal_carried files c says s there (Unequal file said found) h = InList c says s there h
 unequal_carried files c says s there (Page file number bytes) h = absurd h
 unequal_carried files c says s there (Leaf file number offset len bytes) h = absurd h
@@ -208,9 +253,9 @@ unequal_carried files c says s there (Beyond doc next) h = absurd h
 unequal_carried files c says s there (Doubled doc) h = absurd h
 
 misplaced_carried : (files : Files) (c : CommitData) → IsCommitFile (bytes_of (files Commit)) c → (sets : List LiveSet) → HaveLive files c sets → (d : Damage)
-    → IsMisplaced (λ doc. 1 ≤ places doc sets) (λ doc. 2 ≤ places doc sets) c.next d → IsCarried files d
+    → IsMisplaced (λ doc. 1 ≤ places doc sets) (λ doc. 2 ≤ places doc sets) c.next d → IsTrueOf files d
 misplaced_carried files c says sets live (Beyond doc next) h = record { commit = c; says = says; next_is = h.0; sets = sets; live = live; there = h.2 }
-misplaced_carried files c says sets live (Doubled doc) h = tt
+misplaced_carried files c says sets live (Doubled doc) h = InSets c says sets live h
 misplaced_carried files c says sets live (Page file number bytes) h = absurd h
 misplaced_carried files c says sets live (Leaf file number offset len bytes) h = absurd h
 misplaced_carried files c says sets live (Body file bytes) h = absurd h
@@ -218,16 +263,16 @@ misplaced_carried files c says sets live (Missing file) h = absurd h
 misplaced_carried files c says sets live (Size file size needed) h = absurd h
 misplaced_carried files c says sets live (Unequal file said found) h = absurd h
 
-attach_carried : (files : Files) (c : CommitData) → IsCommitFile (bytes_of (files Commit)) c → (d : Damage) → IsAttachDamageOf files c d → IsCarried files d
-attach_carried files c says d (inl (s, there, inl h)) = head_carried files c says d h
-attach_carried files c says d (inl (s, there, inr (inl h))) = live_carried files d h
-attach_carried files c says d (inl (s, there, inr (inr h))) = unequal_carried files c says s there d h
-attach_carried files c says d (inr (sets, live, h)) = misplaced_carried files c says sets live d h
+attach_carried : (files : Files) (c : CommitData) → IsCommitFile (bytes_of (files Commit)) c → (d : Damage) → IsAttachDamage c d → IsAttachDamageOf files c d → IsTrueOf files d
+attach_carried files c says d named (inl (s, there, inl h)) = head_carried files c says d named h
+attach_carried files c says d named (inl (s, there, inr (inl h))) = live_carried files c says d named h
+attach_carried files c says d named (inl (s, there, inr (inr h))) = unequal_carried files c says s there d h
+attach_carried files c says d named (inr (sets, live, h)) = misplaced_carried files c says sets live d h
 
 pub attach_evident : (T : Type 0) (files : Files) (c : CommitData) (d : Damage) → (T → IsCommitFile (bytes_of (files Commit)) c) → (T → IsAttachDamageOf files c d) → IsAttachDamage c d → IsEvident T files d
 attach_evident T files c d says true h = record {
   shows = merely (attach_shows HasRanges c d h);
-  of_files = λ t. record { shows = merely (attach_shows (IsHeadIn files) c d h); carries = merely (attach_carried files c (says t) d (true t)) };
+  of_files = λ t. record { shows = merely (attach_shows (IsHeadIn files) c d h); carries = merely (attach_carried files c (says t) d h (true t)) };
 }
 
 pub on_attach_evident : {X : Type 0} (T : Type 0) (files : Files) (c : CommitData) (r : Result X PageFault) → (T → IsCommitFile (bytes_of (files Commit)) c) → (T → OnDamage r (IsAttachDamageOf files c))
@@ -246,20 +291,21 @@ commit_shows P (Unequal file said found) h = absurd h
 commit_shows P (Beyond doc next) h = absurd h
 commit_shows P (Doubled doc) h = absurd h
 
-commit_carried : (files : Files) (d : Damage) → IsCommitDamageOf files d → IsCarried files d
-commit_carried files (Page file number bytes) h = h
-commit_carried files (Missing file) h = h
-commit_carried files (Size file size needed) h = h
-commit_carried files (Body file bytes) h = h
-commit_carried files (Leaf file number offset len bytes) h = absurd h
-commit_carried files (Unequal file said found) h = absurd h
-commit_carried files (Beyond doc next) h = absurd h
-commit_carried files (Doubled doc) h = absurd h
+commit_carried : (files : Files) (d : Damage) → IsCommitDamage d → IsCommitDamageOf files d → IsTrueOf files d
+commit_carried files (Page file number bytes) shown h = h
+commit_carried files (Missing file) shown h = absurd h
+commit_carried files (Size file size needed) shown h =
+    subst (λ (name : FileName). IsSizeOf AsksCommit files name size needed → IsSizeOf (AsksPages name) files name size needed) (sym shown.0) (λ k. k) h
+commit_carried files (Body file bytes) shown h = h
+commit_carried files (Leaf file number offset len bytes) shown h = absurd h
+commit_carried files (Unequal file said found) shown h = absurd h
+commit_carried files (Beyond doc next) shown h = absurd h
+commit_carried files (Doubled doc) shown h = absurd h
 
 pub commit_evident : (T : Type 0) (files : Files) (d : Damage) → (T → IsCommitDamageOf files d) → IsCommitDamage d → IsEvident T files d
 commit_evident T files d true h = record {
   shows = merely (commit_shows HasRanges d h);
-  of_files = λ t. record { shows = merely (commit_shows (IsHeadIn files) d h); carries = merely (commit_carried files d (true t)) };
+  of_files = λ t. record { shows = merely (commit_shows (IsHeadIn files) d h); carries = merely (commit_carried files d h (true t)) };
 }
 
 pub on_commit_evident : {X : Type 0} (T : Type 0) (files : Files) (r : Result X PageFault) → (T → OnDamage r (IsCommitDamageOf files)) → OnDamage r IsCommitDamage → OnDamage r (IsEvident T files)

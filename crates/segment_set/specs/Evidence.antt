@@ -1,23 +1,28 @@
 -- What a damage shows of a folder's files, whichever call answers it: by what it carries alone, and of the files where those are told.
-use Rattle.std.specs.Prelude.{◌≡◌, ◌≤◌, ℕ, List, Contains}
+use Rattle.std.specs.Prelude.{◌≡◌, ◌≤◌, ◌<◌, ◌×◌, ◌⊎◌, ℕ, List, None, Contains}
+use Rattle.std.specs.List.Sorted.{IsStrictlyIncreasing}
 use Rattle.outer_io.specs.declared.file_name.FileName.{FileName}
 use Rattle.outer_io.specs.declared.file_name.FileName.TheVariants.{Commit, CommitNew, Segment, Live}
 use Rattle.outer_io.specs.Files.{Files, bytes_of}
-use Rattle.point_codec.specs.Points.{Region}
+use Rattle.point_codec.specs.Points.{Item, Region}
 use Rattle.live_bits.specs.LiveSet.{LiveSet}
 use Rattle.inner_pack.specs.Places.{front}
 use Rattle.inner_pack.specs.Trees.{IndexTree}
 use Rattle.inner_pack.specs.Bodies.{HasTree}
-use Rattle.page_cache.specs.Evidence.{IsShown, IsTrueOf}
+use Rattle.page_cache.specs.Evidence.{IsShown, IsPageOf, ArePayloadsOf, IsSizeOf}
 use Rattle.page_cache.specs.declared.faults.Damage.{Damage}
+use Rattle.page_cache.specs.declared.faults.Damage.TheVariants.{Page, Leaf, Body, Missing, Size, Unequal, Beyond, Doubled}
 use Rattle.commit_list.specs.declared.listed.Listed.{Listed}
 use Rattle.commit_list.specs.Commits.{CommitData}
-use Rattle.commit_list.specs.CommitFiles.{IsCommitFile, IsNoCommitBody}
+use Rattle.commit_list.specs.CommitFiles.{IsCommitFile, IsNoCommitBody, AsksCommit}
 use Rattle.segment_file.specs.Heads.{Head, HasRanges}
 use Rattle.segment_file.specs.Segments.{IsHeadOf}
-use Rattle.segment_file.specs.Damages.{AreHeadPair, BeginsNoHead, BeginsNoSet, IsNoLeaf}
+use Rattle.segment_file.specs.Damages.{AreHeadPair, AsksFor, BeginsNoHead, BeginsNoSet, IsNoLeaf}
 use Rattle.stored_index.specs.Segments.{places}
 use Rattle.stored_index.specs.Stored.{HaveLive}
+use Rattle.segment_view.specs.Parts.{Part, ids_of}
+use Rattle.segment_view.specs.Held.{AreHeld}
+use Rattle.number_checks.specs.Crowded.{IsCrowded}
 use Rattle.segment_set.specs.Damages.{IsPair}
 
 -- ---- by what it carries
@@ -50,12 +55,27 @@ ShowsItself P d = ∥ IsShown (LacksLeaf P) HasNoBody d ∥₁
 abbrev pub IsHeadIn : Files → ℕ → Head → Type 0
 IsHeadIn files D head = IsHeadOf D (bytes_of (files (Segment head.id))) head
 
+-- the commit of the files lists the segment whose file this is, or whose live bits it has
+pub record IsListed (files : Files) (file : FileName) : Type 0 where
+  pub commit : CommitData
+  pub says : IsCommitFile (bytes_of (files Commit)) commit
+  pub listed : Listed
+  pub there : Contains commit.listed listed
+  pub is : (file ≡ Segment listed.segment) ⊎ (file ≡ Live listed.segment listed.generation)
+
+-- the first page of the file has this payload and asks for so many pages, by the layout of its kind
+abbrev pub AsksPages : FileName → (payload : List ℕ) → (pages : ℕ) → Type 0
+AsksPages (Segment id) payload pages = AsksFor (Segment id) payload pages
+AsksPages (Live segment generation) payload pages = AsksFor (Live segment generation) payload pages
+AsksPages Commit payload pages = AsksCommit payload pages
+AsksPages CommitNew payload pages = ⊥
+
 -- Two numbers that must agree: of a segment's file and the dimensions of the commit, of that file alone, or of the commit and a file that it lists. Where
--- entries are more than the points given, the Commit file is named, and the numbers need be none of files.
+-- more live entries are read than points were given, the Commit file is named, and the numbers need be none of files.
 pub data ArePair (files : Files) (file : FileName) (said found : ℕ) : Type 0 where
   InHead : (c : CommitData) → IsCommitFile (bytes_of (files Commit)) c → AreHeadPair c.dims (bytes_of (files file)) said found → ArePair files file said found
   InList : (c : CommitData) → IsCommitFile (bytes_of (files Commit)) c → (s : Listed) → Contains c.listed s → IsPair files c s file said found → ArePair files file said found
-  OfGiven : file ≡ Commit → ArePair files file said found
+  OfGiven : file ≡ Commit → said < found → ArePair files file said found
 
 -- the number is live in a listed segment, and this is the commit's next one
 pub record IsLiveBeyond (files : Files) (doc next : ℕ) : Type 0 where
@@ -66,11 +86,27 @@ pub record IsLiveBeyond (files : Files) (doc next : ℕ) : Type 0 where
   pub live : HaveLive files commit sets
   pub there : 1 ≤ places doc sets
 
--- The damage is true of the files: what it carries is theirs, and a leaf that isn't spelled is one that the head of its file has. Of a number that is
--- live twice only the number is carried.
+-- The number is live in two listed segments. Or more than 16 entries have it, or one twice, of those that the files of segments, each of another id, hold
+-- for the numbers that were live then.
+pub data IsTwice (files : Files) (doc : ℕ) : Type 0 where
+  InSets : (c : CommitData) → IsCommitFile (bytes_of (files Commit)) c → (sets : List LiveSet) → HaveLive files c sets → 2 ≤ places doc sets → IsTwice files doc
+  InEntries : (D : ℕ) (parts : List Part) → IsStrictlyIncreasing (ids_of parts) → (items : List Item) → AreHeld D files parts items → IsCrowded doc items → IsTwice files doc
+
+-- what a damage carries is that of the files
+abbrev pub IsTrueOf : Files → Damage → Type 0
+IsTrueOf files (Page file number bytes) = IsPageOf files file number bytes.value.b
+IsTrueOf files (Leaf file number offset len bytes) = IsPageOf files file number bytes.value.b
+IsTrueOf files (Body file bytes) = ArePayloadsOf files file bytes
+IsTrueOf files (Missing file) = (files file ≡ None) × IsListed files file
+IsTrueOf files (Size file size needed) = IsSizeOf (AsksPages file) files file size needed
+IsTrueOf files (Unequal file said found) = ArePair files file said found
+IsTrueOf files (Beyond doc next) = IsLiveBeyond files doc next
+IsTrueOf files (Doubled doc) = IsTwice files doc
+
+-- The damage is true of the files: what it carries is theirs, and a leaf that isn't spelled is one that the head of its file has.
 pub record IsTrueDamage (files : Files) (d : Damage) : Type 0 where
   pub shows : ShowsItself (IsHeadIn files) d
-  pub carries : ∥ IsTrueOf (λ file page offset len. Unit {0}) (ArePair files) (IsLiveBeyond files) (λ doc. Unit {0}) files d ∥₁
+  pub carries : ∥ IsTrueOf files d ∥₁
 
 -- the damage is shown by what it carries, and is true of the files where they are told
 pub record IsEvident (told : Type 0) (files : Files) (d : Damage) : Type 0 where

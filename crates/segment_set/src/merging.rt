@@ -1,7 +1,7 @@
 //! What a merge does with segments: their live entries are gathered, a segment is built of these, and it takes their place.
 
 ghost use Rattle.std.specs.Prelude.{◌≡◌, ◌≤◌, ◌<◌, ◌^◌, ◌⊎◌, ℕ, List, Contains, true, false, [], Some, length, All, IsTrue, IfOk, OnOk, OnErr, IsErrOf};
-ghost use Rattle.std.specs.List.Sorted.{IsPermutation};
+ghost use Rattle.std.specs.List.Sorted.{IsPermutation, IsStrictlyIncreasing};
 ghost use Rattle.std.specs.Option.{option_copied};
 ghost use Rattle.outer_io.specs.declared.file_name.FileName.TheVariants.{Segment};
 ghost use Rattle.point_codec.specs.Points.{Item};
@@ -101,6 +101,14 @@ fn build_of<const D: usize, R: Threads + Sync, G: Gate>(
     Ok(build_segment(rt, alloc, entries, plan.leaf, plan.forks, gate)?)
 }
 
+/// Segments stand in ascending order of their ids.
+fn ascend<const D: usize>(segments: &Segments<D>)
+    requires { D ≤ 8 }
+    ensures { IsStrictlyIncreasing (ids_of segments.now) }
+{
+    let _heads = segments.heads();
+}
+
 /// Gathers what is live in the segments of these ids, and builds a segment of it; none, where nothing is live.
 pub(crate) fn gathered<const D: usize, R: Threads + Sync, F: Pages, G: Gate>(
     rt: &R,
@@ -127,6 +135,7 @@ pub(crate) fn gathered<const D: usize, R: Threads + Sync, F: Pages, G: Gate>(
         → OnDamage result (IsDoubt plan.now.given (live_in_parts c segments.now)) }
     ensures evident { OnDamage result (IsEvident (IsTrue F.told × Agrees (F.files folder.old) cache.old × All (HasFileHead D (F.files folder.old)) segments.now) (F.files folder.new)) }
 {
+    ascend(segments);
     let mut entries = gather(alloc, segments, ids, cache, folder)?;
     if entries.is_empty() {
         return Ok(None);

@@ -2,6 +2,7 @@ use Rattle.std.proofs.Common.{◌≡◌, ◌≤◌, List, length, All, true, Err
 use Rattle.std.proofs.lemmas.Bool.Decides.{nat_tests}
 use Rattle.std.proofs.lemmas.List.Elements.{All-filter}
 use Rattle.std.proofs.lemmas.Result.{err_from_is_err_and}
+use Rattle.outer_io.specs.Files.{Files}
 use Rattle.point_codec.specs.Points.{Item}
 use Rattle.point_codec.specs.Seen.{items_of}
 use Rattle.point_codec.specs.declared.entries.Entry.{Entry}
@@ -16,7 +17,7 @@ use Rattle.segment_set.specs.Damages.{IsDoubt, IsMergeDamage, IsMergeDamageOf, D
 use Rattle.segment_set.specs.Evidence.{IsEvident}
 use Rattle.segment_set.specs.Faithful.{HasFileHead}
 use Rattle.segment_set.proofs.Doubted.{doubt_among, part_shown, whole_shows}
-use Rattle.segment_set.proofs.Evident.{doubt_evident, on_evident_at, on_part_evident}
+use Rattle.segment_set.proofs.Evident.{AreOfFiles, doubt_evident, gathered_of_files, on_evident_at, on_part_evident}
 use Rattle.segment_set.proofs.Fresh.{gathered_of, holds_live, items_length}
 use Rattle.segment_set.proofs.Spilled.{some_is}
 use Rattle.segment_set.proofs.merging.gathered.Goals as goal
@@ -114,4 +115,8 @@ returns-in_err-build_of-clause-evident g c =
     let told = IsTrue g.F.Pages.told × Agrees files c.args.cache.now × All (HasFileHead g.row.D files) c.args.segments.now in
     rw (p.1, p.2)
     (on_damage {T = Unit {0}} (IsDoubt c.args.plan.now.given (items_of c.as_mut_slice.result.now)) (IsEvident told (g.F.Pages.files c.gather.new.folder)) (Err c.in_err-build_of.field-0.0)
-    (λ d h. doubt_evident told (g.F.Pages.files c.gather.new.folder) c.args.plan.now.given (items_of c.as_mut_slice.result.now) d h) c.in_err-build_of.ensures.shown)
+    (λ d h. doubt_evident told g.row.D (g.F.Pages.files c.gather.new.folder) c.args.plan.now.given (items_of c.as_mut_slice.result.now) d
+    (λ t. subst (λ (f : Files). ∥ AreOfFiles g.row.D f (items_of c.as_mut_slice.result.now) ∥₁) (sym (c.gather.ensures.calm.files t.0))
+    (subst (λ (es : List (Entry g.row.D)). ∥ AreOfFiles g.row.D files (items_of es) ∥₁) (sym c.as_mut_slice.ensures.value)
+    (gathered_of_files g.row.D files c.args.ids.now c.args.segments.now (items_of c.in_ok-entries.entries.items) c.ascend.ensures t.2 (c.in_ok-entries.ensures.held t.0 t.1))))
+    h) c.in_err-build_of.ensures.shown)
