@@ -4,7 +4,11 @@ use Rattle.outer_io.specs.Files.{bytes_of}
 use Rattle.outer_io.specs.declared.file_name.FileName.{FileName}
 use Rattle.outer_io.specs.declared.file_name.FileName.TheVariants.{Commit}
 use Rattle.page_cache.specs.FilePages.{ArePages, payloads_of}
-use Rattle.commit_list.specs.CommitFiles.{IsCommitFile, SpellsFilled}
+use Rattle.page_cache.specs.FirstPages.{first_name, first_size}
+use Rattle.page_cache.specs.Evidence.{IsSizeDamage, IsFileDamageOf}
+use Rattle.page_cache.proofs.Damages.{fault_weaker}
+use Rattle.commit_list.specs.CommitFiles.{IsCommitFile, SpellsFilled, IsCommitDamageOf}
+use Rattle.commit_list.proofs.CommitDamages.{commit_damage_of, commit_size_of}
 use Rattle.commit_list.proofs.CommitPages.{begins-short, first_begins, file_long, file_pages, file_payloads, file_so, first_of}
 use Rattle.commit_list.proofs.files.read_from.Goals as goal
 
@@ -13,6 +17,23 @@ returns-in_err-length-clause-whole g c = λ told first d h.
     let p = err_from_is_err_and c.from_residual.result c.from_residual.ensures.1 in
     let f = first_of (g.F.Pages.files c.args.folder.now) c.args.first.now c.requires first in
     rw (p.1, p.2) (c.in_err-length.ensures.whole (length h.body) (first_begins _ _ d f.payload_is h))
+
+pub returns-in_err-check_size-clause-damage : goal.returns-in_err-check_size-clause-damage
+returns-in_err-check_size-clause-damage g c = λ told first.
+    let files = g.F.Pages.files c.args.folder.now in
+    let p = c.args.first.now in
+    let pages = c.pages_for-pages.result in
+    let e = err_from_is_err_and c.from_residual-in_err-check_size.result c.from_residual-in_err-check_size.ensures.1 in
+    rw (e.1, e.2)
+    (fault_weaker c.in_err-check_size.field-0.0 (IsSizeDamage (first_name p) (first_size p) (4096 * pages)) (IsCommitDamageOf files)
+    (λ d h. commit_size_of files p c.in_ok-length.length pages d first c.in_ok-length.ensures.begins c.pages_for-pages.ensures h)
+    c.in_err-check_size.ensures.size)
+
+pub returns-in_err-payloads-clause-damage : goal.returns-in_err-payloads-clause-damage
+returns-in_err-payloads-clause-damage g c = λ told first.
+    let files = g.F.Pages.files c.args.folder.now in
+    let e = err_from_is_err_and c.from_residual-in_err-payloads.result c.from_residual-in_err-payloads.ensures.1 in
+    rw (e.1, e.2) (fault_weaker c.in_err-payloads.field-0.0 (IsFileDamageOf files) (IsCommitDamageOf files) (commit_damage_of files) (c.in_err-payloads.ensures.damage told))
 
 pub returns-in_err-check_size-clause-whole : goal.returns-in_err-check_size-clause-whole
 returns-in_err-check_size-clause-whole g c = λ told first d h.
