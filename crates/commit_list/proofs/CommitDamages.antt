@@ -1,26 +1,42 @@
 -- What was read is a damage of the commit.
-use Rattle.std.proofs.Common.{◌≡◌, ◌*◌, ℕ, inl}
-use Rattle.outer_io.specs.Files.{Files}
+use Rattle.std.proofs.Common.{◌≡◌, ◌*◌, ℕ, None, inl, sym, ap, subst}
+use Rattle.outer_io.specs.declared.file_name.FileName.{FileName}
+use Rattle.outer_io.specs.declared.file_name.FileName.TheVariants.{Commit}
+use Rattle.outer_io.specs.Files.{Files, bytes_of, size_of}
+use Rattle.page_cache.specs.FilePages.{IsFilePage}
 use Rattle.page_cache.specs.Bodies.{pages_for}
-use Rattle.page_cache.specs.Evidence.{IsSizeDamage, IsFileDamageOf}
+use Rattle.page_cache.specs.Evidence.{FaultShows, IsSizeDamage, IsFileDamage, IsFileDamageOf}
 use Rattle.page_cache.specs.FirstPages.{first_name, first_payload, first_size, IsFirstPage}
 use Rattle.page_cache.specs.declared.first_page.FirstPage.{FirstPage}
 use Rattle.page_cache.specs.declared.faults.Damage.{Damage}
 use Rattle.page_cache.specs.declared.faults.Damage.TheVariants.{Page, Leaf, Body, Missing, Size, Unequal, Beyond, Doubled}
+use Rattle.page_cache.specs.declared.faults.PageFault.{PageFault}
+use Rattle.page_cache.specs.declared.faults.PageFault.TheVariants.{Failed, Damaged, Memory}
 use Rattle.page_cache.proofs.Damages.{other_size}
+use Rattle.page_cache.proofs.FileSizes.{no_file_no_page}
 use Rattle.commit_list.specs.Layout.{BeginsBody}
 use Rattle.commit_list.specs.CommitFiles.{AsksCommit, IsCommitDamageOf}
 
--- a damage of the file's pages
-pub commit_damage_of : (files : Files) (d : Damage) → IsFileDamageOf files d → IsCommitDamageOf files d
-commit_damage_of files (Page file number bytes) h = h
-commit_damage_of files (Leaf file number offset len bytes) h = h
-commit_damage_of files (Body file bytes) h = absurd h
-commit_damage_of files (Missing file) h = h
-commit_damage_of files (Size file size needed) h = inl h
-commit_damage_of files (Unequal file said found) h = h
-commit_damage_of files (Beyond doc next) h = h
-commit_damage_of files (Doubled doc) h = h
+-- a damage of the file's pages, where it is there
+commit_damage_of : (files : Files) (d : Damage) → (files Commit ≡ None → ⊥) → IsFileDamage Commit d → IsFileDamageOf files d → IsCommitDamageOf files d
+commit_damage_of files (Page file number bytes) there named h = h
+commit_damage_of files (Leaf file number offset len bytes) there named h = absurd h
+commit_damage_of files (Body file bytes) there named h = absurd h
+commit_damage_of files (Missing file) there named h = absurd (there (subst (λ (name : FileName). files name ≡ None) named h))
+commit_damage_of files (Size file size needed) there named h = inl h
+commit_damage_of files (Unequal file said found) there named h = absurd h
+commit_damage_of files (Beyond doc next) there named h = absurd h
+commit_damage_of files (Doubled doc) there named h = absurd h
+
+pub commit_fault_of : (files : Files) (f : PageFault) → (files Commit ≡ None → FaultShows (λ _. ⊥) f) → FaultShows (IsFileDamage Commit) f → FaultShows (IsFileDamageOf files) f → FaultShows (IsCommitDamageOf files) f
+commit_fault_of files Failed there named h = tt
+commit_fault_of files (Damaged d) there named h = commit_damage_of files d there named h
+commit_fault_of files Memory there named h = tt
+
+-- a first page is that of a file that is there
+pub first_is_there : (files : Files) (p : FirstPage) (f : PageFault) → first_name p ≡ Commit → IsFirstPage files p → files Commit ≡ None → FaultShows (λ _. ⊥) f
+first_is_there files p f is first gone =
+    absurd (no_file_no_page Commit (files Commit) (sym (ap size_of gone)) (subst (λ (name : FileName). IsFilePage name (bytes_of (files name)) 0) is first.page))
 
 -- a size that isn't that of the pages for which the first page asks
 pub commit_size_of : (files : Files) (p : FirstPage) (len pages : ℕ) (d : Damage) → IsFirstPage files p → BeginsBody (first_payload p) len → pages ≡ pages_for len

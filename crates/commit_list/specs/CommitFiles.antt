@@ -56,10 +56,10 @@ IsCommitDamage (Unequal file said found) = ⊥
 IsCommitDamage (Beyond doc next) = ⊥
 IsCommitDamage (Doubled doc) = ⊥
 
--- and it is true of the files
+-- and it is true of the files; a Commit that isn't there is no damage
 abbrev pub IsCommitDamageOf : Files → Damage → Type 0
 IsCommitDamageOf files (Page file number bytes) = IsFileDamageOf files (Page file number bytes)
-IsCommitDamageOf files (Missing file) = IsFileDamageOf files (Missing file)
+IsCommitDamageOf files (Missing file) = ⊥
 IsCommitDamageOf files (Size file size needed) = IsSizeOf AsksCommit files file size needed
 IsCommitDamageOf files (Body file bytes) = ArePayloadsOf files file bytes
 IsCommitDamageOf files (Leaf file number offset len bytes) = ⊥
