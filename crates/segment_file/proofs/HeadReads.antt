@@ -1,5 +1,5 @@
 -- Opening a segment: what each step says of the file.
-use Rattle.std.proofs.Common.{◌≡◌, ◌≢◌, ◌≤◌, ◌<◌, ◌^◌, ◌+◌, ◌*◌, ℕ, List, [], ◌∷◌, ◌++◌, length, refl, sym, ap, subst, ◌∙◌, arith, append_assoc, append-nil}
+use Rattle.std.proofs.Common.{◌≡◌, ◌≢◌, ◌≤◌, ◌<◌, ◌^◌, ◌+◌, ◌*◌, ℕ, inl, List, [], ◌∷◌, ◌++◌, length, refl, sym, ap, subst, ◌∙◌, arith, append_assoc, append-nil}
 use Rattle.std.specs.Prelude.{slice_index, ◌==◌, Bool, true, false}
 use Rattle.outer_io.specs.Files.{Files, bytes_of}
 use Rattle.outer_io.specs.declared.file_name.FileName.{FileName}
@@ -76,7 +76,7 @@ head_damage_of D files (Page file number bytes) h = h
 head_damage_of D files (Leaf file number offset len bytes) h = h
 head_damage_of D files (Body file bytes) h = absurd h
 head_damage_of D files (Missing file) h = h
-head_damage_of D files (Size file size needed) h = h
+head_damage_of D files (Size file size needed) h = inl h
 head_damage_of D files (Unequal file said found) h = absurd h
 head_damage_of D files (Beyond doc next) h = h
 head_damage_of D files (Doubled doc) h = h

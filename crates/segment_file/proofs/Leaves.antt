@@ -1,5 +1,7 @@
 -- A leaf in its page: from what the page spells to what the file holds, and back.
 use Rattle.std.proofs.Common.{◌≡◌, ℕ, List, refl, sym, ap, subst}
+use Rattle.outer_io.specs.Files.{Files}
+use Rattle.outer_io.specs.declared.file_name.FileName.{FileName}
 use Rattle.point_codec.specs.Points.{Item, Region}
 use Rattle.leaf_codec.specs.Leaves.{SpellsLeafIn}
 use Rattle.inner_pack.specs.Places.{Spot}
@@ -11,9 +13,12 @@ use Rattle.page_file.specs.Page.{IsPage}
 use Rattle.page_cache.specs.FilePages.{page_at, IsFilePage}
 use Rattle.page_cache.specs.declared.cache.PageCache.{PageCache}
 use Rattle.page_cache.specs.Cache.{Keeps}
+use Rattle.page_cache.specs.Evidence.{IsPageDamage, IsPageDamageOf}
+use Rattle.page_cache.specs.declared.faults.Damage.{Damage}
+use Rattle.page_cache.specs.declared.faults.Damage.TheVariants.{Page, Leaf as LeafDamage, Body, Missing, Size, Unequal, Beyond, Doubled}
 use Rattle.segment_file.specs.Heads.{Head, page_of, count_of}
 use Rattle.segment_file.specs.Segments.{part_of, HoldsLeaf, IsLeafOf}
-use Rattle.segment_file.specs.Damages.{IsNoLeaf}
+use Rattle.segment_file.specs.Damages.{IsNoLeaf, IsLeafDamageOf}
 use Rattle.segment_file.specs.Kept.{SpellsNoLeaf}
 
 -- the place of a leaf is where the leaf begins, and is as long
@@ -55,3 +60,14 @@ no_leaf D cache head node first s path t place bytes kept at where_ none =
       offset_is = where_.offset;
       none = λ items spells. none first s path place.length where_.own (subst (λ (u : IndexTree). IsAt node first s path u) where_.is at) bytes items kept spells;
     }
+
+-- the damage of a page is one of reading a leaf
+pub leaf_from_page_of : (files : Files) (name : FileName) (n : ℕ) (d : Damage) → IsPageDamage name n d → IsPageDamageOf files n d → IsLeafDamageOf files d
+leaf_from_page_of files name n (Page file number bytes) h k = k
+leaf_from_page_of files name n (Size file size needed) h k = record { number = n; page_end = h.1; seen = k; short = h.2 }
+leaf_from_page_of files name n (LeafDamage file number offset len bytes) h k = absurd k
+leaf_from_page_of files name n (Body file bytes) h k = k
+leaf_from_page_of files name n (Missing file) h k = k
+leaf_from_page_of files name n (Unequal file said found) h k = k
+leaf_from_page_of files name n (Beyond doc next) h k = k
+leaf_from_page_of files name n (Doubled doc) h k = k

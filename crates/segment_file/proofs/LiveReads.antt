@@ -1,20 +1,23 @@
 -- Reading a file of live bits: what each step says of the file.
-use Rattle.std.proofs.Common.{◌≡◌, ◌≤◌, ◌+◌, ◌-◌, ◌*◌, ℕ, List, [], ◌++◌, length, replicate, sym, ap, subst, ◌∙◌, arith, append-nil}
+use Rattle.std.proofs.Common.{◌≡◌, ◌≤◌, ◌+◌, ◌-◌, ◌*◌, ℕ, inl, List, [], ◌++◌, length, replicate, sym, ap, subst, ◌∙◌, arith, append-nil}
 use Rattle.outer_io.specs.Files.{Files}
 use Rattle.outer_io.specs.declared.file_name.FileName.{FileName}
 use Rattle.outer_io.specs.declared.file_name.FileName.TheVariants.{Live}
 use Rattle.live_bits.specs.LiveSet.{LiveSet, IsLiveSet}
-use Rattle.live_bits.specs.LiveBody.{IsLiveBody, live_set}
+use Rattle.live_bits.specs.LiveBody.{IsLiveBody, SaysLength, live_set}
 use Rattle.live_bits.proofs.LiveNumbers.{live_set_is}
 use Rattle.page_cache.specs.FilePages.{page_at, IsFilePage, ArePages, payloads_of}
 use Rattle.page_cache.specs.Bodies.{pages_for, filled}
-use Rattle.page_cache.specs.Evidence.{ArePayloadsOf, IsFileDamageOf}
+use Rattle.page_cache.specs.Evidence.{ArePayloadsOf, IsSizeOf, IsSizeDamage, IsFileDamageOf}
+use Rattle.page_cache.specs.FirstPages.{first_name, first_payload, first_size, IsFirstPage}
+use Rattle.page_cache.specs.declared.first_page.FirstPage.{FirstPage}
 use Rattle.page_file.specs.Page.{payload_of}
 use Rattle.page_cache.proofs.PageRuns.{payloads_join, payloads_of_one}
+use Rattle.page_cache.proofs.Damages.{other_size}
 use Rattle.page_cache.specs.declared.faults.Damage.{Damage}
 use Rattle.page_cache.specs.declared.faults.Damage.TheVariants.{Page, Leaf, Body, Missing, Size, Unequal, Beyond, Doubled}
 use Rattle.segment_file.specs.LiveFiles.{IsLiveFile, IsSetOf}
-use Rattle.segment_file.specs.Damages.{IsBodyDamage, IsLiveDamage, IsLiveDamageOf}
+use Rattle.segment_file.specs.Damages.{AsksFor, IsBodyDamage, IsLiveDamage, IsLiveDamageOf}
 use Rattle.segment_file.proofs.Lists.{filled_length}
 use Rattle.segment_file.proofs.LiveLemmas.{body_length}
 
@@ -34,10 +37,24 @@ live_damage_of files (Page file number bytes) h = h
 live_damage_of files (Leaf file number offset len bytes) h = h
 live_damage_of files (Body file bytes) h = absurd h
 live_damage_of files (Missing file) h = h
-live_damage_of files (Size file size needed) h = h
+live_damage_of files (Size file size needed) h = inl h
 live_damage_of files (Unequal file said found) h = h
 live_damage_of files (Beyond doc next) h = h
 live_damage_of files (Doubled doc) h = h
+
+-- the size that the first page doesn't ask for
+pub live_size_of : (files : Files) (first : FirstPage) (segment generation len pages : ℕ) (d : Damage) → IsFirstPage files first → first_name first ≡ Live segment generation
+    → SaysLength segment generation (first_payload first) len → pages ≡ pages_for len → IsSizeDamage (first_name first) (first_size first) (4096 * pages) d → IsLiveDamageOf files d
+live_size_of files first segment generation len pages (Size file size needed) there name says count h =
+    subst (λ (f : FileName). IsSizeOf (AsksFor f) files file size needed) (sym (h.0 ∙ name))
+    (other_size (AsksFor (Live segment generation)) files first pages file size needed there (record { len = len; says = says; pages_are = count }) h)
+live_size_of files first segment generation len pages (Page file number bytes) there name says count h = absurd h
+live_size_of files first segment generation len pages (Leaf file number offset len' bytes) there name says count h = absurd h
+live_size_of files first segment generation len pages (Body file bytes) there name says count h = absurd h
+live_size_of files first segment generation len pages (Missing file) there name says count h = absurd h
+live_size_of files first segment generation len pages (Unequal file said found) there name says count h = absurd h
+live_size_of files first segment generation len pages (Beyond doc next) there name says count h = absurd h
+live_size_of files first segment generation len pages (Doubled doc) there name says count h = absurd h
 
 -- payloads of the file that are carried
 pub body_damage_of : (files : Files) (name : FileName) (payloads : List ℕ) (d : Damage) → ArePayloadsOf files name payloads → IsBodyDamage name payloads d → IsLiveDamageOf files d

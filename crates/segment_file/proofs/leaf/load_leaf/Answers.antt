@@ -1,8 +1,12 @@
 use Rattle.std.proofs.lemmas.Result.{err_from_is_err_and}
 use Rattle.page_cache.specs.Cache.{IsKept}
+use Rattle.page_cache.specs.Evidence.{IsPageDamage, IsPageDamageOf}
+use Rattle.page_cache.proofs.Damages.{fault_both}
 use Rattle.page_cache.specs.FilePages.{IsFilePage}
 use Rattle.outer_io.specs.Files.{bytes_of}
 use Rattle.outer_io.specs.declared.file_name.FileName.TheVariants.{Segment}
+use Rattle.segment_file.specs.Damages.{IsLeafDamageOf}
+use Rattle.segment_file.proofs.Leaves.{leaf_from_page_of}
 use Rattle.segment_file.proofs.leaf.load_leaf.Goals as goal
 
 pub returns-clause-hit : goal.returns-clause-hit
@@ -24,3 +28,13 @@ returns-in_err-load-clause-whole g c = λ told first s path t at page.
     let here : IsFilePage (Segment c.id.result) (bytes_of (g.F.Pages.files c.args.folder.now (Segment c.id.result))) c.page_of.result = rw (c.id.ensures, c.page_of.ensures, p.page) page in
     let e = err_from_is_err_and c.from_residual.result c.from_residual.ensures.1 in
     rw (e.1, e.2) (c.in_err-load.ensures.whole told here)
+
+pub returns-in_err-load-clause-damage : goal.returns-in_err-load-clause-damage
+returns-in_err-load-clause-damage g c = λ told.
+    let files = g.F.Pages.files c.args.folder.now in
+    let name = Segment c.id.result in
+    let e = err_from_is_err_and c.from_residual.result c.from_residual.ensures.1 in
+    rw (e.1, e.2)
+    (fault_both c.in_err-load.field-0.0 (IsPageDamage name c.page_of.result) (IsPageDamageOf files c.page_of.result) (IsLeafDamageOf files)
+    (leaf_from_page_of files name c.page_of.result)
+    c.in_err-load.ensures.shown (c.in_err-load.ensures.damage told))

@@ -5,13 +5,13 @@ use Rattle.outer_io.specs.declared.file_name.FileName.TheVariants.{Live}
 use Rattle.page_file.specs.Page.{payload_of}
 use Rattle.page_cache.specs.FilePages.{page_at, ArePages}
 use Rattle.page_cache.specs.Bodies.{pages_for}
-use Rattle.page_cache.specs.FirstPages.{first_payload, first_size, IsFirstPage}
-use Rattle.page_cache.specs.Evidence.{IsFileDamageOf}
+use Rattle.page_cache.specs.FirstPages.{first_name, first_payload, first_size, IsFirstPage}
+use Rattle.page_cache.specs.Evidence.{IsSizeDamage, IsFileDamageOf}
 use Rattle.page_cache.proofs.Damages.{fault_weaker, fault_both, on_damage_both}
 use Rattle.segment_file.specs.Damages.{IsBodyDamage, IsLiveDamage, IsLiveDamageOf}
 use Rattle.segment_file.proofs.Options.{IfOk-both}
 use Rattle.segment_file.proofs.FirstPayloads.{first_payload_is, first_size_is, first_payloads}
-use Rattle.segment_file.proofs.LiveReads.{set_is, live_damage_of, body_damage_of, no_live_damage, live_file, first_of, said_right, set_not_damaged}
+use Rattle.segment_file.proofs.LiveReads.{set_is, live_damage_of, live_size_of, body_damage_of, no_live_damage, live_file, first_of, said_right, set_not_damaged}
 use Rattle.segment_file.proofs.live.read_live.Goals as goal
 
 pub returns-in_err-first-clause-whole : goal.returns-in_err-first-clause-whole
@@ -42,6 +42,18 @@ returns-in_err-len-clause-whole g c = λ told live file.
     (fault_both c.in_err-len.field-0.0 (IsLiveDamage c.args.id c.args.generation) (IsBodyDamage name c.payload.result.now) (λ _. ⊥)
     (λ d shown carried. no_live_damage c.args.id c.args.generation live f.body c.payload.result.now f.rest d f.set (ap (λ (l : List ℕ). l ++ f.rest) payload ∙ f.begins) shown carried)
     c.in_err-len.ensures.shown c.in_err-len.ensures.carried)
+
+pub returns-in_err-check_size-clause-damage : goal.returns-in_err-check_size-clause-damage
+returns-in_err-check_size-clause-damage g c = λ told.
+    let name = Live c.args.id c.args.generation in
+    let files = g.F.Pages.files c.args.folder.now in
+    let first = c.in_ok-first.first in
+    let says = rw c.payload.ensures.bytes at c.in_ok-len.ensures.said in
+    let e = err_from_is_err_and c.from_residual-in_err-check_size.result c.from_residual-in_err-check_size.ensures.1 in
+    rw (e.1, e.2)
+    (fault_weaker c.in_err-check_size.field-0.0 (IsSizeDamage (first_name first) (first_size first) (4096 * c.pages_for-pages.result)) (IsLiveDamageOf files)
+    (λ d had. live_size_of files first c.args.id c.args.generation c.in_ok-len.len c.pages_for-pages.result d (c.in_ok-first.ensures.first told) c.in_ok-first.ensures.name says c.pages_for-pages.ensures had)
+    c.in_err-check_size.ensures.size)
 
 pub returns-in_err-check_size-clause-whole : goal.returns-in_err-check_size-clause-whole
 returns-in_err-check_size-clause-whole g c = λ told live file.

@@ -72,7 +72,8 @@ pub returns-in_err-check_size-clause-damage : goal.returns-in_err-check_size-cla
 returns-in_err-check_size-clause-damage g c = λ told.
     let files = g.F.Pages.files c.args.folder.now in
     let e = err_from_is_err_and c.from_residual-in_err-check_size.result c.from_residual-in_err-check_size.ensures.1 in
-    rw (e.1, e.2) (c.in_err-check_size.ensures.damage g.row.D files (c.in_ok-first.ensures.first told))
+    let has = rw c.payload.ensures.bytes at c.in_ok-fields.ensures.fields in
+    rw (e.1, e.2) (c.in_err-check_size.ensures.damage g.row.D files (c.in_ok-first.ensures.first told) has)
 
 pub returns-in_err-check_size-clause-whole : goal.returns-in_err-check_size-clause-whole
 returns-in_err-check_size-clause-whole g c = λ told h ids file.
