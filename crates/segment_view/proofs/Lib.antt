@@ -1,6 +1,7 @@
 pub mod Ascending
 pub mod Beside
 pub mod Living
+pub mod Holding
 pub mod Reading
 pub mod Shown
 pub mod Counting

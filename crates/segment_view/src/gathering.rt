@@ -9,7 +9,7 @@ ghost use Rattle.page_cache.specs.Causes.{HasPageCause};
 ghost use Rattle.page_cache.specs.Evidence.{OnDamage, NotDamaged};
 ghost use Rattle.segment_file.specs.Damages.{IsLeafDamageOf};
 ghost use Rattle.segment_view.specs.Parts.{Contents, IsRead, AreRead, part_of, heads_of, ids_of, live_in_parts, parts_among, has_live};
-ghost use Rattle.segment_view.specs.Held.{HasOwnHead, AreHeld};
+ghost use Rattle.segment_view.specs.Held.{HasOwnHead, IsHeld, AreHeld};
 ghost use Rattle.segment_view.specs.Costs.{leaves_in};
 ghost use Rattle.segment_view.specs.Calm.{IsCalm};
 ghost use Rattle.segment_view.specs.Damages.{IsPartDamage, IsReadDamage};
@@ -70,6 +70,9 @@ fn gather_one<const D: usize, F: Pages>(
 ) -> Result<(), PageFault>
     ensures entries { IsTrue F.told → Agrees (F.files folder.old) cache.old → (c : Contents) → IsRead D (F.files folder.old) c (part_of head.now live.now)
         → OnOk result (items_of entries.new.items ≡ items_of entries.old.items ++ live_in_parts c (parts_among ids.now (part_of head.now live.now ∷ []))) }
+    ensures held { IsTrue F.told → Agrees (F.files folder.old) cache.old → HasOwnHead D (F.files folder.old) (part_of head.now live.now)
+        → OnOk result ((more : List Item) × (items_of entries.new.items ≡ items_of entries.old.items ++ more)
+        × AreHeld D (F.files folder.old) (parts_among ids.now (part_of head.now live.now ∷ [])) more) }
     ensures live { OnOk result ((more : List Item) × (items_of entries.new.items ≡ items_of entries.old.items ++ more) × All (λ x. has_live x.doc (parts_among ids.now (part_of head.now live.now ∷ [])) ≡ true) more) }
     ensures numbers { All (λ e. e.doc < 2 ^ 24) entries.old.items → OnOk result (All (λ e. e.doc < 2 ^ 24) entries.new.items) }
     ensures reads { F.reads folder.new ≤ F.reads folder.old + leaves_in (heads_of (parts_among ids.now (part_of head.now live.now ∷ []))) }
@@ -96,6 +99,8 @@ fn append_live<const D: usize, F: Pages>(
 ) -> Result<(), PageFault>
     ensures entries { IsTrue F.told → Agrees (F.files folder.old) cache.old → (c : Contents) → IsRead D (F.files folder.old) c (part_of head.now live.now)
         → OnOk result (items_of entries.new.items ≡ items_of entries.old.items ++ live_in_parts c (part_of head.now live.now ∷ [])) }
+    ensures held { IsTrue F.told → Agrees (F.files folder.old) cache.old → HasOwnHead D (F.files folder.old) (part_of head.now live.now)
+        → OnOk result ((more : List Item) × (items_of entries.new.items ≡ items_of entries.old.items ++ more) × IsHeld D (F.files folder.old) (part_of head.now live.now) more) }
     ensures live { OnOk result ((more : List Item) × (items_of entries.new.items ≡ items_of entries.old.items ++ more) × All (λ x. is_live live.now x.doc ≡ true) more) }
     ensures numbers { All (λ e. e.doc < 2 ^ 24) entries.old.items → OnOk result (All (λ e. e.doc < 2 ^ 24) entries.new.items) }
     ensures reads { F.reads folder.new ≤ F.reads folder.old + head.now.index.leaves }

@@ -1,6 +1,6 @@
-use Rattle.std.proofs.Common.{◌<◌, ◌^◌, ◌++◌, List, Err, ap, sym, subst, ◌∙◌}
+use Rattle.std.proofs.Common.{◌<◌, ◌^◌, ◌++◌, List, [], Err, refl, ap, sym, subst, ◌∙◌, inl, inr}
 use Rattle.std.specs.List.{All}
-use Rattle.std.proofs.lemmas.List.{append-nil, map-append}
+use Rattle.std.proofs.lemmas.List.{append-nil, map-append, nil_from_length}
 use Rattle.std.proofs.lemmas.List.Elements.{All-append}
 use Rattle.std.proofs.lemmas.Result.{err_from_is_err_and}
 use Rattle.point_codec.specs.Points.{Item}
@@ -17,6 +17,13 @@ pub returns-then-live_count-eq0-clause-entries : goal.returns-then-live_count-eq
 returns-then-live_count-eq0-clause-entries g c = λ told agrees es r.
     let old = items_of c.args.entries.now.items in
     sym (ap (λ (xs : List Item). old ++ xs) (nothing_live es (part_of c.args.head.now c.args.live.now) (sym c.live_count.ensures.value ∙ c.if-live_count-eq0.true)) ∙ append-nil old)
+
+pub returns-then-live_count-eq0-clause-held : goal.returns-then-live_count-eq0-clause-held
+returns-then-live_count-eq0-clause-held g c = λ told agrees own. (
+  [],
+  sym (append-nil (items_of c.args.entries.now.items)),
+  inl (nil_from_length c.args.live.now.live (sym c.live_count.ensures.value ∙ c.if-live_count-eq0.true), refl),
+)
 
 pub returns-in_err-more-clause-reads : goal.returns-in_err-more-clause-reads
 returns-in_err-more-clause-reads g c =
@@ -57,6 +64,13 @@ returns-clause-entries g c = λ told agrees es r.
     ap (λ (xs : List (Entry g.row.D)). items_of xs) c.in_ok-append.ensures.items
     ∙ map-append (λ (e : Entry g.row.D). record { doc = e.doc; at = e.point.c }) c.args.entries.now.items c.in_ok-more.more.items
     ∙ ap (λ (xs : List Item). items_of c.args.entries.now.items ++ xs) (c.in_ok-more.ensures.entries told agrees (es p.head.id) r.held ∙ sym (live_one es p))
+
+pub returns-clause-held : goal.returns-clause-held
+returns-clause-held g c = λ told agrees own. (
+  items_of c.in_ok-more.more.items,
+  ap (λ (xs : List (Entry g.row.D)). items_of xs) c.in_ok-append.ensures.items ∙ map-append (λ (e : Entry g.row.D). record { doc = e.doc; at = e.point.c }) c.args.entries.now.items c.in_ok-more.more.items,
+  inr (c.in_ok-more.ensures.spelled told agrees own),
+)
 
 pub returns-clause-live : goal.returns-clause-live
 returns-clause-live g c = (

@@ -1,10 +1,12 @@
-use Rattle.std.proofs.Common.{◌≡◌, ◌++◌, List, [], ◌∷◌, true, Err, ap, sym, subst, ◌∙◌, arith}
+use Rattle.std.proofs.Common.{◌≡◌, ◌+◌, ◌++◌, List, [], ◌∷◌, true, Err, ap, sym, subst, ◌∙◌, take, arith}
 use Rattle.std.specs.List.{All}
 use Rattle.std.proofs.lemmas.List.Elements.{All-contains}
 use Rattle.std.proofs.lemmas.Result.{err_from_is_err_and}
 use Rattle.point_codec.specs.Points.{Item}
 use Rattle.point_codec.specs.Seen.{items_of}
 use Rattle.segment_view.specs.Parts.{IsRead, part_of, ids_of, live_in_parts, parts_among, has_live}
+use Rattle.segment_view.specs.Held.{HasOwnHead, AreHeld}
+use Rattle.segment_view.proofs.Holding.{held_more}
 use Rattle.segment_view.proofs.Living.{part_in, all_widen}
 use Rattle.segment_view.proofs.Reading.{calm_then, calm_more, agrees_after, among_in, part_among}
 use Rattle.segment_view.proofs.Stepwise.{leaves_among_more, leaves_among_upto, live_among_more}
@@ -32,6 +34,12 @@ loop-i-preserved g c =
           let before = was.reads in
           let here = one.reads in
           omega (arith, step, before, here);
+      held = λ told agrees own.
+          let of = one.held told (agrees_after g.F.Pages.told files (g.F.Pages.files c.loop-i.folder) c.args.cache.now c.loop-i.cache (ids_of (parts_among ids parts)) was.calm told agrees)
+          (subst (λ f. HasOwnHead g.row.D f p) (sym (was.calm.files told)) (All-contains (HasOwnHead g.row.D files) parts p own there)) in
+          subst (λ (xs : List Item). AreHeld g.row.D files (parts_among ids (take (c.loop-i.i + 1) parts)) xs) (sym of.1)
+          (held_more g.row.D files ids parts c.loop-i.i p (items_of c.loop-i.entries.items) of.0 is (was.held told agrees own)
+          (subst (λ f. AreHeld g.row.D f (parts_among ids (p ∷ [])) of.0) (was.calm.files told) of.2));
       entries = λ told agrees es read.
           one.entries told (agrees_after g.F.Pages.told files (g.F.Pages.files c.loop-i.folder) c.args.cache.now c.loop-i.cache (ids_of (parts_among ids parts)) was.calm told agrees) es
           (subst (λ f. IsRead g.row.D f es p) (sym (was.calm.files told)) (All-contains (IsRead g.row.D files es) parts p read there))

@@ -11,9 +11,11 @@ use Rattle.documents.specs.Entries.{is_among}
 use Rattle.documents.proofs.Lists.{cons_head}
 use Rattle.nearest_query.proofs.Parts.{on_damage}
 use Rattle.segment_view.specs.Parts.{Part, part_of, heads_of, ids_of, live_in_parts, parts_among, has_live}
+use Rattle.segment_view.specs.Held.{AreHeld}
 use Rattle.segment_view.specs.Costs.{leaves_in}
 use Rattle.segment_view.specs.Calm.{IsCalm}
 use Rattle.segment_view.specs.Damages.{IsReadDamage, IsPartDamage}
+use Rattle.segment_view.proofs.Holding.{held_one}
 use Rattle.segment_view.proofs.Living.{live_in_one}
 use Rattle.segment_view.proofs.Reading.{among_one}
 use Rattle.segment_view.proofs.gathering.gather_one.Goals as goal
@@ -28,6 +30,11 @@ returns g c =
     record {
       entries = λ told agrees es r.
           subst (λ (ps : List Part). OnOk c.append_live.result (items_of c.append_live.new.entries.items ≡ items_of c.args.entries.now.items ++ live_in_parts es ps)) same (one.entries told agrees es r);
+      held = λ told agrees own. on_ok_weaker c.append_live.result (λ m. (
+        m.0,
+        m.1,
+        subst (λ (ps : List Part). AreHeld g.row.D (g.F.Pages.files c.args.folder.now) ps m.0) same (held_one g.row.D (g.F.Pages.files c.args.folder.now) p m.0 m.2),
+      )) (one.held told agrees own);
       live = on_ok_weaker c.append_live.result (λ m. (
         m.0,
         m.1,
