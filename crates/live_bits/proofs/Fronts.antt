@@ -1,5 +1,5 @@
 -- What the first bytes of a body say of its length.
-use Rattle.std.proofs.Common.{◌≡◌, ◌≤◌, ◌<◌, ◌^◌, ◌+◌, ◌/◌, ℕ, List, ◌++◌, length, take, drop, refl, sym, ap, ◌∙◌, arith, append_assoc, length-append}
+use Rattle.std.proofs.Common.{◌≡◌, ◌≤◌, ◌<◌, ◌^◌, ◌+◌, ◌/◌, ℕ, List, ◌++◌, length, take, drop, sym, ap, ◌∙◌, arith, append_assoc, length-append}
 use Rattle.std.proofs.lemmas.List.{take_at, take-append-le, take-append-drop}
 use Rattle.live_bits.specs.LiveSet.{LiveSet}
 use Rattle.live_bits.specs.LiveBody.{head, IsLiveBody}

@@ -1,4 +1,4 @@
-use Rattle.std.proofs.Common.{arith, drop, ◌∙◌, sym}
+use Rattle.std.proofs.Common.{arith}
 use Rattle.live_bits.proofs.Fronts.{begins, front_of}
 use Rattle.live_bits.proofs.front.body_len.Goals as goal
 

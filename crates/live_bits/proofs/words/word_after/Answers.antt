@@ -1,4 +1,3 @@
-use Rattle.std.proofs.Common.{◌≡◌, false, ap, sym, ◌∙◌, ◌&&◌, Bool, arith}
 use Rattle.live_bits.proofs.WordBits.{bit-after}
 use Rattle.live_bits.proofs.words.word_after.Goals as goal
 

@@ -1,4 +1,4 @@
-use Rattle.std.proofs.Common.{◌≡◌, ◌+◌, ◌*◌, ◌/◌, ◌%◌, ◌<◌, ◌^◌, ◌-◌, ℕ, get_or, bit_or, ap, subst, sym, ◌∙◌, arith, rules}
+use Rattle.std.proofs.Common.{◌≡◌, ◌+◌, ◌*◌, ◌/◌, ◌%◌, ◌<◌, ◌^◌, ◌-◌, ℕ, get_or, bit_or, ap, ◌∙◌, arith, rules}
 use Rattle.live_bits.specs.LiveBody.{has_bit, is_set}
 use Rattle.live_bits.proofs.WordBits.{IsEight, low_bit, both_bits}
 use Rattle.live_bits.proofs.words.word_from.Goals as goal
