@@ -1,9 +1,10 @@
 -- What files of segments hold, of which the heads alone are known.
-use Rattle.std.proofs.Common.{◌≡◌, ℕ, List, [], ◌∷◌, ◌++◌, ◌+◌, take, refl, sym, ap, subst, ◌∙◌, Some}
+use Rattle.std.proofs.Common.{◌≡◌, ℕ, List, [], ◌∷◌, ◌++◌, ◌+◌, take, Bool, false, cond, refl, sym, ap, subst, ◌∙◌, Some}
 use Rattle.std.specs.List.{slice_get}
 use Rattle.std.proofs.lemmas.List.{append-nil, append_assoc}
 use Rattle.outer_io.specs.Files.{Files}
 use Rattle.point_codec.specs.Points.{Item}
+use Rattle.documents.specs.Entries.{is_among}
 use Rattle.segment_view.specs.Parts.{Part, parts_among}
 use Rattle.segment_view.specs.Held.{IsHeld, AreHeld}
 use Rattle.segment_view.proofs.Stepwise.{among_more}
@@ -13,6 +14,10 @@ held_none D files xs e = e
 
 pub held_one : (D : ℕ) (files : Files) (p : Part) (xs : List Item) → IsHeld D files p xs → AreHeld D files (p ∷ []) xs
 held_one D files p xs h = record { front_items = xs; back_items = []; front_holds = h; back_holds = refl; joined = sym (append-nil xs) }
+
+-- a segment whose id is none of these
+pub held_other : (D : ℕ) (files : Files) (ids : List ℕ) (p : Part) → is_among ids p.head.id ≡ false → AreHeld D files (parts_among ids (p ∷ [])) []
+held_other D files ids p other = subst (λ (b : Bool). AreHeld D files (cond b (p ∷ []) []) []) (sym other) refl
 
 pub held-append : (D : ℕ) (files : Files) (ps qs : List Part) (xs ys : List Item) → AreHeld D files ps xs → AreHeld D files qs ys → AreHeld D files (ps ++ qs) (xs ++ ys)
 held-append D files [] qs xs ys a b = subst (λ (zs : List Item). AreHeld D files qs (zs ++ ys)) (sym a) b

@@ -1,4 +1,4 @@
-use Rattle.std.proofs.Common.{◌≡◌, ◌≤◌, ◌+◌, ◌++◌, List, [], ◌∷◌, true, eqb, ap, sym, subst, ◌∙◌, arith}
+use Rattle.std.proofs.Common.{◌≡◌, ◌≤◌, ◌+◌, ◌++◌, List, [], ◌∷◌, true, false, eqb, append-nil, ap, sym, subst, ◌∙◌, arith}
 use Rattle.std.specs.Prelude.{OnOk}
 use Rattle.std.specs.List.{list_any}
 use Rattle.std.proofs.lemmas.List.Elements.{All-weaker}
@@ -15,10 +15,17 @@ use Rattle.segment_view.specs.Held.{AreHeld}
 use Rattle.segment_view.specs.Costs.{leaves_in}
 use Rattle.segment_view.specs.Calm.{IsCalm}
 use Rattle.segment_view.specs.Damages.{IsReadDamage, IsPartDamage}
-use Rattle.segment_view.proofs.Holding.{held_one}
+use Rattle.segment_view.proofs.Holding.{held_one, held_other}
 use Rattle.segment_view.proofs.Living.{live_in_one}
 use Rattle.segment_view.proofs.Reading.{among_one}
 use Rattle.segment_view.proofs.gathering.gather_one.Goals as goal
+
+-- one whose id is another gives nothing
+pub returns-then-not-contains-clause-held : goal.returns-then-not-contains-clause-held
+returns-then-not-contains-clause-held g c = λ told agrees own.
+    let p = part_of c.args.head.now c.args.live.now in
+    let other : is_among c.args.ids.now p.head.id ≡ false = ap (λ n. list_any (λ m. eqb m n) c.args.ids.now) (sym c.id.ensures) ∙ sym c.contains.ensures.value ∙ c.if-not-contains.true in
+    ([], sym (append-nil (items_of c.args.entries.now.items)), held_other g.row.D (g.F.Pages.files c.args.folder.now) c.args.ids.now p other)
 
 -- a segment whose id is one of these is read
 pub returns : goal.returns
