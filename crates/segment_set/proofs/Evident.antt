@@ -88,18 +88,18 @@ leaf_carried files (Doubled doc) h = absurd h
 
 -- of a segment that is read, whose head is that of its file
 pub part_evident : (T : Type 0) (D : ℕ) (files : Files) (parts : List Part) (d : Damage) → (T → All (HasFileHead D files) parts) → (T → IsLeafDamageOf files d) → IsPartDamage D parts d → IsEvident T files d
-part_evident T D files parts d heads true (p, there, read) = record {
+part_evident T D files parts d heads truth (p, there, read) = record {
   shows = ∥∥₁_map read (λ r. leaf_shows HasRanges D p.head r.root r.tree r.ranges r.has d r.shows);
   of_files = λ t. record {
     shows = ∥∥₁_elim (All-contains (HasFileHead D files) parts p (heads t) there) ∥∥₁_prop (λ is. ∥∥₁_map read (λ r. leaf_shows (IsHeadIn files) D p.head r.root r.tree is r.has d r.shows));
-    carries = merely (leaf_carried files d (true t));
+    carries = merely (leaf_carried files d (truth t));
   };
 }
 
 pub on_part_evident : {X : Type 0} (T : Type 0) (D : ℕ) (files : Files) (parts : List Part) (r : Result X PageFault) → (T → All (HasFileHead D files) parts) → (T → OnDamage r (IsLeafDamageOf files))
     → OnDamage r (IsPartDamage D parts) → OnDamage r (IsEvident T files)
 on_part_evident T D files parts r heads =
-    on_told T r (IsLeafDamageOf files) (IsPartDamage D parts) (IsEvident T files) (λ d true read. part_evident T D files parts d heads true read)
+    on_told T r (IsLeafDamageOf files) (IsPartDamage D parts) (IsEvident T files) (λ d truth read. part_evident T D files parts d heads truth read)
 
 -- ---- entries that are none of documents
 
@@ -270,14 +270,14 @@ attach_carried files c says d named (inl (s, there, inr (inr h))) = unequal_carr
 attach_carried files c says d named (inr (sets, live, h)) = misplaced_carried files c says sets live d h
 
 pub attach_evident : (T : Type 0) (files : Files) (c : CommitData) (d : Damage) → (T → IsCommitFile (bytes_of (files Commit)) c) → (T → IsAttachDamageOf files c d) → IsAttachDamage c d → IsEvident T files d
-attach_evident T files c d says true h = record {
+attach_evident T files c d says truth h = record {
   shows = merely (attach_shows HasRanges c d h);
-  of_files = λ t. record { shows = merely (attach_shows (IsHeadIn files) c d h); carries = merely (attach_carried files c (says t) d h (true t)) };
+  of_files = λ t. record { shows = merely (attach_shows (IsHeadIn files) c d h); carries = merely (attach_carried files c (says t) d h (truth t)) };
 }
 
 pub on_attach_evident : {X : Type 0} (T : Type 0) (files : Files) (c : CommitData) (r : Result X PageFault) → (T → IsCommitFile (bytes_of (files Commit)) c) → (T → OnDamage r (IsAttachDamageOf files c))
     → OnDamage r (IsAttachDamage c) → OnDamage r (IsEvident T files)
-on_attach_evident T files c r says = on_told T r (IsAttachDamageOf files c) (IsAttachDamage c) (IsEvident T files) (λ d true h. attach_evident T files c d says true h)
+on_attach_evident T files c r says = on_told T r (IsAttachDamageOf files c) (IsAttachDamage c) (IsEvident T files) (λ d truth h. attach_evident T files c d says truth h)
 
 -- ---- the Commit file
 
@@ -303,10 +303,10 @@ commit_carried files (Beyond doc next) shown h = absurd h
 commit_carried files (Doubled doc) shown h = absurd h
 
 pub commit_evident : (T : Type 0) (files : Files) (d : Damage) → (T → IsCommitDamageOf files d) → IsCommitDamage d → IsEvident T files d
-commit_evident T files d true h = record {
+commit_evident T files d truth h = record {
   shows = merely (commit_shows HasRanges d h);
-  of_files = λ t. record { shows = merely (commit_shows (IsHeadIn files) d h); carries = merely (commit_carried files d h (true t)) };
+  of_files = λ t. record { shows = merely (commit_shows (IsHeadIn files) d h); carries = merely (commit_carried files d h (truth t)) };
 }
 
 pub on_commit_evident : {X : Type 0} (T : Type 0) (files : Files) (r : Result X PageFault) → (T → OnDamage r (IsCommitDamageOf files)) → OnDamage r IsCommitDamage → OnDamage r (IsEvident T files)
-on_commit_evident T files r = on_told T r (IsCommitDamageOf files) IsCommitDamage (IsEvident T files) (λ d true h. commit_evident T files d true h)
+on_commit_evident T files r = on_told T r (IsCommitDamageOf files) IsCommitDamage (IsEvident T files) (λ d truth h. commit_evident T files d truth h)
