@@ -9,9 +9,6 @@ use Rattle.segment_view.specs.Parts.{Part, parts_among}
 use Rattle.segment_view.specs.Held.{IsHeld, AreHeld}
 use Rattle.segment_view.proofs.Stepwise.{among_more}
 
-pub held_none : (D : ℕ) (files : Files) (xs : List Item) → xs ≡ [] → AreHeld D files [] xs
-held_none D files xs e = e
-
 pub held_one : (D : ℕ) (files : Files) (p : Part) (xs : List Item) → IsHeld D files p xs → AreHeld D files (p ∷ []) xs
 held_one D files p xs h = record { front_items = xs; back_items = []; front_holds = h; back_holds = refl; joined = sym (append-nil xs) }
 

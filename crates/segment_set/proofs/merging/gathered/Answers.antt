@@ -1,4 +1,5 @@
-use Rattle.std.proofs.Common.{◌≡◌, ◌≤◌, List, length, All, true, Err, IsTrue, ap, sym, subst, ◌∙◌, inl, inr, arith}
+use Rattle.std.proofs.Common.{◌≡◌, ◌≤◌, ◌<◌, ◌^◌, List, length, All, true, Err, IsTrue, ap, sym, subst, ◌∙◌, inl, inr, lit<, arith}
+use Rattle.std.proofs.lemmas.List.{nil_from_length}
 use Rattle.std.proofs.lemmas.Bool.Decides.{nat_tests}
 use Rattle.std.proofs.lemmas.List.Elements.{All-filter}
 use Rattle.std.proofs.lemmas.Result.{err_from_is_err_and}
@@ -19,6 +20,7 @@ use Rattle.segment_set.specs.Faithful.{HasFileHead}
 use Rattle.segment_set.proofs.Doubted.{doubt_among, part_shown, whole_shows}
 use Rattle.segment_set.proofs.Evident.{AreOfFiles, doubt_evident, gathered_of_files, on_evident_at, on_part_evident}
 use Rattle.segment_set.proofs.Fresh.{gathered_of, holds_live, items_length}
+use Rattle.segment_set.proofs.Sizes.{built_fits, entry_fits}
 use Rattle.segment_set.proofs.Spilled.{some_is}
 use Rattle.segment_set.proofs.merging.gathered.Goals as goal
 
@@ -34,6 +36,25 @@ returns-in_err-build_of-clause-whole g c =
     let same : items_of c.as_mut_slice.result.now ≡ live_in_parts contents (parts_among c.args.ids.now c.args.segments.now) =
     ap items_of c.as_mut_slice.ensures.value ∙ c.in_ok-entries.ensures.entries told agrees contents reads in
     rw (p.1, p.2) (c.in_err-build_of.ensures.whole next (subst (MakeDocs next) (sym same) make) (omega (arith, few, ap length same, items_length c.as_mut_slice.result.now)))
+
+pub returns-then-is_empty-clause-makes : goal.returns-then-is_empty-clause-makes
+returns-then-is_empty-clause-makes g c = λ told agrees contents reads.
+    let none : length c.in_ok-entries.entries.items ≡ 0 = grind (arith, nat_tests, c.in_ok-entries.entries.ok.0, c.is_empty.ensures, c.if-is_empty.true) in
+    sym (c.in_ok-entries.ensures.entries told agrees contents reads) ∙ ap items_of (nil_from_length c.in_ok-entries.entries.items none)
+
+pub build_of-requires-after_bounds : goal.build_of-requires-after_bounds
+build_of-requires-after_bounds g c = λ lifetimes outlive.
+    let same = c.as_mut_slice.ensures.value in
+    let long : 1 ≤ length c.in_ok-entries.entries.items = grind (arith, nat_tests, c.in_ok-entries.entries.ok.0, c.is_empty.ensures, c.if-is_empty.false) in (
+      entry_fits g.row.D c.requires,
+      (
+        lit< tt,
+        (
+          built_fits g.row.D c.requires,
+          (c.requires, (omega (arith, long, ap length same), subst (λ (es : List (Entry g.row.D)). All (λ e. e.doc < 2 ^ 24) es) (sym same) c.in_ok-entries.ensures.numbers)),
+        ),
+      ),
+    )
 
 pub returns-clause-gathered : goal.returns-clause-gathered
 returns-clause-gathered g c = λ n is.

@@ -1,5 +1,5 @@
 -- What is found are the nearest documents that the view shows.
-use Rattle.std.proofs.Common.{◌≡◌, ℕ, List, sym, ap, subst, ◌∙◌, lit<}
+use Rattle.std.proofs.Common.{◌≡◌, List, sym, ap, subst, ◌∙◌, lit<}
 use Rattle.point_codec.specs.Points.{Item}
 use Rattle.point_codec.specs.Seen.{items_of}
 use Rattle.page_cache.specs.Cache.{Agrees}
