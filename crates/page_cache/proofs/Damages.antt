@@ -1,14 +1,14 @@
 -- The damages of a page are damages of its file, and these are damages as the crates above know them.
-use Rattle.std.proofs.Common.{◌≡◌, ◌≢◌, ℕ, ◌*◌, ◌<◌, inr, List, Result, Ok, Err, sym, subst, ◌∙◌, arith}
+use Rattle.std.proofs.Common.{◌≡◌, ◌≢◌, ℕ, ◌+◌, ◌*◌, ◌≤◌, ◌<◌, inr, length, max, List, Result, Ok, Err, sym, subst, ◌∙◌, arith}
 use Rattle.outer_io.specs.declared.file_name.FileName.{FileName}
-use Rattle.outer_io.specs.Files.{Files}
+use Rattle.outer_io.specs.Files.{Files, bytes_of}
 use Rattle.page_cache.specs.declared.faults.Damage.{Damage}
 use Rattle.page_cache.specs.declared.faults.Damage.TheVariants.{Page, Leaf, Body, Missing, Size, Unequal, Beyond, Doubled}
 use Rattle.page_cache.specs.declared.faults.PageFault.{PageFault}
 use Rattle.page_cache.specs.declared.faults.PageFault.TheVariants.{Failed, Damaged, Memory}
 use Rattle.page_cache.specs.FirstPages.{first_name, first_payload, first_size, IsFirstPage}
 use Rattle.page_cache.specs.declared.first_page.FirstPage.{FirstPage}
-use Rattle.page_cache.specs.Evidence.{FaultShows, OnDamage, IsShown, IsSizeOf, IsPageDamage, IsPageDamageOf, IsFileDamage, IsFileDamageOf}
+use Rattle.page_cache.specs.Evidence.{FaultShows, OnDamage, IsCut, IsShort, IsSizeOf, SizeWithin, IsPageDamage, IsPageDamageOf, IsFileDamage, IsFileDamageOf}
 
 -- what follows of a damage follows of the fault that is one, and of the answer that has it
 pub fault_weaker : (f : PageFault) (P Q : Damage → Type 0) → ((d : Damage) → P d → Q d) → FaultShows P f → FaultShows Q f
@@ -49,16 +49,30 @@ file_from_page_of files name n (Unequal file said found) h k = k
 file_from_page_of files name n (Beyond doc next) h k = k
 file_from_page_of files name n (Doubled doc) h k = k
 
-pub shown_from_file : (leaf : FileName → ℕ → ℕ → ℕ → List ℕ → Type 0) (body : FileName → List ℕ → Type 0) (name : FileName) (d : Damage)
-    → IsFileDamage name d → IsShown leaf body d
-shown_from_file leaf body name (Page file number bytes) h = h.1
-shown_from_file leaf body name (Size file size needed) h = h.1
-shown_from_file leaf body name (Leaf file number offset len bytes) h = absurd h
-shown_from_file leaf body name (Body file bytes) h = absurd h
-shown_from_file leaf body name (Missing file) h = tt
-shown_from_file leaf body name (Unequal file said found) h = absurd h
-shown_from_file leaf body name (Beyond doc next) h = absurd h
-shown_from_file leaf body name (Doubled doc) h = absurd h
+-- no page before the last of so many needs more
+pub within_page : (name : FileName) (n most : ℕ) (d : Damage) → n < most → IsPageDamage name n d → SizeWithin (4096 * most) d
+within_page name n most (Page file number bytes) few h = tt
+within_page name n most (Size file size needed) few h = let page_end : needed ≡ 4096 * (n + 1) = h.1 in omega arith
+within_page name n most (Leaf file number offset len bytes) few h = tt
+within_page name n most (Body file bytes) few h = tt
+within_page name n most (Missing file) few h = tt
+within_page name n most (Unequal file said found) few h = tt
+within_page name n most (Beyond doc next) few h = tt
+within_page name n most (Doubled doc) few h = tt
+
+-- a file of whole pages is not cut within them
+pub not_cut : (files : Files) (file : FileName) (pages size needed : ℕ) → length (bytes_of (files file)) ≡ 4096 * pages → needed ≤ 4096 * pages → IsCut files file size needed → ⊥
+not_cut files file pages size needed long few h =
+    let seen : size ≡ max (4096 * h.number) (length (bytes_of (files file))) = h.seen in
+    let short = h.short in
+    omega arith
+
+-- a file that ends before its first page does
+pub short_of_cut : (files : Files) (file : FileName) (size needed : ℕ) → needed ≡ 4096 → IsCut files file size needed → IsShort files file size needed
+short_of_cut files file size needed page h =
+    let page_end = h.page_end in
+    let seen : size ≡ max (4096 * h.number) (length (bytes_of (files file))) = h.seen in
+    record { page = page; has = omega arith; short = h.short }
 
 -- the size that a first page doesn't have
 pub other_size : (asks : List ℕ → ℕ → Type 0) (files : Files) (p : FirstPage) (pages : ℕ) (file : FileName) (size needed : ℕ) → IsFirstPage files p → asks (first_payload p) pages
@@ -74,7 +88,3 @@ on_file_from_page r name n = on_damage_weaker r (IsPageDamage name n) (IsFileDam
 pub on_file_from_page_of : {T : Type 0} (r : Result T PageFault) (files : Files) (name : FileName) (n : ℕ)
     → OnDamage r (IsPageDamage name n) → OnDamage r (IsPageDamageOf files n) → OnDamage r (IsFileDamageOf files)
 on_file_from_page_of r files name n = on_damage_both r (IsPageDamage name n) (IsPageDamageOf files n) (IsFileDamageOf files) (file_from_page_of files name n)
-
-pub on_shown_from_file : {T : Type 0} (r : Result T PageFault) (leaf : FileName → ℕ → ℕ → ℕ → List ℕ → Type 0) (body : FileName → List ℕ → Type 0) (name : FileName)
-    → OnDamage r (IsFileDamage name) → OnDamage r (IsShown leaf body)
-on_shown_from_file r leaf body name = on_damage_weaker r (IsFileDamage name) (IsShown leaf body) (shown_from_file leaf body name)

@@ -54,11 +54,17 @@ pub record ArePayloadsOf (files : Files) (file : FileName) (payloads : List ℕ)
 abbrev pub seen_end : Files → FileName → ℕ → ℕ
 seen_end files file number = max (4096 * number) (length (bytes_of (files file)))
 
--- The file ends before page `number` of it does, which was read and is needed to its end. Size is the file's end as that page shows it.
+-- The file ends before the end of page `number`. Size is the file's end as reading that page shows it.
 pub record IsCut (files : Files) (file : FileName) (size needed : ℕ) : Type 0 where
   pub number : ℕ
   pub page_end : needed ≡ 4096 * (number + 1)
   pub seen : size ≡ seen_end files file number
+  pub short : size < needed
+
+-- the file has fewer bytes than its first page needs
+pub record IsShort (files : Files) (file : FileName) (size needed : ℕ) : Type 0 where
+  pub page : needed ≡ 4096
+  pub has : size ≡ length (bytes_of (files file))
   pub short : size < needed
 
 -- The file has size bytes, and needed are the pages that its first page asks for. `asks payload pages` says that a first page of this payload asks for
@@ -70,9 +76,9 @@ pub record HasOtherSize (asks : List ℕ → ℕ → Type 0) (files : Files) (fi
   pub asked : asks (payload_of (page_at (bytes_of (files file)) 0)) pages
   pub needs : needed ≡ 4096 * pages
 
--- one of the two: so the layout needs so many bytes
+-- one of the two
 abbrev pub IsSizeOf : (asks : List ℕ → ℕ → Type 0) → Files → FileName → (size needed : ℕ) → Type 0
-IsSizeOf asks files file size needed = IsCut files file size needed ⊎ HasOtherSize asks files file size needed
+IsSizeOf asks files file size needed = IsShort files file size needed ⊎ HasOtherSize asks files file size needed
 
 -- where the damage is one of size, so many bytes were needed
 abbrev pub SizeNeeds : ℕ → Damage → Type 0
@@ -84,6 +90,17 @@ SizeNeeds most (Size file size needed) = needed ≡ most
 SizeNeeds most (Unequal file said found) = Unit {0}
 SizeNeeds most (Beyond doc next) = Unit {0}
 SizeNeeds most (Doubled doc) = Unit {0}
+
+-- where the damage is one of size, no more than so many bytes were needed
+abbrev pub SizeWithin : ℕ → Damage → Type 0
+SizeWithin most (Page file number bytes) = Unit {0}
+SizeWithin most (Leaf file number offset len bytes) = Unit {0}
+SizeWithin most (Body file bytes) = Unit {0}
+SizeWithin most (Missing file) = Unit {0}
+SizeWithin most (Size file size needed) = needed ≤ most
+SizeWithin most (Unequal file said found) = Unit {0}
+SizeWithin most (Beyond doc next) = Unit {0}
+SizeWithin most (Doubled doc) = Unit {0}
 
 -- the damage is that the file has this size and needs another
 abbrev pub IsSizeDamage : FileName → ℕ → ℕ → Damage → Type 0

@@ -26,7 +26,7 @@ impl FirstPage {
     ghost use Rattle.std.specs.Prelude.{◌≡◌, ◌≤◌, ◌+◌, ◌*◌, length, vec_len, IsTrue, IsOk, IfOk, OnOk, IfSome, IfNone, None, IsErrOf, ◌↔◌};
     ghost use Rattle.outer_io.specs.Files.{Files, bytes_of};
     ghost use Rattle.page_cache.specs.FilePages.{IsFilePage, ArePages, payloads_of};
-    ghost use Rattle.page_cache.specs.Evidence.{OnDamage, NotDamaged, SizeNeeds, IsSizeDamage, IsFileDamage, IsFileDamageOf};
+    ghost use Rattle.page_cache.specs.Evidence.{OnDamage, NotDamaged, SizeNeeds, SizeWithin, IsSizeDamage, IsFileDamage, IsFileDamageOf};
     ghost use Rattle.page_cache.specs.Causes.{HasPageCause, IsSteady};
     ghost use Rattle.page_cache.specs.FirstPages.{first_name, first_payload, first_size, IsFirstPage};
     ghost use Rattle.page_cache.specs.declared.faults.PageFault.TheVariants as page;
@@ -152,6 +152,7 @@ impl FirstPage {
         ensures payloads { IsTrue F.told → IsFirstPage (F.files folder.old) self.now → IfOk result (λ v. v.items ≡ payloads_of (bytes_of (F.files folder.old (first_name self.now))) 0 pages) }
         ensures pages { IsTrue F.told → IsFirstPage (F.files folder.old) self.now → OnOk result (ArePages (first_name self.now) (bytes_of (F.files folder.old (first_name self.now))) 0 pages) }
         ensures shown { OnDamage result (IsFileDamage (first_name self.now)) }
+        ensures within { OnDamage result (SizeWithin (4096 * pages)) }
         ensures damage { IsTrue F.told → OnDamage result (IsFileDamageOf (F.files folder.old)) }
         ensures whole { IsTrue F.told → ArePages (first_name self.now) (bytes_of (F.files folder.old (first_name self.now))) 1 pages → NotDamaged result }
     {

@@ -6,7 +6,7 @@ ghost use Rattle.outer_io.specs.Faults.{HasCause};
 ghost use Rattle.outer_io.specs.Files.{bytes_of};
 ghost use Rattle.page_file.specs.Page.{IsPage, payload_of};
 ghost use Rattle.page_cache.specs.FilePages.{kind_of, number_of, IsFilePage, ArePages, payloads_of};
-ghost use Rattle.page_cache.specs.Evidence.{OnDamage, NotDamaged, IsPageOf, seen_end, IsPageDamage, IsPageDamageOf, IsFileDamage, IsFileDamageOf};
+ghost use Rattle.page_cache.specs.Evidence.{OnDamage, NotDamaged, IsPageOf, seen_end, SizeWithin, IsPageDamage, IsPageDamageOf, IsFileDamage, IsFileDamageOf};
 ghost use Rattle.page_cache.specs.Causes.{HasPageCause, IsSteady};
 ghost use Rattle.page_cache.specs.declared.faults.PageFault.TheVariants as fault;
 ghost use Rattle.page_cache.specs.declared.faults.Damage.TheVariants as damage;
@@ -155,6 +155,7 @@ pub(crate) fn append_payloads<F: Pages>(
     ensures len { OnOk result (vec_len out.new ≡ vec_len out.old + 4064 * count) }
     ensures pages { IsTrue F.told → OnOk result (ArePages name.now (bytes_of (F.files folder.old name.now)) from (from + count)) }
     ensures shown { OnDamage result (IsFileDamage name.now) }
+    ensures within { OnDamage result (SizeWithin (4096 * (from + count))) }
     ensures damage { IsTrue F.told → OnDamage result (IsFileDamageOf (F.files folder.old)) }
     ensures whole { IsTrue F.told → ArePages name.now (bytes_of (F.files folder.old name.now)) from (from + count) → NotDamaged result }
 {
@@ -184,6 +185,7 @@ pub fn read_payloads<F: Pages>(
     ensures len { IfOk result (λ v. vec_len v ≡ 4064 * count) }
     ensures pages { IsTrue F.told → OnOk result (ArePages name.now (bytes_of (F.files folder.old name.now)) from (from + count)) }
     ensures shown { OnDamage result (IsFileDamage name.now) }
+    ensures within { OnDamage result (SizeWithin (4096 * (from + count))) }
     ensures damage { IsTrue F.told → OnDamage result (IsFileDamageOf (F.files folder.old)) }
     ensures whole { IsTrue F.told → ArePages name.now (bytes_of (F.files folder.old name.now)) from (from + count) → NotDamaged result }
 {

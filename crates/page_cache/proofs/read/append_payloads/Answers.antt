@@ -1,4 +1,4 @@
-use Rattle.std.proofs.Common.{◌≡◌, ◌+◌, arith, rules, refl, sym, ap, ◌∙◌, append-nil}
+use Rattle.std.proofs.Common.{◌≡◌, ◌+◌, ◌*◌, arith, rules, refl, sym, ap, ◌∙◌, append-nil}
 use Rattle.std.proofs.lemmas.Result.{err_from_is_err_and}
 use Rattle.page_cache.specs.FilePages.{page_at, payloads_of}
 use Rattle.page_cache.proofs.PageRuns.{payloads_grown, pages_more}
@@ -6,8 +6,8 @@ use Rattle.page_cache.proofs.OneRead.{file_of_page}
 use Rattle.page_file.specs.declared.page.PageBytes.{PageBytes}
 use Rattle.page_file.specs.Page.{payload_of}
 use Rattle.outer_io.specs.Files.{bytes_of}
-use Rattle.page_cache.specs.Evidence.{IsPageDamage, IsPageDamageOf, IsFileDamage, IsFileDamageOf}
-use Rattle.page_cache.proofs.Damages.{fault_weaker, fault_both, file_from_page, file_from_page_of}
+use Rattle.page_cache.specs.Evidence.{SizeWithin, IsPageDamage, IsPageDamageOf, IsFileDamage, IsFileDamageOf}
+use Rattle.page_cache.proofs.Damages.{fault_weaker, fault_both, file_from_page, file_from_page_of, within_page}
 use Rattle.page_cache.proofs.read.append_payloads.Goals as goal
 
 pub pages-init : goal.pages-init
@@ -45,6 +45,11 @@ pub returns-in_err-page-2-clause-shown : goal.returns-in_err-page-2-clause-shown
 returns-in_err-page-2-clause-shown g c = let p = err_from_is_err_and c.from_residual-in_err-page-2.result c.from_residual-in_err-page-2.ensures.1 in
     rw (p.1, p.2) (fault_weaker c.in_err-page-2.field-0.0 (IsPageDamage c.args.name.now (c.args.from + c.pages.i)) (IsFileDamage c.args.name.now)
     (file_from_page c.args.name.now (c.args.from + c.pages.i)) c.in_err-page-2.ensures.shown)
+
+pub returns-in_err-page-2-clause-within : goal.returns-in_err-page-2-clause-within
+returns-in_err-page-2-clause-within g c = let p = err_from_is_err_and c.from_residual-in_err-page-2.result c.from_residual-in_err-page-2.ensures.1 in
+    rw (p.1, p.2) (fault_weaker c.in_err-page-2.field-0.0 (IsPageDamage c.args.name.now (c.args.from + c.pages.i)) (SizeWithin (4096 * (c.args.from + c.args.count)))
+    (λ d. within_page c.args.name.now (c.args.from + c.pages.i) (c.args.from + c.args.count) d (omega arith)) c.in_err-page-2.ensures.shown)
 
 pub returns-in_err-page-2-clause-damage : goal.returns-in_err-page-2-clause-damage
 returns-in_err-page-2-clause-damage g c = λ told.
