@@ -1,37 +1,53 @@
 -- What was read is a damage of the commit.
-use Rattle.std.proofs.Common.{◌≡◌, ◌*◌, ℕ, None, inl, sym, ap, subst}
+use Rattle.std.proofs.Common.{◌≡◌, ◌*◌, ℕ, length, None, inl, sym, ap, subst}
 use Rattle.outer_io.specs.declared.file_name.FileName.{FileName}
 use Rattle.outer_io.specs.declared.file_name.FileName.TheVariants.{Commit}
 use Rattle.outer_io.specs.Files.{Files, bytes_of, size_of}
 use Rattle.page_cache.specs.FilePages.{IsFilePage}
 use Rattle.page_cache.specs.Bodies.{pages_for}
-use Rattle.page_cache.specs.Evidence.{FaultShows, IsSizeDamage, IsFileDamage, IsFileDamageOf}
+use Rattle.page_cache.specs.Evidence.{FaultShows, IsCut, IsShort, SizeNeeds, SizeWithin, IsSizeDamage, IsFileDamage, IsFileDamageOf}
 use Rattle.page_cache.specs.FirstPages.{first_name, first_payload, first_size, IsFirstPage}
 use Rattle.page_cache.specs.declared.first_page.FirstPage.{FirstPage}
 use Rattle.page_cache.specs.declared.faults.Damage.{Damage}
 use Rattle.page_cache.specs.declared.faults.Damage.TheVariants.{Page, Leaf, Body, Missing, Size, Unequal, Beyond, Doubled}
 use Rattle.page_cache.specs.declared.faults.PageFault.{PageFault}
 use Rattle.page_cache.specs.declared.faults.PageFault.TheVariants.{Failed, Damaged, Memory}
-use Rattle.page_cache.proofs.Damages.{other_size}
+use Rattle.page_cache.proofs.Damages.{other_size, short_of_cut, not_cut}
 use Rattle.page_cache.proofs.FileSizes.{no_file_no_page}
 use Rattle.commit_list.specs.Layout.{BeginsBody}
 use Rattle.commit_list.specs.CommitFiles.{AsksCommit, IsCommitDamageOf}
 
--- a damage of the file's pages, where it is there
-commit_damage_of : (files : Files) (d : Damage) → (files Commit ≡ None → ⊥) → IsFileDamage Commit d → IsFileDamageOf files d → IsCommitDamageOf files d
-commit_damage_of files (Page file number bytes) there named h = h
-commit_damage_of files (Leaf file number offset len bytes) there named h = absurd h
-commit_damage_of files (Body file bytes) there named h = absurd h
-commit_damage_of files (Missing file) there named h = absurd (there (subst (λ (name : FileName). files name ≡ None) named h))
-commit_damage_of files (Size file size needed) there named h = inl h
-commit_damage_of files (Unequal file said found) there named h = absurd h
-commit_damage_of files (Beyond doc next) there named h = absurd h
-commit_damage_of files (Doubled doc) there named h = absurd h
+-- A damage of the file's pages, where it is there. `needs` is what is known of a size; a file that is cut so is short of its first page
+commit_damage_of : (files : Files) (needs : Damage → Type 0) (d : Damage) → (files Commit ≡ None → ⊥)
+    → ((file : FileName) (size needed : ℕ) → file ≡ Commit → needs (Size file size needed) → IsCut files file size needed → IsShort files file size needed)
+    → IsFileDamage Commit d → needs d → IsFileDamageOf files d → IsCommitDamageOf files d
+commit_damage_of files needs (Page file number bytes) there cut named within h = h
+commit_damage_of files needs (Leaf file number offset len bytes) there cut named within h = absurd h
+commit_damage_of files needs (Body file bytes) there cut named within h = absurd h
+commit_damage_of files needs (Missing file) there cut named within h = absurd (there (subst (λ (name : FileName). files name ≡ None) named h))
+commit_damage_of files needs (Size file size needed) there cut named within h = inl (cut file size needed named.0 within h)
+commit_damage_of files needs (Unequal file said found) there cut named within h = absurd h
+commit_damage_of files needs (Beyond doc next) there cut named within h = absurd h
+commit_damage_of files needs (Doubled doc) there cut named within h = absurd h
 
-pub commit_fault_of : (files : Files) (f : PageFault) → (files Commit ≡ None → FaultShows (λ _. ⊥) f) → FaultShows (IsFileDamage Commit) f → FaultShows (IsFileDamageOf files) f → FaultShows (IsCommitDamageOf files) f
-commit_fault_of files Failed there named h = tt
-commit_fault_of files (Damaged d) there named h = commit_damage_of files d there named h
-commit_fault_of files Memory there named h = tt
+commit_fault_of : (files : Files) (needs : Damage → Type 0) (f : PageFault) → (files Commit ≡ None → FaultShows (λ _. ⊥) f)
+    → ((file : FileName) (size needed : ℕ) → file ≡ Commit → needs (Size file size needed) → IsCut files file size needed → IsShort files file size needed)
+    → FaultShows (IsFileDamage Commit) f → FaultShows needs f → FaultShows (IsFileDamageOf files) f → FaultShows (IsCommitDamageOf files) f
+commit_fault_of files needs Failed there cut named within h = tt
+commit_fault_of files needs (Damaged d) there cut named within h = commit_damage_of files needs d there cut named within h
+commit_fault_of files needs Memory there cut named within h = tt
+
+-- what finding the first page shows
+pub found_fault_of : (files : Files) (f : PageFault) → (files Commit ≡ None → FaultShows (λ _. ⊥) f)
+    → FaultShows (IsFileDamage Commit) f → FaultShows (SizeNeeds 4096) f → FaultShows (IsFileDamageOf files) f → FaultShows (IsCommitDamageOf files) f
+found_fault_of files f there = commit_fault_of files (SizeNeeds 4096) f there (λ file size needed named page h. short_of_cut files file size needed page h)
+
+-- what reading the other pages shows, where the file has just so many
+pub joined_fault_of : (files : Files) (pages : ℕ) (f : PageFault) → (files Commit ≡ None → FaultShows (λ _. ⊥) f) → length (bytes_of (files Commit)) ≡ 4096 * pages
+    → FaultShows (IsFileDamage Commit) f → FaultShows (SizeWithin (4096 * pages)) f → FaultShows (IsFileDamageOf files) f → FaultShows (IsCommitDamageOf files) f
+joined_fault_of files pages f there long =
+    commit_fault_of files (SizeWithin (4096 * pages)) f there
+    (λ file size needed named within h. absurd (not_cut files file pages size needed (subst (λ (name : FileName). length (bytes_of (files name)) ≡ 4096 * pages) (sym named) long) within h))
 
 -- a first page is that of a file that is there
 pub first_is_there : (files : Files) (p : FirstPage) (f : PageFault) → first_name p ≡ Commit → IsFirstPage files p → files Commit ≡ None → FaultShows (λ _. ⊥) f

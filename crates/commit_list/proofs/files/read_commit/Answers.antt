@@ -4,7 +4,7 @@ use Rattle.outer_io.specs.Files.{Files, bytes_of}
 use Rattle.outer_io.specs.declared.file_name.FileName.TheVariants.{Commit}
 use Rattle.page_cache.specs.FirstPages.{IsFirstPage}
 use Rattle.commit_list.specs.CommitFiles.{IsCommitFile}
-use Rattle.commit_list.proofs.CommitDamages.{commit_fault_of}
+use Rattle.commit_list.proofs.CommitDamages.{found_fault_of}
 use Rattle.commit_list.proofs.CommitPages.{file_long, first_of_file, first_of, first_there}
 use Rattle.commit_list.proofs.files.read_commit.Goals as goal
 
@@ -12,7 +12,7 @@ pub returns-in_err-first-clause-damage : goal.returns-in_err-first-clause-damage
 returns-in_err-first-clause-damage g c = λ told.
     let files = g.F.Pages.files c.args.folder.now in
     let e = err_from_is_err_and c.from_residual.result c.from_residual.ensures.1 in
-    rw (e.1, e.2) (commit_fault_of files c.in_err-first.field-0.0 (c.in_err-first.ensures.absent told) c.in_err-first.ensures.shown (c.in_err-first.ensures.damage told))
+    rw (e.1, e.2) (found_fault_of files c.in_err-first.field-0.0 (c.in_err-first.ensures.absent told) c.in_err-first.ensures.shown c.in_err-first.ensures.needed (c.in_err-first.ensures.damage told))
 
 pub returns-in_err-first-clause-whole : goal.returns-in_err-first-clause-whole
 returns-in_err-first-clause-whole g c = λ told d h.

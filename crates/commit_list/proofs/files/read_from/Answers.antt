@@ -8,7 +8,7 @@ use Rattle.page_cache.specs.FirstPages.{first_name, first_size}
 use Rattle.page_cache.specs.Evidence.{FaultShows, IsSizeDamage, IsFileDamage}
 use Rattle.page_cache.proofs.Damages.{fault_weaker}
 use Rattle.commit_list.specs.CommitFiles.{IsCommitFile, SpellsFilled, IsCommitDamageOf}
-use Rattle.commit_list.proofs.CommitDamages.{commit_fault_of, commit_size_of, first_is_there}
+use Rattle.commit_list.proofs.CommitDamages.{joined_fault_of, commit_size_of, first_is_there}
 use Rattle.commit_list.proofs.CommitPages.{begins-short, first_begins, file_long, file_pages, file_payloads, file_so, first_of}
 use Rattle.commit_list.proofs.files.read_from.Goals as goal
 
@@ -34,8 +34,9 @@ returns-in_err-payloads-clause-damage g c = λ told first.
     let files = g.F.Pages.files c.args.folder.now in
     let e = err_from_is_err_and c.from_residual-in_err-payloads.result c.from_residual-in_err-payloads.ensures.1 in
     rw (e.1, e.2)
-    (commit_fault_of files c.in_err-payloads.field-0.0 (first_is_there files c.args.first.now c.in_err-payloads.field-0.0 c.requires first)
-    (subst (λ (name : FileName). FaultShows (IsFileDamage name) c.in_err-payloads.field-0.0) c.requires c.in_err-payloads.ensures.shown) (c.in_err-payloads.ensures.damage told))
+    (joined_fault_of files c.pages_for-pages.result c.in_err-payloads.field-0.0 (first_is_there files c.args.first.now c.in_err-payloads.field-0.0 c.requires first)
+    (sym (first_of files c.args.first.now c.requires first).size_is ∙ c.in_ok-check_size.ensures.ok.0 refl)
+    (subst (λ (name : FileName). FaultShows (IsFileDamage name) c.in_err-payloads.field-0.0) c.requires c.in_err-payloads.ensures.shown) c.in_err-payloads.ensures.within (c.in_err-payloads.ensures.damage told))
 
 pub returns-in_err-check_size-clause-whole : goal.returns-in_err-check_size-clause-whole
 returns-in_err-check_size-clause-whole g c = λ told first d h.
