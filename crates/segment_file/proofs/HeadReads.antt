@@ -11,9 +11,11 @@ use Rattle.inner_pack.specs.Bodies.{Body as IndexBody, SpellsIndex, HasTree, pag
 use Rattle.page_file.specs.Page.{payload_of}
 use Rattle.page_cache.specs.FilePages.{page_at, IsFilePage, ArePages, payloads_of}
 use Rattle.page_cache.specs.Bodies.{pages_for, filled}
-use Rattle.page_cache.specs.Evidence.{ArePayloadsOf, IsFileDamageOf}
+use Rattle.page_cache.specs.Evidence.{FaultShows, ArePayloadsOf, IsFileDamage, IsFileDamageOf}
 use Rattle.page_cache.specs.declared.faults.Damage.{Damage}
 use Rattle.page_cache.specs.declared.faults.Damage.TheVariants.{Page, Leaf, Body, Missing, Size, Unequal, Beyond, Doubled}
+use Rattle.page_cache.specs.declared.faults.PageFault.{PageFault}
+use Rattle.page_cache.specs.declared.faults.PageFault.TheVariants.{Failed, Damaged, Memory}
 use Rattle.page_cache.proofs.PageRuns.{payloads_join, payloads_of_one, pages_from_first}
 use Rattle.segment_file.specs.Heads.{Head, Fields, AreFields, HasRanges, IsHead, fields_bytes, fields_of, index_pages}
 use Rattle.segment_file.specs.Segments.{SpellsHead, IsHeadOf}
@@ -23,6 +25,7 @@ use Rattle.segment_file.specs.declared.fields.HeadFields.{HeadFields}
 use Rattle.segment_file.specs.Damages.{AreHeadPair, IsBodyDamage, IsPairDamage, IsHeadDamage, IsHeadDamageOf}
 use Rattle.segment_file.proofs.Lists.{fronts_equal, backs_equal, bodies_equal, filled_length}
 use Rattle.segment_file.proofs.FieldBytes.{word, zeros, fields_parts, fields_length, narrow_fields, fields_unique, same_fields}
+use Rattle.segment_file.proofs.FirstPayloads.{OnlyShort}
 use Rattle.segment_file.proofs.Unique.{head_fields}
 
 pub first_length : (f : Fields) → length (filled (fields_bytes f)) ≡ 4064
@@ -71,15 +74,22 @@ spells_as a b c x y z u v r t p q s w h =
 
 -- ---- damages
 
-pub head_damage_of : (D : ℕ) (files : Files) (d : Damage) → IsFileDamageOf files d → IsHeadDamageOf D files d
-head_damage_of D files (Page file number bytes) h = h
-head_damage_of D files (Leaf file number offset len bytes) h = h
-head_damage_of D files (Body file bytes) h = absurd h
-head_damage_of D files (Missing file) h = h
-head_damage_of D files (Size file size needed) h = inl h
-head_damage_of D files (Unequal file said found) h = absurd h
-head_damage_of D files (Beyond doc next) h = h
-head_damage_of D files (Doubled doc) h = h
+-- a damage of the file's pages, where the file is short of its first page or not at all
+head_file_of : (D : ℕ) (files : Files) (name : FileName) (known : Damage → Type 0) (d : Damage) → OnlyShort files name known → IsFileDamage name d → known d → IsFileDamageOf files d → IsHeadDamageOf D files d
+head_file_of D files name known (Page file number bytes) short named within h = h
+head_file_of D files name known (Leaf file number offset len bytes) short named within h = absurd h
+head_file_of D files name known (Body file bytes) short named within h = absurd h
+head_file_of D files name known (Missing file) short named within h = h
+head_file_of D files name known (Size file size needed) short named within h = inl (short file size needed named.0 within h)
+head_file_of D files name known (Unequal file said found) short named within h = absurd h
+head_file_of D files name known (Beyond doc next) short named within h = absurd h
+head_file_of D files name known (Doubled doc) short named within h = absurd h
+
+pub head_fault_of : (D : ℕ) (files : Files) (name : FileName) (known : Damage → Type 0) (f : PageFault) → OnlyShort files name known
+    → FaultShows (IsFileDamage name) f → FaultShows known f → FaultShows (IsFileDamageOf files) f → FaultShows (IsHeadDamageOf D files) f
+head_fault_of D files name known Failed short named within h = tt
+head_fault_of D files name known (Damaged d) short named within h = head_file_of D files name known d short named within h
+head_fault_of D files name known Memory short named within h = tt
 
 pub head_body_of : (D : ℕ) (files : Files) (name : FileName) (payloads : List ℕ) (d : Damage) → ArePayloadsOf files name payloads → IsBodyDamage name payloads d → IsHeadDamageOf D files d
 head_body_of D files name payloads (Body file bytes) are h =

@@ -14,3 +14,4 @@ pub mod Paged
 pub mod Laid
 pub mod LaidTree
 pub mod WrittenTree
+pub mod Cut

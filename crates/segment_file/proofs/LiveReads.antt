@@ -8,7 +8,7 @@ use Rattle.live_bits.specs.LiveBody.{IsLiveBody, SaysLength, live_set}
 use Rattle.live_bits.proofs.LiveNumbers.{live_set_is}
 use Rattle.page_cache.specs.FilePages.{page_at, IsFilePage, ArePages, payloads_of}
 use Rattle.page_cache.specs.Bodies.{pages_for, filled}
-use Rattle.page_cache.specs.Evidence.{ArePayloadsOf, IsSizeOf, IsSizeDamage, IsFileDamageOf}
+use Rattle.page_cache.specs.Evidence.{FaultShows, ArePayloadsOf, IsSizeOf, IsSizeDamage, IsFileDamage, IsFileDamageOf}
 use Rattle.page_cache.specs.FirstPages.{first_name, first_payload, first_size, IsFirstPage}
 use Rattle.page_cache.specs.declared.first_page.FirstPage.{FirstPage}
 use Rattle.page_file.specs.Page.{payload_of}
@@ -16,8 +16,11 @@ use Rattle.page_cache.proofs.PageRuns.{payloads_join, payloads_of_one}
 use Rattle.page_cache.proofs.Damages.{other_size}
 use Rattle.page_cache.specs.declared.faults.Damage.{Damage}
 use Rattle.page_cache.specs.declared.faults.Damage.TheVariants.{Page, Leaf, Body, Missing, Size, Unequal, Beyond, Doubled}
+use Rattle.page_cache.specs.declared.faults.PageFault.{PageFault}
+use Rattle.page_cache.specs.declared.faults.PageFault.TheVariants.{Failed, Damaged, Memory}
 use Rattle.segment_file.specs.LiveFiles.{IsLiveFile, IsSetOf}
 use Rattle.segment_file.specs.Damages.{AsksFor, IsBodyDamage, IsLiveDamage, IsLiveDamageOf}
+use Rattle.segment_file.proofs.FirstPayloads.{OnlyShort}
 use Rattle.segment_file.proofs.Lists.{filled_length}
 use Rattle.segment_file.proofs.LiveLemmas.{body_length}
 
@@ -32,15 +35,22 @@ set_is segment generation s body h =
     let same : live_set s.base s.span h.bits ≡ s = λ i. record { base = s.base; span = s.span; live = sym h.numbers i } in
     subst IsLiveSet same (live_set_is s.base s.span h.bits h.are_bits.limit)
 
-pub live_damage_of : (files : Files) (d : Damage) → IsFileDamageOf files d → IsLiveDamageOf files d
-live_damage_of files (Page file number bytes) h = h
-live_damage_of files (Leaf file number offset len bytes) h = h
-live_damage_of files (Body file bytes) h = absurd h
-live_damage_of files (Missing file) h = h
-live_damage_of files (Size file size needed) h = inl h
-live_damage_of files (Unequal file said found) h = h
-live_damage_of files (Beyond doc next) h = h
-live_damage_of files (Doubled doc) h = h
+-- a damage of the file's pages, where the file is short of its first page or not at all
+live_file_of : (files : Files) (name : FileName) (known : Damage → Type 0) (d : Damage) → OnlyShort files name known → IsFileDamage name d → known d → IsFileDamageOf files d → IsLiveDamageOf files d
+live_file_of files name known (Page file number bytes) short named within h = h
+live_file_of files name known (Leaf file number offset len bytes) short named within h = absurd h
+live_file_of files name known (Body file bytes) short named within h = absurd h
+live_file_of files name known (Missing file) short named within h = h
+live_file_of files name known (Size file size needed) short named within h = inl (short file size needed named.0 within h)
+live_file_of files name known (Unequal file said found) short named within h = absurd h
+live_file_of files name known (Beyond doc next) short named within h = absurd h
+live_file_of files name known (Doubled doc) short named within h = absurd h
+
+pub live_fault_of : (files : Files) (name : FileName) (known : Damage → Type 0) (f : PageFault) → OnlyShort files name known
+    → FaultShows (IsFileDamage name) f → FaultShows known f → FaultShows (IsFileDamageOf files) f → FaultShows (IsLiveDamageOf files) f
+live_fault_of files name known Failed short named within h = tt
+live_fault_of files name known (Damaged d) short named within h = live_file_of files name known d short named within h
+live_fault_of files name known Memory short named within h = tt
 
 -- the size that the first page doesn't ask for
 pub live_size_of : (files : Files) (first : FirstPage) (segment generation len pages : ℕ) (d : Damage) → IsFirstPage files first → first_name first ≡ Live segment generation

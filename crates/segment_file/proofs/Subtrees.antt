@@ -15,7 +15,7 @@ use Rattle.inner_pack.specs.Nodes.{IsAt}
 use Rattle.inner_pack.specs.declared.node.NodeAt.{NodeAt}
 use Rattle.page_cache.specs.FilePages.{IsFilePage}
 use Rattle.segment_file.specs.Segments.{HoldsLeaf, HoldsTree}
-use Rattle.segment_file.specs.Damages.{IsNoLeaf, IsLeafDamage}
+use Rattle.segment_file.specs.Damages.{IsNoLeaf, IsLeafPage, IsLeafDamage}
 use Rattle.segment_file.specs.Gathers.{Gathers}
 
 pub count_shaped : (n : ℕ) (t : IndexTree) → IsShaped n t → leaf_count t ≡ n
@@ -36,10 +36,16 @@ no_leaf_right : (D : ℕ) (head : Head) (first : ℕ) (s : Spot) (l r : IndexTre
     → IsNoLeaf D head (first + leaf_count l) (right_begin s l r) r page offset len part → IsNoLeaf D head first s (Split k x l r) page offset len part
 no_leaf_right D head first s l r k x page offset len part h = record { number = h.number; spot = h.spot; own = h.own; is = inr h.is; page_is = h.page_is; offset_is = h.offset_is; none = h.none }
 
+leaf_page_left : (head : Head) (first : ℕ) (s : Spot) (l r : IndexTree) (k : ℕ) (x : ℤ) (needed : ℕ) → IsLeafPage head first s l needed → IsLeafPage head first s (Split k x l r) needed
+leaf_page_left head first s l r k x needed h = record { number = h.number; spot = h.spot; len = h.len; own = h.own; is = inl h.is; needs = h.needs }
+
+leaf_page_right : (head : Head) (first : ℕ) (s : Spot) (l r : IndexTree) (k : ℕ) (x : ℤ) (needed : ℕ) → IsLeafPage head (first + leaf_count l) (right_begin s l r) r needed → IsLeafPage head first s (Split k x l r) needed
+leaf_page_right head first s l r k x needed h = record { number = h.number; spot = h.spot; len = h.len; own = h.own; is = inr h.is; needs = h.needs }
+
 -- a damage of a leaf below a child is one of a leaf below the node
 pub left_damage : (D : ℕ) (head : Head) (first : ℕ) (s : Spot) (l r : IndexTree) (k : ℕ) (x : ℤ) (d : Damage) → IsLeafDamage D head first s l d → IsLeafDamage D head first s (Split k x l r) d
 left_damage D head first s l r k x (damage.Page file number bytes) h = h
-left_damage D head first s l r k x (damage.Size file size needed) h = h
+left_damage D head first s l r k x (damage.Size file size needed) h = (h.0, h.1, leaf_page_left head first s l r k x needed h.2)
 left_damage D head first s l r k x (damage.Leaf file number offset len bytes) h = (h.0, h.1, no_leaf_left D head first s l r k x number offset len _ h.2)
 left_damage D head first s l r k x (damage.Body file bytes) h = h
 left_damage D head first s l r k x (damage.Missing file) h = h
@@ -50,7 +56,7 @@ left_damage D head first s l r k x (damage.Doubled doc) h = h
 pub right_damage : (D : ℕ) (head : Head) (first : ℕ) (s : Spot) (l r : IndexTree) (k : ℕ) (x : ℤ) (d : Damage) → IsLeafDamage D head (first + leaf_count l) (right_begin s l r) r d
     → IsLeafDamage D head first s (Split k x l r) d
 right_damage D head first s l r k x (damage.Page file number bytes) h = h
-right_damage D head first s l r k x (damage.Size file size needed) h = h
+right_damage D head first s l r k x (damage.Size file size needed) h = (h.0, h.1, leaf_page_right head first s l r k x needed h.2)
 right_damage D head first s l r k x (damage.Leaf file number offset len bytes) h = (h.0, h.1, no_leaf_right D head first s l r k x number offset len _ h.2)
 right_damage D head first s l r k x (damage.Body file bytes) h = h
 right_damage D head first s l r k x (damage.Missing file) h = h

@@ -1,5 +1,5 @@
 -- What a damage of a segment's file or of a file of live bits shows: by what it carries alone, and of the files where those are told.
-use Rattle.std.specs.Prelude.{◌≡◌, ◌≢◌, ℕ, ◌+◌, ◌^◌, ◌<◌, ◌⊎◌, List, ◌++◌, None, slice_index}
+use Rattle.std.specs.Prelude.{◌≡◌, ◌≢◌, ℕ, ◌+◌, ◌*◌, ◌^◌, ◌<◌, ◌⊎◌, List, ◌++◌, None, slice_index}
 use Rattle.outer_io.specs.declared.file_name.FileName.{FileName}
 use Rattle.outer_io.specs.declared.file_name.FileName.TheVariants.{Commit, CommitNew, Segment, Live}
 use Rattle.outer_io.specs.Files.{Files, bytes_of}
@@ -53,11 +53,20 @@ pub record IsNoLeaf (D : ℕ) (head : Head) (first : ℕ) (s : Spot) (t : IndexT
   pub offset_is : offset ≡ spot.offset
   pub none : (items : List Item) → SpellsLeafIn D part (count_of head number) own items → ⊥
 
--- reading leaves of the subtree of a head's index shows a page to be none for its place, the file to end before a page, or a page to have no
--- leaf where one must be
+-- needed is the end of the page in which a leaf of the subtree stands
+pub record IsLeafPage (head : Head) (first : ℕ) (s : Spot) (t : IndexTree) (needed : ℕ) : Type 0 where
+  pub number : ℕ
+  pub spot : Spot
+  pub len : ℕ
+  pub own : Region
+  pub is : IsLeafOf first s t number spot len own
+  pub needs : needed ≡ 4096 * (page_of head spot.page + 1)
+
+-- reading leaves of the subtree of a head's index shows a page to be none for its place, the file to end before the end of the page of a leaf, or a
+-- page to have no leaf where one must be
 abbrev pub IsLeafDamage : (D : ℕ) → Head → (first : ℕ) → Spot → IndexTree → Damage → Type 0
 IsLeafDamage D head first s t (Page file number bytes) = (file ≡ Segment head.id) × (IsPage 1 head.id number bytes.value.b → ⊥)
-IsLeafDamage D head first s t (Size file size needed) = (file ≡ Segment head.id) × (size < needed)
+IsLeafDamage D head first s t (Size file size needed) = (file ≡ Segment head.id) × (size < needed) × IsLeafPage head first s t needed
 IsLeafDamage D head first s t (Leaf file number offset len bytes) =
     (file ≡ Segment head.id) × IsPage 1 head.id number bytes.value.b × IsNoLeaf D head first s t number offset len (part_of offset len bytes.value.b)
 IsLeafDamage D head first s t (Body file bytes) = ⊥

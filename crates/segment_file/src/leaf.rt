@@ -44,7 +44,7 @@ pub fn load_leaf<const D: usize, F: Pages>(
         → IsKept cache.old head.now.id (page_of head.now s.page) → IsOk result × (F.reads folder.new ≡ F.reads folder.old) }
     ensures others { (i : ℕ) → KeepsFile cache.new i → KeepsFile cache.old i ⊎ (i ≡ head.now.id) }
     ensures agrees { IsTrue F.told → Agrees (F.files folder.old) cache.old → Agrees (F.files folder.old) cache.new }
-    ensures shown { (first : ℕ) (s : Spot) (t : IndexTree) → OnDamage result (IsLeafDamage D head.now first s t) }
+    ensures shown { (first : ℕ) (s : Spot) (path : Region) (t : IndexTree) → IsAt node.now first s path t → OnDamage result (IsLeafDamage D head.now first s t) }
     ensures damage { IsTrue F.told → OnDamage result (IsLeafDamageOf (F.files folder.old)) }
     ensures whole { IsTrue F.told → (first : ℕ) (s : Spot) (path : Region) (t : IndexTree) → IsAt node.now first s path t
         → IsFilePage (Segment head.now.id) (bytes_of (F.files folder.old (Segment head.now.id))) (page_of head.now s.page) → NotDamaged result }

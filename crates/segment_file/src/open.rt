@@ -178,7 +178,8 @@ fn read_index<const D: usize, F: Pages>(
     ensures pages { IsTrue F.told → OnOk result (ArePages (Segment id) (bytes_of (F.files folder.old (Segment id))) 1 (1 + pages_for_body fields.index_length)) }
     ensures shown { OnDamage result (IsHeadDamage id) }
     ensures damage { IsTrue F.told → IsFilePage (Segment id) (bytes_of (F.files folder.old (Segment id))) 0
-        → payload.now ≡ payload_of (page_at (bytes_of (F.files folder.old (Segment id))) 0) → OnDamage result (IsHeadDamageOf D (F.files folder.old)) }
+        → payload.now ≡ payload_of (page_at (bytes_of (F.files folder.old (Segment id))) 0)
+        → length (bytes_of (F.files folder.old (Segment id))) ≡ 4096 * (1 + pages_for_body fields.index_length + fields.leaf_pages) → OnDamage result (IsHeadDamageOf D (F.files folder.old)) }
     ensures whole { IsTrue F.told → (h : Head) → h.id ≡ id → IsHeadOf D (bytes_of (F.files folder.old (Segment id))) h
         → payload.now ≡ payload_of (page_at (bytes_of (F.files folder.old (Segment id))) 0) → NotDamaged result }
 {

@@ -3,7 +3,7 @@
 ghost use Rattle.std.specs.Prelude.{◌≡◌, ◌≤◌, ◌↔◌, ◌++◌, ◌+◌, ◌*◌, ℕ, List, IsTrue, IfOk, OnOk, length, vec_len, replicate};
 ghost use Rattle.outer_io.specs.Files.{bytes_of};
 ghost use Rattle.page_cache.specs.Causes.{HasPageCause};
-ghost use Rattle.page_cache.specs.Evidence.{OnDamage, NotDamaged, IsFileDamage, IsFileDamageOf};
+ghost use Rattle.page_cache.specs.Evidence.{OnDamage, NotDamaged, SizeWithin, IsFileDamage, IsFileDamageOf};
 ghost use Rattle.page_cache.specs.FilePages.{ArePages, payloads_of};
 ghost use Rattle.page_cache.specs.FirstPages.{first_name, first_payload, IsFirstPage};
 
@@ -48,6 +48,7 @@ pub(crate) fn all_payloads<F: Pages>(
     ensures payloads { IsTrue F.told → IsFirstPage (F.files folder.old) first.now → IfOk result (λ v. v.items ≡ payloads_of (bytes_of (F.files folder.old name.now)) 0 pages) }
     ensures pages { IsTrue F.told → IsFirstPage (F.files folder.old) first.now → OnOk result (ArePages name.now (bytes_of (F.files folder.old name.now)) 0 pages) }
     ensures shown { OnDamage result (IsFileDamage name.now) }
+    ensures within { OnDamage result (SizeWithin (4096 * pages)) }
     ensures damage { IsTrue F.told → OnDamage result (IsFileDamageOf (F.files folder.old)) }
     ensures whole { IsTrue F.told → ArePages name.now (bytes_of (F.files folder.old name.now)) 1 pages → NotDamaged result }
 {

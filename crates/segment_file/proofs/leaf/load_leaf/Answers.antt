@@ -1,12 +1,13 @@
 use Rattle.std.proofs.lemmas.Result.{err_from_is_err_and}
 use Rattle.page_cache.specs.Cache.{IsKept}
 use Rattle.page_cache.specs.Evidence.{IsPageDamage, IsPageDamageOf}
-use Rattle.page_cache.proofs.Damages.{fault_both}
+use Rattle.page_cache.proofs.Damages.{fault_weaker, fault_both}
 use Rattle.page_cache.specs.FilePages.{IsFilePage}
 use Rattle.outer_io.specs.Files.{bytes_of}
 use Rattle.outer_io.specs.declared.file_name.FileName.TheVariants.{Segment}
-use Rattle.segment_file.specs.Damages.{IsLeafDamageOf}
-use Rattle.segment_file.proofs.Leaves.{leaf_from_page_of}
+use Rattle.segment_file.specs.Heads.{page_of}
+use Rattle.segment_file.specs.Damages.{IsLeafDamage, IsLeafDamageOf}
+use Rattle.segment_file.proofs.Leaves.{leaf_from_page, leaf_from_page_of}
 use Rattle.segment_file.proofs.leaf.load_leaf.Goals as goal
 
 pub returns-clause-hit : goal.returns-clause-hit
@@ -28,6 +29,16 @@ returns-in_err-load-clause-whole g c = λ told first s path t at page.
     let here : IsFilePage (Segment c.id.result) (bytes_of (g.F.Pages.files c.args.folder.now (Segment c.id.result))) c.page_of.result = rw (c.id.ensures, c.page_of.ensures, p.page) page in
     let e = err_from_is_err_and c.from_residual.result c.from_residual.ensures.1 in
     rw (e.1, e.2) (c.in_err-load.ensures.whole told here)
+
+pub returns-in_err-load-clause-shown : goal.returns-in_err-load-clause-shown
+returns-in_err-load-clause-shown g c = λ first s path t at.
+    let head = c.args.head.now in
+    let place = c.in-Some.place in
+    let shown = rw (c.id.ensures, c.page_of.ensures) at c.in_err-load.ensures.shown in
+    let e = err_from_is_err_and c.from_residual.result c.from_residual.ensures.1 in
+    rw (e.1, e.2)
+    (fault_weaker c.in_err-load.field-0.0 (IsPageDamage (Segment head.id) (page_of head place.page)) (IsLeafDamage g.row.D head first s t)
+    (λ d h. leaf_from_page g.row.D head first s t place d (c.in-Some.ensures.some first s path t at) h) shown)
 
 pub returns-in_err-load-clause-damage : goal.returns-in_err-load-clause-damage
 returns-in_err-load-clause-damage g c = λ told.

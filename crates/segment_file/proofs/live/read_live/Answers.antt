@@ -6,13 +6,21 @@ use Rattle.page_file.specs.Page.{payload_of}
 use Rattle.page_cache.specs.FilePages.{page_at, ArePages}
 use Rattle.page_cache.specs.Bodies.{pages_for}
 use Rattle.page_cache.specs.FirstPages.{first_name, first_payload, first_size, IsFirstPage}
-use Rattle.page_cache.specs.Evidence.{IsSizeDamage, IsFileDamageOf}
+use Rattle.page_cache.specs.Evidence.{SizeNeeds, SizeWithin, IsSizeDamage}
 use Rattle.page_cache.proofs.Damages.{fault_weaker, fault_both, on_damage_both}
 use Rattle.segment_file.specs.Damages.{IsBodyDamage, IsLiveDamage, IsLiveDamageOf}
 use Rattle.segment_file.proofs.Options.{IfOk-both}
-use Rattle.segment_file.proofs.FirstPayloads.{first_payload_is, first_size_is, first_payloads}
-use Rattle.segment_file.proofs.LiveReads.{set_is, live_damage_of, live_size_of, body_damage_of, no_live_damage, live_file, first_of, said_right, set_not_damaged}
+use Rattle.segment_file.proofs.FirstPayloads.{first_payload_is, first_size_is, first_payloads, short_first, never_cut}
+use Rattle.segment_file.proofs.LiveReads.{set_is, live_fault_of, live_size_of, body_damage_of, no_live_damage, live_file, first_of, said_right, set_not_damaged}
 use Rattle.segment_file.proofs.live.read_live.Goals as goal
+
+pub returns-in_err-first-clause-damage : goal.returns-in_err-first-clause-damage
+returns-in_err-first-clause-damage g c = λ told.
+    let name = Live c.args.id c.args.generation in
+    let files = g.F.Pages.files c.args.folder.now in
+    let e = err_from_is_err_and c.from_residual.result c.from_residual.ensures.1 in
+    rw (e.1, e.2)
+    (live_fault_of files name (SizeNeeds 4096) c.in_err-first.field-0.0 (short_first files name) c.in_err-first.ensures.shown c.in_err-first.ensures.needed (c.in_err-first.ensures.damage told))
 
 pub returns-in_err-first-clause-whole : goal.returns-in_err-first-clause-whole
 returns-in_err-first-clause-whole g c = λ told live file.
@@ -68,10 +76,14 @@ returns-in_err-check_size-clause-whole g c = λ told live file.
 
 pub returns-in_err-joined-clause-damage : goal.returns-in_err-joined-clause-damage
 returns-in_err-joined-clause-damage g c = λ told.
+    let name = Live c.args.id c.args.generation in
     let files = g.F.Pages.files c.args.folder.now in
-    let e = err_from_is_err_and c.from_residual-in_err-joined.result c.from_residual-in_err-joined.ensures.1 in
+    let pages = c.pages_for-pages.result in
+    let size : length (bytes_of (files name)) ≡ 4096 * pages = sym (first_size_is files c.in_ok-first.first name c.in_ok-first.ensures.name (c.in_ok-first.ensures.first told)) ∙ c.in_ok-check_size.ensures.ok.0 refl in
     let found = rw (c.read.ensures.files told) at (c.in_err-joined.ensures.damage told) in
-    rw (e.1, e.2) (fault_weaker c.in_err-joined.field-0.0 (IsFileDamageOf files) (IsLiveDamageOf files) (live_damage_of files) found)
+    let e = err_from_is_err_and c.from_residual-in_err-joined.result c.from_residual-in_err-joined.ensures.1 in
+    rw (e.1, e.2)
+    (live_fault_of files name (SizeWithin (4096 * pages)) c.in_err-joined.field-0.0 (never_cut files name pages pages (omega arith) size) c.in_err-joined.ensures.shown c.in_err-joined.ensures.within found)
 
 pub returns-in_err-joined-clause-whole : goal.returns-in_err-joined-clause-whole
 returns-in_err-joined-clause-whole g c = λ told live file.

@@ -1,4 +1,4 @@
-use Rattle.std.proofs.Common.{arith, sym, ap, refl, subst, inr, ◌≡◌, ◌∙◌, ℕ, length}
+use Rattle.std.proofs.Common.{arith, sym, ap, refl, subst, inr, ◌≡◌, ◌∙◌, ◌+◌, ◌*◌, ℕ, length}
 use Rattle.std.proofs.lemmas.Result.{err_from_is_err_and}
 use Rattle.outer_io.specs.Files.{bytes_of}
 use Rattle.outer_io.specs.declared.file_name.FileName.TheVariants.{Segment}
@@ -15,6 +15,19 @@ use Rattle.segment_file.specs.Damages.{IsPairDamage, IsHeadDamageOf}
 use Rattle.segment_file.proofs.FirstPayloads.{first_payload_is, first_size_is}
 use Rattle.segment_file.proofs.HeadReads.{head_pair_of, head_parts, head_said, spells_head, index_same}
 use Rattle.segment_file.proofs.open.open_segment.Goals as goal
+
+pub returns-in_err-index-clause-damage : goal.returns-in_err-index-clause-damage
+returns-in_err-index-clause-damage g c = λ told.
+    let name = Segment c.args.id in
+    let files = g.F.Pages.files c.args.folder.now in
+    let f = c.in_ok-first.fields in
+    let first = c.in_ok-first.ensures.first told in
+    let payload : c.payload.result.now ≡ payload_of (page_at (bytes_of (files name)) 0) = c.payload.ensures.bytes ∙ first_payload_is files c.in_ok-first.first name c.in_ok-first.ensures.name first in
+    let page : IsFilePage name (bytes_of (files name)) 0 = rw (← c.in_ok-first.ensures.name) first.page in
+    let size : length (bytes_of (files name)) ≡ 4096 * (1 + pages_for f.index_length + f.leaf_pages) = sym (first_size_is files c.in_ok-first.first name c.in_ok-first.ensures.name first) ∙ c.in_ok-first.ensures.size in
+    let found = rw (c.read_head.ensures.files told) at (c.in_err-index.ensures.damage told) in
+    let e = err_from_is_err_and c.from_residual-in_err-index.result c.from_residual-in_err-index.ensures.1 in
+    rw (e.1, e.2) (found page payload size)
 
 pub returns-in_err-agree-clause-damage : goal.returns-in_err-agree-clause-damage
 returns-in_err-agree-clause-damage g c = λ told.

@@ -8,13 +8,22 @@ use Rattle.page_file.specs.Page.{payload_of}
 use Rattle.page_cache.specs.FilePages.{page_at}
 use Rattle.page_cache.specs.Bodies.{pages_for, filled}
 use Rattle.page_cache.specs.FirstPages.{first_payload, first_size}
+use Rattle.page_cache.specs.Evidence.{SizeNeeds}
 use Rattle.page_cache.proofs.Damages.{fault_weaker, fault_both}
 use Rattle.segment_file.specs.Heads.{Fields}
 use Rattle.segment_file.specs.FieldsSeen.{fields_said}
 use Rattle.segment_file.specs.Damages.{IsBodyDamage, IsPairDamage, IsHeadDamage, IsHeadDamageOf}
-use Rattle.segment_file.proofs.FirstPayloads.{first_payload_is, first_size_is, first_payloads}
-use Rattle.segment_file.proofs.HeadReads.{dims_at, head_body_of, head_pair_of, no_head_damage, head_parts, head_said}
+use Rattle.segment_file.proofs.FirstPayloads.{first_payload_is, first_size_is, first_payloads, short_first}
+use Rattle.segment_file.proofs.HeadReads.{dims_at, head_fault_of, head_body_of, head_pair_of, no_head_damage, head_parts, head_said}
 use Rattle.segment_file.proofs.open.read_head.Goals as goal
+
+pub returns-in_err-first-clause-damage : goal.returns-in_err-first-clause-damage
+returns-in_err-first-clause-damage g c = λ told.
+    let name = Segment c.args.id in
+    let files = g.F.Pages.files c.args.folder.now in
+    let e = err_from_is_err_and c.from_residual.result c.from_residual.ensures.1 in
+    rw (e.1, e.2)
+    (head_fault_of g.row.D files name (SizeNeeds 4096) c.in_err-first.field-0.0 (short_first files name) c.in_err-first.ensures.shown c.in_err-first.ensures.needed (c.in_err-first.ensures.damage told))
 
 pub returns-in_err-first-clause-whole : goal.returns-in_err-first-clause-whole
 returns-in_err-first-clause-whole g c = λ told h ids file.

@@ -1,15 +1,29 @@
-use Rattle.std.proofs.Common.{arith, sym, ap, append-nil, ◌≡◌, ◌∙◌, ◌+◌, ◌++◌, List, [], ℕ, length}
+use Rattle.std.proofs.Common.{arith, sym, ap, append-nil, ◌≡◌, ◌≤◌, ◌∙◌, ◌+◌, ◌*◌, ◌++◌, List, [], ℕ, length}
 use Rattle.std.proofs.lemmas.Result.{err_from_is_err_and}
 use Rattle.outer_io.specs.Files.{bytes_of}
 use Rattle.outer_io.specs.declared.file_name.FileName.TheVariants.{Segment}
 use Rattle.inner_pack.specs.Bodies.{pages_of}
 use Rattle.page_cache.specs.FilePages.{payloads_of, ArePages}
 use Rattle.page_cache.specs.Bodies.{pages_for, filled}
+use Rattle.page_cache.specs.Evidence.{SizeWithin}
 use Rattle.page_cache.proofs.Damages.{on_damage_weaker, on_damage_both}
 use Rattle.segment_file.specs.Heads.{Fields, fields_bytes, fields_of}
 use Rattle.segment_file.specs.Damages.{IsBodyDamage, IsHeadDamage, IsHeadDamageOf}
-use Rattle.segment_file.proofs.HeadReads.{head_body_of, head_payloads, no_head_damage, head_parts, head_said}
+use Rattle.segment_file.proofs.FirstPayloads.{never_cut}
+use Rattle.segment_file.proofs.HeadReads.{head_fault_of, head_body_of, head_payloads, no_head_damage, head_parts, head_said}
 use Rattle.segment_file.proofs.open.read_index.Goals as goal
+
+pub returns-in_err-payloads-clause-damage : goal.returns-in_err-payloads-clause-damage
+returns-in_err-payloads-clause-damage g c = λ told page payload size.
+    let name = Segment c.args.id in
+    let files = g.F.Pages.files c.args.folder.now in
+    let pages = 1 + c.pages_for-pages.result in
+    let few : pages ≤ 1 + pages_for c.args.fields.index_length + c.args.fields.leaf_pages = omega (arith, c.pages_for-pages.ensures) in
+    let e = err_from_is_err_and c.from_residual.result c.from_residual.ensures.1 in
+    rw (e.1, e.2)
+    (head_fault_of g.row.D files name (SizeWithin (4096 * pages)) c.in_err-payloads.field-0.0
+    (never_cut files name pages (1 + pages_for c.args.fields.index_length + c.args.fields.leaf_pages) few size)
+    c.in_err-payloads.ensures.shown c.in_err-payloads.ensures.within (c.in_err-payloads.ensures.damage told))
 
 pub returns-in_err-payloads-clause-whole : goal.returns-in_err-payloads-clause-whole
 returns-in_err-payloads-clause-whole g c = λ told h ids file payload.
@@ -23,7 +37,7 @@ returns-in_err-payloads-clause-whole g c = λ told h ids file payload.
     rw (e.1, e.2) (c.in_err-payloads.ensures.whole told pages)
 
 pub returns-clause-damage : goal.returns-clause-damage
-returns-clause-damage g c = λ told page payload.
+returns-clause-damage g c = λ told page payload size.
     let name = Segment c.args.id in
     let files = g.F.Pages.files c.args.folder.now in
     let are = head_payloads files c.args.id c.pages_for-pages.result c.args.payload.now c.in_ok-payloads.payloads.items page payload (c.in_ok-payloads.ensures.payloads told) (c.in_ok-payloads.ensures.pages told) in

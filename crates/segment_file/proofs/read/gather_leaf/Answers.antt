@@ -11,7 +11,7 @@ use Rattle.segment_file.proofs.read.gather_leaf.Goals as goal
 pub returns-in_err-place-clause-shown : goal.returns-in_err-place-clause-shown
 returns-in_err-place-clause-shown g c = λ first s path t at.
     let e = err_from_is_err_and c.from_residual.result c.from_residual.ensures.1 in
-    rw (e.1, e.2) (c.in_err-place.ensures.shown first s t)
+    rw (e.1, e.2) (c.in_err-place.ensures.shown first s path t at)
 
 pub returns-in_err-place-clause-whole : goal.returns-in_err-place-clause-whole
 returns-in_err-place-clause-whole g c = λ told agrees first s path t at items holds.
