@@ -122,7 +122,9 @@ first_page D bytes head first s (Split d x l r) items h = first_page D bytes hea
 
 pub damage_left : (D : ℕ) (head : Head) (first : ℕ) (s : Spot) (d : ℕ) (x : ℤ) (l r : IndexTree) (e : Damage) → IsLeafDamage D head first s l e → IsLeafDamage D head first s (Split d x l r) e
 damage_left D head first s d x l r (damage.Page file number bytes) h = h
-damage_left D head first s d x l r (damage.Size file size needed) h = h
+damage_left D head first s d x l r (damage.Size file size needed) h =
+    let k = h.2 in
+    (h.0, h.1, record { number = k.number; spot = k.spot; len = k.len; own = k.own; is = inl k.is; needs = k.needs })
 damage_left D head first s d x l r (damage.Leaf file number offset len bytes) h =
     let k = h.2 in
     (h.0, h.1, record { number = k.number; spot = k.spot; own = k.own; is = inl k.is; page_is = k.page_is; offset_is = k.offset_is; none = k.none })
@@ -134,7 +136,9 @@ damage_left D head first s d x l r (damage.Doubled doc) h = h
 
 pub damage_right : (D : ℕ) (head : Head) (first : ℕ) (s : Spot) (d : ℕ) (x : ℤ) (l r : IndexTree) (e : Damage) → IsLeafDamage D head (first + leaf_count l) (right_begin s l r) r e → IsLeafDamage D head first s (Split d x l r) e
 damage_right D head first s d x l r (damage.Page file number bytes) h = h
-damage_right D head first s d x l r (damage.Size file size needed) h = h
+damage_right D head first s d x l r (damage.Size file size needed) h =
+    let k = h.2 in
+    (h.0, h.1, record { number = k.number; spot = k.spot; len = k.len; own = k.own; is = inr k.is; needs = k.needs })
 damage_right D head first s d x l r (damage.Leaf file number offset len bytes) h =
     let k = h.2 in
     (h.0, h.1, record { number = k.number; spot = k.spot; own = k.own; is = inr k.is; page_is = k.page_is; offset_is = k.offset_is; none = k.none })

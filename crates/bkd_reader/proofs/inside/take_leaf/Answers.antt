@@ -6,7 +6,7 @@ use Rattle.bkd_reader.proofs.inside.take_leaf.Goals as goal
 
 pub returns-in_err-place-clause-shown : goal.returns-in_err-place-clause-shown
 returns-in_err-place-clause-shown g c = λ first s path t is.
-    handed_on c.from_residual.result c.in_err-place.field-0.0 (IsLeafDamage g.row.D c.args.head.now first s t) c.from_residual.ensures.1 (c.in_err-place.ensures.shown first s t)
+    handed_on c.from_residual.result c.in_err-place.field-0.0 (IsLeafDamage g.row.D c.args.head.now first s t) c.from_residual.ensures.1 (c.in_err-place.ensures.shown first s path t is)
 
 pub returns-in_err-place-clause-whole : goal.returns-in_err-place-clause-whole
 returns-in_err-place-clause-whole g c = λ told agrees first s path t items is holds.
