@@ -33,7 +33,9 @@ pub of_whole : (D : ℕ) (head : Head) (first : ℕ) (s : Spot) (t : IndexTree) 
     → ((number : ℕ) (at : Spot) (len : ℕ) (own : Region) → IsLeafOf first s t number at len own → IsLeafOf 0 front root number at len own)
     → (d : Damage) → IsLeafDamage D head first s t d → IsLeafDamage D head 0 front root d
 of_whole D head first s t root part (Page file number bytes) h = h
-of_whole D head first s t root part (Size file size needed) h = h
+of_whole D head first s t root part (Size file size needed) h =
+    let n = h.2 in
+    (h.0, h.1, record { number = n.number; spot = n.spot; len = n.len; own = n.own; is = part n.number n.spot n.len n.own n.is; needs = n.needs })
 of_whole D head first s t root part (Leaf file number offset len bytes) h =
     let n = h.2 in
     (h.0, h.1, record { number = n.number; spot = n.spot; own = n.own; is = part n.number n.spot len n.own n.is; page_is = n.page_is; offset_is = n.offset_is; none = n.none })

@@ -26,7 +26,7 @@ returns-in_default-clause-whole g c = λ told agrees first s path len own items 
 
 pub returns-in_err-place-clause-shown : goal.returns-in_err-place-clause-shown
 returns-in_err-place-clause-shown g c = λ first s path t is.
-    let h = c.in_err-place.ensures.shown first s t in
+    let h = c.in_err-place.ensures.shown first s path t is in
     let p = err_from_is_err_and c.from_residual.result c.from_residual.ensures.1 in
     rw (p.1, p.2) h
 
