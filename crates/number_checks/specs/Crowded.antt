@@ -20,6 +20,10 @@ AreFew items = (number : ℕ) → count_of number items ≤ 16
 abbrev pub IsCrowded : ℕ → List Item → Type 0
 IsCrowded number items = (17 ≤ count_of number items) ⊎ ((x : Item) × (x.doc ≡ number) × (2 ≤ count_by (same_item x) items))
 
+-- no number has so many, and none of the entries stands twice, as is so of those of documents
+abbrev pub AreUncrowded : List Item → Type 0
+AreUncrowded items = (number : ℕ) → IsCrowded number items → ⊥
+
 -- the order by number, and then by coordinates
 abbrev pub by_number : Item → Item → Ordering
 by_number x y = ordering_then (nat_cmp x.doc y.doc) (slice_cmp int_cmp x.at y.at)
