@@ -478,6 +478,7 @@ well_attached D told files c names parts cache dims commit all placed listed own
   room = omega arith;
   ordered = IsNonDecreasingBy-short (λ (x : Item). x.doc) [] (omega arith);
   once = once_none;
+  sixteen = λ number. omega arith;
   few = let long = zip_length (IsOpened told files c) c.listed parts all in let few = commit.ranges.few in omega arith;
   leaf_size = zip_right (IsOpened told files c) (λ (s : Listed). Unit {0}) (λ (p : Part). p.head.leaf ≡ c.leaf) c.listed parts (λ s p u one. one.listed.leaf_size) (λ k s lt. tt) all;
   live_fits = zip_right (IsOpened told files c) (λ (s : Listed). s.live ≤ s.entries) (λ (p : Part). length p.live.live ≤ p.head.entries) c.listed parts

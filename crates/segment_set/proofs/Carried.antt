@@ -12,6 +12,7 @@ use Rattle.live_bits.proofs.LiveNumbers.{is_live-without}
 use Rattle.documents.proofs.Lists.{cons_cases, of_filter, of_map}
 use Rattle.segment_file.specs.Heads.{Head}
 use Rattle.segment_file.specs.Segments.{IsSegment}
+use Rattle.number_checks.specs.Crowded.{AreUncrowded}
 use Rattle.segment_build.specs.NewSegments.{IsCanonical}
 use Rattle.segment_view.specs.Parts.{Part, IsPlaced, cleared}
 use Rattle.file_names.specs.Names.{NameList, is_named}
@@ -160,7 +161,7 @@ canon_named D files names parts all p there fresh = absurd (both_ways (is_named 
 pub canon_file : (D : ℕ) (before after : Files) (g h : Head) → h ≡ g → after (Segment g.id) ≡ before (Segment g.id) → HasCanonical D before g → HasCanonical D after h
 canon_file D before after g h same file has =
     subst (HasCanonical D after) (sym same)
-    (subst (λ b. ∥ ((items : List Item) × IsSegment D (bytes_of b) g items × IsCanonical D g items) ∥₁) (sym file) has)
+    (subst (λ b. ∥ ((items : List Item) × IsSegment D (bytes_of b) g items × IsCanonical D g items × AreUncrowded items) ∥₁) (sym file) has)
 
 -- segments that were canonical, and another call
 pub canon_then : (D : ℕ) (told : Type 0) (m n k : NameList) (f g : Files) (b c : List Part) → told → KeepsNamed told n k f g → ((name : FileName) → is_named m.names name ≡ true → is_named n.names name ≡ true)

@@ -17,7 +17,7 @@ use Rattle.leaf_codec.specs.LeafOrder.{NoneTwice, same_item}
 use Rattle.live_bits.specs.LiveSet.{LiveSet, is_live, without}
 use Rattle.live_bits.proofs.LiveNumbers.{is_live-without}
 use Rattle.documents.specs.Documents.{Ascend, Document, deleted, hits, is_live as is_live_doc, passes, without as without_passing}
-use Rattle.documents.specs.Entries.{AreDocs, SameTotals, entries_but, entries_of, entry_of, has_entry, is_among}
+use Rattle.documents.specs.Entries.{AreDocs, MakeDocs, SameTotals, entries_but, entries_of, entry_of, has_entry, is_among}
 use Rattle.documents.proofs.Kept.{added, among_hits, but_one, live as live_docs, no_docs}
 use Rattle.documents.proofs.Lists.{cons_head, cons_tail, filter_alike, filter_twice, pairs_head, pairs_tail}
 use Rattle.documents.proofs.Making.{docs_make}
@@ -27,6 +27,7 @@ use Rattle.stored_index.proofs.Places.{entry_there}
 use Rattle.index_model.specs.State.{Index}
 use Rattle.segment_view.specs.Parts.{Part, Contents, cleared, has_live, live_in_parts, lives_of, parts_among}
 use Rattle.segment_view.proofs.Living.{live_cleared, live_numbers, read_cleared}
+use Rattle.number_checks.specs.Crowded.{AreFew}
 use Rattle.segment_build.specs.NewSegments.{NewSegmentData}
 use Rattle.segment_set.specs.Sets.{BegunMerge, IsWell, SetData, begun_but, built_but, is_live_in, set_but, set_with}
 use Rattle.segment_set.specs.Kept.{StaysAlone}
@@ -226,8 +227,16 @@ once_each (y ∷ ys) apart x = by (same_item x y) refl (once_each ys (pairs_tail
         omega (arith, count_cons x y ys, ap one_if e, none)
     by false e rest = omega (arith, count_cons x y ys, ap one_if e, rest)
 
-apart_entries : (n : ℕ) (points : List (List ℤ)) → ArePoints points → AllPairs (λ (x y : Item). x ≢ y) (entries_of (record { number = n; points = points }))
-apart_entries n points ok = (docs_make (n + 1) (entries_of (record { number = n; points = points })) (record { number = n; points = points } ∷ []) (added n [] [] points (no_docs n) ok)).once
+of_one : (n : ℕ) (points : List (List ℤ)) → ArePoints points → MakeDocs (n + 1) (entries_of (record { number = n; points = points }))
+of_one n points ok = docs_make (n + 1) (entries_of (record { number = n; points = points })) (record { number = n; points = points } ∷ []) (added n [] [] points (no_docs n) ok)
+
+-- no entry of a document has another number
+absent_other : (n m : ℕ) (points : List (List ℤ)) → eqb n m ≡ false → has_entry m (entries_of (record { number = n; points = points })) ≡ false
+absent_other n m points other = by (has_entry m (entries_of (record { number = n; points = points }))) refl
+  where
+    by : (b : Bool) → has_entry m (entries_of (record { number = n; points = points })) ≡ b → b ≡ false
+    by true h = absurd (both_ways (eqb n m) other (eq-eqb n m (number_of n m points h)))
+    by false h = refl
 
 none_twice_with : (n : ℕ) (buffer : List Item) (points : List (List ℤ)) → ArePoints points → has_entry n buffer ≡ false → NoneTwice buffer → NoneTwice (buffer ++ entries_of (record { number = n; points = points }))
 unfolding NoneTwice
@@ -242,13 +251,30 @@ none_twice_with n buffer points ok fresh once x = by (eqb n x.doc) refl
     by : (b : Bool) → eqb n x.doc ≡ b → count_by (same_item x) (buffer ++ mine) ≤ 1
     by true e =
         let none = none_of x buffer (ap (λ m. has_entry m buffer) (sym (eqb-true n x.doc e)) ∙ fresh) in
-        let one = once_each mine (apart_entries n points ok) x in
+        let one = once_each mine (of_one n points ok).once x in
         omega (arith, both, none, one)
-    by false e = let none = none_of x mine (absent_number (has_entry x.doc mine) refl e) in let one = once x in omega (arith, both, none, one)
-      where
-        absent_number : (b : Bool) → has_entry x.doc mine ≡ b → eqb n x.doc ≡ false → b ≡ false
-        absent_number true h other = absurd (both_ways (eqb n x.doc) other (eq-eqb n x.doc (number_of n x.doc points h)))
-        absent_number false h other = refl
+    by false e = let none = none_of x mine (absent_other n x.doc points e) in let one = once x in omega (arith, both, none, one)
+
+none_counted : (m : ℕ) (xs : List Item) → has_entry m xs ≡ false → count_by (λ (x : Item). eqb x.doc m) xs ≡ 0
+none_counted m [] none = refl
+none_counted m (x ∷ xs) none = by (eqb x.doc m) refl none (none_counted m xs)
+  where
+    by : (b : Bool) → eqb x.doc m ≡ b → (b || has_entry m xs) ≡ false → (has_entry m xs ≡ false → count_by (λ (y : Item). eqb y.doc m) xs ≡ 0) → count_by (λ (y : Item). eqb y.doc m) (x ∷ xs) ≡ 0
+    by true e h rest = absurd (both_ways true h refl)
+    by false e h rest = omega (arith, sum_by-cons (λ (y : Item). cond (eqb y.doc m) 1 0) x xs, ap one_if e, rest h)
+
+few_with : (n : ℕ) (buffer : List Item) (points : List (List ℤ)) → ArePoints points → has_entry n buffer ≡ false → AreFew buffer → AreFew (buffer ++ entries_of (record { number = n; points = points }))
+few_with n buffer points ok fresh few m = by (eqb n m) refl
+  where
+    mine : List Item
+    mine = entries_of (record { number = n; points = points })
+
+    both : count_by (λ (x : Item). eqb x.doc m) (buffer ++ mine) ≡ count_by (λ (x : Item). eqb x.doc m) buffer + count_by (λ (x : Item). eqb x.doc m) mine
+    both = sum_by-append (λ (x : Item). cond (eqb x.doc m) 1 0) buffer mine
+
+    by : (b : Bool) → eqb n m ≡ b → count_by (λ (x : Item). eqb x.doc m) (buffer ++ mine) ≤ 16
+    by true e = omega (arith, both, none_counted m buffer (ap (λ k. has_entry k buffer) (sym (eqb-true n m e)) ∙ fresh), (of_one n points ok).few m)
+    by false e = omega (arith, both, few m, none_counted m mine (absent_other n m points e))
 
 -- numbers ascend where those that come aren't less than any before
 ordered_with : (n : ℕ) (buffer : List Item) (points : List (List ℤ)) → ((x : Item) → Contains buffer x → x.doc ≤ n) → IsNonDecreasingBy (λ (x : Item). x.doc) buffer
@@ -274,6 +300,7 @@ well_with D s points ok room given well = record {
   room = omega (arith, room, length-append s.buffer mine, length-map points (entry_of s.next));
   ordered = ordered_with s.next s.buffer points under well.ordered;
   once = none_twice_with s.next s.buffer points ok (well.spread.below s.next (omega arith)).1 well.once;
+  sixteen = few_with s.next s.buffer points ok (well.spread.below s.next (omega arith)).1 well.sixteen;
   few = well.few;
   leaf_size = well.leaf_size;
   live_fits = well.live_fits;

@@ -50,6 +50,7 @@ well_empty D leaf names cache some few least greatest none own = record {
   room = omega arith;
   ordered = λ i j d le lt. absurd (omega (arith, lt));
   once = none_twice_empty;
+  sixteen = λ number. omega arith;
   few = omega arith;
   leaf_size = All-nil _;
   live_fits = All-nil _;

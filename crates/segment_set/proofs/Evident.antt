@@ -1,17 +1,15 @@
 -- A damage is shown by what it carries and is true of the files, from what the crates below say of it.
-use Rattle.std.proofs.Common.{◌≡◌, ◌≢◌, ℕ, ◌≤◌, ◌<◌, Bool, true, false, cond, List, [], ◌∷◌, filter, Result, Ok, Err, refl, sym, ap, subst, inl, inr, arith}
+use Rattle.std.proofs.Common.{◌≡◌, ◌≢◌, ℕ, ◌≤◌, ◌<◌, List, [], ◌∷◌, Result, Ok, Err, sym, subst, inl, inr, arith}
 use Rattle.std.proofs.Math.Logic.{∥∥₁_elim, ∥∥₁_map, ∥∥₁_prop}
 use Rattle.std.proofs.lemmas.Grind.{merely}
 use Rattle.std.specs.List.{All, Contains}
-use Rattle.std.specs.List.Sorted.{IsStrictlyIncreasing}
 use Rattle.std.proofs.lemmas.List.Elements.{All-nil, All-cons, All-head, All-tail, All-contains}
-use Rattle.std.proofs.lemmas.List.Kept.{IsStrictlyIncreasing-filter}
 use Rattle.outer_io.specs.declared.file_name.FileName.{FileName}
 use Rattle.outer_io.specs.declared.file_name.FileName.TheVariants.{Commit, CommitNew, Segment, Live}
 use Rattle.outer_io.specs.Files.{Files, bytes_of}
 use Rattle.point_codec.specs.Points.{Item, Region}
 use Rattle.live_bits.specs.LiveSet.{LiveSet}
-use Rattle.page_cache.specs.Evidence.{OnDamage, NotDamaged, IsShown, IsSizeOf}
+use Rattle.page_cache.specs.Evidence.{OnDamage, NotDamaged, IsCut, IsShown, IsSizeOf}
 use Rattle.page_cache.specs.declared.faults.Damage.{Damage}
 use Rattle.page_cache.specs.declared.faults.Damage.TheVariants.{Page, Leaf, Body, Missing, Size, Unequal, Beyond, Doubled}
 use Rattle.page_cache.specs.declared.faults.PageFault.{PageFault}
@@ -25,33 +23,65 @@ use Rattle.commit_list.specs.Commits.{CommitData}
 use Rattle.commit_list.specs.CommitFiles.{IsCommitFile, AsksCommit, IsCommitDamage, IsCommitDamageOf}
 use Rattle.segment_file.specs.Heads.{Head, HasRanges}
 use Rattle.segment_file.specs.Damages.{AsksFor, IsHeadDamage, IsHeadDamageOf, IsLeafDamage, IsLeafDamageOf, IsLiveDamage, IsLiveDamageOf}
+use Rattle.segment_file.proofs.Cut.{not_cut}
 use Rattle.stored_index.specs.Segments.{places}
 use Rattle.stored_index.specs.Stored.{HaveLive}
-use Rattle.documents.specs.Entries.{is_among}
-use Rattle.segment_view.specs.Parts.{Part, ids_of, parts_among}
+use Rattle.segment_view.specs.Parts.{Part, parts_among}
 use Rattle.segment_view.specs.Held.{HasOwnHead, AreHeld}
 use Rattle.segment_view.specs.Damages.{IsPartDamage}
 use Rattle.segment_set.specs.Damages.{IsAttachDamage, IsAttachDamageOf, IsDoubt, IsMisplaced, IsUnequal, IsUnequalOf}
-use Rattle.segment_set.specs.Evidence.{AsksPages, HasNoBody, InEntries, InHead, InList, InSets, IsEvident, IsHeadIn, IsListed, IsTrueDamage, IsTrueOf, LacksLeaf, OfGiven}
+use Rattle.segment_set.specs.Evidence.{AsksPages, HasNoBody, InHead, InList, InSets, IsCrowdedIn, IsEvident, IsEvidentIn, IsEvidentWith, IsHeadIn, IsListed, IsTrueDamage, IsTrueOf, IsTwice, LacksLeaf, OfGiven}
 use Rattle.segment_set.specs.Faithful.{HasFileHead}
+use Rattle.segment_set.specs.Sets.{AreAlone}
+use Rattle.segment_set.proofs.Crowds.{among_crowded}
 
 -- ---- of the same files, where more is told
 
-pub evident_at : (S T : Type 0) (f g : Files) (d : Damage) → (T → S) → (T → g ≡ f) → IsEvident S f d → IsEvident T g d
-evident_at S T f g d back same h = record { shows = h.shows; of_files = λ t. subst (λ (u : Files). IsTrueDamage u d) (sym (same t)) (h.of_files (back t)) }
+-- W says of files what they show of a number that is Doubled
+pub evident_at : (W : Files → ℕ → Type 0) (S T : Type 0) (f g : Files) (d : Damage) → (T → S) → (T → g ≡ f) → IsEvidentWith (W f) S f d → IsEvidentWith (W g) T g d
+evident_at W S T f g d back same h =
+    record { shows = h.shows; of_files = λ t. subst (λ (u : Files). IsTrueDamage (W u) u d) (sym (same t)) (h.of_files (back t)) }
 
-pub evident_less : (S T : Type 0) (files : Files) (d : Damage) → (T → S) → IsEvident S files d → IsEvident T files d
+pub evident_less : {W : ℕ → Type 0} (S T : Type 0) (files : Files) (d : Damage) → (T → S) → IsEvidentWith W S files d → IsEvidentWith W T files d
 evident_less S T files d back h = record { shows = h.shows; of_files = λ t. h.of_files (back t) }
 
-pub on_evident_at : {X : Type 0} (S T : Type 0) (f g : Files) (r : Result X PageFault) → (T → S) → (T → g ≡ f) → OnDamage r (IsEvident S f) → OnDamage r (IsEvident T g)
-on_evident_at S T f g r back same = on_damage_weaker r (IsEvident S f) (IsEvident T g) (λ d h. evident_at S T f g d back same h)
+pub on_evident_at : {X : Type 0} (W : Files → ℕ → Type 0) (S T : Type 0) (f g : Files) (r : Result X PageFault) → (T → S) → (T → g ≡ f) → OnDamage r (IsEvidentWith (W f) S f)
+    → OnDamage r (IsEvidentWith (W g) T g)
+on_evident_at W S T f g r back same = on_damage_weaker r (IsEvidentWith (W f) S f) (IsEvidentWith (W g) T g) (λ d h. evident_at W S T f g d back same h)
+
+pub on_less_with : {X : Type 0} (W : ℕ → Type 0) (S T : Type 0) (files : Files) (r : Result X PageFault) → (T → S) → OnDamage r (IsEvidentWith W S files) → OnDamage r (IsEvidentWith W T files)
+on_less_with W S T files r back = on_damage_weaker r (IsEvidentWith W S files) (IsEvidentWith W T files) (λ d h. evident_less S T files d back h)
 
 pub on_evident_less : {X : Type 0} (S T : Type 0) (files : Files) (r : Result X PageFault) → (T → S) → OnDamage r (IsEvident S files) → OnDamage r (IsEvident T files)
-on_evident_less S T files r back = on_damage_weaker r (IsEvident S files) (IsEvident T files) (λ d h. evident_less S T files d back h)
+on_evident_less S T files = on_less_with (IsTwice files) S T files
 
 -- where no damage is answered
+pub none_with : {X : Type 0} (W : ℕ → Type 0) (T : Type 0) (files : Files) (r : Result X PageFault) → NotDamaged r → OnDamage r (IsEvidentWith W T files)
+none_with W T files r whole = on_damage_weaker r (λ d. ⊥) (IsEvidentWith W T files) (λ d h. absurd h) whole
+
 pub none_evident : {X : Type 0} (T : Type 0) (files : Files) (r : Result X PageFault) → NotDamaged r → OnDamage r (IsEvident T files)
-none_evident T files r whole = on_damage_weaker r (λ d. ⊥) (IsEvident T files) (λ d h. absurd h) whole
+none_evident T files = none_with (IsTwice files) T files
+
+-- what the one shows of numbers that are Doubled, the other does
+pub evident_twice : (V W : ℕ → Type 0) (S T : Type 0) (files : Files) (d : Damage) → (T → S) → (T → (doc : ℕ) → V doc → ∥ W doc ∥₁) → IsEvidentWith V S files d → IsEvidentWith W T files d
+evident_twice V W S T files d back more h = record {
+  shows = h.shows;
+  of_files = λ t. let truth = h.of_files (back t) in record { shows = truth.shows; carries = ∥∥₁_elim truth.carries ∥∥₁_prop (λ c. merely_carried t d c) };
+}
+  where
+    merely_carried : T → (e : Damage) → IsTrueOf V files e → ∥ IsTrueOf W files e ∥₁
+    merely_carried t (Doubled doc) c = more t doc c
+    merely_carried t (Page file number bytes) c = merely c
+    merely_carried t (Leaf file number offset len bytes) c = merely c
+    merely_carried t (Body file bytes) c = merely c
+    merely_carried t (Missing file) c = merely c
+    merely_carried t (Size file size needed) c = merely c
+    merely_carried t (Unequal file said found) c = merely c
+    merely_carried t (Beyond doc next) c = merely c
+
+pub on_evident_twice : {X : Type 0} (V W : ℕ → Type 0) (S T : Type 0) (files : Files) (r : Result X PageFault) → (T → S) → (T → (doc : ℕ) → V doc → ∥ W doc ∥₁) → OnDamage r (IsEvidentWith V S files)
+    → OnDamage r (IsEvidentWith W T files)
+on_evident_twice V W S T files r back more = on_damage_weaker r (IsEvidentWith V S files) (IsEvidentWith W T files) (λ d h. evident_twice V W S T files d back more h)
 
 -- what is told of the files counts in an answer
 on_told : {X : Type 0} (T : Type 0) (r : Result X PageFault) (P Q R : Damage → Type 0) → ((d : Damage) → (T → P d) → Q d → R d) → (T → OnDamage r P) → OnDamage r Q → OnDamage r R
@@ -76,30 +106,34 @@ leaf_shows P D head root tree is has (Unequal file said found) h = absurd h
 leaf_shows P D head root tree is has (Beyond doc next) h = absurd h
 leaf_shows P D head root tree is has (Doubled doc) h = absurd h
 
-leaf_carried : (files : Files) (d : Damage) → IsLeafDamageOf files d → IsTrueOf files d
-leaf_carried files (Page file number bytes) h = h
-leaf_carried files (Leaf file number offset len bytes) h = h
-leaf_carried files (Size file size needed) h = inl h
-leaf_carried files (Body file bytes) h = absurd h
-leaf_carried files (Missing file) h = absurd h
-leaf_carried files (Unequal file said found) h = absurd h
-leaf_carried files (Beyond doc next) h = absurd h
-leaf_carried files (Doubled doc) h = absurd h
+-- the head is that of its file, which has the pages of all leaves then
+leaf_carried : (W : ℕ → Type 0) (D : ℕ) (files : Files) (head : Head) (root : Region) (tree : IndexTree) → IsHeadIn files D head → HasTree D head.index root tree → (d : Damage) → IsLeafDamage D head 0 front tree d
+    → IsLeafDamageOf files d → IsTrueOf W files d
+leaf_carried W D files head root tree is has (Page file number bytes) shown h = h
+leaf_carried W D files head root tree is has (Leaf file number offset len bytes) shown h = h
+leaf_carried W D files head root tree is has (Size file size needed) shown h =
+    absurd (not_cut D files head root tree size needed is has shown.2 (subst (λ (name : FileName). IsCut files name size needed) shown.0 h))
+leaf_carried W D files head root tree is has (Body file bytes) shown h = absurd h
+leaf_carried W D files head root tree is has (Missing file) shown h = absurd h
+leaf_carried W D files head root tree is has (Unequal file said found) shown h = absurd h
+leaf_carried W D files head root tree is has (Beyond doc next) shown h = absurd h
+leaf_carried W D files head root tree is has (Doubled doc) shown h = absurd h
 
 -- of a segment that is read, whose head is that of its file
-pub part_evident : (T : Type 0) (D : ℕ) (files : Files) (parts : List Part) (d : Damage) → (T → All (HasFileHead D files) parts) → (T → IsLeafDamageOf files d) → IsPartDamage D parts d → IsEvident T files d
-part_evident T D files parts d heads truth (p, there, read) = record {
+pub part_evident : (W : ℕ → Type 0) (T : Type 0) (D : ℕ) (files : Files) (parts : List Part) (d : Damage) → (T → All (HasFileHead D files) parts) → (T → IsLeafDamageOf files d) → IsPartDamage D parts d → IsEvidentWith W T files d
+part_evident W T D files parts d heads truth (p, there, read) = record {
   shows = ∥∥₁_map read (λ r. leaf_shows HasRanges D p.head r.root r.tree r.ranges r.has d r.shows);
   of_files = λ t. record {
     shows = ∥∥₁_elim (All-contains (HasFileHead D files) parts p (heads t) there) ∥∥₁_prop (λ is. ∥∥₁_map read (λ r. leaf_shows (IsHeadIn files) D p.head r.root r.tree is r.has d r.shows));
-    carries = merely (leaf_carried files d (truth t));
+    carries = ∥∥₁_elim (All-contains (HasFileHead D files) parts p (heads t) there) ∥∥₁_prop
+        (λ is. ∥∥₁_map read (λ r. leaf_carried W D files p.head r.root r.tree is r.has d r.shows (truth t)));
   };
 }
 
-pub on_part_evident : {X : Type 0} (T : Type 0) (D : ℕ) (files : Files) (parts : List Part) (r : Result X PageFault) → (T → All (HasFileHead D files) parts) → (T → OnDamage r (IsLeafDamageOf files))
-    → OnDamage r (IsPartDamage D parts) → OnDamage r (IsEvident T files)
-on_part_evident T D files parts r heads =
-    on_told T r (IsLeafDamageOf files) (IsPartDamage D parts) (IsEvident T files) (λ d truth read. part_evident T D files parts d heads truth read)
+pub on_part_evident : {X : Type 0} (W : ℕ → Type 0) (T : Type 0) (D : ℕ) (files : Files) (parts : List Part) (r : Result X PageFault) → (T → All (HasFileHead D files) parts) → (T → OnDamage r (IsLeafDamageOf files))
+    → OnDamage r (IsPartDamage D parts) → OnDamage r (IsEvidentWith W T files)
+on_part_evident W T D files parts r heads =
+    on_told T r (IsLeafDamageOf files) (IsPartDamage D parts) (IsEvidentWith W T files) (λ d truth read. part_evident W T D files parts d heads truth read)
 
 -- ---- entries that are none of documents
 
@@ -113,49 +147,32 @@ doubt_shows P given items (Missing file) h = absurd h
 doubt_shows P given items (Size file size needed) h = absurd h
 doubt_shows P given items (Beyond doc next) h = absurd h
 
--- the entries were read of segments, each of another id
-pub record AreOfFiles (D : ℕ) (files : Files) (items : List Item) : Type 0 where
-  pub parts : List Part
-  pub ascend : IsStrictlyIncreasing (ids_of parts)
-  pub held : AreHeld D files parts items
-
 -- what is known to be there of each is there of all
 all_merely : {A : Type 0} (P : A → Type 0) (xs : List A) → All (λ x. ∥ P x ∥₁) xs → ∥ All P xs ∥₁
 all_merely P [] h = merely (All-nil P)
 all_merely P (x ∷ xs) h = ∥∥₁_elim (All-head (λ y. ∥ P y ∥₁) x xs h) ∥∥₁_prop (λ p. ∥∥₁_map (all_merely P xs (All-tail (λ y. ∥ P y ∥₁) x xs h)) (λ ps. All-cons P x xs p ps))
 
-ids_among : (ids : List ℕ) (parts : List Part) → ids_of (parts_among ids parts) ≡ filter (λ n. is_among ids n) (ids_of parts)
-ids_among ids [] = refl
-ids_among ids (p ∷ ps) = by (is_among ids p.head.id) (ids_among ids ps)
-  where
-    by : (b : Bool) → ids_of (parts_among ids ps) ≡ filter (λ n. is_among ids n) (ids_of ps)
-        → ids_of (cond b (p ∷ parts_among ids ps) (parts_among ids ps)) ≡ cond b (p.head.id ∷ filter (λ n. is_among ids n) (ids_of ps)) (filter (λ n. is_among ids n) (ids_of ps))
-    by true e = ap (λ ns. p.head.id ∷ ns) e
-    by false e = e
-
 -- entries that were gathered of segments whose heads are those of their files
-pub gathered_of_files : (D : ℕ) (files : Files) (ids : List ℕ) (parts : List Part) (items : List Item) → IsStrictlyIncreasing (ids_of parts) → All (HasFileHead D files) parts
-    → (All (HasOwnHead D files) parts → AreHeld D files (parts_among ids parts) items) → ∥ AreOfFiles D files items ∥₁
-gathered_of_files D files ids parts items up heads held = ∥∥₁_map (all_merely (HasOwnHead D files) parts heads) (λ own. record {
-  parts = parts_among ids parts;
-  ascend = subst IsStrictlyIncreasing (sym (ids_among ids parts)) (IsStrictlyIncreasing-filter (λ n. is_among ids n) (ids_of parts) up);
-  held = held own;
-})
+pub gathered_of_files : (D : ℕ) (files : Files) (ids : List ℕ) (parts : List Part) (items : List Item) → All (HasFileHead D files) parts
+    → (All (HasOwnHead D files) parts → AreHeld D files (parts_among ids parts) items) → ∥ AreHeld D files (parts_among ids parts) items ∥₁
+gathered_of_files D files ids parts items heads held = ∥∥₁_map (all_merely (HasOwnHead D files) parts heads) held
 
-doubt_carried : (D : ℕ) (files : Files) (given : ℕ) (items : List Item) → AreOfFiles D files items → (d : Damage) → IsDoubt given items d → IsTrueOf files d
-doubt_carried D files given items of (Unequal file said found) h = let is : said ≡ given = h.1 in let more : given < found = h.2 in OfGiven h.0 (omega arith)
-doubt_carried D files given items of (Doubled doc) h = InEntries D of.parts of.ascend items of.held h
-doubt_carried D files given items of (Page file number bytes) h = absurd h
-doubt_carried D files given items of (Leaf file number offset len bytes) h = absurd h
-doubt_carried D files given items of (Body file bytes) h = absurd h
-doubt_carried D files given items of (Missing file) h = absurd h
-doubt_carried D files given items of (Size file size needed) h = absurd h
-doubt_carried D files given items of (Beyond doc next) h = absurd h
+doubt_carried : (D : ℕ) (files : Files) (given : ℕ) (ids : List ℕ) (parts : List Part) (items : List Item) → AreAlone parts → AreHeld D files (parts_among ids parts) items → (d : Damage) → IsDoubt given items d
+    → IsTrueOf (IsCrowdedIn D files parts) files d
+doubt_carried D files given ids parts items alone held (Unequal file said found) h = let is : said ≡ given = h.1 in let more : given < found = h.2 in OfGiven h.0 (omega arith)
+doubt_carried D files given ids parts items alone held (Doubled doc) h = among_crowded D files ids parts items doc alone held h
+doubt_carried D files given ids parts items alone held (Page file number bytes) h = absurd h
+doubt_carried D files given ids parts items alone held (Leaf file number offset len bytes) h = absurd h
+doubt_carried D files given ids parts items alone held (Body file bytes) h = absurd h
+doubt_carried D files given ids parts items alone held (Missing file) h = absurd h
+doubt_carried D files given ids parts items alone held (Size file size needed) h = absurd h
+doubt_carried D files given ids parts items alone held (Beyond doc next) h = absurd h
 
-pub doubt_evident : (T : Type 0) (D : ℕ) (files : Files) (given : ℕ) (items : List Item) (d : Damage) → (T → ∥ AreOfFiles D files items ∥₁) → IsDoubt given items d → IsEvident T files d
-doubt_evident T D files given items d of h = record {
+pub doubt_evident : (T : Type 0) (D : ℕ) (files : Files) (given : ℕ) (ids : List ℕ) (parts : List Part) (items : List Item) (d : Damage) → (T → AreAlone parts) → (T → ∥ AreHeld D files (parts_among ids parts) items ∥₁)
+    → IsDoubt given items d → IsEvidentIn D parts T files d
+doubt_evident T D files given ids parts items d alone held h = record {
   shows = merely (doubt_shows HasRanges given items d h);
-  of_files = λ t. record { shows = merely (doubt_shows (IsHeadIn files) given items d h); carries = ∥∥₁_map (of t) (λ read. doubt_carried D files given items read d h) };
+  of_files = λ t. record { shows = merely (doubt_shows (IsHeadIn files) given items d h); carries = ∥∥₁_map (held t) (λ read. doubt_carried D files given ids parts items (alone t) read d h) };
 }
 
 -- ---- the segments that a commit lists
@@ -222,7 +239,7 @@ pages_asked files Commit size needed (inr h) = absurd h.asked
 pages_asked files CommitNew size needed (inl h) = inl h
 pages_asked files CommitNew size needed (inr h) = absurd h.asked
 
-head_carried : (files : Files) (c : CommitData) → IsCommitFile (bytes_of (files Commit)) c → (d : Damage) → IsAttachDamage c d → IsHeadDamageOf c.dims files d → IsTrueOf files d
+head_carried : (files : Files) (c : CommitData) → IsCommitFile (bytes_of (files Commit)) c → (d : Damage) → IsAttachDamage c d → IsHeadDamageOf c.dims files d → IsTrueOf (IsTwice files) files d
 head_carried files c says (Page file number bytes) named h = h
 head_carried files c says (Missing file) named h = (h, missing_listed files c says file named)
 head_carried files c says (Size file size needed) named h = pages_asked files file size needed h
@@ -232,7 +249,7 @@ head_carried files c says (Leaf file number offset len bytes) named h = absurd h
 head_carried files c says (Beyond doc next) named h = absurd h
 head_carried files c says (Doubled doc) named h = absurd h
 
-live_carried : (files : Files) (c : CommitData) → IsCommitFile (bytes_of (files Commit)) c → (d : Damage) → IsAttachDamage c d → IsLiveDamageOf files d → IsTrueOf files d
+live_carried : (files : Files) (c : CommitData) → IsCommitFile (bytes_of (files Commit)) c → (d : Damage) → IsAttachDamage c d → IsLiveDamageOf files d → IsTrueOf (IsTwice files) files d
 live_carried files c says (Page file number bytes) named h = h
 live_carried files c says (Missing file) named h = (h, missing_listed files c says file named)
 live_carried files c says (Size file size needed) named h = pages_asked files file size needed h
@@ -242,7 +259,7 @@ live_carried files c says (Leaf file number offset len bytes) named h = absurd h
 live_carried files c says (Beyond doc next) named h = absurd h
 live_carried files c says (Doubled doc) named h = absurd h
 
-unequal_carried : (files : Files) (c : CommitData) → IsCommitFile (bytes_of (files Commit)) c → (s : Listed) → Contains c.listed s → (d : Damage) → IsUnequalOf files c s d → IsTrueOf files d
+unequal_carried : (files : Files) (c : CommitData) → IsCommitFile (bytes_of (files Commit)) c → (s : Listed) → Contains c.listed s → (d : Damage) → IsUnequalOf files c s d → IsTrueOf (IsTwice files) files d
 unequal_carried files c says s there (Unequal file said found) h = InList c says s there h
 unequal_carried files c says s there (Page file number bytes) h = absurd h
 unequal_carried files c says s there (Leaf file number offset len bytes) h = absurd h
@@ -253,7 +270,7 @@ unequal_carried files c says s there (Beyond doc next) h = absurd h
 unequal_carried files c says s there (Doubled doc) h = absurd h
 
 misplaced_carried : (files : Files) (c : CommitData) → IsCommitFile (bytes_of (files Commit)) c → (sets : List LiveSet) → HaveLive files c sets → (d : Damage)
-    → IsMisplaced (λ doc. 1 ≤ places doc sets) (λ doc. 2 ≤ places doc sets) c.next d → IsTrueOf files d
+    → IsMisplaced (λ doc. 1 ≤ places doc sets) (λ doc. 2 ≤ places doc sets) c.next d → IsTrueOf (IsTwice files) files d
 misplaced_carried files c says sets live (Beyond doc next) h = record { commit = c; says = says; next_is = h.0; sets = sets; live = live; there = h.2 }
 misplaced_carried files c says sets live (Doubled doc) h = InSets c says sets live h
 misplaced_carried files c says sets live (Page file number bytes) h = absurd h
@@ -263,7 +280,7 @@ misplaced_carried files c says sets live (Missing file) h = absurd h
 misplaced_carried files c says sets live (Size file size needed) h = absurd h
 misplaced_carried files c says sets live (Unequal file said found) h = absurd h
 
-attach_carried : (files : Files) (c : CommitData) → IsCommitFile (bytes_of (files Commit)) c → (d : Damage) → IsAttachDamage c d → IsAttachDamageOf files c d → IsTrueOf files d
+attach_carried : (files : Files) (c : CommitData) → IsCommitFile (bytes_of (files Commit)) c → (d : Damage) → IsAttachDamage c d → IsAttachDamageOf files c d → IsTrueOf (IsTwice files) files d
 attach_carried files c says d named (inl (s, there, inl h)) = head_carried files c says d named h
 attach_carried files c says d named (inl (s, there, inr (inl h))) = live_carried files c says d named h
 attach_carried files c says d named (inl (s, there, inr (inr h))) = unequal_carried files c says s there d h
@@ -291,7 +308,7 @@ commit_shows P (Unequal file said found) h = absurd h
 commit_shows P (Beyond doc next) h = absurd h
 commit_shows P (Doubled doc) h = absurd h
 
-commit_carried : (files : Files) (d : Damage) → IsCommitDamage d → IsCommitDamageOf files d → IsTrueOf files d
+commit_carried : (files : Files) (d : Damage) → IsCommitDamage d → IsCommitDamageOf files d → IsTrueOf (IsTwice files) files d
 commit_carried files (Page file number bytes) shown h = h
 commit_carried files (Missing file) shown h = absurd h
 commit_carried files (Size file size needed) shown h =

@@ -19,8 +19,10 @@ use Rattle.documents.proofs.Totals.{permuted, totals}
 use Rattle.stored_index.proofs.Listing.{live_fit}
 use Rattle.stored_index.proofs.Places.{entry_there, some_entry}
 use Rattle.segment_view.specs.Parts.{Part, has_live}
+use Rattle.number_checks.specs.Crowded.{AreUncrowded}
 use Rattle.segment_build.specs.NewSegments.{NewSegmentData, HasEntries}
 use Rattle.segment_set.specs.Merges.{HoldsLive, IsGathered, IsMade}
+use Rattle.segment_set.proofs.Counted.{uncrowded_permuted}
 use Rattle.segment_set.proofs.Replaced.{all_front}
 
 pub items_length : {D : ℕ} (es : List (Entry D)) → length (items_of es) ≡ length es
@@ -76,10 +78,10 @@ module _ (D : ℕ) (entries items : List Item) (n : NewSegmentData) (same : IsPe
       by [] h = cc
       by (m ∷ ms) h = omega arith
 
-  pub made : (leaf : ℕ) → n.leaf ≡ leaf → IsLiveSet n.live → 1 ≤ length entries → IsMade D leaf n
-  made leaf leaf_is set some = record {
+  pub made : (leaf : ℕ) → n.leaf ≡ leaf → IsLiveSet n.live → 1 ≤ length entries → AreUncrowded entries → IsMade D leaf n
+  made leaf leaf_is set some fair = record {
     leaf_size = leaf_is;
-    has = merely (record { items = items; has = has });
+    has = merely (record { items = items; has = has; uncrowded = uncrowded_permuted entries items same fair });
     fits = omega (arith, live_fit n.live items set (λ number is. sym (live_is number) ∙ is), has.counted);
     some = by items has.counted all_live (omega (arith, some, length_permutation entries items same));
   }
@@ -96,9 +98,9 @@ within entries parts all number there =
 
 -- what is built of entries that are live in segments
 pub gathered_of : (D leaf : ℕ) (entries items : List Item) (n : NewSegmentData) (parts : List Part) → IsPermutation entries items → HasEntries D items n → is_live n.live ≡ (λ number. has_entry number entries)
-    → n.leaf ≡ leaf → IsLiveSet n.live → 1 ≤ length entries → All (λ (x : Item). has_live x.doc parts ≡ true) entries → IsGathered D leaf parts n
-gathered_of D leaf entries items n parts same has live leaf_is set some all = record {
-  made = made D entries items n same has live leaf leaf_is set some;
+    → n.leaf ≡ leaf → IsLiveSet n.live → 1 ≤ length entries → All (λ (x : Item). has_live x.doc parts ≡ true) entries → AreUncrowded entries → IsGathered D leaf parts n
+gathered_of D leaf entries items n parts same has live leaf_is set some all fair = record {
+  made = made D entries items n same has live leaf leaf_is set some fair;
   all = merely (record { items = items; has = has; all = all_live D entries items n same has live });
   within = λ number is. within entries parts all number (sym (ap (λ (f : ℕ → Bool). f number) live) ∙ is);
 }

@@ -1,5 +1,6 @@
 pub mod Carried
 pub mod Standing
+pub mod Counted
 pub mod Well
 pub mod Buffered
 pub mod Changed
@@ -30,6 +31,7 @@ pub mod Wholes
 pub mod Chosen
 pub mod Doubted
 pub mod Lively
+pub mod Crowds
 pub mod Evident
 pub mod Faithful
 pub mod Viewing

@@ -18,6 +18,7 @@ use Rattle.page_cache.specs.Cache.{Agrees, KeepsFile}
 use Rattle.page_cache.proofs.Agreement.{agrees_other}
 use Rattle.index_model.specs.State.{Index}
 use Rattle.segment_view.specs.Parts.{Part, Contents, has_live, ids_of, live_in_parts, parts_among, parts_but}
+use Rattle.number_checks.specs.Crowded.{AreFew}
 use Rattle.segment_build.specs.NewSegments.{NewSegmentData, HasEntries, IsCanonical}
 use Rattle.file_names.specs.Names.{NameList, is_named}
 use Rattle.segment_set.specs.Sets.{BegunMerge, SetData, IsBuiltOf, IsNamed, IsWell, built_of, inputs_of, is_live_in}
@@ -54,12 +55,12 @@ module _ (D : ℕ) (told : Type 0) (files new_files : Files) (s : SetData) (name
       named : (id : ℕ) → is_among (inputs_of s.begun) id ≡ true → is_named s.names.names (Segment id) ≡ true
       named id among = ids_named s.names s.parts well.named id (among_to (ids_of s.parts) id (All-contains (λ n. is_among (ids_of s.parts) n ≡ true) (inputs_of s.begun) id well.inputs (among_to (inputs_of s.begun) id among)))
 
-  pub well_moved : IsWell D s → (begun : Option BegunMerge) (cache : PageCache) → length parts ≤ 200 → length left ≤ 16384 → IsNonDecreasingBy (λ x. x.doc) left → NoneTwice left
+  pub well_moved : IsWell D s → (begun : Option BegunMerge) (cache : PageCache) → length parts ≤ 200 → length left ≤ 16384 → IsNonDecreasingBy (λ x. x.doc) left → NoneTwice left → AreFew left
       → All (λ id. is_among (ids_of parts) id ≡ true) (inputs_of begun) → length (inputs_of begun) ≤ 64
       → ((n : NewSegmentData) → built_of begun ≡ Some n → IsBuiltOf D s.leaf (parts_among (inputs_of begun) parts) n)
       → ((id : ℕ) → KeepsFile cache id → is_named s.names.names (Segment id) ≡ true)
       → IsWell D (moved s names parts left begun cache)
-  well_moved well begun cache few room ordered once inputs few_inputs built cached = record {
+  well_moved well begun cache few room ordered once sixteen inputs few_inputs built cached = record {
     some_dims = well.some_dims;
     few_dims = well.few_dims;
     least_leaf = well.least_leaf;
@@ -70,6 +71,7 @@ module _ (D : ℕ) (told : Type 0) (files new_files : Files) (s : SetData) (name
     room = room;
     ordered = ordered;
     once = once;
+    sixteen = sixteen;
     few = few;
     leaf_size = all_replaced D told s.names names new_files ids s.parts parts (λ (p : Part). p.head.leaf ≡ s.leaf) m.built m.replaces (λ id n is named. (m.made n is).leaf_size) well.leaf_size;
     live_fits = all_replaced D told s.names names new_files ids s.parts parts (λ (p : Part). length p.live.live ≤ p.head.entries) m.built m.replaces (λ id n is named. (m.made n is).fits) well.live_fits;
@@ -132,7 +134,7 @@ module _ (D : ℕ) (told : Type 0) (files new_files : Files) (s : SetData) (name
       by None r made = subst (AreCanonical D new_files s.names) (sym r) others
       by (Some n) r made =
           canon_placed D new_files s.names (part_at r.id n) (parts_but ids s.parts) parts r.placed
-          (∥∥₁_elim (made n refl).has ∥∥₁_prop (λ some. merely (some.items, r.written is_told some.items some.has, canonical r.id n some.items some.has))) others
+          (∥∥₁_elim (made n refl).has ∥∥₁_prop (λ some. merely (some.items, r.written is_told some.items some.has, canonical r.id n some.items some.has, some.uncrowded))) others
 
   -- ---- how it is seen
 

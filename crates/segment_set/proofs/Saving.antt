@@ -55,6 +55,7 @@ well_other D s names cache saved well named kept own cached = record {
   room = well.room;
   ordered = well.ordered;
   once = well.once;
+  sixteen = well.sixteen;
   few = well.few;
   leaf_size = well.leaf_size;
   live_fits = well.live_fits;

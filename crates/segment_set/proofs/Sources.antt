@@ -84,6 +84,7 @@ begun_well D {s} well b cache inputs few gathered cached = record {
   room = well.room;
   ordered = well.ordered;
   once = well.once;
+  sixteen = well.sixteen;
   few = well.few;
   leaf_size = well.leaf_size;
   live_fits = well.live_fits;

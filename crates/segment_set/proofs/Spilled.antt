@@ -11,6 +11,7 @@ use Rattle.live_bits.specs.LiveSet.{is_live}
 use Rattle.documents.specs.Entries.{SameTotals, has_entry, is_among}
 use Rattle.index_model.specs.State.{Index}
 use Rattle.segment_view.specs.Parts.{Part, live_in_parts, parts_among}
+use Rattle.number_checks.specs.Crowded.{AreFew}
 use Rattle.file_names.specs.Names.{NameList}
 use Rattle.segment_set.specs.Sets.{SetData, IsBuiltOf, IsWell, inputs_of}
 use Rattle.segment_set.specs.Seen.{Sees}
@@ -25,6 +26,9 @@ use Rattle.segment_set.proofs.Steps.{IsAfter, merge_after, none_among, ok_or_err
 none_twice_none : NoneTwice []
 unfolding NoneTwice
 none_twice_none x = omega arith
+
+few_none : AreFew []
+few_none number = omega arith
 
 pub some_is : {X : Type 0} (x y : X) → Some x ≡ Some y → x ≡ y
 some_is x y h = cc
@@ -49,7 +53,7 @@ module _ (D : ℕ) (told : Type 0) (files new_files : Files) {s : SetData} (name
   spill_well few =
       let stay : parts_among (inputs_of s.begun) parts ≡ parts_among (inputs_of s.begun) s.parts = inputs_stay D told files new_files s names [] parts [] spill_moves well apart_none in
       well_moved D told files new_files s names [] parts [] spill_moves well s.begun s.cache
-      (omega (arith, few, length_replaced D told s.names names new_files [] s.parts parts (Some sp.n) sp.put)) (omega arith) (λ i j d le lt. absurd (omega (arith, lt))) none_twice_none
+      (omega (arith, few, length_replaced D told s.names names new_files [] s.parts parts (Some sp.n) sp.put)) (omega arith) (λ i j d le lt. absurd (omega (arith, lt))) none_twice_none few_none
       (ids_stay (inputs_of s.begun) s.parts parts stay well.inputs) well.few_inputs
       (λ n is. subst (λ (ps : List Part). IsBuiltOf D s.leaf ps n) (sym stay) (well.built n is)) well.cached
 

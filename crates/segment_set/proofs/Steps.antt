@@ -132,7 +132,7 @@ module _ (D : ℕ) (told : Type 0) (files new_files : Files) (before : PageCache
   step_well apart cache cached =
       let stay : parts_among (inputs_of s.begun) parts ≡ parts_among (inputs_of s.begun) s.parts = inputs_stay D told files new_files s names st.gone parts s.buffer st.moves well (λ id h. apart id (st.some id h)) in
       well_moved D told files new_files s names st.gone parts s.buffer st.moves well s.begun cache
-      (omega (arith, st.few, well.few)) well.room well.ordered well.once
+      (omega (arith, st.few, well.few)) well.room well.ordered well.once well.sixteen
       (ids_stay (inputs_of s.begun) s.parts parts stay well.inputs) well.few_inputs
       (λ n is. subst (λ (ps : List Part). IsBuiltOf D s.leaf ps n) (sym stay) (well.built n is)) cached
 

@@ -1,5 +1,8 @@
 -- What a set keeps of its files after calls that merge and add, and what is evident of a set.
-use Rattle.std.proofs.Common.{◌≡◌, ℕ, Bool, IsTrue, List, Option, Result, ℤ, refl, sym, subst}
+use Rattle.std.proofs.Common.{◌≡◌, ℕ, Bool, IsTrue, List, Option, Result, ℤ, refl, sym, subst, arith}
+use Rattle.std.proofs.lemmas.Grind.{merely}
+use Rattle.std.proofs.lemmas.List.Elements.{All-contains}
+use Rattle.outer_io.specs.declared.file_name.FileName.TheVariants.{Segment}
 use Rattle.std.specs.List.{All}
 use Rattle.outer_io.specs.Files.{Files}
 use Rattle.page_cache.specs.declared.cache.PageCache.{PageCache}
@@ -7,11 +10,13 @@ use Rattle.page_cache.specs.declared.faults.PageFault.{PageFault}
 use Rattle.page_cache.specs.Cache.{Agrees}
 use Rattle.page_cache.specs.Evidence.{OnDamage}
 use Rattle.segment_view.specs.Calm.{IsCalm}
-use Rattle.segment_set.specs.Sets.{BegunMerge, IsWell, SetData, set_with}
+use Rattle.segment_set.specs.Sets.{AreAlone, BegunMerge, IsNamed, IsSpread, IsWell, SetData, set_with}
+use Rattle.segment_set.specs.Merged.{Rearranges}
 use Rattle.segment_set.specs.Kept.{AreCanonical, Follows, KeepsNamed}
-use Rattle.segment_set.specs.Evidence.{IsEvident}
+use Rattle.segment_set.specs.Evidence.{IsCrowdedIn, IsEvidentIn}
 use Rattle.segment_set.specs.Faithful.{HasFileHead, IsFaithful}
-use Rattle.segment_set.proofs.Evident.{on_evident_less}
+use Rattle.segment_set.proofs.Crowds.{crowded_before}
+use Rattle.segment_set.proofs.Evident.{on_less_with, on_evident_twice}
 use Rattle.segment_set.proofs.Faithful.{faithful_named, faithful_parts}
 
 -- the files are told, and what the set keeps of them is theirs
@@ -46,12 +51,18 @@ faithful_with D files points s faithful = record { pages = faithful.pages; heads
 -- ---- what a damage shows
 
 -- what is evident of the cache and the segments of now is so of the set
-pub on_evident_set : {X : Type 0} (D : ℕ) (told : Bool) (f g : Files) (s t : SetData) (r : Result X PageFault) → s ≡ t → OnDamage r (IsEvident (IsTrue told × Agrees f s.cache × All (HasFileHead D f) s.parts) g)
-    → OnDamage r (IsEvident (IsTrusted told D f t) g)
-on_evident_set D told f g s t r same = on_evident_less (IsTrue told × Agrees f s.cache × All (HasFileHead D f) s.parts) (IsTrusted told D f t) g r
-    (λ trusted. let was = subst (IsFaithful D f) (sym same) trusted.1 in (trusted.0, was.pages, was.heads))
+pub on_evident_set : {X : Type 0} (D : ℕ) (told : Bool) (f g : Files) (s t : SetData) (r : Result X PageFault) → s ≡ t → IsSpread s.next s.parts s.buffer
+    → OnDamage r (IsEvidentIn D s.parts (IsTrue told × Agrees f s.cache × All (HasFileHead D f) s.parts × AreAlone s.parts) g) → OnDamage r (IsEvidentIn D t.parts (IsTrusted told D f t) g)
+on_evident_set D told f g s t r same spread evident =
+    subst (λ (u : SetData). OnDamage r (IsEvidentIn D u.parts (IsTrusted told D f u) g)) same
+    (on_less_with (IsCrowdedIn D g s.parts) (IsTrue told × Agrees f s.cache × All (HasFileHead D f) s.parts × AreAlone s.parts) (IsTrusted told D f s) g r
+    (λ trusted. (trusted.0, trusted.1.pages, trusted.1.heads, λ number. omega (arith, spread.alone number))) evident)
 
--- and of a set before from which what is kept stays theirs
-pub on_evident_before : {X : Type 0} (D : ℕ) (told : Bool) (f g h : Files) (s t : SetData) (r : Result X PageFault) → (IsTrue told → IsFaithful D f s → IsFaithful D g t) → OnDamage r (IsEvident (IsTrusted told D g t) h)
-    → OnDamage r (IsEvident (IsTrusted told D f s) h)
-on_evident_before D told f g h s t r stays = on_evident_less (IsTrusted told D g t) (IsTrusted told D f s) h r (λ trusted. (trusted.0, stays trusted.0 trusted.1))
+-- and of a set before, from which what is kept stays theirs
+pub on_evident_before : {X : Type 0} (D : ℕ) (told : Bool) (f g h : Files) (s t u : SetData) (r : Result X PageFault) → All (IsNamed t.names) t.parts → Rearranges D (IsTrue told) f g s t
+    → KeepsNamed (IsTrue told) t.names u.names g h → (IsTrue told → IsFaithful D f s → IsFaithful D g t) → OnDamage r (IsEvidentIn D t.parts (IsTrusted told D g t) h)
+    → OnDamage r (IsEvidentIn D s.parts (IsTrusted told D f s) h)
+on_evident_before D told f g h s t u r named moves kept stays =
+    on_evident_twice (IsCrowdedIn D h t.parts) (IsCrowdedIn D h s.parts) (IsTrusted told D g t) (IsTrusted told D f s) h r (λ trusted. (trusted.0, stays trusted.0 trusted.1))
+    (λ trusted number crowd. merely (crowded_before D g h s.names s.parts t.parts number moves.follows (moves.canon trusted.0)
+    (λ p there. kept.files trusted.0 (Segment p.head.id) (All-contains (IsNamed t.names) t.parts p named there)) crowd))

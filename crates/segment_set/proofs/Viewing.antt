@@ -24,7 +24,7 @@ use Rattle.file_names.specs.Names.{NameList}
 use Rattle.segment_set.specs.Sets.{NamedView, SetData, viewed_parts}
 use Rattle.segment_set.specs.Opened.{IsOpened}
 use Rattle.segment_set.specs.Swept.{IsUnneeded}
-use Rattle.segment_set.specs.Evidence.{IsEvident}
+use Rattle.segment_set.specs.Evidence.{IsEvident, IsTwice}
 use Rattle.segment_set.specs.Faithful.{HasFileHead, IsFaithful}
 use Rattle.segment_set.proofs.Attaching.{attached, zip_right}
 use Rattle.segment_set.proofs.Empty.{empty_set}
@@ -48,8 +48,8 @@ pub looked_evident : {X : Type 0} (D : ℕ) (told : Bool) (f g : Files) (s t : S
     → segments ≡ viewed_parts view t → IsCalm told f g s.cache cache ids → OnDamage r (IsPartDamage D segments) → (IsTrue told → Agrees f s.cache → OnDamage r (IsLeafDamageOf f))
     → OnDamage r (IsEvident (IsTrue told × IsFaithful D f t) g)
 looked_evident D told f g s t view segments ids cache r same is calm shown of_files =
-    on_evident_at (IsTrue told × IsFaithful D f t) (IsTrue told × IsFaithful D f t) f g r (λ h. h) (λ h. calm.files h.0)
-    (on_part_evident (IsTrue told × IsFaithful D f t) D f segments r (λ h. subst (All (HasFileHead D f)) (sym is) (viewed_heads D f view t h.1))
+    on_evident_at IsTwice (IsTrue told × IsFaithful D f t) (IsTrue told × IsFaithful D f t) f g r (λ h. h) (λ h. calm.files h.0)
+    (on_part_evident (IsTwice f) (IsTrue told × IsFaithful D f t) D f segments r (λ h. subst (All (HasFileHead D f)) (sym is) (viewed_heads D f view t h.1))
     (λ h. of_files h.0 (subst (λ (u : SetData). Agrees f u.cache) (sym same) h.1.pages)) shown)
 
 -- ---- snapshots

@@ -1,6 +1,6 @@
 -- What every set keeps to, after each change.
 use Rattle.std.proofs.Common.{◌≡◌, ℕ, ◌+◌, ◌≤◌, Bool, true, false, not, ◌&&◌, ◌||◌, eqb, cond, List, [], ◌∷◌, length, Option, Some, None, refl, sym, ap, subst, ◌∙◌, arith}
-use Rattle.std.specs.List.{All, count_by, filter}
+use Rattle.std.specs.List.{All, filter}
 use Rattle.std.proofs.lemmas.Bool.{eqb-true}
 use Rattle.std.proofs.lemmas.List.{length-map}
 use Rattle.std.proofs.lemmas.List.Elements.{All-map, All-weaker}
@@ -10,7 +10,6 @@ use Rattle.std.proofs.lemmas.Grind.{merely}
 use Rattle.std.proofs.lemmas.List.Sums.{count_by-le-length, length-filter, sum_by-cons}
 use Rattle.outer_io.specs.declared.file_name.FileName.TheVariants.{Segment}
 use Rattle.point_codec.specs.Points.{Item}
-use Rattle.leaf_codec.specs.LeafOrder.{NoneTwice, same_item}
 use Rattle.live_bits.specs.LiveSet.{LiveSet, is_live, without}
 use Rattle.live_bits.proofs.LiveNumbers.{is_live-without}
 use Rattle.documents.specs.Entries.{entries_but, has_entry, is_among}
@@ -22,6 +21,7 @@ use Rattle.segment_view.proofs.Living.{any_cleared, ids_cleared}
 use Rattle.segment_build.specs.NewSegments.{NewSegmentData}
 use Rattle.file_names.specs.Names.{is_named}
 use Rattle.segment_set.specs.Sets.{BegunMerge, IsBuiltOf, IsNamed, IsSpread, IsWell, SetData, begun_but, built_but, built_of, inputs_of, is_live_in, set_but}
+use Rattle.segment_set.proofs.Counted.{few_filter, none_twice_filter}
 
 -- ---- entries of numbers that are kept
 
@@ -104,18 +104,6 @@ among_cleared number ids (p ∷ ps) = by (is_among ids p.head.id) (among_cleared
     by true rest = ap (λ (qs : List Part). record p { live = without number p.live } ∷ qs) rest
     by false rest = rest
 
-pub none_twice_filter : (keep : Item → Bool) (xs : List Item) → NoneTwice xs → NoneTwice (filter keep xs)
-unfolding NoneTwice
-none_twice_filter keep xs once x = let le = fewer xs in let few = once x in omega (arith, le, few)
-  where
-    fewer : (ys : List Item) → count_by (same_item x) (filter keep ys) ≤ count_by (same_item x) ys
-    fewer [] = omega arith
-    fewer (y ∷ ys) = by (keep y) (fewer ys)
-      where
-        by : (b : Bool) → count_by (same_item x) (filter keep ys) ≤ count_by (same_item x) ys → count_by (same_item x) (cond b (y ∷ filter keep ys) (filter keep ys)) ≤ count_by (same_item x) (y ∷ ys)
-        by true rest = omega (arith, rest, sum_by-cons (λ (z : Item). cond (same_item x z) 1 0) y (filter keep ys), sum_by-cons (λ (z : Item). cond (same_item x z) 1 0) y ys)
-        by false rest = omega (arith, rest, sum_by-cons (λ (z : Item). cond (same_item x z) 1 0) y ys)
-
 inputs_but : (number : ℕ) (begun : Option BegunMerge) → inputs_of (begun_but number begun) ≡ inputs_of begun
 inputs_but number None = refl
 inputs_but number (Some b) = refl
@@ -133,7 +121,7 @@ built_back number (Some b) n is = by b.built refl is
 built_of_but : (D leaf number : ℕ) (inputs : List Part) (n : NewSegmentData) → IsBuiltOf D leaf inputs n → IsBuiltOf D leaf (cleared number inputs) (record n { live = without number n.live })
 built_of_but D leaf number inputs n is = record {
   leaf_size = is.leaf_size;
-  has = ∥∥₁_elim is.has ∥∥₁_prop (λ some. merely (record { items = some.items; has = record { built = some.has.built; counted = some.has.counted; fits = some.has.fits } }));
+  has = ∥∥₁_elim is.has ∥∥₁_prop (λ some. merely (record { items = some.items; has = record { built = some.has.built; counted = some.has.counted; fits = some.has.fits }; uncrowded = some.uncrowded }));
   fits = omega (arith, is.fits, length_but number n.live);
   within = λ m live.
       let both = sym (is_live-without n.live number m) ∙ live in
@@ -158,6 +146,7 @@ well_but D number s well = record {
   room = omega (arith, well.room, length-filter (λ (x : Item). not (eqb x.doc number)) s.buffer, count_by-le-length (λ (x : Item). not (eqb x.doc number)) s.buffer);
   ordered = IsNonDecreasingBy-filter (λ (x : Item). x.doc) (λ (x : Item). not (eqb x.doc number)) s.buffer well.ordered;
   once = none_twice_filter (λ (x : Item). not (eqb x.doc number)) s.buffer well.once;
+  sixteen = few_filter (λ (x : Item). not (eqb x.doc number)) s.buffer well.sixteen;
   few = omega (arith, well.few, length-map s.parts clear);
   leaf_size = All-map (λ (p : Part). p.head.leaf ≡ s.leaf) clear s.parts well.leaf_size;
   live_fits = All-map (λ (p : Part). length p.live.live ≤ p.head.entries) clear s.parts
@@ -195,6 +184,7 @@ well_cache D s cache well cached = record {
   room = well.room;
   ordered = well.ordered;
   once = well.once;
+  sixteen = well.sixteen;
   few = well.few;
   leaf_size = well.leaf_size;
   live_fits = well.live_fits;

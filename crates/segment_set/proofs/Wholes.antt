@@ -11,9 +11,10 @@ use Rattle.documents.proofs.Lists.{cons_head, cons_tail}
 use Rattle.page_cache.specs.declared.cache.PageCache.{PageCache}
 use Rattle.segment_view.specs.Parts.{Part, ids_of, parts_among, parts_but}
 use Rattle.segment_view.proofs.Living.{parts_more}
-use Rattle.segment_build.specs.NewSegments.{NewSegmentData, HasSomeEntries}
+use Rattle.segment_build.specs.NewSegments.{NewSegmentData}
 use Rattle.file_names.specs.Names.{NameList}
 use Rattle.segment_set.specs.Merged.{IsWhole}
+use Rattle.segment_set.specs.Sets.{HasUncrowded}
 use Rattle.segment_set.specs.Merges.{IsMerged, Replaces, part_at}
 use Rattle.segment_set.proofs.Replaced.{all_placed, id_of_part, length_placed}
 
@@ -43,7 +44,7 @@ settled_one ids parts same few whole = (
 )
 
 -- what is built has an index of form 3
-built_form : (D : ℕ) (n : NewSegmentData) → ∥ HasSomeEntries D n ∥₁ → n.index.form ≡ 3
+built_form : (D : ℕ) (n : NewSegmentData) → ∥ HasUncrowded D n ∥₁ → n.index.form ≡ 3
 built_form D n has = ∥∥₁_elim has (hlevel props) (λ some. some.has.built.form)
 
 -- where all are merged what is built is the only one
@@ -54,7 +55,7 @@ merged_one D told leaf before after files new_files cache ids old new same m = b
     none : parts_but ids old ≡ []
     none = ap (λ (ns : List ℕ). parts_but ns old) same ∙ but_all old
 
-    by : (built : Option NewSegmentData) → Replaces D told before after new_files ids built old new → ((n : NewSegmentData) → built ≡ Some n → ∥ HasSomeEntries D n ∥₁) → IsOne new
+    by : (built : Option NewSegmentData) → Replaces D told before after new_files ids built old new → ((n : NewSegmentData) → built ≡ Some n → ∥ HasUncrowded D n ∥₁) → IsOne new
     by None r has = subst IsOne (sym (r ∙ none)) (omega arith, All-nil (λ (p : Part). p.head.index.form ≡ 3))
     by (Some n) r has = (
       omega (arith, length_placed (part_at r.id n) (parts_but ids old) new r.placed, ap length none),

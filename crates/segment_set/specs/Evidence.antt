@@ -1,11 +1,10 @@
 -- What a damage shows of a folder's files, whichever call answers it: by what it carries alone, and of the files where those are told.
-use Rattle.std.specs.Prelude.{◌≡◌, ◌≤◌, ◌<◌, ◌⊎◌, ℕ, List, None, Contains}
-use Rattle.std.specs.List.Sorted.{IsStrictlyIncreasing}
+use Rattle.std.specs.Prelude.{◌≡◌, ◌≤◌, ◌<◌, ◌⊎◌, ℕ, List, None, Contains, filter}
 use Rattle.outer_io.specs.declared.file_name.FileName.{FileName}
 use Rattle.outer_io.specs.declared.file_name.FileName.TheVariants.{Commit, CommitNew, Segment, Live}
 use Rattle.outer_io.specs.Files.{Files, bytes_of}
 use Rattle.point_codec.specs.Points.{Item, Region}
-use Rattle.live_bits.specs.LiveSet.{LiveSet}
+use Rattle.live_bits.specs.LiveSet.{LiveSet, is_live}
 use Rattle.inner_pack.specs.Places.{front}
 use Rattle.inner_pack.specs.Trees.{IndexTree}
 use Rattle.inner_pack.specs.Bodies.{HasTree}
@@ -16,12 +15,11 @@ use Rattle.commit_list.specs.declared.listed.Listed.{Listed}
 use Rattle.commit_list.specs.Commits.{CommitData}
 use Rattle.commit_list.specs.CommitFiles.{IsCommitFile, IsNoCommitBody, AsksCommit}
 use Rattle.segment_file.specs.Heads.{Head, HasRanges}
-use Rattle.segment_file.specs.Segments.{IsHeadOf}
+use Rattle.segment_file.specs.Segments.{IsHeadOf, IsSegment}
 use Rattle.segment_file.specs.Damages.{AreHeadPair, AsksFor, BeginsNoHead, BeginsNoSet, IsNoLeaf}
 use Rattle.stored_index.specs.Segments.{places}
-use Rattle.stored_index.specs.Stored.{HaveLive}
-use Rattle.segment_view.specs.Parts.{Part, ids_of}
-use Rattle.segment_view.specs.Held.{AreHeld}
+use Rattle.stored_index.specs.Stored.{HasLive, HaveLive}
+use Rattle.segment_view.specs.Parts.{Part}
 use Rattle.number_checks.specs.Crowded.{IsCrowded}
 use Rattle.segment_set.specs.Damages.{IsPair}
 
@@ -86,29 +84,48 @@ pub record IsLiveBeyond (files : Files) (doc next : ℕ) : Type 0 where
   pub live : HaveLive files commit sets
   pub there : 1 ≤ places doc sets
 
--- The number is live in two listed segments. Or more than 16 entries have it, or one twice, of those that the files of segments, each of another id, hold
--- for the numbers that were live then.
+-- of the entries that the segment's file holds more than 16 live ones have the number, or two that are the same
+pub record CrowdsPart (D : ℕ) (files : Files) (p : Part) (doc : ℕ) : Type 0 where
+  pub items : List Item
+  pub held : IsSegment D (bytes_of (files (Segment p.head.id))) p.head items
+  pub crowded : IsCrowded doc (filter (λ x. is_live p.live x.doc) items)
+
+-- one of these segments has it so
+abbrev pub IsCrowdedIn : ℕ → Files → List Part → (doc : ℕ) → Type 0
+IsCrowdedIn D files parts doc = (p : Part) × Contains parts p × CrowdsPart D files p doc
+
+-- The number is live in two segments that the commit lists. Or more than 16 of the live entries of one of them have it, or two of these are the same; live are
+-- the numbers of its file of live bits.
 pub data IsTwice (files : Files) (doc : ℕ) : Type 0 where
   InSets : (c : CommitData) → IsCommitFile (bytes_of (files Commit)) c → (sets : List LiveSet) → HaveLive files c sets → 2 ≤ places doc sets → IsTwice files doc
-  InEntries : (D : ℕ) (parts : List Part) → IsStrictlyIncreasing (ids_of parts) → (items : List Item) → AreHeld D files parts items → IsCrowded doc items → IsTwice files doc
+  InSegment : (c : CommitData) → IsCommitFile (bytes_of (files Commit)) c → (s : Listed) → Contains c.listed s
+      → (p : Part) → p.head.id ≡ s.segment → HasLive files s p.live → CrowdsPart c.dims files p doc → IsTwice files doc
 
--- what a damage carries is that of the files
-abbrev pub IsTrueOf : Files → Damage → Type 0
-IsTrueOf files (Page file number bytes) = IsPageOf files file number bytes.value.b
-IsTrueOf files (Leaf file number offset len bytes) = IsPageOf files file number bytes.value.b
-IsTrueOf files (Body file bytes) = ArePayloadsOf files file bytes
-IsTrueOf files (Missing file) = (files file ≡ None) × IsListed files file
-IsTrueOf files (Size file size needed) = IsSizeOf (AsksPages file) files file size needed
-IsTrueOf files (Unequal file said found) = ArePair files file said found
-IsTrueOf files (Beyond doc next) = IsLiveBeyond files doc next
-IsTrueOf files (Doubled doc) = IsTwice files doc
+-- What a damage carries is that of the files. `twice` is what is shown of a number that is Doubled.
+abbrev pub IsTrueOf : (twice : ℕ → Type 0) → Files → Damage → Type 0
+IsTrueOf twice files (Page file number bytes) = IsPageOf files file number bytes.value.b
+IsTrueOf twice files (Leaf file number offset len bytes) = IsPageOf files file number bytes.value.b
+IsTrueOf twice files (Body file bytes) = ArePayloadsOf files file bytes
+IsTrueOf twice files (Missing file) = (files file ≡ None) × IsListed files file
+IsTrueOf twice files (Size file size needed) = IsSizeOf (AsksPages file) files file size needed
+IsTrueOf twice files (Unequal file said found) = ArePair files file said found
+IsTrueOf twice files (Beyond doc next) = IsLiveBeyond files doc next
+IsTrueOf twice files (Doubled doc) = twice doc
 
 -- The damage is true of the files: what it carries is theirs, and a leaf that isn't spelled is one that the head of its file has.
-pub record IsTrueDamage (files : Files) (d : Damage) : Type 0 where
+pub record IsTrueDamage (twice : ℕ → Type 0) (files : Files) (d : Damage) : Type 0 where
   pub shows : ShowsItself (IsHeadIn files) d
-  pub carries : ∥ IsTrueOf files d ∥₁
+  pub carries : ∥ IsTrueOf twice files d ∥₁
 
 -- the damage is shown by what it carries, and is true of the files where they are told
-pub record IsEvident (told : Type 0) (files : Files) (d : Damage) : Type 0 where
+pub record IsEvidentWith (twice : ℕ → Type 0) (told : Type 0) (files : Files) (d : Damage) : Type 0 where
   pub shows : ShowsItself HasRanges d
-  pub of_files : told → IsTrueDamage files d
+  pub of_files : told → IsTrueDamage twice files d
+
+-- where a number is Doubled the files that the commit lists show it
+abbrev pub IsEvident : (told : Type 0) → Files → Damage → Type 0
+IsEvident told files = IsEvidentWith (IsTwice files) told files
+
+-- where a number is Doubled one of these segments shows it
+abbrev pub IsEvidentIn : ℕ → List Part → (told : Type 0) → Files → Damage → Type 0
+IsEvidentIn D parts told files = IsEvidentWith (IsCrowdedIn D files parts) told files

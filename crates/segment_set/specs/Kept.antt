@@ -11,6 +11,7 @@ use Rattle.stored_index.specs.Kept.{ListsFile}
 use Rattle.segment_file.specs.Heads.{Head}
 use Rattle.segment_file.specs.Segments.{IsSegment}
 use Rattle.segment_view.specs.Parts.{Part, ids_of}
+use Rattle.number_checks.specs.Crowded.{AreUncrowded}
 use Rattle.segment_build.specs.NewSegments.{IsCanonical}
 use Rattle.file_names.specs.Names.{NameList, is_named}
 use Rattle.segment_set.specs.Sets.{NamedView, SetData, is_live_in, sizes_of}
@@ -50,9 +51,10 @@ pub record IsWithin (s t : LiveSet) : Type 0 where
 pub record Follows (names : NameList) (old new : List Part) : Type 0 where
   pub each : (p : Part) → Contains new p → (is_named names.names (Segment p.head.id) ≡ false) ⊎ ((q : Part) × Contains old q × (p.head ≡ q.head) × IsWithin p.live q.live)
 
--- the file of this head has entries of which it is the canonical tree, with the index in form 3
+-- the file of this head has entries of which it is the canonical tree, with the index in form 3, and which are such as documents have
 abbrev pub HasCanonical : ℕ → Files → Head → Type 0
-HasCanonical D files head = ∥ ((items : List Item) × IsSegment D (bytes_of (files (Segment head.id))) head items × IsCanonical D head items) ∥₁
+HasCanonical D files head =
+    ∥ ((items : List Item) × IsSegment D (bytes_of (files (Segment head.id))) head items × IsCanonical D head items × AreUncrowded items) ∥₁
 
 -- each segment whose file has a name that wasn't in the list is canonical
 abbrev pub AreCanonical : ℕ → Files → NameList → List Part → Type 0

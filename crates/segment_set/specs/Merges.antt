@@ -10,8 +10,9 @@ use Rattle.page_cache.specs.Cache.{Agrees}
 use Rattle.segment_file.specs.Segments.{IsSegment}
 use Rattle.segment_file.specs.Written.{head_of}
 use Rattle.segment_view.specs.Parts.{Part, Contents, AreRead, part_of, parts_among, parts_but, live_in_parts, has_live, IsPlaced}
-use Rattle.segment_build.specs.NewSegments.{NewSegmentData, HasEntries, HasSomeEntries}
+use Rattle.segment_build.specs.NewSegments.{NewSegmentData, HasEntries}
 use Rattle.file_names.specs.Names.{NameList, is_named}
+use Rattle.segment_set.specs.Sets.{HasUncrowded}
 
 -- the live ones of the entries that the segment was built of are these, and each live number is that of one of them
 pub record HoldsLive (D : ℕ) (entries : List Item) (n : NewSegmentData) : Type 0 where
@@ -28,7 +29,7 @@ MakesLive D entries (Some n) = HoldsLive D entries n
 -- a segment was built with this leaf size: it is the canonical tree of some entries, and has some live numbers, no more than entries
 pub record IsMade (D leaf : ℕ) (n : NewSegmentData) : Type 0 where
   pub leaf_size : n.leaf ≡ leaf
-  pub has : ∥ HasSomeEntries D n ∥₁
+  pub has : ∥ HasUncrowded D n ∥₁
   pub fits : length n.live.live ≤ n.entries
   pub some : 1 ≤ length n.live.live
 

@@ -15,7 +15,8 @@ use Rattle.commit_list.specs.Commits.{CommitData}
 use Rattle.merge_policy.specs.Choice.{free_count}
 use Rattle.stored_index.specs.Segments.{places}
 use Rattle.segment_view.specs.Parts.{Part, cleared, lives_of, ids_of, parts_among}
-use Rattle.segment_build.specs.NewSegments.{NewSegmentData, HasSomeEntries}
+use Rattle.number_checks.specs.Crowded.{AreFew, AreUncrowded}
+use Rattle.segment_build.specs.NewSegments.{NewSegmentData, HasEntries}
 use Rattle.file_names.specs.Names.{NameList, is_named}
 
 -- a view that is kept under a name: its segments as they were live then, and what was in the buffer
@@ -131,6 +132,10 @@ HasView view s = IsThere view s.snapshots
 
 -- ---- what every set keeps to, whatever the files say
 
+-- no number is live in two of the segments
+abbrev pub AreAlone : List Part → Type 0
+AreAlone parts = (number : ℕ) → places number (lives_of parts) ≤ 1
+
 -- each number is live in one segment alone or stands in the buffer alone, and no number is that wasn't given
 pub record IsSpread (next : ℕ) (parts : List Part) (buffer : List Item) : Type 0 where
   pub alone : (number : ℕ) → places number (lives_of parts) + (if has_entry number buffer then 1 else 0) ≤ 1
@@ -140,11 +145,17 @@ pub record IsSpread (next : ℕ) (parts : List Part) (buffer : List Item) : Type
 abbrev pub IsNamed : NameList → Part → Type 0
 IsNamed names p = is_named names.names (Segment p.head.id) ≡ true
 
+-- a segment was built of entries such as documents have
+pub record HasUncrowded (D : ℕ) (n : NewSegmentData) : Type 0 where
+  pub items : List Item
+  pub has : HasEntries D items n
+  pub uncrowded : AreUncrowded items
+
 -- a segment was built with the leaf size: it is the canonical tree of some entries, has no more live numbers than entries, and each of them is live
 -- in an input
 pub record IsBuiltOf (D leaf : ℕ) (inputs : List Part) (n : NewSegmentData) : Type 0 where
   pub leaf_size : n.leaf ≡ leaf
-  pub has : ∥ HasSomeEntries D n ∥₁
+  pub has : ∥ HasUncrowded D n ∥₁
   pub fits : length n.live.live ≤ n.entries
   pub within : (number : ℕ) → is_live n.live number ≡ true → list_any (λ p. is_live p.live number) inputs ≡ true
 
@@ -159,6 +170,7 @@ pub record IsWell (D : ℕ) (s : SetData) : Type 0 where
   pub room : length s.buffer ≤ 16384
   pub ordered : IsNonDecreasingBy (λ x. x.doc) s.buffer
   pub once : NoneTwice s.buffer
+  pub sixteen : AreFew s.buffer
   pub few : length s.parts ≤ 200
   pub leaf_size : All (λ p. p.head.leaf ≡ s.leaf) s.parts
   pub live_fits : All (λ p. length p.live.live ≤ p.head.entries) s.parts

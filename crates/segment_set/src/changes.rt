@@ -40,7 +40,7 @@ impl<const D: usize> SegmentSet<D> {
     ghost use Rattle.segment_set.specs.Kept.{AreCanonical, Follows, KeepsNamed, StaysAlone};
     ghost use Rattle.segment_set.specs.Damages.{IsDoubt, IsMergeDamage, IsMergeDamageOf};
     ghost use Rattle.segment_set.specs.Faithful.{IsFaithful};
-    ghost use Rattle.segment_set.specs.Evidence.{IsEvident};
+    ghost use Rattle.segment_set.specs.Evidence.{IsEvident, IsEvidentIn};
     ghost use Rattle.segment_set.specs.declared.faults.AddFault.TheVariants.{Full, Failed};
 
     /// Adds a document with these points, and answers its number. Full exactly where more than 16,777,216 points would be given. Where the
@@ -84,7 +84,7 @@ impl<const D: usize> SegmentSet<D> {
         ensures damage { IsTrue F.told → Agrees (F.files folder.old) self.old.cache → OnAddDamage result (IsMergeDamageOf (F.files folder.new) self.old.given) }
         ensures doubled { IsTrue F.told → Agrees (F.files folder.old) self.old.cache → (c : Contents) → AreRead D (F.files folder.old) c self.old.parts
             → OnAddDamage result (IsDoubt self.old.given (live_in_parts c self.old.parts)) }
-        ensures evident { OnAddDamage result (IsEvident (IsTrue F.told × IsFaithful D (F.files folder.old) self.old) (F.files folder.new)) }
+        ensures evident { OnAddDamage result (IsEvidentIn D self.old.parts (IsTrue F.told × IsFaithful D (F.files folder.old) self.old) (F.files folder.new)) }
     {
         let count = points.as_slice().len() as u32;
         if self.is_full(count) {
@@ -141,7 +141,7 @@ impl<const D: usize> SegmentSet<D> {
         ensures damage { IsTrue F.told → Agrees (F.files folder.old) self.old.cache → OnDamage result (IsMergeDamageOf (F.files folder.new) self.old.given) }
         ensures doubled { IsTrue F.told → Agrees (F.files folder.old) self.old.cache → (c : Contents) → AreRead D (F.files folder.old) c self.old.parts
             → OnDamage result (IsDoubt self.old.given (live_in_parts c self.old.parts)) }
-        ensures evident { OnDamage result (IsEvident (IsTrue F.told × IsFaithful D (F.files folder.old) self.old) (F.files folder.new)) }
+        ensures evident { OnDamage result (IsEvidentIn D self.old.parts (IsTrue F.told × IsFaithful D (F.files folder.old) self.old) (F.files folder.new)) }
     {
         if self.has_room(count) {
             return Ok(());

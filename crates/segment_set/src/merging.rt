@@ -1,7 +1,7 @@
 //! What a merge does with segments: their live entries are gathered, a segment is built of these, and it takes their place.
 
 ghost use Rattle.std.specs.Prelude.{◌≡◌, ◌≤◌, ◌<◌, ◌^◌, ◌⊎◌, ℕ, List, Contains, true, false, [], Some, length, All, IsTrue, IfOk, OnOk, OnErr, IsErrOf};
-ghost use Rattle.std.specs.List.Sorted.{IsPermutation, IsStrictlyIncreasing};
+ghost use Rattle.std.specs.List.Sorted.{IsPermutation};
 ghost use Rattle.std.specs.Option.{option_copied};
 ghost use Rattle.outer_io.specs.declared.file_name.FileName.TheVariants.{Segment};
 ghost use Rattle.point_codec.specs.Points.{Item};
@@ -16,13 +16,14 @@ ghost use Rattle.page_cache.specs.Evidence.{OnDamage, NotDamaged};
 ghost use Rattle.page_cache.specs.declared.faults.PageFault.TheVariants as fault;
 ghost use Rattle.segment_view.specs.Parts.{Contents, AreRead, ids_of, live_in_parts, parts_among};
 ghost use Rattle.segment_view.specs.Calm.{IsCalm};
+ghost use Rattle.number_checks.specs.Crowded.{AreFew, AreUncrowded};
 ghost use Rattle.segment_build.specs.NewSegments.{NewSegmentData, HasEntries};
 ghost use Rattle.file_names.specs.Names.{NameList, is_named};
-ghost use Rattle.segment_set.specs.Sets.{IsNamed};
+ghost use Rattle.segment_set.specs.Sets.{AreAlone, IsNamed};
 ghost use Rattle.segment_set.specs.Kept.{KeepsNamed};
 ghost use Rattle.segment_set.specs.Merges.{IsGathered, IsMerged, IsPut, IsSpilled, MakesLive, Replaces, living};
 ghost use Rattle.segment_set.specs.Damages.{IsDoubt, IsMergeDamage, IsMergeDamageOf};
-ghost use Rattle.segment_set.specs.Evidence.{IsEvident};
+ghost use Rattle.segment_set.specs.Evidence.{IsEvidentIn};
 ghost use Rattle.segment_set.specs.Faithful.{HasFileHead};
 
 use bkd_build::Gate;
@@ -60,6 +61,7 @@ fn check_entries<const D: usize>(
 ) -> Result<(), PageFault>
     ensures few { OnOk result (length entries.now ≤ given) }
     ensures once { OnOk result (NoneTwice (items_of entries.now)) }
+    ensures uncrowded { OnOk result (AreUncrowded (items_of entries.now)) }
     ensures unfailed { IsErrOf result fault.Failed → ⊥ }
     ensures shown { OnDamage result (IsDoubt given (items_of entries.now)) }
     ensures whole { (next : ℕ) → MakeDocs next (items_of entries.now) → length entries.now ≤ given → NotDamaged result }
@@ -93,20 +95,13 @@ fn build_of<const D: usize, R: Threads + Sync, G: Gate>(
     ensures has { IfOk result (λ n. (items : List Item) × IsPermutation (items_of entries.old) items × HasEntries D items n) }
     ensures live { IfOk result (λ n. IsLiveSet n.live × (is_live n.live ≡ (λ number. has_entry number (items_of entries.old)))) }
     ensures leaf { IfOk result (λ n. n.leaf ≡ plan.now.leaf) }
+    ensures uncrowded { OnOk result (AreUncrowded (items_of entries.old)) }
     ensures unfailed { IsErrOf result fault.Failed → ⊥ }
     ensures shown { OnDamage result (IsDoubt plan.now.given (items_of entries.old)) }
     ensures whole { (next : ℕ) → MakeDocs next (items_of entries.old) → length entries.old ≤ plan.now.given → NotDamaged result }
 {
     check_entries(alloc, entries, plan.given)?;
     Ok(build_segment(rt, alloc, entries, plan.leaf, plan.forks, gate)?)
-}
-
-/// Segments stand in ascending order of their ids.
-fn ascend<const D: usize>(segments: &Segments<D>)
-    requires { D ≤ 8 }
-    ensures { IsStrictlyIncreasing (ids_of segments.now) }
-{
-    let _heads = segments.heads();
 }
 
 /// Gathers what is live in the segments of these ids, and builds a segment of it; none, where nothing is live.
@@ -133,9 +128,8 @@ pub(crate) fn gathered<const D: usize, R: Threads + Sync, F: Pages, G: Gate>(
     ensures damage { IsTrue F.told → Agrees (F.files folder.old) cache.old → OnDamage result (IsMergeDamageOf (F.files folder.new) plan.now.given) }
     ensures doubled { IsTrue F.told → Agrees (F.files folder.old) cache.old → (c : Contents) → AreRead D (F.files folder.old) c segments.now
         → OnDamage result (IsDoubt plan.now.given (live_in_parts c segments.now)) }
-    ensures evident { OnDamage result (IsEvident (IsTrue F.told × Agrees (F.files folder.old) cache.old × All (HasFileHead D (F.files folder.old)) segments.now) (F.files folder.new)) }
+    ensures evident { OnDamage result (IsEvidentIn D segments.now (IsTrue F.told × Agrees (F.files folder.old) cache.old × All (HasFileHead D (F.files folder.old)) segments.now × AreAlone segments.now) (F.files folder.new)) }
 {
-    ascend(segments);
     let mut entries = gather(alloc, segments, ids, cache, folder)?;
     if entries.is_empty() {
         return Ok(None);
@@ -226,7 +220,7 @@ pub(crate) fn merge<const D: usize, R: Threads + Sync, F: Folder, G: Gate>(
     ensures damage { IsTrue F.told → Agrees (F.files folder.old) cache.old → OnDamage result (IsMergeDamageOf (F.files folder.new) plan.now.given) }
     ensures doubled { IsTrue F.told → Agrees (F.files folder.old) cache.old → (c : Contents) → AreRead D (F.files folder.old) c segments.old
         → OnDamage result (IsDoubt plan.now.given (live_in_parts c segments.old)) }
-    ensures evident { OnDamage result (IsEvident (IsTrue F.told × Agrees (F.files folder.old) cache.old × All (HasFileHead D (F.files folder.old)) segments.old) (F.files folder.new)) }
+    ensures evident { OnDamage result (IsEvidentIn D segments.old (IsTrue F.told × Agrees (F.files folder.old) cache.old × All (HasFileHead D (F.files folder.old)) segments.old × AreAlone segments.old) (F.files folder.new)) }
 {
     let built = gathered(rt, alloc, segments, ids, cache, folder, plan, gate)?;
     replace(alloc, folder, names, segments, built.as_ref(), ids)
@@ -249,6 +243,7 @@ pub(crate) fn spill<const D: usize, R: Threads + Sync, F: Folder, G: Gate>(
     requires few { length buffer.old.items ≤ 16384 }
     requires numbers { All (λ e. e.doc < 2 ^ 24) buffer.old.items }
     requires once { NoneTwice (items_of buffer.old.items) }
+    requires sixteen { AreFew (items_of buffer.old.items) }
     ensures spilled { OnOk result (IsSpilled D (IsTrue F.told) plan.now.leaf names.old names.new (F.files folder.new) (items_of buffer.old.items) segments.old segments.new) }
     ensures emptied { OnOk result (buffer.new.items ≡ []) }
     ensures refused { OnErr result ((segments.new ≡ segments.old) × (buffer.new.items ≡ buffer.old.items)) }

@@ -39,7 +39,7 @@ impl<const D: usize> SegmentSet<D> {
     ghost use Rattle.segment_set.specs.Kept.{AreCanonical, Follows, IsCommitOf, StaysAlone};
     ghost use Rattle.segment_set.specs.Damages.{IsDoubt, IsMergeDamage, IsMergeDamageOf};
     ghost use Rattle.segment_set.specs.Faithful.{IsFaithful};
-    ghost use Rattle.segment_set.specs.Evidence.{IsEvident};
+    ghost use Rattle.segment_set.specs.Evidence.{IsEvidentIn};
 
     /// Flushes, writes the live bits of each segment under a generation that the list of names doesn't have, and answers the commit that
     /// lists the segments of now with them.
@@ -78,7 +78,7 @@ impl<const D: usize> SegmentSet<D> {
         ensures damage { IsTrue F.told → Agrees (F.files folder.old) self.old.cache → OnDamage result (IsMergeDamageOf (F.files folder.new) self.old.given) }
         ensures doubled { IsTrue F.told → Agrees (F.files folder.old) self.old.cache → (c : Contents) → AreRead D (F.files folder.old) c self.old.parts
             → OnDamage result (IsDoubt self.old.given (live_in_parts c self.old.parts)) }
-        ensures evident { OnDamage result (IsEvident (IsTrue F.told × IsFaithful D (F.files folder.old) self.old) (F.files folder.new)) }
+        ensures evident { OnDamage result (IsEvidentIn D self.old.parts (IsTrue F.told × IsFaithful D (F.files folder.old) self.old) (F.files folder.new)) }
     {
         self.flush(rt, alloc, folder, gate)?;
         self.list_segments(alloc, folder)

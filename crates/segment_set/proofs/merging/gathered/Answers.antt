@@ -13,12 +13,14 @@ use Rattle.segment_file.specs.Damages.{IsLeafDamageOf}
 use Rattle.nearest_query.proofs.Parts.{on_damage}
 use Rattle.segment_view.specs.Parts.{Part, live_in_parts, parts_among, has_live}
 use Rattle.segment_view.specs.Damages.{IsPartDamage}
+use Rattle.segment_view.specs.Held.{AreHeld}
 use Rattle.segment_set.specs.Merges.{HoldsLive, IsGathered}
 use Rattle.segment_set.specs.Damages.{IsDoubt, IsMergeDamage, IsMergeDamageOf, Doubt}
-use Rattle.segment_set.specs.Evidence.{IsEvident}
+use Rattle.segment_set.specs.Evidence.{IsCrowdedIn, IsEvidentIn}
 use Rattle.segment_set.specs.Faithful.{HasFileHead}
+use Rattle.segment_set.specs.Sets.{AreAlone}
 use Rattle.segment_set.proofs.Doubted.{doubt_among, part_shown, whole_shows}
-use Rattle.segment_set.proofs.Evident.{AreOfFiles, doubt_evident, gathered_of_files, on_evident_at, on_part_evident}
+use Rattle.segment_set.proofs.Evident.{doubt_evident, gathered_of_files, on_evident_at, on_part_evident}
 use Rattle.segment_set.proofs.Fresh.{gathered_of, holds_live, items_length}
 use Rattle.segment_set.proofs.Sizes.{built_fits, entry_fits}
 use Rattle.segment_set.proofs.Spilled.{some_is}
@@ -64,7 +66,8 @@ returns-clause-gathered g c = λ n is.
     subst (IsGathered g.row.D c.args.plan.now.leaf (parts_among c.args.ids.now c.args.segments.now)) (some_is c.in_ok-build_of.field-0 n is)
     (gathered_of g.row.D c.args.plan.now.leaf (items_of c.as_mut_slice.result.now) has.0 c.in_ok-build_of.field-0 (parts_among c.args.ids.now c.args.segments.now) has.1 has.2 live.1
     c.in_ok-build_of.ensures.leaf live.0 (omega (arith, long, items_length c.as_mut_slice.result.now, ap length c.as_mut_slice.ensures.value))
-    (subst (λ (es : List (Entry g.row.D)). All (λ (x : Item). has_live x.doc (parts_among c.args.ids.now c.args.segments.now) ≡ true) (items_of es)) (sym c.as_mut_slice.ensures.value) c.in_ok-entries.ensures.live))
+    (subst (λ (es : List (Entry g.row.D)). All (λ (x : Item). has_live x.doc (parts_among c.args.ids.now c.args.segments.now) ≡ true) (items_of es)) (sym c.as_mut_slice.ensures.value) c.in_ok-entries.ensures.live)
+    c.in_ok-build_of.ensures.uncrowded)
 
 pub returns-clause-makes : goal.returns-clause-makes
 returns-clause-makes g c = λ told agrees contents reads.
@@ -123,21 +126,25 @@ pub returns-in_err-entries-clause-evident : goal.returns-in_err-entries-clause-e
 returns-in_err-entries-clause-evident g c =
     let p = err_from_is_err_and c.from_residual.result c.from_residual.ensures.1 in
     let files = g.F.Pages.files c.args.folder.now in
-    let told = IsTrue g.F.Pages.told × Agrees files c.args.cache.now × All (HasFileHead g.row.D files) c.args.segments.now in
+    let parts = c.args.segments.now in
+    let told = IsTrue g.F.Pages.told × Agrees files c.args.cache.now × All (HasFileHead g.row.D files) parts × AreAlone parts in
     rw (p.1, p.2)
-    (on_evident_at {X = Unit {0}} told told files (g.F.Pages.files c.gather.new.folder) (Err c.in_err-entries.field-0.0) (λ t. t) (λ t. c.in_err-entries.ensures.calm.files t.0)
-    (on_part_evident {X = Unit {0}} told g.row.D files (parts_among c.args.ids.now c.args.segments.now) (Err c.in_err-entries.field-0.0)
-    (λ t. All-filter (λ (q : Part). is_among c.args.ids.now q.head.id) (HasFileHead g.row.D files) c.args.segments.now t.2) (λ t. c.in_err-entries.ensures.damage t.0 t.1) c.in_err-entries.ensures.shown))
+    (on_evident_at {X = Unit {0}} (λ f. IsCrowdedIn g.row.D f parts) told told files (g.F.Pages.files c.gather.new.folder) (Err c.in_err-entries.field-0.0) (λ t. t) (λ t. c.in_err-entries.ensures.calm.files t.0)
+    (on_part_evident {X = Unit {0}} (IsCrowdedIn g.row.D files parts) told g.row.D files (parts_among c.args.ids.now parts) (Err c.in_err-entries.field-0.0)
+    (λ t. All-filter (λ (q : Part). is_among c.args.ids.now q.head.id) (HasFileHead g.row.D files) parts t.2) (λ t. c.in_err-entries.ensures.damage t.0 t.1) c.in_err-entries.ensures.shown))
 
 pub returns-in_err-build_of-clause-evident : goal.returns-in_err-build_of-clause-evident
 returns-in_err-build_of-clause-evident g c =
     let p = err_from_is_err_and c.from_residual-in_err-build_of.result c.from_residual-in_err-build_of.ensures.1 in
     let files = g.F.Pages.files c.args.folder.now in
-    let told = IsTrue g.F.Pages.told × Agrees files c.args.cache.now × All (HasFileHead g.row.D files) c.args.segments.now in
+    let after = g.F.Pages.files c.gather.new.folder in
+    let parts = c.args.segments.now in
+    let some = parts_among c.args.ids.now parts in
+    let told = IsTrue g.F.Pages.told × Agrees files c.args.cache.now × All (HasFileHead g.row.D files) parts × AreAlone parts in
     rw (p.1, p.2)
-    (on_damage {T = Unit {0}} (IsDoubt c.args.plan.now.given (items_of c.as_mut_slice.result.now)) (IsEvident told (g.F.Pages.files c.gather.new.folder)) (Err c.in_err-build_of.field-0.0)
-    (λ d h. doubt_evident told g.row.D (g.F.Pages.files c.gather.new.folder) c.args.plan.now.given (items_of c.as_mut_slice.result.now) d
-    (λ t. subst (λ (f : Files). ∥ AreOfFiles g.row.D f (items_of c.as_mut_slice.result.now) ∥₁) (sym (c.gather.ensures.calm.files t.0))
-    (subst (λ (es : List (Entry g.row.D)). ∥ AreOfFiles g.row.D files (items_of es) ∥₁) (sym c.as_mut_slice.ensures.value)
-    (gathered_of_files g.row.D files c.args.ids.now c.args.segments.now (items_of c.in_ok-entries.entries.items) c.ascend.ensures t.2 (c.in_ok-entries.ensures.held t.0 t.1))))
+    (on_damage {T = Unit {0}} (IsDoubt c.args.plan.now.given (items_of c.as_mut_slice.result.now)) (IsEvidentIn g.row.D parts told after) (Err c.in_err-build_of.field-0.0)
+    (λ d h. doubt_evident told g.row.D after c.args.plan.now.given c.args.ids.now parts (items_of c.as_mut_slice.result.now) d (λ t. t.3)
+    (λ t. subst (λ (f : Files). ∥ AreHeld g.row.D f some (items_of c.as_mut_slice.result.now) ∥₁) (sym (c.gather.ensures.calm.files t.0))
+    (subst (λ (es : List (Entry g.row.D)). ∥ AreHeld g.row.D files some (items_of es) ∥₁) (sym c.as_mut_slice.ensures.value)
+    (gathered_of_files g.row.D files c.args.ids.now parts (items_of c.in_ok-entries.entries.items) t.2 (c.in_ok-entries.ensures.held t.0 t.1))))
     h) c.in_err-build_of.ensures.shown)

@@ -5,10 +5,12 @@ use Rattle.segment_build.specs.NewSegments.{NewSegmentData}
 use Rattle.segment_set.specs.Merges.{Replaces, living}
 use Rattle.segment_set.specs.Damages.{IsDoubt, IsMergeDamage, IsMergeDamageOf}
 use Rattle.segment_view.specs.Parts.{live_in_parts}
+use Rattle.segment_set.specs.Evidence.{IsCrowdedIn}
 use Rattle.segment_set.specs.Faithful.{HasFileHead}
+use Rattle.segment_set.specs.Sets.{AreAlone}
 use Rattle.segment_set.proofs.Doubted.{whole_shows}
 use Rattle.segment_set.proofs.Ended.{living_whole}
-use Rattle.segment_set.proofs.Evident.{none_evident}
+use Rattle.segment_set.proofs.Evident.{none_with}
 use Rattle.segment_set.proofs.merging.merge.Goals as goal
 
 pub returns-in_err-built-clause-whole : goal.returns-in_err-built-clause-whole
@@ -59,4 +61,4 @@ returns-in_err-built-clause-evident g c =
 pub returns-clause-evident : goal.returns-clause-evident
 returns-clause-evident g c =
     let files = g.F.Pages.files c.args.folder.now in
-    none_evident (IsTrue g.F.Pages.told × Agrees files c.args.cache.now × All (HasFileHead g.row.D files) c.args.segments.now) (g.F.Pages.files c.replace.new.folder) c.replace.result c.replace.ensures.whole
+    none_with (IsCrowdedIn g.row.D (g.F.Pages.files c.replace.new.folder) c.args.segments.now) (IsTrue g.F.Pages.told × Agrees files c.args.cache.now × All (HasFileHead g.row.D files) c.args.segments.now × AreAlone c.args.segments.now) (g.F.Pages.files c.replace.new.folder) c.replace.result c.replace.ensures.whole

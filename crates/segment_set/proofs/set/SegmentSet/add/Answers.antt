@@ -7,7 +7,7 @@ use Rattle.segment_set.specs.Sets.{SetData}
 use Rattle.segment_set.specs.Seen.{Sees}
 use Rattle.segment_set.specs.Kept.{AreCanonical, Follows, KeepsNamed, StaysAlone}
 use Rattle.segment_set.specs.Damages.{IsDoubt, IsMergeDamage, IsMergeDamageOf}
-use Rattle.segment_set.specs.Evidence.{IsEvident}
+use Rattle.segment_set.specs.Evidence.{IsEvidentIn}
 use Rattle.segment_set.specs.Faithful.{IsFaithful}
 use Rattle.segment_set.proofs.Carried.{canon_named, follows_none, keeps_none, stays_none}
 use Rattle.segment_set.proofs.Changed.{full_given, index_with, not_full, parts_with, sees_with}
@@ -336,13 +336,13 @@ returns-in_err-make_room-clause-faithful g c = c.in_err-make_room.ensures.faithf
 
 pub returns-in_err-make_room-clause-evident : goal.returns-in_err-make_room-clause-evident
 returns-in_err-make_room-clause-evident g c =
-    add_damage (IsEvident (IsTrusted g.F.Pages.told g.row.D (g.F.Pages.files c.args.folder.now) c.args.self.now) (g.F.Pages.files c.make_room.new.folder)) c.in_err-make_room.field-0.0 c.from_residual.result c.from_residual.ensures.1 c.in_err-make_room.ensures.evident
+    add_damage (IsEvidentIn g.row.D c.args.self.now.parts (IsTrusted g.F.Pages.told g.row.D (g.F.Pages.files c.args.folder.now) c.args.self.now) (g.F.Pages.files c.make_room.new.folder)) c.in_err-make_room.field-0.0 c.from_residual.result c.from_residual.ensures.1 c.in_err-make_room.ensures.evident
 
 pub returns-in_err-put-clause-faithful : goal.returns-in_err-put-clause-faithful
 returns-in_err-put-clause-faithful g c = λ told faithful. subst (IsFaithful g.row.D (g.F.Pages.files c.make_room.new.folder)) (sym c.in_err-put.ensures.refused) (c.in_ok-make_room.ensures.faithful told faithful)
 
 pub returns-in_err-put-clause-evident : goal.returns-in_err-put-clause-evident
-returns-in_err-put-clause-evident g c = add_memory_damage (IsEvident (IsTrusted g.F.Pages.told g.row.D (g.F.Pages.files c.args.folder.now) c.args.self.now) (g.F.Pages.files c.make_room.new.folder)) c.from_residual-in_err-put.result c.from_residual-in_err-put.ensures.1
+returns-in_err-put-clause-evident g c = add_memory_damage (IsEvidentIn g.row.D c.args.self.now.parts (IsTrusted g.F.Pages.told g.row.D (g.F.Pages.files c.args.folder.now) c.args.self.now) (g.F.Pages.files c.make_room.new.folder)) c.from_residual-in_err-put.result c.from_residual-in_err-put.ensures.1
 
 pub returns-clause-faithful : goal.returns-clause-faithful
 returns-clause-faithful g c = λ told faithful.

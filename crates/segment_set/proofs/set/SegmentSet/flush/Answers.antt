@@ -5,11 +5,11 @@ use Rattle.page_cache.proofs.Damages.{on_damage_weaker}
 use Rattle.segment_view.specs.Parts.{live_in_parts}
 use Rattle.segment_set.specs.Merged.{Rearranges}
 use Rattle.segment_set.specs.Damages.{IsDoubt, IsMergeDamage, IsMergeDamageOf}
-use Rattle.segment_set.specs.Evidence.{IsEvident}
+use Rattle.segment_set.specs.Evidence.{IsCrowdedIn, IsEvidentIn}
 use Rattle.segment_set.proofs.Rearranged.{rearranges_then}
 use Rattle.segment_set.proofs.Refused.{never_ok, same_cause, same_damage}
 use Rattle.segment_set.proofs.Trusted.{IsTrusted}
-use Rattle.segment_set.proofs.Evident.{none_evident}
+use Rattle.segment_set.proofs.Evident.{none_with}
 use Rattle.segment_set.proofs.set.SegmentSet.flush.Given as given
 use Rattle.segment_set.proofs.set.SegmentSet.flush.Goals as goal
 
@@ -126,10 +126,11 @@ returns-in_err-merge_settle-clause-faithful g c = c.in_err-merge_settle.ensures.
 
 pub returns-in_err-merge_settle-clause-evident : goal.returns-in_err-merge_settle-clause-evident
 returns-in_err-merge_settle-clause-evident g c =
-    same_damage (IsEvident (IsTrusted g.F.Pages.told g.row.D (g.F.Pages.files c.args.folder.now) c.args.self.now) (g.F.Pages.files c.merge_settle.new.folder)) c.in_err-merge_settle.field-0.0 c.from_residual.result c.from_residual.ensures.1 c.in_err-merge_settle.ensures.evident
+    same_damage (IsEvidentIn g.row.D c.args.self.now.parts (IsTrusted g.F.Pages.told g.row.D (g.F.Pages.files c.args.folder.now) c.args.self.now) (g.F.Pages.files c.merge_settle.new.folder)) c.in_err-merge_settle.field-0.0 c.from_residual.result c.from_residual.ensures.1 c.in_err-merge_settle.ensures.evident
 
 pub returns-clause-faithful : goal.returns-clause-faithful
 returns-clause-faithful g c = λ told faithful. c.spill.ensures.faithful told (c.in_ok-merge_settle.ensures.faithful told faithful)
 
 pub returns-clause-evident : goal.returns-clause-evident
-returns-clause-evident g c = none_evident (IsTrusted g.F.Pages.told g.row.D (g.F.Pages.files c.args.folder.now) c.args.self.now) (g.F.Pages.files c.spill.new.folder) c.spill.result c.spill.ensures.whole
+returns-clause-evident g c =
+    none_with (IsCrowdedIn g.row.D (g.F.Pages.files c.spill.new.folder) c.args.self.now.parts) (IsTrusted g.F.Pages.told g.row.D (g.F.Pages.files c.args.folder.now) c.args.self.now) (g.F.Pages.files c.spill.new.folder) c.spill.result c.spill.ensures.whole

@@ -1,4 +1,4 @@
-use Rattle.std.proofs.Common.{◌≡◌, ◌≤◌, length, lit<, All, IsTrue, sym, ap, subst, ◌∙◌}
+use Rattle.std.proofs.Common.{◌≡◌, ◌≤◌, length, lit<, IsTrue, sym, ap, subst, ◌∙◌}
 use Rattle.std.specs.Result.{OnOk}
 use Rattle.std.proofs.lemmas.Result.{on_ok_weaker}
 use Rattle.point_codec.specs.Seen.{items_of}
@@ -11,8 +11,7 @@ use Rattle.segment_set.specs.Seen.{Sees}
 use Rattle.segment_set.specs.Damages.{IsDoubt, IsMergeDamage, IsMergeDamageOf}
 use Rattle.segment_set.specs.Merged.{IsApart, KeepsEntries, Rearranges}
 use Rattle.segment_set.specs.Merges.{IsMerged}
-use Rattle.segment_set.specs.Faithful.{HasFileHead, IsFaithful}
-use Rattle.segment_set.proofs.Evident.{on_evident_less}
+use Rattle.segment_set.specs.Faithful.{IsFaithful}
 use Rattle.segment_set.proofs.Faithful.{faithful_rearranged}
 use Rattle.segment_set.proofs.Moved.{moved}
 use Rattle.segment_set.proofs.Rearranged.{entries_merged, rearranges_after}
@@ -20,6 +19,7 @@ use Rattle.segment_set.proofs.Sizes.{set_fits}
 use Rattle.segment_set.proofs.Sources.{merge_docs, merge_few}
 use Rattle.segment_set.proofs.Standing.{ids_named}
 use Rattle.segment_set.proofs.Steps.{IsAfter, merge_after}
+use Rattle.segment_set.proofs.Trusted.{on_evident_set}
 use Rattle.segment_set.proofs.Weller.{length_replaced}
 use Rattle.segment_set.proofs.set.SegmentSet.merge.Given as given
 use Rattle.segment_set.proofs.set.SegmentSet.merge.Goals as goal
@@ -149,7 +149,4 @@ returns-clause-doubled g c = λ told agrees contents reads.
 
 pub returns-clause-evident : goal.returns-clause-evident
 returns-clause-evident g c =
-    let files = g.F.Pages.files c.args.folder.now in
-    on_evident_less (IsTrue g.F.Pages.told × Agrees files c.self.inside.cache × All (HasFileHead g.row.D files) c.self.inside.segments) (IsTrue g.F.Pages.told × IsFaithful g.row.D files c.args.self.now)
-    (g.F.Pages.files c.merge.new.folder) c.merge.result
-    (λ t. let faithful = subst (IsFaithful g.row.D files) (sym c.self.view_is) t.1 in (t.0, faithful.pages, faithful.heads)) c.merge.ensures.evident
+    on_evident_set g.row.D g.F.Pages.told (g.F.Pages.files c.args.folder.now) (g.F.Pages.files c.merge.new.folder) (was g c) c.args.self.now c.merge.result c.self.view_is c.self.invariant.spread c.merge.ensures.evident

@@ -6,7 +6,7 @@ use Rattle.segment_set.proofs.Wholes.{merged_one, settled_one}
 use Rattle.segment_set.proofs.Refused.{memory_caused, memory_damage, never_ok}
 use Rattle.segment_set.proofs.Saving.{done_cause}
 use Rattle.segment_set.specs.Damages.{IsDoubt, IsMergeDamage, IsMergeDamageOf}
-use Rattle.segment_set.specs.Evidence.{IsEvident}
+use Rattle.segment_set.specs.Evidence.{IsEvidentIn}
 use Rattle.segment_view.specs.Parts.{live_in_parts}
 use Rattle.segment_set.proofs.Trusted.{IsTrusted}
 use Rattle.segment_set.proofs.set.SegmentSet.merge_all.Goals as goal
@@ -163,7 +163,7 @@ pub returns-in_err-ids-clause-faithful : goal.returns-in_err-ids-clause-faithful
 returns-in_err-ids-clause-faithful g c = λ told faithful. faithful
 
 pub returns-in_err-ids-clause-evident : goal.returns-in_err-ids-clause-evident
-returns-in_err-ids-clause-evident g c = memory_damage (IsEvident (IsTrusted g.F.Pages.told g.row.D (g.F.Pages.files c.args.folder.now) c.args.self.now) (g.F.Pages.files c.args.folder.now)) c.from_residual.result c.from_residual.ensures.1
+returns-in_err-ids-clause-evident g c = memory_damage (IsEvidentIn g.row.D c.args.self.now.parts (IsTrusted g.F.Pages.told g.row.D (g.F.Pages.files c.args.folder.now) c.args.self.now) (g.F.Pages.files c.args.folder.now)) c.from_residual.result c.from_residual.ensures.1
 
 pub returns-then-is_settled-clause-faithful : goal.returns-then-is_settled-clause-faithful
 returns-then-is_settled-clause-faithful g c = λ told faithful. faithful

@@ -13,7 +13,7 @@ use Rattle.segment_set.specs.Seen.{Sees}
 use Rattle.segment_set.specs.Damages.{IsDoubt, IsMergeDamage, IsMergeDamageOf}
 use Rattle.segment_set.specs.Merged.{chosen_ids, each_once}
 use Rattle.segment_set.specs.Merges.{IsGathered, MakesLive}
-use Rattle.segment_set.specs.Evidence.{IsEvident}
+use Rattle.segment_set.specs.Evidence.{IsEvidentIn}
 use Rattle.segment_set.proofs.Faulted.{begun_cause, begun_damage, begun_memory}
 use Rattle.segment_set.proofs.Moved.{moved}
 use Rattle.segment_set.proofs.Sizes.{set_fits}
@@ -155,8 +155,8 @@ pub returns-in_err-built-clause-evident : goal.returns-in_err-built-clause-evide
 returns-in_err-built-clause-evident g c =
     let p = err_from_is_err_and c.from_residual-in_err-built.result c.from_residual-in_err-built.ensures.1 in
     rw (p.1, p.2)
-    (begun_damage (Unit {0}) (Unit {0}) (IsEvident (IsTrusted g.F.Pages.told g.row.D (g.F.Pages.files c.args.folder.now) c.args.self.now) (g.F.Pages.files c.gathered.new.folder)) c.in_err-built.field-0.0
-    (on_evident_set {X = Unit {0}} g.row.D g.F.Pages.told (g.F.Pages.files c.args.folder.now) (g.F.Pages.files c.gathered.new.folder) (set_of c.self.inside) c.args.self.now (Err c.in_err-built.field-0.0) c.self.view_is c.in_err-built.ensures.evident))
+    (begun_damage (Unit {0}) (Unit {0}) (IsEvidentIn g.row.D c.args.self.now.parts (IsTrusted g.F.Pages.told g.row.D (g.F.Pages.files c.args.folder.now) c.args.self.now) (g.F.Pages.files c.gathered.new.folder)) c.in_err-built.field-0.0
+    (on_evident_set {X = Unit {0}} g.row.D g.F.Pages.told (g.F.Pages.files c.args.folder.now) (g.F.Pages.files c.gathered.new.folder) (set_of c.self.inside) c.args.self.now (Err c.in_err-built.field-0.0) c.self.view_is c.self.invariant.spread c.in_err-built.ensures.evident))
 
 pub returns-clause-faithful : goal.returns-clause-faithful
 returns-clause-faithful g c =

@@ -3,7 +3,7 @@ use Rattle.std.proofs.lemmas.Result.{err_from_is_err_and}
 use Rattle.page_cache.proofs.Damages.{on_damage_weaker}
 use Rattle.segment_view.specs.Parts.{live_in_parts, parts_among}
 use Rattle.segment_set.specs.Damages.{IsDoubt, IsMergeDamage, IsMergeDamageOf}
-use Rattle.segment_set.specs.Evidence.{IsEvident}
+use Rattle.segment_set.specs.Evidence.{IsEvidentIn}
 use Rattle.segment_set.proofs.Chosen.{unsettled}
 use Rattle.segment_set.proofs.Rearranged.{damage_before, doubt_same, entries_none, entries_then, rearranges_none, rearranges_then}
 use Rattle.segment_set.proofs.Refused.{memory_caused, memory_damage, never_ok, same_cause, same_damage}
@@ -223,15 +223,16 @@ pub returns-in_err-ids-clause-faithful : goal.returns-in_err-ids-clause-faithful
 returns-in_err-ids-clause-faithful g c = c.loop-ids.invariant.faithful
 
 pub returns-in_err-ids-clause-evident : goal.returns-in_err-ids-clause-evident
-returns-in_err-ids-clause-evident g c = memory_damage (IsEvident (IsTrusted g.F.Pages.told g.row.D (g.F.Pages.files c.args.folder.now) c.args.self.now) (g.F.Pages.files c.loop-ids.folder)) c.from_residual.result c.from_residual.ensures.1
+returns-in_err-ids-clause-evident g c = memory_damage (IsEvidentIn g.row.D c.args.self.now.parts (IsTrusted g.F.Pages.told g.row.D (g.F.Pages.files c.args.folder.now) c.args.self.now) (g.F.Pages.files c.loop-ids.folder)) c.from_residual.result c.from_residual.ensures.1
 
 pub returns-in_err-merge-clause-faithful : goal.returns-in_err-merge-clause-faithful
 returns-in_err-merge-clause-faithful g c = λ told faithful. c.merge.ensures.faithful told (c.loop-ids.invariant.faithful told faithful)
 
 pub returns-in_err-merge-clause-evident : goal.returns-in_err-merge-clause-evident
 returns-in_err-merge-clause-evident g c =
-    same_damage (IsEvident (IsTrusted g.F.Pages.told g.row.D (g.F.Pages.files c.args.folder.now) c.args.self.now) (g.F.Pages.files c.merge.new.folder)) c.in_err-merge.field-0.0 c.from_residual-in_err-merge.result c.from_residual-in_err-merge.ensures.1
-    (on_evident_before {X = Unit {0}} g.row.D g.F.Pages.told (g.F.Pages.files c.args.folder.now) (g.F.Pages.files c.loop-ids.folder) (g.F.Pages.files c.merge.new.folder) c.args.self.now c.loop-ids.self (Err c.in_err-merge.field-0.0) c.loop-ids.invariant.faithful c.in_err-merge.ensures.evident)
+    same_damage (IsEvidentIn g.row.D c.args.self.now.parts (IsTrusted g.F.Pages.told g.row.D (g.F.Pages.files c.args.folder.now) c.args.self.now) (g.F.Pages.files c.merge.new.folder)) c.in_err-merge.field-0.0 c.from_residual-in_err-merge.result c.from_residual-in_err-merge.ensures.1
+    (on_evident_before {X = Unit {0}} g.row.D g.F.Pages.told (g.F.Pages.files c.args.folder.now) (g.F.Pages.files c.loop-ids.folder) (g.F.Pages.files c.merge.new.folder) c.args.self.now c.loop-ids.self c.merge.new.self (Err c.in_err-merge.field-0.0)
+    c.next_merge.ensures.well.named (c.loop-ids.invariant.moves c.next_merge.ensures.well) c.merge.ensures.moves.kept c.loop-ids.invariant.faithful c.in_err-merge.ensures.evident)
 
 pub returns-clause-faithful : goal.returns-clause-faithful
 returns-clause-faithful g c = c.loop-ids.invariant.faithful

@@ -20,7 +20,7 @@ use Rattle.segment_set.specs.Kept.{Follows, IsCommitOf}
 use Rattle.segment_set.specs.Damages.{IsDoubt, IsMergeDamage, IsMergeDamageOf}
 use Rattle.segment_set.specs.Saved.{IsSaved}
 use Rattle.segment_set.specs.Faithful.{IsFaithful}
-use Rattle.segment_set.specs.Evidence.{IsEvident}
+use Rattle.segment_set.specs.Evidence.{IsEvidentIn}
 use Rattle.segment_set.proofs.Carried.{keeps_then, stays_then}
 use Rattle.segment_set.proofs.Saving.{all_fresh, all_written, canon_saved, cause_after, if_ok_both, if_ok_map, no_damage, ok_always, saved_is_stored, sees_saved, stays_saved, well_saved}
 use Rattle.segment_set.proofs.Refused.{never_ok, never_value, same_cause, same_damage}
@@ -165,7 +165,7 @@ returns-in_err-flush-clause-faithful g c = λ told keeps. c.in_err-flush.ensures
 
 pub returns-in_err-flush-clause-evident : goal.returns-in_err-flush-clause-evident
 returns-in_err-flush-clause-evident g c =
-    same_damage (IsEvident (IsTrue g.F.Pages.told × IsFaithful g.row.D (g.F.Pages.files c.args.folder.now) c.args.self.now) (g.F.Pages.files c.flush.new.folder))
+    same_damage (IsEvidentIn g.row.D c.args.self.now.parts (IsTrue g.F.Pages.told × IsFaithful g.row.D (g.F.Pages.files c.args.folder.now) c.args.self.now) (g.F.Pages.files c.flush.new.folder))
     c.in_err-flush.field-0.0 c.from_residual.result c.from_residual.ensures.1 c.in_err-flush.ensures.evident
 
 pub returns-in_err-flush-clause-saved : goal.returns-in_err-flush-clause-saved
@@ -194,4 +194,4 @@ returns-clause-faithful g c = λ told keeps. c.list_segments.ensures.faithful to
 
 pub returns-clause-evident : goal.returns-clause-evident
 returns-clause-evident g c =
-    no_damage c.list_segments.result (IsEvident (IsTrue g.F.Pages.told × IsFaithful g.row.D (g.F.Pages.files c.args.folder.now) c.args.self.now) (g.F.Pages.files c.list_segments.new.folder)) c.list_segments.ensures.whole
+    no_damage c.list_segments.result (IsEvidentIn g.row.D c.args.self.now.parts (IsTrue g.F.Pages.told × IsFaithful g.row.D (g.F.Pages.files c.args.folder.now) c.args.self.now) (g.F.Pages.files c.list_segments.new.folder)) c.list_segments.ensures.whole

@@ -83,7 +83,7 @@ spill-requires-after_bounds g c = λ lifetimes outlive.
       cache = c.self.inside.cache;
       saved = c.self.inside.saved;
     }) c.self.invariant entries refl in
-    (lit< tt, (entry_fits g.row.D dims, (lit< tt, (dims, (c.self.invariant.named, (some, (omega (arith, c.self.invariant.room, items_length entries), (below, c.self.invariant.once))))))))
+    (lit< tt, (entry_fits g.row.D dims, (lit< tt, (dims, (c.self.invariant.named, (some, (omega (arith, c.self.invariant.room, items_length entries), (below, (c.self.invariant.once, c.self.invariant.sixteen)))))))))
 
 pub returns-then-is_empty-clause-well : goal.returns-then-is_empty-clause-well
 returns-then-is_empty-clause-well g c = subst (IsWell g.row.D) c.self.view_is c.self.invariant
