@@ -30,18 +30,19 @@ use Rattle.segment_view.specs.Parts.{Part}
 use Rattle.segment_set.specs.Sets.{IsNamed, SetData}
 use Rattle.segment_set.specs.Seen.{Sees}
 use Rattle.segment_set.specs.Kept.{AreCanonical, Follows, KeepsNamed, StaysButCache}
-use Rattle.segment_set.specs.Evidence.{IsEvident}
+use Rattle.segment_set.specs.Evidence.{IsEvident, IsEvidentIn}
 use Rattle.segment_set.specs.Faithful.{IsFaithful}
 use Rattle.segment_set.proofs.Carried.{follows_same, keeps_calm}
 use Rattle.segment_set.proofs.Evident.{on_evident_less}
 use Rattle.segment_set.specs.Faults.{HasCauseOf, OnAddDamage}
 use Rattle.segment_set.specs.declared.faults.AddFault.{AddFault}
 use Rattle.segment_set.specs.declared.faults.AddFault.TheVariants as add
-use Rattle.index_core.specs.Sessions.{Guards, SessionData}
+use Rattle.index_core.specs.Sessions.{Guards, SessionData, Trusts}
 use Rattle.index_core.specs.Whole.{Adds, Spot, added, with_point, with_points}
 use Rattle.index_core.proofs.Answering.{cause_then, fault_to, memory_cause, no_cause}
 use Rattle.index_core.proofs.Bringing.{brings_same, brings_then, brings_written}
 use Rattle.index_core.proofs.Guarding.{guards_after, kept_after_calls}
+use Rattle.index_core.proofs.Tracing.{traced_by, traced_shows}
 
 -- nothing was added
 pub adds_none : {T : Type 0} (D : ℕ) (told : Type 0) (at : Spot) (x : T) → Adds D told [] at at (Ok x)
@@ -54,6 +55,7 @@ adds_none D told at x = record {
   cause = no_cause at.faults x;
   whole = λ t i seen. tt;
   faithful = λ t faithful. faithful;
+  traced = λ t trusts. trusts.traced;
   evident = tt;
 }
 
@@ -68,6 +70,7 @@ adds_no_memory D told points at = record {
   cause = memory_cause at.faults at.faults (omega arith);
   whole = λ t i seen. tt;
   faithful = λ t faithful. faithful;
+  traced = λ t trusts. trusts.traced;
   evident = tt;
 }
 
@@ -87,8 +90,12 @@ adds_then D told xs ys a b c x r first second = record {
   cause = cause_then a.faults b.faults c.faults r first.cause.fine second.cause;
   whole = λ t i seen. second.whole t (with_points i xs) (first.seen t i seen);
   faithful = λ t faithful. second.faithful t (first.faithful t faithful);
-  evident = on_evident_less (told × IsFaithful D b.files b.session.set) (told × IsFaithful D a.files a.session.set) c.files r (λ (t, faithful). (t, first.faithful t faithful)) second.evident;
+  traced = λ t trusts. second.traced t (trusts_then t trusts);
+  evident = on_evident_less (told × Trusts D b.files b.session) (told × Trusts D a.files a.session) c.files r (λ (t, trusts). (t, trusts_then t trusts)) second.evident;
 }
+  where
+    trusts_then : told → Trusts D a.files a.session → Trusts D b.files b.session
+    trusts_then t trusts = record { guards = first.guards t trusts.guards; faithful = first.faithful t trusts.faithful; traced = first.traced t trusts }
 
 -- after a fault it says the same of all that were to come
 pub adds_stopped : {T U : Type 0} (D : ℕ) (told : Type 0) (xs ys : List (List ℤ)) (a b : Spot) (fault : PageFault) (r : Result U PageFault) → r ≡ Err fault
@@ -102,6 +109,7 @@ adds_stopped {T = T} {U = U} D told xs ys a b fault r is adds = subst (Adds D to
   cause = fault_to a.faults b.faults fault adds.cause;
   whole = λ t i seen. to_other fault (adds.whole t i seen);
   faithful = adds.faithful;
+  traced = adds.traced;
   evident = adds.evident;
 })
   where
@@ -119,13 +127,14 @@ pub record IsPut (D : ℕ) (told : Type 0) (point : List ℤ) (old new : Spot) (
   pub leaf : new.session.set.leaf ≡ old.session.set.leaf
   pub keeps : KeepsNamed told old.session.set.names new.session.set.names old.files new.files
   pub follows : Follows old.session.set.names old.session.set.parts new.session.set.parts
+  pub named : All (IsNamed old.session.set.names) old.session.set.parts
   pub second : told → AreCanonical D new.files old.session.set.names new.session.set.parts
   pub seen : told → (i : Index) → Sees D old.files old.session.set i → OnOk r (Sees D new.files new.session.set (with_point i point))
   pub given : OnOk r (new.session.set.given ≡ old.session.set.given + 1)
   pub cause : HasCauseOf add.Failed old.faults new.faults r
   pub whole : told → (i : Index) → Sees D old.files old.session.set i → OnAddDamage r (λ _. ⊥)
   pub faithful : told → IsFaithful D old.files old.session.set → IsFaithful D new.files new.session.set
-  pub evident : OnAddDamage r (IsEvident (told × IsFaithful D old.files old.session.set) new.files)
+  pub evident : OnAddDamage r (IsEvidentIn D old.session.set.parts (told × IsFaithful D old.files old.session.set) new.files)
 
 put_cause : (before now : ℕ) (r : Result ℕ AddFault) → HasCauseOf add.Failed before now r → HasPageCause before now (added r)
 put_cause before now (Ok n) cause = record { later = cause.later; fine = cause.fine; failed = λ e. absurd cc }
@@ -158,7 +167,9 @@ adds_one D told point old new r put = record {
   cause = put_cause old.faults new.faults r put.cause;
   whole = λ t i seen. put_shows (λ _. ⊥) r (put.whole t i seen);
   faithful = put.faithful;
-  evident = put_shows (IsEvident (told × IsFaithful D old.files old.session.set) new.files) r put.evident;
+  traced = λ t trusts. traced_by D told old.files new.files old.session new.session.set t put.keeps put.follows (put.second t) trusts;
+  evident = traced_shows D told old.files new.files old.session new.session.set.names (added r) put.keeps put.named
+      (put_shows (IsEvidentIn D old.session.set.parts (told × IsFaithful D old.files old.session.set) new.files) r put.evident);
 }
 
 -- the points of a document of one point

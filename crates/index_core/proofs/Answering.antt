@@ -1,5 +1,5 @@
 -- What becomes of a command, by what the call on the set answered.
-use Rattle.std.proofs.Common.{◌≡◌, ◌≤◌, ℕ, Bool, false, List, [], ◌++◌, take, length, Option, Some, Result, Ok, Err, OnOk, OnErr, IsErrOf, refl, sym, ap, subst, ◌∙◌, arith}
+use Rattle.std.proofs.Common.{◌≡◌, ◌≤◌, ℕ, All, Bool, false, List, [], ◌++◌, take, length, Option, Some, Result, Ok, Err, OnOk, OnErr, IsErrOf, refl, sym, ap, subst, ◌∙◌, arith}
 use Rattle.std.proofs.lemmas.List.{append-nil}
 use Rattle.std.proofs.Math.Seq.{take-append_seam}
 use Rattle.outer_io.specs.Files.{Files}
@@ -25,10 +25,10 @@ use Rattle.segment_set.specs.declared.faults.EndFault.TheVariants as end
 use Rattle.segment_set.specs.declared.faults.SnapFault.{SnapFault}
 use Rattle.segment_set.specs.declared.faults.SnapFault.TheVariants as snap
 use Rattle.segment_set.specs.Faults.{HasCauseOf, OnAddDamage, OnBeginDamage, OnEndDamage}
-use Rattle.segment_set.specs.Sets.{NamedView, SetData}
+use Rattle.segment_set.specs.Sets.{IsNamed, NamedView, SetData}
 use Rattle.segment_set.specs.Seen.{Sees}
 use Rattle.segment_set.specs.Kept.{Follows, KeepsNamed, StaysButCache}
-use Rattle.segment_set.specs.Evidence.{IsEvident}
+use Rattle.segment_set.specs.Evidence.{IsEvident, IsEvidentIn}
 use Rattle.segment_set.specs.Faithful.{IsFaithful}
 use Rattle.segment_set.proofs.Carried.{follows_same, keeps_calm}
 use Rattle.segment_set.proofs.Evident.{none_evident, on_evident_less}
@@ -38,6 +38,7 @@ use Rattle.index_core.specs.Steps.{Applies, DoesOver, Place}
 use Rattle.index_core.specs.Replies.{add_answer, begin_answer, end_answer, snap_answer, text_after}
 use Rattle.index_core.proofs.Bringing.{brings_same}
 use Rattle.index_core.proofs.Guarding.{guards_after, kept_after_calls}
+use Rattle.index_core.proofs.Tracing.{calm_shows, traced_after, traced_shows}
 
 -- ---- texts
 
@@ -146,11 +147,11 @@ pub record IsCalm (D : ℕ) (told : Type 0) (old new : Place) : Type 0 where
   pub brings : told → BringsCanonical D old.files new.files old.session.set.parts new.session.set.parts
   pub faithful : told → IsFaithful D old.files old.session.set → IsFaithful D new.files new.session.set
 
-pub applies : (D : ℕ) (told : Type 0) (outcome : Index → Outcome) (old new : Place) (r : Result Applied PageFault) → IsCalm D told old new
+applies_with : (D : ℕ) (told : Type 0) (outcome : Index → Outcome) (old new : Place) (r : Result Applied PageFault) → IsCalm D told old new
     → (told → (i : Index) → Sees D old.files old.session.set i → DoesOver D new.files (outcome i) i new.session.set old.text new.text r)
     → Begins old.text new.text → HasPageCause old.faults new.faults r → (told → (i : Index) → Sees D old.files old.session.set i → NotDamaged r)
-    → OnDamage r (IsEvident (told × IsFaithful D old.files old.session.set) new.files) → Applies D told outcome false old new r
-applies D told outcome old new r calm does begins cause whole evident = record {
+    → OnDamage r (IsEvident (told × Trusts D old.files old.session) new.files) → Applies D told outcome false old new r
+applies_with D told outcome old new r calm does begins cause whole evident = record {
   does = λ is_told i seen guards. does is_told i seen;
   begins = begins;
   guards = λ is_told. guards_after D told old.files new.files old.session new.session is_told calm.commit calm.refused calm.keeps calm.follows calm.leaf;
@@ -159,7 +160,8 @@ applies D told outcome old new r calm does begins cause whole evident = record {
   cause = cause;
   whole = λ is_told i seen guards. whole is_told i seen;
   faithful = calm.faithful;
-  evident = on_evident_less (told × IsFaithful D old.files old.session.set) (told × Trusts D old.files old.session) new.files r (λ (is_told, trusts). (is_told, trusts.faithful)) evident;
+  traced = λ is_told trusts. traced_after D told old.files new.files old.session.set new.session.set is_told calm.keeps calm.follows (calm.brings is_told) trusts.guards.set trusts.traced;
+  evident = evident;
   idle = λ is_told e unchanged. absurd cc;
   unchanged = λ e. absurd cc;
   anew = λ e changed. absurd cc;
@@ -167,11 +169,28 @@ applies D told outcome old new r calm does begins cause whole evident = record {
   canon = λ is_told i seen guards. calm.brings is_told;
 }
 
--- a damage that is evident where what the set keeps is the files' is so where the session guards them, too
-pub trusts_shows : (D : ℕ) (told : Type 0) (old new : Files) (s : SessionData) (fault : PageFault) → FaultShows (IsEvident (told × IsFaithful D old s.set) new) fault
-    → FaultShows (IsEvident (told × Trusts D old s) new) fault
-trusts_shows D told old new s fault evident =
-    on_evident_less {X = Unit {0}} (told × IsFaithful D old s.set) (told × Trusts D old s) new (Err fault) (λ (is_told, trusts). (is_told, trusts.faithful)) evident
+pub applies : (D : ℕ) (told : Type 0) (outcome : Index → Outcome) (old new : Place) (r : Result Applied PageFault) → IsCalm D told old new
+    → (told → (i : Index) → Sees D old.files old.session.set i → DoesOver D new.files (outcome i) i new.session.set old.text new.text r)
+    → Begins old.text new.text → HasPageCause old.faults new.faults r → (told → (i : Index) → Sees D old.files old.session.set i → NotDamaged r)
+    → OnDamage r (IsEvident (told × IsFaithful D old.files old.session.set) new.files) → Applies D told outcome false old new r
+applies D told outcome old new r calm does begins cause whole evident = applies_with D told outcome old new r calm does begins cause whole
+    (on_evident_less (told × IsFaithful D old.files old.session.set) (told × Trusts D old.files old.session) new.files r (λ (is_told, trusts). (is_told, trusts.faithful)) evident)
+
+-- a call that may merge, whose set has all its segments named
+pub applies_merging : (D : ℕ) (told : Type 0) (outcome : Index → Outcome) (old new : Place) (r : Result Applied PageFault) → IsCalm D told old new → All (IsNamed old.session.set.names) old.session.set.parts
+    → (told → (i : Index) → Sees D old.files old.session.set i → DoesOver D new.files (outcome i) i new.session.set old.text new.text r)
+    → Begins old.text new.text → HasPageCause old.faults new.faults r → (told → (i : Index) → Sees D old.files old.session.set i → NotDamaged r)
+    → OnDamage r (IsEvidentIn D old.session.set.parts (told × IsFaithful D old.files old.session.set) new.files) → Applies D told outcome false old new r
+applies_merging D told outcome old new r calm named does begins cause whole evident = applies_with D told outcome old new r calm does begins cause whole
+    (traced_shows D told old.files new.files old.session new.session.set.names r calm.keeps named evident)
+
+-- and that changes no file
+pub applies_merging_calm : (D : ℕ) (told : Type 0) (outcome : Index → Outcome) (old new : Place) (r : Result Applied PageFault) → IsCalm D told old new → (told → new.files ≡ old.files)
+    → (told → (i : Index) → Sees D old.files old.session.set i → DoesOver D new.files (outcome i) i new.session.set old.text new.text r)
+    → Begins old.text new.text → HasPageCause old.faults new.faults r → (told → (i : Index) → Sees D old.files old.session.set i → NotDamaged r)
+    → OnDamage r (IsEvidentIn D old.session.set.parts (told × IsFaithful D old.files old.session.set) new.files) → Applies D told outcome false old new r
+applies_merging_calm D told outcome old new r calm same does begins cause whole evident = applies_with D told outcome old new r calm does begins cause whole
+    (calm_shows D told old.files new.files old.session r same evident)
 
 -- where nothing was changed
 pub applies_still : (D : ℕ) (told : Type 0) (outcome : Index → Outcome) (files : Files) (session : SessionData) (before after : List ℕ) (faults : ℕ) (r : Result Applied PageFault)
@@ -186,6 +205,7 @@ applies_still D told outcome files session before after faults r does begins cau
   cause = cause;
   whole = λ is_told i seen guards. whole;
   faithful = λ is_told faithful. faithful;
+  traced = λ is_told trusts. trusts.traced;
   evident = none_evident (told × Trusts D files session) files r whole;
   idle = λ is_told e unchanged. refl;
   unchanged = λ e. absurd cc;
@@ -213,6 +233,19 @@ applies_fault D told outcome old new r fault calm same seen begins cause whole e
     (fault_cause old.faults new.faults fault r same cause)
     (λ is_told i sees. subst NotDamaged (sym same) (whole is_told i sees))
     (subst (λ q. OnDamage q (IsEvident (told × IsFaithful D old.files old.session.set) new.files)) (sym same) evident)
+
+-- one that may merge did
+pub applies_merging_fault : {T : Type 0} (D : ℕ) (told : Type 0) (outcome : Index → Outcome) (old new : Place) (r : Result Applied PageFault) (fault : PageFault) → IsCalm D told old new
+    → All (IsNamed old.session.set.names) old.session.set.parts → r ≡ Err fault
+    → (told → (i : Index) → Sees D old.files old.session.set i → Sees D new.files new.session.set i) → Begins old.text new.text
+    → HasPageCause {T = T} old.faults new.faults (Err fault) → (told → (i : Index) → Sees D old.files old.session.set i → NotDamaged {T = T} (Err fault))
+    → FaultShows (IsEvidentIn D old.session.set.parts (told × IsFaithful D old.files old.session.set) new.files) fault → Applies D told outcome false old new r
+applies_merging_fault D told outcome old new r fault calm named same seen begins cause whole evident = applies_merging D told outcome old new r calm named
+    (λ is_told i sees. subst (DoesOver D new.files (outcome i) i new.session.set old.text new.text) (sym same) (does_fault D new.files (outcome i) i new.session.set old.text new.text fault (seen is_told i sees)))
+    begins
+    (fault_cause old.faults new.faults fault r same cause)
+    (λ is_told i sees. subst NotDamaged (sym same) (whole is_told i sees))
+    (subst (λ q. OnDamage q (IsEvidentIn D old.session.set.parts (told × IsFaithful D old.files old.session.set) new.files)) (sym same) evident)
 
 -- it was done, but there is no memory for the reply: the set is seen as before
 pub applies_unsaid : {T : Type 0} (D : ℕ) (told : Type 0) (outcome : Index → Outcome) (old new : Place) (r : Result Applied PageFault) (x : T) → IsCalm D told old new → r ≡ Err page.Memory
@@ -253,6 +286,7 @@ applies_told D told outcome committing old new r is = record {
   cause = is.cause;
   whole = λ is_told. is.whole tt;
   faithful = λ is_told. is.faithful tt;
+  traced = λ is_told. is.traced tt;
   evident = on_evident_less (Unit {0} × Trusts D old.files old.session) (told × Trusts D old.files old.session) new.files r (λ (is_told, trusts). (tt, trusts)) is.evident;
   idle = λ is_told. is.idle tt;
   unchanged = is.unchanged;
@@ -277,6 +311,7 @@ applies_as D told o p committing old new r same is = record {
   cause = is.cause;
   whole = is.whole;
   faithful = is.faithful;
+  traced = is.traced;
   evident = is.evident;
   idle = is.idle;
   unchanged = is.unchanged;

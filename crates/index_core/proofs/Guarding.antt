@@ -34,7 +34,7 @@ cons_rest e = cc
 
 -- ---- what the Commit file says
 
-moved_says : (old new : Files) (c : CommitData) → new Commit ≡ old Commit → IsCommitFile (bytes_of (old Commit)) c → IsCommitFile (bytes_of (new Commit)) c
+pub moved_says : (old new : Files) (c : CommitData) → new Commit ≡ old Commit → IsCommitFile (bytes_of (old Commit)) c → IsCommitFile (bytes_of (new Commit)) c
 moved_says old new c same says = subst (λ (b : Option (List ℕ)). IsCommitFile (bytes_of b) c) (sym same) says
 
 pub says_some : (files : Files) (c : CommitData) → files Commit ≡ None → IsCommitFile (bytes_of (files Commit)) c → ⊥
@@ -61,7 +61,7 @@ set_after D told f g s t is_told keeps leaf guards = ⊎_elim
     }))
     guards
 
-part_after : (f g : Files) (l : Listed) (p q : Part) → g (Live l.segment l.generation) ≡ f (Live l.segment l.generation) → p.head ≡ q.head → IsWithin p.live q.live → CoversPart f l q → CoversPart g l p
+pub part_after : (f g : Files) (l : Listed) (p q : Part) → g (Live l.segment l.generation) ≡ f (Live l.segment l.generation) → p.head ≡ q.head → IsWithin p.live q.live → CoversPart f l q → CoversPart g l p
 part_after f g l p q same head within covers = record {
   entries = covers.entries ∙ ap (λ (h : Head). h.entries) (sym head);
   live = covers.live;

@@ -2,6 +2,7 @@ pub mod Guarding
 pub mod Numbers
 pub mod Committing
 pub mod Answering
+pub mod Tracing
 pub mod Changing
 pub mod Sizes
 pub mod Leaving

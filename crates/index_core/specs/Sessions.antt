@@ -1,5 +1,5 @@
 -- What contracts see of a session, and when it guards the files of its folder.
-use Rattle.std.specs.Prelude.{◌≡◌, ◌≤◌, ◌⊎◌, ℕ, Bool, true, false, length, All, Contains, Option, None, Some}
+use Rattle.std.specs.Prelude.{◌≡◌, ◌≤◌, ◌⊎◌, ℕ, Bool, true, false, List, length, All, Contains, Option, None, Some}
 use Rattle.outer_io.specs.declared.file_name.FileName.{FileName}
 use Rattle.outer_io.specs.declared.file_name.FileName.TheVariants.{Commit, Live}
 use Rattle.outer_io.specs.Files.{Files, bytes_of}
@@ -12,7 +12,7 @@ use Rattle.stored_index.specs.Kept.{ListsFile}
 use Rattle.segment_view.specs.Parts.{Part}
 use Rattle.file_names.specs.Names.{NameList, is_named}
 use Rattle.segment_set.specs.Sets.{SetData, IsWell}
-use Rattle.segment_set.specs.Kept.{IsAsCommitted, IsWithin, StaysButCache}
+use Rattle.segment_set.specs.Kept.{HasCanonical, IsAsCommitted, IsWithin, StaysButCache}
 use Rattle.segment_set.specs.Faithful.{IsFaithful}
 
 -- the dimensions of a commit, where there is one
@@ -66,10 +66,28 @@ pub record Guards (D : ℕ) (files : Files) (s : SessionData) : Type 0 where
   pub set : GuardsSet D files s.set
   pub last : s.refused ≡ false → IsLast files s.set s.commit
 
--- the session guards the files, and what its set keeps of them is theirs
+-- the commit lists the segment, and by its file of live bits has at least what is live in it
+pub record IsListedWith (D : ℕ) (files : Files) (p : Part) : Type 0 where
+  pub commit : CommitData
+  pub says : IsCommitFile (bytes_of (files Commit)) commit
+  pub dims : commit.dims ≡ D
+  pub listed : Listed
+  pub there : Contains commit.listed listed
+  pub is : listed.segment ≡ p.head.id
+  pub covers : CoversPart files listed p
+
+-- it is known where the segment comes from: the commit lists it, or its file is the canonical tree of entries such as documents have
+abbrev pub IsTraced : ℕ → Files → Part → Type 0
+IsTraced D files p = IsListedWith D files p ⊎ HasCanonical D files p.head
+
+abbrev pub AreTraced : ℕ → Files → List Part → Type 0
+AreTraced D files parts = (p : Part) → Contains parts p → IsTraced D files p
+
+-- the session guards the files, what its set keeps of them is theirs, and it is known where each segment of now comes from
 pub record Trusts (D : ℕ) (files : Files) (s : SessionData) : Type 0 where
   pub guards : Guards D files s
   pub faithful : IsFaithful D files s.set
+  pub traced : AreTraced D files s.set.parts
 
 -- nothing changed since the last commit: there is one, none was refused since, and the set is as it says
 pub record IsUnchanged (s : SessionData) : Type 0 where

@@ -20,7 +20,7 @@ use Rattle.segment_set.specs.Evidence.{IsEvident}
 use Rattle.segment_set.specs.Faithful.{IsFaithful}
 use Rattle.segment_set.specs.declared.faults.AddFault.{AddFault}
 use Rattle.segment_set.specs.declared.faults.AddFault.TheVariants as add
-use Rattle.index_core.specs.Sessions.{Guards, SessionData}
+use Rattle.index_core.specs.Sessions.{AreTraced, Guards, SessionData, Trusts}
 use Rattle.index_core.specs.Effects.{BringsCanonical}
 
 -- the index with a document of one point more
@@ -48,7 +48,8 @@ pub record Adds {T : Type 0} (D : ℕ) (told : Type 0) (points : List (List ℤ)
   pub cause : HasPageCause old.faults new.faults result
   pub whole : told → (i : Index) → Sees D old.files old.session.set i → NotDamaged result
   pub faithful : told → IsFaithful D old.files old.session.set → IsFaithful D new.files new.session.set
-  pub evident : OnDamage result (IsEvident (told × IsFaithful D old.files old.session.set) new.files)
+  pub traced : told → Trusts D old.files old.session → AreTraced D new.files new.session.set.parts
+  pub evident : OnDamage result (IsEvident (told × Trusts D old.files old.session) new.files)
 
 -- what becomes of a document that is added where all points fit, so that `Full` is never answered
 abbrev pub added : Result ℕ AddFault → Result (Unit {0}) PageFault

@@ -1,6 +1,6 @@
 //! Commands that change the documents, the segments or the snapshots.
 
-ghost use Rattle.std.specs.Prelude.{◌≡◌, ◌≤◌, ◌<◌, ◌+◌, ◌^◌, ℕ, None, false, nat_lt, length, IsTrue, IsOk};
+ghost use Rattle.std.specs.Prelude.{◌≡◌, ◌≤◌, ◌<◌, ◌+◌, ◌^◌, ℕ, None, false, nat_lt, length, All, IsTrue, IsOk};
 ghost use Rattle.outer_io.specs.Files.{Files};
 ghost use Rattle.script_lang.specs.Requests as asks;
 ghost use Rattle.index_model.specs.Step.{step_on};
@@ -8,6 +8,7 @@ ghost use Rattle.index_core.specs.Steps.{Applies};
 ghost use Rattle.page_cache.specs.Evidence.{NotDamaged};
 ghost use Rattle.index_core.specs.Costs.{ReadsAtMost};
 ghost use Rattle.index_core.specs.Damages.{ShowsDamage};
+ghost use Rattle.segment_set.specs.Sets.{IsNamed};
 ghost use Rattle.index_core.specs.Sessions.{IsStill};
 ghost use Rattle.index_core.specs.Light.{StaysLight};
 ghost use Rattle.index_core.specs.Effects.{HasBegun, HasEnded, IsFlushed, IsMergedAll, KeepsStill, OnDone, OnRefused};
@@ -56,7 +57,8 @@ impl<const D: usize> Session<D> {
 
     /// Whether more points would be given with these than ever may be.
     fn is_full(&self, points: &Points<D>) -> bool
-        ensures { result ≡ nat_lt (2 ^ 24) (self.now.set.given + length points.now) }
+        ensures full { result ≡ nat_lt (2 ^ 24) (self.now.set.given + length points.now) }
+        ensures named { All (IsNamed self.now.set.names) self.now.set.parts }
     {
         let _leaf = self.set.leaf();
         self.set.given() + points.as_slice().len() as u32 > MAX_POINTS
@@ -125,6 +127,8 @@ impl<const D: usize> Session<D> {
         ensures damage { ShowsDamage D (IsTrue F.told) asks.Flush (F.files folder.old) (F.files folder.new) self.old self.new result }
         ensures unread { OnRefused result (F.reads folder.new ≡ F.reads folder.old) }
     {
+        // its segments are all named
+        let _leaf = self.set.leaf();
         self.set.flush(rt, alloc, folder, gate)?;
         put_ok(out)?;
         Ok(Applied::Done)
@@ -146,6 +150,8 @@ impl<const D: usize> Session<D> {
         ensures damage { ShowsDamage D (IsTrue F.told) asks.Merge (F.files folder.old) (F.files folder.new) self.old self.new result }
         ensures unread { OnRefused result (F.reads folder.new ≡ F.reads folder.old) }
     {
+        // its segments are all named
+        let _leaf = self.set.leaf();
         self.set.merge_all(rt, alloc, folder, gate)?;
         put_ok(out)?;
         Ok(Applied::Done)

@@ -1,6 +1,6 @@
 //! Commits, and sessions anew over one.
 
-ghost use Rattle.std.specs.Prelude.{◌≡◌, ◌↔◌, ◌⊎◌, ℕ, [], None, Some, true, false, Contains, IsTrue, IsSome, IsOk, IfOk, OnOk};
+ghost use Rattle.std.specs.Prelude.{◌≡◌, ◌↔◌, ◌⊎◌, ℕ, [], None, Some, true, false, All, Contains, IsTrue, IsSome, IsOk, IfOk, OnOk};
 ghost use Rattle.std.specs.List.{AllZip};
 ghost use Rattle.outer_io.specs.Files.{Files, SameButTwo, bytes_of};
 ghost use Rattle.outer_io.specs.declared.file_name.FileName.{FileName};
@@ -20,9 +20,9 @@ ghost use Rattle.segment_set.specs.Evidence.{IsEvident};
 ghost use Rattle.segment_set.specs.Faithful.{IsFaithful};
 ghost use Rattle.segment_view.specs.Parts.{Part};
 ghost use Rattle.segment_set.specs.Damages.{IsAttachDamage, IsAttachDamageOf};
-ghost use Rattle.segment_set.specs.Sets.{IsSettled};
+ghost use Rattle.segment_set.specs.Sets.{IsNamed, IsSettled};
 ghost use Rattle.segment_set.specs.Kept.{IsAsCommitted, IsCommitOf, StaysButFiles};
-ghost use Rattle.index_core.specs.Sessions.{Guards, GuardsSet, IsCommitAnew, IsSound, IsUnchanged};
+ghost use Rattle.index_core.specs.Sessions.{AreTraced, Guards, GuardsSet, IsCommitAnew, IsSound, IsUnchanged, Trusts};
 ghost use Rattle.index_core.specs.Costs.{ReadsAtMost};
 ghost use Rattle.index_core.specs.Damages.{ShowsDamage, ShowsMerge};
 ghost use Rattle.index_core.specs.Effects.{BringsCanonical, OnRefused};
@@ -78,7 +78,8 @@ impl<const D: usize> Session<D> {
         ensures damage { ShowsMerge D (IsTrue F.told) (F.files folder.old) (F.files folder.new) self.old.set result }
         // whatever the files hold
         ensures faithful { IsTrue F.told → IsFaithful D (F.files folder.old) self.old.set → IsFaithful D (F.files folder.new) self.new.set }
-        ensures evident { OnDamage result (IsEvident (IsTrue F.told × IsFaithful D (F.files folder.old) self.old.set) (F.files folder.new)) }
+        ensures traced { IsTrue F.told → Trusts D (F.files folder.old) self.old → AreTraced D (F.files folder.new) self.new.set.parts }
+        ensures evident { OnDamage result (IsEvident (IsTrue F.told × Trusts D (F.files folder.old) self.old) (F.files folder.new)) }
     {
         if !self.is_changed() {
             return Ok(());
@@ -92,6 +93,7 @@ impl<const D: usize> Session<D> {
     fn is_changed(&self) -> bool
         ensures unchanged { (result ≡ false) ↔ IsUnchanged self.now }
         ensures sound { result ≡ false → IsSound D self.now }
+        ensures named { All (IsNamed self.now.set.names) self.now.set.parts }
     {
         let _leaf = self.set.leaf();
         let Some(commit) = &self.commit else {
@@ -121,6 +123,9 @@ impl<const D: usize> Session<D> {
         ensures guards { IsTrue F.told → GuardsSet D (F.files folder.old) self.old.set
             → AllZip (λ l p. IsLiveFile l.segment l.generation (bytes_of (F.files folder.old (Live l.segment l.generation))) p.live) commit.listed self.old.set.parts
             → Guards D (F.files folder.new) self.new }
+        ensures traced { IsTrue F.told
+            → AllZip (λ l p. IsLiveFile l.segment l.generation (bytes_of (F.files folder.old (Live l.segment l.generation))) p.live) commit.listed self.old.set.parts
+            → AreTraced D (F.files folder.old) self.old.set.parts → AreTraced D (F.files folder.new) self.new.set.parts }
         ensures kept { IsTrue F.told → KeepsOver true (F.files folder.old) (F.files folder.new) self.new result }
         ensures stored { IsTrue F.told → (i : Index)
             → ((files : Files) → IsCommitFile (bytes_of (files CommitName)) commit → ((m : FileName) → ListsFile commit m → files m ≡ F.files folder.old m) → IsStored files (Some (at_rest i)))
@@ -153,6 +158,7 @@ impl<const D: usize> Session<D> {
         ensures written { (self.new.commit ≡ self.old.commit) × (self.new.refused ≡ false) }
         ensures seen { IsTrue F.told → (i : Index) → Sees D (F.files folder.old) self.old.set i → Sees D (F.files folder.new) self.new.set i }
         ensures guards { IsTrue F.told → Guards D (F.files folder.old) self.old → Guards D (F.files folder.new) self.new }
+        ensures traced { IsTrue F.told → Guards D (F.files folder.old) self.old → AreTraced D (F.files folder.old) self.old.set.parts → AreTraced D (F.files folder.new) self.new.set.parts }
         ensures kept { IsTrue F.told → Guards D (F.files folder.old) self.old → SameKept (F.files folder.old) (F.files folder.new) }
         ensures cause { HasPageCause (F.faults folder.old) (F.faults folder.new) result }
         ensures whole { NotDamaged result }
@@ -218,6 +224,7 @@ impl<const D: usize> Session<D> {
             → IfOk result (λ s. Sees D (F.files folder.old) s i) }
         ensures guards { IsTrue F.told → self.now.refused ≡ false → Guards D (F.files folder.old) self.now → IfOk result (λ s. Guards D (F.files folder.old) (record self.now { set = s })) }
         ensures faithful { IsTrue F.told → IfOk result (IsFaithful D (F.files folder.old)) }
+        ensures traced { IsTrue F.told → self.now.refused ≡ false → Guards D (F.files folder.old) self.now → IfOk result (λ s. AreTraced D (F.files folder.old) s.parts) }
         ensures emptied { IfOk result (λ s. s.buffer ≡ []) }
         ensures unchanged { (c : CommitData) → self.now.commit ≡ Some c → IfOk result (λ s. IsAsCommitted s c) }
         ensures files { IsTrue F.told → F.files folder.new ≡ F.files folder.old }

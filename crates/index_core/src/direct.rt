@@ -11,7 +11,7 @@ ghost use Rattle.index_model.specs.State.{Index};
 ghost use Rattle.segment_set.specs.Seen.{Sees};
 ghost use Rattle.segment_set.specs.Evidence.{IsEvident};
 ghost use Rattle.segment_set.specs.Faithful.{IsFaithful};
-ghost use Rattle.index_core.specs.Sessions.{Guards};
+ghost use Rattle.index_core.specs.Sessions.{AreTraced, Guards};
 ghost use Rattle.index_core.specs.Effects.{BringsCanonical};
 ghost use Rattle.index_core.specs.Whole.{Adds, added};
 
@@ -59,6 +59,8 @@ impl<const D: usize> Session<D> {
             (record { files = F.files folder.old; session = self.old; faults = F.faults folder.old })
             (record { files = F.files folder.new; session = self.new; faults = F.faults folder.new }) result }
     {
+        // its segments are all named
+        let _leaf = self.set.leaf();
         let mut list = Vec::with_capacity(alloc, 1)?;
         list.push_reserved(*point);
         added(self.set.add(rt, alloc, folder, &Points::of(list), gate))
@@ -90,6 +92,7 @@ impl<const D: usize> Session<D> {
         ensures live { (files : Files) (i : Index) → Sees D files self.old.set i → result ≡ is_live doc i.docs }
         ensures guards { (files : Files) → Guards D files self.old → Guards D files self.new }
         ensures faithful { (files : Files) → IsFaithful D files self.old.set → IsFaithful D files self.new.set }
+        ensures traced { (files : Files) → AreTraced D files self.old.set.parts → AreTraced D files self.new.set.parts }
         ensures canon { (files : Files) → BringsCanonical D files files self.old.set.parts self.new.set.parts }
     {
         self.set.delete(doc)

@@ -53,7 +53,7 @@ impl<const D: usize> Model for Session<D> {
 }
 
 impl<const D: usize> Session<D> {
-    ghost use Rattle.index_core.specs.Sessions.{Guards, IsCommitAnew, IsUnchanged, Trusts};
+    ghost use Rattle.index_core.specs.Sessions.{AreTraced, Guards, IsCommitAnew, IsUnchanged, Trusts};
     ghost use Rattle.index_core.specs.Steps.{Applies, DoesOver, KeepsOver, Stores, is_committing};
     ghost use Rattle.index_core.specs.Costs.{ReadsAtMost};
     ghost use Rattle.index_core.specs.Damages.{ShowsDamage};
@@ -93,6 +93,7 @@ impl<const D: usize> Session<D> {
             → IfOk result (λ s. Sees D (F.files folder.old) s.set i) }
         ensures guards { IsTrue F.told → IsCommitFile (bytes_of (F.files folder.old CommitName)) commit → IfOk result (Guards D (F.files folder.old)) }
         ensures faithful { IsTrue F.told → IfOk result (λ s. IsFaithful D (F.files folder.old) s.set) }
+        ensures traced { IsTrue F.told → IsCommitFile (bytes_of (F.files folder.old CommitName)) commit → IfOk result (λ s. AreTraced D (F.files folder.old) s.set.parts) }
         ensures files { IsTrue F.told → F.files folder.new ≡ F.files folder.old }
         ensures cause { HasPageCause (F.faults folder.old) (F.faults folder.new) result }
         ensures unchanged { IfOk result IsUnchanged }
@@ -151,8 +152,10 @@ impl<const D: usize> Session<D> {
         // what it costs, and what a damage shows
         ensures reads { ReadsAtMost D (IsTrue F.told) (request_of c.now) (F.files folder.old) self.old (F.reads folder.old) (F.reads folder.new) }
         ensures damage { ShowsDamage D (IsTrue F.told) (request_of c.now) (F.files folder.old) (F.files folder.new) self.old self.new result }
-        // Whatever the files hold, what the set keeps of them is theirs; and a damage is shown by what it carries, and is true of the files.
+        // Whatever the files hold, what the set keeps of them is theirs, and it is known where its segments come from; and a damage is shown by
+        // what it carries, and is true of the files.
         ensures faithful { IsTrue F.told → IsFaithful D (F.files folder.old) self.old.set → IsFaithful D (F.files folder.new) self.new.set }
+        ensures traced { IsTrue F.told → Trusts D (F.files folder.old) self.old → AreTraced D (F.files folder.new) self.new.set.parts }
         ensures evident { OnDamage result (IsEvident (IsTrue F.told × Trusts D (F.files folder.old) self.old) (F.files folder.new)) }
         // blank lines, queries and what is refused leave all but the kept pages
         ensures still { KeepsStill (IsTrue F.told) (request_of c.now) (F.files folder.old) (F.files folder.new) self.old self.new result }

@@ -1,11 +1,11 @@
 -- A document of one point is added to the set.
-use Rattle.std.proofs.Common.{◌≡◌, List, Err, [], ◌∷◌, ◌++◌, refl, ap, ◌∙◌, lit<}
+use Rattle.std.proofs.Common.{◌≡◌, List, length, Err, [], ◌∷◌, ◌++◌, refl, ap, ◌∙◌, lit<, arith}
 use Rattle.std.proofs.lemmas.Result.{err_from_is_err_and}
 use Rattle.page_cache.specs.declared.faults.PageFault.{PageFault}
 use Rattle.point_codec.specs.Points.{ordered}
 use Rattle.point_codec.specs.Seen.{coordinates_of}
 use Rattle.point_codec.specs.declared.coordinates.Point.{Point}
-use Rattle.segment_set.proofs.Sizes.{set_fits}
+use Rattle.segment_set.proofs.Sizes.{point_fits, set_fits}
 use Rattle.index_core.proofs.Adding.{adds_as, adds_memory_as, adds_one, adds_seen, one_ordered, put_given, put_seen}
 use Rattle.index_core.proofs.session.Session.add_point.Given as given
 use Rattle.index_core.proofs.session.Session.add_point.Goals as goal
@@ -13,6 +13,9 @@ use Rattle.index_core.proofs.session.Session.add_point.Goals.{After-drop-of}
 
 pub add-requires-after_bounds : goal.add-requires-after_bounds
 add-requires-after_bounds g c κs = λ _. (set_fits g.row.D c.self.invariant.few, lit< tt)
+
+pub leaf-leaf-requires : goal.leaf-leaf-requires
+leaf-leaf-requires g c = set_fits g.row.D c.self.invariant.few
 
 pub returns-in_err-list : goal.returns-in_err-list
 returns-in_err-list g c =
@@ -36,6 +39,7 @@ returns g c =
       leaf = c.add-2.ensures.leaf;
       keeps = c.add-2.ensures.kept;
       follows = c.add-2.ensures.follows;
+      named = c.leaf-leaf.ensures.well.named;
       second = c.add-2.ensures.canon;
       seen = put_seen _ _ _ _ _ _ _ _ _ (made g c) c.add-2.ensures.seen;
       given = put_given _ _ _ _ _ _ (made g c) c.add-2.ensures.given;
@@ -44,3 +48,8 @@ returns g c =
       faithful = c.add-2.ensures.faithful;
       evident = c.add-2.ensures.evident;
     })))
+
+pub of-requires : goal.of-requires
+of-requires g c =
+    let one = ap length (c.push_reserved.ensures.items ∙ ap (λ (ps : List (Point g.row.D)). ps ++ c.args.point.now ∷ []) c.in_ok-list.ensures.items) in
+    (point_fits g.row.D c.self.invariant.few, (lit< tt, (omega (arith, one), omega (arith, one))))

@@ -3,6 +3,7 @@ use Rattle.std.proofs.Common.{◌≤◌, Err, refl, subst, ap, ◌∙◌}
 use Rattle.std.proofs.lemmas.Result.{err_from_is_err_and}
 use Rattle.page_cache.specs.declared.faults.PageFault.{PageFault}
 use Rattle.index_core.proofs.Guarding.{guards_attached}
+use Rattle.index_core.proofs.Tracing.{traced_attached}
 use Rattle.segment_set.proofs.Sizes.{set_fits}
 use Rattle.index_core.proofs.Answering.{done_cause, fault_cause}
 use Rattle.index_core.proofs.session.Session.attach.Goals as goal
@@ -47,3 +48,7 @@ returns-in_err-attach-clause-evident g c =
 
 pub returns-clause-faithful : goal.returns-clause-faithful
 returns-clause-faithful g c told = c.in_ok-attach.ensures.faithful told
+
+pub returns-clause-traced : goal.returns-clause-traced
+returns-clause-traced g c told says =
+    traced_attached _ _ _ c.args.commit c.requires says c.in_ok-attach.ensures.commit c.in_ok-attach.ensures.names (c.in_ok-attach.ensures.live told)

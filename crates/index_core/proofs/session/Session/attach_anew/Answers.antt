@@ -3,6 +3,7 @@ use Rattle.std.proofs.Common.{subst, sym, ap, ◌∙◌}
 use Rattle.segment_set.specs.Kept.{IsAsCommitted}
 use Rattle.index_core.specs.Sessions.{HasDims, SessionData}
 use Rattle.index_core.proofs.Guarding.{guards_anew, says_last}
+use Rattle.index_core.proofs.Tracing.{traced_anew}
 use Rattle.index_core.proofs.Committing.{on_ok_each, some_same}
 use Rattle.segment_set.proofs.Sizes.{set_fits}
 use Rattle.page_cache.specs.Evidence.{OnDamage}
@@ -41,3 +42,7 @@ returns-clause-faithful g c told = c.attach.ensures.faithful told
 
 pub returns-clause-evident : goal.returns-clause-evident
 returns-clause-evident g c = on_evident_less _ _ _ c.attach.result (λ (told, done, guards). (told, says_last _ _ _ _ c.self.view_is c.in-Some.is done guards)) c.attach.ensures.evident
+
+pub returns-clause-traced : goal.returns-clause-traced
+returns-clause-traced g c told done guards = traced_anew _ _ _ c.attach.result (subst (HasDims g.row.D) c.in-Some.is c.self.invariant.has)
+    (says_last _ _ _ _ c.self.view_is c.in-Some.is done guards) c.attach.ensures.commit c.attach.ensures.names (c.attach.ensures.live told)

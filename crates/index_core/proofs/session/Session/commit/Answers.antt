@@ -6,7 +6,7 @@ use Rattle.page_cache.specs.declared.faults.PageFault.{PageFault}
 use Rattle.stored_index.proofs.KeptFiles.{kept_itself, stored_still}
 use Rattle.segment_set.specs.Sets.{SetData}
 use Rattle.segment_set.specs.Seen.{Sees}
-use Rattle.index_core.specs.Sessions.{Guards, IsCommitAnew, SessionData}
+use Rattle.index_core.specs.Sessions.{Guards, IsCommitAnew, SessionData, Trusts}
 use Rattle.index_core.specs.Effects.{BringsCanonical}
 use Rattle.index_core.proofs.Bringing.{brings_same, brings_still, brings_then, brings_two, brings_written}
 use Rattle.index_core.proofs.Guarding.{guards_after, kept_after_calls, set_after}
@@ -14,12 +14,13 @@ use Rattle.index_core.proofs.Committing.{as_committed, keeps_any, keeps_fault, k
 use Rattle.segment_set.proofs.Sizes.{set_fits}
 use Rattle.index_core.proofs.Sizes.{session_fits}
 use Rattle.index_model.specs.State.{at_rest}
-use Rattle.std.proofs.Common.{IsTrue}
+use Rattle.std.proofs.Common.{All, IsTrue}
 use Rattle.index_core.specs.Damages.{ShowsMerge}
 use Rattle.index_core.proofs.Showing.{damage_to, merge_none, merge_to}
-use Rattle.segment_set.specs.Sets.{IsSettled}
+use Rattle.segment_set.specs.Sets.{IsNamed, IsSettled}
 use Rattle.index_core.proofs.Answering.{fault_cause}
 use Rattle.index_core.proofs.Lightly.{commits_few}
+use Rattle.index_core.proofs.Tracing.{traced_by, traced_shows}
 use Rattle.page_cache.specs.Evidence.{FaultShows}
 use Rattle.segment_set.specs.Evidence.{IsEvident}
 use Rattle.segment_set.specs.Faithful.{IsFaithful}
@@ -272,11 +273,31 @@ pub returns-clause-faithful : goal.returns-clause-faithful
 returns-clause-faithful g c told faithful =
     c.sweep.ensures.faithful told (c.write.ensures.faithful told (c.save.ensures.faithful told (subst (λ (u : SessionData). IsFaithful g.row.D (g.F.Pages.files c.args.folder.now) u.set) (sym c.self.view_is) faithful)))
 
+pub returns-then-not-is_changed-clause-traced : goal.returns-then-not-is_changed-clause-traced
+returns-then-not-is_changed-clause-traced g c told trusts = trusts.traced
+
+pub returns-in_err-commit-clause-traced : goal.returns-in_err-commit-clause-traced
+returns-in_err-commit-clause-traced g c told trusts =
+    traced_by _ _ _ _ _ c.save.new.self told c.save.ensures.kept c.save.ensures.follows (c.save.ensures.canon told) (subst (Trusts g.row.D (g.F.Pages.files c.args.folder.now)) (sym c.self.view_is) trusts)
+
+pub returns-in_err-write-clause-traced : goal.returns-in_err-write-clause-traced
+returns-in_err-write-clause-traced g c told trusts = c.write.ensures.traced told (c.in_ok-commit.ensures.live told)
+    (traced_by _ _ _ _ _ c.save.new.self told c.save.ensures.kept c.save.ensures.follows (c.save.ensures.canon told) (subst (Trusts g.row.D (g.F.Pages.files c.args.folder.now)) (sym c.self.view_is) trusts))
+
+pub returns-clause-traced : goal.returns-clause-traced
+returns-clause-traced g c told trusts =
+    let before = subst (Trusts g.row.D (g.F.Pages.files c.args.folder.now)) (sym c.self.view_is) trusts in
+    c.sweep.ensures.traced told
+    (c.write.ensures.guards told (set_after _ _ _ _ _ _ told c.save.ensures.kept c.save.ensures.stays.leaf before.guards.set) (c.in_ok-commit.ensures.live told))
+    (c.write.ensures.traced told (c.in_ok-commit.ensures.live told) (traced_by _ _ _ _ _ c.save.new.self told c.save.ensures.kept c.save.ensures.follows (c.save.ensures.canon told) before))
+
 pub returns-in_err-commit-clause-evident : goal.returns-in_err-commit-clause-evident
 returns-in_err-commit-clause-evident g c =
     let p = err_from_is_err_and c.from_residual.result c.from_residual.ensures.1 in
     damage_to _ _ c.in_err-commit.field-0.0 (p.1 ∙ ap (λ (e : PageFault). Err e) p.2)
-    (subst (λ (u : SessionData). FaultShows (IsEvident (IsTrue g.F.Pages.told × IsFaithful g.row.D (g.F.Pages.files c.args.folder.now) u.set) (g.F.Pages.files c.save.new.folder)) c.in_err-commit.field-0.0) c.self.view_is c.in_err-commit.ensures.evident)
+    (subst (λ (u : SessionData). FaultShows (IsEvident (IsTrue g.F.Pages.told × Trusts g.row.D (g.F.Pages.files c.args.folder.now) u) (g.F.Pages.files c.save.new.folder)) c.in_err-commit.field-0.0) c.self.view_is
+    (traced_shows {X = Unit {0}} _ _ _ _ (record { set = c.self.inside.set; commit = c.self.inside.commit; refused = c.self.inside.refused }) _ (Err c.in_err-commit.field-0.0) c.save.ensures.kept
+    (subst (λ (u : SessionData). All (IsNamed u.set.names) u.set.parts) (sym c.self.view_is) c.is_changed.ensures.named) c.in_err-commit.ensures.evident))
 
 pub returns-in_err-write-clause-evident : goal.returns-in_err-write-clause-evident
 returns-in_err-write-clause-evident g c =

@@ -5,7 +5,7 @@ use Rattle.page_cache.specs.declared.faults.PageFault.{PageFault}
 use Rattle.script_lang.specs.Replies.{ok_text}
 use Rattle.index_model.specs.Step.{step_on}
 use Rattle.index_model.specs.declared.session.Applied.TheVariants as applied
-use Rattle.index_core.proofs.Answering.{applies_is, begins_itself, begins_same, begins_with, does_done, does_fault, done_cause, fault_to, memory_cause, trusts_shows}
+use Rattle.index_core.proofs.Answering.{applies_is, begins_itself, begins_same, begins_with, does_done, does_fault, done_cause, fault_to, memory_cause}
 use Rattle.page_cache.specs.declared.faults.PageFault.TheVariants as page
 use Rattle.index_core.proofs.Showing.{damage_to, merge_none, merge_to}
 use Rattle.index_core.proofs.Keeping.{fault_keeps}
@@ -22,6 +22,7 @@ returns-clause-applies g c = record {
   cause = done_cause _ _ c.in_ok-commit.field-0 applied.Done c.in_ok-commit.ensures.cause;
   whole = λ told i seen guards. tt;
   faithful = c.commit.ensures.faithful;
+  traced = c.commit.ensures.traced;
   evident = tt;
   idle = λ told e unchanged. (c.commit.ensures.idle unchanged).2;
   unchanged = λ e. c.in_ok-commit.ensures.unchanged;
@@ -42,7 +43,8 @@ returns-in_err-commit-clause-applies g c =
       cause = fault_to _ _ c.in_err-commit.field-0.0 c.in_err-commit.ensures.cause;
       whole = λ told i seen guards. c.in_err-commit.ensures.whole told i seen;
       faithful = c.commit.ensures.faithful;
-      evident = trusts_shows _ _ _ _ _ c.in_err-commit.field-0.0 c.in_err-commit.ensures.evident;
+      traced = c.commit.ensures.traced;
+      evident = c.in_err-commit.ensures.evident;
       idle = λ told e unchanged. (c.commit.ensures.idle unchanged).2;
       unchanged = λ e. tt;
       anew = λ e changed. tt;
@@ -62,6 +64,7 @@ returns-in_err-put_ok-clause-applies g c =
       cause = memory_cause _ _ c.commit.ensures.cause.later;
       whole = λ told i seen guards. tt;
       faithful = c.commit.ensures.faithful;
+      traced = c.commit.ensures.traced;
       evident = tt;
       idle = λ told e unchanged. (c.commit.ensures.idle unchanged).2;
       unchanged = λ e. tt;

@@ -5,7 +5,7 @@ use Rattle.page_cache.specs.declared.faults.PageFault.{PageFault}
 use Rattle.script_lang.specs.Replies.{ok_text}
 use Rattle.index_model.specs.Step.{step_on}
 use Rattle.segment_set.proofs.Sizes.{set_fits}
-use Rattle.index_core.proofs.Answering.{applies_done, applies_fault, applies_seen, applies_unsaid, begins_itself, does_done}
+use Rattle.index_core.proofs.Answering.{applies_done, applies_merging_fault, applies_seen, applies_unsaid, begins_itself, does_done}
 use Rattle.index_core.specs.Sessions.{SessionData}
 use Rattle.index_core.specs.Effects.{IsFlushed}
 use Rattle.index_core.proofs.Bringing.{brings_written}
@@ -28,9 +28,9 @@ pub returns-in_err-flush-clause-applies : goal.returns-in_err-flush-clause-appli
 returns-in_err-flush-clause-applies g c =
     let p = err_from_is_err_and c.from_residual.result c.from_residual.ensures.1 in
     applies_seen _ _ _ _ _ _ _ _ _ _ _ c.self.view_is
-    (applies_fault _ _ _ _ _ _ c.in_err-flush.field-0.0
+    (applies_merging_fault _ _ _ _ _ _ c.in_err-flush.field-0.0
     (record { commit = refl; refused = refl; leaf = c.flush.ensures.stays.leaf; keeps = c.flush.ensures.kept; follows = c.flush.ensures.follows; brings = λ told. brings_written _ _ _ _ _ _ _ _ told c.flush.ensures.kept c.flush.ensures.follows (c.flush.ensures.canon told); faithful = c.flush.ensures.faithful })
-    (p.1 ∙ ap (λ (e : PageFault). Err e) p.2) c.flush.ensures.seen (begins_itself _) c.in_err-flush.ensures.cause c.in_err-flush.ensures.whole c.in_err-flush.ensures.evident)
+    c.leaf-leaf.ensures.well.named (p.1 ∙ ap (λ (e : PageFault). Err e) p.2) c.flush.ensures.seen (begins_itself _) c.in_err-flush.ensures.cause c.in_err-flush.ensures.whole c.in_err-flush.ensures.evident)
 
 pub returns-in_err-put_ok-clause-applies : goal.returns-in_err-put_ok-clause-applies
 returns-in_err-put_ok-clause-applies g c =
@@ -39,6 +39,9 @@ returns-in_err-put_ok-clause-applies g c =
     (applies_unsaid _ _ _ _ _ _ c.in_ok-flush.field-0
     (record { commit = refl; refused = refl; leaf = c.flush.ensures.stays.leaf; keeps = c.flush.ensures.kept; follows = c.flush.ensures.follows; brings = λ told. brings_written _ _ _ _ _ _ _ _ told c.flush.ensures.kept c.flush.ensures.follows (c.flush.ensures.canon told); faithful = c.flush.ensures.faithful })
     (p.1 ∙ ap (λ (e : PageFault). Err e) p.2) c.flush.ensures.seen c.in_err-put_ok.ensures.memory c.in_ok-flush.ensures.cause)
+
+pub leaf-leaf-requires : goal.leaf-leaf-requires
+leaf-leaf-requires g c = set_fits g.row.D c.self.invariant.few
 
 pub flush-requires-after_bounds : goal.flush-requires-after_bounds
 flush-requires-after_bounds g c κs = λ _. set_fits g.row.D c.self.invariant.few

@@ -1,7 +1,8 @@
 -- Nothing changed where there is a commit, none was refused, and the set is as it says.
 use Rattle.std.proofs.Common.{subst, ap, sym, ◌∙◌}
 use Rattle.index_core.specs.Sessions.{IsSound, IsUnchanged, SessionData}
-use Rattle.std.proofs.Common.{◌≡◌, ◌↔◌, false}
+use Rattle.std.proofs.Common.{◌≡◌, ◌↔◌, All, false}
+use Rattle.segment_set.specs.Sets.{IsNamed}
 use Rattle.segment_set.proofs.Sizes.{set_fits}
 use Rattle.index_core.proofs.Committing.{changed_by, changed_none, changed_refused}
 use Rattle.index_core.proofs.session.Session.is_changed.Goals as goal
@@ -28,6 +29,15 @@ returns-clause-sound g c e = subst (IsSound g.row.D) c.self.view_is (record {
   sets = c.differs.ensures.sets e;
   well = c.leaf-leaf.ensures.well;
 })
+
+pub returns-in_default-clause-named : goal.returns-in_default-clause-named
+returns-in_default-clause-named g c = subst (λ (u : SessionData). All (IsNamed u.set.names) u.set.parts) c.self.view_is c.leaf-leaf.ensures.well.named
+
+pub returns-then-self-clause-named : goal.returns-then-self-clause-named
+returns-then-self-clause-named g c = subst (λ (u : SessionData). All (IsNamed u.set.names) u.set.parts) c.self.view_is c.leaf-leaf.ensures.well.named
+
+pub returns-clause-named : goal.returns-clause-named
+returns-clause-named g c = subst (λ (u : SessionData). All (IsNamed u.set.names) u.set.parts) c.self.view_is c.leaf-leaf.ensures.well.named
 
 pub leaf-leaf-requires : goal.leaf-leaf-requires
 leaf-leaf-requires g c = set_fits g.row.D c.self.invariant.few

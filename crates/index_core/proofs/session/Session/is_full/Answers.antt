@@ -1,5 +1,8 @@
 -- What the set says of its size.
+use Rattle.std.proofs.Common.{All, subst}
+use Rattle.segment_set.specs.Sets.{IsNamed}
 use Rattle.segment_set.proofs.Sizes.{set_fits}
+use Rattle.index_core.specs.Sessions.{SessionData}
 use Rattle.index_core.proofs.session.Session.is_full.Goals as goal
 
 pub leaf-leaf-requires : goal.leaf-leaf-requires
@@ -7,3 +10,6 @@ leaf-leaf-requires g c = set_fits g.row.D c.self.invariant.few
 
 pub given-requires : goal.given-requires
 given-requires g c = set_fits g.row.D c.self.invariant.few
+
+pub returns-clause-named : goal.returns-clause-named
+returns-clause-named g c = subst (λ (u : SessionData). All (IsNamed u.set.names) u.set.parts) c.self.view_is c.leaf-leaf.ensures.well.named

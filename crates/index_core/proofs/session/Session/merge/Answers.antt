@@ -5,7 +5,7 @@ use Rattle.page_cache.specs.declared.faults.PageFault.{PageFault}
 use Rattle.script_lang.specs.Replies.{ok_text}
 use Rattle.index_model.specs.Step.{step_on}
 use Rattle.segment_set.proofs.Sizes.{set_fits}
-use Rattle.index_core.proofs.Answering.{applies_done, applies_fault, applies_seen, applies_unsaid, begins_itself, does_done}
+use Rattle.index_core.proofs.Answering.{applies_done, applies_merging_fault, applies_seen, applies_unsaid, begins_itself, does_done}
 use Rattle.index_core.specs.Sessions.{SessionData}
 use Rattle.index_core.specs.Effects.{IsMergedAll}
 use Rattle.index_core.proofs.Bringing.{brings_written}
@@ -27,9 +27,9 @@ pub returns-in_err-merge_all-clause-applies : goal.returns-in_err-merge_all-clau
 returns-in_err-merge_all-clause-applies g c =
     let p = err_from_is_err_and c.from_residual.result c.from_residual.ensures.1 in
     applies_seen _ _ _ _ _ _ _ _ _ _ _ c.self.view_is
-    (applies_fault _ _ _ _ _ _ c.in_err-merge_all.field-0.0
+    (applies_merging_fault _ _ _ _ _ _ c.in_err-merge_all.field-0.0
     (record { commit = refl; refused = refl; leaf = c.merge_all.ensures.stays.leaf; keeps = c.merge_all.ensures.kept; follows = c.merge_all.ensures.follows; brings = λ told. brings_written _ _ _ _ _ _ _ _ told c.merge_all.ensures.kept c.merge_all.ensures.follows (c.merge_all.ensures.canon told); faithful = c.merge_all.ensures.faithful })
-    (p.1 ∙ ap (λ (e : PageFault). Err e) p.2) c.merge_all.ensures.seen (begins_itself _) c.in_err-merge_all.ensures.cause c.in_err-merge_all.ensures.whole c.in_err-merge_all.ensures.evident)
+    c.leaf-leaf.ensures.well.named (p.1 ∙ ap (λ (e : PageFault). Err e) p.2) c.merge_all.ensures.seen (begins_itself _) c.in_err-merge_all.ensures.cause c.in_err-merge_all.ensures.whole c.in_err-merge_all.ensures.evident)
 
 pub returns-in_err-put_ok-clause-applies : goal.returns-in_err-put_ok-clause-applies
 returns-in_err-put_ok-clause-applies g c =
@@ -38,6 +38,9 @@ returns-in_err-put_ok-clause-applies g c =
     (applies_unsaid _ _ _ _ _ _ c.in_ok-merge_all.field-0
     (record { commit = refl; refused = refl; leaf = c.merge_all.ensures.stays.leaf; keeps = c.merge_all.ensures.kept; follows = c.merge_all.ensures.follows; brings = λ told. brings_written _ _ _ _ _ _ _ _ told c.merge_all.ensures.kept c.merge_all.ensures.follows (c.merge_all.ensures.canon told); faithful = c.merge_all.ensures.faithful })
     (p.1 ∙ ap (λ (e : PageFault). Err e) p.2) c.merge_all.ensures.seen c.in_err-put_ok.ensures.memory c.in_ok-merge_all.ensures.cause)
+
+pub leaf-leaf-requires : goal.leaf-leaf-requires
+leaf-leaf-requires g c = set_fits g.row.D c.self.invariant.few
 
 pub merge_all-requires-after_bounds : goal.merge_all-requires-after_bounds
 merge_all-requires-after_bounds g c κs = λ _. set_fits g.row.D c.self.invariant.few

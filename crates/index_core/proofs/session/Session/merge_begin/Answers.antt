@@ -7,7 +7,7 @@ use Rattle.std.proofs.lemmas.Bool.{both_ways}
 use Rattle.script_lang.specs.declared.faults.Why.TheVariants as why
 use Rattle.segment_set.specs.Sets.{SetData}
 use Rattle.segment_set.proofs.Carried.{follows_same}
-use Rattle.index_core.proofs.Answering.{applies, applies_is, applies_memory, applies_refused, applies_seen, begins_with, calm_like, cause_begin, whole_begin}
+use Rattle.index_core.proofs.Answering.{applies_is, applies_memory, applies_merging_calm, applies_refused, applies_seen, begins_with, calm_like, cause_begin, whole_begin}
 use Rattle.index_core.proofs.Changing.{does_begin, does_begun}
 use Rattle.segment_set.proofs.Sizes.{set_fits}
 use Rattle.index_core.specs.Sessions.{SessionData}
@@ -36,10 +36,11 @@ returns-clause-applies g c =
     let none = sym c.is_merging.ensures ∙ c.if-is_merging.false in
     applies_is _ _ _ _ _ _ _ _ c.begin_answer.ensures
     (applies_seen _ _ _ _ _ _ _ _ _ _ _ c.self.view_is
-    (applies _ _ _ _ _ _
+    (applies_merging_calm _ _ _ _ _ _
     (calm_like _ _ _ _ _ _ _ _ _ _ _ _ (ap (λ (u : SetData). u.names) c.merge_begin.ensures.alone.is) (ap (λ (u : SetData). u.leaf) c.merge_begin.ensures.alone.is)
     (follows_same _ _ _ (ap (λ (u : SetData). u.parts) c.merge_begin.ensures.alone.is)) c.merge_begin.ensures.files
     (λ told. brings_same _ _ _ _ _ (c.merge_begin.ensures.files told) (ap (λ (u : SetData). u.parts) c.merge_begin.ensures.alone.is)) c.merge_begin.ensures.faithful)
+    c.merge_begin.ensures.files
     (λ told i seen. does_begin _ _ _ _ _ i _ c.merge_begin.result _ _ seen none (λ e. both_ways (is_some c.self.inside.set.begun) none (c.merge_begin.ensures.begun.0 e))
     (c.merge_begin.ensures.seen told i seen) (c.merge_begin.ensures.refused told i seen) c.in_ok-put_ok.ensures.ok)
     (begins_with _ _ _ c.in_ok-put_ok.ensures.ok)

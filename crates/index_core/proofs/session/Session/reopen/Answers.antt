@@ -10,13 +10,14 @@ use Rattle.index_model.specs.declared.session.Applied.TheVariants as applied
 use Rattle.stored_index.specs.Stored.{IsStored}
 use Rattle.stored_index.specs.Kept.{SameKept}
 use Rattle.segment_set.specs.Seen.{Sees}
+use Rattle.segment_set.specs.Evidence.{IsTwice}
 use Rattle.segment_set.specs.Faithful.{IsFaithful}
 use Rattle.segment_set.proofs.Evident.{on_evident_at}
-use Rattle.index_core.specs.Sessions.{Guards, IsCommitAnew, IsUnchanged, SessionData}
+use Rattle.index_core.specs.Sessions.{AreTraced, Guards, IsCommitAnew, IsUnchanged, SessionData}
 use Rattle.index_core.specs.Effects.{BringsCanonical}
 use Rattle.index_core.proofs.Bringing.{brings_anew, brings_then}
 use Rattle.index_core.specs.Steps.{SaysCommit}
-use Rattle.index_core.proofs.Answering.{applies_is, begins_itself, begins_same, begins_with, cause_then, does_done, does_fault, done_cause, fault_to, memory_cause, trusts_shows}
+use Rattle.index_core.proofs.Answering.{applies_is, begins_itself, begins_same, begins_with, cause_then, does_done, does_fault, done_cause, fault_to, memory_cause}
 use Rattle.segment_set.proofs.Sizes.{set_fits}
 use Rattle.index_core.proofs.Sizes.{session_fits}
 use Rattle.page_cache.specs.Evidence.{FaultShows}
@@ -42,7 +43,8 @@ returns-in_err-commit-clause-applies g c =
       cause = fault_to _ _ c.in_err-commit.field-0.0 c.in_err-commit.ensures.cause;
       whole = λ told i seen guards. c.in_err-commit.ensures.whole told i seen;
       faithful = c.commit.ensures.faithful;
-      evident = trusts_shows _ _ _ _ _ c.in_err-commit.field-0.0 c.in_err-commit.ensures.evident;
+      traced = c.commit.ensures.traced;
+      evident = c.in_err-commit.ensures.evident;
       idle = λ told e unchanged. (c.commit.ensures.idle unchanged).2;
       unchanged = λ e. tt;
       anew = λ e changed. tt;
@@ -62,7 +64,8 @@ returns-in_err-set-clause-applies g c =
       cause = fault_to _ _ c.in_err-set.field-0.0 (cause_then _ _ _ _ c.in_ok-commit.ensures.cause.fine c.in_err-set.ensures.cause);
       whole = λ told i seen guards. c.in_err-set.ensures.whole told c.in_ok-commit.ensures.committed.1 (c.commit.ensures.guards told guards) (Some (at_rest i)) (c.in_ok-commit.ensures.stored told i seen guards).0;
       faithful = λ told faithful. subst (λ (f : Files). IsFaithful g.row.D f c.commit.new.self.set) (sym (c.attach_anew.ensures.files told)) (c.commit.ensures.faithful told faithful);
-      evident = on_evident_at {X = Unit {0}} _ _ _ _ (Err c.in_err-set.field-0.0) (λ (told, trusts). (told, c.in_ok-commit.ensures.committed.1, c.commit.ensures.guards told trusts.guards))
+      traced = λ told trusts. subst (λ (f : Files). AreTraced g.row.D f c.commit.new.self.set.parts) (sym (c.attach_anew.ensures.files told)) (c.commit.ensures.traced told trusts);
+      evident = on_evident_at {X = Unit {0}} IsTwice _ _ _ _ (Err c.in_err-set.field-0.0) (λ (told, trusts). (told, c.in_ok-commit.ensures.committed.1, c.commit.ensures.guards told trusts.guards))
           (λ (told, trusts). c.attach_anew.ensures.files told) c.in_err-set.ensures.evident;
       idle = λ told e unchanged. c.attach_anew.ensures.files told ∙ (c.commit.ensures.idle unchanged).2;
       unchanged = λ e. tt;
@@ -83,6 +86,7 @@ returns-in_err-put_ok-clause-applies g c =
       cause = memory_cause _ _ (cause_then _ _ _ _ c.in_ok-commit.ensures.cause.fine c.attach_anew.ensures.cause).later;
       whole = λ told i seen guards. tt;
       faithful = λ told faithful. subst (λ (f : Files). IsFaithful g.row.D f c.commit.new.self.set) (sym (c.attach_anew.ensures.files told)) (c.commit.ensures.faithful told faithful);
+      traced = λ told trusts. subst (λ (f : Files). AreTraced g.row.D f c.commit.new.self.set.parts) (sym (c.attach_anew.ensures.files told)) (c.commit.ensures.traced told trusts);
       evident = tt;
       idle = λ told e unchanged. c.attach_anew.ensures.files told ∙ (c.commit.ensures.idle unchanged).2;
       unchanged = λ e. tt;
@@ -107,6 +111,8 @@ returns-clause-applies g c = record {
   cause = done_cause _ _ c.in_ok-set.set applied.Done (cause_then _ _ _ _ c.in_ok-commit.ensures.cause.fine c.in_ok-set.ensures.cause);
   whole = λ told i seen guards. tt;
   faithful = λ told faithful. subst (λ (f : Files). IsFaithful g.row.D f c.in_ok-set.set) (sym (c.attach_anew.ensures.files told)) (c.in_ok-set.ensures.faithful told);
+  traced = λ told trusts. subst (λ (f : Files). AreTraced g.row.D f c.in_ok-set.set.parts) (sym (c.attach_anew.ensures.files told))
+      (c.in_ok-set.ensures.traced told c.in_ok-commit.ensures.committed.1 (c.commit.ensures.guards told trusts.guards));
   evident = tt;
   idle = λ told e unchanged. c.attach_anew.ensures.files told ∙ (c.commit.ensures.idle unchanged).2;
   unchanged = λ e. let last = c.in_ok-commit.ensures.unchanged in

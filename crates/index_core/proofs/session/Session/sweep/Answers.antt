@@ -5,8 +5,9 @@ use Rattle.outer_io.specs.declared.file_name.FileName.TheVariants.{Segment}
 use Rattle.segment_set.specs.Sets.{SetData}
 use Rattle.segment_set.specs.Seen.{Sees}
 use Rattle.segment_set.specs.Kept.{StaysButFiles}
-use Rattle.index_core.specs.Sessions.{Guards, SessionData}
+use Rattle.index_core.specs.Sessions.{AreTraced, Guards, SessionData}
 use Rattle.index_core.proofs.Guarding.{saved_is, saved_some, session_swept}
+use Rattle.index_core.proofs.Tracing.{session_traced}
 use Rattle.segment_set.proofs.Sizes.{set_fits}
 use Rattle.segment_set.specs.Faithful.{IsFaithful}
 use Rattle.index_core.proofs.session.Session.sweep.Goals as goal
@@ -68,3 +69,19 @@ returns-clause-unread g c = c.sweep.ensures.unread
 
 pub returns-clause-faithful : goal.returns-clause-faithful
 returns-clause-faithful g c told faithful = c.sweep.ensures.faithful told (subst (λ (u : SessionData). IsFaithful g.row.D (g.F.Pages.files c.args.folder.now) u.set) (sym c.self.view_is) faithful)
+
+pub returns-clause-traced : goal.returns-clause-traced
+returns-clause-traced g c told guards traced = session_traced _ _ _ _
+    (record { set = c.sweep.new.self; commit = c.self.inside.commit; refused = c.self.inside.refused })
+    (ap (λ (u : SessionData). is_some u.commit) c.self.view_is ∙ c.requires.saved.0)
+    (ap (λ (u : SessionData). u.set.saved) c.self.view_is ∙ c.requires.saved.1 ∙ ap (λ (u : SessionData). u.commit) (sym c.self.view_is))
+    (ap (λ (u : SessionData). u.refused) c.self.view_is ∙ c.requires.written)
+    (λ d saved. record {
+      commit = c.sweep.ensures.commit told;
+      files = c.sweep.ensures.needed told d saved;
+      named = c.sweep.ensures.named d saved;
+      parts = ap (λ (u : SetData). u.parts) c.sweep.ensures.alone.is;
+      leaf = ap (λ (u : SetData). u.leaf) c.sweep.ensures.alone.is;
+    })
+    (subst (Guards g.row.D (g.F.Pages.files c.args.folder.now)) (sym c.self.view_is) guards)
+    (subst (λ (u : SessionData). AreTraced g.row.D (g.F.Pages.files c.args.folder.now) u.set.parts) (sym c.self.view_is) traced)

@@ -7,6 +7,7 @@ use Rattle.segment_view.specs.Parts.{cleared}
 use Rattle.index_core.specs.Sessions.{SessionData}
 use Rattle.index_core.proofs.Adding.{faithful_seen, guards_same}
 use Rattle.index_core.proofs.Bringing.{brings_cleared}
+use Rattle.index_core.proofs.Tracing.{traced_cleared}
 use Rattle.index_core.proofs.session.Session.take_out.Goals as goal
 
 pub delete-requires : goal.delete-requires
@@ -28,3 +29,7 @@ returns-clause-guards g c files guards =
 
 pub returns-clause-faithful : goal.returns-clause-faithful
 returns-clause-faithful g c files = faithful_seen g.row.D files files _ _ _ c.self.view_is (c.delete.ensures.faithful files)
+
+pub returns-clause-traced : goal.returns-clause-traced
+returns-clause-traced g c files =
+    traced_cleared g.row.D files c.args.doc _ _ (ap (λ (u : SetData). u.parts) c.delete.ensures.alone ∙ ap (λ (u : SessionData). cleared c.args.doc u.set.parts) c.self.view_is)

@@ -1,7 +1,8 @@
 -- The commit takes its place, or it isn't known which of the two is there.
-use Rattle.std.proofs.Common.{refl, ap, ◌∙◌}
+use Rattle.std.proofs.Common.{refl, ap, ◌∙◌, inr}
 use Rattle.index_core.specs.Sessions.{SessionData}
 use Rattle.index_core.proofs.Guarding.{guards_done, guards_undone}
+use Rattle.index_core.proofs.Tracing.{traced_done}
 use Rattle.index_core.proofs.Committing.{faithful_done, kept_undone, seen_done, stores_done, stores_undone, which_says}
 use Rattle.segment_set.proofs.Sizes.{set_fits}
 use Rattle.index_core.proofs.session.Session.write.Goals as goal
@@ -53,3 +54,10 @@ returns-in-Ok-clause-faithful g c told faithful = faithful_done _ _ _ _ _ c.self
 
 pub returns-in-Err-clause-faithful : goal.returns-in-Err-clause-faithful
 returns-in-Err-clause-faithful g c told faithful = faithful_done _ _ _ _ _ c.self.view_is (c.write_commit.ensures.others told) faithful
+
+pub returns-in-Ok-clause-traced : goal.returns-in-Ok-clause-traced
+returns-in-Ok-clause-traced g c told lives traced = traced_done _ _ _ _ _ c.args.commit c.self.view_is c.requires.listed lives (c.write_commit.ensures.others told) (inr (c.in-Ok.ensures.commit told)) traced
+
+pub returns-in-Err-clause-traced : goal.returns-in-Err-clause-traced
+returns-in-Err-clause-traced g c told lives traced = traced_done _ (g.F.Pages.files c.args.folder.now) (g.F.Pages.files c.write_commit.new.folder) _ _ c.args.commit c.self.view_is c.requires.listed lives (c.write_commit.ensures.others told)
+    (which_says (g.F.Pages.files c.args.folder.now) (g.F.Pages.files c.write_commit.new.folder) c.args.commit (c.in-Err.ensures.kept told)) traced
