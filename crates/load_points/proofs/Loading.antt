@@ -21,10 +21,10 @@ use Rattle.stored_index.proofs.Whole.{held_for}
 use Rattle.documents.proofs.Lists.{nil_none}
 use Rattle.segment_view.specs.Parts.{Part}
 use Rattle.segment_set.specs.Seen.{Sees}
-use Rattle.segment_set.specs.Evidence.{IsEvident}
+use Rattle.segment_set.specs.Evidence.{IsEvident, IsTwice}
 use Rattle.segment_set.specs.Faithful.{IsFaithful}
 use Rattle.segment_set.proofs.Evident.{on_commit_evident, on_evident_at, on_evident_less}
-use Rattle.index_core.specs.Sessions.{Guards, IsUnchanged, SessionData, Trusts}
+use Rattle.index_core.specs.Sessions.{AreTraced, Guards, IsTraced, IsUnchanged, SessionData, Trusts}
 use Rattle.index_core.specs.Whole.{Adds, DoesWhole, HasNewCanonical, IsNewSegment, Spot, with_points}
 use Rattle.index_core.proofs.Answering.{cause_then, fault_to, memory_cause, no_cause}
 use Rattle.csv_load.specs.Loading.{points_of, records_of}
@@ -182,13 +182,12 @@ pub adding_stopped : {T : Type 0} (D : ℕ) (told : Type 0) (answer : State → 
     → Loads told (Trusts D a.files a.session) (IsLoading D a.files a.session) answer (record { files = a.files; faults = a.faults; text = before }) (record { files = b.files; faults = b.faults; text = after }) r
 adding_stopped {T = T} D told answer points a b before after fault r is adds = loads_fault told (Trusts D a.files a.session) (IsLoading D a.files a.session) answer _ _ fault r is
     (λ t stored l. inl (stored_still a.files b.files stored (adds.kept t l.guards) l.keeps))
-    (λ t stored l. adds.whole t l.index l.seen) adds.cause
-    (on_evident_less {X = T} (told × IsFaithful D a.files a.session.set) (told × Trusts D a.files a.session) b.files (Err fault) (λ h. (h.0, h.1.faithful)) adds.evident)
+    (λ t stored l. adds.whole t l.index l.seen) adds.cause adds.evident
 
 -- a fault of the commit after them: what was stored is, or all of it
 pub commit_stopped : {T U : Type 0} (D : ℕ) (told : Type 0) (points : List (List ℤ)) (a b c : Spot) (x : U) (before after : List ℕ) (fault : PageFault) (r : Result Bool PageFault) → r ≡ Err fault
     → a.session.set.given + length points ≤ 2 ^ 24 → Adds D told points a b (Ok x) → IsCommitted {T = T} D told b c (Err fault)
-    → OnDamage {T = T} (Err fault) (IsEvident (told × IsFaithful D b.files b.session.set) c.files)
+    → OnDamage {T = T} (Err fault) (IsEvident (told × Trusts D b.files b.session) c.files)
     → Loads told (Trusts D a.files a.session) (IsLoading D a.files a.session) (λ stored. matched D stored points) (record { files = a.files; faults = a.faults; text = before }) (record { files = c.files; faults = c.faults; text = after }) r
 commit_stopped {T = T} D told points a b c x before after fault r is fits adds commits evident = loads_fault told (Trusts D a.files a.session) (IsLoading D a.files a.session) _ _ _ fault r is
     (λ t stored l. ⊎_elim
@@ -198,7 +197,8 @@ commit_stopped {T = T} D told points a b c x before after fault r is fits adds c
     (commits.stored t (with_points l.index points) (adds.seen t l.index l.seen) (adds.guards t l.guards)))
     (λ t stored l. commits.whole t (with_points l.index points) (adds.seen t l.index l.seen))
     (cause_then a.faults b.faults c.faults (Err fault) adds.cause.fine commits.cause)
-    (on_evident_less {X = T} (told × IsFaithful D b.files b.session.set) (told × Trusts D a.files a.session) c.files (Err fault) (λ h. (h.0, adds.faithful h.0 h.1.faithful)) evident)
+    (on_evident_less {X = T} (told × Trusts D b.files b.session) (told × Trusts D a.files a.session) c.files (Err fault)
+    (λ h. (h.0, record { guards = adds.guards h.0 h.1.guards; faithful = adds.faithful h.0 h.1.faithful; traced = adds.traced h.0 h.1 })) evident)
 
 -- all came, and are stored
 pub all_loaded : {T U : Type 0} (D : ℕ) (told : Type 0) (points : List (List ℤ)) (a b c : Spot) (x : U) (y : T) (next : ℕ) (before after : List ℕ)
@@ -246,23 +246,27 @@ pub unread_commit : {T : Type 0} (told : Type 0) (answer : State → Answer) (ol
     → (told → OnDamage {T = T} (Err fault) (IsCommitDamageOf old.files)) → OnDamage {T = T} (Err fault) IsCommitDamage → Loads told (Unit {0}) (IsStored old.files) answer old new r
 unread_commit {T = T} told answer old new fault r is same whole cause damage shown =
     loads_fault {T = T} told (Unit {0}) (IsStored old.files) answer old new fault r is (λ t stored h. inl (subst (λ (f : Files). IsStored f stored) (sym (same t)) h)) whole cause
-    (on_evident_at {X = T} told (told × Unit {0}) old.files new.files (Err fault) (λ h. h.0) (λ h. same h.0) (on_commit_evident {X = T} told old.files (Err fault) damage shown))
+    (on_evident_at {X = T} IsTwice told (told × Unit {0}) old.files new.files (Err fault) (λ h. h.0) (λ h. same h.0) (on_commit_evident {X = T} told old.files (Err fault) damage shown))
 
 -- a damage of files that are the same
 pub evident_still : (told trusts : Type 0) (old new : Files) (fault : PageFault) → (told → new ≡ old) → FaultShows (IsEvident (told × trusts) old) fault → FaultShows (IsEvident (told × trusts) new) fault
-evident_still told trusts old new fault same evident = on_evident_at {X = Bool} (told × trusts) (told × trusts) old new (Err fault) (λ h. h) (λ h. same h.0) evident
+evident_still told trusts old new fault same evident = on_evident_at {X = Bool} IsTwice (told × trusts) (told × trusts) old new (Err fault) (λ h. h) (λ h. same h.0) evident
 
 -- and of files that are trusted whatever they hold
 pub evident_all : (told : Type 0) (files : Files) (r : Result Bool PageFault) → OnDamage r (IsEvident (told × Unit {0}) files) → OnDamage r (IsEvident told files)
 evident_all told files r = on_evident_less (told × Unit {0}) told files r (λ t. (t, tt))
 
--- where it starts the files are trusted, where what a session is made of is so
-pub made_trusts : (D : ℕ) (files : Files) (s : SessionData) → (files Commit ≡ None → Guards D files s) → IsFaithful D files s.set → files Commit ≡ None → Trusts D files s
-made_trusts D files s guards faithful none = record { guards = guards none; faithful = faithful }
+-- where it starts the files are trusted, where what a session is made of is so; it has no segment
+pub made_trusts : (D : ℕ) (files : Files) (s : SessionData) → (files Commit ≡ None → Guards D files s) → IsFaithful D files s.set → s.set.parts ≡ [] → files Commit ≡ None → Trusts D files s
+made_trusts D files s guards faithful bare none = record {
+  guards = guards none;
+  faithful = faithful;
+  traced = λ p there. nil_none p (IsTraced D files p) (subst (λ (ps : List Part). Contains ps p) bare there);
+}
 
 -- where the files are the same, a session that is trusted there is so still
-pub trusts_still : (D : ℕ) (old new : Files) (s : SessionData) → new ≡ old → Guards D old s → IsFaithful D old s.set → Trusts D new s
-trusts_still D old new s same guards faithful = subst (λ (f : Files). Trusts D f s) (sym same) (record { guards = guards; faithful = faithful })
+pub trusts_still : (D : ℕ) (old new : Files) (s : SessionData) → new ≡ old → Guards D old s → IsFaithful D old s.set → AreTraced D old s.set.parts → Trusts D new s
+trusts_still D old new s same guards faithful traced = subst (λ (f : Files). Trusts D f s) (sym same) (record { guards = guards; faithful = faithful; traced = traced })
 
 pub none_keeps : (files : Files) (stored : State) → StartsNone files stored → IsStored files stored
 none_keeps files stored (none, absent) = subst (IsStored files) (sym none) absent

@@ -13,7 +13,7 @@ load_open-requires-after_bounds g c κs = λ _. (session_fits g.row.D c.requires
 pub returns-in-Ok : goal.returns-in-Ok
 returns-in-Ok g c =
     loads_after _ _ _ _ _ _ _ _ _ _ c.load_open.result c.in-Ok.ensures.files refl c.in-Ok.ensures.cause
-    (λ told says. trusts_still g.row.D _ _ _ (c.in-Ok.ensures.files told) (c.in-Ok.ensures.guards told says) (c.in-Ok.ensures.faithful told))
+    (λ told says. trusts_still g.row.D _ _ _ (c.in-Ok.ensures.files told) (c.in-Ok.ensures.guards told says) (c.in-Ok.ensures.faithful told) (c.in-Ok.ensures.traced told says))
     (λ told stored h. starts_still g.row.D _ _ c.args.commit _ stored (c.in-Ok.ensures.files told)
     (attached_loading g.row.D _ c.args.commit _ stored (c.in-Ok.ensures.seen told h.0) (c.in-Ok.ensures.guards told h.0) c.in-Ok.ensures.unchanged h) (has_dims g.row.D _ c.args.commit stored c.requires.dims h))
     c.load_open.ensures
