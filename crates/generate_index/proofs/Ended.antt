@@ -20,7 +20,7 @@ use Rattle.stored_index.specs.Stored.{IsStored}
 use Rattle.stored_index.proofs.KeptFiles.{stored_still}
 use Rattle.segment_view.specs.Parts.{Part}
 use Rattle.segment_set.specs.Seen.{Sees}
-use Rattle.segment_set.specs.Evidence.{IsEvident}
+use Rattle.segment_set.specs.Evidence.{IsEvident, IsTwice}
 use Rattle.segment_set.proofs.Evident.{on_commit_evident, on_evident_at, on_evident_less}
 use Rattle.index_core.specs.Sessions.{Guards, SessionData}
 use Rattle.index_core.specs.Whole.{DoesWhole, HasNewCanonical, Spot}
@@ -148,11 +148,12 @@ none_anew old new same c says l inside apart head has = absurd (apart c (subst (
 pub memory_evident : (told : Type 0) (files : Files) (r : Result Bool PageFault) → r ≡ Err page.Memory → OnDamage r (IsEvident told files)
 memory_evident told files r is = subst (λ (q : Result Bool PageFault). OnDamage q (IsEvident told files)) (sym is) tt
 
--- a fault of a call on a set that is faithful
-pub fault_evident : (told trusts : Type 0) (files : Files) (fault : PageFault) (r : Result Bool PageFault) → r ≡ Err fault → (told → trusts) → FaultShows (IsEvident (told × trusts) files) fault → OnDamage r (IsEvident told files)
-fault_evident told trusts files fault r is trusted evident = subst (λ (q : Result Bool PageFault). OnDamage q (IsEvident told files)) (sym is)
-    (on_evident_less {X = Bool} (told × trusts) told files (Err fault) (λ t. (t, trusted t)) evident)
+-- a fault of a call whose session is trusted, where no Commit file was at first
+pub fault_evident : (told none trusts : Type 0) (files : Files) (fault : PageFault) (r : Result Bool PageFault) → r ≡ Err fault → (told → none → trusts) → FaultShows (IsEvident (told × trusts) files) fault
+    → OnDamage r (IsEvident (told × none) files)
+fault_evident told none trusts files fault r is trusted evident = subst (λ (q : Result Bool PageFault). OnDamage q (IsEvident (told × none) files)) (sym is)
+    (on_evident_less {X = Bool} (told × trusts) (told × none) files (Err fault) (λ h. (h.0, trusted h.0 h.1)) evident)
 
 -- the commit was not read, and no file changed
 pub unread_evident : (told : Type 0) (old new : Files) (fault : PageFault) → (told → new ≡ old) → (told → FaultShows (IsCommitDamageOf old) fault) → FaultShows IsCommitDamage fault → FaultShows (IsEvident told new) fault
-unread_evident told old new fault same damage shown = on_evident_at {X = Bool} told told old new (Err fault) (λ t. t) same (on_commit_evident {X = Bool} told old (Err fault) damage shown)
+unread_evident told old new fault same damage shown = on_evident_at {X = Bool} IsTwice told told old new (Err fault) (λ t. t) same (on_commit_evident {X = Bool} told old (Err fault) damage shown)

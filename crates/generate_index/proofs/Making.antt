@@ -1,19 +1,22 @@
 -- A session that makes the index, call after call.
 use Rattle.std.proofs.Common.{◌≡◌, ◌+◌, ℕ, List, [], ◌∷◌, ◌++◌, Result, Ok, Err, OnOk, refl, sym, ap, subst, ◌∙◌, ℤ}
+use Rattle.std.specs.List.{Contains}
 use Rattle.outer_io.specs.Files.{Files}
 use Rattle.page_cache.specs.declared.faults.PageFault.{PageFault}
 use Rattle.page_cache.specs.declared.faults.PageFault.TheVariants as page
 use Rattle.page_cache.specs.Causes.{HasPageCause}
 use Rattle.page_cache.specs.Evidence.{NotDamaged, OnDamage}
 use Rattle.documents.specs.Documents.{Document}
+use Rattle.documents.proofs.Lists.{nil_none}
 use Rattle.index_model.specs.State.{Index, new_index}
 use Rattle.stored_index.specs.Kept.{SameKept}
 use Rattle.stored_index.proofs.KeptFiles.{kept_after, kept_itself}
+use Rattle.segment_view.specs.Parts.{Part}
 use Rattle.segment_set.specs.Seen.{Sees}
 use Rattle.segment_set.specs.Evidence.{IsEvident}
 use Rattle.segment_set.specs.Faithful.{IsFaithful}
 use Rattle.segment_set.proofs.Evident.{on_evident_less}
-use Rattle.index_core.specs.Sessions.{Guards, SessionData}
+use Rattle.index_core.specs.Sessions.{AreTraced, Guards, IsTraced, SessionData, Trusts}
 use Rattle.index_core.specs.Effects.{BringsCanonical}
 use Rattle.index_core.specs.Whole.{Adds, Spot, with_points}
 use Rattle.index_core.proofs.Answering.{cause_then, fault_to, no_cause}
@@ -43,7 +46,20 @@ makes_none told Before at x = record {
   cause = no_cause at.faults x;
   whole = λ t before. tt;
   faithful = λ t faithful. faithful;
+  traced = λ t trusts. trusts.traced;
   evident = tt;
+}
+
+-- what is trusted before is so after it
+pub makes_trusts : {T : Type 0} (told : Type 0) (Before After : At) (a b : Spot) (r : Result T PageFault) → Makes told Before After a b r → told → Trusts 2 a.files a.session → Trusts 2 b.files b.session
+makes_trusts told Before After a b r makes t trusts = record { guards = makes.guards t trusts.guards; faithful = makes.faithful t trusts.faithful; traced = makes.traced t trusts }
+
+-- a new session has no segment
+pub created_trusts : (files : Files) (s : SessionData) → Guards 2 files s → IsFaithful 2 files s.set → s.set.parts ≡ [] → Trusts 2 files s
+created_trusts files s guards faithful bare = record {
+  guards = guards;
+  faithful = faithful;
+  traced = λ p there. nil_none p (IsTraced 2 files p) (subst (λ (ps : List Part). Contains ps p) bare there);
 }
 
 -- some, and then more
@@ -56,7 +72,8 @@ makes_then told Before Between After a b c x r first second = record {
   cause = cause_then a.faults b.faults c.faults r first.cause.fine second.cause;
   whole = λ t before. second.whole t (first.made t before);
   faithful = λ t faithful. second.faithful t (first.faithful t faithful);
-  evident = on_evident_less (told × IsFaithful 2 b.files b.session.set) (told × IsFaithful 2 a.files a.session.set) c.files r (λ h. (h.0, first.faithful h.0 h.1)) second.evident;
+  traced = λ t trusts. second.traced t (makes_trusts told Before Between a b (Ok x) first t trusts);
+  evident = on_evident_less (told × Trusts 2 b.files b.session) (told × Trusts 2 a.files a.session) c.files r (λ h. (h.0, makes_trusts told Before Between a b (Ok x) first h.0 h.1)) second.evident;
 }
 
 -- after a fault it says the same of all that was to come
@@ -70,6 +87,7 @@ makes_stopped {T = T} {U = U} told Before After Later a b fault r is makes = sub
   cause = fault_to a.faults b.faults fault makes.cause;
   whole = λ t before. to_other fault (makes.whole t before);
   faithful = makes.faithful;
+  traced = makes.traced;
   evident = makes.evident;
 })
   where
@@ -89,6 +107,7 @@ makes_add told seed n p a b r drawn all more_all more adds = record {
   cause = adds.cause;
   whole = λ t before. adds.whole t (drawn_index seed n 0) before;
   faithful = adds.faithful;
+  traced = adds.traced;
   evident = adds.evident;
 }
   where
@@ -111,15 +130,17 @@ makes_reads told i a b r seen guards files parts cause whole faithful evident = 
   cause = cause;
   whole = whole;
   faithful = faithful;
-  evident = evident;
+  traced = λ t trusts. subst (λ (ps : List Part). AreTraced 2 b.files ps) (sym parts) (subst (λ (f : Files). AreTraced 2 f a.session.set.parts) (sym (files t)) trusts.traced);
+  evident = on_evident_less (told × IsFaithful 2 a.files a.session.set) (told × Trusts 2 a.files a.session) b.files r (λ h. (h.0, h.1.faithful)) evident;
 }
 
 -- documents were taken out, without a call on the folder
 pub makes_deletes : {T : Type 0} (told : Type 0) (seed n : ℕ) (files : Files) (faults : ℕ) (s t : SessionData) (x : T)
     → ((files : Files) (faults seed : ℕ) → IsMade seed n 0 (record { files = files; session = s; faults = faults }) → IsMade seed n n (record { files = files; session = t; faults = faults }))
-    → ((files : Files) → Guards 2 files s → Guards 2 files t) → ((files : Files) → IsFaithful 2 files s.set → IsFaithful 2 files t.set) → ((files : Files) → BringsCanonical 2 files files s.set.parts t.set.parts)
+    → ((files : Files) → Guards 2 files s → Guards 2 files t) → ((files : Files) → IsFaithful 2 files s.set → IsFaithful 2 files t.set)
+    → ((files : Files) → AreTraced 2 files s.set.parts → AreTraced 2 files t.set.parts) → ((files : Files) → BringsCanonical 2 files files s.set.parts t.set.parts)
     → Makes told (IsMade seed n 0) (IsMade seed n n) (record { files = files; session = s; faults = faults }) (record { files = files; session = t; faults = faults }) (Ok x)
-makes_deletes told seed n files faults s t x made guards faithful canon = record {
+makes_deletes told seed n files faults s t x made guards faithful traced canon = record {
   made = λ h before. made files faults seed before;
   guards = λ h. guards files;
   kept = λ h g. kept_itself files;
@@ -127,6 +148,7 @@ makes_deletes told seed n files faults s t x made guards faithful canon = record
   cause = no_cause faults x;
   whole = λ h before. tt;
   faithful = λ h. faithful files;
+  traced = λ h trusts. traced files trusts.traced;
   evident = tt;
 }
 
@@ -140,6 +162,7 @@ makes_ok told Before After a b x y makes = record {
   cause = record { later = makes.cause.later; fine = makes.cause.fine; failed = λ e. absurd cc };
   whole = λ t before. tt;
   faithful = makes.faithful;
+  traced = makes.traced;
   evident = tt;
 }
 

@@ -10,7 +10,7 @@ use Rattle.segment_set.specs.Seen.{Sees}
 use Rattle.segment_set.specs.Evidence.{IsEvident}
 use Rattle.segment_set.specs.Faithful.{IsFaithful}
 use Rattle.index_core.specs.Effects.{BringsCanonical}
-use Rattle.index_core.specs.Sessions.{Guards}
+use Rattle.index_core.specs.Sessions.{AreTraced, Guards, Trusts}
 use Rattle.index_core.specs.Whole.{Spot}
 use Rattle.drawn_points.specs.Generated.{documents, kept}
 
@@ -35,4 +35,5 @@ pub record Makes {T : Type 0} (told : Type 0) (Before After : Spot → Type 0) (
   pub cause : HasPageCause old.faults new.faults result
   pub whole : told → Before old → NotDamaged result
   pub faithful : told → IsFaithful 2 old.files old.session.set → IsFaithful 2 new.files new.session.set
-  pub evident : OnDamage result (IsEvident (told × IsFaithful 2 old.files old.session.set) new.files)
+  pub traced : told → Trusts 2 old.files old.session → AreTraced 2 new.files new.session.set.parts
+  pub evident : OnDamage result (IsEvident (told × Trusts 2 old.files old.session) new.files)

@@ -11,7 +11,7 @@ ghost use Rattle.index_model.specs.State.{State};
 ghost use Rattle.stored_index.specs.Stored.{IsStored};
 ghost use Rattle.segment_set.specs.Evidence.{IsEvident};
 ghost use Rattle.segment_set.specs.Faithful.{IsFaithful};
-ghost use Rattle.index_core.specs.Sessions.{Guards};
+ghost use Rattle.index_core.specs.Sessions.{AreTraced, Guards};
 ghost use Rattle.index_core.specs.Effects.{BringsCanonical};
 ghost use Rattle.index_core.specs.Whole.{DoesWhole, HasNewCanonical};
 ghost use Rattle.drawn_points.specs.Draws.{draw, points};
@@ -92,7 +92,7 @@ fn generate_first<R: Threads + Sync, F: Folder, G: Gate>(
     ensures done { IfOk result (λ refused. refused ≡ true → ⊥) }
     ensures canon { IsTrue F.told → F.files folder.old CommitName ≡ None → OnOk result (HasNewCanonical (F.files folder.old) (F.files folder.new)) }
     ensures cause { HasPageCause (F.faults folder.old) (F.faults folder.new) result }
-    ensures evident { OnDamage result (IsEvident (IsTrue F.told) (F.files folder.new)) }
+    ensures evident { OnDamage result (IsEvident (IsTrue F.told × (F.files folder.old CommitName ≡ None)) (F.files folder.new)) }
 {
     index_made();
     documents_added();
@@ -168,6 +168,7 @@ fn delete_tenths(session: &mut Session<2>, docs: u32) -> u32
     ensures live { (files : Files) (faults seed : ℕ) → IsMade seed docs 0 (record { files = files; session = session.old; faults = faults }) → result ≡ length (made_docs seed docs) }
     ensures guards { (files : Files) → Guards 2 files session.old → Guards 2 files session.new }
     ensures faithful { (files : Files) → IsFaithful 2 files session.old.set → IsFaithful 2 files session.new.set }
+    ensures traced { (files : Files) → AreTraced 2 files session.old.set.parts → AreTraced 2 files session.new.set.parts }
     ensures canon { (files : Files) → BringsCanonical 2 files files session.old.set.parts session.new.set.parts }
 {
     documents_deleted();

@@ -15,6 +15,7 @@ deletes-init c = record {
   live = λ files faults seed before. sym (ap length (c.documents_deleted.ensures.none seed c.args.docs) ∙ length-map-range_with_len (document seed) 0 c.args.docs);
   guards = λ files guards. guards;
   faithful = λ files faithful. faithful;
+  traced = λ files traced. traced;
   canon = λ files. brings_same 2 files files _ _ refl refl;
   tenth = refl;
 }
@@ -32,6 +33,7 @@ deletes-preserved c = record {
       ∙ ap length (sym (c.documents_deleted.ensures.more seed c.args.docs c.deletes.number c.deletes.invariant.tenth));
   guards = λ files guards. c.take_out-goes.ensures.guards files (c.deletes.invariant.guards files guards);
   faithful = λ files faithful. c.take_out-goes.ensures.faithful files (c.deletes.invariant.faithful files faithful);
+  traced = λ files traced. c.take_out-goes.ensures.traced files (c.deletes.invariant.traced files traced);
   canon = λ files. brings_then 2 files files files _ _ _ (c.deletes.invariant.canon files) (c.take_out-goes.ensures.canon files);
   tenth = omega (arith, c.deletes.invariant.tenth);
 }
@@ -50,6 +52,9 @@ returns-clause-guards c = c.deletes.invariant.guards
 
 pub returns-clause-faithful : goal.returns-clause-faithful
 returns-clause-faithful c = c.deletes.invariant.faithful
+
+pub returns-clause-traced : goal.returns-clause-traced
+returns-clause-traced c = c.deletes.invariant.traced
 
 pub returns-clause-canon : goal.returns-clause-canon
 returns-clause-canon c = c.deletes.invariant.canon

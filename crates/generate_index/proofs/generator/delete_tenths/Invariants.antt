@@ -2,7 +2,7 @@ use Rattle.std.proofs.Common.{◌≡◌, ◌%◌, ◌-◌, ℕ, length}
 use Rattle.outer_io.specs.Files.{Files}
 use Rattle.segment_set.specs.Faithful.{IsFaithful}
 use Rattle.index_core.specs.Effects.{BringsCanonical}
-use Rattle.index_core.specs.Sessions.{Guards}
+use Rattle.index_core.specs.Sessions.{AreTraced, Guards}
 use Rattle.drawn_points.specs.Generated.{documents, kept}
 use Rattle.generate_index.specs.Generates.{IsMade}
 use Rattle.generate_index.proofs.generator.delete_tenths.Given as goal
@@ -14,6 +14,7 @@ invariant-deletes l = record {
   live : (files : Files) (faults seed : ℕ) → IsMade seed l.docs 0 (record { files = files; session = l.initial.session; faults = faults }) → l.live ≡ length (kept l.number (documents seed l.docs));
   guards : (files : Files) → Guards 2 files l.initial.session → Guards 2 files l.session;
   faithful : (files : Files) → IsFaithful 2 files l.initial.session.set → IsFaithful 2 files l.session.set;
+  traced : (files : Files) → AreTraced 2 files l.initial.session.set.parts → AreTraced 2 files l.session.set.parts;
   canon : (files : Files) → BringsCanonical 2 files files l.initial.session.set.parts l.session.set.parts;
   tenth : l.number % 10 ≡ 0;
 }

@@ -1,9 +1,10 @@
 -- What the folder's commit says decides whether an index is made.
-use Rattle.std.proofs.Common.{Bool, true, Err, IsTrue, OnOk, refl, sym, ap, subst, ◌∙◌}
+use Rattle.std.proofs.Common.{◌≡◌, Bool, true, None, Err, IsTrue, OnOk, refl, sym, ap, subst, ◌∙◌}
 use Rattle.std.proofs.lemmas.Result.{err_from_is_err_and}
 use Rattle.outer_io.specs.declared.file_name.FileName.TheVariants.{Commit}
 use Rattle.outer_io.specs.Files.{Files}
 use Rattle.page_cache.specs.declared.faults.PageFault.{PageFault}
+use Rattle.segment_set.proofs.Evident.{on_evident_less}
 use Rattle.index_core.specs.Whole.{DoesWhole, HasNewCanonical}
 use Rattle.index_core.proofs.Answering.{cause_then, done_cause, fault_to, memory_cause}
 use Rattle.index_core.proofs.Wholes.{state_undamaged}
@@ -40,7 +41,9 @@ pub returns-clause-evident : goal.returns-clause-evident
 returns-clause-evident g c = unread_evident (IsTrue g.F.Pages.told) (g.F.Pages.files c.args.folder.now) (g.F.Pages.files c.read_commit.new.folder) c.in-Err.fault c.in-Err.ensures.files c.in-Err.ensures.damage c.in-Err.ensures.shown
 
 pub returns-in-Ok-None-clause-evident : goal.returns-in-Ok-None-clause-evident
-returns-in-Ok-None-clause-evident g c = c.generate_first.ensures.evident
+returns-in-Ok-None-clause-evident g c =
+    on_evident_less (IsTrue g.F.Pages.told × (g.F.Pages.files c.read_commit.new.folder Commit ≡ None)) (IsTrue g.F.Pages.told) (g.F.Pages.files c.generate_first.new.folder) c.generate_first.result
+    (λ told. (told, ap (λ (f : Files). f Commit) (c.in-Ok-None.ensures.files told) ∙ rw c.in-Ok-None.field-0-is at (c.in-Ok-None.ensures.found told))) c.generate_first.ensures.evident
 
 pub returns-in_err-put_exists-in-Ok-Some-clause-evident : goal.returns-in_err-put_exists-in-Ok-Some-clause-evident
 returns-in_err-put_exists-in-Ok-Some-clause-evident g c =

@@ -1,11 +1,13 @@
 -- A session is created and filled, and what it makes is said and committed.
-use Rattle.std.proofs.Common.{Err, IsTrue, None, false, ap, ◌∙◌, lit<, sym, arith}
+use Rattle.std.proofs.Common.{◌≡◌, Err, IsTrue, None, false, ap, ◌∙◌, lit<, sym, arith}
 use Rattle.std.proofs.lemmas.Result.{err_from_is_err_and}
+use Rattle.outer_io.specs.declared.file_name.FileName.TheVariants.{Commit}
 use Rattle.page_cache.specs.declared.faults.PageFault.{PageFault}
-use Rattle.segment_set.specs.Faithful.{IsFaithful}
+use Rattle.index_core.specs.Sessions.{Trusts}
 use Rattle.index_core.proofs.Answering.{cause_then, fault_to, memory_cause}
 use Rattle.drawn_points.specs.Generated.{generated}
 use Rattle.generate_index.proofs.Ended.{cause_done, created, ends_early, ends_made, ends_uncommitted, ends_uncreated, ends_unsaid, fault_evident, made_canon, memory_evident}
+use Rattle.generate_index.proofs.Making.{created_trusts, makes_trusts}
 use Rattle.generate_index.proofs.generator.generate_first.Goals as goal
 
 pub create-requires : goal.create-requires
@@ -89,24 +91,27 @@ returns-clause-canon g c told none =
 pub returns-in_err-session-clause-evident : goal.returns-in_err-session-clause-evident
 returns-in_err-session-clause-evident g c =
     let p = err_from_is_err_and c.from_residual.result c.from_residual.ensures.1 in
-    memory_evident (IsTrue g.F.Pages.told) _ _ (p.1 ∙ ap (λ (e : PageFault). Err e) p.2)
+    memory_evident (IsTrue g.F.Pages.told × (g.F.Pages.files c.args.folder.now Commit ≡ None)) _ _ (p.1 ∙ ap (λ (e : PageFault). Err e) p.2)
 
 pub returns-in_err-summary-clause-evident : goal.returns-in_err-summary-clause-evident
 returns-in_err-summary-clause-evident g c =
     let p = err_from_is_err_and c.from_residual-in_err-summary.result c.from_residual-in_err-summary.ensures.1 in
-    fault_evident (IsTrue g.F.Pages.told) (IsFaithful 2 (g.F.Pages.files c.args.folder.now) c.in_ok-session.session.set) (g.F.Pages.files c.fill.new.folder) c.in_err-summary.field-0.0 _ (p.1 ∙ ap (λ (e : PageFault). Err e) p.2)
-    (λ told. c.in_ok-session.ensures.faithful (g.F.Pages.files c.args.folder.now)) c.in_err-summary.ensures.makes.evident
+    fault_evident (IsTrue g.F.Pages.told) (g.F.Pages.files c.args.folder.now Commit ≡ None) (Trusts 2 (g.F.Pages.files c.args.folder.now) c.in_ok-session.session) (g.F.Pages.files c.fill.new.folder) c.in_err-summary.field-0.0 _ (p.1 ∙ ap (λ (e : PageFault). Err e) p.2)
+    (λ told none. created_trusts (g.F.Pages.files c.args.folder.now) c.in_ok-session.session (c.in_ok-session.ensures.guards (g.F.Pages.files c.args.folder.now) none) (c.in_ok-session.ensures.faithful (g.F.Pages.files c.args.folder.now)) c.in_ok-session.ensures.bare)
+    c.in_err-summary.ensures.makes.evident
 
 pub returns-in_err-put_summary-clause-evident : goal.returns-in_err-put_summary-clause-evident
 returns-in_err-put_summary-clause-evident g c =
     let p = err_from_is_err_and c.from_residual-in_err-put_summary.result c.from_residual-in_err-put_summary.ensures.1 in
-    memory_evident (IsTrue g.F.Pages.told) _ _ (p.1 ∙ ap (λ (e : PageFault). Err e) p.2)
+    memory_evident (IsTrue g.F.Pages.told × (g.F.Pages.files c.args.folder.now Commit ≡ None)) _ _ (p.1 ∙ ap (λ (e : PageFault). Err e) p.2)
 
 pub returns-in_err-commit-clause-evident : goal.returns-in_err-commit-clause-evident
 returns-in_err-commit-clause-evident g c =
     let p = err_from_is_err_and c.from_residual-in_err-commit.result c.from_residual-in_err-commit.ensures.1 in
-    fault_evident (IsTrue g.F.Pages.told) (IsFaithful 2 (g.F.Pages.files c.fill.new.folder) c.fill.new.session.set) (g.F.Pages.files c.commit.new.folder) c.in_err-commit.field-0.0 _ (p.1 ∙ ap (λ (e : PageFault). Err e) p.2)
-    (λ told. c.in_ok-summary.ensures.makes.faithful told (c.in_ok-session.ensures.faithful (g.F.Pages.files c.args.folder.now))) c.in_err-commit.ensures.evident
+    fault_evident (IsTrue g.F.Pages.told) (g.F.Pages.files c.args.folder.now Commit ≡ None) (Trusts 2 (g.F.Pages.files c.fill.new.folder) c.fill.new.session) (g.F.Pages.files c.commit.new.folder) c.in_err-commit.field-0.0 _ (p.1 ∙ ap (λ (e : PageFault). Err e) p.2)
+    (λ told none. makes_trusts _ _ _ _ _ _ c.in_ok-summary.ensures.makes told
+    (created_trusts (g.F.Pages.files c.args.folder.now) c.in_ok-session.session (c.in_ok-session.ensures.guards (g.F.Pages.files c.args.folder.now) none) (c.in_ok-session.ensures.faithful (g.F.Pages.files c.args.folder.now)) c.in_ok-session.ensures.bare))
+    c.in_err-commit.ensures.evident
 
 -- the folder's faults
 pub returns-in_err-session-clause-cause : goal.returns-in_err-session-clause-cause
