@@ -8,10 +8,10 @@ use Rattle.page_cache.specs.declared.faults.PageFault.TheVariants as page
 use Rattle.page_cache.specs.Evidence.{FaultShows, OnDamage}
 use Rattle.commit_list.specs.Commits.{CommitData}
 use Rattle.commit_list.specs.CommitFiles.{IsCommitFile}
-use Rattle.segment_set.specs.Evidence.{IsEvident}
+use Rattle.segment_set.specs.Evidence.{IsEvident, IsTwice}
 use Rattle.segment_set.specs.Faithful.{IsFaithful}
 use Rattle.segment_set.proofs.Evident.{evident_at, evident_less}
-use Rattle.index_core.specs.Sessions.{Guards, SessionData, Trusts}
+use Rattle.index_core.specs.Sessions.{AreTraced, Guards, SessionData, Trusts}
 use Rattle.bkd_top.specs.Runs.{OnStatusDamage, OnStopDamage}
 use Rattle.bkd_top.specs.Stops.{status_of, stop_of}
 use Rattle.bkd_top.specs.declared.stop.Stop.{Stop}
@@ -90,7 +90,7 @@ fault_status P (page.Damaged d) h = h
 pub fault_at : (S T : Type 0) (f g : Files) (fault : PageFault) → (T → S) → (T → g ≡ f) → FaultShows (IsEvident S f) fault → FaultShows (IsEvident T g) fault
 fault_at S T f g page.Failed less same h = tt
 fault_at S T f g page.Memory less same h = tt
-fault_at S T f g (page.Damaged d) less same h = evident_at S T f g d less same h
+fault_at S T f g (page.Damaged d) less same h = evident_at IsTwice S T f g d less same h
 
 pub stop_less : {X : Type 0} (S T : Type 0) (files : Files) (result : Result X Stop) → (T → S) → OnStopDamage result (IsEvident S files) → OnStopDamage result (IsEvident T files)
 stop_less S T files (Ok x) less h = tt
@@ -106,6 +106,7 @@ pub says_after : (old new : Files) (c : CommitData) → new ≡ old → IsCommit
 says_after old new c same says = subst (λ (f : Files). IsCommitFile (bytes_of (f Commit)) c) (sym same) says
 
 -- what is attached is trusted with the files, which stay
-pub attached_trusts : (D : ℕ) (old new : Files) (result : Result SessionData PageFault) → new ≡ old → IfOk result (Guards D old) → IfOk result (λ s. IsFaithful D old s.set) → IfOk result (Trusts D new)
-attached_trusts D old new (Ok s) same guards faithful = subst (λ (f : Files). Trusts D f s) (sym same) (record { guards = guards; faithful = faithful })
-attached_trusts D old new (Err e) same guards faithful = tt
+pub attached_trusts : (D : ℕ) (old new : Files) (result : Result SessionData PageFault) → new ≡ old → IfOk result (Guards D old) → IfOk result (λ s. IsFaithful D old s.set)
+    → IfOk result (λ s. AreTraced D old s.set.parts) → IfOk result (Trusts D new)
+attached_trusts D old new (Ok s) same guards faithful traced = subst (λ (f : Files). Trusts D f s) (sym same) (record { guards = guards; faithful = faithful; traced = traced })
+attached_trusts D old new (Err e) same guards faithful traced = tt

@@ -83,16 +83,16 @@ returns-in-Err-clause-passes g c = λ told i stored h bytes reads.
     }))
 
 pub returns-in-Ok-Done-clause-trusts : goal.returns-in-Ok-Done-clause-trusts
-returns-in-Ok-Done-clause-trusts g c = λ told h. record { guards = c.in-Ok-Done.ensures.guards told h.guards; faithful = c.in-Ok-Done.ensures.faithful told h.faithful }
+returns-in-Ok-Done-clause-trusts g c = λ told h. record { guards = c.in-Ok-Done.ensures.guards told h.guards; faithful = c.in-Ok-Done.ensures.faithful told h.faithful; traced = c.in-Ok-Done.ensures.traced told h }
 
 pub returns-in-Ok-Refused-clause-trusts : goal.returns-in-Ok-Refused-clause-trusts
-returns-in-Ok-Refused-clause-trusts g c = λ told h. record { guards = c.in-Ok-Refused.ensures.guards told h.guards; faithful = c.in-Ok-Refused.ensures.faithful told h.faithful }
+returns-in-Ok-Refused-clause-trusts g c = λ told h. record { guards = c.in-Ok-Refused.ensures.guards told h.guards; faithful = c.in-Ok-Refused.ensures.faithful told h.faithful; traced = c.in-Ok-Refused.ensures.traced told h }
 
 pub returns-in-Ok-Refused-clause-evident : goal.returns-in-Ok-Refused-clause-evident
 returns-in-Ok-Refused-clause-evident g c = memory_shows _ c.refuse.result c.refuse.ensures.memory
 
 pub returns-in-Err-clause-trusts : goal.returns-in-Err-clause-trusts
-returns-in-Err-clause-trusts g c = λ told h. record { guards = c.in-Err.ensures.guards told h.guards; faithful = c.in-Err.ensures.faithful told h.faithful }
+returns-in-Err-clause-trusts g c = λ told h. record { guards = c.in-Err.ensures.guards told h.guards; faithful = c.in-Err.ensures.faithful told h.faithful; traced = c.in-Err.ensures.traced told h }
 
 pub returns-in-Err-clause-evident : goal.returns-in-Err-clause-evident
 returns-in-Err-clause-evident g c = c.in-Err.ensures.evident

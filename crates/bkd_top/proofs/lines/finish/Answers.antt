@@ -48,4 +48,4 @@ returns-in-Err-clause-closes g c = λ told i stored h.
 
 pub returns-in-Err-clause-evident : goal.returns-in-Err-clause-evident
 returns-in-Err-clause-evident g c =
-    fault_shows _ c.in-Err.fault (fault_at _ _ _ _ c.in-Err.fault (λ p. (p.0, p.1.faithful)) (λ p. refl) c.in-Err.ensures.evident) c.stopped.result c.stopped.ensures
+    fault_shows _ c.in-Err.fault (fault_at _ _ _ _ c.in-Err.fault (λ p. p) (λ p. refl) c.in-Err.ensures.evident) c.stopped.result c.stopped.ensures

@@ -3,9 +3,11 @@ use Rattle.std.proofs.Common.{ℕ, ◌≤◌, Some, subst}
 use Rattle.std.proofs.lemmas.Result.{err_from_is_err_and}
 use Rattle.script_lang.specs.Reading.{greatest_leaf}
 use Rattle.index_core.proofs.Sizes.{session_fits}
+use Rattle.load_points.proofs.Loading.{made_trusts}
 use Rattle.bkd_top.proofs.Lined.{page_memory, page_none}
 use Rattle.bkd_top.proofs.Opened.{made_stands, attached_stands}
 use Rattle.bkd_top.proofs.Starting.{opens_new, opens_none, opens_stored}
+use Rattle.segment_set.specs.Evidence.{IsTwice}
 use Rattle.segment_set.proofs.Evident.{on_evident_at}
 use Rattle.bkd_top.proofs.Shown.{attached_trusts}
 use Rattle.bkd_top.proofs.origin.open.Goals as goal
@@ -62,7 +64,8 @@ returns-in-Stored-clause-opens g c = λ told i stored h.
     (c.attach.ensures.seen told from.0 i from.1) (c.attach.ensures.guards told from.0) c.attach.ensures.unchanged)
 
 pub returns-in_ok-create-in-New-clause-trusts : goal.returns-in_ok-create-in-New-clause-trusts
-returns-in_ok-create-in-New-clause-trusts g c = λ told there. record { guards = c.in_ok-create-in-New.ensures.guards _ (rw c.in-New.is at there); faithful = c.in_ok-create-in-New.ensures.faithful _ }
+returns-in_ok-create-in-New-clause-trusts g c = λ told there.
+    made_trusts g.row.D _ _ (c.in_ok-create-in-New.ensures.guards _) (c.in_ok-create-in-New.ensures.faithful _) c.in_ok-create-in-New.ensures.bare (rw c.in-New.is at there)
 
 pub returns-in_err-create-in-New-clause-trusts : goal.returns-in_err-create-in-New-clause-trusts
 returns-in_err-create-in-New-clause-trusts g c = λ told there.
@@ -76,8 +79,8 @@ returns-in_err-create-in-New-clause-evident g c =
 
 pub returns-in-Stored-clause-trusts : goal.returns-in-Stored-clause-trusts
 returns-in-Stored-clause-trusts g c = λ told there.
-    attached_trusts g.row.D _ _ c.attach.result (c.attach.ensures.files told) (c.attach.ensures.guards told (rw c.in-Stored.is at there)) (c.attach.ensures.faithful told)
+    attached_trusts g.row.D _ _ c.attach.result (c.attach.ensures.files told) (c.attach.ensures.guards told (rw c.in-Stored.is at there)) (c.attach.ensures.faithful told) (c.attach.ensures.traced told (rw c.in-Stored.is at there))
 
 pub returns-in-Stored-clause-evident : goal.returns-in-Stored-clause-evident
 returns-in-Stored-clause-evident g c =
-    on_evident_at _ _ _ _ c.attach.result (λ p. (p.0, rw c.in-Stored.is at p.1)) (λ p. c.attach.ensures.files p.0) c.attach.ensures.evident
+    on_evident_at IsTwice _ _ _ _ c.attach.result (λ p. (p.0, rw c.in-Stored.is at p.1)) (λ p. c.attach.ensures.files p.0) c.attach.ensures.evident
