@@ -11,6 +11,9 @@ import os
 import re
 import sys
 
+# the checkout stays as it is
+sys.dont_write_bytecode = True
+
 from house_clauses import faults_of_places
 from house_diagram import crates_of, draw, faults_of, floors_of
 from house_reading import fresh_reading
@@ -49,7 +52,7 @@ def texts():
 
 
 def is_code(path):
-    return path.startswith(("crates/", "bench/"))
+    return path == "bkd" or path.startswith(("crates/", "bench/"))
 
 
 def group_of(path):

@@ -23,17 +23,17 @@ def contracts_of(root, path):
 
 
 def places_of(path, text):
-    """The places that a page names: file, call and clauses of each row. PROVED.md names the crate in a heading."""
+    """The places that a page names: file, call and clauses of each row. PROVED.md names the crate in a row above."""
     crate = None
     for line in text.splitlines():
-        heading = re.match(r"### `(\w+)`", line)
+        heading = re.match(r"\| \*\*`(\w+)`\*\*", line)
         if heading:
             crate = heading.group(1)
         cells = [QUOTED.findall(cell) for cell in line.strip("|").split("|")]
         if not line.startswith("|") or len(cells) < 3 or not cells[1] or not cells[1][0].endswith(".rt"):
             continue
         file = cells[1][0]
-        full = file if file.startswith("crates/") else "crates/%s/src/%s" % (crate, file)
+        full = "crates/" + (file if "/" in file else "%s/src/%s" % (crate, file))
         yield full, cells[1][1:], cells[2]
 
 
