@@ -52,7 +52,7 @@ def texts():
 
 
 def is_code(path):
-    return path == "bkd" or path.startswith(("crates/", "bench/"))
+    return not path.endswith(".md")
 
 
 def group_of(path):
@@ -163,6 +163,9 @@ def reading_faults():
     print("%-24s %4d definitions in %d files behind the top call" % (READING, total[0], total[1]))
     if fresh != read(READING):
         yield "%s counts what isn't so: bench/house.py --reading" % READING
+    answers = re.search(r"\*\*(\d+ files, \d+ lines)\*\*", fresh).group(1)
+    if answers not in read("README.md"):
+        yield "README.md doesn't say that the answers have %s" % answers
 
 
 def write_exceptions():
