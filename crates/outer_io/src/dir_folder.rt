@@ -6,6 +6,7 @@ ghost use Rattle.outer_io.specs.Names.{name_text};
 use crate::faults::{Failed, FaultCount, WriteFault};
 use crate::file_name::FileName;
 use crate::folder::{Folder, Pages};
+use crate::open_files::OpenFiles;
 use std::alloc::{AllocError, Global};
 use std::fs::OpenOptions;
 use std::io::{ErrorKind, Write};
@@ -13,16 +14,9 @@ use std::os::unix::fs::FileExt;
 use std::rt::Files;
 use std::{fs, io};
 
-/// A file that is kept open between reads.
-#[derive(Drop)]
-struct Opened<F> {
-    name: FileName,
-    file: F,
-}
-
 /// A folder over a directory that exists, which nobody else writes. It tells no files, since no
-/// clause can say what the system keeps. The file that was read last stays open until another is
-/// read or any is written.
+/// clause can say what the system keeps. The files that were read last stay open, each until it is
+/// written, renamed or removed.
 #[derive(Drop)]
 pub struct DirFolder<R: Files>
 where
@@ -33,7 +27,7 @@ where
     /// The path of the call's file, and of a rename's second one, in memory that `new` takes.
     path: String,
     other: String,
-    opened: Option<Opened<R::File>>,
+    opened: OpenFiles<R::File>,
     reads: u64,
     faults: FaultCount,
 }
@@ -48,7 +42,7 @@ where
     ghost use Rattle.outer_io.specs.DirFolder.{directory_path, path_or_dot, directory_faults, directory_reads, StaysCounted};
 
     /// A folder over this directory. An empty text is the directory that the program runs in. The
-    /// memory for paths is taken here.
+    /// memory for paths and for the table of open files is taken here.
     pub fn new(rt: R, alloc: Global, dir: &str) -> Result<DirFolder<R>, AllocError>
         ensures dir { IfOk result (λ f. directory_path f ≡ path_or_dot dir.now) }
         ensures faults { IfOk result (λ f. directory_faults f ≡ 0) }
@@ -61,7 +55,7 @@ where
             dir: String::from_str(alloc, dir)?,
             path: String::with_capacity(alloc, length)?,
             other: String::with_capacity(alloc, length)?,
-            opened: None,
+            opened: OpenFiles::new(alloc)?,
             reads: 0,
             faults: FaultCount::new(),
         })
@@ -84,30 +78,17 @@ where
         ensures bound { ReadsAtMost result buf.new }
         ensures stays { StaysCounted self.old self.new }
     {
-        self.keep_open(n)?;
-        match &self.opened {
-            Some(opened) => read_fully(&opened.file, at, buf),
-            None => Ok(0),
+        if let Some(file) = self.opened.get(n) {
+            return read_fully(file, at, buf);
         }
-    }
-
-    /// Opens a file that isn't open. Afterwards none is open where it isn't there.
-    fn keep_open(&mut self, n: &FileName) -> io::Result<()>
-        ensures { StaysCounted self.old self.new }
-    {
-        if let Some(opened) = &self.opened
-            && opened.name.is(n)
-        {
-            return Ok(());
-        }
-        self.opened = None;
         set_path(&mut self.path, self.dir.as_str(), n)?;
         match fs::open(&self.rt, self.path.as_str()) {
             Ok(file) => {
-                self.opened = Some(Opened { name: *n, file });
-                Ok(())
+                let count = read_fully(&file, at, buf);
+                self.opened.keep(*n, file);
+                count
             }
-            Err(e) if e.kind() == ErrorKind::NotFound => Ok(()),
+            Err(e) if e.kind() == ErrorKind::NotFound => Ok(0),
             Err(e) => Err(e),
         }
     }
@@ -116,7 +97,7 @@ where
     fn put(&mut self, how: &OpenOptions, n: &FileName, b: &[u8]) -> io::Result<()>
         ensures { StaysCounted self.old self.new }
     {
-        self.opened = None;
+        self.opened.close(n);
         set_path(&mut self.path, self.dir.as_str(), n)?;
         let mut file = how.open(&self.rt, self.path.as_str())?;
         file.write_all(b)
@@ -125,7 +106,8 @@ where
     fn give_name(&mut self, from: &FileName, to: &FileName) -> io::Result<()>
         ensures { StaysCounted self.old self.new }
     {
-        self.opened = None;
+        self.opened.close(from);
+        self.opened.close(to);
         set_path(&mut self.path, self.dir.as_str(), from)?;
         set_path(&mut self.other, self.dir.as_str(), to)?;
         fs::rename(&self.rt, self.path.as_str(), self.other.as_str())
@@ -135,7 +117,7 @@ where
     fn take_away(&mut self, n: &FileName) -> io::Result<()>
         ensures { StaysCounted self.old self.new }
     {
-        self.opened = None;
+        self.opened.close(n);
         set_path(&mut self.path, self.dir.as_str(), n)?;
         match fs::remove_file(&self.rt, self.path.as_str()) {
             Err(e) if e.kind() == ErrorKind::NotFound => Ok(()),

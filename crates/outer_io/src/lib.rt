@@ -15,6 +15,7 @@ mod folder;
 mod mem_folder;
 mod mem_sink;
 mod mem_source;
+mod open_files;
 mod sink;
 mod source;
 mod std_streams;
