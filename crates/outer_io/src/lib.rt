@@ -19,6 +19,7 @@ mod open_files;
 mod sink;
 mod source;
 mod std_streams;
+mod unsynced;
 
 pub use dir_folder::DirFolder;
 pub use faults::{Failed, ReadAll, WriteFault};
