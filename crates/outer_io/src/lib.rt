@@ -31,6 +31,3 @@ pub use mem_source::MemSource;
 pub use sink::{Sink, write_all};
 pub use source::{Source, read_all};
 pub use std_streams::{StdSink, StdSource};
-
-#[cfg(test)]
-mod tests;
