@@ -7,6 +7,10 @@ mod commit_list_bodies;
 #[cfg(test)]
 mod commit_list_files;
 #[cfg(test)]
+mod outer_io_folders;
+#[cfg(test)]
+mod outer_io_streams;
+#[cfg(test)]
 mod page_cache_pages;
 #[cfg(test)]
 mod samples;

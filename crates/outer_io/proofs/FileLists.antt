@@ -57,7 +57,7 @@ files_in-put_other name other es e is h =
     (files_in-others_other name other es h)
 
 -- a place that was found is the first one of its name
-first_at : {X : Type 0} (p : X → Bool) (xs : List X) (i : ℕ) → position p xs ≡ Some i → (i ≡ position_or_len p xs) × (i < length xs)
+pub first_at : {X : Type 0} (p : X → Bool) (xs : List X) (i : ℕ) → position p xs ≡ Some i → (i ≡ position_or_len p xs) × (i < length xs)
 first_at p xs i found =
     elim (ltb (position_or_len p xs) (length xs)) as (λ b. ltb (position_or_len p xs) (length xs) ≡ b → cond b (Some (position_or_len p xs)) None ≡ Some i → (i ≡ position_or_len p xs) × (i < length xs)) [
       | true ↦ λ below is. let at : position_or_len p xs ≡ i = cc in (sym at, rw (← at) (ltb-true _ _ below))
@@ -77,7 +77,8 @@ files_in-at name es i d found =
     let at = first_at (is_named name) es i found in
     rw (find_at (is_named name) es, ← at.0, slice_get-get_or es i d at.1)
 
-none_before : {X : Type 0} (p : X → Bool) (xs : List X) → position p xs ≡ None → length xs ≤ position_or_len p xs
+-- a place that wasn't found is past the end
+pub none_before : {X : Type 0} (p : X → Bool) (xs : List X) → position p xs ≡ None → length xs ≤ position_or_len p xs
 none_before p xs absent =
     elim (ltb (position_or_len p xs) (length xs)) as (λ b. ltb (position_or_len p xs) (length xs) ≡ b → cond b (Some (position_or_len p xs)) None ≡ None → length xs ≤ position_or_len p xs) [
       | true ↦ λ _ is. absurd (none-some (position_or_len p xs) (sym is))

@@ -3,3 +3,4 @@ pub mod Names
 mod Copies
 mod Finds
 mod FileLists
+mod OpenLists

@@ -11,4 +11,5 @@ pub mod MemSink
 pub mod MemFolder
 pub mod Flushed
 pub mod StdStreams
+pub mod OpenFiles
 pub mod DirFolder

@@ -6,23 +6,19 @@ ghost use Rattle.outer_io.specs.Names.{name_text};
 use crate::faults::{Failed, FaultCount, WriteFault};
 use crate::file_name::FileName;
 use crate::folder::{Folder, Pages};
+use crate::open_files::OpenFiles;
+use crate::unsynced::Unsynced;
 use std::alloc::{AllocError, Global};
-use std::fs::OpenOptions;
+use std::fs::{OpenFile, OpenOptions};
 use std::io::{ErrorKind, Write};
 use std::os::unix::fs::FileExt;
 use std::rt::Files;
 use std::{fs, io};
 
-/// A file that is kept open between reads.
-#[derive(Drop)]
-struct Opened<F> {
-    name: FileName,
-    file: F,
-}
-
 /// A folder over a directory that exists, which nobody else writes. It tells no files, since no
-/// clause can say what the system keeps. The file that was read last stays open until another is
-/// read or any is written.
+/// clause can say what the system keeps. The files that were read last stay open, each until it is
+/// written, renamed or removed. A rename is a barrier: what was written before it is on the disk
+/// before the name changes, and the new name when the call is done.
 #[derive(Drop)]
 pub struct DirFolder<R: Files>
 where
@@ -33,7 +29,8 @@ where
     /// The path of the call's file, and of a rename's second one, in memory that `new` takes.
     path: String,
     other: String,
-    opened: Option<Opened<R::File>>,
+    opened: OpenFiles<R::File>,
+    unsynced: Unsynced,
     reads: u64,
     faults: FaultCount,
 }
@@ -48,7 +45,7 @@ where
     ghost use Rattle.outer_io.specs.DirFolder.{directory_path, path_or_dot, directory_faults, directory_reads, StaysCounted};
 
     /// A folder over this directory. An empty text is the directory that the program runs in. The
-    /// memory for paths is taken here.
+    /// memory for paths and for the two lists of files is taken here.
     pub fn new(rt: R, alloc: Global, dir: &str) -> Result<DirFolder<R>, AllocError>
         ensures dir { IfOk result (λ f. directory_path f ≡ path_or_dot dir.now) }
         ensures faults { IfOk result (λ f. directory_faults f ≡ 0) }
@@ -61,7 +58,8 @@ where
             dir: String::from_str(alloc, dir)?,
             path: String::with_capacity(alloc, length)?,
             other: String::with_capacity(alloc, length)?,
-            opened: None,
+            opened: OpenFiles::new(alloc)?,
+            unsynced: Unsynced::new(alloc)?,
             reads: 0,
             faults: FaultCount::new(),
         })
@@ -84,30 +82,17 @@ where
         ensures bound { ReadsAtMost result buf.new }
         ensures stays { StaysCounted self.old self.new }
     {
-        self.keep_open(n)?;
-        match &self.opened {
-            Some(opened) => read_fully(&opened.file, at, buf),
-            None => Ok(0),
+        if let Some(file) = self.opened.get(n) {
+            return read_fully(file, at, buf);
         }
-    }
-
-    /// Opens a file that isn't open. Afterwards none is open where it isn't there.
-    fn keep_open(&mut self, n: &FileName) -> io::Result<()>
-        ensures { StaysCounted self.old self.new }
-    {
-        if let Some(opened) = &self.opened
-            && opened.name.is(n)
-        {
-            return Ok(());
-        }
-        self.opened = None;
         set_path(&mut self.path, self.dir.as_str(), n)?;
         match fs::open(&self.rt, self.path.as_str()) {
             Ok(file) => {
-                self.opened = Some(Opened { name: *n, file });
-                Ok(())
+                let count = read_fully(&file, at, buf);
+                self.opened.keep(*n, file);
+                count
             }
-            Err(e) if e.kind() == ErrorKind::NotFound => Ok(()),
+            Err(e) if e.kind() == ErrorKind::NotFound => Ok(0),
             Err(e) => Err(e),
         }
     }
@@ -116,30 +101,65 @@ where
     fn put(&mut self, how: &OpenOptions, n: &FileName, b: &[u8]) -> io::Result<()>
         ensures { StaysCounted self.old self.new }
     {
-        self.opened = None;
+        self.opened.close(n);
         set_path(&mut self.path, self.dir.as_str(), n)?;
         let mut file = how.open(&self.rt, self.path.as_str())?;
+        self.note_written(n)?;
         file.write_all(b)
     }
 
+    /// Notes that a file is to be synced at the next barrier. Where too many are, the one that has
+    /// waited for longest is synced now.
+    fn note_written(&mut self, n: &FileName) -> io::Result<()>
+        ensures { StaysCounted self.old self.new }
+    {
+        if self.unsynced.has(n) {
+            return Ok(());
+        }
+        if self.unsynced.is_full() {
+            let first = &self.unsynced.names()[..1];
+            sync_files(&self.rt, &mut self.path, self.dir.as_str(), first)?;
+            self.unsynced.drop_first();
+        }
+        self.unsynced.add(*n);
+        Ok(())
+    }
+
+    /// Brings all files that were written since the last barrier to the disk, and their names.
+    fn sync_written(&mut self) -> io::Result<()>
+        ensures { StaysCounted self.old self.new }
+    {
+        let names = self.unsynced.names();
+        sync_files(&self.rt, &mut self.path, self.dir.as_str(), names)?;
+        self.unsynced.clear();
+        sync_directory(&self.rt, self.dir.as_str())
+    }
+
+    /// Renames a file, behind all that was written and before all that will be.
     fn give_name(&mut self, from: &FileName, to: &FileName) -> io::Result<()>
         ensures { StaysCounted self.old self.new }
     {
-        self.opened = None;
+        self.opened.close(from);
+        self.opened.close(to);
+        self.sync_written()?;
         set_path(&mut self.path, self.dir.as_str(), from)?;
         set_path(&mut self.other, self.dir.as_str(), to)?;
-        fs::rename(&self.rt, self.path.as_str(), self.other.as_str())
+        fs::rename(&self.rt, self.path.as_str(), self.other.as_str())?;
+        sync_directory(&self.rt, self.dir.as_str())
     }
 
     /// Takes a file away where it is there.
     fn take_away(&mut self, n: &FileName) -> io::Result<()>
         ensures { StaysCounted self.old self.new }
     {
-        self.opened = None;
+        self.opened.close(n);
         set_path(&mut self.path, self.dir.as_str(), n)?;
         match fs::remove_file(&self.rt, self.path.as_str()) {
-            Err(e) if e.kind() == ErrorKind::NotFound => Ok(()),
-            result => result,
+            Err(e) if e.kind() != ErrorKind::NotFound => Err(e),
+            _ => {
+                self.unsynced.remove(n);
+                Ok(())
+            }
         }
     }
 }
@@ -219,6 +239,28 @@ fn set_path(path: &mut String, dir: &str, n: &FileName) -> Result<(), AllocError
 {
     path.clear();
     write!(path, "{dir}/{n}")
+}
+
+/// Waits until the bytes of these files are on the disk.
+fn sync_files<R: Files>(
+    rt: &R,
+    path: &mut String,
+    dir: &str,
+    names: &[FileName],
+) -> io::Result<()> {
+    for n in names {
+        set_path(path, dir, n)?;
+        fs::open(rt, path.as_str())?.sync_all()?;
+    }
+    Ok(())
+}
+
+/// Waits until the names in a directory are on the disk, where its file system can be asked to.
+fn sync_directory<R: Files>(rt: &R, dir: &str) -> io::Result<()> {
+    match fs::open(rt, dir)?.sync_all() {
+        Err(e) if e.kind() != ErrorKind::InvalidInput => Err(e),
+        _ => Ok(()),
+    }
 }
 
 /// Reads a file from the byte `at` on until the buffer is full or the file ends.

@@ -15,9 +15,11 @@ mod folder;
 mod mem_folder;
 mod mem_sink;
 mod mem_source;
+mod open_files;
 mod sink;
 mod source;
 mod std_streams;
+mod unsynced;
 
 pub use dir_folder::DirFolder;
 pub use faults::{Failed, ReadAll, WriteFault};
@@ -29,6 +31,3 @@ pub use mem_source::MemSource;
 pub use sink::{Sink, write_all};
 pub use source::{Source, read_all};
 pub use std_streams::{StdSink, StdSource};
-
-#[cfg(test)]
-mod tests;

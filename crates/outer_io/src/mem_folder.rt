@@ -116,7 +116,7 @@ impl Pages for MemFolder {
 
 impl Folder for MemFolder {
     /// A call that is named as failing leaves the first half of `b` as the file; one that is
-    /// stopped does nothing. After want of memory all files are as they were.
+    /// stopped fails and does nothing else. After want of memory all files are as they were.
     fn write_file(&mut self, n: &FileName, b: &[u8]) -> Result<(), WriteFault>
         ensures written { IsTrue true → OnOk result (folder_files self.new n.now ≡ Some b.now) }
         ensures others { IsTrue true → SameBut n.now (folder_files self.old) (folder_files self.new) }
@@ -130,6 +130,7 @@ impl Folder for MemFolder {
         ensures half { IsErrOf result WriteFault.Failed → (¬ Stops (folder_plan self.old)) →
             folder_files self.new n.now ≡ Some (take (length b.now / 2) b.now) }
         ensures stopped { Stops (folder_plan self.old) → folder_files self.new ≡ folder_files self.old }
+        ensures halted { Stops (folder_plan self.old) → IsErrOf result WriteFault.Failed }
         ensures memory { IsErrOf result WriteFault.Memory → folder_files self.new ≡ folder_files self.old }
     {
         match self.calls.next() {
@@ -145,8 +146,8 @@ impl Folder for MemFolder {
         }
     }
 
-    /// A call that is named as failing appends the first half of `b`; one that is stopped does
-    /// nothing. After want of memory all files are as they were.
+    /// A call that is named as failing appends the first half of `b`; one that is stopped fails
+    /// and does nothing else. After want of memory all files are as they were.
     fn append(&mut self, n: &FileName, b: &[u8]) -> Result<(), WriteFault>
         ensures written { IsTrue true → OnOk result
             (folder_files self.new n.now ≡ Some (bytes_of (folder_files self.old n.now) ++ b.now)) }
@@ -161,6 +162,7 @@ impl Folder for MemFolder {
         ensures half { IsErrOf result WriteFault.Failed → (¬ Stops (folder_plan self.old)) →
             folder_files self.new n.now ≡ Some (bytes_of (folder_files self.old n.now) ++ take (length b.now / 2) b.now) }
         ensures stopped { Stops (folder_plan self.old) → folder_files self.new ≡ folder_files self.old }
+        ensures halted { Stops (folder_plan self.old) → IsErrOf result WriteFault.Failed }
         ensures memory { IsErrOf result WriteFault.Memory → folder_files self.new ≡ folder_files self.old }
     {
         match self.calls.next() {

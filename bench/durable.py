@@ -1,0 +1,290 @@
+#!/usr/bin/env python3
+"""Shows what a power cut leaves of the program bkd, which has to be built (rt run in crates/bkd).
+
+usage: bench/durable.py order | cuts | cost [COMMITS]
+
+order    the calls on files that a script with some commits makes, as strace (Debian's strace) tells them
+cuts     these calls cut off at every point: what was synced is there, of the rest any part is; each folder that can be left so is
+         opened, and its answer has to be that of the last commit that was answered, or of the one in flight
+cost     what a commit takes with its syncs, without them, and beside SQLite's (Python's sqlite3), for COMMITS commits (200)
+BKD names the program where it is not crates/bkd/out/bkd.
+"""
+import itertools
+import os
+import random
+import re
+import shutil
+import sqlite3
+import subprocess
+import sys
+import tempfile
+import time
+
+HERE = os.path.dirname(os.path.abspath(__file__))
+PROGRAM = os.environ.get("BKD", os.path.join(HERE, "..", "crates", "bkd", "out", "bkd"))
+TRACED = "open,openat,creat,close,write,writev,pwrite64,fsync,fdatasync,ftruncate,rename,renameat,renameat2,unlink,unlinkat,link,symlink"
+WHOLE = 3000  # so many folders of one cut are tried, or else a sample of them
+SAMPLE = 300
+
+# the lines of the script, and after a commit the numbers of the documents that a box over everything finds
+SCRIPT = [
+    ("create 1", None), ("add 5", None), ("add 7", None), ("commit", [0, 1]),
+    ("add 9", None), ("delete 0", None), ("commit", [1, 2]),
+    ("flush", None), ("add 11 12", None), ("flush", None), ("commit", [1, 2, 3]),
+    ("merge", None), ("delete 1", None), ("commit", [2, 3]),
+    ("delete 2", None), ("add 1", None), ("commit", [3, 4]),
+]
+QUESTION = "box -2147483648 2147483647\n"
+
+
+def answer(numbers):
+    """What the question is answered: no index is there before the first commit."""
+    if numbers is None:
+        return "line 1: no index\n"
+    return "hits %d\n%s" % (len(numbers), "".join("%d\n" % n for n in numbers))
+
+
+def run(folder, text):
+    """The answers of the program to a script over a folder."""
+    return subprocess.run([PROGRAM, folder, "run", "--forks", "0"], input=text.encode(), stdout=subprocess.PIPE, stderr=subprocess.DEVNULL).stdout.decode()
+
+
+class Call:
+    """A call that was traced: what it does, the names, the file (a number), and where which bytes go."""
+
+    def __init__(self, kind, names=(), file=None, at=0, data=b""):
+        self.kind, self.names, self.file, self.at, self.data = kind, names, file, at, data
+
+    def __str__(self):
+        return " ".join([self.kind, *self.names, *(["%d bytes at %d" % (len(self.data), self.at)] if self.kind == "write" else [])])
+
+
+def unquoted(text):
+    """The bytes of a string that strace wrote in hexadecimal digits."""
+    return bytes.fromhex(text.replace("\\x", ""))
+
+
+class Trace:
+    """The calls of a program on the files of one folder, and on its output."""
+
+    def __init__(self, folder):
+        self.folder, self.calls, self.open = folder, [], {}
+        self.names, self.sizes, self.known = {}, {}, {}
+
+    def name(self, path):
+        path = os.path.abspath(path)
+        return "." if path == self.folder else os.path.basename(path) if os.path.dirname(path) == self.folder else None
+
+    def opened(self, path, flags, descriptor):
+        name = self.name(path)
+        if name is None:
+            return
+        if name == ".":
+            self.open[descriptor] = [".", None, 0]
+            return
+        if name not in self.names:
+            self.names[name] = len(self.sizes)
+            self.sizes[self.names[name]] = 0
+            self.calls.append(Call("create", [name], self.names[name]))
+        file = self.names[name]
+        if "O_TRUNC" in flags and self.sizes[file]:
+            self.sizes[file] = 0
+            self.calls.append(Call("truncate", [name], file))
+        self.open[descriptor] = [name, file, self.sizes[file] if "O_APPEND" in flags else 0]
+
+    def wrote(self, descriptor, data):
+        if descriptor == 1:
+            self.calls.append(Call("answer", data=data))
+        elif descriptor in self.open:
+            opened = self.open[descriptor]
+            self.calls.append(Call("write", [opened[0]], opened[1], opened[2], data))
+            opened[2] += len(data)
+            self.sizes[opened[1]] = max(self.sizes[opened[1]], opened[2])
+
+    def line(self, text):
+        """Takes a line of strace. A call that isn't known here must not be on a file of the folder."""
+        found = re.match(r"(?:\d+ +)?(\w+)\((.*)\) += (-?\d+)", text)
+        if not found or int(found.group(3)) < 0:
+            return
+        call, words, result = found.group(1), found.group(2), int(found.group(3))
+        strings = [unquoted(s) for s in re.findall(r'"((?:\\x[0-9a-f]{2})*)"', words)]
+        first = int(re.match(r"\d+", words).group()) if re.match(r"\d", words) else None
+        if call in ("open", "openat"):
+            self.opened(os.fsdecode(strings[0]), words, result)
+        elif call == "close":
+            self.open.pop(first, None)
+        elif call == "write":
+            self.wrote(first, strings[0][:result])
+        elif call in ("fsync", "fdatasync"):
+            if first in self.open:
+                self.calls.append(Call("sync", [self.open[first][0]], self.open[first][1]))
+        elif call == "rename":
+            old, new = (self.name(os.fsdecode(s)) for s in strings)
+            self.names[new] = self.names.pop(old)
+            self.calls.append(Call("rename", [old, new], self.names[new]))
+        elif call in ("unlink", "unlinkat"):
+            name = self.name(os.fsdecode(strings[0]))
+            self.calls.append(Call("remove", [name], self.names.pop(name)))
+        elif first in self.open or any(self.name(os.fsdecode(s)) for s in strings):
+            raise SystemExit("a call that isn't known here: " + text)
+
+
+def traced(folder):
+    """The calls that the script makes over an empty folder, and its text out."""
+    text = "".join(line + "\n" for line, _ in SCRIPT)
+    with tempfile.NamedTemporaryFile("r") as log:
+        words = ["strace", "-o", log.name, "-xx", "-s", str(1 << 24), "-e", "trace=" + TRACED, PROGRAM, folder, "run", "--forks", "0"]
+        said = subprocess.run(words, input=text.encode(), stdout=subprocess.PIPE, stderr=subprocess.PIPE, check=True).stdout
+        trace = Trace(os.path.abspath(folder))
+        for line in log:
+            trace.line(line)
+    return trace.calls, said
+
+
+def is_change(call):
+    return call.kind not in ("sync", "answer")
+
+
+def is_sure(calls, at, cut):
+    """Whether what the call at this place did is on the disk when the power goes before the call `cut`: a file's bytes are where the
+    file was synced behind them, its name is where the directory was."""
+    call = calls[at]
+    file = call.file if call.kind in ("write", "truncate") else None
+    return any(later.kind == "sync" and later.file == file for later in calls[at + 1:cut])
+
+
+def left(calls, parts):
+    """The files that are left of these calls, each done whole (2), done by half (1) or not at all (0)."""
+    names, files = {}, {}
+    for call, part in zip(calls, parts):
+        if not part or not is_change(call):
+            continue
+        body = files.setdefault(call.file, bytearray())
+        if call.kind == "create":
+            names[call.names[0]] = call.file
+        elif call.kind == "remove":
+            names.pop(call.names[0], None)
+        elif call.kind == "rename":
+            names.pop(call.names[0], None)
+            names[call.names[1]] = call.file
+        elif call.kind == "truncate":
+            del body[:]
+        else:
+            data = call.data if part == 2 else call.data[:len(call.data) // 2]
+            body.extend(bytes(max(0, call.at + len(data) - len(body))))
+            body[call.at:call.at + len(data)] = data
+    return {name: bytes(files.get(file, b"")) for name, file in names.items()}
+
+
+def choices(calls, cut, seed):
+    """What may have been done of each call before the cut: all combinations, or where they are too many none, all, each alone, all but
+    each, and a sample."""
+    ranges = [(2,) if not is_change(calls[i]) or is_sure(calls, i, cut) else (0, 2, 1) if calls[i].kind == "write" else (0, 2) for i in range(cut)]
+    count = 1
+    for options in ranges:
+        count *= len(options)
+    if count <= WHOLE:
+        yield from itertools.product(*ranges)
+        return
+    none, whole = [r[0] for r in ranges], [2] * cut
+    yield from (none, whole)
+    for i in range(cut):
+        yield whole[:i] + [ranges[i][0]] + whole[i + 1:]
+        yield none[:i] + [2] + none[i + 1:]
+    draw = random.Random(seed)
+    for _ in range(SAMPLE):
+        yield [draw.choice(options) for options in ranges]
+
+
+def allowed(calls, cut):
+    """The answers that a folder may give after a cut: of the last commit that was answered, and of the one in flight."""
+    lines = b"".join(call.data for call in calls[:cut] if call.kind == "answer").count(b"\n")
+    done = [numbers for _, numbers in SCRIPT[:lines] if numbers is not None]
+    coming = [numbers for _, numbers in SCRIPT[lines:] if numbers is not None]
+    return {answer(done[-1] if done else None), answer(coming[0] if coming else done[-1])}
+
+
+def cuts():
+    work = tempfile.mkdtemp(prefix="durable-")
+    folder = os.path.join(work, "traced")
+    os.mkdir(folder)
+    calls, _ = traced(folder)
+    asked, wrong, copy = {}, 0, os.path.join(work, "left")
+    for cut in range(len(calls) + 1):
+        wanted = allowed(calls, cut)
+        for parts in choices(calls, cut, cut):
+            files = left(calls[:cut], parts)
+            key = tuple(sorted(files.items()))
+            if key not in asked:
+                shutil.rmtree(copy, ignore_errors=True)
+                os.mkdir(copy)
+                for name, body in files.items():
+                    with open(os.path.join(copy, name), "wb") as file:
+                        file.write(body)
+                asked[key] = run(copy, QUESTION)
+            if asked[key] not in wanted:
+                wrong += 1
+                if wrong <= 5:
+                    print("wrong: cut before call %d (%s): %r, where %r may be" % (cut, calls[cut] if cut < len(calls) else "end", asked[key], sorted(wanted)))
+    shutil.rmtree(work)
+    print("cuts: %d calls, %d different folders opened, %d wrong" % (len(calls), len(asked), wrong))
+    return wrong == 0
+
+
+def order():
+    with tempfile.TemporaryDirectory(prefix="durable-") as folder:
+        calls, _ = traced(folder)
+    lines = iter(line for line, _ in SCRIPT)
+    for call in calls:
+        if call.kind == "answer":
+            for said in call.data.decode().splitlines():
+                print("  %-12s -> %s" % (next(lines, "?"), said))
+        else:
+            print(call)
+    return True
+
+
+NO_SYNC = "int fsync(int f) { return 0; }\nint fdatasync(int f) { return 0; }\n"
+
+
+def timed(commits, library=None):
+    """Seconds a commit, of a script that adds a document and commits, again and again."""
+    text = "create 2\n" + "".join("add %d %d\ncommit\n" % (i, i) for i in range(commits))
+    environment = dict(os.environ, **({"LD_PRELOAD": library} if library else {}))
+    with tempfile.TemporaryDirectory(prefix="durable-", dir=os.getcwd()) as folder:
+        begun = time.perf_counter()
+        subprocess.run([PROGRAM, folder, "run"], input=text.encode(), stdout=subprocess.DEVNULL, env=environment, check=True)
+        return (time.perf_counter() - begun) / commits
+
+
+def timed_sqlite(commits, mode):
+    with tempfile.TemporaryDirectory(prefix="durable-", dir=os.getcwd()) as folder:
+        base = sqlite3.connect(os.path.join(folder, "base"), isolation_level=None)
+        base.execute("pragma journal_mode=" + mode)
+        base.execute("pragma synchronous=full")
+        base.execute("create virtual table points using rtree_i32(id, x0, x1, y0, y1)")
+        begun = time.perf_counter()
+        for i in range(commits):
+            base.execute("insert into points values (?, ?, ?, ?, ?)", (i, i, i, i, i))
+        spent = (time.perf_counter() - begun) / commits
+        base.close()
+    return spent
+
+
+def cost(commits):
+    with tempfile.TemporaryDirectory() as folder:
+        library = os.path.join(folder, "no_sync.so")
+        subprocess.run(["cc", "-shared", "-fPIC", "-x", "c", "-o", library, "-"], input=NO_SYNC.encode(), check=True)
+        rows = [("with syncs", timed(commits)), ("without syncs", timed(commits, library))]
+        rows += [("SQLite, journal %s, synchronous full" % mode, timed_sqlite(commits, mode)) for mode in ("delete", "wal")]
+    for name, spent in rows:
+        print("%-42s %8.3f ms a commit" % (name, spent * 1000))
+    return True
+
+
+if __name__ == "__main__":
+    words = sys.argv[1:]
+    if not words or words[0] not in ("order", "cuts", "cost"):
+        raise SystemExit(__doc__)
+    good = cost(int(words[1]) if len(words) > 1 else 200) if words[0] == "cost" else {"order": order, "cuts": cuts}[words[0]]()
+    sys.exit(0 if good else 1)
