@@ -1,7 +1,8 @@
 -- Pages that agree with the files, and are valid, after one more is kept or some are taken out.
-use Rattle.std.proofs.Common.{◌≡◌, ℕ, ◌⊎◌, inl, inr, List, not, Contains, filter, Option, Some, None, IfSome, refl, sym, ap, ◌∙◌, subst, ne_eqb, eq-eqb, true≢false}
+use Rattle.std.proofs.Common.{◌≡◌, ℕ, ◌⊎◌, inl, inr, List, not, Contains, filter, Option, Some, None, IfSome, IfNone, refl, sym, ap, ◌∙◌, subst, ne_eqb, eq-eqb, true≢false}
 use Rattle.std.specs.declared.boxed.Box.{Box}
 use Rattle.std.specs.declared.alloc.Global.{Global}
+use Rattle.std.specs.Map.{keys_of}
 use Rattle.outer_io.specs.Files.{Files}
 use Rattle.outer_io.specs.declared.file_name.FileName.TheVariants.{Segment}
 use Rattle.page_file.specs.declared.page.PageBytes.{PageBytes}
@@ -67,3 +68,7 @@ module _ (id : ℕ) (old new : Kept) (others : new ≡ filter (λ e. is_of_other
 pub taken_valid : (es : Kept) (id number : ℕ) (r : Option (Box PageBytes Global)) → AllValid es → IfSome r (λ p. Contains es (page_key id number, p)) → IfSome r (λ p. IsPage 1 id number p.value.b)
 taken_valid es id number None valid c = tt
 taken_valid es id number (Some p) valid c = valid (page_key id number, p) c
+
+pub taken_order : (es ns : Kept) (r : Option (Box PageBytes Global)) → IfNone r (ns ≡ es) → IfNone r (keys_of ns ≡ keys_of es)
+taken_order es ns None same = ap (λ (l : Kept). keys_of l) same
+taken_order es ns (Some p) same = tt

@@ -1,5 +1,5 @@
 -- The damages of a page are damages of its file, and these are damages as the crates above know them.
-use Rattle.std.proofs.Common.{◌≡◌, ◌≢◌, ℕ, ◌+◌, ◌*◌, ◌≤◌, ◌<◌, inr, length, max, List, Result, Ok, Err, sym, subst, ◌∙◌, arith}
+use Rattle.std.proofs.Common.{◌≡◌, ◌≢◌, ℕ, ◌+◌, ◌*◌, ◌≤◌, ◌<◌, inr, length, max, List, None, Result, Ok, Err, sym, subst, ◌∙◌, arith}
 use Rattle.outer_io.specs.declared.file_name.FileName.{FileName}
 use Rattle.outer_io.specs.Files.{Files, bytes_of}
 use Rattle.page_cache.specs.declared.faults.Damage.{Damage}
@@ -39,15 +39,21 @@ file_from_page name n (Unequal file said found) h = h
 file_from_page name n (Beyond doc next) h = h
 file_from_page name n (Doubled doc) h = h
 
-pub file_from_page_of : (files : Files) (name : FileName) (n : ℕ) (d : Damage) → IsPageDamage name n d → IsPageDamageOf files n d → IsFileDamageOf files d
-file_from_page_of files name n (Page file number bytes) h k = k
-file_from_page_of files name n (Size file size needed) h k = record { number = n; page_end = h.1; seen = k; short = h.2 }
-file_from_page_of files name n (Leaf file number offset len bytes) h k = k
-file_from_page_of files name n (Body file bytes) h k = k
-file_from_page_of files name n (Missing file) h k = absurd k
-file_from_page_of files name n (Unequal file said found) h k = k
-file_from_page_of files name n (Beyond doc next) h k = k
-file_from_page_of files name n (Doubled doc) h k = k
+pub file_from_page_of : (files : Files) (name : FileName) (n : ℕ) (d : Damage) → (n ≡ 0 → files name ≢ None) → IsPageDamage name n d → IsPageDamageOf files n d → IsFileDamageOf files d
+file_from_page_of files name n (Page file number bytes) there h k = k
+file_from_page_of files name n (Size file size needed) there h k = record {
+  number = n;
+  page_end = h.1;
+  seen = k;
+  short = h.2;
+  there = subst (λ (f : FileName). n ≡ 0 → files f ≢ None) (sym h.0) there;
+}
+file_from_page_of files name n (Leaf file number offset len bytes) there h k = k
+file_from_page_of files name n (Body file bytes) there h k = k
+file_from_page_of files name n (Missing file) there h k = absurd k
+file_from_page_of files name n (Unequal file said found) there h k = k
+file_from_page_of files name n (Beyond doc next) there h k = k
+file_from_page_of files name n (Doubled doc) there h k = k
 
 -- no page before the last of so many needs more
 pub within_page : (name : FileName) (n most : ℕ) (d : Damage) → n < most → IsPageDamage name n d → SizeWithin (4096 * most) d
@@ -72,7 +78,7 @@ pub short_of_cut : (files : Files) (file : FileName) (size needed : ℕ) → nee
 short_of_cut files file size needed page h =
     let page_end = h.page_end in
     let seen : size ≡ max (4096 * h.number) (length (bytes_of (files file))) = h.seen in
-    record { page = page; has = omega arith; short = h.short }
+    record { page = page; has = omega arith; short = h.short; there = h.there (omega arith) }
 
 -- the size that a first page doesn't have
 pub other_size : (asks : List ℕ → ℕ → Type 0) (files : Files) (p : FirstPage) (pages : ℕ) (file : FileName) (size needed : ℕ) → IsFirstPage files p → asks (first_payload p) pages
@@ -85,6 +91,6 @@ other_size asks files p pages file size needed first asked e =
 pub on_file_from_page : {T : Type 0} (r : Result T PageFault) (name : FileName) (n : ℕ) → OnDamage r (IsPageDamage name n) → OnDamage r (IsFileDamage name)
 on_file_from_page r name n = on_damage_weaker r (IsPageDamage name n) (IsFileDamage name) (file_from_page name n)
 
-pub on_file_from_page_of : {T : Type 0} (r : Result T PageFault) (files : Files) (name : FileName) (n : ℕ)
+pub on_file_from_page_of : {T : Type 0} (r : Result T PageFault) (files : Files) (name : FileName) (n : ℕ) → (n ≡ 0 → files name ≢ None)
     → OnDamage r (IsPageDamage name n) → OnDamage r (IsPageDamageOf files n) → OnDamage r (IsFileDamageOf files)
-on_file_from_page_of r files name n = on_damage_both r (IsPageDamage name n) (IsPageDamageOf files n) (IsFileDamageOf files) (file_from_page_of files name n)
+on_file_from_page_of r files name n there = on_damage_both r (IsPageDamage name n) (IsPageDamageOf files n) (IsFileDamageOf files) (λ d. file_from_page_of files name n d there)

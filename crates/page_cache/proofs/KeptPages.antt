@@ -1,5 +1,5 @@
 -- Kept pages as lists: what using, keeping and taking out a page does to them.
-use Rattle.std.proofs.Common.{◌≡◌, ℕ, zero, suc, ◌-◌, ◌<◌, Bool, true, false, ◌&&◌, not, cond, nat_eq, inl, inr, List, [], ◌∷◌, ◌++◌, length, take, drop, filter, Contains, Option, Some, None, IfSome, IfNone, refl, sym, ap, ◌∙◌, subst, arith, append_assoc, eqb-true, eq-eqb, ne_eqb, true≢false}
+use Rattle.std.proofs.Common.{◌≡◌, ℕ, zero, suc, ◌-◌, ◌<◌, Bool, true, false, ◌&&◌, ◌⊎◌, not, cond, nat_eq, inl, inr, List, [], ◌∷◌, ◌++◌, length, take, drop, filter, Contains, Option, Some, None, IfSome, IfNone, refl, sym, ap, ◌∙◌, subst, arith, append_assoc, eqb-true, eq-eqb, ne_eqb, true≢false}
 use Rattle.std.specs.Bool.{OnTrue, OnFalse}
 use Rattle.std.specs.Cmp.{IsEquivalence}
 use Rattle.std.specs.List.{AllByRecursion, IsDistinct}
@@ -173,6 +173,35 @@ module _ (key : PageKey) where
   pub taken_none : (es : Kept) (r : Option (Box PageBytes Global)) → r ≡ lookup (same_key key) es → IfNone r (HasKey es key → ⊥)
   taken_none es None e = none_has es (none_of_value es (sym e))
   taken_none es (Some p) e = tt
+
+  -- all but the page of this key stays
+  pub taken_stays : (es : Kept) (e : PageKey × Box PageBytes Global) → Contains es e → Contains (remove_entry (same_key key) es) e ⊎ (e.0 ≡ key)
+  taken_stays [] e has = absurd (Contains-nil e has)
+  taken_stays (f ∷ es) e has = (elim (same_key key f.0) as (λ b. same_key key f.0 ≡ b → Contains (cond b es (f ∷ remove_entry (same_key key) es)) e ⊎ (e.0 ≡ key)) [
+    | true ↦ λ t. elim (Contains-cons f es e has) [
+      | inl same ↦ inr (ap (λ (g : PageKey × Box PageBytes Global). g.0) (sym same) ∙ sym (key_true key f.0 t))
+      | inr on ↦ inl on
+    ]
+    | false ↦ λ t. elim (Contains-cons f es e has) [
+      | inl same ↦ inl (subst (Contains (f ∷ remove_entry (same_key key) es)) same (Contains-head f (remove_entry (same_key key) es)))
+      | inr on ↦ elim (taken_stays es e on) [
+        | inl left ↦ inl (Contains-tail f (remove_entry (same_key key) es) e left)
+        | inr own ↦ inr own
+      ]
+    ]
+  ]) refl
+
+  -- where no page of this key is kept, nothing is taken
+  none_taken : (es : Kept) → lookup (same_key key) es ≡ None → remove_entry (same_key key) es ≡ es
+  none_taken [] h = refl
+  none_taken (f ∷ es) h = (elim (same_key key f.0) as (λ b. cond b (Some f.1) (lookup (same_key key) es) ≡ None → cond {A = Kept} b es (f ∷ remove_entry (same_key key) es) ≡ f ∷ es) [
+    | true ↦ λ g. cc
+    | false ↦ λ g. ap (λ (l : Kept). f ∷ l) (none_taken es g)
+  ]) h
+
+  pub taken_same : (es ns : Kept) (r : Option (Box PageBytes Global)) → r ≡ lookup (same_key key) es → ns ≡ remove_entry (same_key key) es → IfNone r (ns ≡ es)
+  taken_same es ns None e after = after ∙ none_taken es (sym e)
+  taken_same es ns (Some p) e after = tt
 
   one_key : (x y : PageKey) → same_key key x ≡ true → same_key key y ≡ same_key x y
   one_key x y e = ap (λ (k : PageKey). same_key k y) (key_true key x e)

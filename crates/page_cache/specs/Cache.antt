@@ -41,14 +41,7 @@ pub record IsUsed (id number : ℕ) (old new : PageCache) : Type 0 where
 abbrev pub of_others : ℕ → List PageKey → List PageKey
 of_others id keys = filter (is_of_other id) keys
 
--- the name is that of a segment's file; only of those pages are kept
-abbrev pub IsSegment : FileName → Type 0
-IsSegment (Segment id) = Unit {0}
-IsSegment Commit = ⊥
-IsSegment CommitNew = ⊥
-IsSegment (Live segment generation) = ⊥
-
--- the cache keeps this page of the file of this name
+-- the cache keeps this page of the file of this name; only pages of segments' files are kept
 abbrev pub KeepsOf : PageCache → FileName → ℕ → List ℕ → Type 0
 KeepsOf c (Segment id) number bytes = Keeps c id number bytes
 KeepsOf c Commit number bytes = ⊥

@@ -54,18 +54,21 @@ pub record ArePayloadsOf (files : Files) (file : FileName) (payloads : List ℕ)
 abbrev pub seen_end : Files → FileName → ℕ → ℕ
 seen_end files file number = max (4096 * number) (length (bytes_of (files file)))
 
--- The file ends before the end of page `number`. Size is the file's end as reading that page shows it.
+-- The file ends before the end of page `number`. Size is the file's end as reading that page shows it. Of a file
+-- that isn't there no first page is read.
 pub record IsCut (files : Files) (file : FileName) (size needed : ℕ) : Type 0 where
   pub number : ℕ
   pub page_end : needed ≡ 4096 * (number + 1)
   pub seen : size ≡ seen_end files file number
   pub short : size < needed
+  pub there : number ≡ 0 → files file ≢ None
 
--- the file has fewer bytes than its first page needs
+-- the file is there, and has fewer bytes than its first page needs
 pub record IsShort (files : Files) (file : FileName) (size needed : ℕ) : Type 0 where
   pub page : needed ≡ 4096
   pub has : size ≡ length (bytes_of (files file))
   pub short : size < needed
+  pub there : files file ≢ None
 
 -- The file has size bytes, and needed are the pages that its first page asks for. `asks payload pages` says that a first page of this payload asks for
 -- so many.

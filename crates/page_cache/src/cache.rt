@@ -32,7 +32,7 @@ impl PageCache {
     ghost use Rattle.page_cache.specs.Evidence.{OnDamage, NotDamaged, IsPageOf, IsPageDamage, IsPageDamageOf};
     ghost use Rattle.page_cache.specs.Causes.{HasPageCause, IsSteady};
     ghost use Rattle.page_cache.specs.Keys.{page_key, without};
-    ghost use Rattle.page_cache.specs.Cache.{Keeps, IsKept, KeepsFile, Agrees, room_of, order_of, of_others, IsUsed, IsSegment, KeepsOf, IsKeptOf};
+    ghost use Rattle.page_cache.specs.Cache.{Keeps, IsKept, KeepsFile, Agrees, room_of, order_of, of_others, IsUsed, KeepsOf, IsKeptOf};
 
     /// A cache with room for so many pages, 1 to 65,536, that keeps none.
     #[tactic(auto, unfolding(crate::specs::Cache::Keeps, crate::specs::Cache::IsKept, crate::specs::Cache::KeepsFile, crate::specs::Cache::Agrees, crate::specs::Cache::room_of, crate::specs::Cache::order_of))]
@@ -102,34 +102,8 @@ impl PageCache {
         PageView::of_valid(SEGMENT_KIND, id, number, page)
     }
 
-    /// A page of a segment's file, as `load` and then `view` give it.
-    pub fn page<F: Pages>(
-        &mut self,
-        alloc: Global,
-        folder: &mut F,
-        file: &FileName,
-        number: u32,
-    ) -> Result<PageView<'_>, PageFault>
-        requires { IsSegment file.now }
-        ensures files { IsTrue F.told → F.files folder.new ≡ F.files folder.old }
-        ensures reads { F.reads folder.new ≤ F.reads folder.old + 1 }
-        ensures cause { HasPageCause (F.faults folder.old) (F.faults folder.new) result }
-        ensures steady { IsSteady (F.faults folder.old) (F.faults folder.new) result }
-        ensures hit { IsKeptOf self.old file.now number → IsOk result × (F.reads folder.new ≡ F.reads folder.old) }
-        ensures place { IfOk result (λ v. (v.kind ≡ 1) × (v.file ≡ number_of file.now) × (v.number ≡ number)) }
-        ensures bytes { IsTrue F.told → Agrees (F.files folder.old) self.old → IfOk result (λ v. IsPageOf (F.files folder.old) file.now number v.bytes.now.b) }
-        ensures shown { OnDamage result (IsPageDamage file.now number) }
-        ensures damage { IsTrue F.told → OnDamage result (IsPageDamageOf (F.files folder.old) number) }
-        ensures whole { IsTrue F.told → IsFilePage file.now (bytes_of (F.files folder.old file.now)) number → NotDamaged result }
-    {
-        let FileName::Segment(id) = *file else {
-            unreachable!()
-        };
-        self.load(alloc, folder, id, number)?;
-        Ok(self.view(id, number))
-    }
-
-    /// Takes a page out. None exactly where it isn't kept. Takes no memory.
+    /// Takes a page out, and leaves the others. None exactly where it isn't kept; then all stays as it was. Takes no
+    /// memory.
     #[tactic(auto, unfolding(crate::specs::Cache::Keeps, crate::specs::Cache::IsKept, crate::specs::Cache::KeepsFile, crate::specs::Cache::Agrees, crate::specs::Cache::room_of, crate::specs::Cache::order_of))]
     pub fn take(&mut self, file: &FileName, number: u32) -> Option<Box<PageBytes>>
         ensures none { IfNone result (IsKeptOf self.old file.now number → ⊥) }
@@ -137,6 +111,9 @@ impl PageCache {
         ensures valid { IfSome result (λ p. IsPage (kind_of file.now) (number_of file.now) number p.value.b) }
         ensures gone { IsKeptOf self.new file.now number → ⊥ }
         ensures order { OnSome result (order_of self.new ≡ without (page_key (number_of file.now) number) (order_of self.old)) }
+        ensures refused { IfNone result (order_of self.new ≡ order_of self.old) }
+        ensures stays { (i n : ℕ) (bytes : List ℕ) → Keeps self.old i n bytes
+            → Keeps self.new i n bytes ⊎ ((file.now ≡ Segment i) × (number ≡ n)) }
         ensures others { (i n : ℕ) (bytes : List ℕ) → Keeps self.new i n bytes → Keeps self.old i n bytes }
         ensures fewer { (i : ℕ) → KeepsFile self.new i → KeepsFile self.old i }
         ensures agrees { (files : Files) → Agrees files self.old → Agrees files self.new }

@@ -158,7 +158,7 @@ impl FirstPage {
     {
         let mut out = Vec::with_capacity(alloc, pages as usize * PAYLOAD_LEN)?;
         out.extend_from_slice(self.payload())?;
-        append_payloads(alloc, folder, &self.name, 1, pages - 1, &mut out)?;
+        append_payloads(alloc, folder, &self.name, pages - 1, &mut out)?;
         Ok(out)
     }
 }

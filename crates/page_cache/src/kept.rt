@@ -1,6 +1,6 @@
 //! The kept pages by themselves: a list of pages by their keys, the last used first.
 
-ghost use Rattle.std.specs.Prelude.{◌≡◌, ◌≤◌, ◌<◌, ◌-◌, ◌++◌, ◌∷◌, [], cond, ℕ, List, length, map, take, filter, Contains, IsTrue, IfSome, IfNone, IfOk, OnOk, OnErr};
+ghost use Rattle.std.specs.Prelude.{◌≡◌, ◌⊎◌, ◌≤◌, ◌<◌, ◌-◌, ◌++◌, ◌∷◌, [], cond, ℕ, List, length, map, take, filter, Contains, IsTrue, IfSome, IfNone, IfOk, OnOk, OnErr};
 ghost use Rattle.std.specs.Bool.{OnTrue, OnFalse};
 ghost use Rattle.std.specs.Map.{keys_of};
 ghost use Rattle.std.specs.declared.boxed.Box.{Box};
@@ -62,7 +62,9 @@ pub(crate) fn take_out(pages: &mut KeptPages, key: PageKey) -> Option<Box<PageBy
     ensures none { IfNone result (HasKey pages.old.entries key → ⊥) }
     ensures gone { HasKey pages.new.entries key → ⊥ }
     ensures fewer { KeepsNoMore pages.old.entries pages.new.entries }
+    ensures stays { (e : PageKey × Box PageBytes Global) → Contains pages.old.entries e → Contains pages.new.entries e ⊎ (e.0 ≡ key) }
     ensures order { keys_of pages.new.entries ≡ without key (keys_of pages.old.entries) }
+    ensures same { IfNone result (pages.new.entries ≡ pages.old.entries) }
     ensures room { pages.new.cap ≡ pages.old.cap }
 {
     // it says that no key stands twice

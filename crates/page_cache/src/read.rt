@@ -137,59 +137,55 @@ pub(crate) fn payload_bytes(page: &PageBytes) -> &[u8]
     payload
 }
 
-/// Appends the payloads of `count` pages of a file from the page `from` on, each read by one call.
+/// Appends the payloads of `count` pages of a file behind its first, each read by one call.
 pub(crate) fn append_payloads<F: Pages>(
     alloc: Global,
     folder: &mut F,
     name: &FileName,
-    from: u32,
     count: u32,
     out: &mut Vec<u8>,
 ) -> Result<(), PageFault>
-    requires { from + count ≤ 2 ^ 32 }
     ensures files { IsTrue F.told → F.files folder.new ≡ F.files folder.old }
     ensures reads { F.reads folder.new ≤ F.reads folder.old + count }
     ensures cause { HasPageCause (F.faults folder.old) (F.faults folder.new) result }
     ensures steady { IsSteady (F.faults folder.old) (F.faults folder.new) result }
-    ensures payloads { IsTrue F.told → OnOk result (out.new.items ≡ out.old.items ++ payloads_of (bytes_of (F.files folder.old name.now)) from count) }
+    ensures payloads { IsTrue F.told → OnOk result (out.new.items ≡ out.old.items ++ payloads_of (bytes_of (F.files folder.old name.now)) 1 count) }
     ensures len { OnOk result (vec_len out.new ≡ vec_len out.old + 4064 * count) }
-    ensures pages { IsTrue F.told → OnOk result (ArePages name.now (bytes_of (F.files folder.old name.now)) from (from + count)) }
+    ensures pages { IsTrue F.told → OnOk result (ArePages name.now (bytes_of (F.files folder.old name.now)) 1 (1 + count)) }
     ensures shown { OnDamage result (IsFileDamage name.now) }
-    ensures within { OnDamage result (SizeWithin (4096 * (from + count))) }
+    ensures within { OnDamage result (SizeWithin (4096 * (1 + count))) }
     ensures damage { IsTrue F.told → OnDamage result (IsFileDamageOf (F.files folder.old)) }
-    ensures whole { IsTrue F.told → ArePages name.now (bytes_of (F.files folder.old name.now)) from (from + count) → NotDamaged result }
+    ensures whole { IsTrue F.told → ArePages name.now (bytes_of (F.files folder.old name.now)) 1 (1 + count) → NotDamaged result }
 {
     let mut page = blank_page(alloc)?;
     'pages: for i in 0..count {
-        page = read_over(folder, name, from + i, page)?;
+        page = read_over(folder, name, 1 + i, page)?;
         out.extend_from_slice(payload_bytes(&page))?;
     }
     Ok(())
 }
 
-/// The payloads of `count` pages of a file from the page `from` on, one after another. Each page is read by one
-/// call. The first page that isn't there whole, or is none for its place, is the damage.
+/// The payloads of `count` pages of a file behind its first, one after another. Each page is read by one call. The
+/// first page that isn't there whole, or is none for its place, is the damage.
 pub fn read_payloads<F: Pages>(
     alloc: Global,
     folder: &mut F,
     name: &FileName,
-    from: u32,
     count: u32,
 ) -> Result<Vec<u8>, PageFault>
-    requires { from + count ≤ 2 ^ 32 }
     ensures files { IsTrue F.told → F.files folder.new ≡ F.files folder.old }
     ensures reads { F.reads folder.new ≤ F.reads folder.old + count }
     ensures cause { HasPageCause (F.faults folder.old) (F.faults folder.new) result }
     ensures steady { IsSteady (F.faults folder.old) (F.faults folder.new) result }
-    ensures payloads { IsTrue F.told → IfOk result (λ v. v.items ≡ payloads_of (bytes_of (F.files folder.old name.now)) from count) }
+    ensures payloads { IsTrue F.told → IfOk result (λ v. v.items ≡ payloads_of (bytes_of (F.files folder.old name.now)) 1 count) }
     ensures len { IfOk result (λ v. vec_len v ≡ 4064 * count) }
-    ensures pages { IsTrue F.told → OnOk result (ArePages name.now (bytes_of (F.files folder.old name.now)) from (from + count)) }
+    ensures pages { IsTrue F.told → OnOk result (ArePages name.now (bytes_of (F.files folder.old name.now)) 1 (1 + count)) }
     ensures shown { OnDamage result (IsFileDamage name.now) }
-    ensures within { OnDamage result (SizeWithin (4096 * (from + count))) }
+    ensures within { OnDamage result (SizeWithin (4096 * (1 + count))) }
     ensures damage { IsTrue F.told → OnDamage result (IsFileDamageOf (F.files folder.old)) }
-    ensures whole { IsTrue F.told → ArePages name.now (bytes_of (F.files folder.old name.now)) from (from + count) → NotDamaged result }
+    ensures whole { IsTrue F.told → ArePages name.now (bytes_of (F.files folder.old name.now)) 1 (1 + count) → NotDamaged result }
 {
     let mut out = Vec::with_capacity(alloc, count as usize * PAYLOAD_LEN)?;
-    append_payloads(alloc, folder, name, from, count, &mut out)?;
+    append_payloads(alloc, folder, name, count, &mut out)?;
     Ok(out)
 }

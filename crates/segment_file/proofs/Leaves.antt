@@ -1,5 +1,5 @@
 -- A leaf in its page: from what the page spells to what the file holds, and back.
-use Rattle.std.proofs.Common.{◌≡◌, ◌+◌, ◌*◌, ◌∙◌, ℕ, List, refl, sym, ap, subst}
+use Rattle.std.proofs.Common.{◌≡◌, ◌≤◌, ◌+◌, ◌*◌, ◌∙◌, arith, ℕ, List, refl, sym, ap, subst}
 use Rattle.outer_io.specs.Files.{Files}
 use Rattle.outer_io.specs.declared.file_name.FileName.{FileName}
 use Rattle.outer_io.specs.declared.file_name.FileName.TheVariants.{Segment}
@@ -65,16 +65,16 @@ no_leaf D cache head node first s path t place bytes kept at where_ none =
       none = λ items spells. none first s path place.length where_.own (subst (λ (u : IndexTree). IsAt node first s path u) where_.is at) bytes items kept spells;
     }
 
--- the damage of a page is one of reading a leaf
-pub leaf_from_page_of : (files : Files) (name : FileName) (n : ℕ) (d : Damage) → IsPageDamage name n d → IsPageDamageOf files n d → IsLeafDamageOf files d
-leaf_from_page_of files name n (Page file number bytes) h k = k
-leaf_from_page_of files name n (Size file size needed) h k = record { number = n; page_end = h.1; seen = k; short = h.2 }
-leaf_from_page_of files name n (LeafDamage file number offset len bytes) h k = absurd k
-leaf_from_page_of files name n (Body file bytes) h k = k
-leaf_from_page_of files name n (Missing file) h k = k
-leaf_from_page_of files name n (Unequal file said found) h k = k
-leaf_from_page_of files name n (Beyond doc next) h k = k
-leaf_from_page_of files name n (Doubled doc) h k = k
+-- the damage of a page behind the first is one of reading a leaf
+pub leaf_from_page_of : (files : Files) (name : FileName) (n : ℕ) (d : Damage) → 1 ≤ n → IsPageDamage name n d → IsPageDamageOf files n d → IsLeafDamageOf files d
+leaf_from_page_of files name n (Page file number bytes) behind h k = k
+leaf_from_page_of files name n (Size file size needed) behind h k = record { number = n; page_end = h.1; seen = k; short = h.2; there = λ first. absurd (omega arith) }
+leaf_from_page_of files name n (LeafDamage file number offset len bytes) behind h k = absurd k
+leaf_from_page_of files name n (Body file bytes) behind h k = k
+leaf_from_page_of files name n (Missing file) behind h k = k
+leaf_from_page_of files name n (Unequal file said found) behind h k = k
+leaf_from_page_of files name n (Beyond doc next) behind h k = k
+leaf_from_page_of files name n (Doubled doc) behind h k = k
 
 -- and what it shows is shown of the leaf that stands there
 pub leaf_from_page : (D : ℕ) (head : Head) (first : ℕ) (s : Spot) (t : IndexTree) (place : LeafPlace) (d : Damage) → IsPlaceOf place s t

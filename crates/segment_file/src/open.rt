@@ -184,7 +184,7 @@ fn read_index<const D: usize, F: Pages>(
         → payload.now ≡ payload_of (page_at (bytes_of (F.files folder.old (Segment id))) 0) → NotDamaged result }
 {
     let pages = pages_for(fields.index_length);
-    let payloads = read_payloads(alloc, folder, &FileName::Segment(id), 1, pages)?;
+    let payloads = read_payloads(alloc, folder, &FileName::Segment(id), pages)?;
     index_of(alloc, id, payload, fields, payloads)
 }
 

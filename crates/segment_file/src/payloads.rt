@@ -52,6 +52,6 @@ pub(crate) fn all_payloads<F: Pages>(
     ensures damage { IsTrue F.told → OnDamage result (IsFileDamageOf (F.files folder.old)) }
     ensures whole { IsTrue F.told → ArePages name.now (bytes_of (F.files folder.old name.now)) 1 pages → NotDamaged result }
 {
-    let rest = read_payloads(alloc, folder, name, 1, pages - 1)?;
+    let rest = read_payloads(alloc, folder, name, pages - 1)?;
     Ok(joined(alloc, first.payload(), rest.as_slice())?)
 }

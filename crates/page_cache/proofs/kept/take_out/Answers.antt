@@ -1,4 +1,4 @@
-use Rattle.std.proofs.Common.{ap, ◌∙◌, Contains, subst}
+use Rattle.std.proofs.Common.{ap, ◌∙◌, sym, inl, inr, Contains, subst}
 use Rattle.std.specs.Map.{keys_of}
 use Rattle.page_cache.specs.Keys.{Kept, HasKey, same_key}
 use Rattle.lru.proofs.CallerLemmas.{Contains-remove_entry}
@@ -20,3 +20,12 @@ returns-clause-fewer c = λ e has. Contains-remove_entry (same_key c.args.key) c
 
 pub returns-clause-order : goal.returns-clause-order
 returns-clause-order c = ap (λ p. keys_of p.entries) c.pop.ensures.entries ∙ kept.keys_without c.args.key c.args.pages.now.entries
+
+pub returns-clause-stays : goal.returns-clause-stays
+returns-clause-stays c = λ e has. elim (kept.taken_stays c.args.key c.args.pages.now.entries e has) [
+  | inl left ↦ inl (subst (λ (l : Kept). Contains l e) (sym (ap (λ p. p.entries) c.pop.ensures.entries)) left)
+  | inr own ↦ inr own
+]
+
+pub returns-clause-same : goal.returns-clause-same
+returns-clause-same c = kept.taken_same c.args.key c.args.pages.now.entries c.pop.new.self.entries c.pop.result c.pop.ensures.value (ap (λ p. p.entries) c.pop.ensures.entries)

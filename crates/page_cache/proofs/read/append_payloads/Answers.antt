@@ -30,31 +30,31 @@ pages-preserved g c = record {
   payloads = λ told.
       let same = c.pages.invariant.files told in
       let page = rw same at (c.in_ok-page-2.ensures.bytes told) in
-      let came : c.payload_bytes.result.now ≡ payload_of (page_at (bytes_of (g.F.Pages.files c.args.folder.now c.args.name.now)) (c.args.from + c.pages.i)) =
+      let came : c.payload_bytes.result.now ≡ payload_of (page_at (bytes_of (g.F.Pages.files c.args.folder.now c.args.name.now)) (1 + c.pages.i)) =
       c.payload_bytes.ensures.bytes ∙ ap (λ (p : PageBytes). payload_of p.b) c.deref.ensures ∙ ap payload_of page in
       payloads_grown (bytes_of (g.F.Pages.files c.args.folder.now c.args.name.now)) c.args.out.now.items c.pages.out.items c.payload_bytes.result.now c.extend_from_slice.new.self.items
-      c.args.from c.pages.i c.in_ok-extend_from_slice.ensures.items (c.pages.invariant.payloads told) came;
+      1 c.pages.i c.in_ok-extend_from_slice.ensures.items (c.pages.invariant.payloads told) came;
   pages = λ told.
       let same = c.pages.invariant.files told in
       let page = rw same at (c.in_ok-page-2.ensures.bytes told) in
-      pages_more c.args.name.now (bytes_of (g.F.Pages.files c.args.folder.now c.args.name.now)) c.args.from c.pages.i (c.pages.invariant.pages told)
-      (file_of_page (g.F.Pages.files c.args.folder.now) c.args.name.now (c.args.from + c.pages.i) c.in_ok-page-2.page.value.b page c.in_ok-page-2.ensures.valid);
+      pages_more c.args.name.now (bytes_of (g.F.Pages.files c.args.folder.now c.args.name.now)) 1 c.pages.i (c.pages.invariant.pages told)
+      (file_of_page (g.F.Pages.files c.args.folder.now) c.args.name.now (1 + c.pages.i) c.in_ok-page-2.page.value.b page c.in_ok-page-2.ensures.valid);
 }
 
 pub returns-in_err-page-2-clause-shown : goal.returns-in_err-page-2-clause-shown
 returns-in_err-page-2-clause-shown g c = let p = err_from_is_err_and c.from_residual-in_err-page-2.result c.from_residual-in_err-page-2.ensures.1 in
-    rw (p.1, p.2) (fault_weaker c.in_err-page-2.field-0.0 (IsPageDamage c.args.name.now (c.args.from + c.pages.i)) (IsFileDamage c.args.name.now)
-    (file_from_page c.args.name.now (c.args.from + c.pages.i)) c.in_err-page-2.ensures.shown)
+    rw (p.1, p.2) (fault_weaker c.in_err-page-2.field-0.0 (IsPageDamage c.args.name.now (1 + c.pages.i)) (IsFileDamage c.args.name.now)
+    (file_from_page c.args.name.now (1 + c.pages.i)) c.in_err-page-2.ensures.shown)
 
 pub returns-in_err-page-2-clause-within : goal.returns-in_err-page-2-clause-within
 returns-in_err-page-2-clause-within g c = let p = err_from_is_err_and c.from_residual-in_err-page-2.result c.from_residual-in_err-page-2.ensures.1 in
-    rw (p.1, p.2) (fault_weaker c.in_err-page-2.field-0.0 (IsPageDamage c.args.name.now (c.args.from + c.pages.i)) (SizeWithin (4096 * (c.args.from + c.args.count)))
-    (λ d. within_page c.args.name.now (c.args.from + c.pages.i) (c.args.from + c.args.count) d (omega arith)) c.in_err-page-2.ensures.shown)
+    rw (p.1, p.2) (fault_weaker c.in_err-page-2.field-0.0 (IsPageDamage c.args.name.now (1 + c.pages.i)) (SizeWithin (4096 * (1 + c.args.count)))
+    (λ d. within_page c.args.name.now (1 + c.pages.i) (1 + c.args.count) d (omega arith)) c.in_err-page-2.ensures.shown)
 
 pub returns-in_err-page-2-clause-damage : goal.returns-in_err-page-2-clause-damage
 returns-in_err-page-2-clause-damage g c = λ told.
     let p = err_from_is_err_and c.from_residual-in_err-page-2.result c.from_residual-in_err-page-2.ensures.1 in
     let same = c.pages.invariant.files told in
-    rw (p.1, p.2, ← same) (fault_both c.in_err-page-2.field-0.0 (IsPageDamage c.args.name.now (c.args.from + c.pages.i))
-    (IsPageDamageOf (g.F.Pages.files c.pages.folder) (c.args.from + c.pages.i)) (IsFileDamageOf (g.F.Pages.files c.pages.folder))
-    (file_from_page_of (g.F.Pages.files c.pages.folder) c.args.name.now (c.args.from + c.pages.i)) c.in_err-page-2.ensures.shown (c.in_err-page-2.ensures.damage told))
+    rw (p.1, p.2, ← same) (fault_both c.in_err-page-2.field-0.0 (IsPageDamage c.args.name.now (1 + c.pages.i))
+    (IsPageDamageOf (g.F.Pages.files c.pages.folder) (1 + c.pages.i)) (IsFileDamageOf (g.F.Pages.files c.pages.folder))
+    (λ d. file_from_page_of (g.F.Pages.files c.pages.folder) c.args.name.now (1 + c.pages.i) d (λ none. absurd (omega arith))) c.in_err-page-2.ensures.shown (c.in_err-page-2.ensures.damage told))

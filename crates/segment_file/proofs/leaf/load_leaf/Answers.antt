@@ -1,3 +1,4 @@
+use Rattle.std.proofs.Common.{◌≤◌, arith}
 use Rattle.std.proofs.lemmas.Result.{err_from_is_err_and}
 use Rattle.page_cache.specs.Cache.{IsKept}
 use Rattle.page_cache.specs.Evidence.{IsPageDamage, IsPageDamageOf}
@@ -44,8 +45,9 @@ pub returns-in_err-load-clause-damage : goal.returns-in_err-load-clause-damage
 returns-in_err-load-clause-damage g c = λ told.
     let files = g.F.Pages.files c.args.folder.now in
     let name = Segment c.id.result in
+    let behind : 1 ≤ c.page_of.result = omega (arith, c.page_of.ensures) in
     let e = err_from_is_err_and c.from_residual.result c.from_residual.ensures.1 in
     rw (e.1, e.2)
     (fault_both c.in_err-load.field-0.0 (IsPageDamage name c.page_of.result) (IsPageDamageOf files c.page_of.result) (IsLeafDamageOf files)
-    (leaf_from_page_of files name c.page_of.result)
+    (λ d. leaf_from_page_of files name c.page_of.result d behind)
     c.in_err-load.ensures.shown (c.in_err-load.ensures.damage told))
