@@ -1,5 +1,5 @@
 -- The vint of a number as a function is the vint as a relation.
-use Rattle.std.proofs.Common.{◌≡◌, ◌<◌, ◌≤◌, ◌+◌, ◌^◌, ◌/◌, ◌%◌, ℕ, zero, suc, List, [], ◌∷◌, ◌++◌, length, refl, sym, ap, subst, ◌∙◌, arith, ltb, inl, inr}
+use Rattle.std.proofs.Common.{◌≡◌, ◌<◌, ◌≤◌, ◌+◌, ◌^◌, ◌/◌, ◌%◌, ◌↔◌, ℕ, zero, suc, List, [], ◌∷◌, ◌++◌, length, refl, sym, ap, subst, ◌∙◌, arith, ltb, inl, inr}
 use Rattle.std.proofs.Math.Nat.{pow-suc}
 use Rattle.std.proofs.lemmas.Bool.{cases_lt, lt-ltb, le-ltb, cond-true, cond-false}
 use Rattle.std.proofs.lemmas.Nat.{div_below}
@@ -24,6 +24,12 @@ groups_are (suc k) n h =
 pub IsVint-vint : (n : ℕ) → n < 2 ^ 32 → IsVint (vint n) n
 unfolding vint
 IsVint-vint n h = groups_are 4 n (omega arith)
+
+-- and it is the only one
+pub spelled : (a : List ℕ) (n : ℕ) → n < 2 ^ 32 → IsVint a n ↔ (a ≡ vint n)
+spelled a n lt =
+    let own = IsVint-vint n lt in
+    (λ v. vint_one a (vint n) n v own, λ e. subst (λ (b : List ℕ). IsVint b n) (sym e) own)
 
 -- what put_vint appends
 pub appended : (old new : List ℕ) (n : ℕ) → n < 2 ^ 32 → AppendsVint old new n → new ≡ old ++ vint n

@@ -1,8 +1,8 @@
 //! Laws of the spellings. Each function has an empty body: its contract is the law.
 
-ghost use Rattle.std.specs.Prelude.{◌≡◌, ◌≤◌, ◌<◌, ◌^◌, ◌++◌, ℕ, List, length};
+ghost use Rattle.std.specs.Prelude.{◌≡◌, ◌≤◌, ◌<◌, ◌^◌, ◌++◌, ◌↔◌, ℕ, List, length};
 ghost use Rattle.std.specs.Int.{Width, byte_len, to_be_bytes};
-ghost use Rattle.byte_cursor.specs.Vint.{IsVint};
+ghost use Rattle.byte_cursor.specs.Vint.{IsVint, vint};
 
 /// What `put_u8` to `put_u64` appended is what the takes of that width take, whatever follows it: no bytes
 /// begin with two numbers of one width.
@@ -24,4 +24,9 @@ pub fn vints_are_unique()
 pub fn vints_exist()
     ensures exists { (n : ℕ) → n < 2 ^ 32 → (a : List ℕ) × IsVint a n }
     ensures length { (a : List ℕ) (n : ℕ) → n < 2 ^ 32 → IsVint a n → (1 ≤ length a) × (length a ≤ 5) }
+{}
+
+/// The canonical vint of a number below 2^32 is `vint` of it, and no other bytes are.
+pub fn vints_are_spelled()
+    ensures { (a : List ℕ) (n : ℕ) → n < 2 ^ 32 → IsVint a n ↔ (a ≡ vint n) }
 {}

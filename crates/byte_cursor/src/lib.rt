@@ -13,8 +13,5 @@ mod puts;
 
 pub use bytes::Bytes;
 pub use cursor::{Cursor, Short, VintFault};
-pub use laws::{numbers_are_unique, vints_are_unique, vints_exist};
+pub use laws::{numbers_are_unique, vints_are_spelled, vints_are_unique, vints_exist};
 pub use puts::{Memory, put_slice, put_u8, put_u16, put_u32, put_u64, put_vint};
-
-#[cfg(test)]
-mod tests;

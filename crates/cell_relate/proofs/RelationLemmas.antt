@@ -1,8 +1,11 @@
 -- Cells within cells, and their least corners: for walks over trees of cells.
-use Rattle.std.proofs.Common.{◌≡◌, Bool, true, false, List, ℤ, refl, arith}
+use Rattle.std.proofs.Common.{◌≡◌, ◌↔◌, Bool, true, false, List, ℤ, refl, sym, ◌∙◌, arith}
+use Rattle.std.proofs.lemmas.Bool.{true≢false}
 use Rattle.point_codec.specs.Points.{Region, all_le, in_box}
 use Rattle.point_codec.specs.Cells.{within}
-use Rattle.cell_relate.specs.Relations.{AllAnswer, is_outside}
+use Rattle.cell_relate.specs.declared.shape.Relation.{Relation}
+use Rattle.cell_relate.specs.declared.shape.Relation.TheVariants.{Inside, Outside, Crosses}
+use Rattle.cell_relate.specs.Relations.{AllAnswer, RelatesTo, is_outside}
 use Rattle.cell_relate.proofs.Corners.{both_true, all_le-refl, all_le-trans}
 
 -- the least corner is a point of its cell
@@ -23,3 +26,20 @@ AllAnswer-within has answer inner outer h all p k = all p (in_box-within inner o
 -- a cell of which the shape has all points is not outside, crossed or not
 pub is_outside-all : (has : List ℤ → Bool) (crosses : Region → Bool) (cell : Region) → all_le cell.lo cell.hi ≡ true → AllAnswer has true cell → is_outside has crosses cell ≡ false
 is_outside-all has crosses cell ordered all = rw (all cell.lo (in_box-lo cell ordered)) (grind arith)
+
+-- ---- what the least corner tells, by a right answer on the cell
+
+module _ (has : List ℤ → Bool) (crosses : Region → Bool) (cell : Region) where
+  pub is_outside-inside : RelatesTo has crosses cell Inside → is_outside has crosses cell ≡ false
+  is_outside-inside u = rw (u.uncrossed, u.corner) refl
+
+  pub is_outside-outside : RelatesTo has crosses cell Outside → is_outside has crosses cell ≡ true
+  is_outside-outside u = rw (u.uncrossed, u.corner) refl
+
+  pub is_outside-crosses : RelatesTo has crosses cell Crosses → is_outside has crosses cell ≡ false
+  is_outside-crosses crossed = rw crossed refl
+
+  pub corner_tells : (answer : Relation) → RelatesTo has crosses cell answer → (is_outside has crosses cell ≡ true) ↔ (answer ≡ Outside)
+  corner_tells Inside u = (λ e. absurd (true≢false (sym e ∙ is_outside-inside u)), λ e. cc)
+  corner_tells Outside u = (λ e. refl, λ e. is_outside-outside u)
+  corner_tells Crosses u = (λ e. absurd (true≢false (sym e ∙ is_outside-crosses u)), λ e. cc)

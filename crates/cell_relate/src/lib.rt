@@ -5,9 +5,11 @@
 #![tactic(auto)]
 
 pub mod box_shape;
+mod laws;
 pub mod shape;
 
 pub use box_shape::BoxShape;
+pub use laws::corner_tells_outside;
 pub use shape::{Relation, Shape};
 
 #[cfg(test)]

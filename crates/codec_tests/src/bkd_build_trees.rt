@@ -183,3 +183,65 @@ fn halves_run_beside_each_other(rt: HostRuntime) -> Result<(), Fail> {
     assert!(rt; meet(&rt, rt.alloc(), &gate)?);
     Ok(())
 }
+
+/// Counts how often each half passes.
+#[derive(Drop)]
+struct Counting {
+    passes: [AtomicU64; 2],
+}
+
+impl Gate for Counting {
+    fn pass(&self, piece: u32) {
+        let own = if piece == 0 { 0 } else { 1 };
+        self.passes[own].fetch_add(1, Ordering::SeqCst);
+    }
+}
+
+/// How many drawn entries, two in a leaf, how many levels are forked, and how many inner nodes stand on these levels: of each
+/// the left half passes once, and the right one once.
+const FORKED: [(u32, u8, u64); 10] = [
+    // one leaf, and two
+    (2, 3, 0),
+    (4, 0, 0),
+    (4, 1, 1),
+    // two and two
+    (8, 1, 1),
+    (8, 2, 3),
+    (8, 3, 3),
+    // two and one; three and two; four and three
+    (6, 2, 2),
+    (10, 2, 3),
+    (10, 3, 4),
+    (14, 3, 6),
+];
+
+/// How often the left halves passed, and how often the right ones.
+fn passes<R: Threads + Sync>(
+    rt: &R,
+    alloc: Global,
+    count: u32,
+    forks: u8,
+) -> Result<(u64, u64), Memory>
+    requires { (1 ≤ count) × (count ≤ 2 ^ 24) }
+{
+    let gate = Counting {
+        passes: [AtomicU64::new(0), AtomicU64::new(0)],
+    };
+    let mut entries = drawn(alloc, count)?;
+    let _built = build(rt, alloc, entries.as_mut_slice(), 2, forks, &gate)?;
+    let left = gate.passes[0].load(Ordering::SeqCst);
+    let right = gate.passes[1].load(Ordering::SeqCst);
+    Ok((left, right))
+}
+
+#[test]
+fn both_halves_fork_deeper(rt: HostRuntime) -> Result<(), Fail> {
+    for (count, forks, nodes) in FORKED {
+        assert_eq!(rt;
+            passes(&rt, rt.alloc(), count, forks)?,
+            (nodes, nodes),
+            "{count} entries, {forks} levels"
+        );
+    }
+    Ok(())
+}

@@ -7,6 +7,8 @@ mod bkd_build_cuts;
 #[cfg(test)]
 mod bkd_build_trees;
 #[cfg(test)]
+mod byte_cursor_fields;
+#[cfg(test)]
 mod inner_pack_bytes;
 #[cfg(test)]
 mod inner_pack_packed;

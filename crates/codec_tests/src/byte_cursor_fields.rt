@@ -1,6 +1,8 @@
 //! Outside vectors, bad bytes, and each call that takes memory once.
 
-use super::*;
+use byte_cursor::{
+    Bytes, Cursor, Short, VintFault, put_slice, put_u8, put_u16, put_u32, put_u64, put_vint,
+};
 use std::test::Fail;
 
 /// Vints with their numbers, and bytes that are none.
@@ -40,49 +42,78 @@ const VINTS: [(&[u8], Result<u32, VintFault>); 20] = [
 ];
 
 #[test]
-fn vints(rt: HostRuntime) -> Result<(), Fail> {
+fn vints_are_taken(rt: HostRuntime) {
     for (bytes, want) in VINTS {
         let mut cursor = Cursor::new(bytes);
         assert_eq!(rt; cursor.take_vint(), want, "at {bytes:?}");
+        // what is refused is still there
+        let left = if want.is_ok() { [].as_slice() } else { bytes };
+        assert_eq!(rt; cursor.rest(), left, "at {bytes:?}");
+    }
+}
+
+#[test]
+fn vints_are_put(rt: HostRuntime) -> Result<(), Fail> {
+    for (bytes, want) in VINTS {
         if let Ok(n) = want {
-            assert_eq!(rt; cursor.rest().len(), 0, "at {bytes:?}");
             let mut out = vec![in rt.alloc(); 9]?;
             put_vint(&mut out, n)?;
             put_u8(&mut out, 0xff)?;
             assert_eq!(rt; &out[1..out.len() - 1], bytes, "at {n}");
-        } else {
-            assert_eq!(rt; cursor.rest(), bytes, "a refused take moved at {bytes:?}");
         }
     }
     Ok(())
 }
 
-/// Each field in turn, as bytes and back, and the bytes cut off at each place.
+/// A field of each width, and two bytes as they stand.
+const FIELDS: [u8; 17] = [
+    1, 2, 3, 4, 5, 6, 7, 8, 9, 10, 11, 12, 13, 14, 15, b'a', b'b',
+];
+
 #[test]
-fn fields(rt: HostRuntime) -> Result<(), Fail> {
+fn fields_are_put(rt: HostRuntime) -> Result<(), Fail> {
     let mut out = Vec::new(rt.alloc());
     put_u8(&mut out, 0x01)?;
     put_u16(&mut out, 0x0203)?;
     put_u32(&mut out, 0x0405_0607)?;
     put_u64(&mut out, 0x0809_0a0b_0c0d_0e0f)?;
     put_slice(&mut out, b"ab")?;
-    let want = [
-        1, 2, 3, 4, 5, 6, 7, 8, 9, 10, 11, 12, 13, 14, 15, b'a', b'b',
-    ];
-    assert_eq!(rt; out.as_slice(), want.as_slice());
+    assert_eq!(rt; out.as_slice(), FIELDS.as_slice());
+    Ok(())
+}
 
-    let kept = Bytes::new(out);
-    assert_eq!(rt; kept.as_slice(), want.as_slice());
-    let out = kept.into_vec();
-    let mut cursor = Cursor::new(out.as_slice());
+#[test]
+fn fields_are_taken(rt: HostRuntime) {
+    let mut cursor = Cursor::new(&FIELDS);
     assert_eq!(rt; cursor.take_u8(), Ok(0x01));
     assert_eq!(rt; cursor.take_u16(), Ok(0x0203));
     assert_eq!(rt; cursor.take_u32(), Ok(0x0405_0607));
     assert_eq!(rt; cursor.take_u64(), Ok(0x0809_0a0b_0c0d_0e0f));
-    assert_eq!(rt; cursor.take_slice(3), Err(Short));
-    assert_eq!(rt; cursor.take_slice(2), Ok(b"ab".as_slice()));
-    assert_eq!(rt; cursor.take_slice(0), Ok(b"".as_slice()));
+    assert_eq!(rt; cursor.rest(), b"ab".as_slice());
+}
+
+/// So many bytes of the last two, one after the other, and what is taken.
+const SLICES: [(usize, Result<&[u8], Short>); 4] = [
+    (3, Err(Short)),
+    (2, Ok(b"ab")),
+    (0, Ok(b"")),
+    (1, Err(Short)),
+];
+
+#[test]
+fn slices_are_taken(rt: HostRuntime) {
+    let mut cursor = Cursor::new(&FIELDS[15..]);
+    for (n, want) in SLICES {
+        assert_eq!(rt; cursor.take_slice(n), want, "{n} bytes");
+    }
     assert_eq!(rt; cursor.take_u8(), Err(Short));
+}
+
+#[test]
+fn bytes_are_kept(rt: HostRuntime) -> Result<(), Fail> {
+    let kept = Bytes::new(FIELDS.to_vec(rt.alloc())?);
+    assert_eq!(rt; kept.as_slice(), FIELDS.as_slice());
+    assert_eq!(rt; kept.into_vec().as_slice(), FIELDS.as_slice());
     Ok(())
 }
 
