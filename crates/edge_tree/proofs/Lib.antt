@@ -1,5 +1,6 @@
 pub mod Boxes
 pub mod Passing
-pub mod Runs
+pub mod Parts
+pub mod Same
 pub mod Sound
 pub mod Walk

@@ -1,47 +1,27 @@
--- The nodes of a tree, one more node at a time and one node at a time.
-use Rattle.std.proofs.Common.{◌≡◌, ℕ, zero, suc, ◌-◌, ◌<◌, ◌≤◌, ⊎_elim, List, [], ◌∷◌, ◌++◌, length, map, take, get_or, refl, sym, ap, ◌∙◌, subst, arith}
-use Rattle.std.specs.Prelude.{slice_range}
+-- The nodes of a tree, one more node at a time.
+use Rattle.std.proofs.Common.{◌≡◌, ℕ, suc, ◌<◌, ◌≤◌, ⊎_elim, List, [], ◌∷◌, ◌++◌, length, take, drop, get_or, refl, sym, ap, ◌∙◌, subst, arith}
 use Rattle.std.proofs.lemmas.Bool.{cases_lt}
-use Rattle.std.proofs.lemmas.List.{map-append, length-map, length-take, length_push, get_or-map, get_or_append_left, get_or-take, get_or_at, take-map, take-take, take_all}
+use Rattle.std.proofs.lemmas.List.{length-take, length_push, get_or_append_left, get_or_at, take-take, take_all, take-append-le, take-append-drop, drop_all, drop-append-le, append-nil}
+use Rattle.std.proofs.lemmas.List.Concat.{flat_map-append}
 use Rattle.ring_parity.specs.Edges.{Ends}
-use Rattle.edge_tree.proofs.Runs.{run_join}
+use Rattle.edge_tree.specs.declared.runs.Run.{Run}
 use Rattle.edge_tree.specs.declared.nodes.Node.{Node}
 use Rattle.edge_tree.specs.declared.outline.Outline.{Outline}
 use Rattle.edge_tree.specs.Outlines.{Outlines}
-use Rattle.edge_tree.specs.Nodes.{end_of, IsNode, AreNodes}
-
--- the first nodes alone tell where their runs end
-pub end_of-push : (nodes : List Node) (n : Node) (k : ℕ) → k ≤ length nodes → end_of (nodes ++ n ∷ []) k ≡ end_of nodes k
-end_of-push nodes n zero h = refl
-end_of-push nodes n (suc k) h =
-    ap (λ ends. get_or ends k 0) (map-append (λ (m : Node). m.end) nodes (n ∷ []))
-    ∙ get_or_append_left (map (λ (m : Node). m.end) nodes) (n.end ∷ []) 0 k (omega (arith, length-map nodes (λ (m : Node). m.end)))
-
-pub end_of-take : (nodes : List Node) (m k : ℕ) → k ≤ m → end_of (take m nodes) k ≡ end_of nodes k
-end_of-take nodes m zero h = refl
-end_of-take nodes m (suc k) h =
-    ap (λ ends. get_or ends k 0) (sym (take-map (λ (n : Node). n.end) m nodes))
-    ∙ get_or-take m (map (λ (n : Node). n.end) nodes) k 0 (omega arith)
-
-pub end_of_at : (nodes : List Node) (at : ℕ) (n : Node) → 0 < at → at ≤ length nodes → n ≡ get_or nodes (at - 1) n → end_of nodes at ≡ n.end
-end_of_at nodes zero n some there is = absurd (omega arith)
-end_of_at nodes (suc k) n some there is =
-    let before : suc k - 1 ≡ k = omega arith in
-    get_or-map (λ (m : Node). m.end) nodes k n 0 (omega arith) ∙ ap (λ (m : Node). m.end) (sym (rw before at is))
+use Rattle.edge_tree.specs.Nodes.{run_in, all_in, held, all_held, HoldsRun, IsNode, AreNodes}
 
 IsNode-push : (edges : List Ends) (nodes : List Node) (n : Node) (place : ℕ) (m : Node) → place < length nodes → IsNode edges nodes place m
     → IsNode edges (nodes ++ n ∷ []) place m
 IsNode-push edges nodes n place m there h = record {
   ordered = h.ordered;
   there = h.there;
-  outlined = h.outlined;
   after = h.after;
-  begins = end_of-push nodes n m.before (omega (arith, h.after)) ∙ h.begins;
-  inner = λ i. end_of-push nodes n place (omega arith) ∙ h.inner i;
+  outlined =
+      subst (λ (before : List Node). Outlines (all_held edges (drop m.before before)) m.outline)
+      (sym (take-append-le (suc place) nodes (n ∷ []) (omega arith))) h.outlined;
 }
 
--- one more node
-pub AreNodes-push : (edges : List Ends) (nodes : List Node) (n : Node) → AreNodes edges nodes → IsNode edges (nodes ++ n ∷ []) (length nodes) n
+AreNodes-push : (edges : List Ends) (nodes : List Node) (n : Node) → AreNodes edges nodes → IsNode edges (nodes ++ n ∷ []) (length nodes) n
     → AreNodes edges (nodes ++ n ∷ [])
 AreNodes-push edges nodes n all one = λ place d within.
     ⊎_elim
@@ -54,44 +34,77 @@ AreNodes-push edges nodes n all one = λ place d within.
     (subst (λ (k : ℕ). IsNode edges (nodes ++ n ∷ []) k n) last one))
     (cases_lt place (length nodes))
 
--- a subtree's last node is what its halves left, or stands alone
-pub record Stands (edges : List Ends) (old now : List Node) (first end : ℕ) (o : Outline) : Type 0 where
+-- a subtree's last node beside what its halves left, or alone
+pub record Stands (edges : List Ends) (old now : List Node) (run : List Ends) (n : Node) : Type 0 where
   pub sound : AreNodes edges now
-  pub outlined : Outlines (slice_range edges first end) o
   pub kept : take (length old) now ≡ old
-  pub inner : length old < length now → end_of now (length now) ≡ end
+  pub together : all_held edges (drop (length old) now) ++ held edges n ≡ run
+  pub outlined : Outlines run n.outline
+  pub ordered : n.first ≤ n.end
+  pub there : n.end ≤ length edges
+  pub begins : n.before ≡ length old
 
-pub subtree : (edges : List Ends) (old now : List Node) (first end before : ℕ) (o : Outline) → first < end → end ≤ length edges → end_of old (length old) ≡ first
-    → before ≡ length old → Stands edges old now first end o
-    → AreNodes edges (now ++ record { outline = o; first = first; end = end; before = before } ∷ [])
-subtree edges old now first end before o some there next is h =
-    let n : Node = record { outline = o; first = first; end = end; before = before } in
-    let shorter : length old ≤ length now = omega (arith, ap length h.kept, length-take (length old) now) in
+shorter : (old now : List Node) → take (length old) now ≡ old → length old ≤ length now
+shorter old now h = omega (arith, ap length h, length-take (length old) now)
+
+pub held_pushed : (edges : List Ends) (old now : List Node) (run : List Ends) (n : Node) → Stands edges old now run n
+    → all_held edges (drop (length old) (now ++ n ∷ [])) ≡ run
+held_pushed edges old now run n h =
+    ap (all_held edges) (drop-append-le (length old) now (n ∷ []) (shorter old now h.kept))
+    ∙ flat_map-append (held edges) (drop (length old) now) (n ∷ [])
+    ∙ ap (λ es. all_held edges (drop (length old) now) ++ es) (append-nil (held edges n)) ∙ h.together
+
+pub kept_pushed : (edges : List Ends) (old now : List Node) (run : List Ends) (n : Node) → Stands edges old now run n
+    → take (length old) (now ++ n ∷ []) ≡ old
+kept_pushed edges old now run n h = take-append-le (length old) now (n ∷ []) (shorter old now h.kept) ∙ h.kept
+
+pub sound_pushed : (edges : List Ends) (old now : List Node) (run : List Ends) (n : Node) → Stands edges old now run n → AreNodes edges (now ++ n ∷ [])
+sound_pushed edges old now run n h =
+    let told : all_held edges (drop n.before (take (suc (length now)) (now ++ n ∷ []))) ≡ run =
+    ap (λ (nodes : List Node). all_held edges (drop n.before nodes)) (take_all (suc (length now)) (now ++ n ∷ []) (omega (arith, length_push now n)))
+    ∙ ap (λ k. all_held edges (drop k (now ++ n ∷ []))) h.begins ∙ held_pushed edges old now run n h in
     AreNodes-push edges now n h.sound (record {
-      ordered = omega arith;
-      there = there;
-      outlined = h.outlined;
-      after = omega arith;
-      begins = end_of-push now n before (omega arith) ∙ ap (end_of now) is ∙ sym (end_of-take now (length old) (length old) (omega arith)) ∙ ap (λ nodes. end_of nodes (length old)) h.kept ∙ next;
-      inner = λ i. end_of-push now n (length now) (omega arith) ∙ h.inner (omega arith);
+      ordered = h.ordered;
+      there = h.there;
+      after = omega (arith, h.begins, shorter old now h.kept);
+      outlined = subst (λ (es : List Ends). Outlines es n.outline) (sym told) h.outlined;
     })
 
--- a run that is a leaf's
-pub leaf_stands : (edges : List Ends) (nodes : List Node) (first end : ℕ) (o : Outline) → AreNodes edges nodes → Outlines (slice_range edges first end) o
-    → Stands edges nodes nodes first end o
-leaf_stands edges nodes first end o sound outlined =
-    record { sound = sound; outlined = outlined; kept = take_all (length nodes) nodes (omega arith); inner = λ i. absurd (omega arith) }
+-- a leaf
+pub leaf_stands : (edges : List Ends) (nodes : List Node) (run : List Ends) (n : Node) → AreNodes edges nodes → HoldsRun edges run n → n.before ≡ length nodes
+    → Stands edges nodes nodes run n
+leaf_stands edges nodes run n sound h begins = record {
+  sound = sound;
+  kept = take_all (length nodes) nodes (omega arith);
+  together = ap (λ (ns : List Node). all_held edges ns ++ held edges n) (drop_all (length nodes) nodes (omega arith)) ∙ h.held;
+  outlined = h.outlined;
+  ordered = h.ordered;
+  there = h.there;
+  begins = begins;
+}
 
--- two halves, the second after the first
-pub halves_stand : (edges : List Ends) (old mid now : List Node) (first middle end : ℕ) (left right o : Outline) → first ≤ middle → middle ≤ end
-    → take (length old) mid ≡ old → take (length mid) now ≡ mid → AreNodes edges now → end_of now (length now) ≡ end
-    → Outlines (slice_range edges first middle) left → Outlines (slice_range edges middle end) right
-    → ((xs ys : List Ends) → Outlines xs left → Outlines ys right → Outlines (xs ++ ys) o) → Stands edges old now first end o
-halves_stand edges old mid now first middle end left right o p q early late sound whole l r joined =
-    let shorter : length old ≤ length mid = omega (arith, ap length early, length-take (length old) mid) in
+-- a node over two halves, the second after the first
+pub halves_stand : (edges : List Ends) (old mid now : List Node) (first second runs : List Run) (left right o : Outline) (before : ℕ) → first ++ second ≡ runs
+    → take (length old) mid ≡ old → take (length mid) now ≡ mid → AreNodes edges now
+    → all_held edges (drop (length old) mid) ≡ all_in edges first → all_held edges (drop (length mid) now) ≡ all_in edges second
+    → Outlines (all_in edges first) left → Outlines (all_in edges second) right
+    → ((xs ys : List Ends) → Outlines xs left → Outlines ys right → Outlines (xs ++ ys) o) → before ≡ length old
+    → Stands edges old now (all_in edges runs) (record { outline = o; first = 0; end = 0; before = before })
+halves_stand edges old mid now first second runs left right o before whole early late sound f s l r joined begins =
+    let less : length old ≤ length mid = shorter old mid early in
+    let all : all_in edges first ++ all_in edges second ≡ all_in edges runs = sym (flat_map-append (run_in edges) first second) ∙ ap (all_in edges) whole in
+    let added : drop (length old) now ≡ drop (length old) mid ++ drop (length mid) now =
+    ap (drop (length old)) (sym (take-append-drop (length mid) now) ∙ ap (λ (ns : List Node). ns ++ drop (length mid) now) late)
+    ∙ drop-append-le (length old) mid (drop (length mid) now) less in
     record {
       sound = sound;
-      outlined = subst (λ (run : List Ends). Outlines run o) (run_join edges first middle end p q) (joined (slice_range edges first middle) (slice_range edges middle end) l r);
-      kept = sym (take-take (length old) (length mid) now shorter) ∙ ap (take (length old)) late ∙ early;
-      inner = λ i. whole;
+      kept = sym (take-take (length old) (length mid) now less) ∙ ap (take (length old)) late ∙ early;
+      together =
+          append-nil (all_held edges (drop (length old) now)) ∙ ap (all_held edges) added
+          ∙ flat_map-append (held edges) (drop (length old) mid) (drop (length mid) now)
+          ∙ ap (λ es. es ++ all_held edges (drop (length mid) now)) f ∙ ap (λ es. all_in edges first ++ es) s ∙ all;
+      outlined = subst (λ (es : List Ends). Outlines es o) all (joined (all_in edges first) (all_in edges second) l r);
+      ordered = omega arith;
+      there = omega arith;
+      begins = begins;
     }

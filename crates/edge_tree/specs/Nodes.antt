@@ -1,28 +1,47 @@
 -- What the nodes of a tree tell of a list of edges.
-use Rattle.std.specs.Prelude.{◌≡◌, ℕ, zero, suc, ◌<◌, ◌≤◌, List, length, map, slice_index, slice_index_or, slice_range}
+use Rattle.std.specs.Prelude.{◌≡◌, ℕ, suc, ◌<◌, ◌≤◌, Bool, List, length, take, drop, slice_index_or, slice_range, flat_map, count_by}
 use Rattle.ring_parity.specs.Edges.{Ends}
+use Rattle.edge_tree.specs.declared.runs.Run.{Run}
 use Rattle.edge_tree.specs.declared.nodes.Node.{Node}
 use Rattle.edge_tree.specs.Outlines.{Outlines}
 
--- where the run of edges ends that the first k nodes tell of
-abbrev pub end_of : List Node → ℕ → ℕ
-end_of nodes zero = 0
-end_of nodes (suc k) = slice_index (map (λ n. n.end) nodes) k
+-- each edge stands equally often in both lists
+unfoldable pub HaveSame : List Ends → List Ends → Type 0
+HaveSame xs ys = (test : Ends → Bool) → count_by test xs ≡ count_by test ys
 
--- a node and its place among the nodes: it outlines its run of edges. Before its subtree, the nodes tell of the edges
--- before its run. Where it is no leaf, the node before it ends where it ends
+-- some of the edges, one after the other
+pub record IsRun (edges : List Ends) (r : Run) : Type 0 where
+  pub some : r.first < r.end
+  pub there : r.end ≤ length edges
+
+abbrev pub run_in : List Ends → Run → List Ends
+run_in edges r = slice_range edges r.first r.end
+
+-- the edges of these runs
+abbrev pub all_in : List Ends → List Run → List Ends
+all_in edges runs = flat_map (run_in edges) runs
+
+-- the edges that a node holds itself, and those that these nodes hold
+abbrev pub held : List Ends → Node → List Ends
+held edges n = slice_range edges n.first n.end
+
+abbrev pub all_held : List Ends → List Node → List Ends
+all_held edges nodes = flat_map (held edges) nodes
+
+-- the node of a leaf, which holds these edges and outlines them
+pub record HoldsRun (edges run : List Ends) (n : Node) : Type 0 where
+  pub ordered : n.first ≤ n.end
+  pub there : n.end ≤ length edges
+  pub held : held edges n ≡ run
+  pub outlined : Outlines run n.outline
+
+-- a node and its place among the nodes: it outlines what its subtree holds, which ends with it and begins after the first
+-- nodes
 pub record IsNode (edges : List Ends) (nodes : List Node) (place : ℕ) (n : Node) : Type 0 where
   pub ordered : n.first ≤ n.end
   pub there : n.end ≤ length edges
-  pub outlined : Outlines (slice_range edges n.first n.end) n.outline
   pub after : n.before ≤ place
-  pub begins : end_of nodes n.before ≡ n.first
-  pub inner : n.before < place → end_of nodes place ≡ n.end
+  pub outlined : Outlines (all_held edges (drop n.before (take (suc place) nodes))) n.outline
 
 abbrev pub AreNodes : List Ends → List Node → Type 0
 AreNodes edges nodes = (place : ℕ) (d : Node) → place < length nodes → IsNode edges nodes place (slice_index_or nodes place d)
-
--- together the nodes tell of all the edges
-pub record TellAll (edges : List Ends) (nodes : List Node) : Type 0 where
-  pub each : AreNodes edges nodes
-  pub whole : end_of nodes (length nodes) ≡ length edges

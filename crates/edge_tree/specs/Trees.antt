@@ -3,9 +3,10 @@ use Rattle.std.specs.Prelude.{List}
 use Rattle.ring_parity.specs.Edges.{Ends}
 use Rattle.ring_parity.specs.Rings.{AreClosed}
 use Rattle.edge_tree.specs.declared.nodes.Node.{Node}
-use Rattle.edge_tree.specs.Nodes.{TellAll}
+use Rattle.edge_tree.specs.Nodes.{HaveSame, all_held, AreNodes}
 
--- the edges close up, and the nodes tell of all of them
+-- the edges close up, and the nodes hold each of them once
 pub record IsTree (edges : List Ends) (nodes : List Node) : Type 0 where
   pub closed : AreClosed edges
-  pub told : TellAll edges nodes
+  pub each : AreNodes edges nodes
+  pub whole : HaveSame (all_held edges nodes) edges

@@ -1,47 +1,27 @@
-//! The nodes of a tree over a list of edges, each after the nodes of its subtree.
+//! The nodes of a tree over runs of edges, each after the nodes of its subtree.
 
-ghost use Rattle.std.specs.Prelude.{◌≡◌, ◌<◌, ◌≤◌, ◌++◌, ℤ, List, length, map, take, slice_range, IsTrue, IsSome, IfSome, IfOk, OnOk};
+ghost use Rattle.std.specs.Prelude.{◌≡◌, ◌<◌, ◌≤◌, ◌++◌, ℤ, List, length, map, take, drop, All, IfOk, OnOk};
 ghost use Rattle.point_codec.specs.Seen.{region_of};
 ghost use Rattle.ring_parity.specs.Edges.{Ends};
 ghost use Rattle.ring_parity.specs.Rings.{any_meets};
 ghost use Rattle.ring_parity.specs.Seen.{ends_of};
 ghost use Rattle.edge_tree.specs.Outlines.{Outlines, IsPlace};
-ghost use Rattle.edge_tree.specs.Nodes.{end_of, AreNodes, TellAll};
+ghost use Rattle.edge_tree.specs.Nodes.{IsRun, all_in, all_held, HoldsRun, AreNodes};
 
 use crate::outline::Outline;
+use crate::runs::Run;
 use point_codec::{Cell, Point};
 use ring_parity::{Edge, counts, misses, on_edge};
 use std::alloc::{AllocError, Global};
 
-/// How many edges a leaf has at most.
-const LEAF: usize = 8;
-
-/// A node tells of the run of edges from `first` up to `end`. Its subtree ends with it and begins after the first `before`
-/// nodes; where those are all the nodes before it, it is a leaf.
+/// What is known of the edges that a node's subtree holds. A leaf holds the run of edges from `first` up to `end`, an inner
+/// node none itself. The subtree ends with the node, and begins after the first `before` nodes.
 #[derive(Clone, Copy, Debug)]
 pub struct Node {
     pub outline: Outline,
     pub first: usize,
     pub end: usize,
     pub before: usize,
-}
-
-impl Node {
-    /// Where the point lies beside the node's run, as far as the outline tells, or at a leaf as its edges tell.
-    pub fn place(&self, edges: &[Edge], is_leaf: bool, p: &Point<2>) -> Option<Place>
-        requires ordered { self.now.first ≤ self.now.end }
-        requires there { self.now.end ≤ length edges.now }
-        requires outlined { Outlines (slice_range (map ends_of edges.now) self.now.first self.now.end) self.now.outline }
-
-        ensures leaf { IsTrue is_leaf → IsSome result }
-        ensures place { IfSome result (λ place. IsPlace (slice_range (map ends_of edges.now) self.now.first self.now.end) p.now.c place.on place.odd) }
-    {
-        match self.outline.parity(p) {
-            Some(odd) => Some(Place { on: false, odd }),
-            None if is_leaf => Some(place_in(&edges[self.first..self.end], p)),
-            None => None,
-        }
-    }
 }
 
 /// Where a point lies beside a run of edges.
@@ -67,7 +47,7 @@ impl Place {
 }
 
 /// Where the point lies beside these edges.
-fn place_in(edges: &[Edge], p: &Point<2>) -> Place
+pub fn place_in(edges: &[Edge], p: &Point<2>) -> Place
     ensures { IsPlace (map ends_of edges.now) p.now.c result.on result.odd }
 {
     let mut on = false;
@@ -103,48 +83,61 @@ fn outline_of(edges: &[Edge]) -> Outline
     outline
 }
 
-/// The nodes of a tree over all these edges.
-pub fn nodes_over(alloc: Global, edges: &[Edge]) -> Result<Vec<Node>, AllocError>
-    ensures { IfOk result (λ nodes. TellAll (map ends_of edges.now) nodes.items) }
+/// The nodes of a tree over the edges of these runs.
+pub fn nodes_over(alloc: Global, edges: &[Edge], runs: &[Run]) -> Result<Vec<Node>, AllocError>
+    requires { All (IsRun (map ends_of edges.now)) runs.now }
+    ensures each { IfOk result (λ nodes. AreNodes (map ends_of edges.now) nodes.items) }
+    ensures whole { IfOk result (λ nodes. all_held (map ends_of edges.now) nodes.items ≡ all_in (map ends_of edges.now) runs.now) }
 {
     let mut nodes = Vec::new(alloc);
-    if edges.len() > 0 {
-        push_run(&mut nodes, edges, 0, edges.len())?;
+    if runs.len() > 0 {
+        push_nodes(&mut nodes, edges, runs)?;
     }
     Ok(nodes)
 }
 
-/// Appends the nodes over the edges from `first` up to `end`, the two halves before what holds both.
-fn push_run(
-    nodes: &mut Vec<Node>,
-    edges: &[Edge],
-    first: usize,
-    end: usize,
-) -> Result<Outline, AllocError>
-    requires some { first < end }
-    requires there { end ≤ length edges.now }
+/// Appends the nodes over these runs, those of the two halves before the one that is over both.
+fn push_nodes(nodes: &mut Vec<Node>, edges: &[Edge], runs: &[Run]) -> Result<Outline, AllocError>
+    requires some { 0 < length runs.now }
+    requires there { All (IsRun (map ends_of edges.now)) runs.now }
     requires sound { AreNodes (map ends_of edges.now) nodes.old.items }
-    requires next { end_of nodes.old.items (length nodes.old.items) ≡ first }
 
-    ensures outlined { IfOk result (Outlines (slice_range (map ends_of edges.now) first end)) }
+    ensures outlined { IfOk result (Outlines (all_in (map ends_of edges.now) runs.now)) }
     ensures sound { OnOk result (AreNodes (map ends_of edges.now) nodes.new.items) }
-    ensures next { OnOk result (end_of nodes.new.items (length nodes.new.items) ≡ end) }
+    ensures held { OnOk result (all_held (map ends_of edges.now) (drop (length nodes.old.items) nodes.new.items) ≡ all_in (map ends_of edges.now) runs.now) }
     ensures kept { OnOk result (take (length nodes.old.items) nodes.new.items ≡ nodes.old.items) }
 {
     let before = nodes.len();
-    let outline = if end - first <= LEAF {
-        outline_of(&edges[first..end])
+    let node = if runs.len() == 1 {
+        leaf(edges, runs, before)
     } else {
-        let middle = first + (end - first) / 2;
-        let left = push_run(nodes, edges, first, middle)?;
-        let right = push_run(nodes, edges, middle, end)?;
-        left.join(&right)
+        let middle = runs.len() / 2;
+        let left = push_nodes(nodes, edges, &runs[..middle])?;
+        let right = push_nodes(nodes, edges, &runs[middle..])?;
+        Node {
+            outline: left.join(&right),
+            first: 0,
+            end: 0,
+            before,
+        }
     };
-    nodes.push(Node {
-        outline,
-        first,
-        end,
+    nodes.push(node)?;
+    Ok(node.outline)
+}
+
+/// The node that holds the only run.
+fn leaf(edges: &[Edge], runs: &[Run], before: usize) -> Node
+    requires one { length runs.now ≡ 1 }
+    requires there { All (IsRun (map ends_of edges.now)) runs.now }
+
+    ensures held { HoldsRun (map ends_of edges.now) (all_in (map ends_of edges.now) runs.now) result }
+    ensures before { result.before ≡ before }
+{
+    let run = &runs[0];
+    Node {
+        outline: outline_of(&edges[run.first..run.end]),
+        first: run.first,
+        end: run.end,
         before,
-    })?;
-    Ok(outline)
+    }
 }

@@ -82,8 +82,8 @@ pub struct Climb {
 }
 
 impl Climb {
-    /// One climb in place of two that follow each other: it passes a height where exactly one of them does. None where no
-    /// single climb is seen to do so.
+    /// One climb in place of two that have an end in common: it passes a height where exactly one of them does. None where
+    /// no single climb is seen to do so.
     pub fn then(&self, next: &Climb) -> Option<Climb>
         ensures { IfSome result (λ climb. (y : ℤ) → climbs climb y ≡ not (beq (climbs self.now y) (climbs next.now y))) }
     {
@@ -91,6 +91,21 @@ impl Climb {
             Some(Climb {
                 from: self.from,
                 to: next.to,
+            })
+        } else if self.from == next.to {
+            Some(Climb {
+                from: next.from,
+                to: self.to,
+            })
+        } else if self.from == next.from {
+            Some(Climb {
+                from: self.to,
+                to: next.to,
+            })
+        } else if self.to == next.to {
+            Some(Climb {
+                from: self.from,
+                to: next.from,
             })
         } else if self.from == self.to {
             Some(*next)

@@ -7,13 +7,14 @@ ghost use Rattle.ring_parity.specs.Rings.{edges_of, all_edges, is_on_any, is_odd
 ghost use Rattle.ring_parity.specs.Seen.{ends_of};
 ghost use Rattle.edge_tree.specs.Outlines.{IsPlace};
 
-use crate::nodes::{Node, Place, meets_run, nodes_over};
+use crate::nodes::{Node, Place, meets_run, nodes_over, place_in};
+use crate::runs::runs_over;
 use point_codec::{Cell, Point};
 use ring_parity::{Edge, Rings};
 use std::alloc::{AllocError, Global};
 use std::marker::Model;
 
-/// The edges of a polygon in ring order, and the nodes of a tree over them.
+/// The edges of a polygon in ring order, and the nodes of a tree over runs of them, neighbours by place.
 #[derive(Drop)]
 pub struct EdgeTree {
     edges: Vec<Edge>,
@@ -42,7 +43,8 @@ impl EdgeTree {
         for ring in r.as_slice() {
             push_edges(&mut edges, ring.as_slice())?;
         }
-        let nodes = nodes_over(alloc, edges.as_slice())?;
+        let runs = runs_over(alloc, edges.as_slice())?;
+        let nodes = nodes_over(alloc, edges.as_slice(), runs.as_slice())?;
         Ok(EdgeTree { edges, nodes })
     }
 
@@ -68,7 +70,7 @@ impl EdgeTree {
         place.on || place.odd
     }
 
-    /// Where the point lies beside all the edges. A node that tells it of its run is taken whole.
+    /// Where the point lies beside all the edges. A node that tells it of its subtree is taken whole.
     fn place(&self, p: &Point<2>) -> Place
         ensures { IsPlace self.now p.now.c result.on result.odd }
     {
@@ -79,13 +81,15 @@ impl EdgeTree {
         let mut at = self.nodes.len();
         while at > 0 {
             let node = &self.nodes[at - 1];
-            let is_leaf = node.before + 1 == at;
-            match node.place(self.edges.as_slice(), is_leaf, p) {
-                Some(beside) => {
-                    place = beside.join(&place);
+            match node.outline.parity(p) {
+                Some(odd) => {
+                    place = Place { on: false, odd }.join(&place);
                     at = node.before;
                 }
-                None => at -= 1,
+                None => {
+                    place = place_in(&self.edges[node.first..node.end], p).join(&place);
+                    at -= 1;
+                }
             }
         }
         place
@@ -104,7 +108,7 @@ impl EdgeTree {
             if node.outline.bounds.is_apart(&c.lo, &c.hi) {
                 at = node.before;
             } else {
-                if node.before + 1 == at && meets_run(&self.edges[node.first..node.end], c) {
+                if meets_run(&self.edges[node.first..node.end], c) {
                     return true;
                 }
                 at -= 1;

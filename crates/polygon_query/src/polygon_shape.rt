@@ -2,7 +2,7 @@
 
 ghost use Rattle.std.specs.Prelude.{◌≡◌, ◌==◌, IfOk, length};
 ghost use Rattle.point_codec.specs.Seen.{region_of};
-ghost use Rattle.ring_parity.specs.Rings.{all_edges, is_within};
+ghost use Rattle.ring_parity.specs.Rings.{all_edges};
 ghost use Rattle.cell_relate.specs.Relations.{RelatesTo};
 ghost use Rattle.polygon_query.specs.Shape.{has, crosses};
 
@@ -72,7 +72,7 @@ impl<const D: usize> Shape<D> for PolygonShape {
 
     fn contains(&mut self, p: &Point<D>) -> bool {
         self.tests = self.tests.saturating_add(1);
-        D == 2 && is_within(&self.edges, &in_plane(p))
+        D == 2 && self.edges.contains(&in_plane(p))
     }
 
     fn compare(&mut self, c: &Cell<D>) -> Relation {
@@ -91,18 +91,11 @@ fn relation_of(edges: &EdgeTree, c: &Cell<2>) -> Relation
 {
     if edges.any_meets(c) {
         Relation::Crosses
-    } else if is_within(edges, &c.lo) {
+    } else if edges.contains(&c.lo) {
         Relation::Inside
     } else {
         Relation::Outside
     }
-}
-
-/// Whether the point is on one of the edges, or an odd number of them counts for it.
-fn is_within(edges: &EdgeTree, p: &Point<2>) -> bool
-    ensures { result ≡ is_within edges.now p.now.c }
-{
-    edges.on_any(p) || edges.odd(p)
 }
 
 /// A cell of two dimensions as one of the plane.

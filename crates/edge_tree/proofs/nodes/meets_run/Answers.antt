@@ -1,6 +1,6 @@
 use Rattle.std.proofs.Common.{sym, ◌∙◌}
 use Rattle.point_codec.specs.Seen.{region_of}
-use Rattle.edge_tree.proofs.Runs.{met}
+use Rattle.edge_tree.proofs.Parts.{met}
 use Rattle.edge_tree.proofs.nodes.meets_run.Goals as goal
 
 pub returns-then-not-misses : goal.returns-then-not-misses

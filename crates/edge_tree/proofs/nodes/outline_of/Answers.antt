@@ -1,6 +1,6 @@
 use Rattle.std.proofs.Common.{map, take, ◌∷◌, []}
 use Rattle.ring_parity.specs.Seen.{ends_of}
-use Rattle.edge_tree.proofs.Runs.{outlines_more}
+use Rattle.edge_tree.proofs.Parts.{outlines_more}
 use Rattle.edge_tree.proofs.nodes.outline_of.Goals as goal
 
 pub loop-i-preserved : goal.loop-i-preserved

@@ -3,7 +3,8 @@ use Rattle.std.proofs.Common.{◌≡◌, ℕ, ◌+◌, ◌-◌, ◌<◌, ◌≤�
 use Rattle.std.proofs.lemmas.Bool.{or_from}
 use Rattle.std.proofs.lemmas.List.Folds.{list_any-append, list_any_at}
 use Rattle.std.specs.Prelude.{slice_range}
-use Rattle.std.proofs.lemmas.List.{map_more, take-map, drop-map, length-map, get_or-map, take-take, drop-drop, drop-take, take-append-drop}
+use Rattle.std.proofs.lemmas.List.Concat.{flat_map-append}
+use Rattle.std.proofs.lemmas.List.{map_more, take-map, drop-map, length-map, get_or-map, take-take, drop-take, take-append-drop, append-nil}
 use Rattle.point_codec.specs.Points.{Region}
 use Rattle.ring_parity.specs.Edges.{Ends, misses}
 use Rattle.ring_parity.specs.Rings.{any_meets}
@@ -11,6 +12,8 @@ use Rattle.ring_parity.specs.Seen.{ends_of}
 use Rattle.ring_parity.specs.declared.edges.Edge.{Edge}
 use Rattle.edge_tree.specs.declared.outline.Outline.{Outline}
 use Rattle.edge_tree.specs.Outlines.{Outlines}
+use Rattle.edge_tree.specs.declared.runs.Run.{Run}
+use Rattle.edge_tree.specs.Nodes.{run_in, all_in}
 
 -- a run of edges, seen
 pub run_seen : (edges : List Edge) (first end : ℕ) → slice_range (map ends_of edges) first end ≡ map ends_of (take (end - first) (drop first edges))
@@ -39,16 +42,17 @@ none_met_more edges i e cell there is h none =
     ∙ or_from (any_meets (map ends_of (take i edges)) cell) (not (misses (ends_of e) cell) || false) none
     (or_from (not (misses (ends_of e) cell)) false (ap not h) refl)
 
--- two runs that follow each other are one
-pub run_join : {X : Type 0} (xs : List X) (first middle end : ℕ) → first ≤ middle → middle ≤ end
-    → slice_range xs first middle ++ slice_range xs middle end ≡ slice_range xs first end
-run_join {X} xs first middle end p q =
-    let rest : List X = drop first xs in
-    let start : take (middle - first) (take (end - first) rest) ≡ take (middle - first) rest = take-take (middle - first) (end - first) rest (omega arith) in
-    let span : (middle - first) + (end - middle) ≡ end - first = omega arith in
-    let there : drop (middle - first) rest ≡ drop middle xs = drop-drop (middle - first) first xs ∙ ap (λ n. drop n xs) (omega arith) in
-    let tail : drop (middle - first) (take (end - first) rest) ≡ take (end - middle) (drop middle xs) =
-    ap (λ n. drop (middle - first) (take n rest)) (sym span) ∙ drop-take (middle - first) (end - middle) rest ∙ ap (take (end - middle)) there in
-    ap (λ (run : List X). run ++ take (end - middle) (drop middle xs)) (sym start)
-    ∙ ap (λ (run : List X). take (middle - first) (take (end - first) rest) ++ run) (sym tail)
-    ∙ take-append-drop (middle - first) (take (end - first) rest)
+-- one more run of those that follow each other
+pub runs_more : (edges : List Ends) (runs : List Run) (r : Run) → r.first ≤ r.end → all_in edges runs ≡ take r.first edges
+    → all_in edges (runs ++ r ∷ []) ≡ take r.end edges
+runs_more edges runs r ordered h =
+    let next : drop r.first (take r.end edges) ≡ run_in edges r =
+    ap (λ n. drop r.first (take n edges)) (omega arith) ∙ drop-take r.first (r.end - r.first) edges in
+    flat_map-append (run_in edges) runs (r ∷ []) ∙ ap (λ es. all_in edges runs ++ es) (append-nil (run_in edges r) ∙ sym next)
+    ∙ ap (λ es. es ++ drop r.first (take r.end edges)) (h ∙ sym (take-take r.first r.end edges ordered))
+    ∙ take-append-drop r.first (take r.end edges)
+
+pub one_run : (edges : List Ends) (runs : List Run) (d : Run) → length runs ≡ 1 → all_in edges runs ≡ run_in edges (get_or runs 0 d)
+one_run edges [] d one = absurd (omega arith)
+one_run edges (r ∷ []) d one = append-nil (run_in edges r)
+one_run edges (r ∷ s ∷ runs) d one = absurd (omega arith)
