@@ -17,4 +17,12 @@ mod inner_pack_vectors;
 #[cfg(test)]
 mod leaf_codec_leaves;
 #[cfg(test)]
+mod live_bits_bodies;
+#[cfg(test)]
+mod number_text_numbers;
+#[cfg(test)]
+mod page_file_pages;
+#[cfg(test)]
+mod point_codec_points;
+#[cfg(test)]
 mod samples;

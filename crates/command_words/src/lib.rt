@@ -4,8 +4,6 @@
 
 mod options;
 mod reading;
-#[cfg(test)]
-mod tests;
 
 ghost use Rattle.std.specs.Prelude.{◌≡◌, Some, None, IfOk, Err, map, string_bytes};
 ghost use Rattle.command_words.specs.Commands.{IsWithin, asked, said};

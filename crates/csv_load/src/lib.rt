@@ -3,8 +3,6 @@
 
 mod fields;
 mod records;
-#[cfg(test)]
-mod tests;
 
 ghost use Rattle.std.specs.Prelude.{◌≡◌, ◌≢◌, ◌≤◌, Ok, Err, IfOk, IfErr, length};
 ghost use Rattle.point_codec.specs.Seen.{coordinates_of};

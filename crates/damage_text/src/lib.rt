@@ -42,6 +42,3 @@ fn put_size(text: &mut String, file: &FileName, size: u64, needed: u64) -> Resul
     write!(text, "{file} has {size} bytes")?;
     write!(text, ", needs {needed}")
 }
-
-#[cfg(test)]
-mod tests;

@@ -3,9 +3,6 @@
 use point_codec::Point;
 use std::marker::Model;
 
-#[cfg(test)]
-mod tests;
-
 const FACTOR: u64 = 48_271;
 
 /// A prime.

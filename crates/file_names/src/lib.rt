@@ -8,6 +8,3 @@ mod names;
 
 pub use laws::{names_are_apart, names_join, names_kept, names_of_lists};
 pub use names::{FileNames, Memory};
-
-#[cfg(test)]
-mod tests;

@@ -7,6 +7,10 @@ mod commit_list_bodies;
 #[cfg(test)]
 mod commit_list_files;
 #[cfg(test)]
+mod file_names_names;
+#[cfg(test)]
+mod merge_policy_choices;
+#[cfg(test)]
 mod outer_io_folders;
 #[cfg(test)]
 mod outer_io_streams;

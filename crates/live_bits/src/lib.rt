@@ -19,6 +19,3 @@ pub use fault::{BitsFault, Memory};
 pub use front::body_len;
 pub use laws::{bodies_are_unique, clearing_takes_one_out, none_is_live};
 pub use live::LiveBits;
-
-#[cfg(test)]
-mod tests;

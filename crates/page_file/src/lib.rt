@@ -13,6 +13,3 @@ mod page;
 
 pub use laws::{pages_are_unique, payload_length};
 pub use page::{PAGE_LEN, PAYLOAD_LEN, PageBytes, PageView, seal};
-
-#[cfg(test)]
-mod tests;

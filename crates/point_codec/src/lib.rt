@@ -13,6 +13,3 @@ pub use coordinates::{Point, Points};
 pub use entries::{Entry, Near};
 pub use keys::{from_sortable, key_order, sortable};
 pub use names::{Name, View};
-
-#[cfg(test)]
-mod tests;

@@ -6,6 +6,3 @@ pub mod polygon_shape;
 
 pub use geo_json::{GeoFault, GeoRefused, read_polygon};
 pub use polygon_shape::{Memory, PolygonShape};
-
-#[cfg(test)]
-mod tests;

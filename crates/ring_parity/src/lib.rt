@@ -10,6 +10,3 @@ pub mod rings;
 
 pub use edges::{Edge, counts, misses, on_edge};
 pub use rings::{Ring, RingFault, Rings, any_meets, odd, on_any};
-
-#[cfg(test)]
-mod tests;

@@ -16,6 +16,3 @@ pub use faults::{LineFault, Memory, Why};
 pub use lines::first_line;
 pub use reading::{read_first, read_line};
 pub use replies::{put_deleted, put_doc, put_hits, put_line_fault, put_near, put_ok, put_why};
-
-#[cfg(test)]
-mod tests;

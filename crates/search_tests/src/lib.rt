@@ -12,6 +12,8 @@ mod long_leaves;
 #[cfg(test)]
 mod nearest_ones;
 #[cfg(test)]
+mod ring_parity_rings;
+#[cfg(test)]
 mod stored;
 #[cfg(test)]
 mod views;

@@ -1,4 +1,6 @@
-use super::*;
+use byte_cursor::Bytes;
+use csv_load::{CsvFault, read_points};
+use std::alloc::Global;
 use std::fmt::Write;
 use std::test::Fail;
 

@@ -1,8 +1,7 @@
-use crate::geo_json::GeoFault::{NotClosed, NotJson, NotPolygon, NotWhole, TooFew, TooMany};
-use crate::geo_json::{GeoFault, GeoRefused, read_polygon};
-use crate::polygon_shape::PolygonShape;
 use cell_relate::{Relation, Shape};
 use point_codec::{Cell, Point};
+use polygon_query::GeoFault::{NotClosed, NotJson, NotPolygon, NotWhole, TooFew, TooMany};
+use polygon_query::{GeoFault, GeoRefused, PolygonShape, read_polygon};
 use std::alloc::{AllocError, Global};
 use std::test::Fail;
 

@@ -1,7 +1,7 @@
 //! Outside vectors, bad bytes, and each call that takes memory once.
 
-use super::*;
 use byte_cursor::Bytes;
+use live_bits::{BitsFault, LiveBits};
 use std::process::Abort;
 use std::test::Fail;
 

@@ -1,4 +1,6 @@
-use super::*;
+//! Draws as they are published, and the points and boxes that are made of them.
+
+use drawn_points::Draws;
 
 /// Seeds with the number of a draw and the draw. The first are this generator's own; the 10,000th is the one that the C++
 /// standard gives for its `minstd_rand`.
@@ -14,11 +16,16 @@ const DRAWN: [(u32, u32, u32); 5] = [
 fn draws_as_published(rt: HostRuntime) {
     for (seed, number, drawn) in DRAWN {
         let mut draws = Draws::new(seed);
-        let mut last = seed;
+        let mut last = 0;
         for _ in 0..number {
-            last = draws.draw();
+            last = draws.coordinate();
         }
-        assert_eq!(rt; last, drawn, "draw {number} of {seed}");
+        // a coordinate is a draw's rest by the number of its values
+        assert_eq!(rt;
+            last,
+            (drawn % 200_001) as i32 - 100_000,
+            "draw {number} of {seed}"
+        );
     }
 }
 

@@ -1,7 +1,7 @@
 //! Polygons, points and cells whose answers are known from outside.
 
-use crate::{Ring, RingFault, Rings, any_meets, odd, on_any};
 use point_codec::{Cell, Point};
+use ring_parity::{Ring, RingFault, Rings, any_meets, odd, on_any};
 use std::alloc::{AllocError, Global};
 use std::test::Fail;
 

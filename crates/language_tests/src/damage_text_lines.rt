@@ -1,8 +1,9 @@
 //! The text of each damage, whole.
 
-use super::*;
 use byte_cursor::Bytes;
+use damage_text::put_damage;
 use outer_io::FileName;
+use page_cache::Damage;
 use page_file::PageBytes;
 use std::alloc::Global;
 use std::process::Abort;

@@ -1,6 +1,6 @@
 //! Values from outside: the keys are those of Lucene's sortable integers; the others were reckoned by hand.
 
-use super::*;
+use point_codec::{Cell, Entry, Name, Point, Points, from_sortable, key_order, sortable};
 use std::cmp::Ordering;
 use std::test::Fail;
 

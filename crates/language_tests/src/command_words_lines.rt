@@ -1,4 +1,5 @@
-use super::*;
+use command_words::{Words, WordsFault, read_words};
+use std::alloc::Global;
 use std::test::Fail;
 
 /// Commands with what is read of them.

@@ -1,6 +1,6 @@
 //! Digests from outside, and bytes that are no page for their place.
 
-use super::*;
+use page_file::{PAGE_LEN, PAYLOAD_LEN, PageView, seal};
 
 /// The digest of the payload `abc` in page 0x090a0b0c of file 0x0102030405060708 of kind 1.
 const ABC: [u8; 32] = [

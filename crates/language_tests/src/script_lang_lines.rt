@@ -1,12 +1,12 @@
-use crate::faults::LineFault::{
+use point_codec::{Name, Near, Point, View};
+use polygon_query::GeoFault;
+use script_lang::LineFault::{
     BadK, BadName, Dims, Geo, LeafSize, NoIndex, NotTwo, NotUtf8, Number, TooLong, Unknown, Words,
 };
-use crate::{
+use script_lang::{
     Command, First, Why, first_line, put_deleted, put_doc, put_hits, put_line_fault, put_near,
     put_ok, put_why, read_first, read_line,
 };
-use point_codec::{Name, Near, Point, View};
-use polygon_query::GeoFault;
 use std::test::Fail;
 
 // 17 points of one dimension
