@@ -85,7 +85,9 @@ const LIVE: FileName = FileName::Live {
     segment: 3,
     generation: 0xab,
 };
+
 const LAST: FileName = FileName::Segment(255);
+
 const FIRST: FileName = FileName::Segment(0);
 
 /// Calls of which each folder that doesn't fail answers the same.
@@ -121,10 +123,19 @@ const ANEW: [(Call, Answer); 19] = [
     (Call::Write(FileName::Commit, b"old"), Answer::Done),
     (Call::Read(FileName::Commit, 0), Answer::Bytes(3, *b"old.")),
     (Call::Write(FileName::CommitNew, b"next"), Answer::Done),
-    (Call::Read(FileName::CommitNew, 0), Answer::Bytes(4, *b"next")),
-    (Call::Rename(FileName::CommitNew, FileName::Commit), Answer::Done),
+    (
+        Call::Read(FileName::CommitNew, 0),
+        Answer::Bytes(4, *b"next"),
+    ),
+    (
+        Call::Rename(FileName::CommitNew, FileName::Commit),
+        Answer::Done,
+    ),
     (Call::Read(FileName::Commit, 0), Answer::Bytes(4, *b"next")),
-    (Call::Read(FileName::CommitNew, 0), Answer::Bytes(0, *b"....")),
+    (
+        Call::Read(FileName::CommitNew, 0),
+        Answer::Bytes(0, *b"...."),
+    ),
     (Call::Read(FIRST, 0), Answer::Bytes(4, *b"more")),
     (Call::Remove(FIRST), Answer::Done),
     (Call::Read(FIRST, 0), Answer::Bytes(0, *b"....")),
@@ -155,7 +166,10 @@ fn directory(rt: &HostRuntime, what: &str) -> Result<PathBuf, Fail> {
 const LEFT: [(Call, Answer); 3] = [
     (Call::Remove(FIRST), Answer::Done),
     (Call::Remove(LAST), Answer::Done),
-    (Call::Rename(FileName::CommitNew, FileName::Commit), Answer::Failed),
+    (
+        Call::Rename(FileName::CommitNew, FileName::Commit),
+        Answer::Failed,
+    ),
 ];
 
 #[test]
@@ -239,7 +253,10 @@ fn a_torn_call_leaves_half(rt: HostRuntime) -> Result<(), Fail> {
 
 /// All calls from the second on are stopped.
 const STOPPED: [(Call, Answer); 4] = [
-    (Call::Rename(FileName::CommitNew, FileName::Commit), Answer::Done),
+    (
+        Call::Rename(FileName::CommitNew, FileName::Commit),
+        Answer::Done,
+    ),
     (Call::Write(FileName::Commit, b"x"), Answer::Failed),
     (Call::Append(FileName::Commit, b"x"), Answer::Failed),
     (Call::Remove(FileName::Commit), Answer::Failed),

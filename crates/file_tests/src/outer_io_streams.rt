@@ -35,7 +35,11 @@ const ENDS: [(&[u8], u64, &[u64], Result<usize, ReadAll>); 5] = [
 #[test]
 fn reads_to_the_end_within_the_limit(rt: HostRuntime) -> Result<(), Fail> {
     for (bytes, limit, fail, expected) in ENDS {
-        assert_eq!(rt; outcome(&rt, bytes, limit, fail)?, expected, "limit {limit}");
+        assert_eq!(rt;
+            outcome(&rt, bytes, limit, fail)?,
+            expected,
+            "limit {limit}"
+        );
     }
     Ok(())
 }
@@ -83,12 +87,15 @@ fn names_in_a_directory(rt: HostRuntime) -> Result<(), Fail> {
 /// A path of this process among the temporary files.
 fn temporary(rt: &HostRuntime, what: &str) -> Result<PathBuf, Fail> {
     let name = format!(in rt.alloc(); "bkd-{what}-{}", process::id(rt.process()))?;
-    Ok(env::temp_dir(rt)?
-        .as_path()
-        .join(rt.alloc(), name.as_str())?)
+    Ok(
+        env::temp_dir(rt)?
+            .as_path()
+            .join(rt.alloc(), name.as_str())?,
+    )
 }
 
 const LINES: &[u8] = b"two lines\nof text\n";
+
 const LIMIT: u64 = 1_000_000;
 
 #[test]
