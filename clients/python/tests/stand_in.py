@@ -34,12 +34,18 @@ def store(folder: str, state: State | None) -> None:
     if state is None:
         return
     kept = {"dims": state.dims, "leaf": state.leaf, "next": state.next, "given": state.given, "docs": state.docs}
-    with open(os.path.join(folder, "model.json"), "w") as file:
-        json.dump(kept, file)
+    replace(folder, "model.json", json.dumps(kept).encode())
     body = b"BKDPCOM2" + bytes([state.dims]) + state.leaf.to_bytes(2, "big") + state.next.to_bytes(4, "big")
     payload = (body + state.given.to_bytes(4, "big") + bytes(10)).ljust(4064, b"\0")
-    with open(os.path.join(folder, "commit.bkd"), "wb") as file:
-        file.write(payload + hashlib.sha256(bytes([3]) + bytes(12) + payload).digest())
+    replace(folder, "commit.bkd", payload + hashlib.sha256(bytes([3]) + bytes(12) + payload).digest())
+
+
+def replace(folder: str, name: str, data: bytes) -> None:
+    """Written aside and renamed, so that a kill leaves the one or the other."""
+    aside = os.path.join(folder, name + ".aside")
+    with open(aside, "wb") as file:
+        file.write(data)
+    os.rename(aside, os.path.join(folder, name))
 
 
 def end(status: int, said: str = "") -> None:

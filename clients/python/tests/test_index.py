@@ -171,7 +171,7 @@ def test_snapshots_and_begun_merges(program, tmp_path):
         index.flush()
         with index.merge_begun(0, 1):
             with pytest.raises(Refused, match="merge begun"):
-                index.ask([requests.FLUSH]) and index.merge_begun().__enter__()
+                index.merge_begun().__enter__()
             index.delete(1)
         assert index.box(0, 9) == []
 
