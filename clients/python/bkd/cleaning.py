@@ -1,0 +1,37 @@
+"""Removes files that an index left behind."""
+from __future__ import annotations
+
+import os
+
+from . import commands, lock
+from .commands import Folder, Which
+from .errors import NoIndex
+from .formats import open_stored
+from .formats.pages import is_own_name
+from .program import Program, find
+
+
+def clean(folder: Folder, *, program: Which = None) -> list[str]:
+    """Removes the files of an index's own names that its commit doesn't list, and answers their names, sorted.
+
+    A snapshot, a begun merge or a call that failed leaves such files. First every page that the commit needs is read,
+    by `bkd.formats`, and by the program's `check` where it has that command, and `Damaged` is raised where one isn't
+    whole; so is `NoIndex` where there is no commit. Then nothing was removed. Files of other names stay. The folder's
+    lock is held alone; who has it raises `Locked`.
+    """
+    path = os.fspath(folder)
+    with lock.locked(path) as held:
+        stored = open_stored(path)
+        stored.check()
+        _ask_program(path, program, held)
+        left = sorted(name for name in os.listdir(path) if is_own_name(name) and name not in stored.files())
+        for name in left:
+            os.remove(os.path.join(path, name))
+        return left
+
+
+def _ask_program(path: str, program: Which, held: int) -> None:
+    """Has the program check the folder, where it has the command and leaves the lock to us."""
+    found: Program = find(program)
+    if not found.locks and "check" in found.commands and commands.check(path, program=found, held=held) is None:
+        raise NoIndex(f"{path} holds no index")

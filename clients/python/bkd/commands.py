@@ -1,0 +1,124 @@
+"""The program's commands that run once over a folder.
+
+Each takes `program` as `bkd.open` does, and the folder's lock where the program doesn't. A command that the program
+doesn't list raises `Unsupported`.
+"""
+from __future__ import annotations
+
+import dataclasses
+import os
+import re
+from collections.abc import Iterable, Sequence
+from dataclasses import dataclass
+from typing import Any
+
+from .answers import BUCKETS, HITS, NEAR, POINTS, TESTED, TOUCHED, Answer
+from .errors import BadAnswer, Refused
+from .program import Program, find
+from .requests import Point, Request, coordinates
+from .talk import Asking
+
+Folder = str | os.PathLike[str]
+Which = str | os.PathLike[str] | Sequence[str] | Program | None
+_EXPLAINED: dict[bytes, Answer] = {HITS.word: TESTED, NEAR.word: TOUCHED}
+
+
+@dataclass(frozen=True, slots=True)
+class Checked:
+    """What a folder holds whose files are whole: dimensions, leaf size, next number, live documents, segments."""
+
+    dims: int
+    leaf: int
+    next: int
+    live: int
+    segments: int
+
+
+def load(folder: Folder, columns: Sequence[str], table: bytes | str, forks: int = 1, *, program: Which = None) -> tuple[int, int]:
+    """Adds a document for each record of a CSV table, its points the columns of these 1 to 8 names, and commits.
+
+    Answers how many were loaded and the next number. All of the table is loaded, or nothing is and `Refused` says why.
+    """
+    source = table.encode() if isinstance(table, str) else table
+    words = ["load", "--columns", ",".join(columns), "--forks", str(forks)]
+    text = _told(find(program), folder, words, source)
+    found = re.fullmatch(r"loaded (\d+)\nnext (\d+)\n", text)
+    if found is None:
+        raise BadAnswer(f"load answered {text[:100]!r}")
+    return int(found[1]), int(found[2])
+
+
+def generate(folder: Folder, docs: int, seed: int, forks: int = 1, *, program: Which = None) -> dict[str, int]:
+    """Makes an index of drawn documents. Answers `docs`, `live`, `box hits` and `nearest sum`; `Refused` where one is there."""
+    text = _told(find(program), folder, ["generate", "--docs", str(docs), "--seed", str(seed), "--forks", str(forks)])
+    found = re.fullmatch(r"docs (\d+) live (\d+)\nbox hits (\d+)\nnearest sum (\d+)\n", text)
+    if found is None:
+        raise BadAnswer(f"generate answered {text[:100]!r}")
+    return dict(zip(("docs", "live", "box hits", "nearest sum"), map(int, found.groups())))
+
+
+def _told(program: Program, folder: Folder, words: Sequence[str], source: bytes = b"", held: int | None = None) -> str:
+    """The text of a command that is refused as a whole or not at all."""
+    status, text = program.output(os.fspath(folder), words, source, held=held)
+    if status == 2:
+        raise Refused(" ".join(words), text.strip(), 1)
+    return text
+
+
+def check(folder: Folder, *, program: Which = None, held: int | None = None) -> Checked | None:
+    """Reads every page that the folder's commit needs. None where there is no index; `Damaged` where it isn't whole."""
+    text = _told(find(program), folder, ["check"], held=held)
+    if text == "no index\n":
+        return None
+    found = re.fullmatch(r"ok dims (\d+) leaf (\d+) next (\d+) live (\d+) segments (\d+)\n", text)
+    if found is None:
+        raise BadAnswer(f"check answered {text[:100]!r}")
+    return Checked(*map(int, found.groups()))
+
+
+def _asked(folder: Folder, words: Sequence[str], requests: Iterable[Request], program: Which, timeout: float | None,
+           held: int | None) -> list[Any]:
+    talk = Asking(requests)
+    find(program).run(os.fspath(folder), words, talk, timeout, held)
+    return talk.values
+
+
+def explain(folder: Folder, queries: Iterable[Request], cache: int = 1024, *, program: Which = None,
+            timeout: float | None = None, held: int | None = None) -> list[Any]:
+    """What queries read in the stored segments: an `Explained` for each, or the `Refused` of one that is refused.
+
+    `cache` is how many pages are kept, 1 to 65,536.
+    """
+    asked = (dataclasses.replace(query, answer=_EXPLAINED.get(query.answer.word, query.answer)) for query in queries)
+    return _asked(folder, ["explain", "--cache", str(cache)], asked, program, timeout, held)
+
+
+def batch(folder: Folder, queries: Iterable[Request], forks: int = 1, merge: bool = False, *, program: Which = None,
+          timeout: float | None = None, held: int | None = None) -> list[Any]:
+    """The answers to queries, in order, from a copy of the stored index in memory, by `forks` levels of two threads each.
+
+    With `merge` the segments are merged beside the answering, and that is committed. The place of a query that is
+    refused has its `Refused`.
+    """
+    words = ["batch", "--forks", str(forks)] + (["--merge"] if merge else [])
+    return _asked(folder, words, queries, program, timeout, held)
+
+
+def points_in(lo: Point, hi: Point) -> Request:
+    """Asks `count` how many live points lie in a box."""
+    return Request("points" + _spelled(lo, hi), POINTS)
+
+
+def grid_over(x: int, step_x: int, y: int, step_y: int, lo: Point, hi: Point) -> Request:
+    """Asks `count` for the filled buckets of a grid over the dimensions `x` and `y` of a box, counted from its lower corner."""
+    return Request(f"grid {x:d} {step_x:d} {y:d} {step_y:d}" + _spelled(lo, hi), BUCKETS)
+
+
+def _spelled(lo: Point, hi: Point) -> str:
+    return "".join(f" {c}" for c in coordinates(lo) + coordinates(hi))
+
+
+def count(folder: Folder, asked: Iterable[Request], cache: int = 1024, *, program: Which = None,
+          timeout: float | None = None, held: int | None = None) -> list[Any]:
+    """The answers to `points_in` (a number) and `grid_over` (triples x, y, points), or the `Refused` in their place."""
+    return _asked(folder, ["count", "--cache", str(cache)], asked, program, timeout, held)

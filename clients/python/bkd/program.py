@@ -1,0 +1,109 @@
+"""The program `bkd`: where it is, which commands it has, and its commands that run once."""
+from __future__ import annotations
+
+import contextlib
+import os
+import re
+import shutil
+import subprocess
+from collections.abc import Sequence
+from functools import cached_property
+from pathlib import Path
+
+from . import lock
+from .coprocess import Coprocess
+from .errors import NotFound, Unsupported, fault_of
+from .talk import Talk
+
+# what only reads shares the folder's lock; everything else has it alone
+_READERS = frozenset({"explain", "check", "count", "batch"})
+_USAGE = re.compile(r"usage: bkd FOLDER ([a-z|]+)")
+
+
+class Program:
+    """The program, as the words that start it.
+
+    `locks` says that it takes the folder's lock itself, as the launcher does; a program that doesn't gets it from here.
+    """
+
+    def __init__(self, words: Sequence[str], locks: bool) -> None:
+        self.words = tuple(words)
+        self.locks = locks
+
+    def __repr__(self) -> str:
+        return f"Program({' '.join(self.words)!r})"
+
+    @cached_property
+    def commands(self) -> frozenset[str]:
+        """The commands of the list that the program prints where its words are wrong."""
+        try:
+            run = subprocess.run(self.words, stdin=subprocess.DEVNULL, capture_output=True, check=False)
+        except OSError as error:
+            raise NotFound(f"{self.words[0]}: {error.strerror}") from error
+        found = _USAGE.search(run.stderr.decode(errors="replace"))
+        if found is None:
+            raise NotFound(f"{' '.join(self.words)} is not bkd: it prints no list of commands")
+        return frozenset(found[1].split("|"))
+
+    def require(self, command: str) -> None:
+        """Raises `Unsupported` where the program's list doesn't have this command."""
+        if command not in self.commands:
+            raise Unsupported(f"{' '.join(self.words)} has no command {command}; it has {', '.join(sorted(self.commands))}")
+
+    def start(self, folder: str, words: Sequence[str], timeout: float | None, held: int | None = None) -> Coprocess:
+        """Starts a command, whose name is the first word. `held` is the folder's lock, which the program inherits."""
+        self.require(words[0])
+        try:
+            return Coprocess([*self.words, folder, *words], timeout, () if held is None else (held,))
+        except OSError as error:
+            raise NotFound(f"{self.words[0]}: {error.strerror}") from error
+
+    def run(self, folder: str, words: Sequence[str], talk: Talk, timeout: float | None, held: int | None = None) -> None:
+        """Runs a command over a talk to its end. Without `held` it takes the folder's lock, where the program doesn't."""
+        with contextlib.ExitStack() as stack:
+            if held is None and not self.locks:
+                shared = words[0] in _READERS and "--merge" not in words
+                held = stack.enter_context(lock.locked(folder, shared))
+            self.start(folder, words, timeout, held).exchange(talk, ends=True)
+
+    def output(self, folder: str, words: Sequence[str], source: bytes = b"", timeout: float | None = None,
+               held: int | None = None) -> tuple[int, str]:
+        """The status and the whole text of a command over this input. Statuses but 0 and 2 raise their error."""
+        with contextlib.ExitStack() as stack:
+            self.require(words[0])
+            if held is None and not self.locks:
+                held = stack.enter_context(lock.locked(folder, words[0] in _READERS and "--merge" not in words))
+            done = subprocess.run([*self.words, folder, *words], input=source, capture_output=True, timeout=timeout,
+                                  pass_fds=() if held is None else (held,), check=False)
+        if done.returncode not in (0, 2):
+            raise fault_of(done.returncode, done.stderr.decode(errors="replace"))
+        return done.returncode, done.stdout.decode()
+
+
+def _is_script(path: str) -> bool:
+    with open(path, "rb") as file:
+        return file.read(2) == b"#!"
+
+
+def _path() -> str:
+    top = Path(__file__).resolve().parents[3]
+    for path in (os.environ.get("BKD"), top / "bkd", shutil.which("bkd")):
+        if path and os.path.isfile(path):
+            return str(path)
+    raise NotFound("no program bkd: name it, set BKD, or use the package in a checkout")
+
+
+def find(program: str | os.PathLike[str] | Sequence[str] | Program | None = None) -> Program:
+    """The program of this path or these words; else that of the environment's BKD, else the launcher of the checkout.
+
+    A path to a script is the launcher, which takes the folder's lock itself. Words are taken as a program that doesn't.
+    Raises `NotFound`.
+    """
+    if isinstance(program, Program):
+        return program
+    if isinstance(program, (str, os.PathLike)) or program is None:
+        path = _path() if program is None else os.fspath(program)
+        if not os.path.isfile(path):
+            raise NotFound(f"no program {path}")
+        return Program([os.path.abspath(path)], locks=_is_script(path))
+    return Program(program, locks=False)

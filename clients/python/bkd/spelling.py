@@ -1,0 +1,68 @@
+"""Lines of many documents at once, as texts of some thousand lines."""
+from __future__ import annotations
+
+import operator
+from collections.abc import Iterable, Iterator, Sequence
+from itertools import chain, islice
+from typing import Any, SupportsIndex
+
+from . import requests
+
+_LINES = 8192
+
+
+def _is_array(value: Any) -> bool:
+    return hasattr(value, "dtype") and hasattr(value, "shape") and hasattr(value, "tolist")
+
+
+def _whole(array: Any) -> Any:
+    if array.dtype.kind not in "iu":
+        raise TypeError(f"an array of {array.dtype} has no whole numbers")
+    return array
+
+
+def added(documents: Any, dims: int) -> Iterator[tuple[bytes, int]]:
+    """Lines that add documents, as pairs of a text and its number of lines.
+
+    `documents` is an array of whole numbers of shape (n, dims), or (n,) where `dims` is 1, a document of one point each;
+    or any iterable of what `requests.add` takes.
+    """
+    if _is_array(documents):
+        yield from _added_rows(_whole(documents), dims)
+        return
+    rest = iter(documents)
+    while some := list(islice(rest, _LINES)):
+        yield _added_points(some, dims) or _lines(requests.add(document).line for document in some), len(some)
+
+
+def _added_rows(array: Any, dims: int) -> Iterator[tuple[bytes, int]]:
+    if array.shape != (len(array), dims) and not (dims == 1 and array.ndim == 1):
+        raise ValueError(f"an array of shape {array.shape} has no points of {dims} dimensions")
+    for at in range(0, len(array), _LINES):
+        part = array[at:at + _LINES]
+        yield _spelled("add" + " %d" * dims + "\n", len(part), part.ravel().tolist()), len(part)
+
+
+def _added_points(documents: Sequence[Any], dims: int) -> bytes | None:
+    """The lines of documents of one point each, or None where some document is of another form."""
+    try:
+        if any(len(point) != dims for point in documents):
+            return None
+        return _spelled("add" + " %d" * dims + "\n", len(documents), map(operator.index, chain.from_iterable(documents)))
+    except TypeError:
+        return None
+
+
+def deleted(numbers: Any) -> Iterator[tuple[bytes, int]]:
+    """Lines that delete documents, as pairs of a text and its number of lines. An array has whole numbers in one row."""
+    rest: Iterator[SupportsIndex] = iter(_whole(numbers).ravel().tolist() if _is_array(numbers) else numbers)
+    while some := list(islice(rest, _LINES)):
+        yield _spelled("delete %d\n", len(some), map(operator.index, some)), len(some)
+
+
+def _spelled(line: str, count: int, numbers: Iterable[int]) -> bytes:
+    return (line * count % tuple(numbers)).encode()
+
+
+def _lines(lines: Iterable[str]) -> bytes:
+    return "".join(line + "\n" for line in lines).encode()

@@ -1,0 +1,168 @@
+#!/usr/bin/python3
+"""A program that talks as `bkd` does, over the model of its language: `session` and `run`, and what else it is told to have.
+
+It keeps its documents in `model.json`, and writes a commit file that lists no segments, so that a client finds the
+dimensions. The environment tells how it differs: STAND_IN_COMMANDS is the list of its commands, and STAND_IN_AT, as
+`LINE:WHAT`, what it does in place of that line: `die` (by SIGKILL), `hang`, `damaged`, `garbage`, or a status.
+"""
+from __future__ import annotations
+
+import fcntl
+import hashlib
+import json
+import os
+import signal
+import sys
+import time
+
+from model import Model, State, in_box
+
+STATUS = {3: "source fault", 4: "folder fault", 5: "sink fault", 7: "out of memory", 8: "input too large"}
+
+
+def load(folder: str) -> State | None:
+    try:
+        with open(os.path.join(folder, "model.json")) as file:
+            found = json.load(file)
+    except FileNotFoundError:
+        return None
+    docs = {int(n): [tuple(p) for p in points] for n, points in found.pop("docs").items()}
+    return State(docs=docs, **found)
+
+
+def store(folder: str, state: State | None) -> None:
+    if state is None:
+        return
+    kept = {"dims": state.dims, "leaf": state.leaf, "next": state.next, "given": state.given, "docs": state.docs}
+    replace(folder, "model.json", json.dumps(kept).encode())
+    body = b"BKDPCOM2" + bytes([state.dims]) + state.leaf.to_bytes(2, "big") + state.next.to_bytes(4, "big")
+    payload = (body + state.given.to_bytes(4, "big") + bytes(10)).ljust(4064, b"\0")
+    replace(folder, "commit.bkd", payload + hashlib.sha256(bytes([3]) + bytes(12) + payload).digest())
+
+
+def replace(folder: str, name: str, data: bytes) -> None:
+    """Written aside and renamed, so that a kill leaves the one or the other."""
+    aside = os.path.join(folder, name + ".aside")
+    with open(aside, "wb") as file:
+        file.write(data)
+    os.rename(aside, os.path.join(folder, name))
+
+
+def end(status: int, said: str = "") -> None:
+    sys.stdout.flush()
+    if said:
+        print(said, file=sys.stderr, flush=True)
+    os._exit(status)
+
+
+def fail(what: str) -> None:
+    sys.stdout.flush()
+    if what == "die":
+        os.kill(os.getpid(), signal.SIGKILL)
+    elif what == "hang":
+        time.sleep(3600)
+    elif what == "garbage":
+        print("what?", flush=True)
+        time.sleep(3600)
+    elif what == "damaged":
+        end(6, "damaged: seg-0000000000000000.bkd page 2 leaf at 352")
+    end(int(what), STATUS.get(int(what), ""))
+
+
+def script(folder: str, stays: bool) -> None:
+    model = Model(load(folder))
+    at, _, what = os.environ.get("STAND_IN_AT", "0:").partition(":")
+    lines = sys.stdin.buffer if stays else sys.stdin.buffer.read().splitlines(keepends=True)
+    for raw in lines:
+        if model.lines + 1 == int(at):
+            fail(what)
+        sys.stdout.write(model.line(raw.removesuffix(b"\n")))
+        if stays:
+            sys.stdout.flush()
+        if model.committed:
+            store(folder, model.state)
+            model.committed = False
+    store(folder, model.state)
+    end(2 if model.count else 0, f"refused {model.count}" if model.count else "")
+
+
+def check(folder: str) -> None:
+    state = load(folder)
+    if state is None:
+        print("no index")
+    else:
+        print(f"ok dims {state.dims} leaf {state.leaf} next {state.next} live {len(state.docs)} segments 0")
+    end(0)
+
+
+def count(folder: str) -> None:
+    """`points LO HI` and `grid X STEPX Y STEPY LO HI`, of an index that is there and lines that are well formed."""
+    state = load(folder)
+    points = [p for document in state.docs.values() for p in document]
+    for line in sys.stdin:
+        numbers = list(map(int, line.split()[1:]))
+        low, high = numbers[-2 * state.dims:-state.dims], numbers[-state.dims:]
+        inside = [p for p in points if in_box(p, low, high)]
+        if line.startswith("points"):
+            print(f"points {len(inside)}")
+            continue
+        x, step_x, y, step_y = numbers[:4]
+        buckets: dict[tuple[int, int], int] = {}
+        for p in inside:
+            place = ((p[x] - low[x]) // step_x, (p[y] - low[y]) // step_y)
+            buckets[place] = buckets.get(place, 0) + 1
+        print(f"buckets {len(buckets)}")
+        for (i, j), n in sorted(buckets.items()):
+            print(i, j, n)
+    end(0)
+
+
+def batch(folder: str) -> None:
+    model = Model(load(folder))
+    for raw in sys.stdin.buffer:
+        sys.stdout.write(model.line(raw.removesuffix(b"\n")))
+    end(2 if model.count else 0, f"refused {model.count}" if model.count else "")
+
+
+def ranges(folder: str) -> None:
+    """Lines of ranges as boxes over points of twice the dimensions; only well-formed lines."""
+    model = Model(load(folder))
+    for raw in sys.stdin:
+        verb, *words = raw.split()
+        r = model.state.dims // 2 if model.state else 0
+        low, high = words[:r], words[r:]
+        least, greatest = [str(-(1 << 31))] * r, [str((1 << 31) - 1)] * r
+        boxes = {
+            "intersects": least + low + high + greatest,
+            "within": low + low + high + high,
+            "contains": least + high + low + greatest,
+        }
+        if verb == "create":
+            words[0] = str(2 * int(words[0]))
+        if verb in boxes:
+            verb, words = "box", boxes[verb]
+        sys.stdout.write(model.line(" ".join([verb, *words]).encode()))
+    store(folder, model.state)
+    end(2 if model.count else 0, f"refused {model.count}" if model.count else "")
+
+
+def main() -> None:
+    commands = os.environ.get("STAND_IN_COMMANDS", "run|load|explain|check|generate|session").split("|")
+    does = {"session": lambda f: script(f, True), "run": lambda f: script(f, False),
+            "check": check, "count": count, "batch": batch, "ranges": ranges}
+    if len(sys.argv) < 3 or sys.argv[2] not in commands or sys.argv[2] not in does:
+        end(1, f"usage: bkd FOLDER {'|'.join(commands)} [options]")
+    folder = sys.argv[1]
+    if os.environ.get("STAND_IN_LOCKS"):
+        held = os.open(folder, os.O_RDONLY)
+        try:
+            fcntl.flock(held, fcntl.LOCK_EX | fcntl.LOCK_NB)
+        except BlockingIOError:
+            end(4, "folder fault")
+    if not os.path.isdir(folder):
+        end(4, "folder fault")
+    does[sys.argv[2]](folder)
+
+
+if __name__ == "__main__":
+    main()
