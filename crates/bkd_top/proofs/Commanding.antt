@@ -1,5 +1,5 @@
 -- What the words ask for, and how it ends.
-use Rattle.std.proofs.Common.{◌≡◌, ℕ, true, false, List, [], Some, Option, refl, sym, ap, subst, ◌∙◌, inl, append-nil}
+use Rattle.std.proofs.Common.{◌≡◌, ℕ, Bool, true, false, List, [], Some, Option, refl, sym, ap, subst, ◌∙◌, inl, append-nil}
 use Rattle.std.proofs.lemmas.Bool.{false≢true}
 use Rattle.outer_io.specs.Files.{Files}
 use Rattle.script_lang.specs.Lines.{lines_of}
@@ -9,8 +9,7 @@ use Rattle.command_words.specs.declared.Words.{Words}
 use Rattle.drawn_points.specs.Generated.{generated}
 use Rattle.explain_queries.specs.Explained.{IsScope, Scope, silence}
 use Rattle.load_points.specs.Loaded.{loaded}
-use Rattle.bkd_top.specs.Commands.{Before, EndsAsked, EndsExplain, EndsWhole, Rests, is_served}
-use Rattle.bkd_top.specs.Costs.{is_run}
+use Rattle.bkd_top.specs.Commands.{Before, EndsAsked, EndsExplain, EndsWhole, Rests}
 use Rattle.bkd_top.specs.Progress.{start}
 use Rattle.bkd_top.specs.Runs.{Ends}
 use Rattle.bkd_top.specs.declared.status.Status.{Status}
@@ -32,9 +31,12 @@ no_memory_ends told (Explain cache) b files new keeps still =
 no_memory_ends told Check b files new keeps still = record { text = still; stored = keeps }
 no_memory_ends told (Generate docs seed forks) b files new keeps still = record { text = still; stored = inl keeps }
 
--- what is served is not refused as words of no command
-pub is_there : {P : Type 0} (w : Words) (a : Asked) → said w ≡ a → is_served (Some a) ≡ true → is_served (Some (said w)) ≡ false → P
-is_there w a is served none = absurd (false≢true (sym none ∙ ap (λ (b : Asked). is_served (Some b)) is ∙ served))
+-- what passes a test of what is asked does not fail it
+pub is_so : {P : Type 0} (test : Asked → Bool) (w : Words) (a : Asked) → said w ≡ a → test a ≡ true → test (said w) ≡ false → P
+is_so test w a is so not_so = absurd (false≢true (sym not_so ∙ ap test is ∙ so))
+
+pub not_so : {P : Type 0} (test : Asked → Bool) (w : Words) (a : Asked) → said w ≡ a → test a ≡ false → test (said w) ≡ true → P
+not_so test w a is not so = absurd (false≢true (sym not ∙ ap test (sym is) ∙ so))
 
 -- each command ends as its own definition says
 module _ (told : Type 0) (w : Words) (b : Before) (files : Files) (new : List ℕ) (s : Status) where
@@ -52,7 +54,3 @@ module _ (told : Type 0) (w : Words) (b : Before) (files : Files) (new : List �
 
   pub generate_ends : (docs seed forks : ℕ) → said w ≡ Generate docs seed forks → EndsWhole told b (generated b.state docs seed) files new s → EndsAsked told (said w) b files new s
   generate_ends docs seed forks is ends = subst (λ (a : Asked). EndsAsked told a b files new s) (sym is) ends
-
--- another command runs no script
-pub not_run : {P : Type 0} (w : Words) (a : Asked) → said w ≡ a → is_run a ≡ false → is_run (said w) ≡ true → P
-not_run w a is other run = absurd (false≢true (sym other ∙ ap (λ (b : Asked). is_run b) (sym is) ∙ run))

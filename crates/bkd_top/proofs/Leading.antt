@@ -14,17 +14,17 @@ use Rattle.segment_view.specs.Parts.{Part, heads_of}
 use Rattle.segment_set.specs.Sets.{BegunMerge, IsSettled, SetData, pins_of, sizes_of}
 use Rattle.segment_set.specs.Seen.{Sees}
 use Rattle.index_core.specs.Effects.{BringsCanonical}
-use Rattle.index_core.specs.Light.{CommitsFewOfLevels, LooksAt, is_light}
+use Rattle.index_core.specs.Light.{CommitsFewOfLevels, KeepsLevels, LooksAt, is_light}
 use Rattle.index_core.specs.Sessions.{Guards, IsUnchanged}
 use Rattle.index_core.specs.Steps.{SaysCommit}
 use Rattle.index_core.specs.Whole.{HasNewCanonical}
 use Rattle.index_core.proofs.Bringing.{brings_same, brings_then}
 use Rattle.index_core.proofs.Listed.{new_canonical}
-use Rattle.bkd_top.specs.Costs.{AllAsk, AreLight, HasRoomInLevels, KeepsLevels, TouchesLines, begins_no_merge, given_of, is_query}
+use Rattle.bkd_top.specs.Costs.{AllAsk, AreLight, HasRoomInLevels, TouchesLines, begins_no_merge, given_of, is_query}
 use Rattle.bkd_top.specs.Leads.{AreListed, Closes, HasRoom, Leads, Passes, Spot}
 use Rattle.bkd_top.proofs.Asking.{Rested, all_first, all_rest, all_weaker, light_begins, line_rests, lines_give, queries_stay, query_light, state_rest, touches_parts}
 use Rattle.bkd_top.proofs.Deciding.{unchanged_or_not}
-use Rattle.bkd_top.proofs.Passing.{begins_none}
+use Rattle.index_core.proofs.Undone.{begins_none, few_listed}
 
 -- ---- levels
 
@@ -72,9 +72,6 @@ pub record IsClosed {T E : Type 0} (D : ℕ) (i : Index) (old new : Spot) (resul
   pub unread : IsUnchanged old.session → new.reads ≡ old.reads
   pub rested : IsSettled old.session.set → new.reads ≡ old.reads
   pub levels : (IsUnchanged old.session → ⊥) → old.session.set.begun ≡ None → OnOk result (CommitsFewOfLevels new.session.commit)
-
-few_listed : (old new : Files) (commit : Option CommitData) → SaysCommit new commit → CommitsFewOfLevels commit → KeepsLevels old new
-few_listed old new commit (c, is, says) few = inr (c, says, few c is)
 
 closes_levels : {T E : Type 0} (D : ℕ) (i : Index) (old new : Spot) (r : Result T E) → Sees D old.files old.session.set i → IsClosed D i old new r → i.begun ≡ false → OnOk r (KeepsLevels old.files new.files)
 closes_levels D i old new (Err e) seen c rested = tt

@@ -7,6 +7,7 @@ pub mod Telling
 pub mod Finished
 pub mod Sizes
 pub mod Commanding
+pub mod Calling
 pub mod Scoped
 pub mod Asking
 pub mod Deciding

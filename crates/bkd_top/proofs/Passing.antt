@@ -38,14 +38,15 @@ use Rattle.segment_set.specs.Seen.{Sees, ShowsSnapshot, entries_seen}
 use Rattle.segment_set.specs.Kept.{IsAsCommitted, StaysButCache}
 use Rattle.index_core.specs.Costs.{ReadsAtMost, ReadsNear, ReadsTouched}
 use Rattle.index_core.specs.Effects.{BringsCanonical, KeepsStill, OnDone, OnRefused}
-use Rattle.index_core.specs.Light.{CommitsFewOfLevels, IsBarred, LooksAt, StaysLight, is_light, points_in}
+use Rattle.index_core.specs.Light.{CommitsFewOfLevels, IsBarred, KeepsLevels, LooksAt, StaysLight, is_light, points_in}
 use Rattle.index_core.specs.Sessions.{IsStill, IsUnchanged, SessionData}
 use Rattle.index_core.specs.Steps.{DoesOver, KeepsOver, is_committing}
 use Rattle.index_core.proofs.Bringing.{brings_same}
 use Rattle.explain_queries.specs.Explained.{reach}
 use Rattle.explain_queries.proofs.Explaining.{reach_is}
 use Rattle.explain_queries.proofs.There.{are_nearest, there, there_found}
-use Rattle.bkd_top.specs.Costs.{KeepsLevels, TouchesOn, TouchesReading, TouchesView, given_of, is_query}
+use Rattle.index_core.proofs.Undone.{begins_none}
+use Rattle.bkd_top.specs.Costs.{TouchesOn, TouchesReading, TouchesView, given_of, is_query}
 use Rattle.bkd_top.specs.Leads.{HasRoom, Passes, Spot, StaysFew}
 use Rattle.bkd_top.proofs.Asking.{Asks, IsRefusal, asked, begin_refused, full_of, full_or_given, light_gives, read_state, refusal_state, unread_state}
 use Rattle.bkd_top.proofs.Deciding.{unchanged_or_not}
@@ -122,13 +123,6 @@ looks_still heads s t stays looks = subst (LooksAt heads) (sym stays.is) (record
 
 buffer_still : (s t : SetData) → StaysButCache s t → length t.buffer ≡ length s.buffer
 buffer_still s t stays = ap (λ (u : SetData). length u.buffer) stays.is
-
-none_begun : (o : Option BegunMerge) → false ≡ is_some o → o ≡ None
-none_begun None e = refl
-none_begun (Some b) e = absurd cc
-
-pub begins_none : (D : ℕ) (files : Files) (s : SetData) (i : Index) → Sees D files s i → i.begun ≡ false → s.begun ≡ None
-begins_none D files s i seen rested = none_begun s.begun (sym rested ∙ seen.begun)
 
 -- ---- levels
 

@@ -21,12 +21,12 @@ use Rattle.stored_index.proofs.Parts.{heads_once}
 use Rattle.segment_view.specs.Parts.{Contents, Part, heads_of, live_in_parts}
 use Rattle.segment_set.specs.Sets.{NamedView, SetData}
 use Rattle.segment_set.specs.Seen.{Sees, ShowsSnapshot}
-use Rattle.index_core.specs.Light.{LooksAt, is_light}
+use Rattle.index_core.specs.Light.{KeepsLevels, LooksAt, is_light}
 use Rattle.index_core.specs.Sessions.{Guards, IsLast, IsUnchanged, SessionData}
 use Rattle.index_core.specs.Whole.{HasNewCanonical}
 use Rattle.index_core.proofs.Listed.{attached_listed}
 use Rattle.explain_queries.specs.Explained.{IsScope, Scope}
-use Rattle.bkd_top.specs.Costs.{AllAsk, AreLight, KeepsLevels, RunReadsFew, TouchesLines, begins_no_merge, given_of, is_query}
+use Rattle.bkd_top.specs.Costs.{AllAsk, AreLight, RunReadsFew, TouchesLines, begins_no_merge, given_of, is_query}
 use Rattle.bkd_top.specs.Leads.{AreListed, Leads, LeadsAll, LeadsFrom, Opens, Spot}
 use Rattle.bkd_top.specs.Commands.{IsAnswer}
 use Rattle.bkd_top.specs.Origins.{IsFrom}

@@ -39,6 +39,12 @@ abbrev pub is_explain : Asked → Bool
 is_explain (Explain cache) = true
 is_explain _ = false
 
+-- it is done as a whole, with one text
+abbrev pub is_whole : Asked → Bool
+is_whole (Load columns forks) = true
+is_whole (Generate docs seed forks) = true
+is_whole _ = false
+
 -- something is asked, and it is so
 abbrev pub does : (Asked → Bool) → Option Asked → Bool
 does test None = false

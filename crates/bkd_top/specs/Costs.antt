@@ -1,8 +1,7 @@
--- What a run brings and costs besides its answers: the segments that it has written, the commit that it leaves, and how much it reads.
+-- What lines ask for, how many leaves they touch, and how much they read.
 use Rattle.std.specs.Prelude.{ℕ, ◌+◌, ◌≡◌, ◌≤◌, ◌<◌, ◌⊎◌, Bool, true, false, List, [], ◌∷◌, count_by, Option, None, Some}
 use Rattle.std.specs.Option.{option_map}
-use Rattle.outer_io.specs.declared.file_name.FileName.TheVariants.{Commit}
-use Rattle.outer_io.specs.Files.{Files, bytes_of}
+use Rattle.outer_io.specs.Files.{Files}
 use Rattle.point_codec.specs.Points.{in_box}
 use Rattle.cell_relate.specs.Boxes as boxes
 use Rattle.ring_parity.specs.Rings.{all_edges}
@@ -10,8 +9,6 @@ use Rattle.polygon_query.specs.Shape as polygons
 use Rattle.documents.specs.Documents.{Document}
 use Rattle.documents.specs.Nearest.{nearest}
 use Rattle.merge_policy.specs.Choice.{is_of_level}
-use Rattle.commit_list.specs.Commits.{CommitData}
-use Rattle.commit_list.specs.CommitFiles.{IsCommitFile}
 use Rattle.segment_file.specs.Heads.{Head}
 use Rattle.script_lang.specs.Reading.{Reading, Says, Fails, read}
 use Rattle.script_lang.specs.Requests.{Request}
@@ -23,7 +20,8 @@ use Rattle.stored_index.specs.Opening.{IsOpening}
 use Rattle.segment_view.specs.Costs.{AreTouched}
 use Rattle.nearest_query.specs.Segments.{AreNearLeaves}
 use Rattle.command_words.specs.Commands.{Asked, Run}
-use Rattle.index_core.specs.Light.{HasFewOfLevels, is_light}
+use Rattle.index_core.specs.Light.{is_light}
+use Rattle.index_core.specs.Steps.{is_committing}
 use Rattle.explain_queries.specs.Explained.{Scope, IsScope, reach}
 
 -- a script is run
@@ -45,6 +43,16 @@ is_query _ = false
 abbrev pub begins_no_merge : Request → Bool
 begins_no_merge (asks.MergeBegin positions) = false
 begins_no_merge _ = true
+
+-- what was read asks for a commit before the end
+abbrev pub asks_commit : Reading → Bool
+asks_commit (Says request) = is_committing request
+asks_commit (Fails fault) = false
+
+-- none of these lines does, as an index of so many dimensions reads them
+abbrev pub NoneCommits : (dims : ℕ) → List (List ℕ) → Type 0
+NoneCommits dims [] = Unit {0}
+NoneCommits dims (l ∷ ls) = (asks_commit (read (Some dims) l) ≡ false) × NoneCommits dims ls
 
 -- the line is refused, or what it asks for passes the test
 abbrev pub AsksOnly : (Request → Bool) → (line : ℕ) → State → List ℕ → Type 0
@@ -109,9 +117,3 @@ abbrev pub RunReadsFew : Files → List (List ℕ) → (before now : ℕ) → Ty
 RunReadsFew files lines before now =
     (s : Scope) → IsScope files s → (pages : ℕ) → IsOpening files pages → AllAsk is_query 1 s.state lines ⊎ AreLight s.heads 1 s.state lines
     → (touched : ℕ) → TouchesLines s.heads 1 s.state lines touched → now ≤ before + pages + touched
-
--- ---- what they leave
-
--- the Commit file stays, or says a commit that lists at most ten segments of one level
-abbrev pub KeepsLevels : Files → Files → Type 0
-KeepsLevels old new = (new Commit ≡ old Commit) ⊎ ((c : CommitData) × IsCommitFile (bytes_of (new Commit)) c × HasFewOfLevels c)

@@ -9,11 +9,11 @@ use Rattle.stored_index.specs.Opening.{segments_pages}
 use Rattle.segment_view.specs.Parts.{Part}
 use Rattle.segment_set.specs.Sets.{IsSettled, SetData}
 use Rattle.index_core.specs.Effects.{BringsCanonical}
-use Rattle.index_core.specs.Light.{LooksAt, is_light}
+use Rattle.index_core.specs.Light.{KeepsLevels, LooksAt, is_light}
 use Rattle.index_core.specs.Sessions.{IsUnchanged, SessionData}
 use Rattle.index_core.specs.Whole.{HasNewCanonical, IsNewSegment}
 use Rattle.explain_queries.specs.Explained.{Scope, IsScope}
-use Rattle.bkd_top.specs.Costs.{AllAsk, AreLight, AsksOnly, KeepsLevels, RunReadsFew, TouchesLine, TouchesLines, begins_no_merge, given_of, is_query}
+use Rattle.bkd_top.specs.Costs.{AllAsk, AreLight, AsksOnly, RunReadsFew, TouchesLine, TouchesLines, begins_no_merge, given_of, is_query}
 use Rattle.bkd_top.specs.declared.origin.Origin.{Origin}
 use Rattle.bkd_top.specs.declared.origin.Origin.TheVariants as origin
 

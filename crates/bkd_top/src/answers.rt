@@ -1,17 +1,20 @@
 //! The answer to one line.
 
-ghost use Rattle.std.specs.Prelude.{◌≡◌, ◌≢◌, ◌≤◌, ◌++◌, ◌⊎◌, ℕ, List, Some, None, true, IfOk, IsErrOf, OnErr, IsTrue};
+ghost use Rattle.std.specs.Prelude.{◌≡◌, ◌≢◌, ◌≤◌, ◌++◌, ◌⊎◌, ℕ, List, Some, None, false, true, IfOk, IsErrOf, OnErr, IsTrue};
 ghost use Rattle.outer_io.specs.Faults.{Rose};
 ghost use Rattle.page_cache.specs.Causes.{HasPageCause};
 ghost use Rattle.page_cache.specs.Evidence.{OnDamage};
 ghost use Rattle.segment_set.specs.Evidence.{IsEvident};
 ghost use Rattle.index_core.specs.Sessions.{Trusts};
+ghost use Rattle.index_core.specs.Steps.{is_committing};
 ghost use Rattle.script_lang.specs.Reading.{Says, read};
 ghost use Rattle.script_lang.specs.Replies.{line_fault_text, why_text};
 ghost use Rattle.script_lang.specs.Seen.{IsWithinLimits, request_of};
 ghost use Rattle.index_model.specs.State.{Index, State};
 ghost use Rattle.index_model.specs.Script.{answer};
 ghost use Rattle.bkd_top.specs.Answers.{Answers, IsOpening, IsSent, IsWithin, Replies, Stands};
+ghost use Rattle.stored_index.specs.Kept.{SameKept};
+ghost use Rattle.bkd_top.specs.Costs.{asks_commit};
 ghost use Rattle.bkd_top.specs.Leads.{Passes};
 ghost use Rattle.bkd_top.specs.Runs.{HasStopCause, OnStopDamage};
 
@@ -58,6 +61,7 @@ pub fn answer_line<const D: usize, R: Threads + Sync, F: Folder, K: Sink, G: Gat
         (record { files = F.files folder.new; session = session.new; reads = F.reads folder.new }) result }
     ensures cause { HasStopCause (F.faults folder.old) (F.faults folder.new) (K.faults out.old) (K.faults out.new) result }
     ensures trusts { IsTrue F.told → Trusts D (F.files folder.old) session.old → Trusts D (F.files folder.new) session.new }
+    ensures kept { IsTrue F.told → Trusts D (F.files folder.old) session.old → asks_commit (read (Some D) line.now) ≡ false → SameKept (F.files folder.old) (F.files folder.new) }
     ensures evident { OnStopDamage result (IsEvident (IsTrue F.told × Trusts D (F.files folder.old) session.old) (F.files folder.new)) }
 {
     reply.clear();
@@ -99,6 +103,7 @@ fn reply_to<const D: usize, R: Threads + Sync, F: Folder, G: Gate>(
         (record { files = F.files folder.new; session = session.new; reads = F.reads folder.new }) result }
     ensures cause { HasPageCause (F.faults folder.old) (F.faults folder.new) result }
     ensures trusts { IsTrue F.told → Trusts D (F.files folder.old) session.old → Trusts D (F.files folder.new) session.new }
+    ensures kept { IsTrue F.told → Trusts D (F.files folder.old) session.old → asks_commit (read (Some D) line.now) ≡ false → SameKept (F.files folder.old) (F.files folder.new) }
     ensures evident { OnDamage result (IsEvident (IsTrue F.told × Trusts D (F.files folder.old) session.old) (F.files folder.new)) }
 {
     match read_line::<D>(work.alloc, line) {
@@ -127,6 +132,7 @@ fn obey<const D: usize, R: Threads + Sync, F: Folder, G: Gate>(
         (record { files = F.files folder.new; session = session.new; reads = F.reads folder.new }) result }
     ensures cause { HasPageCause (F.faults folder.old) (F.faults folder.new) result }
     ensures trusts { IsTrue F.told → Trusts D (F.files folder.old) session.old → Trusts D (F.files folder.new) session.new }
+    ensures kept { IsTrue F.told → Trusts D (F.files folder.old) session.old → is_committing (request_of command.now) ≡ false → SameKept (F.files folder.old) (F.files folder.new) }
     ensures evident { OnDamage result (IsEvident (IsTrue F.told × Trusts D (F.files folder.old) session.old) (F.files folder.new)) }
 {
     match session.apply(work.rt, work.alloc, folder, command, reply, work.gate) {

@@ -12,8 +12,9 @@ ghost use Rattle.segment_set.specs.Evidence.{IsEvident};
 ghost use Rattle.segment_set.specs.Faithful.{IsFaithful};
 ghost use Rattle.explain_queries.specs.Explained.{IsScope, Scope, TellsLine, TellsLines, Told};
 ghost use Rattle.explain_queries.specs.Explains.{IsExplaining};
+ghost use Rattle.bkd_top.specs.Calls.{HasCauses, ReadsInput, TellsDamage};
 ghost use Rattle.bkd_top.specs.Commands.{EndsExplain, EndsTold, OpensFew, ReadsFew, SendsLine};
-ghost use Rattle.bkd_top.specs.Runs.{DoesNothing, GoesOn, HasStopCause, IsDamaged, OnStatusDamage, OnStopDamage};
+ghost use Rattle.bkd_top.specs.Runs.{DoesNothing, HasStopCause, OnStopDamage};
 
 use crate::answers::send;
 use crate::program::MAX_INPUT;
@@ -43,15 +44,11 @@ pub fn run_explain<S: Source, F: Folder, K: Sink>(
         → EndsExplain (IsTrue K.told) s (lines_of (S.left input.old)) (K.written out.old) (K.written out.new) result }
     ensures files { IsTrue F.told → F.files folder.new ≡ F.files folder.old }
     ensures reads { IsTrue S.told → IsTrue F.told → ReadsFew (F.files folder.old) (lines_of (S.left input.old)) (F.reads folder.old) (F.reads folder.new) }
-    ensures source { IsTrue S.told → GoesOn result → S.left input.new ≡ [] }
+    ensures input { IsTrue S.told → ReadsInput (S.left input.old) (S.left input.new) result }
     ensures untouched { DoesNothing result → (folder.new ≡ folder.old) × (out.new ≡ out.old) }
-    ensures damaged { IsTrue F.told → (state : State) → IsStored (F.files folder.old) state → IsDamaged result → ⊥ }
-    ensures evident { OnStatusDamage result (IsEvident (IsTrue F.told) (F.files folder.new)) }
-    ensures source_fault { result ≡ Status.SourceFault → Rose (S.faults input.old) (S.faults input.new) }
-    ensures too_large { IsTrue S.told → result ≡ Status.TooLarge → 2 ^ 29 < length (S.left input.old) }
-    ensures not_larger { IsTrue S.told → GoesOn result → length (S.left input.old) ≤ 2 ^ 29 }
-    ensures folder_fault { result ≡ Status.FolderFault → Rose (F.faults folder.old) (F.faults folder.new) }
-    ensures sink_fault { result ≡ Status.SinkFault → Rose (K.faults out.old) (K.faults out.new) }
+    ensures damage { TellsDamage (IsTrue F.told) (F.files folder.old) (F.files folder.new) result }
+    ensures causes { HasCauses (record { source = S.faults input.old; folder = F.faults folder.old; sink = K.faults out.old })
+        (record { source = S.faults input.new; folder = F.faults folder.new; sink = K.faults out.new }) result }
 {
     match read_all(alloc, input, MAX_INPUT) {
         Ok(lines) => status_of(explain_lines(alloc, cache_pages, lines.as_slice(), folder, out)),

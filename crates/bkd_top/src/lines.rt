@@ -2,13 +2,18 @@
 
 ghost use Rattle.std.specs.Prelude.{◌≡◌, ◌≤◌, ◌<◌, ◌+◌, ◌^◌, length, Some, None, IsTrue, ℕ};
 ghost use Rattle.outer_io.specs.declared.file_name.FileName.TheVariants.{Commit as CommitName};
+ghost use Rattle.outer_io.specs.Files.{bytes_of};
 ghost use Rattle.page_cache.specs.Causes.{HasPageCause};
+ghost use Rattle.commit_list.specs.Commits.{CommitData};
+ghost use Rattle.commit_list.specs.CommitFiles.{IsCommitFile};
 ghost use Rattle.segment_set.specs.Evidence.{IsEvident};
 ghost use Rattle.index_core.specs.Sessions.{Trusts};
 ghost use Rattle.script_lang.specs.Lines.{lines_of};
 ghost use Rattle.index_model.specs.State.{Index, State};
 ghost use Rattle.stored_index.specs.Stored.{IsStored};
 ghost use Rattle.bkd_top.specs.Answers.{IsEnd, Stands};
+ghost use Rattle.bkd_top.specs.Calls.{StopKeeps};
+ghost use Rattle.bkd_top.specs.Costs.{NoneCommits};
 ghost use Rattle.bkd_top.specs.Leads.{Closes, Leads, LeadsAll, LeadsFrom};
 ghost use Rattle.bkd_top.specs.Origins.{dims_of, IsFrom, IsMade, IsThere};
 ghost use Rattle.bkd_top.specs.Progress.{start};
@@ -56,6 +61,8 @@ pub fn run_lines<R: Threads + Sync, F: Folder, K: Sink, G: Gate>(
     ensures leads { IsTrue F.told → (state : State) → IsStored (F.files folder.old) state
         → LeadsAll state (lines_of script.now) (F.files folder.old) (F.files folder.new) (F.reads folder.old) (F.reads folder.new) result }
     ensures cause { HasStopCause (F.faults folder.old) (F.faults folder.new) (K.faults out.old) (K.faults out.new) result }
+    ensures undone { IsTrue F.told → (c : CommitData) → IsCommitFile (bytes_of (F.files folder.old CommitName)) c → NoneCommits c.dims (lines_of script.now)
+        → StopKeeps (F.files folder.old) (F.files folder.new) result }
     ensures evident { OnStopDamage result (IsEvident (IsTrue F.told) (F.files folder.new)) }
 {
     match read_commit(work.alloc, folder) {
@@ -139,6 +146,8 @@ fn run_from<R: Threads + Sync, F: Folder, K: Sink, G: Gate>(
     ensures leads { IsTrue F.told → (i : Index) → (stored : State) → IsFrom (F.files folder.old) origin i stored
         → LeadsFrom origin i stored script.entry.line (lines_of script.entry.rest.now) (F.files folder.old) (F.files folder.new) (F.reads folder.old) (F.reads folder.new) result }
     ensures cause { HasStopCause (F.faults folder.old) (F.faults folder.new) (K.faults out.old) (K.faults out.new) result }
+    ensures undone { IsTrue F.told → IsThere (F.files folder.old) origin → NoneCommits (dims_of origin) (lines_of script.entry.rest.now)
+        → StopKeeps (F.files folder.old) (F.files folder.new) result }
     ensures evident { OnStopDamage result (IsEvident (IsTrue F.told × IsThere (F.files folder.old) origin) (F.files folder.new)) }
 {
     match origin.dims() {
@@ -180,6 +189,8 @@ fn run_over<const D: usize, R: Threads + Sync, F: Folder, K: Sink, G: Gate>(
     ensures leads { IsTrue F.told → (i : Index) → (stored : State) → IsFrom (F.files folder.old) origin i stored
         → LeadsFrom origin i stored script.entry.line (lines_of script.entry.rest.now) (F.files folder.old) (F.files folder.new) (F.reads folder.old) (F.reads folder.new) result }
     ensures cause { HasStopCause (F.faults folder.old) (F.faults folder.new) (K.faults out.old) (K.faults out.new) result }
+    ensures undone { IsTrue F.told → IsThere (F.files folder.old) origin → NoneCommits (dims_of origin) (lines_of script.entry.rest.now)
+        → StopKeeps (F.files folder.old) (F.files folder.new) result }
     ensures evident { OnStopDamage result (IsEvident (IsTrue F.told × IsThere (F.files folder.old) origin) (F.files folder.new)) }
 {
     match open::<D, F>(work.alloc, work.settings, origin, folder) {
@@ -214,6 +225,7 @@ fn run_made<const D: usize, R: Threads + Sync, F: Folder, K: Sink, G: Gate>(
         → Leads script.entry.line i (lines_of script.entry.rest.now) (record { files = F.files folder.old; session = session.old; reads = F.reads folder.old })
         (record { files = F.files folder.new; session = session.new; reads = F.reads folder.new }) result }
     ensures cause { HasStopCause (F.faults folder.old) (F.faults folder.new) (K.faults out.old) (K.faults out.new) result }
+    ensures undone { IsTrue F.told → Trusts D (F.files folder.old) session.old → NoneCommits D (lines_of script.entry.rest.now) → StopKeeps (F.files folder.old) (F.files folder.new) result }
     ensures evident { OnStopDamage result (IsEvident (IsTrue F.told × Trusts D (F.files folder.old) session.old) (F.files folder.new)) }
 {
     let mut reply = Vec::new(work.alloc);
@@ -245,6 +257,7 @@ fn finish<const D: usize, R: Threads + Sync, F: Folder, G: Gate>(
         → Closes D i (record { files = F.files folder.old; session = session.old; reads = F.reads folder.old })
         (record { files = F.files folder.new; session = session.new; reads = F.reads folder.new }) result }
     ensures cause { (sink : ℕ) → HasStopCause (F.faults folder.old) (F.faults folder.new) sink sink result }
+    ensures undone { IsTrue F.told → Trusts D (F.files folder.old) session.old → StopKeeps (F.files folder.old) (F.files folder.new) result }
     ensures evident { OnStopDamage result (IsEvident (IsTrue F.told × Trusts D (F.files folder.old) session.old) (F.files folder.new)) }
 {
     match session.commit(work.rt, work.alloc, folder, work.gate) {

@@ -1,17 +1,17 @@
 //! The top call.
 
-ghost use Rattle.std.specs.Prelude.{◌≡◌, ◌≤◌, ◌<◌, ◌^◌, ◌⊎◌, length, map, Some, [], true, false, IsTrue, string_bytes};
+ghost use Rattle.std.specs.Prelude.{◌≡◌, ◌≤◌, ◌^◌, ◌⊎◌, length, map, Some, true, false, IsTrue, string_bytes};
 ghost use Rattle.outer_io.specs.Faults.{Rose};
 ghost use Rattle.script_lang.specs.Lines.{lines_of};
 ghost use Rattle.index_model.specs.State.{State};
 ghost use Rattle.stored_index.specs.Stored.{IsStored};
-ghost use Rattle.segment_set.specs.Evidence.{IsEvident};
 ghost use Rattle.bkd_top.specs.Progress.{start};
-ghost use Rattle.bkd_top.specs.Runs.{Ends, GoesOn, DoesNothing, IsDamaged, OnStatusDamage};
+ghost use Rattle.bkd_top.specs.Runs.{Ends, DoesNothing};
 ghost use Rattle.command_words.specs.Commands.{Asked, IsWithin, asked, said};
 ghost use Rattle.index_core.specs.Whole.{HasNewCanonical};
-ghost use Rattle.bkd_top.specs.Commands.{EndsAsked, IsAnswer, ReadsFew, does, is_explain, is_served, reads_input};
-ghost use Rattle.bkd_top.specs.Costs.{AllAsk, KeepsLevels, RunReadsFew, begins_no_merge, is_query, is_run};
+ghost use Rattle.bkd_top.specs.Calls.{ExplainCosts, HasCauses, NoneRose, ReadsInput, RunCosts, TellsDamage, TellsUsage, WholeLeaves};
+ghost use Rattle.bkd_top.specs.Commands.{EndsAsked, IsAnswer, does, is_explain, is_served, is_whole, reads_input};
+ghost use Rattle.bkd_top.specs.Costs.{is_run};
 
 use crate::explain::run_explain;
 use crate::lines::{Work, run_lines};
@@ -51,35 +51,30 @@ pub fn run<S: Source, F: Folder, K: Sink, R: Threads + Sync, G: Gate>(
     out: &mut K,
     gate: &G,
 ) -> Status
-    ensures usage { is_served (asked (map string_bytes words.now)) ≡ false → (result ≡ Status.Usage) ⊎ (result ≡ Status.Memory) }
-    ensures only_usage { result ≡ Status.Usage → is_served (asked (map string_bytes words.now)) ≡ false }
+    ensures usage { TellsUsage (is_served (asked (map string_bytes words.now))) result }
     // the headline, and what each other end leaves of the text and the folder
-    ensures ends { IsTrue S.told → IsTrue F.told → (state : State) → IsStored (F.files folder.old) state → (a : Asked) → asked (map string_bytes words.now) ≡ Some a
+    ensures ends { IsTrue F.told → (state : State) → IsStored (F.files folder.old) state → (a : Asked) → asked (map string_bytes words.now) ≡ Some a → (reads_input a ≡ true → IsTrue S.told)
         → EndsAsked (IsTrue K.told) a (record { state = state; files = F.files folder.old; input = S.left input.old; written = K.written out.old })
         (F.files folder.new) (K.written out.new) result }
-    ensures source { IsTrue S.told → does (λ a. reads_input a) (asked (map string_bytes words.now)) ≡ true → GoesOn result → S.left input.new ≡ [] }
+    // where no call failed, a command over a folder that stores a state is done, or memory was wanting
+    ensures complete { IsTrue F.told → (state : State) → IsStored (F.files folder.old) state → is_served (asked (map string_bytes words.now)) ≡ true
+        → (does (λ a. reads_input a) (asked (map string_bytes words.now)) ≡ true → IsTrue S.told × (length (S.left input.old) ≤ 2 ^ 29))
+        → NoneRose (record { source = S.faults input.old; folder = F.faults folder.old; sink = K.faults out.old })
+        (record { source = S.faults input.new; folder = F.faults folder.new; sink = K.faults out.new }) → IsAnswer result ⊎ (result ≡ Status.Memory) }
+    ensures input { IsTrue S.told → does (λ a. reads_input a) (asked (map string_bytes words.now)) ≡ true → ReadsInput (S.left input.old) (S.left input.new) result }
+    ensures unread { does (λ a. reads_input a) (asked (map string_bytes words.now)) ≡ false → input.new ≡ input.old }
     ensures untouched { DoesNothing result → (folder.new ≡ folder.old) × (out.new ≡ out.old) }
-    // explaining changes no file, whatever the status, and reads little
-    ensures files { IsTrue F.told → does (λ a. is_explain a) (asked (map string_bytes words.now)) ≡ true → F.files folder.new ≡ F.files folder.old }
-    ensures reads { IsTrue S.told → IsTrue F.told → does (λ a. is_explain a) (asked (map string_bytes words.now)) ≡ true
-        → ReadsFew (F.files folder.old) (lines_of (S.left input.old)) (F.reads folder.old) (F.reads folder.new) }
     // each segment that the commit lists anew is canonical
     ensures canon { IsTrue F.told → (state : State) → IsStored (F.files folder.old) state → IsAnswer result → HasNewCanonical (F.files folder.old) (F.files folder.new) }
-    // a script that begins no merge leaves few segments of each level; one of queries changes no file, whatever the status; and it, or one that needs no segment to be merged, reads little
-    ensures levels { IsTrue S.told → IsTrue F.told → (state : State) → IsStored (F.files folder.old) state → does (λ a. is_run a) (asked (map string_bytes words.now)) ≡ true
-        → AllAsk begins_no_merge 1 state (lines_of (S.left input.old)) → IsAnswer result → KeepsLevels (F.files folder.old) (F.files folder.new) }
-    ensures still { IsTrue S.told → IsTrue F.told → (state : State) → IsStored (F.files folder.old) state → does (λ a. is_run a) (asked (map string_bytes words.now)) ≡ true
-        → AllAsk is_query 1 state (lines_of (S.left input.old)) → F.files folder.new ≡ F.files folder.old }
-    ensures run_reads { IsTrue S.told → IsTrue F.told → does (λ a. is_run a) (asked (map string_bytes words.now)) ≡ true
-        → RunReadsFew (F.files folder.old) (lines_of (S.left input.old)) (F.reads folder.old) (F.reads folder.new) }
+    ensures costs { IsTrue S.told → IsTrue F.told → does (λ a. is_run a) (asked (map string_bytes words.now)) ≡ true
+        → RunCosts (lines_of (S.left input.old)) (F.files folder.old) (F.files folder.new) (F.reads folder.old) (F.reads folder.new) result }
+    ensures explains { IsTrue F.told → does (λ a. is_explain a) (asked (map string_bytes words.now)) ≡ true
+        → ExplainCosts (IsTrue S.told) (lines_of (S.left input.old)) (F.files folder.old) (F.files folder.new) (F.reads folder.old) (F.reads folder.new) }
+    ensures whole { IsTrue F.told → does (λ a. is_whole a) (asked (map string_bytes words.now)) ≡ true → WholeLeaves (F.files folder.old) (F.files folder.new) result }
     // why it ended otherwise
-    ensures damaged { IsTrue F.told → (state : State) → IsStored (F.files folder.old) state → IsDamaged result → ⊥ }
-    ensures evident { OnStatusDamage result (IsEvident (IsTrue F.told) (F.files folder.new)) }
-    ensures source_fault { result ≡ Status.SourceFault → Rose (S.faults input.old) (S.faults input.new) }
-    ensures too_large { IsTrue S.told → result ≡ Status.TooLarge → 2 ^ 29 < length (S.left input.old) }
-    ensures not_larger { IsTrue S.told → does (λ a. reads_input a) (asked (map string_bytes words.now)) ≡ true → GoesOn result → length (S.left input.old) ≤ 2 ^ 29 }
-    ensures folder_fault { result ≡ Status.FolderFault → Rose (F.faults folder.old) (F.faults folder.new) }
-    ensures sink_fault { result ≡ Status.SinkFault → Rose (K.faults out.old) (K.faults out.new) }
+    ensures damage { TellsDamage (IsTrue F.told) (F.files folder.old) (F.files folder.new) result }
+    ensures causes { HasCauses (record { source = S.faults input.old; folder = F.faults folder.old; sink = K.faults out.old })
+        (record { source = S.faults input.new; folder = F.faults folder.new; sink = K.faults out.new }) result }
 {
     match read_words(alloc, words) {
         Ok(words) => run_command(rt, alloc, words, input, folder, out, gate),
@@ -101,28 +96,22 @@ fn run_command<S: Source, F: Folder, K: Sink, R: Threads + Sync, G: Gate>(
     requires { IsWithin words }
     ensures usage { result ≡ Status.Usage → is_served (Some (said words)) ≡ false }
     ensures served { is_served (Some (said words)) ≡ false → result ≡ Status.Usage }
-    ensures ends { IsTrue S.told → IsTrue F.told → (state : State) → IsStored (F.files folder.old) state
+    ensures ends { IsTrue F.told → (state : State) → IsStored (F.files folder.old) state → (reads_input (said words) ≡ true → IsTrue S.told)
         → EndsAsked (IsTrue K.told) (said words) (record { state = state; files = F.files folder.old; input = S.left input.old; written = K.written out.old })
         (F.files folder.new) (K.written out.new) result }
-    ensures source { IsTrue S.told → reads_input (said words) ≡ true → GoesOn result → S.left input.new ≡ [] }
+    ensures input { IsTrue S.told → reads_input (said words) ≡ true → ReadsInput (S.left input.old) (S.left input.new) result }
+    ensures unread { reads_input (said words) ≡ false → input.new ≡ input.old }
+    ensures large { result ≡ Status.TooLarge → reads_input (said words) ≡ true }
     ensures untouched { DoesNothing result → (folder.new ≡ folder.old) × (out.new ≡ out.old) }
-    ensures files { IsTrue F.told → is_explain (said words) ≡ true → F.files folder.new ≡ F.files folder.old }
-    ensures reads { IsTrue S.told → IsTrue F.told → is_explain (said words) ≡ true
-        → ReadsFew (F.files folder.old) (lines_of (S.left input.old)) (F.reads folder.old) (F.reads folder.new) }
     ensures canon { IsTrue F.told → (state : State) → IsStored (F.files folder.old) state → IsAnswer result → HasNewCanonical (F.files folder.old) (F.files folder.new) }
-    ensures levels { IsTrue S.told → IsTrue F.told → (state : State) → IsStored (F.files folder.old) state → is_run (said words) ≡ true
-        → AllAsk begins_no_merge 1 state (lines_of (S.left input.old)) → IsAnswer result → KeepsLevels (F.files folder.old) (F.files folder.new) }
-    ensures still { IsTrue S.told → IsTrue F.told → (state : State) → IsStored (F.files folder.old) state → is_run (said words) ≡ true
-        → AllAsk is_query 1 state (lines_of (S.left input.old)) → F.files folder.new ≡ F.files folder.old }
-    ensures run_reads { IsTrue S.told → IsTrue F.told → is_run (said words) ≡ true
-        → RunReadsFew (F.files folder.old) (lines_of (S.left input.old)) (F.reads folder.old) (F.reads folder.new) }
-    ensures damaged { IsTrue F.told → (state : State) → IsStored (F.files folder.old) state → IsDamaged result → ⊥ }
-    ensures evident { OnStatusDamage result (IsEvident (IsTrue F.told) (F.files folder.new)) }
-    ensures source_fault { result ≡ Status.SourceFault → Rose (S.faults input.old) (S.faults input.new) }
-    ensures too_large { IsTrue S.told → result ≡ Status.TooLarge → 2 ^ 29 < length (S.left input.old) }
-    ensures not_larger { IsTrue S.told → reads_input (said words) ≡ true → GoesOn result → length (S.left input.old) ≤ 2 ^ 29 }
-    ensures folder_fault { result ≡ Status.FolderFault → Rose (F.faults folder.old) (F.faults folder.new) }
-    ensures sink_fault { result ≡ Status.SinkFault → Rose (K.faults out.old) (K.faults out.new) }
+    ensures costs { IsTrue S.told → IsTrue F.told → is_run (said words) ≡ true
+        → RunCosts (lines_of (S.left input.old)) (F.files folder.old) (F.files folder.new) (F.reads folder.old) (F.reads folder.new) result }
+    ensures explains { IsTrue F.told → is_explain (said words) ≡ true
+        → ExplainCosts (IsTrue S.told) (lines_of (S.left input.old)) (F.files folder.old) (F.files folder.new) (F.reads folder.old) (F.reads folder.new) }
+    ensures whole { IsTrue F.told → is_whole (said words) ≡ true → WholeLeaves (F.files folder.old) (F.files folder.new) result }
+    ensures damage { TellsDamage (IsTrue F.told) (F.files folder.old) (F.files folder.new) result }
+    ensures causes { HasCauses (record { source = S.faults input.old; folder = F.faults folder.old; sink = K.faults out.old })
+        (record { source = S.faults input.new; folder = F.faults folder.new; sink = K.faults out.new }) result }
 {
     match words {
         Words::Run { cache_pages, forks } => {
@@ -163,21 +152,14 @@ pub fn run_script<S: Source, F: Folder, K: Sink, R: Threads + Sync, G: Gate>(
     ensures never_usage { result ≡ Status.Usage → ⊥ }
     ensures ends { IsTrue S.told → IsTrue F.told → (state : State) → IsStored (F.files folder.old) state
         → Ends (IsTrue K.told) (start state (lines_of (S.left input.old)) (K.written out.old)) (F.files folder.new) (K.written out.new) result }
-    ensures canon { IsTrue F.told → (state : State) → IsStored (F.files folder.old) state → IsAnswer result → HasNewCanonical (F.files folder.old) (F.files folder.new) }
-    ensures levels { IsTrue S.told → IsTrue F.told → (state : State) → IsStored (F.files folder.old) state → AllAsk begins_no_merge 1 state (lines_of (S.left input.old))
-        → IsAnswer result → KeepsLevels (F.files folder.old) (F.files folder.new) }
-    ensures still { IsTrue S.told → IsTrue F.told → (state : State) → IsStored (F.files folder.old) state → AllAsk is_query 1 state (lines_of (S.left input.old))
-        → F.files folder.new ≡ F.files folder.old }
-    ensures reads { IsTrue S.told → IsTrue F.told → RunReadsFew (F.files folder.old) (lines_of (S.left input.old)) (F.reads folder.old) (F.reads folder.new) }
-    ensures source { IsTrue S.told → GoesOn result → S.left input.new ≡ [] }
+    ensures input { IsTrue S.told → ReadsInput (S.left input.old) (S.left input.new) result }
     ensures untouched { DoesNothing result → (folder.new ≡ folder.old) × (out.new ≡ out.old) }
-    ensures damaged { IsTrue F.told → (state : State) → IsStored (F.files folder.old) state → IsDamaged result → ⊥ }
-    ensures evident { OnStatusDamage result (IsEvident (IsTrue F.told) (F.files folder.new)) }
-    ensures source_fault { result ≡ Status.SourceFault → Rose (S.faults input.old) (S.faults input.new) }
-    ensures too_large { IsTrue S.told → result ≡ Status.TooLarge → 2 ^ 29 < length (S.left input.old) }
-    ensures not_larger { IsTrue S.told → GoesOn result → length (S.left input.old) ≤ 2 ^ 29 }
-    ensures folder_fault { result ≡ Status.FolderFault → Rose (F.faults folder.old) (F.faults folder.new) }
-    ensures sink_fault { result ≡ Status.SinkFault → Rose (K.faults out.old) (K.faults out.new) }
+    ensures canon { IsTrue F.told → (state : State) → IsStored (F.files folder.old) state → IsAnswer result → HasNewCanonical (F.files folder.old) (F.files folder.new) }
+    ensures costs { IsTrue S.told → IsTrue F.told
+        → RunCosts (lines_of (S.left input.old)) (F.files folder.old) (F.files folder.new) (F.reads folder.old) (F.reads folder.new) result }
+    ensures damage { TellsDamage (IsTrue F.told) (F.files folder.old) (F.files folder.new) result }
+    ensures causes { HasCauses (record { source = S.faults input.old; folder = F.faults folder.old; sink = K.faults out.old })
+        (record { source = S.faults input.new; folder = F.faults folder.new; sink = K.faults out.new }) result }
 {
     match read_all(alloc, input, MAX_INPUT) {
         Ok(script) => run_text(rt, alloc, settings, script.as_slice(), folder, out, gate),
@@ -202,12 +184,8 @@ fn run_text<F: Folder, K: Sink, R: Threads + Sync, G: Gate>(
     ensures ends { IsTrue F.told → (state : State) → IsStored (F.files folder.old) state
         → Ends (IsTrue K.told) (start state (lines_of script.now) (K.written out.old)) (F.files folder.new) (K.written out.new) result }
     ensures canon { IsTrue F.told → (state : State) → IsStored (F.files folder.old) state → IsAnswer result → HasNewCanonical (F.files folder.old) (F.files folder.new) }
-    ensures levels { IsTrue F.told → (state : State) → IsStored (F.files folder.old) state → AllAsk begins_no_merge 1 state (lines_of script.now)
-        → IsAnswer result → KeepsLevels (F.files folder.old) (F.files folder.new) }
-    ensures still { IsTrue F.told → (state : State) → IsStored (F.files folder.old) state → AllAsk is_query 1 state (lines_of script.now) → F.files folder.new ≡ F.files folder.old }
-    ensures reads { IsTrue F.told → RunReadsFew (F.files folder.old) (lines_of script.now) (F.reads folder.old) (F.reads folder.new) }
-    ensures damaged { IsTrue F.told → (state : State) → IsStored (F.files folder.old) state → IsDamaged result → ⊥ }
-    ensures evident { OnStatusDamage result (IsEvident (IsTrue F.told) (F.files folder.new)) }
+    ensures costs { IsTrue F.told → RunCosts (lines_of script.now) (F.files folder.old) (F.files folder.new) (F.reads folder.old) (F.reads folder.new) result }
+    ensures damage { TellsDamage (IsTrue F.told) (F.files folder.old) (F.files folder.new) result }
     ensures folder_fault { result ≡ Status.FolderFault → Rose (F.faults folder.old) (F.faults folder.new) }
     ensures sink_fault { result ≡ Status.SinkFault → Rose (K.faults out.old) (K.faults out.new) }
 {

@@ -1,6 +1,6 @@
 //! Commands that are done at once, with one text: loading and generating.
 
-ghost use Rattle.std.specs.Prelude.{◌≡◌, ◌≤◌, ◌<◌, ◌^◌, ℕ, Bool, List, length, [], IsTrue, IsOk};
+ghost use Rattle.std.specs.Prelude.{◌≡◌, ◌≤◌, ℕ, Bool, List, length, [], IsTrue, IsOk};
 ghost use Rattle.outer_io.specs.Faults.{Rose};
 ghost use Rattle.outer_io.specs.Files.{Files};
 ghost use Rattle.page_cache.specs.Causes.{HasPageCause};
@@ -11,9 +11,11 @@ ghost use Rattle.stored_index.specs.Stored.{IsStored};
 ghost use Rattle.segment_set.specs.Evidence.{IsEvident};
 ghost use Rattle.drawn_points.specs.Generated.{generated};
 ghost use Rattle.load_points.specs.Loaded.{loaded};
+ghost use Rattle.index_core.specs.Steps.{KeepsUndone};
 ghost use Rattle.index_core.specs.Whole.{DoesWhole, HasNewCanonical};
+ghost use Rattle.bkd_top.specs.Calls.{HasCauses, ReadsInput, StatusKeeps, TellsDamage, WholeLeaves};
 ghost use Rattle.bkd_top.specs.Commands.{Before, EndsWhole, IsAnswer};
-ghost use Rattle.bkd_top.specs.Runs.{DoesNothing, GoesOn, IsDamaged, OnStatusDamage};
+ghost use Rattle.bkd_top.specs.Runs.{DoesNothing, IsDamaged, OnStatusDamage};
 
 use crate::answers::send;
 use crate::program::MAX_INPUT;
@@ -52,16 +54,13 @@ pub fn run_load<S: Source, F: Folder, K: Sink, R: Threads + Sync, G: Gate>(
     ensures ends { IsTrue S.told → IsTrue F.told → (state : State) → IsStored (F.files folder.old) state
         → EndsWhole (IsTrue K.told) (record { state = state; files = F.files folder.old; input = S.left input.old; written = K.written out.old })
         (loaded state (S.left input.old) columns.now) (F.files folder.new) (K.written out.new) result }
-    ensures source { IsTrue S.told → GoesOn result → S.left input.new ≡ [] }
+    ensures input { IsTrue S.told → ReadsInput (S.left input.old) (S.left input.new) result }
     ensures untouched { DoesNothing result → (folder.new ≡ folder.old) × (out.new ≡ out.old) }
     ensures canon { IsTrue F.told → (state : State) → IsStored (F.files folder.old) state → IsAnswer result → HasNewCanonical (F.files folder.old) (F.files folder.new) }
-    ensures damaged { IsTrue F.told → (state : State) → IsStored (F.files folder.old) state → IsDamaged result → ⊥ }
-    ensures evident { OnStatusDamage result (IsEvident (IsTrue F.told) (F.files folder.new)) }
-    ensures source_fault { result ≡ Status.SourceFault → Rose (S.faults input.old) (S.faults input.new) }
-    ensures too_large { IsTrue S.told → result ≡ Status.TooLarge → 2 ^ 29 < length (S.left input.old) }
-    ensures not_larger { IsTrue S.told → GoesOn result → length (S.left input.old) ≤ 2 ^ 29 }
-    ensures folder_fault { result ≡ Status.FolderFault → Rose (F.faults folder.old) (F.faults folder.new) }
-    ensures sink_fault { result ≡ Status.SinkFault → Rose (K.faults out.old) (K.faults out.new) }
+    ensures whole { IsTrue F.told → WholeLeaves (F.files folder.old) (F.files folder.new) result }
+    ensures damage { TellsDamage (IsTrue F.told) (F.files folder.old) (F.files folder.new) result }
+    ensures causes { HasCauses (record { source = S.faults input.old; folder = F.faults folder.old; sink = K.faults out.old })
+        (record { source = S.faults input.new; folder = F.faults folder.new; sink = K.faults out.new }) result }
 {
     match read_all(alloc, input, MAX_INPUT) {
         Ok(file) => load_file(
@@ -99,8 +98,8 @@ fn load_file<F: Folder, K: Sink, R: Threads + Sync, G: Gate>(
         → EndsWhole (IsTrue K.told) (record { state = state; files = F.files folder.old; input = file.now; written = K.written out.old })
         (loaded state file.now columns.now) (F.files folder.new) (K.written out.new) result }
     ensures canon { IsTrue F.told → (state : State) → IsStored (F.files folder.old) state → IsAnswer result → HasNewCanonical (F.files folder.old) (F.files folder.new) }
-    ensures damaged { IsTrue F.told → (state : State) → IsStored (F.files folder.old) state → IsDamaged result → ⊥ }
-    ensures evident { OnStatusDamage result (IsEvident (IsTrue F.told) (F.files folder.new)) }
+    ensures whole { IsTrue F.told → WholeLeaves (F.files folder.old) (F.files folder.new) result }
+    ensures damage { TellsDamage (IsTrue F.told) (F.files folder.old) (F.files folder.new) result }
     ensures folder_fault { result ≡ Status.FolderFault → Rose (F.faults folder.old) (F.faults folder.new) }
     ensures sink_fault { result ≡ Status.SinkFault → Rose (K.faults out.old) (K.faults out.new) }
 {
@@ -137,8 +136,8 @@ pub fn run_generate<F: Folder, K: Sink, R: Threads + Sync, G: Gate>(
         → EndsWhole (IsTrue K.told) (record { state = state; files = F.files folder.old; input = input; written = K.written out.old })
         (generated state docs seed) (F.files folder.new) (K.written out.new) result }
     ensures canon { IsTrue F.told → (state : State) → IsStored (F.files folder.old) state → IsAnswer result → HasNewCanonical (F.files folder.old) (F.files folder.new) }
-    ensures damaged { IsTrue F.told → (state : State) → IsStored (F.files folder.old) state → IsDamaged result → ⊥ }
-    ensures evident { OnStatusDamage result (IsEvident (IsTrue F.told) (F.files folder.new)) }
+    ensures whole { IsTrue F.told → WholeLeaves (F.files folder.old) (F.files folder.new) result }
+    ensures damage { TellsDamage (IsTrue F.told) (F.files folder.old) (F.files folder.new) result }
     ensures folder_fault { result ≡ Status.FolderFault → Rose (F.faults folder.old) (F.faults folder.new) }
     ensures sink_fault { result ≡ Status.SinkFault → Rose (K.faults out.old) (K.faults out.new) }
 {
@@ -162,6 +161,7 @@ fn tell<K: Sink>(out: &mut K, done: Result<bool, PageFault>, text: &[u8]) -> Sta
     ensures ends { (b : Before) → (a : Answer) → (files : Files) → DoesWhole files b.state a [] text.now done → b.written ≡ K.written out.old
         → EndsWhole (IsTrue K.told) b a files (K.written out.new) result }
     ensures answer { IsAnswer result → IsOk done }
+    ensures undone { (old new : Files) → KeepsUndone old new done → StatusKeeps old new result }
     ensures folder_fault { (old new : ℕ) → HasPageCause old new done → result ≡ Status.FolderFault → Rose old new }
     ensures damaged { NotDamaged done → IsDamaged result → ⊥ }
     ensures evident { (told : Bool) (files : Files) → OnDamage done (IsEvident (IsTrue told) files) → OnStatusDamage result (IsEvident (IsTrue told) files) }

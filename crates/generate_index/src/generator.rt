@@ -13,6 +13,8 @@ ghost use Rattle.segment_set.specs.Evidence.{IsEvident};
 ghost use Rattle.segment_set.specs.Faithful.{IsFaithful};
 ghost use Rattle.index_core.specs.Sessions.{AreTraced, Guards};
 ghost use Rattle.index_core.specs.Effects.{BringsCanonical};
+ghost use Rattle.index_core.specs.Light.{KeepsLevels};
+ghost use Rattle.index_core.specs.Steps.{KeepsUndone};
 ghost use Rattle.index_core.specs.Whole.{DoesWhole, HasNewCanonical};
 ghost use Rattle.drawn_points.specs.Draws.{draw, points};
 ghost use Rattle.drawn_points.specs.Generated.{box_hits, generated, near_sum};
@@ -65,6 +67,9 @@ pub fn generate<R: Threads + Sync, F: Folder, G: Gate>(
         → DoesWhole (F.files folder.new) state (generated state docs seed) text.old.items text.new.items result }
     ensures unchanged { IsTrue F.told → IfOk result (λ refused. refused ≡ true → F.files folder.new ≡ F.files folder.old) }
     ensures canon { IsTrue F.told → (state : State) → IsStored (F.files folder.old) state → OnOk result (HasNewCanonical (F.files folder.old) (F.files folder.new)) }
+    ensures levels { IsTrue F.told → (state : State) → IsStored (F.files folder.old) state → OnOk result (KeepsLevels (F.files folder.old) (F.files folder.new)) }
+    // whatever the folder holds
+    ensures undone { IsTrue F.told → KeepsUndone (F.files folder.old) (F.files folder.new) result }
     ensures cause { HasPageCause (F.faults folder.old) (F.faults folder.new) result }
     ensures evident { OnDamage result (IsEvident (IsTrue F.told) (F.files folder.new)) }
 {
@@ -91,6 +96,8 @@ fn generate_first<R: Threads + Sync, F: Folder, G: Gate>(
         → DoesWhole (F.files folder.new) None (generated None docs seed) text.old.items text.new.items result }
     ensures done { IfOk result (λ refused. refused ≡ true → ⊥) }
     ensures canon { IsTrue F.told → F.files folder.old CommitName ≡ None → OnOk result (HasNewCanonical (F.files folder.old) (F.files folder.new)) }
+    ensures levels { IsTrue F.told → F.files folder.old CommitName ≡ None → OnOk result (KeepsLevels (F.files folder.old) (F.files folder.new)) }
+    ensures undone { IsTrue F.told → F.files folder.old CommitName ≡ None → KeepsUndone (F.files folder.old) (F.files folder.new) result }
     ensures cause { HasPageCause (F.faults folder.old) (F.faults folder.new) result }
     ensures evident { OnDamage result (IsEvident (IsTrue F.told × (F.files folder.old CommitName ≡ None)) (F.files folder.new)) }
 {

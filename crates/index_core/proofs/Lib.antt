@@ -13,3 +13,4 @@ pub mod Keeping
 pub mod Listed
 pub mod Wholes
 pub mod Lightly
+pub mod Undone

@@ -14,7 +14,8 @@ use Rattle.stored_index.specs.Stored.{IsStored}
 use Rattle.segment_set.specs.Seen.{Sees}
 use Rattle.index_core.specs.Effects.{BringsCanonical}
 use Rattle.index_core.specs.Sessions.{Guards, IsUnchanged}
-use Rattle.index_core.specs.Steps.{SaysCommit, Stores}
+use Rattle.index_core.specs.Light.{KeepsLevels}
+use Rattle.index_core.specs.Steps.{KeepsUndone, SaysCommit, Stores}
 use Rattle.index_core.specs.Whole.{DoesWhole, Spot}
 
 -- after a fault that is no damage
@@ -31,6 +32,8 @@ pub record IsCommitted {T : Type 0} (D : ℕ) (told : Type 0) (b c : Spot) (resu
   pub says : told → Guards D b.files b.session → OnOk result (SaysCommit c.files c.session.commit)
   pub stored : told → (i : Index) → Sees D b.files b.session.set i → Guards D b.files b.session → Stores b.files c.files i c.session.set result
   pub unchanged : OnOk result (IsUnchanged c.session)
+  pub few : told → Guards D b.files b.session → b.session.set.begun ≡ None → OnOk result (KeepsLevels b.files c.files)
+  pub undone : told → Guards D b.files b.session → KeepsUndone b.files c.files result
   pub brings : told → BringsCanonical D b.files c.files b.session.set.parts c.session.set.parts
   pub cause : HasPageCause b.faults c.faults result
   pub whole : told → (i : Index) → Sees D b.files b.session.set i → NotDamaged result

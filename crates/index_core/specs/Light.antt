@@ -1,8 +1,10 @@
 -- What requests leave that need no segment to be written or merged.
-use Rattle.std.specs.Prelude.{◌≡◌, ◌≤◌, ◌<◌, ◌+◌, ◌^◌, ℕ, Bool, true, false, List, length, All, count_by, Option, None, Some}
-use Rattle.outer_io.specs.Files.{Files}
+use Rattle.std.specs.Prelude.{◌≡◌, ◌≤◌, ◌<◌, ◌+◌, ◌^◌, ◌⊎◌, ℕ, Bool, true, false, List, length, All, count_by, Option, None, Some}
+use Rattle.outer_io.specs.declared.file_name.FileName.TheVariants.{Commit}
+use Rattle.outer_io.specs.Files.{Files, bytes_of}
 use Rattle.merge_policy.specs.Choice.{is_of_level}
 use Rattle.commit_list.specs.Commits.{CommitData}
+use Rattle.commit_list.specs.CommitFiles.{IsCommitFile}
 use Rattle.segment_file.specs.Heads.{Head}
 use Rattle.script_lang.specs.Requests.{Request}
 use Rattle.script_lang.specs.Requests as asks
@@ -57,3 +59,7 @@ HasFewOfLevels c = (level : ℕ) → count_by (λ l. is_of_level level l.entries
 
 abbrev pub CommitsFewOfLevels : Option CommitData → Type 0
 CommitsFewOfLevels commit = (c : CommitData) → commit ≡ Some c → HasFewOfLevels c
+
+-- the Commit file stays, or says a commit that lists at most ten segments of one level
+abbrev pub KeepsLevels : Files → Files → Type 0
+KeepsLevels old new = (new Commit ≡ old Commit) ⊎ ((c : CommitData) × IsCommitFile (bytes_of (new Commit)) c × HasFewOfLevels c)

@@ -3,6 +3,7 @@ use Rattle.std.specs.Prelude.{◌≡◌, ◌⊎◌, ℕ, Bool, true, false, List
 use Rattle.outer_io.specs.declared.file_name.FileName.TheVariants.{Commit}
 use Rattle.outer_io.specs.Files.{Files, bytes_of}
 use Rattle.page_cache.specs.declared.faults.PageFault.{PageFault}
+use Rattle.page_cache.specs.declared.faults.PageFault.TheVariants as page
 use Rattle.page_cache.specs.Causes.{HasPageCause}
 use Rattle.page_cache.specs.Evidence.{NotDamaged, OnDamage}
 use Rattle.commit_list.specs.Commits.{CommitData}
@@ -53,6 +54,21 @@ SaysCommit files commit = (c : CommitData) × (commit ≡ Some c) × IsCommitFil
 abbrev pub Commits : {T : Type 0} → Files → Files → SessionData → Result T PageFault → Type 0
 Commits old new s (Ok x) = SaysCommit new s.commit
 Commits old new s (Err fault) = SameKept old new ⊎ SaysCommit new s.set.saved
+
+-- the Commit file says a commit
+abbrev pub HasCommit : Files → Type 0
+HasCommit files = (c : CommitData) × IsCommitFile (bytes_of (files Commit)) c
+
+-- After a damage all that is kept is the same. Where the folder failed, or memory was wanting, it is too, or a commit in flight has taken its place.
+abbrev pub FaultKeeps : Files → Files → PageFault → Type 0
+FaultKeeps old new page.Failed = SameKept old new ⊎ HasCommit new
+FaultKeeps old new page.Memory = SameKept old new ⊎ HasCommit new
+FaultKeeps old new (page.Damaged damage) = SameKept old new
+
+-- what is not done keeps so
+abbrev pub KeepsUndone : {T : Type 0} → Files → Files → Result T PageFault → Type 0
+KeepsUndone old new (Ok x) = Unit {0}
+KeepsUndone old new (Err fault) = FaultKeeps old new fault
 
 -- all else that is done, or refused, keeps what is kept
 abbrev pub KeepsOver : {T : Type 0} → Bool → Files → Files → SessionData → Result T PageFault → Type 0

@@ -26,8 +26,8 @@ ghost use Rattle.index_core.specs.Sessions.{AreTraced, Guards, GuardsSet, IsComm
 ghost use Rattle.index_core.specs.Costs.{ReadsAtMost};
 ghost use Rattle.index_core.specs.Damages.{ShowsDamage, ShowsMerge};
 ghost use Rattle.index_core.specs.Effects.{BringsCanonical, OnRefused};
-ghost use Rattle.index_core.specs.Light.{CommitsFewOfLevels};
-ghost use Rattle.index_core.specs.Steps.{Applies, KeepsOver, SaysCommit, Stores};
+ghost use Rattle.index_core.specs.Light.{CommitsFewOfLevels, KeepsLevels};
+ghost use Rattle.index_core.specs.Steps.{Applies, KeepsOver, KeepsUndone, SaysCommit, Stores};
 
 use crate::session::Session;
 use bkd_build::Gate;
@@ -69,7 +69,10 @@ impl<const D: usize> Session<D> {
         ensures unchanged { OnOk result (IsUnchanged self.new) }
         // with no merge begun it lists few segments of each level, and where none are chosen to be merged nothing is read
         ensures levels { (IsUnchanged self.old → ⊥) → self.old.set.begun ≡ None → OnOk result (CommitsFewOfLevels self.new.commit) }
+        ensures few { IsTrue F.told → Guards D (F.files folder.old) self.old → self.old.set.begun ≡ None → OnOk result (KeepsLevels (F.files folder.old) (F.files folder.new)) }
         ensures rested { IsSettled self.old.set → F.reads folder.new ≡ F.reads folder.old }
+        // what is not done loses nothing that is kept, and after a damage no commit is in flight
+        ensures undone { IsTrue F.told → Guards D (F.files folder.old) self.old → KeepsUndone (F.files folder.old) (F.files folder.new) result }
         // each segment that is written is canonical, whatever is answered
         ensures canon { IsTrue F.told → BringsCanonical D (F.files folder.old) (F.files folder.new) self.old.set.parts self.new.set.parts }
         ensures cause { HasPageCause (F.faults folder.old) (F.faults folder.new) result }

@@ -1,5 +1,5 @@
 -- A load from one place to another, by what each call of it answered.
-use Rattle.std.proofs.Common.{◌≡◌, ◌≤◌, ◌+◌, ◌^◌, ◌++◌, ℕ, Bool, true, false, List, [], length, Some, None, Result, Ok, Err, OnOk, IfOk, refl, sym, ap, subst, ◌∙◌, ◌⊎◌, inl, inr, ⊎_elim, arith, ℤ}
+use Rattle.std.proofs.Common.{◌≡◌, ◌≤◌, ◌+◌, ◌^◌, ◌++◌, ℕ, Bool, true, false, List, [], ◌∷◌, length, Some, None, Result, Ok, Err, OnOk, IfOk, refl, sym, ap, subst, ◌∙◌, ◌⊎◌, inl, inr, ⊎_elim, arith, ℤ}
 use Rattle.std.specs.List.{Contains}
 use Rattle.outer_io.specs.declared.file_name.FileName.TheVariants.{Commit}
 use Rattle.outer_io.specs.Files.{Files, bytes_of}
@@ -16,7 +16,7 @@ use Rattle.index_model.specs.Script.{Answer}
 use Rattle.script_lang.specs.Reading.{greatest_leaf}
 use Rattle.script_lang.specs.Replies.{ended}
 use Rattle.stored_index.specs.Stored.{IsStored, index_of}
-use Rattle.stored_index.proofs.KeptFiles.{stored_still}
+use Rattle.stored_index.proofs.KeptFiles.{kept_itself, stored_still}
 use Rattle.stored_index.proofs.Whole.{held_for}
 use Rattle.documents.proofs.Lists.{nil_none}
 use Rattle.segment_view.specs.Parts.{Part}
@@ -25,7 +25,9 @@ use Rattle.segment_set.specs.Evidence.{IsEvident, IsTwice}
 use Rattle.segment_set.specs.Faithful.{IsFaithful}
 use Rattle.segment_set.proofs.Evident.{on_commit_evident, on_evident_at, on_evident_less}
 use Rattle.index_core.specs.Sessions.{AreTraced, Guards, IsTraced, IsUnchanged, SessionData, Trusts}
-use Rattle.index_core.specs.Whole.{Adds, DoesWhole, HasNewCanonical, IsNewSegment, Spot, with_points}
+use Rattle.index_core.specs.Light.{KeepsLevels}
+use Rattle.index_core.specs.Steps.{FaultKeeps, KeepsUndone}
+use Rattle.index_core.specs.Whole.{Adds, DoesWhole, HasNewCanonical, IsNewSegment, Spot, with_point, with_points}
 use Rattle.index_core.proofs.Answering.{cause_then, fault_to, memory_cause, no_cause}
 use Rattle.csv_load.specs.Loading.{points_of, records_of}
 use Rattle.csv_load.specs.declared.CsvFault.{CsvFault}
@@ -34,6 +36,7 @@ use Rattle.load_points.specs.Loads.{HasDims, IsLoading, Loads, Place, StartsFrom
 use Rattle.load_points.proofs.Counted.{added_is, done_answer, full_is, loaded_fault, loaded_points, matched_is, matched_not, rest_done}
 use Rattle.index_core.proofs.Bringing.{brings_then}
 use Rattle.index_core.proofs.Listed.{attached_listed, new_canonical}
+use Rattle.index_core.proofs.Undone.{begins_none, fault_kept, kept_equal, levels_after, undone_after}
 use Rattle.index_core.proofs.Wholes.{IsCommitted, does_fault}
 
 abbrev Starting : Type 1
@@ -44,11 +47,13 @@ Starting = State → Type 0
 -- a fault of a call after which what was stored, or what the answer leaves, is
 pub loads_fault : {T : Type 0} (told trusts : Type 0) (Starts : Starting) (answer : State → Answer) (old new : Place) (fault : PageFault) (r : Result Bool PageFault) → r ≡ Err fault
     → (told → (stored : State) → Starts stored → IsStored new.files stored ⊎ IsStored new.files (answer stored).state) → (told → (stored : State) → Starts stored → NotDamaged {T = T} (Err fault))
-    → HasPageCause {T = T} old.faults new.faults (Err fault) → OnDamage {T = T} (Err fault) (IsEvident (told × trusts) new.files) → Loads told trusts Starts answer old new r
-loads_fault {T = T} told trusts Starts answer old new fault r is stored whole cause evident = subst (Loads told trusts Starts answer old new) (sym is) (record {
+    → HasPageCause {T = T} old.faults new.faults (Err fault) → OnDamage {T = T} (Err fault) (IsEvident (told × trusts) new.files) → (told → trusts → FaultKeeps old.files new.files fault) → Loads told trusts Starts answer old new r
+loads_fault {T = T} told trusts Starts answer old new fault r is stored whole cause evident undone = subst (Loads told trusts Starts answer old new) (sym is) (record {
   does = λ t state h. does_fault new.files state (answer state) old.text new.text fault (other fault (whole t state h)) (stored t state h);
   unchanged = λ t. tt;
   canon = λ t state h. tt;
+  levels = λ t state h. tt;
+  undone = undone;
   cause = fault_to old.faults new.faults fault cause;
   evident = evident;
 })
@@ -63,7 +68,7 @@ pub loads_no_memory : (told trusts : Type 0) (Starts : Starting) (answer : State
     → ((stored : State) → Starts stored → IsStored files stored)
     → Loads told trusts Starts answer (record { files = files; faults = faults; text = before }) (record { files = files; faults = faults; text = after }) r
 loads_no_memory told trusts Starts answer files faults before after r is keeps =
-    loads_fault {T = Bool} told trusts Starts answer _ _ page.Memory r is (λ t state h. inl (keeps state h)) (λ t state h. tt) (memory_cause faults faults (omega arith)) tt
+    loads_fault {T = Bool} told trusts Starts answer _ _ page.Memory r is (λ t state h. inl (keeps state h)) (λ t state h. tt) (memory_cause faults faults (omega arith)) tt (λ t h. inl (kept_itself files))
 
 -- ---- refusals
 
@@ -74,6 +79,8 @@ loads_refused told trusts Starts answer files faults before after cause grew kee
   does = λ t state h. subst (λ (a : Answer). DoesWhole files state a before after (Ok true)) (sym (is state h)) (grew, refl, keeps state h);
   unchanged = λ t e. refl;
   canon = λ t state h c says l inside apart head has. absurd (old_is_new files c says l inside apart);
+  levels = λ t state h. inl refl;
+  undone = λ t h. tt;
   cause = no_cause faults true;
   evident = tt;
 }
@@ -90,6 +97,8 @@ loads_as told trusted trusts From Starts other answer old new r more starts same
   does = λ t state h. subst (λ (a : Answer). DoesWhole new.files state a old.text new.text r) (sym (same state h)) (loads.does t state (starts state h));
   unchanged = loads.unchanged;
   canon = λ t state h. loads.canon t state (starts state h);
+  levels = λ t state h. loads.levels t state (starts state h);
+  undone = λ t h. loads.undone t (more h);
   cause = loads.cause;
   evident = on_evident_less (told × trusts) (told × trusted) new.files r (λ h. (h.0, more h.1)) loads.evident;
 }
@@ -100,6 +109,8 @@ loads_told told trusts Starts answer old new r loads = record {
   does = λ t. loads.does tt;
   unchanged = λ t. loads.unchanged tt;
   canon = λ t. loads.canon tt;
+  levels = λ t. loads.levels tt;
+  undone = λ t h. loads.undone tt h;
   cause = loads.cause;
   evident = on_evident_less (Unit {0} × trusts) (told × trusts) new.files r (λ h. (tt, h.1)) loads.evident;
 }
@@ -112,6 +123,8 @@ loads_after told trusted trusts From Starts answer old middle new x r same text 
   does = λ t state h. subst (λ (bytes : List ℕ). DoesWhole new.files state (answer state) bytes new.text r) text (loads.does t state (starts t state h));
   unchanged = λ t. subst (λ (f : Files). IfOk r (λ refused. refused ≡ true → new.files ≡ f)) (same t) (loads.unchanged t);
   canon = λ t state h. subst (λ (f : Files). OnOk r (HasNewCanonical f new.files)) (same t) (loads.canon t state (starts t state h));
+  levels = λ t state h. subst (λ (f : Files). OnOk r (KeepsLevels f new.files)) (same t) (loads.levels t state (starts t state h));
+  undone = λ t h. subst (λ (f : Files). KeepsUndone f new.files r) (same t) (loads.undone t (more t h));
   cause = cause_then old.faults middle.faults new.faults r cause.fine loads.cause;
   evident = on_evident_less (told × trusts) (told × trusted) new.files r (λ h. (h.0, more h.0 h.1)) loads.evident;
 }
@@ -163,6 +176,11 @@ loading_rests D files s (Some i) l = ap at_rest (sym (is_some _ _ l.is) ∙ l.ke
 
 -- ---- all points are added
 
+-- points begin no merge
+points_begun : (i : Index) (points : List (List ℤ)) → (with_points i points).begun ≡ i.begun
+points_begun i [] = refl
+points_begun i (p ∷ ps) = points_begun (with_point i p) ps
+
 -- where not all fit
 pub loading_full : (D : ℕ) (told trusts : Type 0) (files : Files) (s : SessionData) (faults : ℕ) (points : List (List ℤ)) (before after : List ℕ) → after ≡ before ++ ended full_text → 2 ^ 24 + 1 ≤ s.set.given + length points
     → Loads told trusts (IsLoading D files s) (λ stored. matched D stored points) (record { files = files; faults = faults; text = before }) (record { files = files; faults = faults; text = after }) (Ok true)
@@ -182,7 +200,7 @@ pub adding_stopped : {T : Type 0} (D : ℕ) (told : Type 0) (answer : State → 
     → Loads told (Trusts D a.files a.session) (IsLoading D a.files a.session) answer (record { files = a.files; faults = a.faults; text = before }) (record { files = b.files; faults = b.faults; text = after }) r
 adding_stopped {T = T} D told answer points a b before after fault r is adds = loads_fault told (Trusts D a.files a.session) (IsLoading D a.files a.session) answer _ _ fault r is
     (λ t stored l. inl (stored_still a.files b.files stored (adds.kept t l.guards) l.keeps))
-    (λ t stored l. adds.whole t l.index l.seen) adds.cause adds.evident
+    (λ t stored l. adds.whole t l.index l.seen) adds.cause adds.evident (λ t h. fault_kept a.files b.files (adds.kept t h.guards) fault)
 
 -- a fault of the commit after them: what was stored is, or all of it
 pub commit_stopped : {T U : Type 0} (D : ℕ) (told : Type 0) (points : List (List ℤ)) (a b c : Spot) (x : U) (before after : List ℕ) (fault : PageFault) (r : Result Bool PageFault) → r ≡ Err fault
@@ -199,6 +217,7 @@ commit_stopped {T = T} D told points a b c x before after fault r is fits adds c
     (cause_then a.faults b.faults c.faults (Err fault) adds.cause.fine commits.cause)
     (on_evident_less {X = T} (told × Trusts D b.files b.session) (told × Trusts D a.files a.session) c.files (Err fault)
     (λ h. (h.0, record { guards = adds.guards h.0 h.1.guards; faithful = adds.faithful h.0 h.1.faithful; traced = adds.traced h.0 h.1 })) evident)
+    (λ t h. undone_after {T = T} a.files b.files c.files (Err fault) (adds.kept t h.guards) (commits.undone t (adds.guards t h.guards)))
 
 -- all came, and are stored
 pub all_loaded : {T U : Type 0} (D : ℕ) (told : Type 0) (points : List (List ℤ)) (a b c : Spot) (x : U) (y : T) (next : ℕ) (before after : List ℕ)
@@ -221,6 +240,10 @@ all_loaded D told points a b c x y next before after fits first grew adds commit
       new_canonical D a.files c.files a.session.set c.session (with_points l.index points) l.listed
       (brings_then D a.files b.files c.files a.session.set.parts b.session.set.parts c.session.set.parts (adds.canon t) (commits.brings t)) (commits.seen t (with_points l.index points) at) (commits.guards t guards)
       (commits.says t guards) commits.unchanged;
+  levels = λ t stored l.
+      let begun = begins_none D b.files b.session.set (with_points l.index points) (adds.seen t l.index l.seen) (points_begun l.index points ∙ ap (λ (i : Index). i.begun) (sym (loading_rests D a.files a.session stored l))) in
+      levels_after a.files b.files c.files (adds.kept t l.guards) (commits.few t (adds.guards t l.guards) begun);
+  undone = λ t h. tt;
   cause = let one = adds.cause.fine in let two = commits.cause.fine in let late = adds.cause.later in let more = commits.cause.later in
       record { later = omega arith; fine = two ∙ one; failed = λ e. absurd cc };
   evident = tt;
@@ -247,6 +270,7 @@ pub unread_commit : {T : Type 0} (told : Type 0) (answer : State → Answer) (ol
 unread_commit {T = T} told answer old new fault r is same whole cause damage shown =
     loads_fault {T = T} told (Unit {0}) (IsStored old.files) answer old new fault r is (λ t stored h. inl (subst (λ (f : Files). IsStored f stored) (sym (same t)) h)) whole cause
     (on_evident_at {X = T} IsTwice told (told × Unit {0}) old.files new.files (Err fault) (λ h. h.0) (λ h. same h.0) (on_commit_evident {X = T} told old.files (Err fault) damage shown))
+    (λ t h. fault_kept old.files new.files (kept_equal old.files new.files (same t)) fault)
 
 -- a damage of files that are the same
 pub evident_still : (told trusts : Type 0) (old new : Files) (fault : PageFault) → (told → new ≡ old) → FaultShows (IsEvident (told × trusts) old) fault → FaultShows (IsEvident (told × trusts) new) fault

@@ -14,6 +14,8 @@ use Rattle.segment_view.specs.Parts.{Part}
 use Rattle.segment_set.specs.Seen.{Sees}
 use Rattle.segment_set.specs.Evidence.{IsEvident}
 use Rattle.index_core.specs.Sessions.{SessionData, Guards}
+use Rattle.index_core.specs.Light.{KeepsLevels}
+use Rattle.index_core.specs.Steps.{KeepsUndone}
 use Rattle.index_core.specs.Whole.{DoesWhole, HasNewCanonical, IsNewSegment}
 use Rattle.load_points.specs.Loaded.{opened}
 
@@ -23,12 +25,14 @@ pub record Place : Type 0 where
   pub faults : ℕ
   pub text : List ℕ
 
--- From the one place to the other a load that starts so is answered so. A refused one changes no file, each segment that is listed anew is canonical, and a damage
--- is shown by what it carries, and is true of files that are trusted.
+-- From the one place to the other a load that starts so is answered so. A refused one changes no file, each segment that is listed anew is canonical, few of each level
+-- are listed, what isn't done loses nothing that is kept by files that are trusted, and a damage is shown by what it carries, and is true of such files.
 pub record Loads (told trusts : Type 0) (Starts : State → Type 0) (answer : State → Answer) (old new : Place) (result : Result Bool PageFault) : Type 0 where
   pub does : told → (stored : State) → Starts stored → DoesWhole new.files stored (answer stored) old.text new.text result
   pub unchanged : told → IfOk result (λ refused. refused ≡ true → new.files ≡ old.files)
   pub canon : told → (stored : State) → Starts stored → OnOk result (HasNewCanonical old.files new.files)
+  pub levels : told → (stored : State) → Starts stored → OnOk result (KeepsLevels old.files new.files)
+  pub undone : told → trusts → KeepsUndone old.files new.files result
   pub cause : HasPageCause old.faults new.faults result
   pub evident : OnDamage result (IsEvident (told × trusts) new.files)
 

@@ -12,6 +12,8 @@ ghost use Rattle.index_model.specs.State.{State};
 ghost use Rattle.stored_index.specs.Stored.{IsStored};
 ghost use Rattle.segment_set.specs.Evidence.{IsEvident};
 ghost use Rattle.index_core.specs.Sessions.{Trusts};
+ghost use Rattle.index_core.specs.Light.{KeepsLevels};
+ghost use Rattle.index_core.specs.Steps.{KeepsUndone};
 ghost use Rattle.index_core.specs.Whole.{DoesWhole, HasNewCanonical};
 ghost use Rattle.load_points.specs.Loaded.{loaded, loaded_by, matched};
 ghost use Rattle.load_points.specs.Loads.{HasDims, IsLoading, Loads, StartsFrom, StartsNone};
@@ -48,6 +50,9 @@ pub fn load<R: Threads + Sync, F: Folder, G: Gate>(
         → DoesWhole (F.files folder.new) state (loaded state input.now columns.now) text.old.items text.new.items result }
     ensures unchanged { IsTrue F.told → IfOk result (λ refused. refused ≡ true → F.files folder.new ≡ F.files folder.old) }
     ensures canon { IsTrue F.told → (state : State) → IsStored (F.files folder.old) state → OnOk result (HasNewCanonical (F.files folder.old) (F.files folder.new)) }
+    ensures levels { IsTrue F.told → (state : State) → IsStored (F.files folder.old) state → OnOk result (KeepsLevels (F.files folder.old) (F.files folder.new)) }
+    // whatever the folder holds
+    ensures undone { IsTrue F.told → KeepsUndone (F.files folder.old) (F.files folder.new) result }
     ensures cause { HasPageCause (F.faults folder.old) (F.faults folder.new) result }
     ensures evident { OnDamage result (IsEvident (IsTrue F.told) (F.files folder.new)) }
 {

@@ -1,6 +1,7 @@
 -- The session does what the command asks, and the answer says so.
 use Rattle.std.proofs.Common.{IsTrue, Err, Ok, false, refl}
 use Rattle.script_lang.specs.Seen.{request_of}
+use Rattle.bkd_top.proofs.Calling.{kept_quiet}
 use Rattle.bkd_top.proofs.Answered.{done_replies, refused_replies, fault_replies}
 use Rattle.bkd_top.proofs.Lined.{page_done, page_then, page_same}
 use Rattle.index_model.specs.declared.session.Applied.{Applied}
@@ -96,3 +97,12 @@ returns-in-Err-clause-trusts g c = λ told h. record { guards = c.in-Err.ensures
 
 pub returns-in-Err-clause-evident : goal.returns-in-Err-clause-evident
 returns-in-Err-clause-evident g c = c.in-Err.ensures.evident
+
+pub returns-in-Ok-Done-clause-kept : goal.returns-in-Ok-Done-clause-kept
+returns-in-Ok-Done-clause-kept g c = λ told h quiet. kept_quiet _ _ _ _ (Ok c.in-Ok-Done.field-0) quiet (c.in-Ok-Done.ensures.kept told h.guards)
+
+pub returns-in-Ok-Refused-clause-kept : goal.returns-in-Ok-Refused-clause-kept
+returns-in-Ok-Refused-clause-kept g c = λ told h quiet. kept_quiet _ _ _ _ (Ok c.in-Ok-Refused.field-0) quiet (c.in-Ok-Refused.ensures.kept told h.guards)
+
+pub returns-in-Err-clause-kept : goal.returns-in-Err-clause-kept
+returns-in-Err-clause-kept g c = λ told h quiet. kept_quiet {T = Applied} _ _ _ _ (Err c.in-Err.fault) quiet (c.in-Err.ensures.kept told h.guards)

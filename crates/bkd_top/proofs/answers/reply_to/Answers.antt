@@ -1,8 +1,10 @@
 -- A line is done where it can be read, and refused where not.
-use Rattle.std.proofs.Common.{◌≢◌, inl, rules}
+use Rattle.std.proofs.Common.{◌≢◌, ◌∙◌, ap, sym, inl, rules}
 use Rattle.index_core.proofs.Sizes.{session_fits}
 use Rattle.script_lang.specs.Seen.{request_of}
 use Rattle.script_lang.specs.declared.faults.LineFault.TheVariants as fault
+use Rattle.stored_index.proofs.KeptFiles.{kept_itself}
+use Rattle.bkd_top.specs.Costs.{asks_commit}
 use Rattle.bkd_top.proofs.Answered.{unread_replies, fault_read}
 use Rattle.bkd_top.proofs.Lined.{page_memory, page_still}
 use Rattle.bkd_top.proofs.Passing.{passes_none, passes_unread}
@@ -56,3 +58,12 @@ returns-in-Err-clause-trusts g c = λ told h. h
 
 pub returns-in-Err-clause-evident : goal.returns-in-Err-clause-evident
 returns-in-Err-clause-evident g c = memory_shows _ c.refuse_line.result c.refuse_line.ensures.memory
+
+pub returns-in-Ok-clause-kept : goal.returns-in-Ok-clause-kept
+returns-in-Ok-clause-kept g c = λ told h quiet. c.obey.ensures.kept told h (ap asks_commit (sym c.in-Ok.ensures.reads) ∙ quiet)
+
+pub returns-in-Err-Memory-clause-kept : goal.returns-in-Err-Memory-clause-kept
+returns-in-Err-Memory-clause-kept g c = λ told h quiet. kept_itself _
+
+pub returns-in-Err-clause-kept : goal.returns-in-Err-clause-kept
+returns-in-Err-clause-kept g c = λ told h quiet. kept_itself _

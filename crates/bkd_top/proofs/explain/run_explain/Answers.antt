@@ -1,5 +1,5 @@
 -- The lines that were read are the source's text, and the status says how they ended.
-use Rattle.std.proofs.Common.{refl, sym, subst, ◌∙◌}
+use Rattle.std.proofs.Common.{refl, sym, subst, ◌∙◌, ◌≤◌, ◌^◌, ℕ, List, length}
 use Rattle.bkd_top.specs.Runs.{DoesNothing, IsDamaged}
 use Rattle.bkd_top.proofs.Ending.{does_lines, folder_stopped, sink_stopped}
 use Rattle.bkd_top.proofs.Scoped.{scope_of}
@@ -23,22 +23,6 @@ returns-in-Ok-clause-reads g c = λ source told. rw (c.as_slice.ensures.value �
 pub returns-in-Ok-clause-untouched : goal.returns-in-Ok-clause-untouched
 returns-in-Ok-clause-untouched g c = λ d. absurd (does_lines c.explain_lines.result (subst DoesNothing c.status_of.ensures d))
 
-pub returns-in-Ok-clause-damaged : goal.returns-in-Ok-clause-damaged
-returns-in-Ok-clause-damaged g c = λ told state h d.
-    let scope = scope_of _ state h in told_undamaged _ scope.0 _ _ _ _ _ c.explain_lines.result (c.explain_lines.ensures.ends told scope.0 scope.1) (subst IsDamaged c.status_of.ensures d)
-
-pub returns-in-Ok-clause-source_fault : goal.returns-in-Ok-clause-source_fault
-returns-in-Ok-clause-source_fault g c = λ e. absurd (does_lines c.explain_lines.result (subst DoesNothing (sym (sym c.status_of.ensures ∙ e)) tt))
-
-pub returns-in-Ok-clause-too_large : goal.returns-in-Ok-clause-too_large
-returns-in-Ok-clause-too_large g c = λ told e. absurd (does_lines c.explain_lines.result (subst DoesNothing (sym (sym c.status_of.ensures ∙ e)) tt))
-
-pub returns-in-Ok-clause-folder_fault : goal.returns-in-Ok-clause-folder_fault
-returns-in-Ok-clause-folder_fault g c = λ e. c.explain_lines.ensures.cause.folder (folder_stopped c.explain_lines.result (sym c.status_of.ensures ∙ e))
-
-pub returns-in-Ok-clause-sink_fault : goal.returns-in-Ok-clause-sink_fault
-returns-in-Ok-clause-sink_fault g c = λ e. c.explain_lines.ensures.cause.sink (sink_stopped c.explain_lines.result (sym c.status_of.ensures ∙ e))
-
 pub returns-in-Err-Failed-clause-ends : goal.returns-in-Err-Failed-clause-ends
 returns-in-Err-Failed-clause-ends g c = λ source told s scope sink. refl
 
@@ -48,5 +32,23 @@ returns-in-Err-TooLarge-clause-ends g c = λ source told s scope sink. refl
 pub returns-in-Err-Memory-clause-ends : goal.returns-in-Err-Memory-clause-ends
 returns-in-Err-Memory-clause-ends g c = λ source told s scope. none_told _ s _ _ _ _ refl
 
-pub returns-in-Ok-clause-evident : goal.returns-in-Ok-clause-evident
-returns-in-Ok-clause-evident g c = rw c.status_of.ensures (status_shows _ c.explain_lines.result c.explain_lines.ensures.evident)
+pub returns-in-Ok-clause-input : goal.returns-in-Ok-clause-input
+returns-in-Ok-clause-input g c = λ told. record {
+  too_large = λ e. absurd (does_lines c.explain_lines.result (subst DoesNothing (sym (sym c.status_of.ensures ∙ e)) tt));
+  fits = λ _. subst (λ (xs : List ℕ). length xs ≤ 2 ^ 29) (c.in-Ok.ensures.whole told) (subst (λ (n : ℕ). n ≤ 2 ^ 29) c.in-Ok.lines.ok.0 c.in-Ok.ensures.fits);
+  whole = λ _. c.in-Ok.ensures.end told;
+}
+
+pub returns-in-Ok-clause-damage : goal.returns-in-Ok-clause-damage
+returns-in-Ok-clause-damage g c = record {
+  never = λ told state h d.
+    let scope = scope_of _ state h in told_undamaged _ scope.0 _ _ _ _ _ c.explain_lines.result (c.explain_lines.ensures.ends told scope.0 scope.1) (subst IsDamaged c.status_of.ensures d);
+  evident = rw c.status_of.ensures (status_shows _ c.explain_lines.result c.explain_lines.ensures.evident);
+}
+
+pub returns-in-Ok-clause-causes : goal.returns-in-Ok-clause-causes
+returns-in-Ok-clause-causes g c = record {
+  source = λ e. absurd (does_lines c.explain_lines.result (subst DoesNothing (sym (sym c.status_of.ensures ∙ e)) tt));
+  folder = λ e. c.explain_lines.ensures.cause.folder (folder_stopped c.explain_lines.result (sym c.status_of.ensures ∙ e));
+  sink = λ e. c.explain_lines.ensures.cause.sink (sink_stopped c.explain_lines.result (sym c.status_of.ensures ∙ e));
+}

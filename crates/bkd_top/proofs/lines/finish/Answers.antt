@@ -1,5 +1,6 @@
 -- What the lines left is committed, or the run stops.
-use Rattle.std.proofs.Common.{refl}
+use Rattle.std.proofs.Common.{ℕ, refl}
+use Rattle.bkd_top.proofs.Calling.{fault_stops}
 use Rattle.bkd_top.proofs.Lined.{stops_end, ok_cause, fault_cause}
 use Rattle.bkd_top.proofs.Leading.{closes_by, closes_fails}
 use Rattle.bkd_top.proofs.Shown.{fault_at, fault_shows}
@@ -49,3 +50,9 @@ returns-in-Err-clause-closes g c = λ told i stored h.
 pub returns-in-Err-clause-evident : goal.returns-in-Err-clause-evident
 returns-in-Err-clause-evident g c =
     fault_shows _ c.in-Err.fault (fault_at _ _ _ _ c.in-Err.fault (λ p. p) (λ p. refl) c.in-Err.ensures.evident) c.stopped.result c.stopped.ensures
+
+pub returns-in-Ok-clause-undone : goal.returns-in-Ok-clause-undone
+returns-in-Ok-clause-undone g c = λ told h. tt
+
+pub returns-in-Err-clause-undone : goal.returns-in-Err-clause-undone
+returns-in-Err-clause-undone g c = λ told h. rw c.stopped.ensures (fault_stops ℕ (g.F.Pages.files c.args.folder.now) (g.F.Pages.files c.commit.new.folder) c.in-Err.fault (c.in-Err.ensures.undone told h.guards))

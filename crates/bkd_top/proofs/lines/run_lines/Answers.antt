@@ -1,5 +1,8 @@
 -- The lines are done on what the folder stores: no index, or the one whose commit was read.
-use Rattle.std.proofs.Common.{IsTrue, refl, arith, Option, Err, ap, ◌∙◌}
+use Rattle.std.proofs.Common.{ℕ, IsTrue, refl, arith, Option, Err, ap, subst, ◌∙◌}
+use Rattle.index_core.proofs.Undone.{fault_kept, kept_equal}
+use Rattle.bkd_top.specs.Calls.{StopKeeps}
+use Rattle.bkd_top.proofs.Calling.{fault_stops, no_commit, quiet_for}
 use Rattle.outer_io.specs.declared.file_name.FileName.TheVariants.{Commit}
 use Rattle.outer_io.specs.Files.{Files}
 use Rattle.commit_list.specs.Commits.{CommitData}
@@ -62,3 +65,16 @@ returns-in-Err-clause-evident g c =
     fault_shows _ c.in-Err.fault
     (fault_at _ _ _ _ c.in-Err.fault (λ told. told) c.in-Err.ensures.files (on_commit_evident {X = Option CommitData} (IsTrue g.F.Pages.told) (g.F.Pages.files c.args.folder.now) (Err c.in-Err.fault) c.in-Err.ensures.damage c.in-Err.ensures.shown))
     c.stopped.result c.stopped.ensures
+
+pub returns-in-Ok-None-clause-undone : goal.returns-in-Ok-None-clause-undone
+returns-in-Ok-None-clause-undone g c = λ told listed says quiet. absurd (no_commit (g.F.Pages.files c.args.folder.now) listed says (rw c.in-Ok-None.field-0-is at (c.in-Ok-None.ensures.found told)))
+
+pub returns-in-Ok-Some-clause-undone : goal.returns-in-Ok-Some-clause-undone
+returns-in-Ok-Some-clause-undone g c = λ told listed says quiet.
+    let found = rw c.in-Ok-Some.field-0-is at (c.in-Ok-Some.ensures.found told) in
+    subst (λ (f : Files). StopKeeps f (g.F.Pages.files c.run_from.new.folder) c.run_from.result) (c.in-Ok-Some.ensures.files told)
+    (c.run_from.ensures.undone told (says_after _ _ c.in-Ok-Some.commit (c.in-Ok-Some.ensures.files told) found)
+    (quiet_for (g.F.Pages.files c.args.folder.now) listed c.in-Ok-Some.commit _ says found quiet))
+
+pub returns-in-Err-clause-undone : goal.returns-in-Err-clause-undone
+returns-in-Err-clause-undone g c = λ told listed says quiet. rw c.stopped.ensures (fault_stops ℕ (g.F.Pages.files c.args.folder.now) (g.F.Pages.files c.read_commit.new.folder) c.in-Err.fault (fault_kept _ _ (kept_equal _ _ (c.in-Err.ensures.files told)) c.in-Err.fault))

@@ -1,8 +1,11 @@
 -- Each line goes on from those before it; after the last one what they leave is committed.
-use Rattle.std.proofs.Common.{◌≡◌, Bool, ℕ, length, arith, refl, IsTrue, Err}
+use Rattle.std.proofs.Common.{◌≡◌, Bool, ℕ, length, arith, refl, subst, IsTrue, Err}
 use Rattle.std.proofs.lemmas.Bool.Decides.{nat_tests}
 use Rattle.index_core.specs.Sessions.{Trusts}
 use Rattle.index_core.proofs.Sizes.{session_fits}
+use Rattle.stored_index.proofs.KeptFiles.{kept_after, kept_itself}
+use Rattle.bkd_top.specs.Costs.{NoneCommits}
+use Rattle.bkd_top.proofs.Calling.{stop_after, stop_kept}
 use Rattle.bkd_top.proofs.Ending.{cause_from}
 use Rattle.bkd_top.proofs.Going.{no_lines, refused_more, at_most_one}
 use Rattle.bkd_top.proofs.Leading.{led_ends, led_first, led_on, led_stops}
@@ -20,6 +23,7 @@ pub lines-init : goal.lines-init
 lines-init g c = record {
   going = λ told i stored h. (goes_first g.row.D (g.F.Pages.files c.args.folder.now) c.args.session.now i stored _ _ _ _ h, led_first g.row.D _ i _ _);
   trusts = λ told h. h;
+  kept = λ told h quiet. (kept_itself _, quiet);
   room = c.requires.lines;
   counted = c.requires.refused;
   folder_later = omega arith;
@@ -36,6 +40,10 @@ lines-preserved g c = record {
             answered.0.index answered.0.state,
       );
   trusts = λ told h. c.in-Ok.ensures.trusts told (c.lines.invariant.trusts told h);
+  kept = λ told h quiet.
+      let so_far = c.lines.invariant.kept told h quiet in
+      let next = subst (NoneCommits g.row.D) c.first_line.ensures.line so_far.1 in
+      (kept_after _ _ _ so_far.0 (c.in-Ok.ensures.kept told (c.lines.invariant.trusts told h) next.0), next.1);
   room = omega (arith, c.lines.invariant.room, c.first_line.ensures.shorter);
   counted = omega (arith, c.lines.invariant.counted, at_most_one _ _ c.from-refused.ensures);
   folder_later = omega (arith, c.lines.invariant.folder_later, c.answer_line.ensures.cause.folder_later);
@@ -80,3 +88,12 @@ pub returns-clause-evident : goal.returns-clause-evident
 returns-clause-evident g c =
     stop_less (IsTrue g.F.Pages.told × Trusts g.row.D (g.F.Pages.files c.lines.folder) c.lines.session) (IsTrue g.F.Pages.told × Trusts g.row.D (g.F.Pages.files c.args.folder.now) c.args.session.now)
     (g.F.Pages.files c.finish.new.folder) c.finish.result (λ p. (p.0, c.lines.invariant.trusts p.0 p.1)) c.finish.ensures.evident
+
+pub returns-in-Err-clause-undone : goal.returns-in-Err-clause-undone
+returns-in-Err-clause-undone g c = λ told h quiet.
+    let so_far = c.lines.invariant.kept told h quiet in
+    let next = subst (NoneCommits g.row.D) c.first_line.ensures.line so_far.1 in
+    stop_kept ℕ _ _ c.in-Err.stop (kept_after _ _ _ so_far.0 (c.in-Err.ensures.kept told (c.lines.invariant.trusts told h) next.0))
+
+pub returns-clause-undone : goal.returns-clause-undone
+returns-clause-undone g c = λ told h quiet. stop_after _ _ _ c.finish.result (c.lines.invariant.kept told h quiet).0 (c.finish.ensures.undone told (c.lines.invariant.trusts told h))

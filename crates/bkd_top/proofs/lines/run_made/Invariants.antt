@@ -2,7 +2,9 @@ use Rattle.std.proofs.Common.{◌≤◌, ◌<◌, ◌+◌, ◌^◌, length, IsTr
 use Rattle.script_lang.specs.Lines.{lines_of}
 use Rattle.index_core.specs.Sessions.{Trusts}
 use Rattle.index_model.specs.State.{Index, State}
+use Rattle.stored_index.specs.Kept.{SameKept}
 use Rattle.bkd_top.specs.Answers.{Stands}
+use Rattle.bkd_top.specs.Costs.{NoneCommits}
 use Rattle.bkd_top.proofs.Leading.{Led}
 use Rattle.bkd_top.proofs.Lined.{Goes, place_on}
 use Rattle.bkd_top.proofs.lines.run_made.Given as goal
@@ -16,6 +18,8 @@ invariant-lines g l = record {
       × Led g.row.D l.initial.line i (lines_of l.initial.rest) (record { files = g.F.Pages.files l.initial.folder; session = l.initial.session; reads = g.F.Pages.reads l.initial.folder })
       l.line so_far.index (lines_of l.rest) (record { files = g.F.Pages.files l.folder; session = l.session; reads = g.F.Pages.reads l.folder });
   trusts : IsTrue g.F.Pages.told → Trusts g.row.D (g.F.Pages.files l.initial.folder) l.initial.session → Trusts g.row.D (g.F.Pages.files l.folder) l.session;
+  kept : IsTrue g.F.Pages.told → Trusts g.row.D (g.F.Pages.files l.initial.folder) l.initial.session → NoneCommits g.row.D (lines_of l.initial.rest)
+      → SameKept (g.F.Pages.files l.initial.folder) (g.F.Pages.files l.folder) × NoneCommits g.row.D (lines_of l.rest);
   room : l.line + length l.rest < 2 ^ 64;
   counted : l.refused ≤ l.line;
   folder_later : g.F.Pages.faults l.initial.folder ≤ g.F.Pages.faults l.folder;

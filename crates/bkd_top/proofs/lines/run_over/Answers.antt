@@ -1,5 +1,10 @@
 -- The lines are done in a session on the index, or none is opened.
-use Rattle.std.proofs.Common.{IsTrue, arith, refl}
+use Rattle.std.proofs.Common.{ℕ, IsTrue, arith, refl, subst}
+use Rattle.outer_io.specs.Files.{Files}
+use Rattle.index_core.proofs.Undone.{fault_kept, kept_equal}
+use Rattle.bkd_top.specs.Calls.{StopKeeps}
+use Rattle.bkd_top.specs.Costs.{NoneCommits}
+use Rattle.bkd_top.proofs.Calling.{fault_stops}
 use Rattle.script_lang.specs.Lines.{lines_of}
 use Rattle.index_core.proofs.Sizes.{session_fits}
 use Rattle.bkd_top.proofs.Ending.{cause_from}
@@ -42,3 +47,11 @@ returns-in-Ok-clause-evident g c = stop_less _ _ _ c.run_made.result (λ p. (p.0
 
 pub returns-in-Err-clause-evident : goal.returns-in-Err-clause-evident
 returns-in-Err-clause-evident g c = fault_shows _ c.in-Err.fault c.in-Err.ensures.evident c.stopped.result c.stopped.ensures
+
+pub returns-in-Ok-clause-undone : goal.returns-in-Ok-clause-undone
+returns-in-Ok-clause-undone g c = λ told there quiet.
+    subst (λ (f : Files). StopKeeps f (g.F.Pages.files c.run_made.new.folder) c.run_made.result) (c.in-Ok.ensures.files told)
+    (c.run_made.ensures.undone told (c.in-Ok.ensures.trusts told there) (subst (λ (n : ℕ). NoneCommits n (lines_of c.args.script.rest.now)) c.requires.dims quiet))
+
+pub returns-in-Err-clause-undone : goal.returns-in-Err-clause-undone
+returns-in-Err-clause-undone g c = λ told there quiet. rw c.stopped.ensures (fault_stops ℕ (g.F.Pages.files c.args.folder.now) (g.F.Pages.files c.open.new.folder) c.in-Err.fault (fault_kept _ _ (kept_equal _ _ (c.in-Err.ensures.files told)) c.in-Err.fault))

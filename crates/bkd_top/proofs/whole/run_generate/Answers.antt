@@ -10,11 +10,17 @@ returns-clause-ends g c = λ told state h input. c.tell.ensures.ends _ _ _ (does
 pub returns-clause-canon : goal.returns-clause-canon
 returns-clause-canon g c = λ told state h answer. of_done c.generate-done.result (c.tell.ensures.answer answer) (c.generate-done.ensures.canon told state h)
 
-pub returns-clause-damaged : goal.returns-clause-damaged
-returns-clause-damaged g c = λ told state h. c.tell.ensures.damaged (whole_undamaged (g.F.Pages.files c.generate-done.new.folder) state (generated state c.args.docs c.args.seed) c.new-text.result.items c.generate-done.new.text.items c.generate-done.result (c.generate-done.ensures.generates told state h))
+pub returns-clause-damage : goal.returns-clause-damage
+returns-clause-damage g c = record {
+  never = λ told state h. c.tell.ensures.damaged (whole_undamaged (g.F.Pages.files c.generate-done.new.folder) state (generated state c.args.docs c.args.seed) c.new-text.result.items c.generate-done.new.text.items c.generate-done.result (c.generate-done.ensures.generates told state h));
+  evident = c.tell.ensures.evident g.F.Pages.told (g.F.Pages.files c.generate-done.new.folder) c.generate-done.ensures.evident;
+}
 
 pub returns-clause-folder_fault : goal.returns-clause-folder_fault
 returns-clause-folder_fault g c = c.tell.ensures.folder_fault _ _ c.generate-done.ensures.cause
 
-pub returns-clause-evident : goal.returns-clause-evident
-returns-clause-evident g c = c.tell.ensures.evident g.F.Pages.told (g.F.Pages.files c.generate-done.new.folder) c.generate-done.ensures.evident
+pub returns-clause-whole : goal.returns-clause-whole
+returns-clause-whole g c = λ told. record {
+  levels = λ state h answer. of_done c.generate-done.result (c.tell.ensures.answer answer) (c.generate-done.ensures.levels told state h);
+  undone = c.tell.ensures.undone _ _ (c.generate-done.ensures.undone told);
+}

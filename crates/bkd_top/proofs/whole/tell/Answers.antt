@@ -4,6 +4,7 @@ use Rattle.segment_set.specs.Evidence.{IsEvident}
 use Rattle.bkd_top.specs.Commands.{IsAnswer}
 use Rattle.bkd_top.specs.Runs.{DoesNothing, IsDamaged}
 use Rattle.bkd_top.specs.Stops.{status_of}
+use Rattle.bkd_top.proofs.Calling.{fault_keeps, sent_keeps}
 use Rattle.bkd_top.proofs.Ending.{does_lines, folder_stopped, sink_stopped}
 use Rattle.bkd_top.proofs.Finished.{count_sent, fault_ends, fault_no_answer, fault_no_sink, fault_rose, fault_undamaged, sent_ends, sent_no_folder, sent_undamaged}
 use Rattle.bkd_top.proofs.Shown.{fault_status, sink_shows, status_shows}
@@ -53,3 +54,9 @@ returns-in-Ok-clause-evident g c = λ told files h.
 pub returns-in-Err-clause-evident : goal.returns-in-Err-clause-evident
 returns-in-Err-clause-evident g c = λ told files h.
     rw c.status_of-in-Err.ensures (rw c.stopped.ensures (fault_status (IsEvident (IsTrue told) files) c.in-Err.fault (rw c.in-Err.is at h)))
+
+pub returns-in-Ok-clause-undone : goal.returns-in-Ok-clause-undone
+returns-in-Ok-clause-undone g c = λ old new h. rw c.status_of.ensures (sent_keeps old new c.send.result c.send.ensures.cause)
+
+pub returns-in-Err-clause-undone : goal.returns-in-Err-clause-undone
+returns-in-Err-clause-undone g c = λ old new h. rw c.status_of-in-Err.ensures (rw c.stopped.ensures (fault_keeps old new c.in-Err.fault (rw c.in-Err.is at h)))

@@ -1,11 +1,14 @@
 -- What the folder's commit says decides whether an index is made.
-use Rattle.std.proofs.Common.{◌≡◌, Bool, true, None, Err, IsTrue, OnOk, refl, sym, ap, subst, ◌∙◌}
+use Rattle.std.proofs.Common.{◌≡◌, Bool, true, None, Err, IsTrue, OnOk, refl, sym, ap, subst, ◌∙◌, inl}
 use Rattle.std.proofs.lemmas.Result.{err_from_is_err_and}
 use Rattle.outer_io.specs.declared.file_name.FileName.TheVariants.{Commit}
 use Rattle.outer_io.specs.Files.{Files}
 use Rattle.page_cache.specs.declared.faults.PageFault.{PageFault}
 use Rattle.segment_set.proofs.Evident.{on_evident_less}
+use Rattle.index_core.specs.Light.{KeepsLevels}
+use Rattle.index_core.specs.Steps.{KeepsUndone}
 use Rattle.index_core.specs.Whole.{DoesWhole, HasNewCanonical}
+use Rattle.index_core.proofs.Undone.{fault_kept, kept_equal, undone_kept}
 use Rattle.index_core.proofs.Answering.{cause_then, done_cause, fault_to, memory_cause}
 use Rattle.index_core.proofs.Wholes.{state_undamaged}
 use Rattle.index_model.specs.State.{State}
@@ -71,3 +74,26 @@ returns-in_err-put_exists-in-Ok-Some-clause-generates g c = λ told state h.
     let p = err_from_is_err_and c.from_residual.result c.from_residual.ensures.1 in
     ends_untold (g.F.Pages.files c.read_commit.new.folder) state (generated state c.args.docs c.args.seed) c.args.text.now.items c.put_exists.new.text.items _ (p.1 ∙ ap (λ (e : PageFault). Err e) p.2)
     (subst (λ (f : Files). IsStored f state) (sym (c.in-Ok-Some.ensures.files told)) h)
+
+pub returns-in-Ok-Some-clause-levels : goal.returns-in-Ok-Some-clause-levels
+returns-in-Ok-Some-clause-levels g c = λ told state h. inl (ap (λ (f : Files). f Commit) (c.in-Ok-Some.ensures.files told))
+
+pub returns-in-Ok-None-clause-levels : goal.returns-in-Ok-None-clause-levels
+returns-in-Ok-None-clause-levels g c = λ told state h.
+    let same = c.in-Ok-None.ensures.files told in
+    subst (λ (f : Files). OnOk c.generate_first.result (KeepsLevels f (g.F.Pages.files c.generate_first.new.folder))) same
+    (c.generate_first.ensures.levels told (ap (λ (f : Files). f Commit) same ∙ rw c.in-Ok-None.field-0-is at (c.in-Ok-None.ensures.found told)))
+
+pub returns-in-Ok-None-clause-undone : goal.returns-in-Ok-None-clause-undone
+returns-in-Ok-None-clause-undone g c = λ told.
+    let same = c.in-Ok-None.ensures.files told in
+    subst (λ (f : Files). KeepsUndone f (g.F.Pages.files c.generate_first.new.folder) c.generate_first.result) same
+    (c.generate_first.ensures.undone told (ap (λ (f : Files). f Commit) same ∙ rw c.in-Ok-None.field-0-is at (c.in-Ok-None.ensures.found told)))
+
+pub returns-clause-undone : goal.returns-clause-undone
+returns-clause-undone g c = λ told. fault_kept (g.F.Pages.files c.args.folder.now) (g.F.Pages.files c.read_commit.new.folder) (kept_equal _ _ (c.in-Err.ensures.files told)) c.in-Err.fault
+
+pub returns-in_err-put_exists-in-Ok-Some-clause-undone : goal.returns-in_err-put_exists-in-Ok-Some-clause-undone
+returns-in_err-put_exists-in-Ok-Some-clause-undone g c = λ told.
+    let p = err_from_is_err_and c.from_residual.result c.from_residual.ensures.1 in
+    undone_kept (g.F.Pages.files c.args.folder.now) (g.F.Pages.files c.read_commit.new.folder) _ _ (p.1 ∙ ap (λ (e : PageFault). Err e) p.2) (kept_equal _ _ (c.in-Ok-Some.ensures.files told))

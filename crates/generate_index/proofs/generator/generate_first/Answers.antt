@@ -1,11 +1,14 @@
 -- A session is created and filled, and what it makes is said and committed.
-use Rattle.std.proofs.Common.{◌≡◌, Err, IsTrue, None, false, ap, ◌∙◌, lit<, sym, arith}
+use Rattle.std.proofs.Common.{◌≡◌, Bool, Err, IsTrue, None, false, refl, ap, ◌∙◌, lit<, sym, arith}
 use Rattle.std.proofs.lemmas.Result.{err_from_is_err_and}
 use Rattle.outer_io.specs.declared.file_name.FileName.TheVariants.{Commit}
 use Rattle.page_cache.specs.declared.faults.PageFault.{PageFault}
 use Rattle.index_core.specs.Sessions.{Trusts}
 use Rattle.index_core.proofs.Answering.{cause_then, fault_to, memory_cause}
+use Rattle.index_core.proofs.Undone.{begins_none, levels_after, undone_after, undone_kept}
+use Rattle.stored_index.proofs.KeptFiles.{kept_itself}
 use Rattle.drawn_points.specs.Generated.{generated}
+use Rattle.generate_index.specs.Generates.{drawn_index}
 use Rattle.generate_index.proofs.Ended.{cause_done, created, ends_early, ends_made, ends_uncommitted, ends_uncreated, ends_unsaid, fault_evident, made_canon, memory_evident}
 use Rattle.generate_index.proofs.Making.{created_trusts, makes_trusts}
 use Rattle.generate_index.proofs.generator.generate_first.Goals as goal
@@ -46,6 +49,8 @@ returns-in_err-commit-clause-generates g c told none =
       says = λ told guards. tt;
       stored = c.in_err-commit.ensures.stored;
       unchanged = tt;
+      few = λ told guards none. tt;
+      undone = c.in_err-commit.ensures.undone;
       brings = c.in_err-commit.ensures.canon;
       cause = c.in_err-commit.ensures.cause;
       whole = c.in_err-commit.ensures.whole;
@@ -64,6 +69,8 @@ returns-clause-generates g c told none =
       says = c.in_ok-commit.ensures.kept;
       stored = c.in_ok-commit.ensures.stored;
       unchanged = c.in_ok-commit.ensures.unchanged;
+      few = c.in_ok-commit.ensures.few;
+      undone = λ told guards. tt;
       brings = c.in_ok-commit.ensures.canon;
       cause = c.in_ok-commit.ensures.cause;
       whole = c.in_ok-commit.ensures.whole;
@@ -80,6 +87,8 @@ returns-clause-canon g c told none =
       says = c.in_ok-commit.ensures.kept;
       stored = c.in_ok-commit.ensures.stored;
       unchanged = c.in_ok-commit.ensures.unchanged;
+      few = c.in_ok-commit.ensures.few;
+      undone = λ told guards. tt;
       brings = c.in_ok-commit.ensures.canon;
       cause = c.in_ok-commit.ensures.cause;
       whole = c.in_ok-commit.ensures.whole;
@@ -135,3 +144,38 @@ returns-in_err-commit-clause-cause g c =
 
 pub returns-clause-cause : goal.returns-clause-cause
 returns-clause-cause g c = cause_done _ _ _ c.in_ok-summary.summary tt false c.in_ok-summary.ensures.makes.cause c.in_ok-commit.ensures.cause
+
+-- what is kept, and how few are listed
+pub returns-in_err-session-clause-undone : goal.returns-in_err-session-clause-undone
+returns-in_err-session-clause-undone g c told none =
+    let p = err_from_is_err_and c.from_residual.result c.from_residual.ensures.1 in
+    undone_kept (g.F.Pages.files c.args.folder.now) (g.F.Pages.files c.args.folder.now) _ _ (p.1 ∙ ap (λ (e : PageFault). Err e) p.2) (kept_itself (g.F.Pages.files c.args.folder.now))
+
+pub returns-in_err-summary-clause-undone : goal.returns-in_err-summary-clause-undone
+returns-in_err-summary-clause-undone g c told none =
+    let p = err_from_is_err_and c.from_residual-in_err-summary.result c.from_residual-in_err-summary.ensures.1 in
+    undone_kept (g.F.Pages.files c.args.folder.now) (g.F.Pages.files c.fill.new.folder) _ _ (p.1 ∙ ap (λ (e : PageFault). Err e) p.2) (c.in_err-summary.ensures.makes.kept told (c.in_ok-session.ensures.guards (g.F.Pages.files c.args.folder.now) none))
+
+pub returns-in_err-put_summary-clause-undone : goal.returns-in_err-put_summary-clause-undone
+returns-in_err-put_summary-clause-undone g c told none =
+    let p = err_from_is_err_and c.from_residual-in_err-put_summary.result c.from_residual-in_err-put_summary.ensures.1 in
+    undone_kept (g.F.Pages.files c.args.folder.now) (g.F.Pages.files c.fill.new.folder) _ _ (p.1 ∙ ap (λ (e : PageFault). Err e) p.2) (c.in_ok-summary.ensures.makes.kept told (c.in_ok-session.ensures.guards (g.F.Pages.files c.args.folder.now) none))
+
+pub returns-in_err-commit-clause-undone : goal.returns-in_err-commit-clause-undone
+returns-in_err-commit-clause-undone g c told none =
+    let p = err_from_is_err_and c.from_residual-in_err-commit.result c.from_residual-in_err-commit.ensures.1 in
+    let guards = (c.in_ok-session.ensures.guards (g.F.Pages.files c.args.folder.now) none) in
+    rw (p.1 ∙ ap (λ (e : PageFault). Err e) p.2)
+    (undone_after {T = Bool} (g.F.Pages.files c.args.folder.now) (g.F.Pages.files c.fill.new.folder) (g.F.Pages.files c.commit.new.folder) (Err c.in_err-commit.field-0.0) (c.in_ok-summary.ensures.makes.kept told guards)
+    (c.in_err-commit.ensures.undone told (c.in_ok-summary.ensures.makes.guards told guards)))
+
+pub returns-clause-undone : goal.returns-clause-undone
+returns-clause-undone g c told none = tt
+
+pub returns-clause-levels : goal.returns-clause-levels
+returns-clause-levels g c told none =
+    let guards = (c.in_ok-session.ensures.guards (g.F.Pages.files c.args.folder.now) none) in
+    let seen = c.in_ok-summary.ensures.makes.made told (created c.args.seed c.greatest_leaf.result (g.F.Pages.files c.args.folder.now) c.in_ok-session.session (g.F.Pages.faults c.args.folder.now) c.greatest_leaf.ensures (c.documents_deleted.ensures.none c.args.seed 0) (c.documents_added.ensures.none c.args.seed) none (c.in_ok-session.ensures.seen (g.F.Pages.files c.args.folder.now))
+    (c.in_ok-session.ensures.guards (g.F.Pages.files c.args.folder.now) none) c.in_ok-session.ensures.bare).made in
+    levels_after (g.F.Pages.files c.args.folder.now) (g.F.Pages.files c.fill.new.folder) (g.F.Pages.files c.commit.new.folder) (c.in_ok-summary.ensures.makes.kept told guards)
+    (c.in_ok-commit.ensures.few told (c.in_ok-summary.ensures.makes.guards told guards) (begins_none 2 (g.F.Pages.files c.fill.new.folder) c.fill.new.session.set (drawn_index c.args.seed c.args.docs c.args.docs) seen refl))

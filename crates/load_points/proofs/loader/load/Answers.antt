@@ -21,6 +21,8 @@ returns-in-Ok-Some g c =
       loads = whole.does;
       unchanged = whole.unchanged;
       canon = whole.canon;
+      levels = whole.levels;
+      undone = λ told. whole.undone told tt;
       cause = whole.cause;
       evident = evident_all (IsTrue g.F.Pages.told) (g.F.Pages.files c.load_stored.new.folder) c.load_stored.result whole.evident;
     }
@@ -35,6 +37,8 @@ returns-in-Ok-None g c =
       loads = whole.does;
       unchanged = whole.unchanged;
       canon = whole.canon;
+      levels = whole.levels;
+      undone = λ told. whole.undone told tt;
       cause = whole.cause;
       evident = evident_all (IsTrue g.F.Pages.told) (g.F.Pages.files c.load_first.new.folder) c.load_first.result whole.evident;
     }
@@ -49,6 +53,8 @@ returns-in-Err g c =
       loads = whole.does;
       unchanged = whole.unchanged;
       canon = whole.canon;
+      levels = whole.levels;
+      undone = λ told. whole.undone told tt;
       cause = whole.cause;
       evident = evident_all (IsTrue g.F.Pages.told) (g.F.Pages.files c.read_commit.new.folder) (Err c.in-Err.fault) whole.evident;
     }

@@ -1,6 +1,7 @@
 -- The index is opened, and the file loaded into it.
 use Rattle.std.proofs.Common.{Some, refl, inl}
 use Rattle.index_core.proofs.Sizes.{session_fits}
+use Rattle.index_core.proofs.Undone.{fault_kept, kept_equal}
 use Rattle.load_points.proofs.Loading.{attached_loading, evident_still, has_dims, loads_after, loads_fault, starts_keeps, starts_still, trusts_still}
 use Rattle.load_points.proofs.loader.load_over.Goals as goal
 
@@ -23,3 +24,4 @@ returns-in-Err g c =
     loads_fault _ _ _ _ _ _ c.in-Err.fault _ refl (λ told stored h. inl (starts_keeps _ _ _ stored (c.in-Err.ensures.files told) h))
     (λ told stored h. c.in-Err.ensures.whole told h.0 (Some h.1.0) h.1.2) c.in-Err.ensures.cause
     (evident_still _ _ (g.F.Pages.files c.args.folder.now) (g.F.Pages.files c.attach.new.folder) c.in-Err.fault c.in-Err.ensures.files c.in-Err.ensures.evident)
+    (λ told says. fault_kept (g.F.Pages.files c.args.folder.now) (g.F.Pages.files c.attach.new.folder) (kept_equal _ _ (c.in-Err.ensures.files told)) c.in-Err.fault)

@@ -21,6 +21,7 @@ use Rattle.segment_set.specs.Sets.{IsNamed, IsSettled}
 use Rattle.index_core.proofs.Answering.{fault_cause}
 use Rattle.index_core.proofs.Lightly.{commits_few}
 use Rattle.index_core.proofs.Tracing.{traced_by, traced_shows}
+use Rattle.index_core.proofs.Undone.{few_listed, undone_flight, undone_kept, undone_written}
 use Rattle.page_cache.specs.Evidence.{FaultShows}
 use Rattle.segment_set.specs.Evidence.{IsEvident}
 use Rattle.segment_set.specs.Faithful.{IsFaithful}
@@ -306,3 +307,42 @@ returns-in_err-write-clause-evident g c =
 
 pub returns-clause-evident : goal.returns-clause-evident
 returns-clause-evident g c = none_evident _ _ _ c.sweep.ensures.whole
+
+pub returns-then-not-is_changed-clause-few : goal.returns-then-not-is_changed-clause-few
+returns-then-not-is_changed-clause-few g c told guards none = inl refl
+
+pub returns-then-not-is_changed-clause-undone : goal.returns-then-not-is_changed-clause-undone
+returns-then-not-is_changed-clause-undone g c told guards = tt
+
+pub returns-in_err-commit-clause-few : goal.returns-in_err-commit-clause-few
+returns-in_err-commit-clause-few g c told guards none =
+    let p = err_from_is_err_and c.from_residual.result c.from_residual.ensures.1 in
+    on_ok_none _ _ _ p.1
+
+pub returns-in_err-commit-clause-undone : goal.returns-in_err-commit-clause-undone
+returns-in_err-commit-clause-undone g c told guards =
+    let p = err_from_is_err_and c.from_residual.result c.from_residual.ensures.1 in
+    undone_kept (g.F.Pages.files c.args.folder.now) (g.F.Pages.files c.save.new.folder) _ _ (p.1 ∙ ap (λ (e : PageFault). Err e) p.2)
+    (kept_after_calls _ _ _ _ _ _ told c.save.ensures.kept (subst (Guards g.row.D (g.F.Pages.files c.args.folder.now)) (sym c.self.view_is) guards).set)
+
+pub returns-in_err-write-clause-few : goal.returns-in_err-write-clause-few
+returns-in_err-write-clause-few g c told guards none =
+    let p = err_from_is_err_and c.from_residual-in_err-write.result c.from_residual-in_err-write.ensures.1 in
+    on_ok_none _ _ _ p.1
+
+pub returns-in_err-write-clause-undone : goal.returns-in_err-write-clause-undone
+returns-in_err-write-clause-undone g c told guards =
+    let p = err_from_is_err_and c.from_residual-in_err-write.result c.from_residual-in_err-write.ensures.1 in
+    undone_flight (Unit {0}) (g.F.Pages.files c.args.folder.now) (g.F.Pages.files c.write.new.folder) c.write.new.self.set.saved c.in_err-write.field-0.0 _ (p.1 ∙ ap (λ (e : PageFault). Err e) p.2) c.in_err-write.ensures.whole
+    (kept_on _ _ _ (kept_after_calls _ _ _ _ _ _ told c.save.ensures.kept (subst (Guards g.row.D (g.F.Pages.files c.args.folder.now)) (sym c.self.view_is) guards).set) (c.in_err-write.ensures.kept told))
+
+pub returns-clause-few : goal.returns-clause-few
+returns-clause-few g c told guards none =
+    on_ok_any c.sweep.result (few_listed (g.F.Pages.files c.args.folder.now) (g.F.Pages.files c.sweep.new.folder) c.sweep.new.self.commit
+    (says_still (g.F.Pages.files c.write.new.folder) (g.F.Pages.files c.sweep.new.folder) c.write.new.self.commit c.sweep.new.self.commit (c.sweep.ensures.kept told (c.write.ensures.guards told (set_after _ _ _ _ _ _ told c.save.ensures.kept c.save.ensures.stays.leaf (subst (Guards g.row.D (g.F.Pages.files c.args.folder.now)) (sym c.self.view_is) guards).set) (c.in_ok-commit.ensures.live told))) c.sweep.ensures.written.0 (c.in_ok-write.ensures.kept told))
+    (commits_few _ c.save.new.self c.in_ok-commit.commit _ (c.sweep.ensures.written.0 ∙ c.in_ok-write.ensures.written.0)
+    (c.save.ensures.begun ∙ ap (λ (u : SessionData). u.set.begun) c.self.view_is ∙ none) c.in_ok-commit.ensures.commit c.in_ok-commit.ensures.levels))
+
+pub returns-clause-undone : goal.returns-clause-undone
+returns-clause-undone g c told guards = undone_written (g.F.Pages.files c.args.folder.now) (g.F.Pages.files c.sweep.new.folder) c.sweep.new.self.commit c.sweep.result c.sweep.ensures.whole
+    (says_still (g.F.Pages.files c.write.new.folder) (g.F.Pages.files c.sweep.new.folder) c.write.new.self.commit c.sweep.new.self.commit (c.sweep.ensures.kept told (c.write.ensures.guards told (set_after _ _ _ _ _ _ told c.save.ensures.kept c.save.ensures.stays.leaf (subst (Guards g.row.D (g.F.Pages.files c.args.folder.now)) (sym c.self.view_is) guards).set) (c.in_ok-commit.ensures.live told))) c.sweep.ensures.written.0 (c.in_ok-write.ensures.kept told))
