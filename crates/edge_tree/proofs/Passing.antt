@@ -43,7 +43,7 @@ pass_oddly-append xs ys y =
 pub is_odd-append : (xs ys : List Ends) (p : List ℤ) → is_odd (xs ++ ys) p ≡ not (beq (is_odd xs p) (is_odd ys p))
 is_odd-append xs ys p = oddly-append (λ e. counts e p) xs ys ∙ sym (differ (is_odd xs p) (is_odd ys p))
 
-none_odd : (test : Ends → Bool) (run : List Ends) → All (λ e. test e ≡ false) run → oddly test run ≡ false
+pub none_odd : (test : Ends → Bool) (run : List Ends) → All (λ e. test e ≡ false) run → oddly test run ≡ false
 none_odd test [] h = refl
 none_odd test (e ∷ run) h =
     oddly-cons test e run ∙ (rw (All-head (λ d. test d ≡ false) e run h) (none_odd test run (All-tail (λ d. test d ≡ false) e run h)))

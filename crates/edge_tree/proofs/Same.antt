@@ -18,7 +18,7 @@ either_more true m r h = grind (arith, nat_tests)
 either_more false m r h = let e : 0 + m ≡ m = omega arith in rw e h
 
 -- some element passes a test where not none does
-any_counted : {X : Type 0} (test : X → Bool) (xs : List X) → list_any test xs ≡ not (eqb (count_by test xs) 0)
+pub any_counted : {X : Type 0} (test : X → Bool) (xs : List X) → list_any test xs ≡ not (eqb (count_by test xs) 0)
 any_counted test [] = refl
 any_counted test (x ∷ xs) =
     either_more (test x) (count_by test xs) (list_any test xs) (any_counted test xs)

@@ -15,7 +15,7 @@ use Rattle.edge_tree.specs.Nodes.{held, all_held, IsNode, AreNodes}
 abbrev pub below : List Ends → List Node → ℕ → Node → List Ends
 below edges nodes at n = all_held edges (drop n.before (take at nodes))
 
-node_at : (edges : List Ends) (nodes : List Node) (at : ℕ) (n : Node) → AreNodes edges nodes → 0 < at → at ≤ length nodes → n ≡ get_or nodes (at - 1) n
+pub node_at : (edges : List Ends) (nodes : List Node) (at : ℕ) (n : Node) → AreNodes edges nodes → 0 < at → at ≤ length nodes → n ≡ get_or nodes (at - 1) n
     → IsNode edges nodes (at - 1) n
 node_at edges nodes at n all some there is = subst (λ (m : Node). IsNode edges nodes (at - 1) m) (sym is) (all (at - 1) n (omega arith))
 

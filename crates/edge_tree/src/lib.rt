@@ -7,11 +7,14 @@
 //! takes memory.
 #![tactic(auto)]
 
+pub mod locator;
 pub mod nodes;
 pub mod outline;
 pub mod runs;
+pub mod stretch;
 pub mod tree;
 
+pub use locator::Locator;
 pub use tree::EdgeTree;
 
 #[cfg(test)]

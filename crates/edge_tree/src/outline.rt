@@ -2,9 +2,10 @@
 
 ghost use Rattle.std.specs.Prelude.{◌≡◌, ℤ, true, false, List, [], ◌∷◌, ◌++◌, IsTrue, IfSome, not, int_lt};
 ghost use Rattle.std.specs.Bool.{beq};
-ghost use Rattle.ring_parity.specs.Edges.{Ends, x_of};
+ghost use Rattle.ring_parity.specs.Edges.{Ends, x_of, y_of};
 ghost use Rattle.ring_parity.specs.Seen.{ends_of};
 ghost use Rattle.edge_tree.specs.Outlines.{IsBoxed, are_apart, is_apart, is_off_ray, climbs, Outlines, IsPlace};
+ghost use Rattle.edge_tree.specs.Ways.{is_off_way};
 
 use point_codec::Point;
 use ring_parity::Edge;
@@ -57,6 +58,20 @@ impl Bounds {
         ensures { result ≡ is_off_ray self.now p.now.c }
     {
         self.east < p.c[0] || are_apart(&self.south, &self.north, &p.c[1], &p.c[1])
+    }
+
+    /// The box is above `q` or east of it, or below `q` and east of `p`.
+    pub fn is_off_way(&self, p: &Point<2>, q: &Point<2>) -> bool
+        ensures { result ≡ is_off_way self.now p.now.c q.now.c }
+    {
+        q.c[1] < self.south || q.c[0] < self.west || self.is_below(q) && self.is_east_of(p)
+    }
+
+    /// The box is below the point.
+    fn is_below(&self, p: &Point<2>) -> bool
+        ensures { result ≡ int_lt self.now.north (y_of p.now.c) }
+    {
+        self.north < p.c[1]
     }
 
     /// The box is east of the point.

@@ -15,7 +15,7 @@ use Rattle.ring_parity.proofs.Signs.{turn, turn-turned, CornersLeft, left_of_lin
 use Rattle.ring_parity.proofs.Crossing.{xor, counts_at, InCell, Tells, tells_west, tells_east, tells_south, tells_north, tells_left, tells_right}
 use Rattle.ring_parity.proofs.Parity.{oddly_xor, oddly_same, AreClosed-marks, AreClosed-all_edges}
 
-abbrev InRegion : Region → List ℤ → Type 0
+abbrev pub InRegion : Region → List ℤ → Type 0
 InRegion cell p = InCell (x_of cell.lo) (y_of cell.lo) (x_of cell.hi) (y_of cell.hi) (x_of p) (y_of p)
 
 abbrev TellsAt : Ends → Region → Bool → Type 0
@@ -33,13 +33,13 @@ y_least [] [] h = omega (arith, ints)
 y_least (x ∷ p) [] h = cc
 y_least [] (y ∷ q) h = cc
 
-in_region : (cell : Region) (p : List ℤ) → in_box cell p ≡ true → InRegion cell p
+pub in_region : (cell : Region) (p : List ℤ) → in_box cell p ≡ true → InRegion cell p
 in_region cell p h =
     let parts : (all_le cell.lo p ≡ true) × (all_le p cell.hi ≡ true) = and_parts (all_le cell.lo p) (all_le p cell.hi) h in
     record { west = x_least cell.lo p parts.0; east = x_least p cell.hi parts.1; south = y_least cell.lo p parts.0; north = y_least p cell.hi parts.1 }
 
 -- how an edge misses a cell
-data Misses (e : Ends) (cell : Region) : Type 0 where
+pub data Misses (e : Ends) (cell : Region) : Type 0 where
   is_west : x_of e.0 <ℤ x_of cell.lo → x_of e.1 <ℤ x_of cell.lo → Misses e cell
   is_east : x_of cell.hi <ℤ x_of e.0 → x_of cell.hi <ℤ x_of e.1 → Misses e cell
   is_south : y_of e.0 <ℤ y_of cell.lo → y_of e.1 <ℤ y_of cell.lo → Misses e cell
@@ -87,7 +87,7 @@ all_right e cell h =
     let parts = four_parts _ _ _ _ h in
     record { low_low = right_at e _ parts.0; low_high = right_at e _ parts.1; high_low = right_at e _ parts.2; high_high = right_at e _ parts.3 }
 
-misses_by : (e : Ends) (cell : Region) → misses e cell ≡ true → Misses e cell
+pub misses_by : (e : Ends) (cell : Region) → misses e cell ≡ true → Misses e cell
 unfolding misses
 misses_by e cell h =
     ⊎_elim
@@ -114,7 +114,7 @@ told e cell (is_left_of c) = (int_lt (y_of e.0) (y_of e.1), tells_left _ _ _ _ _
 told e cell (is_right_of c) = (int_lt (y_of e.1) (y_of e.0), tells_right _ _ _ _ _ _ _ _ c)
 
 -- a position is marked where it stands between the heights of two points, east of the first
-abbrev mark : List ℤ → List ℤ → List ℤ → Bool
+abbrev pub mark : List ℤ → List ℤ → List ℤ → Bool
 mark p q v = xor (is_above v p) (is_above v q) && int_lt (x_of p) (x_of v)
 
 by_height : (a b t bit : Bool) → (a ≡ true → b ≡ false → t ≡ bit) → (a ≡ false → b ≡ true → t ≡ bit) → (xor a b && t) ≡ (xor a b && bit)
@@ -134,7 +134,7 @@ exchanged : (a b c d s : Bool) → xor (xor a b && s) (xor c d && s) ≡ xor (xo
 exchanged a b c d s = grind arith
 
 -- an edge that misses the cell changes its count between two points of it where one of its ends is marked
-change : (e : Ends) (cell : Region) (p q : List ℤ) → misses e cell ≡ true → InRegion cell p → InRegion cell q
+pub change : (e : Ends) (cell : Region) (p q : List ℤ) → misses e cell ≡ true → InRegion cell p → InRegion cell q
     → xor (counts e p) (counts e q) ≡ xor (mark p q e.0) (mark p q e.1)
 change e cell p q h i j =
     let both : (bit : Bool) × TellsAt e cell bit = told e cell (misses_by e cell h) in
@@ -179,7 +179,7 @@ both_above : (a b z : ℤ) → z <ℤ a → z <ℤ b → are_beyond a b z z ≡ 
 both_above a b z p q = or_right (int_lt a z && int_lt b z) (int_lt z a && int_lt z b) (and_from (int_lt z a) (int_lt z b) (sym (omega (arith, ints))) (sym (omega (arith, ints))))
 
 -- no point of a cell is on an edge that misses it
-not_on : (e : Ends) (cell : Region) (p : List ℤ) → Misses e cell → InRegion cell p → on e p ≡ false
+pub not_on : (e : Ends) (cell : Region) (p : List ℤ) → Misses e cell → InRegion cell p → on e p ≡ false
 not_on e cell p (is_west a b) i = past e p (or_left _ _ (both_below (x_of e.0) (x_of e.1) (x_of p) (omega (arith, ints)) (omega (arith, ints))))
 not_on e cell p (is_east a b) i = past e p (or_left _ _ (both_above (x_of e.0) (x_of e.1) (x_of p) (omega (arith, ints)) (omega (arith, ints))))
 not_on e cell p (is_south a b) i = past e p (or_right _ _ (both_below (y_of e.0) (y_of e.1) (y_of p) (omega (arith, ints)) (omega (arith, ints))))
@@ -195,7 +195,7 @@ not_on e cell p (is_right_of c) i =
       left_of_line _ _ _ _ _ _ _ _ (x_of p) (y_of p) c i.west i.east i.south i.north,
     ))
 
-none_meets : (edges : List Ends) (cell : Region) → any_meets edges cell ≡ false → All (λ e. misses e cell ≡ true) edges
+pub none_meets : (edges : List Ends) (cell : Region) → any_meets edges cell ≡ false → All (λ e. misses e cell ≡ true) edges
 none_meets [] cell h = All-nil (λ e. misses e cell ≡ true)
 none_meets (e ∷ edges) cell h =
     let parts : (not (misses e cell) ≡ false) × (any_meets edges cell ≡ false) = or_parts (not (misses e cell)) (any_meets edges cell) h in
