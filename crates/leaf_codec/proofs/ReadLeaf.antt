@@ -1,6 +1,6 @@
 -- A leaf is read where its bytes spell one, and then its items are those.
 use Rattle.std.proofs.Common.{◌≡◌, ◌<◌, ◌≤◌, ◌+◌, ◌*◌, ◌/◌, ◌%◌, ◌^◌, ℕ, List, ◌++◌, length, get_or, drop, refl, sym, ap, subst, ◌∙◌, arith, ltb, inl, inr, Option, Some, None, unwrap_or, ℤ}
-use Rattle.std.proofs.Math.Nat.{div-le_self}
+use Rattle.std.proofs.Math.Nat.{div-le_self, div-le_of_le-mul}
 use Rattle.std.specs.Prelude.{All, FitsSigned, if◌then◌else◌, nat_lt, IfNone}
 use Rattle.std.specs.Int.{w16, w32, to_be_bytes}
 use Rattle.std.specs.List.Sorted.{IsStrictlySortedBy}
@@ -171,6 +171,9 @@ two_same m n hm hn e =
     let high : m / 256 % 256 ≡ n / 256 % 256 = ap (λ (t : List ℕ). get_or t 0 0) e in
     let low : m % 256 ≡ n % 256 = ap (λ (t : List ℕ). get_or t 1 0) e in
     omega (arith, high, low)
+
+pub within_500 : (D k : ℕ) → 1 ≤ D → k ≤ leaf_limit D → k ≤ 500
+within_500 D k some le = omega (arith, div-le_of_le-mul (4 + 4 * D) {m = 4000} {n = 500} (omega arith), le)
 
 few_items : (D k : ℕ) → k ≤ leaf_limit D → k < 65536
 few_items D k le = omega (arith, div-le_self 4000 (4 + 4 * D), le)

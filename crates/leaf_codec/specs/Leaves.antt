@@ -34,3 +34,7 @@ pub record SpellsLeafIn (D : ℕ) (bytes : List ℕ) (count : ℕ) (cell : Regio
   pub spells : SpellsLeaf D bytes items
   pub counted : length items ≡ count
   pub inside : All (λ x. in_box cell x.at ≡ true) items
+
+-- they spell some leaf of that count inside the cell
+abbrev pub SpellsSomeIn : ℕ → List ℕ → ℕ → Region → Type 0
+SpellsSomeIn D bytes count cell = ∥ ((items : List Item) × SpellsLeafIn D bytes count cell items) ∥₁

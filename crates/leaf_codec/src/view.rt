@@ -6,7 +6,7 @@ ghost use Rattle.point_codec.specs.Points.{Item};
 ghost use Rattle.point_codec.specs.Seen.{region_of};
 ghost use Rattle.leaf_codec.specs.Dimensions.{count_values, different};
 ghost use Rattle.leaf_codec.specs.LeafOrder.{item_of};
-ghost use Rattle.leaf_codec.specs.Leaves.{SpellsLeafIn};
+ghost use Rattle.leaf_codec.specs.Leaves.{SpellsLeafIn, SpellsSomeIn};
 ghost use Rattle.leaf_codec.specs.Raw.{RawNumbers, place_of, raw_item, raw_items};
 ghost use Rattle.leaf_codec.specs.Views.{IsParts, IsReadable, AreDimensionsOf, AscendInside, items_said, raw_numbers_of, raw_keys_of};
 
@@ -64,6 +64,25 @@ impl<'a, const D: usize> LeafView<'a, D> {
             parts,
             slots,
         })
+    }
+
+    /// The same entries where it is known that the bytes spell some: nothing is checked again.
+    pub fn of_valid(b: &'a [u8], cell: &Cell<D>, count: u16) -> LeafView<'a, D>
+        requires { SpellsSomeIn D b.now count (region_of cell.now) }
+        ensures { SpellsLeafIn D b.now count (region_of cell.now) result }
+    {
+        let Some((numbers, at)) = Numbers::take(b, count) else {
+            unreachable!()
+        };
+        let Some(parts) = Parts::take(b, at, D, count as usize) else {
+            unreachable!()
+        };
+        let slots = Slots::of(&parts);
+        LeafView {
+            numbers,
+            parts,
+            slots,
+        }
     }
 
     /// The number of entries.

@@ -6,3 +6,4 @@ pub mod CachePages
 pub mod KeptPages
 pub mod FileSizes
 pub mod Sealed
+pub mod Notes

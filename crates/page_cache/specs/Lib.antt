@@ -5,3 +5,4 @@ pub mod Causes
 pub mod Keys
 pub mod Cache
 pub mod FirstPages
+pub mod Notes

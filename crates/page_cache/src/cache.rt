@@ -3,8 +3,9 @@
 ghost use Rattle.page_cache.specs.Keys.{AllValid};
 
 use crate::faults::{Memory, PageFault};
-use crate::kept::{KeptPages, bytes_of, keep, take_file_out, take_out, touch};
+use crate::kept::{KeptPages, add_note, keep, kept_page, take_file_out, take_out, touch};
 use crate::key::PageKey;
+use crate::note::LeafNote;
 use crate::read::read_page;
 use lru::LruCache;
 use outer_io::{FileName, Pages};
@@ -32,6 +33,7 @@ impl PageCache {
     ghost use Rattle.page_cache.specs.Evidence.{OnDamage, NotDamaged, IsPageOf, IsPageDamage, IsPageDamageOf};
     ghost use Rattle.page_cache.specs.Causes.{HasPageCause, IsSteady};
     ghost use Rattle.page_cache.specs.Keys.{page_key, without};
+    ghost use Rattle.page_cache.specs.Notes.{Fits};
     ghost use Rattle.page_cache.specs.Cache.{Keeps, IsKept, KeepsFile, Agrees, room_of, order_of, of_others, IsUsed, KeepsOf, IsKeptOf};
 
     /// A cache with room for so many pages, 1 to 65,536, that keeps none.
@@ -98,8 +100,34 @@ impl PageCache {
         ensures only { (bytes : List ℕ) → Keeps self.now id number bytes → bytes ≡ result.bytes.now.b }
         ensures file { (files : Files) → Agrees files self.now → IsPageOf files (Segment id) number result.bytes.now.b }
     {
-        let page = bytes_of(&self.pages, PageKey { id, number });
-        PageView::of_valid(SEGMENT_KIND, id, number, page)
+        let page = kept_page(&self.pages, PageKey { id, number });
+        PageView::of_valid(SEGMENT_KIND, id, number, page.bytes())
+    }
+
+    /// A page that is kept, and whether this leaf of it was noted. It computes no digest.
+    #[tactic(auto, unfolding(crate::specs::Cache::Keeps, crate::specs::Cache::IsKept, crate::specs::Cache::KeepsFile, crate::specs::Cache::Agrees, crate::specs::Cache::room_of, crate::specs::Cache::order_of))]
+    pub fn noted_view(&self, id: u64, number: u32, note: &LeafNote) -> (PageView<'_>, bool)
+        requires { IsKept self.now id number }
+        ensures place { (result.0.kind ≡ 1) × (result.0.file ≡ id) × (result.0.number ≡ number) }
+        ensures bytes { Keeps self.now id number result.0.bytes.now.b }
+        // No other page is kept for that place.
+        ensures only { (bytes : List ℕ) → Keeps self.now id number bytes → bytes ≡ result.0.bytes.now.b }
+        ensures file { (files : Files) → Agrees files self.now → IsPageOf files (Segment id) number result.0.bytes.now.b }
+        ensures noted { IsTrue result.1 → Fits note.now result.0.bytes.now.b }
+    {
+        let page = kept_page(&self.pages, PageKey { id, number });
+        let view = PageView::of_valid(SEGMENT_KIND, id, number, page.bytes());
+        (view, page.has(note))
+    }
+
+    /// Notes a leaf that was read in a page. What is kept stays as it is, and nothing is noted of a page that isn't
+    /// kept. Takes no memory.
+    #[tactic(auto, unfolding(crate::specs::Cache::Keeps, crate::specs::Cache::IsKept, crate::specs::Cache::KeepsFile, crate::specs::Cache::Agrees, crate::specs::Cache::room_of, crate::specs::Cache::order_of))]
+    pub fn note(&mut self, id: u64, number: u32, note: LeafNote)
+        requires { (bytes : List ℕ) → Keeps self.old id number bytes → Fits note bytes }
+        ensures { self.new ≡ self.old }
+    {
+        add_note(&mut self.pages, PageKey { id, number }, note);
     }
 
     /// Takes a page out, and leaves the others. None exactly where it isn't kept; then all stays as it was. Takes no

@@ -7,15 +7,18 @@ ghost use Rattle.std.specs.declared.boxed.Box.{Box};
 ghost use Rattle.std.specs.declared.alloc.Global.{Global};
 ghost use Rattle.page_file.specs.declared.page.PageBytes.{PageBytes};
 ghost use Rattle.page_cache.specs.declared.key.PageKey.{PageKey};
+ghost use Rattle.page_cache.specs.Notes.{Fits};
 ghost use Rattle.page_cache.specs.Keys.{Kept, same_key, without, HasKey, KeepsIn, KeepsNoMore, KeepsOneMore, is_of_other};
 
 use crate::faults::Memory;
+use crate::kept_page::KeptPage;
 use crate::key::PageKey;
+use crate::note::LeafNote;
 use lru::LruCache;
 use page_file::PageBytes;
 
 /// Pages by their keys, the last used first, up to a number of them.
-pub(crate) type KeptPages = LruCache<PageKey, Box<PageBytes>>;
+pub(crate) type KeptPages = LruCache<PageKey, KeptPage>;
 
 /// Whether the page is kept. It then stands first.
 pub(crate) fn touch(pages: &mut KeptPages, key: PageKey) -> bool
@@ -38,15 +41,15 @@ pub(crate) fn keep(pages: &mut KeptPages, key: PageKey, page: Box<PageBytes>) ->
     ensures room { pages.new.cap ≡ pages.old.cap }
     ensures same { OnErr result (pages.new.entries ≡ pages.old.entries) }
 {
-    pages.put(key, page)?;
+    pages.put(key, KeptPage::new(page))?;
     Ok(())
 }
 
-/// The bytes of a kept page.
-pub(crate) fn bytes_of(pages: &KeptPages, key: PageKey) -> &PageBytes
+/// A page that is kept.
+pub(crate) fn kept_page(pages: &KeptPages, key: PageKey) -> &KeptPage
     requires { HasKey pages.now.entries key }
-    ensures kept { KeepsIn pages.now.entries key result.now.b }
-    ensures only { (bytes : List ℕ) → KeepsIn pages.now.entries key bytes → bytes ≡ result.now.b }
+    ensures kept { KeepsIn pages.now.entries key result.now.value.b }
+    ensures only { (bytes : List ℕ) → KeepsIn pages.now.entries key bytes → bytes ≡ result.now.value.b }
 {
     // it says that no key stands twice
     let _kept = pages.len();
@@ -69,7 +72,27 @@ pub(crate) fn take_out(pages: &mut KeptPages, key: PageKey) -> Option<Box<PageBy
 {
     // it says that no key stands twice
     let _kept = pages.len();
-    pages.pop(&key)
+    page_of(pages.pop(&key))
+}
+
+/// The page without its notes.
+fn page_of(kept: Option<KeptPage>) -> Option<Box<PageBytes>>
+    ensures { result ≡ kept }
+{
+    match kept {
+        Some(kept) => Some(kept.into_page()),
+        None => None,
+    }
+}
+
+/// Notes a leaf of a page, if that is kept.
+pub(crate) fn add_note(pages: &mut KeptPages, key: PageKey, note: LeafNote)
+    requires { (bytes : List ℕ) → KeepsIn pages.old.entries key bytes → Fits note bytes }
+    ensures { pages.new ≡ pages.old }
+{
+    if let Some(page) = pages.peek_mut(&key) {
+        page.add(note);
+    }
 }
 
 /// Takes the last page out where it is of the segment's file, and else puts it first.

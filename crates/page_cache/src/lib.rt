@@ -13,8 +13,10 @@ mod cache;
 mod faults;
 mod first_page;
 mod kept;
+mod kept_page;
 mod key;
 mod laws;
+mod note;
 mod read;
 
 pub use bodies::{pages_for, pages_of, put_pages};
@@ -25,4 +27,5 @@ pub use laws::{
     agreement_is_of_kept_files, bodies_of_one_length_are_equal, pages_put_behind, pages_that_agree,
     payloads_join,
 };
+pub use note::LeafNote;
 pub use read::read_payloads;

@@ -4,6 +4,8 @@ ghost use Rattle.std.specs.Prelude.{◌≡◌, ◌≤◌, ◌<◌, ◌+◌, ◌�
 ghost use Rattle.outer_io.specs.Files.{Files, bytes_of};
 ghost use Rattle.outer_io.specs.declared.file_name.FileName.TheVariants.{Segment};
 ghost use Rattle.point_codec.specs.Points.{Item, Region};
+ghost use Rattle.point_codec.specs.Seen.{region_of};
+ghost use Rattle.leaf_codec.specs.Leaves.{SpellsLeafIn, SpellsSomeIn};
 ghost use Rattle.inner_pack.specs.Places.{Spot};
 ghost use Rattle.inner_pack.specs.Trees.{IndexTree, Leaf};
 ghost use Rattle.inner_pack.specs.Nodes.{IsAt, IsPlaceOf};
@@ -20,7 +22,8 @@ use crate::head::SegmentHead;
 use inner_pack::{LeafPlace, NodeAt};
 use leaf_codec::LeafView;
 use outer_io::{FileName, Pages};
-use page_cache::{Damage, PageCache, PageFault};
+use page_cache::{Damage, LeafNote, PageCache, PageFault};
+use point_codec::Cell;
 use std::alloc::Global;
 
 /// Sees to it that the page is kept in which a leaf of the head's index stands, and answers the leaf's place.
@@ -53,7 +56,35 @@ pub fn load_leaf<const D: usize, F: Pages>(
         unreachable!()
     };
     cache.load(alloc, folder, head.id(), head.page_of(place))?;
+    note_leaf(cache, head, node, place);
     Ok(place)
+}
+
+/// Notes the leaf of the node in its page, which is kept, where the page has it: so it is verified once while the page
+/// is kept.
+fn note_leaf<const D: usize>(
+    cache: &mut PageCache,
+    head: &SegmentHead<D>,
+    node: &NodeAt<'_, D>,
+    place: LeafPlace,
+)
+    requires small { place.page < 8388608 }
+    requires fits { place.offset + place.length ≤ 4064 }
+    requires kept { IsKept cache.old head.now.id (page_of head.now place.page) }
+    ensures { cache.new ≡ cache.old }
+{
+    let cell = node.cell();
+    let count = head.count_of(node.first_leaf());
+    let note = LeafNote::of(&cell, place.offset, place.length, count);
+    let id = head.id();
+    let number = head.page_of(place);
+    let (page, known) = cache.noted_view(id, number, &note);
+    if known {
+        return;
+    }
+    if LeafView::read(part_of(page.payload(), place), &cell, count).is_some() {
+        cache.note(id, number, note);
+    }
 }
 
 /// The leaf of the node in its page, which is kept. None exactly where the page has no leaf of the node's count
@@ -77,9 +108,29 @@ pub fn leaf_in<'a, const D: usize>(
     ensures count { IfSome result (λ view. (first : ℕ) (s : Spot) (path : Region) (t : IndexTree) → IsAt node.now first s path t → length view ≡ count_of head.now first) }
     ensures bad { IfNone result (SpellsNoLeaf cache.now head.now node.now place) }
 {
-    let page = cache.view(head.id(), head.page_of(place));
+    let cell = node.cell();
+    let count = head.count_of(node.first_leaf());
+    let note = LeafNote::of(&cell, place.offset, place.length, count);
+    let (page, known) = cache.noted_view(head.id(), head.page_of(place), &note);
     let part = part_of(page.payload(), place);
-    LeafView::read(part, &node.cell(), head.count_of(node.first_leaf()))
+    read_part(part, &cell, count, known)
+}
+
+/// The leaf that the bytes are. Where it is known that they are one, nothing is checked.
+fn read_part<'a, const D: usize>(
+    part: &'a [u8],
+    cell: &Cell<D>,
+    count: u16,
+    known: bool,
+) -> Option<LeafView<'a, D>>
+    requires { IsTrue known → SpellsSomeIn D part.now count (region_of cell.now) }
+    ensures some { IfSome result (λ view. SpellsLeafIn D part.now count (region_of cell.now) view) }
+    ensures none { IfNone result ((items : List Item) → SpellsLeafIn D part.now count (region_of cell.now) items → ⊥) }
+{
+    if known {
+        return Some(LeafView::of_valid(part, cell, count));
+    }
+    LeafView::read(part, cell, count)
 }
 
 /// The part of a page's payload that is a leaf's place.
