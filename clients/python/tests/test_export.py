@@ -19,27 +19,27 @@ def made(folder, program, leaf=3):
     return folder
 
 
-def test_export(real, tmp_path):
-    documents = dict(bkd.export(made(tmp_path / "a", real)))
+def test_export(filed, tmp_path):
+    documents = dict(bkd.export(made(tmp_path / "a", filed)))
     wanted = {i: ((i * 7 % 50, i * 3 % 40),) for i in range(60)}
     wanted |= {60 + i: tuple(sorted({(i, -i), (i, i), (0, 0)})) for i in range(20)} | {80: ((99, 99),)}
     wanted = {n: points for n, points in wanted.items() if n >= 80 or n % 9}
     assert documents == wanted and list(documents) == sorted(documents)
 
 
-def test_built_anew_with_another_leaf_size(real, tmp_path):
-    folder = made(tmp_path / "a", real)
+def test_built_anew_with_another_leaf_size(filed, tmp_path):
+    folder = made(tmp_path / "a", filed)
     documents = list(bkd.export(folder))
-    with bkd.open(tmp_path / "b", leaf=100, program=real) as index:
+    with bkd.open(tmp_path / "b", leaf=100, program=filed) as index:
         numbers = index.add_many(points for _, points in documents)
         anew = dict(zip((number for number, _ in documents), numbers))
-        with bkd.open(folder, program=real) as old:
+        with bkd.open(folder, program=filed) as old:
             for low, high in (((0, 0), (50, 50)), ((-5, -5), (5, 5)), ((99, 99), (99, 99))):
                 assert [anew[n] for n in old.box(low, high)] == index.box(low, high)
 
 
-def test_csv(real, tmp_path):
-    folder = made(tmp_path / "a", real)
+def test_csv(real, filed, tmp_path):
+    folder = made(tmp_path / "a", filed)
     text = io.StringIO()
     lines = bkd.export_csv(folder, text)
     rows = text.getvalue().splitlines()
@@ -58,34 +58,35 @@ def test_no_index(tmp_path, stand_in):
             use()
 
 
-def test_clean(real, tmp_path):
-    folder = made(tmp_path / "a", real)
+def test_clean(filed, tmp_path):
+    folder = made(tmp_path / "a", filed)
+    bkd.clean(folder, program=filed)
     before = sorted(os.listdir(folder))
-    assert bkd.clean(folder, program=real) == [] and sorted(os.listdir(folder)) == before
+    assert bkd.clean(folder, program=filed) == [] and sorted(os.listdir(folder)) == before
     left = ["commit.new", "live-00000000000000ff-0000000000000001.bkd", "seg-00000000000000ff.bkd"]
     for name in left + ["mine.txt", "seg-x.bkd"]:
         (folder / name).write_bytes(b"x")
-    assert bkd.clean(folder, program=real) == left
+    assert bkd.clean(folder, program=filed) == left
     assert sorted(os.listdir(folder)) == sorted(before + ["mine.txt", "seg-x.bkd"])
 
 
-def test_nothing_is_cleaned_in_a_damaged_folder(real, tmp_path):
-    folder = made(tmp_path / "a", real)
+def test_nothing_is_cleaned_in_a_damaged_folder(filed, tmp_path):
+    folder = made(tmp_path / "a", filed)
     (folder / "commit.new").write_bytes(b"x")
     segment = next(name for name in sorted(os.listdir(folder)) if name.startswith("seg-"))
     data = bytearray((folder / segment).read_bytes())
     data[-5000] ^= 1
     (folder / segment).write_bytes(data)
     with pytest.raises(bkd.Damaged) as told:
-        bkd.clean(folder, program=real)
+        bkd.clean(folder, program=filed)
     assert told.value.file == segment and (folder / "commit.new").exists()
 
 
-def test_pictures(real, tmp_path):
+def test_pictures(filed, tmp_path):
     plot = pytest.importorskip("bkd.plot")
     from matplotlib.figure import Figure
-    folder = made(tmp_path / "a", real)
-    with bkd.open(folder, program=real) as index:
+    folder = made(tmp_path / "a", filed)
+    with bkd.open(folder, program=filed) as index:
         hits, near = index.box((0, 0), (20, 20)), index.nearest(5, (30, 30))
     plot.picture(folder, tmp_path / "a.png", query=((0, 0), (20, 20)), hits=hits)
     assert (tmp_path / "a.png").read_bytes().startswith(b"\x89PNG")
@@ -100,6 +101,6 @@ def test_pictures(real, tmp_path):
     plot.polygon(axes, [[(0, 0), (9, 0), (9, 9), (0, 0)], [(1, 1), (2, 1), (2, 2), (1, 1)]])
     plot.nearest(axes, (30, 30), near)
     assert len(axes.patches) == 2
-    with bkd.open(tmp_path / "line", 1, program=real) as index:
+    with bkd.open(tmp_path / "line", 1, program=filed) as index:
         index.add_many(range(1000))
     plot.picture(tmp_path / "line", tmp_path / "line.png")

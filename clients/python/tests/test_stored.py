@@ -1,6 +1,7 @@
 """The second reader beside the program: both find the same documents, and the same damage."""
 import hashlib
 import os
+import random
 import shutil
 
 import pytest
@@ -9,6 +10,8 @@ import bkd
 from bkd import requests
 from bkd.formats import open_stored, read_commit
 from bkd.formats.pages import PAGE, PAYLOAD
+from conftest import real_program
+from writer import write_index
 
 
 @pytest.mark.parametrize("dims, leaf", [(1, None), (1, 2), (2, None), (2, 7), (3, 50), (5, None), (8, 111)])
@@ -46,7 +49,6 @@ def test_generated(real, tmp_path):
 @pytest.fixture(scope="module")
 def small(tmp_path_factory):
     """A folder with two segments, a deletion and a document of several points."""
-    from conftest import real_program
     program = real_program()
     if program is None:
         pytest.skip("no program is built; set BKD")
@@ -173,3 +175,71 @@ def test_the_program_checks_alike(small, tmp_path):
             except bkd.Damaged as error:
                 theirs = str(error.damage)
             assert ours == theirs, f"{name} page {page} byte {at} sealed {seal}"
+
+
+def drawn(count, dims, seed, most=3):
+    """Documents of 1 to `most` points whose coordinates are of all sizes."""
+    draw = random.Random(seed)
+    def point():
+        return tuple(draw.randint(-(1 << wide), (1 << wide) - 1) for wide in draw.choices(range(32), k=dims))
+    return {n: sorted({point() for _ in range(draw.randint(1, most))}) for n in draw.sample(range(count * 3), count)}
+
+
+@pytest.mark.parametrize("form", [1, 2, 3])
+@pytest.mark.parametrize("dims, leaf, count", [(1, 2, 300), (2, 333, 2000), (2, 5, 1), (3, 9, 700), (8, 111, 500)])
+def test_every_form_as_it_is_written(tmp_path, form, dims, leaf, count):
+    """Files of all three forms and both layouts of the commit, which another hand wrote; read by the program too."""
+    documents = drawn(count, dims, seed=form)
+    live = [n for n in sorted(documents) if n % 4]
+    more = {n + 3 * count: points for n, points in drawn(50, dims, seed=9).items()}
+    segments = [(2, 7, form, documents, live), (5, 1, 3, more, list(more))]
+    given = 3 * count + 150 if count > 50 else 1 << 20
+    write_index(tmp_path, dims, leaf, segments, given, given, layout=form % 2 + 1)
+    stored = open_stored(tmp_path)
+    stored.check()
+    wanted = {n: tuple(points) for n, points in documents.items() if n in live} | {n: tuple(p) for n, p in more.items()}
+    assert dict(bkd.export(tmp_path)) == wanted
+    assert [part.segment.head.form for part in stored.parts] == [form, 3]
+    if (program := real_program()) is not None:
+        low, high = (-(1 << 31),) * dims, ((1 << 31) - 1,) * dims
+        with bkd.open(tmp_path, program=program) as index:
+            assert index.box(low, high) == sorted(wanted)
+            at = (5,) * dims
+            near = sorted((min(sum((a - b) ** 2 for a, b in zip(p, at)) for p in points), n) for n, points in wanted.items())
+            assert index.nearest(9, at) == [(n, d) for d, n in near[:9]]
+
+
+ONE = {0: [(1, 1)], 1: [(2, 2), (3, 3)], 2: [(4, 4)]}
+MANY = {0: [(i, i) for i in range(17)]}
+
+
+@pytest.mark.parametrize("segments, following, given, wanted", [
+    ([(0, 1, 3, ONE, [0, 1, 2])], 3, 4, None),
+    ([(0, 1, 3, ONE, [0, 1, 2])], 2, 4, "document 2 beyond 2"),
+    ([(0, 1, 3, ONE, [0, 1, 2])], 1, 4, "document 1 beyond 1"),
+    ([(0, 1, 3, ONE, [0, 1, 2])], 3, 3, "commit.bkd says 3, found 4"),
+    ([(0, 1, 3, ONE, [0, 1]), (1, 1, 3, ONE, [1, 2])], 3, 8, "document 1 twice"),
+    ([(0, 1, 3, ONE, [0, 1]), (1, 1, 3, ONE, [2])], 3, 8, None),
+    ([(0, 1, 3, ONE, [0, 2]), (1, 1, 3, ONE, [1, 2])], 2, 8, "document 2 beyond 2"),
+    ([(0, 1, 3, MANY, [0])], 1, 17, "document 0 twice"),
+    ([(0, 1, 3, MANY, [])], 1, 17, None),
+    ([(0, 1, 3, {0: ONE[0], 2: ONE[1]}, [0, 1, 2])], 3, 4, f"live-{0:016x}-{1:016x}.bkd says 3, found 2"),
+])
+def test_what_a_folder_holds(tmp_path, segments, following, given, wanted):
+    write_index(tmp_path, 2, 20, segments, following, given)
+    assert told_by_reader(tmp_path) == wanted
+
+
+def test_a_point_twice(tmp_path):
+    """A leaf can't spell an entry twice, so the two stand in two leaves."""
+    documents = {n: [(5, 5)] for n in range(3)}
+    write_index(tmp_path, 2, 2, [(0, 1, 3, documents, [0, 1, 2])], 3, 3)
+    assert told_by_reader(tmp_path) is None
+    import writer
+    leaves = [[(0, (5, 5)), (1, (5, 5))], [(1, (5, 5))]]
+    kept, writer.tree_of = writer.tree_of, lambda entries, leaf: (0, 5, *leaves)
+    try:
+        write_index(tmp_path, 2, 2, [(0, 1, 3, {0: [(5, 5)], 1: [(5, 5), (5, 5)]}, [0, 1])], 3, 3)
+    finally:
+        writer.tree_of = kept
+    assert told_by_reader(tmp_path) == "document 1 twice"

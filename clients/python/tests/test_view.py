@@ -43,9 +43,9 @@ def fetch(server, path, body=None, **headers):
     return reply.status, json.loads(reply.read())
 
 
-def test_it_shows_what_the_files_hold(real, tmp_path, shown):
-    folder = made(tmp_path / "a", real)
-    server = shown(folder, real)
+def test_it_shows_what_the_files_hold(filed, tmp_path, shown):
+    folder = made(tmp_path / "a", filed)
+    server = shown(folder, filed)
     status, about = fetch(server, "/index")
     assert status == 200 and about["dims"] == 2 and about["next"] == 81
     documents = list(bkd.export(folder))
@@ -54,7 +54,8 @@ def test_it_shows_what_the_files_hold(real, tmp_path, shown):
     _, view = fetch(server, "/view?" + urlencode(asked))
     live = sorted((x, y, n) for x, y, n, is_live in view["points"] if is_live)
     assert live == sorted((x, y, n) for n, points in documents for x, y in points if -5 <= x <= 30 and -5 <= y <= 30)
-    assert any(not is_live for *_, is_live in view["points"])
+    entries = sum(segment["entries"] for segment in about["segments"])
+    assert any(not is_live for *_, is_live in view["points"]) == (entries > sum(len(p) for _, p in documents))
     for x, y, _, _ in view["points"]:
         assert any(c["sides"][0] <= x <= c["sides"][2] and c["sides"][1] <= y <= c["sides"][3] for c in view["cells"])
 
@@ -75,10 +76,10 @@ def test_it_counts_what_it_does_not_draw(real, tmp_path, shown):
             assert abs(len(index.box(low, high)) - n) <= 2  # points on the sides of squares
 
 
-def test_it_asks_the_program(real, tmp_path, shown):
-    folder = made(tmp_path / "a", real)
-    server = shown(folder, real)
-    with bkd.open(folder, program=real) as index:
+def test_it_asks_the_program(filed, tmp_path, shown):
+    folder = made(tmp_path / "a", filed)
+    server = shown(folder, filed)
+    with bkd.open(folder, program=filed) as index:
         box, near = index.box((0, 0), (20, 20)), index.nearest(7, (10, 12))
         inside = index.polygon([[(0, 0), (30, 0), (0, 10), (0, 0)]])
         explained = index.explain([requests.box((0, 0), (20, 20))])[0]
@@ -94,10 +95,10 @@ def test_it_asks_the_program(real, tmp_path, shown):
 
 
 @pytest.mark.parametrize("dims", [1, 3])
-def test_other_dimensions(real, tmp_path, shown, dims):
-    with bkd.open(tmp_path, dims, program=real) as index:
+def test_other_dimensions(filed, tmp_path, shown, dims):
+    with bkd.open(tmp_path, dims, program=filed) as index:
         index.add_many([(i,) + (i % 7,) * (dims - 1) for i in range(100)])
-    server = shown(tmp_path, real)
+    server = shown(tmp_path, filed)
     place = {"x": 0, "y": dims - 1}
     _, told = fetch(server, "/ask", {"kind": "box", "frame": [9.5, -1, 20.5, 9], **place})
     assert told["numbers"] == list(range(10, 21))
@@ -107,10 +108,10 @@ def test_other_dimensions(real, tmp_path, shown, dims):
     assert status == 400
 
 
-def test_what_it_refuses(real, tmp_path, shown):
+def test_what_it_refuses(filed, tmp_path, shown):
     with pytest.raises(bkd.NoIndex):
-        serve(tmp_path, 0, program=real)
-    server = shown(made(tmp_path / "a", real), real)
+        serve(tmp_path, 0, program=filed)
+    server = shown(made(tmp_path / "a", filed), filed)
     for path, body, headers, status in [
         ("/nothing", None, {}, 404), ("/index", None, {"Host": "example.org"}, 403), ("/ask", {"kind": "box"}, {}, 400),
         ("/ask", {"kind": "what", "x": 0, "y": 1}, {}, 400), ("/ask", {"a": 1}, {"Content-Type": "text/plain"}, 404),
@@ -122,11 +123,11 @@ def test_what_it_refuses(real, tmp_path, shown):
         assert fetch(server, "/ask", {"kind": "nearest", "k": 1, "at": [0, 0], "x": 0, "y": 1})[0] == 409
 
 
-def test_another_commit_is_seen(real, tmp_path, shown):
-    folder = made(tmp_path / "a", real)
-    server = shown(folder, real)
+def test_another_commit_is_seen(filed, tmp_path, shown):
+    folder = made(tmp_path / "a", filed)
+    server = shown(folder, filed)
     before = fetch(server, "/index")[1]["next"]
-    with bkd.open(folder, program=real) as index:
+    with bkd.open(folder, program=filed) as index:
         index.add((1, 1))
     assert fetch(server, "/index")[1]["next"] == before + 1
 
@@ -141,15 +142,15 @@ def towns(count=9000):
 
 
 @pytest.mark.skipif(shutil.which("chromium") is None, reason="no chromium")
-def test_in_a_browser(real, tmp_path, shown):
+def test_in_a_browser(filed, tmp_path, shown):
     from chromium import Chromium
-    with bkd.open(tmp_path / "index", leaf=64, program=real) as index:
+    with bkd.open(tmp_path / "index", leaf=64, program=filed) as index:
         points = list(towns())
         numbers = index.add_many(points[:6000])
         index.flush()
         index.add_many(points[6000:])
         index.delete_many(numbers[::6])
-    server = shown(tmp_path / "index", real)
+    server = shown(tmp_path / "index", filed)
     with Chromium(tmp_path / "profile") as page:
         page.call("Page.navigate", url=f"http://127.0.0.1:{server.server_address[1]}/")
         page.wait("document.body && document.body.dataset.ready === 'yes'")
@@ -160,7 +161,7 @@ def test_in_a_browser(real, tmp_path, shown):
         mode = "document.querySelector('input[value={}]').click()"
         answered = "document.body.dataset.answered === 'yes' && state.hits !== null"
         for check in (check_nearest, check_polygon, check_box):
-            check(page, tmp_path / "index", real, mode, answered)
+            check(page, tmp_path / "index", filed, mode, answered)
         assert page.value("byId('error').textContent") == "" and page.errors == []
         page.screenshot(tmp_path / "view.png")
         assert (tmp_path / "view.png").stat().st_size > 20_000
