@@ -48,6 +48,16 @@ def stand_in(monkeypatch) -> bkd.Program:
     return bkd.find(STAND_IN)
 
 
+@pytest.fixture(params=["stand-in", "real"])
+def filed(request, monkeypatch) -> bkd.Program:
+    """Each program, over runs, with files that hold what it answers."""
+    if request.param == "real":
+        return request.getfixturevalue("real")
+    monkeypatch.setenv("STAND_IN_FILES", "1")
+    monkeypatch.setenv("STAND_IN_COMMANDS", "run|explain|check")
+    return bkd.find(STAND_IN)
+
+
 @pytest.fixture(params=["stand-in session", "stand-in run", "real session", "real run"])
 def program(request, monkeypatch) -> bkd.Program:
     """Each program over each transport that it has."""

@@ -2,13 +2,12 @@
 """A program that talks as `bkd` does, over the model of its language: `session` and `run`, and what else it is told to have.
 
 It keeps its documents in `model.json`, and writes a commit file that lists no segments, so that a client finds the
-dimensions. The environment tells how it differs: STAND_IN_COMMANDS is the list of its commands, and STAND_IN_AT, as
+dimensions; with STAND_IN_FILES there are segments too, which hold the documents. The environment tells how it differs: STAND_IN_COMMANDS is the list of its commands, and STAND_IN_AT, as
 `LINE:WHAT`, what it does in place of that line: `die` (by SIGKILL), `hang`, `damaged`, `garbage`, or a status.
 """
 from __future__ import annotations
 
 import fcntl
-import hashlib
 import json
 import os
 import signal
@@ -16,6 +15,7 @@ import sys
 import time
 
 from model import Model, State, in_box
+from writer import write_index
 
 STATUS = {3: "source fault", 4: "folder fault", 5: "sink fault", 7: "out of memory", 8: "input too large"}
 
@@ -34,18 +34,21 @@ def store(folder: str, state: State | None) -> None:
     if state is None:
         return
     kept = {"dims": state.dims, "leaf": state.leaf, "next": state.next, "given": state.given, "docs": state.docs}
-    replace(folder, "model.json", json.dumps(kept).encode())
-    body = b"BKDPCOM2" + bytes([state.dims]) + state.leaf.to_bytes(2, "big") + state.next.to_bytes(4, "big")
-    payload = (body + state.given.to_bytes(4, "big") + bytes(10)).ljust(4064, b"\0")
-    replace(folder, "commit.bkd", payload + hashlib.sha256(bytes([3]) + bytes(12) + payload).digest())
+    aside = os.path.join(folder, "model.aside")
+    with open(aside, "w") as file:
+        json.dump(kept, file)
+    os.rename(aside, os.path.join(folder, "model.json"))
+    write_files(folder, state)
 
 
-def replace(folder: str, name: str, data: bytes) -> None:
-    """Written aside and renamed, so that a kill leaves the one or the other."""
-    aside = os.path.join(folder, name + ".aside")
-    with open(aside, "wb") as file:
-        file.write(data)
-    os.rename(aside, os.path.join(folder, name))
+def write_files(folder: str, state: State) -> None:
+    """The documents in up to four segments of form 3."""
+    numbers = list(state.docs) if os.environ.get("STAND_IN_FILES") else []
+    quarter = max(1000, -(-len(numbers) // 4))
+    generation = len(os.listdir(folder))
+    parts = [{n: state.docs[n] for n in numbers[i:i + quarter]} for i in range(0, len(numbers), quarter)]
+    segments = [(i, generation, 3, part, list(part)) for i, part in enumerate(parts)]
+    write_index(folder, state.dims, state.leaf, segments, state.next, state.given)
 
 
 def end(status: int, said: str = "") -> None:
@@ -117,6 +120,15 @@ def count(folder: str) -> None:
     end(0)
 
 
+def explain(folder: str) -> None:
+    """What queries find, in segments of which nothing is told."""
+    model = Model(load(folder))
+    for raw in sys.stdin.buffer:
+        words = model.line(raw.removesuffix(b"\n")).split()
+        print(f"touched 0 near {words[1]}" if words[0] == "near" else f"tested 0 touched 0 hits {words[1]}")
+    end(0)
+
+
 def batch(folder: str) -> None:
     model = Model(load(folder))
     for raw in sys.stdin.buffer:
@@ -149,7 +161,7 @@ def ranges(folder: str) -> None:
 def main() -> None:
     commands = os.environ.get("STAND_IN_COMMANDS", "run|load|explain|check|generate|session").split("|")
     does = {"session": lambda f: script(f, True), "run": lambda f: script(f, False),
-            "check": check, "count": count, "batch": batch, "ranges": ranges}
+            "explain": explain, "check": check, "count": count, "batch": batch, "ranges": ranges}
     if len(sys.argv) < 3 or sys.argv[2] not in commands or sys.argv[2] not in does:
         end(1, f"usage: bkd FOLDER {'|'.join(commands)} [options]")
     folder = sys.argv[1]

@@ -1,0 +1,106 @@
+"""What is exported, cleaned and drawn is what the program says is there."""
+import io
+import os
+
+import pytest
+
+import bkd
+from bkd import requests
+from bkd.formats import open_stored
+
+
+def made(folder, program, leaf=3):
+    """An index with several segments, deletions, documents of several points, and files that are left over."""
+    with bkd.open(folder, leaf=leaf, program=program) as index:
+        index.ask([requests.add((i * 7 % 50, i * 3 % 40)) for i in range(60)] + [requests.FLUSH])
+        index.ask([requests.add([(i, -i), (i, i), (0, 0)]) for i in range(20)] + [requests.FLUSH])
+        index.ask([requests.delete(i) for i in range(0, 80, 9)])
+        index.add((99, 99))
+    return folder
+
+
+def test_export(filed, tmp_path):
+    documents = dict(bkd.export(made(tmp_path / "a", filed)))
+    wanted = {i: ((i * 7 % 50, i * 3 % 40),) for i in range(60)}
+    wanted |= {60 + i: tuple(sorted({(i, -i), (i, i), (0, 0)})) for i in range(20)} | {80: ((99, 99),)}
+    wanted = {n: points for n, points in wanted.items() if n >= 80 or n % 9}
+    assert documents == wanted and list(documents) == sorted(documents)
+
+
+def test_built_anew_with_another_leaf_size(filed, tmp_path):
+    folder = made(tmp_path / "a", filed)
+    documents = list(bkd.export(folder))
+    with bkd.open(tmp_path / "b", leaf=100, program=filed) as index:
+        numbers = index.add_many(points for _, points in documents)
+        anew = dict(zip((number for number, _ in documents), numbers))
+        with bkd.open(folder, program=filed) as old:
+            for low, high in (((0, 0), (50, 50)), ((-5, -5), (5, 5)), ((99, 99), (99, 99))):
+                assert [anew[n] for n in old.box(low, high)] == index.box(low, high)
+
+
+def test_csv(real, filed, tmp_path):
+    folder = made(tmp_path / "a", filed)
+    text = io.StringIO()
+    lines = bkd.export_csv(folder, text)
+    rows = text.getvalue().splitlines()
+    assert rows[0] == "document,c0,c1" and len(rows) == lines + 1 and rows[-1] == "80,99,99"
+    assert bkd.load(tmp_path / "b", ["c0", "c1"], text.getvalue(), program=real) == (lines, lines)
+    named = io.StringIO()
+    bkd.export_csv(folder, named, ["x", "y"])
+    assert named.getvalue().startswith("document,x,y\n")
+    with pytest.raises(ValueError):
+        bkd.export_csv(folder, named, ["x"])
+
+
+def test_no_index(tmp_path, stand_in):
+    for use in (lambda: bkd.export(tmp_path), lambda: bkd.clean(tmp_path, program=stand_in)):
+        with pytest.raises(bkd.NoIndex):
+            use()
+
+
+def test_clean(filed, tmp_path):
+    folder = made(tmp_path / "a", filed)
+    bkd.clean(folder, program=filed)
+    before = sorted(os.listdir(folder))
+    assert bkd.clean(folder, program=filed) == [] and sorted(os.listdir(folder)) == before
+    left = ["commit.new", "live-00000000000000ff-0000000000000001.bkd", "seg-00000000000000ff.bkd"]
+    for name in left + ["mine.txt", "seg-x.bkd"]:
+        (folder / name).write_bytes(b"x")
+    assert bkd.clean(folder, program=filed) == left
+    assert sorted(os.listdir(folder)) == sorted(before + ["mine.txt", "seg-x.bkd"])
+
+
+def test_nothing_is_cleaned_in_a_damaged_folder(filed, tmp_path):
+    folder = made(tmp_path / "a", filed)
+    (folder / "commit.new").write_bytes(b"x")
+    segment = next(name for name in sorted(os.listdir(folder)) if name.startswith("seg-"))
+    data = bytearray((folder / segment).read_bytes())
+    data[-5000] ^= 1
+    (folder / segment).write_bytes(data)
+    with pytest.raises(bkd.Damaged) as told:
+        bkd.clean(folder, program=filed)
+    assert told.value.file == segment and (folder / "commit.new").exists()
+
+
+def test_pictures(filed, tmp_path):
+    plot = pytest.importorskip("bkd.plot")
+    from matplotlib.figure import Figure
+    folder = made(tmp_path / "a", filed)
+    with bkd.open(folder, program=filed) as index:
+        hits, near = index.box((0, 0), (20, 20)), index.nearest(5, (30, 30))
+    plot.picture(folder, tmp_path / "a.png", query=((0, 0), (20, 20)), hits=hits)
+    assert (tmp_path / "a.png").read_bytes().startswith(b"\x89PNG")
+    axes = Figure().add_subplot()
+    plot.points(axes, folder)
+    dead, live = (len(drawn.get_offsets()) for drawn in axes.collections)
+    stored = open_stored(folder)
+    assert live == sum(len(points) for _, points in bkd.export(folder))
+    assert live + dead == sum(part.listed.entries for part in stored.parts)
+    plot.cells(axes, stored)
+    assert sum(len(c.get_paths()) for c in axes.collections[2:]) == sum(p.segment.head.leaves for p in stored.parts)
+    plot.polygon(axes, [[(0, 0), (9, 0), (9, 9), (0, 0)], [(1, 1), (2, 1), (2, 2), (1, 1)]])
+    plot.nearest(axes, (30, 30), near)
+    assert len(axes.patches) == 2
+    with bkd.open(tmp_path / "line", 1, program=filed) as index:
+        index.add_many(range(1000))
+    plot.picture(tmp_path / "line", tmp_path / "line.png")

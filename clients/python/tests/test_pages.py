@@ -1,0 +1,65 @@
+"""The man page has no warnings and names every command, status and text; the completion completes."""
+import re
+import shutil
+import subprocess
+
+import pytest
+
+from conftest import TOP
+
+PAGE = TOP / "docs" / "bkd.1"
+COMPLETION = TOP / "docs" / "completion" / "bkd.bash"
+
+
+@pytest.fixture(scope="module")
+def shown():
+    if shutil.which("man") is None:
+        pytest.skip("no man")
+    run = subprocess.run(["man", "--warnings", "-E", "UTF-8", "-l", str(PAGE)], capture_output=True, text=True,
+                         env={"MANWIDTH": "200", "PATH": "/usr/bin:/bin", "LC_ALL": "C.UTF-8"})
+    assert (run.returncode, run.stderr) == (0, "")
+    return re.sub(r"\s+", " ", re.sub(".\b", "", run.stdout).replace("\u2010", "-").replace("−", "-"))
+
+
+@pytest.mark.parametrize("text", [
+    "run", "load", "explain", "generate", "check", "--cache", "--forks", "--columns", "--docs", "--seed",
+    "create D", "add C1 .. CD", "delete N", "delete box LO HI", "box [@NAME] LO HI", "polygon [@NAME] JSON", "nearest [@NAME] K",
+    "snapshot NAME", "release NAME", "flush", "merge begin", "merge end", "commit", "reopen",
+    "too long", "not utf-8", "no index", "unknown command", "bad name", "not two dimensions", "wrong words",
+    "bad number in word W", "dims", "leaf size", "bad k", "polygon is not json", "not a polygon", "polygon has too many positions",
+    "polygon ring R position P is not whole", "polygon ring R has too few positions", "polygon ring R is not closed",
+    "index exists", "full", "merge begun", "no merge begun", "unknown snapshot", "name taken", "too many snapshots", "not a query",
+    "no column C", "record N has another length", "record N column C is not a whole number", "columns do not match dims D",
+    "refused N", "source fault", "folder fault", "sink fault", "damaged:", "out of memory", "input too large",
+    "FILE page N", "FILE page N leaf at O", "FILE body", "FILE missing", "FILE has S bytes, needs N", "FILE says A, found B",
+    "document D beyond N", "document D twice", "commit.bkd", "commit.new", "seg-X.bkd", "live-X-G.bkd",
+])
+def test_the_man_page_has(shown, text):
+    assert text in shown
+
+
+def test_it_has_every_command(shown, real):
+    assert all(command in shown for command in real.commands)
+
+
+def completed(*words):
+    line = " ".join(repr(word) for word in words)
+    code = f"source {COMPLETION}; COMP_WORDS=({line}); COMP_CWORD={len(words) - 1}; _bkd; printf '%s\\n' \"${{COMPREPLY[@]}}\""
+    run = subprocess.run(["bash", "-c", code], capture_output=True, text=True, cwd=TOP)
+    assert run.stderr == ""
+    return run.stdout.split()
+
+
+@pytest.mark.parametrize("words, wanted", [
+    (("bkd", "doc"), ["docs"]),
+    (("bkd", ".", ""), ["run", "load", "explain", "check", "generate"]),
+    (("bkd", ".", "ge"), ["generate"]),
+    (("bkd", ".", "run", "--"), ["--cache", "--forks"]),
+    (("bkd", ".", "run", "--cache", "5", "--"), ["--forks"]),
+    (("bkd", ".", "run", "--forks", ""), ["0", "1", "2", "3", "4", "5", "6"]),
+    (("bkd", ".", "generate", "--d"), ["--docs"]),
+    (("bkd", ".", "check", ""), []),
+    (("bkd", ".", "load", "--columns", ""), []),
+])
+def test_completion(words, wanted):
+    assert completed(*words) == wanted
