@@ -181,9 +181,9 @@ saved_more told before mid after f g listed parts more l p keeps earlier same ne
 pub later_among : (parts : List Part) (p : Part) (id : ℕ) → is_among (ids_of (parts ++ p ∷ [])) id ≡ false → (is_among (ids_of parts) id ≡ false) × (id ≡ p.head.id → ⊥)
 later_among parts p id none = (
   false_from_ne_true (is_among (ids_of parts) id) (λ among.
-  let found = of_map (λ (q : Part). q.head.id) parts id (among_to (ids_of parts) id among) in
-  both_ways (is_among (ids_of (parts ++ p ∷ [])) id) none
-  (subst (λ (n : ℕ). is_among (ids_of (parts ++ p ∷ [])) n ≡ true) found.2 (id_of_part (parts ++ p ∷ []) found.0 (Contains-append_left parts (p ∷ []) found.0 found.1)))),
+      let found = of_map (λ (q : Part). q.head.id) parts id (among_to (ids_of parts) id among) in
+      both_ways (is_among (ids_of (parts ++ p ∷ [])) id) none
+      (subst (λ (n : ℕ). is_among (ids_of (parts ++ p ∷ [])) n ≡ true) found.2 (id_of_part (parts ++ p ∷ []) found.0 (Contains-append_left parts (p ∷ []) found.0 found.1)))),
   λ same. both_ways (is_among (ids_of (parts ++ p ∷ [])) id) none
       (subst (λ (n : ℕ). is_among (ids_of (parts ++ p ∷ [])) n ≡ true) (sym same) (id_of_part (parts ++ p ∷ []) p (Contains-append_right parts (p ∷ []) p (cons_head p [])))),
 )

@@ -348,7 +348,7 @@ impl<const D: usize> SegmentSet<D> {
         ensures moves { Rearranges D (IsTrue F.told) (F.files folder.old) (F.files folder.new) self.old self.new }
         ensures faithful { IsTrue F.told → IsFaithful D (F.files folder.old) self.old → IsFaithful D (F.files folder.new) self.new }
         ensures emptied { OnOk result (self.new.buffer ≡ []) }
-        ensures spills { OnOk result ((spot (F.files folder.new) self.new ≡ spot (F.files folder.old) self.old) 
+        ensures spills { OnOk result ((spot (F.files folder.new) self.new ≡ spot (F.files folder.old) self.old)
             ⊎ Spills D (IsTrue F.told) (spot (F.files folder.old) self.old) (spot (F.files folder.new) self.new)) }
         ensures refused { OnErr result (IsAsBefore self.old self.new) }
         ensures one_more { (level : ℕ) → free_count level (sizes_of self.new.parts) (pins_of self.new.begun self.new.parts)
