@@ -488,6 +488,7 @@ well_attached D told files c names parts cache dims commit all placed listed own
   kept = All-nil (λ (v : NamedView). All (IsNamed names) v.parts);
   own = own;
   few_snapshots = omega arith;
+  rooms = All-nil (λ (v : NamedView). length v.buffer ≤ 16384);
   inputs = All-nil (λ id. is_among (ids_of parts) id ≡ true);
   few_inputs = omega arith;
   built = λ n is. absurd cc;

@@ -17,6 +17,7 @@ use Rattle.segment_build.specs.NewSegments.{IsCanonical}
 use Rattle.segment_view.specs.Parts.{Part, IsPlaced, cleared}
 use Rattle.file_names.specs.Names.{NameList, is_named}
 use Rattle.file_names.proofs.Listed.{is_named-apart, joins, others_stay, stays}
+use Rattle.segment_set.specs.Given.{AreNext, IsNextName}
 use Rattle.segment_set.specs.Sets.{SetData, IsNamed}
 use Rattle.segment_set.specs.Kept.{KeepsNamed, StaysAlone, StaysButCache, IsWithin, Follows, HasCanonical, AreCanonical}
 
@@ -30,11 +31,17 @@ unnamed_before before now m more none = by (is_named before m) refl
     by true e = sym (more e) ∙ none
     by false e = refl
 
+-- names that joined one after another, and others after them
+pub next_then : (a b c : NameList) (ms ns : List FileName) → AreNext a ms b → AreNext b ns c → AreNext a (ms ++ ns) c
+next_then a b c [] ns first second = subst (λ (n : NameList). AreNext n ns c) first second
+next_then a b c (m ∷ ms) ns first second = (first.0, first.1, next_then first.0 b c ms ns first.2 second)
+
 pub keeps_none : (told : Type 0) (names : NameList) (files : Files) → KeepsNamed told names names files files
-keeps_none told names files = record { more = λ m h. h; files = λ t m h. refl; others = λ t m h. refl; own = refl; commit = λ t. refl }
+keeps_none told names files = record { given = ([], refl); more = λ m h. h; files = λ t m h. refl; others = λ t m h. refl; own = refl; commit = λ t. refl }
 
 pub keeps_then : (told : Type 0) (a b c : NameList) (f g h : Files) → KeepsNamed told a b f g → KeepsNamed told b c g h → KeepsNamed told a c f h
 keeps_then told a b c f g h first second = record {
+  given = (first.given.0 ++ second.given.0, next_then a b c first.given.0 second.given.0 first.given.1 second.given.1);
   more = λ m named. second.more m (first.more m named);
   files = λ t m named. second.files t m (first.more m named) ∙ first.files t m named;
   others = λ t m none. second.others t m none ∙ first.others t m (unnamed_before b.names c.names m (second.more m) none);
@@ -45,6 +52,7 @@ keeps_then told a b c f g h first second = record {
 -- a call that only reads
 pub keeps_calm : (told : Type 0) (old new : NameList) (before after : Files) → new ≡ old → (told → after ≡ before) → KeepsNamed told old new before after
 keeps_calm told old new before after names files = record {
+  given = ([], names);
   more = λ m named. ap (λ (n : NameList). is_named n.names m) names ∙ named;
   files = λ t m named. ap (λ (f : Files). f m) (files t);
   others = λ t m none. ap (λ (f : Files). f m) (files t);
@@ -53,24 +61,15 @@ keeps_calm told old new before after names files = record {
 }
 
 -- a file that was written under a name that joined the list for it
-pub keeps_written : (told : Type 0) (old new : NameList) (before after : Files) (name : FileName) → new.names ≡ old.names ++ name ∷ [] → is_named old.names name ≡ false → name ≢ Commit
+pub keeps_written : (told : Type 0) (old new : NameList) (before after : Files) (name : FileName) → IsNextName old name new → new.names ≡ old.names ++ name ∷ [] → is_named old.names name ≡ false → name ≢ Commit
     → (told → SameBut name before after) → KeepsNamed told old new before after
-keeps_written told old new before after name joined fresh other same = record {
+keeps_written told old new before after name next joined fresh other same = record {
+  given = (name ∷ [], (new, next, refl));
   more = λ m named. ap (λ (ns : List FileName). is_named ns m) joined ∙ stays old.names name m named;
   files = λ t m named. same t m (is_named-apart old.names m name named fresh);
   others = λ t m none. same t m (λ e. both_ways (is_named new.names m) none (ap (is_named new.names) e ∙ ap (λ (ns : List FileName). is_named ns name) joined ∙ joins old.names name));
   own = ap (λ (ns : List FileName). is_named ns Commit) joined ∙ others_stay old.names name Commit (λ e. other (sym e));
   commit = λ t. same t Commit (λ e. other (sym e));
-}
-
--- a name that joined the list, before anything is written under it
-pub keeps_joined : (told : Type 0) (old new : NameList) (before after : Files) (name : FileName) → new.names ≡ old.names ++ name ∷ [] → name ≢ Commit → (told → after ≡ before) → KeepsNamed told old new before after
-keeps_joined told old new before after name joined other files = record {
-  more = λ m named. ap (λ (ns : List FileName). is_named ns m) joined ∙ stays old.names name m named;
-  files = λ t m named. ap (λ (f : Files). f m) (files t);
-  others = λ t m none. ap (λ (f : Files). f m) (files t);
-  own = ap (λ (ns : List FileName). is_named ns Commit) joined ∙ others_stay old.names name Commit (λ e. other (sym e));
-  commit = λ t. ap (λ (f : Files). f Commit) (files t);
 }
 
 -- ---- the set alone

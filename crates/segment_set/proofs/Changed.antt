@@ -308,6 +308,7 @@ well_with D s points ok room given well = record {
   kept = well.kept;
   own = well.own;
   few_snapshots = well.few_snapshots;
+  rooms = well.rooms;
   inputs = well.inputs;
   few_inputs = well.few_inputs;
   built = well.built;

@@ -76,7 +76,3 @@ unpinned_apart inputs parts ids are = record {
   where
     kept : (id : ℕ) → is_among ids id ≡ true → Contains (ids_of parts) id × (not (is_among inputs id) ≡ true)
     kept id there = of_filter (λ n. not (is_among inputs n)) (ids_of parts) id (subst (λ (ns : List ℕ). Contains ns id) are (among_to ids id there))
-
-pub unpinned_all : (ids : List ℕ) → filter (λ id. not (is_among [] id)) ids ≡ ids
-unpinned_all [] = refl
-unpinned_all (n ∷ ns) = ap (λ (ms : List ℕ). n ∷ ms) (unpinned_all ns)

@@ -1,5 +1,5 @@
 -- A set without documents.
-use Rattle.std.proofs.Common.{◌≡◌, ℕ, ◌≤◌, false, List, [], None, refl, arith}
+use Rattle.std.proofs.Common.{◌≡◌, ℕ, ◌≤◌, false, List, [], length, None, refl, arith}
 use Rattle.std.proofs.lemmas.List.Elements.{All-nil}
 use Rattle.outer_io.specs.declared.file_name.FileName.TheVariants.{Commit}
 use Rattle.outer_io.specs.Files.{Files}
@@ -58,6 +58,7 @@ well_empty D leaf names cache some few least greatest none own = record {
   kept = All-nil _;
   own = own;
   few_snapshots = omega arith;
+  rooms = All-nil (λ (v : NamedView). length v.buffer ≤ 16384);
   inputs = All-nil _;
   few_inputs = omega arith;
   built = λ n is. absurd cc;

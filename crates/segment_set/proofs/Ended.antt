@@ -140,7 +140,7 @@ module _ (D : ℕ) (told : Type 0) (files new_files : Files) {s : SetData} (name
         | inl none ↦ inl (none.0, subst (λ (o : Option NewSegmentData). Replaces D told s.names names new_files b.inputs o s.parts parts) none.1 r)
         | inr some ↦
             let put = subst (λ (o : Option NewSegmentData). Replaces D told s.names names new_files b.inputs o s.parts parts) some.1 r in
-            inr (part_at put.id n, (refl, refl), put.placed)
+            inr (λ none. omega (arith, some.0, ap length none), (part_at put.id n, (refl, refl), put.placed))
       ]
 
 -- a segment that has a live number is what is living of it

@@ -36,3 +36,4 @@ pub mod Evident
 pub mod Faithful
 pub mod Viewing
 pub mod Trusted
+pub mod Settled

@@ -9,7 +9,7 @@ use Rattle.outer_io.specs.declared.file_name.FileName.TheVariants.{Segment}
 use Rattle.outer_io.specs.Files.{Files, bytes_of}
 use Rattle.point_codec.specs.Points.{Item}
 use Rattle.live_bits.specs.LiveSet.{is_live}
-use Rattle.documents.specs.Entries.{has_entry}
+use Rattle.documents.specs.Entries.{has_entry, is_among}
 use Rattle.documents.proofs.Lists.{cons_head, in_filter, nil_none}
 use Rattle.inner_pack.specs.Places.{front}
 use Rattle.inner_pack.specs.Trees.{IndexTree}
@@ -21,13 +21,15 @@ use Rattle.segment_file.proofs.Counted.{segment_counted}
 use Rattle.segment_file.proofs.Unique.{tree_once}
 use Rattle.stored_index.proofs.Listing.{live_fit}
 use Rattle.stored_index.proofs.Places.{entry_there, some_entry}
-use Rattle.segment_view.specs.Parts.{Part, Contents, IsRead, AreRead, ids_of, parts_among, parts_but}
+use Rattle.segment_view.specs.Parts.{Part, Contents, IsPlaced, IsRead, AreRead, ids_of, parts_among, parts_but}
 use Rattle.segment_build.specs.NewSegments.{NewSegmentData}
-use Rattle.file_names.specs.Names.{NameList}
+use Rattle.file_names.specs.Names.{NameList, is_named}
 use Rattle.segment_set.specs.Merged.{IsWhole}
 use Rattle.segment_set.specs.Merges.{HasLiveEntries, IsGathered, IsMerged, IsPut, Replaces, part_at}
 use Rattle.segment_set.proofs.Carried.{placed_cases}
-use Rattle.segment_set.proofs.Wholes.{among_all, but_all}
+use Rattle.segment_set.proofs.Replaced.{all_but, but_placed}
+use Rattle.segment_set.proofs.Weller.{free_id}
+use Rattle.segment_set.proofs.Wholes.{among_free, none_free}
 
 -- a file is that of one list of entries
 pub entries_once : (D : ℕ) (bytes : List ℕ) (h : Head) (xs ys : List Item) → IsSegment D bytes h xs → IsSegment D bytes h ys → xs ≡ ys
@@ -79,31 +81,38 @@ abbrev pub AllLive : Contents → List Part → Type 0
 AllLive c parts = All (λ p. All (λ x. is_live p.live x.doc ≡ true) (c p.head.id)) parts
 
 -- one that changes nothing
-pub settled_lives : (D : ℕ) (files : Files) (c : Contents) (ids : List ℕ) (parts : List Part) → ids ≡ ids_of parts → All IsWhole (parts_among ids parts) → AreRead D files c parts → AllLive c parts
-settled_lives D files c ids parts is whole reads =
-    let all : All IsWhole parts = subst (All IsWhole) (ap (λ ns. parts_among ns parts) is ∙ among_all parts) whole in
-    λ k p lt. whole_lives D files c _ (all k p lt) (reads k p lt)
+pub settled_lives : (D : ℕ) (files : Files) (c : Contents) (inputs ids : List ℕ) (parts : List Part) → ids ≡ filter (λ id. not (is_among inputs id)) (ids_of parts) → All IsWhole (parts_among ids parts) → AreRead D files c parts
+    → AllLive c (parts_but inputs parts)
+settled_lives D files c inputs ids parts are whole reads =
+    let all : All IsWhole (parts_but inputs parts) = subst (All IsWhole) (among_free inputs ids parts are) whole in
+    let read : AreRead D files c (parts_but inputs parts) = all_but (IsRead D files c) inputs parts reads in
+    λ k p lt. whole_lives D files c _ (all k p lt) (read k p lt)
 
 -- one that builds a segment
-pub merged_lives : (D : ℕ) (told : Type 0) (leaf : ℕ) (before after : NameList) (files new_files : Files) (cache : PageCache) (ids : List ℕ) (old new : List Part) (c : Contents) → told → ids ≡ ids_of old
-    → IsMerged D told leaf before after files new_files cache ids old new → AreRead D new_files c new → AllLive c new
-merged_lives D told leaf before after files new_files cache ids old new c is_told is m reads = by m.built m.replaces m.gathered
+pub merged_lives : (D : ℕ) (told : Type 0) (leaf : ℕ) (before after : NameList) (files new_files : Files) (cache : PageCache) (inputs ids : List ℕ) (old new : List Part) (c : Contents) → told
+    → ids ≡ filter (λ id. not (is_among inputs id)) (ids_of old) → ((id : ℕ) → is_among inputs id ≡ true → is_named before.names (Segment id) ≡ true)
+    → IsMerged D told leaf before after files new_files cache ids old new → AreRead D new_files c new → AllLive c (parts_but inputs new)
+merged_lives D told leaf before after files new_files cache inputs ids old new c is_told are named m reads = by m.built m.replaces m.gathered
   where
-    none : parts_but ids old ≡ []
-    none = ap (λ ns. parts_but ns old) is ∙ but_all old
+    none : parts_but inputs (parts_but ids old) ≡ []
+    none = none_free inputs ids old are
 
-    by : (built : Option NewSegmentData) → Replaces D told before after new_files ids built old new → ((n : NewSegmentData) → built ≡ Some n → IsGathered D leaf (parts_among ids old) n) → AllLive c new
-    by None r gathered = subst (AllLive c) (sym (r ∙ none)) (All-nil (λ (p : Part). All (λ x. is_live p.live x.doc ≡ true) (c p.head.id)))
-    by (Some n) r gathered = All-weaker (Contains new) (λ (p : Part). All (λ x. is_live p.live x.doc ≡ true) (c p.head.id)) each new (All-contains_itself new)
+    by : (built : Option NewSegmentData) → Replaces D told before after new_files ids built old new → ((n : NewSegmentData) → built ≡ Some n → IsGathered D leaf (parts_among ids old) n) → AllLive c (parts_but inputs new)
+    by None r gathered = subst (AllLive c) (sym (ap (parts_but inputs) r ∙ none)) (All-nil (λ (p : Part). All (λ x. is_live p.live x.doc ≡ true) (c p.head.id)))
+    by (Some n) r gathered =
+        All-weaker (Contains (parts_but inputs new)) (λ (p : Part). All (λ x. is_live p.live x.doc ≡ true) (c p.head.id)) each (parts_but inputs new) (All-contains_itself (parts_but inputs new))
       where
+        placed : IsPlaced (part_at r.id n) (parts_but inputs (parts_but ids old)) (parts_but inputs new)
+        placed = but_placed inputs (part_at r.id n) (parts_but ids old) new r.placed (free_id D told before after new_files ids old new inputs r.id r.fresh named)
+
         here : Contains new (part_at r.id n)
         here = subst (λ (ps : List Part). Contains ps (part_at r.id n)) (sym r.placed.after) (Contains-append_right r.placed.front (part_at r.id n ∷ r.placed.back) (part_at r.id n) (cons_head (part_at r.id n) r.placed.back))
 
         alive : All (λ x. is_live n.live x.doc ≡ true) (c r.id)
         alive = built_lives D told before after new_files ids n old new c is_told (gathered n refl).all r (All-contains (IsRead D new_files c) new (part_at r.id n) reads here)
 
-        each : (q : Part) → Contains new q → All (λ x. is_live q.live x.doc ≡ true) (c q.head.id)
+        each : (q : Part) → Contains (parts_but inputs new) q → All (λ x. is_live q.live x.doc ≡ true) (c q.head.id)
         each q there =
-            placed_cases (part_at r.id n) (parts_but ids old) new r.placed q there
+            placed_cases (part_at r.id n) (parts_but inputs (parts_but ids old)) (parts_but inputs new) placed q there
             (λ e. subst (λ (s : Part). All (λ x. is_live s.live x.doc ≡ true) (c s.head.id)) e alive)
             (λ h. nil_none q _ (subst (λ (ps : List Part). Contains ps q) none h))

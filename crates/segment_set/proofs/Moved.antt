@@ -80,6 +80,7 @@ module _ (D : ℕ) (told : Type 0) (files new_files : Files) (s : SetData) (name
     kept = λ k v lt. All-weaker (IsNamed s.names) (IsNamed names) (λ p is. m.kept.more (Segment p.head.id) is) _ (well.kept k v lt);
     own = m.kept.own ∙ well.own;
     few_snapshots = well.few_snapshots;
+    rooms = well.rooms;
     inputs = inputs;
     few_inputs = few_inputs;
     built = built;

@@ -1,16 +1,21 @@
 -- What is saved of a set.
-use Rattle.std.proofs.Common.{◌≡◌, ℕ, zero, suc, ◌≤◌, true, false, cond, List, [], ◌∷◌, ◌++◌, length, take, map, Option, Some, is_some, Result, Ok, Err, refl, sym, ap, subst, ◌∙◌, arith}
+use Rattle.std.proofs.Common.{◌≡◌, ℕ, zero, suc, ◌≤◌, ◌<◌, Bool, true, false, cond, get_or, List, [], ◌∷◌, ◌++◌, length, take, map, Option, Some, is_some, Result, Ok, Err, refl, sym, ap, subst, ◌∙◌, arith}
 use Rattle.std.specs.Prelude.{IfOk, OnOk}
-use Rattle.std.specs.List.{All, AllZip, Contains, filter, list_any}
+use Rattle.std.specs.List.{All, AllPairs, AllZip, Contains, filter, list_any, slice_get}
 use Rattle.std.specs.List.Sorted.{IsStrictlyIncreasing}
+use Rattle.std.proofs.lemmas.Bool.{both_ways, false_from_ne_true}
+use Rattle.std.proofs.lemmas.Option.{get_or_from_slice_get, slice_get_within}
+use Rattle.std.proofs.lemmas.List.Kept.{AllPairs-from_increasing}
 use Rattle.std.proofs.lemmas.List.{append-nil}
-use Rattle.std.proofs.lemmas.List.Elements.{All-contains, All-cons, All-head, All-nil, All-tail}
+use Rattle.std.proofs.lemmas.List.Elements.{All-contains, All-contains_itself, All-cons, All-head, All-nil, All-tail, Contains-append_left, Contains-append_right}
 use Rattle.outer_io.specs.declared.file_name.FileName.{FileName}
 use Rattle.outer_io.specs.declared.file_name.FileName.TheVariants.{Commit, CommitNew, Live, Segment}
 use Rattle.outer_io.specs.Files.{Files, bytes_of}
 use Rattle.point_codec.specs.Points.{Item}
 use Rattle.live_bits.specs.LiveSet.{LiveSet, is_live}
-use Rattle.documents.specs.Entries.{AreDocs, has_entry}
+use Rattle.documents.specs.Entries.{AreDocs, has_entry, is_among}
+use Rattle.documents.proofs.Kept.{among_to}
+use Rattle.documents.proofs.Lists.{cons_head, in_map, of_map, pairs_head, pairs_tail}
 use Rattle.page_cache.specs.declared.cache.PageCache.{PageCache}
 use Rattle.page_cache.specs.Cache.{Agrees, KeepsFile}
 use Rattle.page_cache.specs.declared.faults.Damage.{Damage}
@@ -32,11 +37,13 @@ use Rattle.stored_index.proofs.Pairwise.{zip_map, zip_moved, zip_same}
 use Rattle.stored_index.proofs.Whole.{stored_from}
 use Rattle.index_model.specs.State.{Index, at_rest}
 use Rattle.segment_view.specs.Parts.{Contents, IsRead, Part, ids_of, live_in_parts, lives_of}
-use Rattle.file_names.specs.Names.{NameList, is_named}
+use Rattle.file_names.specs.Names.{NameList, IsNextGeneration, is_named}
+use Rattle.file_names.proofs.Listed.{others_stay}
 use Rattle.segment_set.specs.Sets.{IsNamed, IsWell, SetData}
 use Rattle.segment_set.specs.Seen.{Sees}
 use Rattle.segment_set.specs.Kept.{AreCanonical, IsCommitOf, KeepsNamed, StaysAlone}
-use Rattle.segment_set.specs.Saved.{IsSaved, StaysButSaved}
+use Rattle.segment_set.specs.Saved.{HasNextGeneration, IsSaved, StaysButSaved}
+use Rattle.segment_set.proofs.Replaced.{id_of_part}
 use Rattle.segment_set.proofs.Carried.{canon_named, canon_then, follows_none, unnamed_before}
 use Rattle.segment_set.proofs.Standing.{sees_alike, sees_like}
 
@@ -63,6 +70,7 @@ well_other D s names cache saved well named kept own cached = record {
   kept = kept;
   own = own;
   few_snapshots = well.few_snapshots;
+  rooms = well.rooms;
   inputs = well.inputs;
   few_inputs = well.few_inputs;
   built = well.built;
@@ -112,6 +120,15 @@ take_whole [] (suc i) le = refl
 take_whole (x ∷ xs) zero le = absurd (omega (arith, le))
 take_whole (x ∷ xs) (suc i) le = ap (λ ys. x ∷ ys) (take_whole xs i (omega (arith, le)))
 
+pub parts_before : (parts : List Part) (i : ℕ) (d : Part) → AllPairs (λ (m n : ℕ). m < n) (ids_of parts) → i < length parts → All (λ (q : Part). q.head.id < (get_or parts i d).head.id) (take i parts)
+parts_before [] i d up lt = absurd (omega (arith, lt))
+parts_before (p ∷ ps) zero d up lt = All-nil (λ (q : Part). q.head.id < p.head.id)
+parts_before (p ∷ ps) (suc i) d up lt =
+    let less : i < length ps = omega (arith, lt) in
+    All-cons (λ (q : Part). q.head.id < (get_or ps i d).head.id) p (take i ps)
+    (pairs_head (λ (m n : ℕ). m < n) p.head.id (ids_of ps) up (get_or ps i d).head.id (in_map (λ (q : Part). q.head.id) ps (get_or ps i d) (All-contains_itself ps i d less)))
+    (parts_before ps i d (pairs_tail (λ (m n : ℕ). m < n) p.head.id (ids_of ps) up) less)
+
 -- ---- a segment that is saved stays so
 
 pub saved_kept : (told : Type 0) (before mid after : NameList) (f g : Files) (l : Listed) (p : Part) → KeepsNamed told mid after f g → after.next_segment ≡ mid.next_segment
@@ -123,21 +140,26 @@ saved_kept told before mid after f g l p keeps next is = record {
   may = subst (λ n. IsListed n l) (sym next) is.may;
   fresh = is.fresh;
   named = keeps.more (Live l.segment l.generation) is.named;
+  rule = is.rule;
   written = λ t. subst (λ b. IsLiveFile l.segment l.generation (bytes_of b) p.live) (sym (keeps.files t (Live l.segment l.generation) is.named)) (is.written t);
 }
 
--- since a time when the list had fewer names
+-- since a time when the list had fewer names, but no fewer of this segment's live bits
 pub saved_since : (told : Type 0) (first before after : NameList) (files : Files) (l : Listed) (p : Part) → ((m : FileName) → is_named first.names m ≡ true → is_named before.names m ≡ true)
-    → IsSaved told before after files l p → IsSaved told first after files l p
-saved_since told first before after files l p more is = record {
+    → ((n : ℕ) → is_named before.names (Live p.head.id n) ≡ is_named first.names (Live p.head.id n)) → IsSaved told before after files l p → IsSaved told first after files l p
+saved_since told first before after files l p more same is = record {
   segment = is.segment;
   entries = is.entries;
   live = is.live;
   may = is.may;
   fresh = unnamed_before first.names before.names (Live l.segment l.generation) (more (Live l.segment l.generation)) is.fresh;
   named = is.named;
+  rule = subst (λ (taken : ℕ → Bool). IsNextGeneration taken l.generation) (λ i n. like n i) is.rule;
   written = is.written;
 }
+  where
+    like : (n : ℕ) → is_named before.names (Live l.segment n) ≡ is_named first.names (Live l.segment n)
+    like n = subst (λ (id : ℕ). is_named before.names (Live id n) ≡ is_named first.names (Live id n)) (sym is.segment) (same n)
 
 pub all_saved_kept : (told : Type 0) (before mid after : NameList) (f g : Files) (listed : List Listed) (parts : List Part) → KeepsNamed told mid after f g → after.next_segment ≡ mid.next_segment
     → AllZip (IsSaved told before mid f) listed parts → AllZip (IsSaved told before after g) listed parts
@@ -146,11 +168,43 @@ all_saved_kept told before mid after f g listed parts keeps next =
 
 -- one more
 pub saved_more : (told : Type 0) (before mid after : NameList) (f g : Files) (listed : List Listed) (parts more : List Part) (l : Listed) (p : Part) → KeepsNamed told mid after f g
-    → ((m : FileName) → is_named before.names m ≡ true → is_named mid.names m ≡ true) → after.next_segment ≡ mid.next_segment → more ≡ parts ++ p ∷ []
+    → ((m : FileName) → is_named before.names m ≡ true → is_named mid.names m ≡ true) → ((n : ℕ) → is_named mid.names (Live p.head.id n) ≡ is_named before.names (Live p.head.id n))
+    → after.next_segment ≡ mid.next_segment → more ≡ parts ++ p ∷ []
     → AllZip (IsSaved told before mid f) listed parts → IsSaved told mid after g l p → AllZip (IsSaved told before after g) (listed ++ l ∷ []) more
-saved_more told before mid after f g listed parts more l p keeps earlier next is all one =
+saved_more told before mid after f g listed parts more l p keeps earlier same next is all one =
     subst (AllZip (IsSaved told before after g) (listed ++ l ∷ [])) (sym is)
-    (zip_pushed (IsSaved told before after g) listed parts l p (all_saved_kept told before mid after f g listed parts keeps next all) (saved_since told before mid after g l p earlier one))
+    (zip_pushed (IsSaved told before after g) listed parts l p (all_saved_kept told before mid after f g listed parts keeps next all) (saved_since told before mid after g l p earlier same one))
+
+-- ---- names of live bits, one segment after another
+
+-- an id that is none of the segments and not that of one more
+pub later_among : (parts : List Part) (p : Part) (id : ℕ) → is_among (ids_of (parts ++ p ∷ [])) id ≡ false → (is_among (ids_of parts) id ≡ false) × (id ≡ p.head.id → ⊥)
+later_among parts p id none = (
+  false_from_ne_true (is_among (ids_of parts) id) (λ among.
+      let found = of_map (λ (q : Part). q.head.id) parts id (among_to (ids_of parts) id among) in
+      both_ways (is_among (ids_of (parts ++ p ∷ [])) id) none
+      (subst (λ (n : ℕ). is_among (ids_of (parts ++ p ∷ [])) n ≡ true) found.2 (id_of_part (parts ++ p ∷ []) found.0 (Contains-append_left parts (p ∷ []) found.0 found.1)))),
+  λ same. both_ways (is_among (ids_of (parts ++ p ∷ [])) id) none
+      (subst (λ (n : ℕ). is_among (ids_of (parts ++ p ∷ [])) n ≡ true) (sym same) (id_of_part (parts ++ p ∷ []) p (Contains-append_right parts (p ∷ []) p (cons_head p [])))),
+)
+
+-- a name joined of the live bits of another segment
+pub other_live : (names : List FileName) (segment generation id n : ℕ) → (id ≡ segment → ⊥) → is_named (names ++ Live segment generation ∷ []) (Live id n) ≡ is_named names (Live id n)
+other_live names segment generation id n other = others_stay names (Live segment generation) (Live id n) (λ e. other (live_id id n segment generation e))
+  where
+    live_id : (a m b k : ℕ) → Live a m ≡ Live b k → a ≡ b
+    live_id a m b k e = cc
+
+-- the next segment's id is none of those before
+pub later_id : (parts : List Part) (i : ℕ) (p : Part) → IsStrictlyIncreasing (ids_of parts) → slice_get parts i ≡ Some p → is_among (ids_of (take i parts)) p.head.id ≡ false
+later_id parts i p up at = false_from_ne_true (is_among (ids_of (take i parts)) p.head.id) (λ among.
+    let found = of_map (λ (q : Part). q.head.id) (take i parts) p.head.id (among_to (ids_of (take i parts)) p.head.id among) in
+    omega (arith, found.2, All-contains (λ (q : Part). q.head.id < p.head.id) (take i parts) found.0 less found.1))
+  where
+    less : All (λ (q : Part). q.head.id < p.head.id) (take i parts)
+    less =
+        subst (λ (r : Part). All (λ (q : Part). q.head.id < r.head.id) (take i parts)) (get_or_from_slice_get parts i p p at)
+        (parts_before parts i p (AllPairs-from_increasing (ids_of parts) up) (slice_get_within parts i p at))
 
 -- ---- the commit
 
@@ -358,7 +412,10 @@ pub all_fresh : (told : Type 0) (first before after : NameList) (files : Files) 
     → AllZip (IsSaved told before after files) listed parts → All (λ (l : Listed). is_named first.names (Live l.segment l.generation) ≡ false) listed
 all_fresh told first before after files listed parts more all =
     zip_left (IsSaved told before after files) (λ (l : Listed). is_named first.names (Live l.segment l.generation) ≡ false) listed parts
-    (λ l p saved. (saved_since told first before after files l p more saved).fresh) all
+    (λ l p saved. unnamed_before first.names before.names (Live l.segment l.generation) (more (Live l.segment l.generation)) saved.fresh) all
+
+pub all_next : (told : Type 0) (before after : NameList) (files : Files) (listed : List Listed) (parts : List Part) → AllZip (IsSaved told before after files) listed parts → All (HasNextGeneration before) listed
+all_next told before after files listed parts all = zip_left (IsSaved told before after files) (HasNextGeneration before) listed parts (λ l p saved. saved.rule) all
 
 pub all_written : (told : Type 0) (before after : NameList) (files : Files) (listed : List Listed) (parts others : List Part) → told → others ≡ parts → AllZip (IsSaved told before after files) listed parts
     → AllZip (λ (l : Listed) (p : Part). IsLiveFile l.segment l.generation (bytes_of (files (Live l.segment l.generation))) p.live) listed others

@@ -1,5 +1,5 @@
 -- Snapshots that are taken and let go.
-use Rattle.std.proofs.Common.{◌≡◌, ℕ, ◌<◌, Bool, true, false, not, cond, List, [], ◌∷◌, ◌++◌, length, refl, ap, ◌∙◌, arith}
+use Rattle.std.proofs.Common.{◌≡◌, ℕ, ◌≤◌, ◌<◌, Bool, true, false, not, cond, List, [], ◌∷◌, ◌++◌, length, refl, ap, ◌∙◌, arith}
 use Rattle.std.specs.List.{All, AllZip, filter}
 use Rattle.std.specs.Str.{bytes_eq}
 use Rattle.std.proofs.lemmas.List.{length_push}
@@ -65,6 +65,7 @@ well_snapped D s name few well = record {
   kept = All-push (λ (v : NamedView). All (IsNamed s.names) v.parts) s.snapshots (record { name = name; parts = s.parts; buffer = s.buffer }) well.kept well.named;
   own = well.own;
   few_snapshots = omega (arith, few, length_push s.snapshots (record { name = name; parts = s.parts; buffer = s.buffer }));
+  rooms = All-push (λ (v : NamedView). length v.buffer ≤ 16384) s.snapshots (record { name = name; parts = s.parts; buffer = s.buffer }) well.rooms well.room;
   inputs = well.inputs;
   few_inputs = well.few_inputs;
   built = well.built;
@@ -136,6 +137,7 @@ well_released D s name well = record {
   kept = All-filter (is_other name) (λ (v : NamedView). All (IsNamed s.names) v.parts) s.snapshots well.kept;
   own = well.own;
   few_snapshots = omega (arith, well.few_snapshots, length-filter (is_other name) s.snapshots, count_by-le-length (is_other name) s.snapshots);
+  rooms = All-filter (is_other name) (λ (v : NamedView). length v.buffer ≤ 16384) s.snapshots well.rooms;
   inputs = well.inputs;
   few_inputs = well.few_inputs;
   built = well.built;

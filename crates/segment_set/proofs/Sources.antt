@@ -92,6 +92,7 @@ begun_well D {s} well b cache inputs few gathered cached = record {
   kept = well.kept;
   own = well.own;
   few_snapshots = well.few_snapshots;
+  rooms = well.rooms;
   inputs = inputs;
   few_inputs = few;
   built = λ n is. let of = gathered n is in record { leaf_size = of.made.leaf_size; has = of.made.has; fits = of.made.fits; within = of.within };

@@ -24,10 +24,10 @@ use Rattle.file_names.specs.Names.{NameList, is_named}
 use Rattle.file_names.proofs.Listed.{contains-is_named, gone, is_named-contains, others_kept}
 use Rattle.segment_set.specs.Sets.{IsNamed, IsWell, NamedView, SetData}
 use Rattle.segment_set.specs.Seen.{Sees}
-use Rattle.segment_set.specs.Kept.{IsNeeded, KeepsNamed, StaysButFiles, ViewNeeds}
+use Rattle.segment_set.specs.Kept.{IsNeeded, StaysButFiles, ViewNeeds}
 use Rattle.segment_set.specs.Swept.{IsShown, IsSwept, IsUnneeded, shows_file}
 use Rattle.segment_set.proofs.Saving.{take_whole, well_other}
-use Rattle.segment_set.proofs.Standing.{IsLike, sees_alike, sees_like}
+use Rattle.segment_set.proofs.Standing.{IsLike, sees_like, stands_alike}
 
 -- ---- which files a view needs
 
@@ -232,23 +232,22 @@ module _ (D : ℕ) (s : SetData) (name : FileName) (cache : PageCache) (well : I
   sees_swept before after t i same agrees like parts buffer begun is seen =
       let mid : SetData = record s { names = names_but name s.names; cache = cache } in
       let first : Sees D before mid i = sees_like D before s mid i (record { leaf = refl; next = refl; given = refl; snapshots = refl }) refl refl refl agrees seen in
-      let second : Sees D after mid i = sees_alike D before after mid i well_swept (Unit {0}) tt s.names kept first in
+      let second : Sees D after mid i = record {
+        contents = first.contents;
+        stands = stands_alike D before after first.contents first.contents mid well_swept (record { files = λ id there. same (Segment id) (not_it (Segment id) there); entries = λ id there. refl }) first.stands;
+        dims = first.dims;
+        leaf = first.leaf;
+        next = first.next;
+        given = first.given;
+        begun = first.begun;
+        docs = first.docs;
+        few = first.few;
+        snapshots = first.snapshots;
+      } in
       sees_like D after mid t i (record { leaf = like.leaf; next = like.next; given = like.given; snapshots = like.snapshots }) parts buffer begun (subst (Agrees after) (sym is) second.stands.agrees) second
     where
       not_it : (m : FileName) → is_named (names_but name s.names).names m ≡ true → m ≢ name
       not_it m there e = both_ways (is_named (names_but name s.names).names name) (gone s.names.names name) (ap (is_named (names_but name s.names).names) (sym e) ∙ there)
-
-      commit_apart : Commit ≢ name
-      commit_apart e = both_ways (is_named s.names.names Commit) well.own (ap (is_named s.names.names) e ∙ named)
-
-      kept : KeepsNamed (Unit {0}) (names_but name s.names) s.names before after
-      kept = record {
-        more = λ m there. sym (others_kept s.names.names name m (not_it m there)) ∙ there;
-        files = λ to m there. same m (not_it m there);
-        others = λ to m gone_too. same m (λ e. both_ways (is_named s.names.names m) gone_too (ap (is_named s.names.names) e ∙ named));
-        own = sym (others_kept s.names.names name Commit commit_apart);
-        commit = λ to. same Commit commit_apart;
-      }
 
 -- ---- the list of names
 

@@ -155,6 +155,7 @@ well_but D number s well = record {
   kept = well.kept;
   own = well.own;
   few_snapshots = well.few_snapshots;
+  rooms = well.rooms;
   inputs = subst (λ (ns : List ℕ). All (λ id. is_among (ids_of (cleared number s.parts)) id ≡ true) ns) (sym (inputs_but number s.begun))
       (subst (λ (ids : List ℕ). All (λ id. is_among ids id ≡ true) (inputs_of s.begun)) (sym (ids_cleared number s.parts)) well.inputs);
   few_inputs = subst (λ (ns : List ℕ). length ns ≤ 64) (sym (inputs_but number s.begun)) well.few_inputs;
@@ -192,6 +193,7 @@ well_cache D s cache well cached = record {
   kept = well.kept;
   own = well.own;
   few_snapshots = well.few_snapshots;
+  rooms = well.rooms;
   inputs = well.inputs;
   few_inputs = well.few_inputs;
   built = well.built;

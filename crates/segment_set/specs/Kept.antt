@@ -14,10 +14,13 @@ use Rattle.segment_view.specs.Parts.{Part, ids_of}
 use Rattle.number_checks.specs.Crowded.{AreUncrowded}
 use Rattle.segment_build.specs.NewSegments.{IsCanonical}
 use Rattle.file_names.specs.Names.{NameList, is_named}
+use Rattle.segment_set.specs.Given.{AreNext}
 use Rattle.segment_set.specs.Sets.{NamedView, SetData, is_live_in, sizes_of}
 
--- names are only added, and a file that is changed has a name that was added: no named file is, and not the Commit file
+-- Names are only added, each the one that its rule gives, and a file that is changed has a name that was added: no named file is, and not the
+-- Commit file.
 pub record KeepsNamed (told : Type 0) (old new : NameList) (before after : Files) : Type 0 where
+  pub given : (names : List FileName) × AreNext old names new
   pub more : (m : FileName) → is_named old.names m ≡ true → is_named new.names m ≡ true
   pub files : told → (m : FileName) → is_named old.names m ≡ true → after m ≡ before m
   pub others : told → (m : FileName) → is_named new.names m ≡ false → after m ≡ before m
@@ -81,6 +84,14 @@ pub record IsCommitOf (D : ℕ) (s : SetData) (c : CommitData) : Type 0 where
 -- all but the cache is as before
 pub record StaysButCache (old new : SetData) : Type 0 where
   pub is : new ≡ record old { cache = new.cache }
+
+-- all but the list of names and the cache is as before: so a call leaves the set that was refused, or failed after it had named a file
+pub record IsAsBefore (old new : SetData) : Type 0 where
+  pub is : new ≡ record old { names = new.names; cache = new.cache }
+
+-- all but the segments, the list of names and the cache is as before
+pub record StaysButParts (old new : SetData) : Type 0 where
+  pub is : new ≡ record old { names = new.names; parts = new.parts; cache = new.cache }
 
 -- all but the begun merge and the cache is as before
 pub record StaysButMerge (old new : SetData) : Type 0 where

@@ -1,10 +1,12 @@
 pub mod Faults
 pub mod Sets
+pub mod Given
 pub mod Seen
 pub mod Kept
 pub mod Merged
 pub mod Damages
 pub mod Merges
+pub mod Settles
 pub mod Runs
 pub mod Saved
 pub mod Swept

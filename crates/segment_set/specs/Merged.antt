@@ -1,5 +1,5 @@
 -- What merges do to the segments of now.
-use Rattle.std.specs.Prelude.{◌≡◌, ◌⊎◌, ℕ, true, false, not, nat_eq, nat_lt, List, [], ◌∷◌, length, map, filter, take, slice_index, Option, None, Some}
+use Rattle.std.specs.Prelude.{◌≡◌, ◌≢◌, ◌≤◌, ◌⊎◌, ℕ, true, false, not, nat_eq, nat_lt, List, [], ◌∷◌, length, map, filter, take, slice_index, All, Option, None, Some}
 use Rattle.outer_io.specs.Files.{Files}
 use Rattle.segment_file.specs.Written.{head_of}
 use Rattle.live_bits.specs.LiveSet.{IsLiveSet}
@@ -8,7 +8,7 @@ use Rattle.page_cache.specs.Cache.{Agrees}
 use Rattle.index_model.specs.State.{Index}
 use Rattle.segment_view.specs.Parts.{Part, Contents, AreRead, IsPlaced, ids_of, live_in_parts, parts_but}
 use Rattle.segment_build.specs.NewSegments.{NewSegmentData}
-use Rattle.segment_set.specs.Sets.{BegunMerge, SetData}
+use Rattle.segment_set.specs.Sets.{BegunMerge, SetData, inputs_of}
 use Rattle.segment_set.specs.Seen.{Sees}
 use Rattle.segment_set.specs.Kept.{AreCanonical, Follows, KeepsNamed, StaysAlone}
 
@@ -25,10 +25,10 @@ chosen_ids positions ids = map (slice_index ids) (take 64 (filter (λ i. nat_lt 
 abbrev pub IsWritten : NewSegmentData → Part → Type 0
 IsWritten n p = (p.head ≡ head_of p.head.id n.entries n.leaf n.index) × (p.live ≡ n.live)
 
--- the segment that was built came to the others, unless nothing of it is live
+-- the segment that was built came to the others where something of it is live, and else nothing came
 abbrev pub HasCome : Option NewSegmentData → (others new : List Part) → Type 0
 HasCome None others new = new ≡ others
-HasCome (Some n) others new = ((n.live.live ≡ []) × (new ≡ others)) ⊎ ((p : Part) × IsWritten n p × IsPlaced p others new)
+HasCome (Some n) others new = ((n.live.live ≡ []) × (new ≡ others)) ⊎ ((n.live.live ≢ []) × ((p : Part) × IsWritten n p × IsPlaced p others new))
 
 -- the begun merge is ended: its inputs went, and what it has built came
 abbrev pub IsEnded : BegunMerge → (old new : List Part) → Type 0
@@ -39,6 +39,17 @@ pub record IsWhole (p : Part) : Type 0 where
   pub set : IsLiveSet p.live
   pub form : p.head.index.form ≡ 3
   pub live : length p.live.live ≡ p.head.entries
+
+-- the segments that are no inputs of the begun merge
+abbrev pub free_parts : SetData → List Part
+free_parts s = parts_but (inputs_of s.begun) s.parts
+
+abbrev pub free_ids : SetData → List ℕ
+free_ids s = filter (λ id. not (is_among (inputs_of s.begun) id)) (ids_of s.parts)
+
+-- of these there is one at most, and that is whole, so that merging all changes nothing
+abbrev pub IsTidy : SetData → Type 0
+IsTidy s = (length (free_parts s) ≤ 1) × All IsWhole (free_parts s)
 
 -- the ids are those of some of these segments, of which none is one of the inputs
 pub record IsApart (ids inputs : List ℕ) (parts : List Part) : Type 0 where

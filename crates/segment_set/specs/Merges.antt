@@ -13,6 +13,7 @@ use Rattle.segment_view.specs.Parts.{Part, Contents, AreRead, part_of, parts_amo
 use Rattle.segment_build.specs.NewSegments.{NewSegmentData, HasEntries}
 use Rattle.file_names.specs.Names.{NameList, is_named}
 use Rattle.segment_set.specs.Sets.{HasUncrowded}
+use Rattle.segment_set.specs.Given.{IsNextName}
 
 -- the live ones of the entries that the segment was built of are these, and each live number is that of one of them
 pub record HoldsLive (D : ℕ) (entries : List Item) (n : NewSegmentData) : Type 0 where
@@ -37,12 +38,13 @@ pub record IsMade (D leaf : ℕ) (n : NewSegmentData) : Type 0 where
 abbrev pub part_at : ℕ → NewSegmentData → Part
 part_at id n = part_of (head_of id n.entries n.leaf n.index) n.live
 
--- The segment was written under a name that wasn't in the list and is in it now, and stands in the place of its id among those that are not
+-- The segment was written under the next id, whose name wasn't in the list and is in it now, and stands in the place of its id among those that are not
 -- of these ids, which went.
 pub record IsPut (D : ℕ) (told : Type 0) (before after : NameList) (files : Files) (ids : List ℕ) (n : NewSegmentData) (old new : List Part) : Type 0 where
   pub id : ℕ
   pub fresh : is_named before.names (Segment id) ≡ false
   pub named : is_named after.names (Segment id) ≡ true
+  pub next : IsNextName before (Segment id) after
   pub placed : IsPlaced (part_at id n) (parts_but ids old) new
   pub written : told → (items : List Item) → HasEntries D items n → IsSegment D (bytes_of (files (Segment id))) (part_at id n).head items
 
@@ -68,6 +70,7 @@ pub record IsGathered (D leaf : ℕ) (inputs : List Part) (n : NewSegmentData) :
 pub record IsMerged (D : ℕ) (told : Type 0) (leaf : ℕ) (before after : NameList) (files new_files : Files) (cache : PageCache) (ids : List ℕ) (old new : List Part) : Type 0 where
   pub built : Option NewSegmentData
   pub replaces : Replaces D told before after new_files ids built old new
+  pub unnamed : built ≡ None → after ≡ before
   pub gathered : (n : NewSegmentData) → built ≡ Some n → IsGathered D leaf (parts_among ids old) n
   pub makes : told → Agrees files cache → (c : Contents) → AreRead D files c old → MakesLive D (live_in_parts c (parts_among ids old)) built
 
@@ -80,10 +83,11 @@ abbrev pub living : Option NewSegmentData → Option NewSegmentData
 living None = None
 living (Some n) = with_live n.live.live n
 
--- the buffer went to a segment
+-- the buffer went to a segment, all of whose entries are live
 pub record IsSpilled (D : ℕ) (told : Type 0) (leaf : ℕ) (before after : NameList) (new_files : Files) (buffer : List Item) (old new : List Part) : Type 0 where
   pub n : NewSegmentData
   pub made : IsMade D leaf n
   pub put : IsPut D told before after new_files [] n old new
   pub live : is_live n.live ≡ (λ number. has_entry number buffer)
   pub holds : HoldsLive D buffer n
+  pub all : ∥ HasLiveEntries D n ∥₁

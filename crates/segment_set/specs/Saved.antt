@@ -6,10 +6,15 @@ use Rattle.commit_list.specs.declared.listed.Listed.{Listed}
 use Rattle.commit_list.specs.Commits.{IsListed}
 use Rattle.segment_file.specs.LiveFiles.{IsLiveFile}
 use Rattle.segment_view.specs.Parts.{Part}
-use Rattle.file_names.specs.Names.{NameList, is_named}
+use Rattle.file_names.specs.Names.{NameList, IsNextGeneration, is_named}
 use Rattle.segment_set.specs.Sets.{SetData}
 
--- A commit may list the segment so: its live bits are in a file of their own, whose name wasn't in the list and is in it now.
+-- the line has the next generation that its segment's live bits have by a list of names
+abbrev pub HasNextGeneration : NameList → Listed → Type 0
+HasNextGeneration names l = IsNextGeneration (λ n. is_named names.names (Live l.segment n)) l.generation
+
+-- A commit may list the segment so: its live bits are in a file of their own, under the next generation, whose name wasn't in the list and is in
+-- it now.
 pub record IsSaved (told : Type 0) (before after : NameList) (files : Files) (l : Listed) (p : Part) : Type 0 where
   pub segment : l.segment ≡ p.head.id
   pub entries : l.entries ≡ p.head.entries
@@ -17,6 +22,7 @@ pub record IsSaved (told : Type 0) (before after : NameList) (files : Files) (l 
   pub may : IsListed after.next_segment l
   pub fresh : is_named before.names (Live l.segment l.generation) ≡ false
   pub named : is_named after.names (Live l.segment l.generation) ≡ true
+  pub rule : HasNextGeneration before l
   pub written : told → IsLiveFile l.segment l.generation (bytes_of (files (Live l.segment l.generation))) p.live
 
 -- all but the list of names and the saved commit is as before

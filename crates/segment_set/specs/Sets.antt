@@ -178,6 +178,7 @@ pub record IsWell (D : ℕ) (s : SetData) : Type 0 where
   pub kept : All (λ v. All (IsNamed s.names) v.parts) s.snapshots
   pub own : is_named s.names.names Commit ≡ false
   pub few_snapshots : length s.snapshots ≤ 16
+  pub rooms : All (λ v. length v.buffer ≤ 16384) s.snapshots
   pub inputs : All (λ id. is_among (ids_of s.parts) id ≡ true) (inputs_of s.begun)
   pub few_inputs : length (inputs_of s.begun) ≤ 64
   pub built : (n : NewSegmentData) → built_of s.begun ≡ Some n → IsBuiltOf D s.leaf (parts_among (inputs_of s.begun) s.parts) n

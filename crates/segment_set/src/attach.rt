@@ -6,6 +6,7 @@ ghost use Rattle.outer_io.specs.Files.{bytes_of};
 ghost use Rattle.outer_io.specs.declared.file_name.FileName.{FileName};
 ghost use Rattle.outer_io.specs.declared.file_name.FileName.TheVariants.{Commit as CommitName};
 ghost use Rattle.live_bits.specs.LiveSet.{LiveSet};
+ghost use Rattle.page_cache.specs.Cache.{room_of};
 ghost use Rattle.page_cache.specs.Causes.{HasPageCause};
 ghost use Rattle.page_cache.specs.Evidence.{OnDamage, NotDamaged};
 ghost use Rattle.commit_list.specs.CommitFiles.{IsCommitFile};
@@ -48,6 +49,7 @@ impl<const D: usize> SegmentSet<D> {
         // the set is as the commit says, and its list of names has just the files that this lists
         ensures commit { IfOk result (λ s. IsAtRest s c.now) }
         ensures names { IfOk result (λ s. (m : FileName) → (is_named s.names.names m ≡ true) ↔ ListsFile c.now m) }
+        ensures room { IfOk result (λ s. room_of s.cache ≡ settings.cache_pages) }
         ensures live { IsTrue F.told → IfOk result (λ s. HaveLive (F.files folder.old) c.now (lives_of s.parts)) }
         ensures faithful { IsTrue F.told → IfOk result (IsFaithful D (F.files folder.old)) }
         ensures files { IsTrue F.told → F.files folder.new ≡ F.files folder.old }

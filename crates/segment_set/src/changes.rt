@@ -37,7 +37,8 @@ impl<const D: usize> SegmentSet<D> {
     ghost use Rattle.segment_set.specs.Faults.{HasCauseOf, OnAddDamage};
     ghost use Rattle.segment_set.specs.Sets.{IsNamed, IsSettled, is_live_in, set_but, set_with};
     ghost use Rattle.segment_set.specs.Seen.{Sees};
-    ghost use Rattle.segment_set.specs.Kept.{AreCanonical, Follows, KeepsNamed, StaysAlone};
+    ghost use Rattle.segment_set.specs.Kept.{AreCanonical, Follows, KeepsNamed, StaysAlone, StaysButCache};
+    ghost use Rattle.segment_set.specs.Settles.{Flushes, IsLeft, Settles, Spot, spot};
     ghost use Rattle.segment_set.specs.Damages.{IsDoubt, IsMergeDamage, IsMergeDamageOf};
     ghost use Rattle.segment_set.specs.Faithful.{IsFaithful};
     ghost use Rattle.segment_set.specs.Evidence.{IsEvident, IsEvidentIn};
@@ -59,7 +60,11 @@ impl<const D: usize> SegmentSet<D> {
         ensures number { IfOk result (λ n. n ≡ self.old.next) }
         ensures given { OnOk result ((self.new.next ≡ self.old.next + 1) × (self.new.given ≡ self.old.given + length points.now)) }
         ensures full { IsErrOf result Full ↔ (2 ^ 24 < self.old.given + length points.now) }
-        // what stays
+        // what stays: where it is full everything, and after a fault what whole merges of the policy left
+        ensures kept_full { IsErrOf result Full → (self.new ≡ self.old) × (F.reads folder.new ≡ F.reads folder.old) }
+        ensures files_full { IsTrue F.told → IsErrOf result Full → F.files folder.new ≡ F.files folder.old }
+        ensures added { OnOk result ((s : Spot) × Flushes D (IsTrue F.told) (spot (F.files folder.old) self.old) s × (self.new ≡ set_with points.now s.set)) }
+        ensures left { OnErr result (IsLeft (Flushes D (IsTrue F.told) (spot (F.files folder.old) self.old)) self.new) }
         ensures stays { OnErr result (StaysAlone self.old self.new) }
         ensures kept { KeepsNamed (IsTrue F.told) self.old.names self.new.names (F.files folder.old) (F.files folder.new) }
         ensures follows { Follows self.old.names self.old.parts self.new.parts }
@@ -127,6 +132,8 @@ impl<const D: usize> SegmentSet<D> {
         ensures rested { IsSettled self.old → F.reads folder.new ≡ F.reads folder.old }
         ensures seen { IsTrue F.told → (i : Index) → Sees D (F.files folder.old) self.old i → Sees D (F.files folder.new) self.new i }
         // what stays
+        ensures flushed { OnOk result (Flushes D (IsTrue F.told) (spot (F.files folder.old) self.old) (spot (F.files folder.new) self.new)) }
+        ensures left { OnErr result (IsLeft (Settles D (IsTrue F.told) (spot (F.files folder.old) self.old)) self.new) }
         ensures stays { StaysAlone self.old self.new }
         ensures kept { KeepsNamed (IsTrue F.told) self.old.names self.new.names (F.files folder.old) (F.files folder.new) }
         ensures follows { Follows self.old.names self.old.parts self.new.parts }
@@ -198,6 +205,7 @@ impl<const D: usize> SegmentSet<D> {
         ensures refused { IsTrue F.told → (i : Index) → Sees D (F.files folder.old) self.old i → OnErr result (Sees D (F.files folder.new) self.new i) }
         // what stays
         ensures files { IsTrue F.told → F.files folder.new ≡ F.files folder.old }
+        ensures alone { OnErr result (StaysButCache self.old self.new) }
         ensures stays { StaysAlone self.old self.new }
         ensures follows { Follows self.old.names self.old.parts self.new.parts }
         ensures names { self.new.names ≡ self.old.names }

@@ -1,6 +1,6 @@
 //! Which segments are merged.
 
-ghost use Rattle.std.specs.Prelude.{◌≡◌, ◌≤◌, ◌<◌, ◌+◌, ◌↔◌, ℕ, true, false, not, nat_lt, length, map, filter, take, slice_index, count_by, All, IsTrue, IfOk, IfNone, IfSome};
+ghost use Rattle.std.specs.Prelude.{◌≡◌, ◌≤◌, ◌<◌, ◌+◌, ◌↔◌, ℕ, List, true, false, not, nat_lt, length, map, filter, take, slice_index, count_by, All, IsTrue, IfOk, IfNone, IfSome};
 ghost use Rattle.std.specs.List.Sorted.{IsStrictlyIncreasing};
 ghost use Rattle.documents.specs.Entries.{is_among};
 ghost use Rattle.merge_policy.specs.Choice.{IsChoice, free_count};
@@ -40,6 +40,8 @@ pub(crate) fn chosen<const D: usize>(
     ensures some { IfOk result (λ o. IfSome o (λ ids. 2 ≤ length (parts_among ids.items segments.now))) }
     ensures ten { IfOk result (λ o. IfSome o (λ ids. (level : ℕ)
         × (10 ≤ free_count level (sizes_of segments.now) (map (λ p. is_among inputs.now p.head.id) segments.now)))) }
+    ensures choice { IfOk result (λ o. IfSome o (λ ids. (positions : List ℕ)
+        × IsChoice (sizes_of segments.now) (map (λ p. is_among inputs.now p.head.id) segments.now) positions × (ids.items ≡ map (slice_index (ids_of segments.now)) positions))) }
     // where nothing is chosen there are few segments: nine of a level at most are no inputs
     ensures room { length inputs.now ≤ 64 → IfOk result (λ o. IfNone o (length segments.now < 200)) }
 {
@@ -135,7 +137,7 @@ pub(crate) fn first_places(positions: &[u32], count: usize) -> ArrayVec<u32, 64>
 /// Whether merging these segments would change nothing: there is one at most, and that is whole.
 pub(crate) fn is_settled<const D: usize>(segments: &Segments<D>, ids: &[u64]) -> bool
     requires { D ≤ 8 }
-    ensures { IsTrue result → (length ids.now ≤ 1) × All IsWhole (parts_among ids.now segments.now) }
+    ensures { IsTrue result ↔ ((length ids.now ≤ 1) × All IsWhole (parts_among ids.now segments.now)) }
 {
     if ids.len() > 1 {
         return false;

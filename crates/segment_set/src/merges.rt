@@ -1,12 +1,13 @@
 //! The buffer goes to a segment, and segments are merged.
 
-ghost use Rattle.std.specs.Prelude.{◌≡◌, ◌≤◌, ◌<◌, ◌+◌, ◌↔◌, ℕ, true, false, [], None, Some, is_some, length, All, IsTrue, IfOk, IfNone, IfSome, OnOk, OnErr, IsErrOf};
+ghost use Rattle.std.specs.Prelude.{◌≡◌, ◌≤◌, ◌<◌, ◌+◌, ◌↔◌, ◌⊎◌, ℕ, List, true, false, [], None, Some, is_some, length, map, slice_index, All, IsTrue, IfOk, IfNone, IfSome, OnOk, OnErr, IsErrOf};
 ghost use Rattle.live_bits.specs.LiveSet.{is_live};
 ghost use Rattle.page_cache.specs.Cache.{Agrees};
 ghost use Rattle.page_cache.specs.Causes.{HasPageCause};
 ghost use Rattle.page_cache.specs.Evidence.{OnDamage, NotDamaged};
-ghost use Rattle.merge_policy.specs.Choice.{free_count};
+ghost use Rattle.merge_policy.specs.Choice.{IsChoice, free_count};
 ghost use Rattle.index_model.specs.State.{Index};
+ghost use Rattle.segment_build.specs.NewSegments.{NewSegmentData};
 ghost use Rattle.segment_view.specs.Parts.{Contents, AreRead, ids_of, live_in_parts, parts_among};
 
 use crate::choosing::{chosen, first_places, ids_at, inputs_of, is_settled, unpinned};
@@ -24,9 +25,10 @@ impl<const D: usize> SegmentSet<D> {
     ghost use Rattle.segment_set.specs.Faults.{HasCauseOf, OnBeginDamage, OnEndDamage};
     ghost use Rattle.segment_set.specs.Sets.{BegunMerge, IsSettled, IsWell, inputs_of, pins_of, sizes_of};
     ghost use Rattle.segment_set.specs.Seen.{Sees, StandsOver};
-    ghost use Rattle.segment_set.specs.Kept.{AreCanonical, Follows, KeepsNamed, StaysAlone, StaysButCache, StaysButMerge};
-    ghost use Rattle.segment_set.specs.Merged.{IsApart, IsEnded, IsWhole, KeepsEntries, Rearranges, chosen_ids};
-    ghost use Rattle.segment_set.specs.Merges.{IsMerged};
+    ghost use Rattle.segment_set.specs.Kept.{AreCanonical, Follows, IsAsBefore, KeepsNamed, StaysAlone, StaysButCache, StaysButMerge, StaysButParts};
+    ghost use Rattle.segment_set.specs.Merged.{IsApart, IsEnded, IsTidy, IsWhole, KeepsEntries, Rearranges, chosen_ids, free_ids, free_parts};
+    ghost use Rattle.segment_set.specs.Merges.{IsGathered, IsMerged, Replaces, living};
+    ghost use Rattle.segment_set.specs.Settles.{Flushes, IsLeft, MergesParts, Settles, Spills, spot};
     ghost use Rattle.segment_set.specs.Damages.{IsDoubt, IsMergeDamage, IsMergeDamageOf};
     ghost use Rattle.segment_set.specs.Faithful.{IsFaithful};
     ghost use Rattle.segment_set.specs.Evidence.{IsEvidentIn};
@@ -44,6 +46,9 @@ impl<const D: usize> SegmentSet<D> {
         ensures seen { IsTrue F.told → (i : Index) → Sees D (F.files folder.old) self.old i → Sees D (F.files folder.new) self.new i }
         ensures emptied { OnOk result (self.new.buffer ≡ []) }
         ensures levels { OnOk result ((level : ℕ) → free_count level (sizes_of self.new.parts) (pins_of self.new.begun self.new.parts) ≤ 10) }
+        // what is done, and after a fault what was done before: merges of the policy, each whole
+        ensures flushed { OnOk result (Flushes D (IsTrue F.told) (spot (F.files folder.old) self.old) (spot (F.files folder.new) self.new)) }
+        ensures left { OnErr result (IsLeft (Settles D (IsTrue F.told) (spot (F.files folder.old) self.old)) self.new) }
         // what stays
         ensures stays { StaysAlone self.old self.new }
         ensures kept { KeepsNamed (IsTrue F.told) self.old.names self.new.names (F.files folder.old) (F.files folder.new) }
@@ -79,6 +84,9 @@ impl<const D: usize> SegmentSet<D> {
         ensures buffer { self.new.buffer ≡ self.old.buffer }
         ensures levels { OnOk result ((level : ℕ) → free_count level (sizes_of self.new.parts) (pins_of self.new.begun self.new.parts) < 10) }
         ensures room { OnOk result (length self.new.parts < 200) }
+        // what is done, and after a fault what was done before: merges of the policy, each whole
+        ensures settled { OnOk result (Settles D (IsTrue F.told) (spot (F.files folder.old) self.old) (spot (F.files folder.new) self.new)) }
+        ensures left { OnErr result (IsLeft (Settles D (IsTrue F.told) (spot (F.files folder.old) self.old)) self.new) }
         // what stays
         ensures stays { StaysAlone self.old self.new }
         ensures kept { KeepsNamed (IsTrue F.told) self.old.names self.new.names (F.files folder.old) (F.files folder.new) }
@@ -116,10 +124,16 @@ impl<const D: usize> SegmentSet<D> {
     ) -> Result<(), PageFault>
         ensures seen { IsTrue F.told → (i : Index) → Sees D (F.files folder.old) self.old i → Sees D (F.files folder.new) self.new i }
         ensures buffer { self.new.buffer ≡ self.old.buffer }
-        ensures one { self.old.begun ≡ None → OnOk result ((length self.new.parts ≤ 1) × All (λ p. p.head.index.form ≡ 3) self.new.parts) }
-        ensures all_live { IsTrue F.told → self.old.begun ≡ None → (i : Index) → Sees D (F.files folder.old) self.old i
+        // of the segments that are no inputs one is left at most, without dead entries
+        ensures one { OnOk result ((length (free_parts self.new) ≤ 1) × All (λ p. p.head.index.form ≡ 3) (free_parts self.new)) }
+        ensures all_live { IsTrue F.told → (i : Index) → Sees D (F.files folder.old) self.old i
             → OnOk result ((c : Contents) → StandsOver D (F.files folder.new) c self.new
-            → All (λ p. All (λ x. is_live p.live x.doc ≡ true) (c p.head.id)) self.new.parts) }
+            → All (λ p. All (λ x. is_live p.live x.doc ≡ true) (c p.head.id)) (free_parts self.new)) }
+        ensures merged { OnOk result (IsTidy self.old ⊎ MergesParts D (IsTrue F.told) (free_ids self.old) (spot (F.files folder.old) self.old) (spot (F.files folder.new) self.new)) }
+        // where this is so already nothing is done
+        ensures still { IsTidy self.old → (self.new ≡ self.old) × (F.reads folder.new ≡ F.reads folder.old) }
+        ensures unwritten { IsTrue F.told → IsTidy self.old → F.files folder.new ≡ F.files folder.old }
+        ensures refused { OnErr result (IsAsBefore self.old self.new) }
         // what stays
         ensures stays { StaysAlone self.old self.new }
         ensures kept { KeepsNamed (IsTrue F.told) self.old.names self.new.names (F.files folder.old) (F.files folder.new) }
@@ -160,6 +174,9 @@ impl<const D: usize> SegmentSet<D> {
         ensures refused { IsTrue F.told → (i : Index) → Sees D (F.files folder.old) self.old i → OnErr result (Sees D (F.files folder.new) self.new i) }
         ensures begun { IsErrOf result begin.Begun ↔ (is_some self.old.begun ≡ true) }
         ensures inputs { OnOk result ((b : BegunMerge) × (self.new.begun ≡ Some b) × (b.inputs ≡ chosen_ids which.now (ids_of self.old.parts))) }
+        // what is built has no dead entry
+        ensures built { OnOk result ((b : BegunMerge) (n : NewSegmentData) → self.new.begun ≡ Some b → b.built ≡ Some n
+            → IsGathered D self.old.leaf (parts_among b.inputs self.old.parts) n) }
         // what stays
         ensures files { IsTrue F.told → F.files folder.new ≡ F.files folder.old }
         ensures alone { StaysButMerge self.old self.new }
@@ -203,6 +220,9 @@ impl<const D: usize> SegmentSet<D> {
         ensures not_begun { IsErrOf result end.NotBegun ↔ (is_some self.old.begun ≡ false) }
         ensures ended { OnOk result (self.new.begun ≡ None) }
         ensures parts { (b : BegunMerge) → self.old.begun ≡ Some b → OnOk result (IsEnded b self.old.parts self.new.parts) }
+        ensures replaced { (b : BegunMerge) → self.old.begun ≡ Some b
+            → OnOk result (Replaces D (IsTrue F.told) self.old.names self.new.names (F.files folder.new) b.inputs (living b.built) self.old.parts self.new.parts) }
+        ensures alone { OnErr result (IsAsBefore self.old self.new) }
         ensures buffer { self.new.buffer ≡ self.old.buffer }
         // what stays
         ensures stays { StaysAlone self.old (record self.new { begun = self.old.begun }) }
@@ -250,6 +270,8 @@ impl<const D: usize> SegmentSet<D> {
         ensures apart { IfOk result (λ o. IfSome o (λ ids. IsApart ids.items (inputs_of self.now.begun) self.now.parts)) }
         ensures some { IfOk result (λ o. IfSome o (λ ids. 2 ≤ length (parts_among ids.items self.now.parts))) }
         ensures ten { IfOk result (λ o. IfSome o (λ ids. (level : ℕ) × (10 ≤ free_count level (sizes_of self.now.parts) (pins_of self.now.begun self.now.parts)))) }
+        ensures choice { IfOk result (λ o. IfSome o (λ ids. (positions : List ℕ)
+            × IsChoice (sizes_of self.now.parts) (pins_of self.now.begun self.now.parts) positions × (ids.items ≡ map (slice_index (ids_of self.now.parts)) positions))) }
         ensures room { IfOk result (λ o. IfNone o (length self.now.parts < 200)) }
         ensures well { IsWell D self.now }
     {
@@ -259,7 +281,7 @@ impl<const D: usize> SegmentSet<D> {
     /// The ids of the segments that are no inputs of a begun merge.
     fn unpinned(&self, alloc: Global) -> Result<Vec<u64>, Memory>
         ensures apart { IfOk result (λ ids. IsApart ids.items (inputs_of self.now.begun) self.now.parts) }
-        ensures all { IfOk result (λ ids. self.now.begun ≡ None → ids.items ≡ ids_of self.now.parts) }
+        ensures all { IfOk result (λ ids. ids.items ≡ free_ids self.now) }
         ensures well { IsWell D self.now }
     {
         unpinned(alloc, &self.segments, inputs_of(&self.begun))
@@ -267,7 +289,7 @@ impl<const D: usize> SegmentSet<D> {
 
     /// Whether merging these segments would change nothing.
     fn is_settled(&self, ids: &[u64]) -> bool
-        ensures { IsTrue result → (length ids.now ≤ 1) × All IsWhole (parts_among ids.now self.now.parts) }
+        ensures { IsTrue result ↔ ((length ids.now ≤ 1) × All IsWhole (parts_among ids.now self.now.parts)) }
     {
         is_settled(&self.segments, ids)
     }
@@ -289,6 +311,8 @@ impl<const D: usize> SegmentSet<D> {
         ensures merged { OnOk result (IsMerged D (IsTrue F.told) self.old.leaf self.old.names self.new.names (F.files folder.old) (F.files folder.new) self.old.cache ids.now
             self.old.parts self.new.parts) }
         ensures fewer { OnOk result (length self.new.parts + length (parts_among ids.now self.old.parts) ≤ length self.old.parts + 1) }
+        ensures alone { StaysButParts self.old self.new }
+        ensures refused { OnErr result (IsAsBefore self.old self.new) }
         ensures cause { HasPageCause (F.faults folder.old) (F.faults folder.new) result }
         ensures whole { IsTrue F.told → (i : Index) → Sees D (F.files folder.old) self.old i → NotDamaged result }
         ensures shown { OnDamage result (IsMergeDamage D self.old.given self.old.names self.old.parts) }
@@ -324,6 +348,9 @@ impl<const D: usize> SegmentSet<D> {
         ensures moves { Rearranges D (IsTrue F.told) (F.files folder.old) (F.files folder.new) self.old self.new }
         ensures faithful { IsTrue F.told → IsFaithful D (F.files folder.old) self.old → IsFaithful D (F.files folder.new) self.new }
         ensures emptied { OnOk result (self.new.buffer ≡ []) }
+        ensures spills { OnOk result ((spot (F.files folder.new) self.new ≡ spot (F.files folder.old) self.old)
+            ⊎ Spills D (IsTrue F.told) (spot (F.files folder.old) self.old) (spot (F.files folder.new) self.new)) }
+        ensures refused { OnErr result (IsAsBefore self.old self.new) }
         ensures one_more { (level : ℕ) → free_count level (sizes_of self.new.parts) (pins_of self.new.begun self.new.parts)
             ≤ free_count level (sizes_of self.old.parts) (pins_of self.old.begun self.old.parts) + 1 }
         ensures reads { F.reads folder.new ≡ F.reads folder.old }

@@ -1,6 +1,6 @@
 //! What a merge does with segments: their live entries are gathered, a segment is built of these, and it takes their place.
 
-ghost use Rattle.std.specs.Prelude.{◌≡◌, ◌≤◌, ◌<◌, ◌^◌, ◌⊎◌, ℕ, List, Contains, true, false, [], Some, length, All, IsTrue, IfOk, OnOk, OnErr, IsErrOf};
+ghost use Rattle.std.specs.Prelude.{◌≡◌, ◌≤◌, ◌<◌, ◌^◌, ◌⊎◌, ℕ, List, Contains, true, false, [], None, Some, length, All, IsTrue, IfOk, OnOk, OnErr, IsErrOf};
 ghost use Rattle.std.specs.List.Sorted.{IsPermutation};
 ghost use Rattle.std.specs.Option.{option_copied};
 ghost use Rattle.outer_io.specs.declared.file_name.FileName.TheVariants.{Segment};
@@ -176,6 +176,7 @@ pub(crate) fn replace<const D: usize, F: Folder>(
     requires dims { D ≤ 8 }
     requires named { All (IsNamed names.old) segments.old }
     requires among { (id : ℕ) → is_among ids.now id ≡ true → is_named names.old.names (Segment id) ≡ true }
+    ensures unnamed { OnOk result (living (option_copied built.entry) ≡ None → names.new ≡ names.old) }
     ensures replaced { OnOk result (Replaces D (IsTrue F.told) names.old names.new (F.files folder.new) ids.now (living (option_copied built.entry)) segments.old segments.new) }
     ensures refused { OnErr result (segments.new ≡ segments.old) }
     ensures kept { KeepsNamed (IsTrue F.told) names.old names.new (F.files folder.old) (F.files folder.new) }

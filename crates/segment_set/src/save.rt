@@ -1,7 +1,8 @@
 //! What is saved.
 
-ghost use Rattle.std.specs.Prelude.{◌≡◌, ◌≤◌, ℕ, true, false, [], Some, length, All, IsTrue, IfOk, OnOk};
+ghost use Rattle.std.specs.Prelude.{◌≡◌, ◌≤◌, ◌++◌, ◌∷◌, ℕ, true, false, [], Some, length, All, IsTrue, IfOk, OnOk, OnErr};
 ghost use Rattle.std.specs.List.{AllZip};
+ghost use Rattle.std.specs.List.Sorted.{IsStrictlyIncreasing};
 ghost use Rattle.outer_io.specs.Files.{Files, bytes_of};
 ghost use Rattle.outer_io.specs.declared.file_name.FileName.{FileName};
 ghost use Rattle.outer_io.specs.declared.file_name.FileName.TheVariants.{Commit as CommitName, Live, Segment};
@@ -14,11 +15,11 @@ ghost use Rattle.merge_policy.specs.Choice.{free_count};
 ghost use Rattle.stored_index.specs.Kept.{ListsFile};
 ghost use Rattle.stored_index.specs.Stored.{IsStored};
 ghost use Rattle.index_model.specs.State.{Index, at_rest};
-ghost use Rattle.segment_view.specs.Parts.{Contents, AreRead, live_in_parts, part_of};
+ghost use Rattle.segment_view.specs.Parts.{Contents, AreRead, ids_of, live_in_parts, part_of};
 ghost use Rattle.file_names.specs.Names.{is_named};
 ghost use Rattle.segment_set.specs.Sets.{IsNamed};
 ghost use Rattle.segment_set.specs.Kept.{KeepsNamed};
-ghost use Rattle.segment_set.specs.Saved.{IsSaved, StaysButSaved};
+ghost use Rattle.segment_set.specs.Saved.{HasNextGeneration, IsSaved, StaysButSaved};
 
 use crate::set::SegmentSet;
 use bkd_build::Gate;
@@ -36,7 +37,8 @@ use std::thread::Threads;
 impl<const D: usize> SegmentSet<D> {
     ghost use Rattle.segment_set.specs.Sets.{IsSettled, IsWell, pins_of, sizes_of};
     ghost use Rattle.segment_set.specs.Seen.{Sees};
-    ghost use Rattle.segment_set.specs.Kept.{AreCanonical, Follows, IsCommitOf, StaysAlone};
+    ghost use Rattle.segment_set.specs.Kept.{AreCanonical, Follows, IsAsBefore, IsCommitOf, StaysAlone};
+    ghost use Rattle.segment_set.specs.Settles.{Flushes, IsLeft, Spot, spot};
     ghost use Rattle.segment_set.specs.Damages.{IsDoubt, IsMergeDamage, IsMergeDamageOf};
     ghost use Rattle.segment_set.specs.Faithful.{IsFaithful};
     ghost use Rattle.segment_set.specs.Evidence.{IsEvidentIn};
@@ -62,6 +64,10 @@ impl<const D: usize> SegmentSet<D> {
         ensures stored { IsTrue F.told → (i : Index) → Sees D (F.files folder.old) self.old i
             → IfOk result (λ c. (files : Files) → IsCommitFile (bytes_of (files CommitName)) c
             → ((m : FileName) → ListsFile c m → files m ≡ F.files folder.new m) → IsStored files (Some (at_rest i))) }
+        // what is done, and after a fault what was done before: merges of the policy and a flush, each whole
+        ensures flushed { IfOk result (λ c. (s : Spot) × Flushes D (IsTrue F.told) (spot (F.files folder.old) self.old) s
+            × StaysButSaved s.set self.new × All (HasNextGeneration s.set.names) c.listed) }
+        ensures left { OnErr result (IsLeft (Flushes D (IsTrue F.told) (spot (F.files folder.old) self.old)) self.new) }
         // what stays
         ensures stays { StaysAlone self.old self.new }
         ensures kept { KeepsNamed (IsTrue F.told) self.old.names self.new.names (F.files folder.old) (F.files folder.new) }
@@ -94,6 +100,7 @@ impl<const D: usize> SegmentSet<D> {
         ensures faithful { IsTrue F.told → IsFaithful D (F.files folder.old) self.old → IsFaithful D (F.files folder.new) self.new }
         ensures kept { KeepsNamed (IsTrue F.told) self.old.names self.new.names (F.files folder.old) (F.files folder.new) }
         ensures saved { IfOk result (λ c. self.new.saved ≡ Some c) }
+        ensures refused { OnErr result (IsAsBefore self.old self.new) }
         ensures commit { IfOk result (IsCommitOf D self.new) }
         ensures listed { IfOk result (λ c. AllZip (IsSaved (IsTrue F.told) self.old.names self.new.names (F.files folder.new)) c.listed self.old.parts) }
         ensures well { IsWell D self.old }
@@ -101,10 +108,10 @@ impl<const D: usize> SegmentSet<D> {
         ensures cause { HasPageCause (F.faults folder.old) (F.faults folder.new) result }
         ensures whole { NotDamaged result }
     {
-        let listed = write_lives(alloc, folder, &mut self.names, &self.segments)?;
-        let again = Vec::from_slice(alloc, listed.as_slice())?;
         // the ids ascend
         self.segments.heads();
+        let listed = write_lives(alloc, folder, &mut self.names, &self.segments)?;
+        let again = Vec::from_slice(alloc, listed.as_slice())?;
         let next_segment = self.names.next_segment();
         let kept = Commit::new(
             D as u8,
@@ -134,6 +141,7 @@ fn write_lives<const D: usize, F: Folder>(
     segments: &Segments<D>,
 ) -> Result<Vec<Listed>, PageFault>
     requires named { All (IsNamed names.old) segments.now }
+    requires ascend { IsStrictlyIncreasing (ids_of segments.now) }
     requires fits { All (λ p. length p.live.live ≤ p.head.entries) segments.now }
     ensures kept { KeepsNamed (IsTrue F.told) names.old names.new (F.files folder.old) (F.files folder.new) }
     ensures next { names.new.next_segment ≡ names.old.next_segment }
@@ -164,6 +172,7 @@ fn write_one<const D: usize, F: Folder>(
     ensures kept { KeepsNamed (IsTrue F.told) names.old names.new (F.files folder.old) (F.files folder.new) }
     ensures next { names.new.next_segment ≡ names.old.next_segment }
     ensures listed { IfOk result (λ l. IsSaved (IsTrue F.told) names.old names.new (F.files folder.new) l (part_of head.now live.now)) }
+    ensures joined { IfOk result (λ l. names.new.names ≡ names.old.names ++ Live l.segment l.generation ∷ []) }
     ensures reads { F.reads folder.new ≡ F.reads folder.old }
     ensures cause { HasPageCause (F.faults folder.old) (F.faults folder.new) result }
     ensures whole { NotDamaged result }

@@ -3,6 +3,7 @@
 ghost use Rattle.std.specs.Prelude.{◌≡◌, ◌≤◌, ◌↔◌, List, [], None, false, IfOk, is_some};
 ghost use Rattle.outer_io.specs.Files.{Files};
 ghost use Rattle.leaf_codec.specs.Leaves.{leaf_limit};
+ghost use Rattle.page_cache.specs.Cache.{room_of};
 ghost use Rattle.index_model.specs.State.{new_index};
 
 use crate::settings::Settings;
@@ -100,6 +101,7 @@ impl<const D: usize> SegmentSet<D> {
         ensures faithful { IfOk result (λ s. (files : Files) → IsFaithful D files s) }
         ensures unsaved { IfOk result (λ s. s.saved ≡ None) }
         ensures names { IfOk result (λ s. s.names ≡ record { names = []; next_segment = 0 }) }
+        ensures room { IfOk result (λ s. room_of s.cache ≡ settings.cache_pages) }
     {
         Ok(SegmentSet {
             leaf,

@@ -40,6 +40,8 @@ impl<const D: usize> SegmentSet<D> {
         ensures swept { OnOk result ((c : CommitData) → self.old.saved ≡ Some c → (m : FileName) → is_named self.new.names.names m ≡ true → IsNeeded self.old c m) }
         ensures gone { IsTrue F.told → OnOk result ((c : CommitData) → self.old.saved ≡ Some c → (m : FileName) → is_named self.old.names.names m ≡ true
             → (IsNeeded self.old c m → ⊥) → F.files folder.new m ≡ None) }
+        // whatever is answered: what left the list is gone
+        ensures left { IsTrue F.told → (m : FileName) → is_named self.old.names.names m ≡ true → is_named self.new.names.names m ≡ false → F.files folder.new m ≡ None }
         ensures alone { StaysButFiles self.old self.new }
         ensures faithful { IsTrue F.told → IsFaithful D (F.files folder.old) self.old → IsFaithful D (F.files folder.new) self.new }
         ensures unread { F.reads folder.new ≡ F.reads folder.old }

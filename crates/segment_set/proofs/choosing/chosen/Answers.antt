@@ -2,7 +2,7 @@ use Rattle.std.proofs.Common.{◌≡◌, ◌<◌, ◌∙◌, ℕ, Bool, List, ge
 use Rattle.std.specs.List.{count_by}
 use Rattle.std.proofs.lemmas.List.{length-map}
 use Rattle.documents.specs.Entries.{is_among}
-use Rattle.merge_policy.specs.Choice.{free_count}
+use Rattle.merge_policy.specs.Choice.{IsChoice, free_count}
 use Rattle.segment_view.specs.Parts.{Part, ids_of}
 use Rattle.segment_set.proofs.Chosen.{chosen_apart, chosen_ten, chosen_two}
 use Rattle.segment_set.proofs.Leveled.{few_segments, pinned}
@@ -39,3 +39,12 @@ returns-clause-ten g c =
     chosen_ten c.args.inputs.now c.args.segments.now c.as_slice.result.now c.as_slice-2.result.now c.in-Some.positions.items c.in_ok-ids_at.field-0.items (c.as_slice.ensures.value ∙ c.in_ok-sizes.ensures) (c.as_slice-2.ensures.value ∙ c.in_ok-pins.ensures.pins ∙ map_heads (is_among c.args.inputs.now) c.args.segments.now)
     c.in-Some.ensures.choice
     (c.in_ok-ids_at.ensures ∙ ap (map (λ i. get_or (ids_of c.args.segments.now) i 0)) c.as_slice-3.ensures.value)
+
+pub returns-clause-choice : goal.returns-clause-choice
+returns-clause-choice g c =
+    let parts = c.args.segments.now in (
+      c.in-Some.positions.items,
+      subst (λ (ss : List ℕ). IsChoice ss (pinned c.args.inputs.now parts) c.in-Some.positions.items) (c.as_slice.ensures.value ∙ c.in_ok-sizes.ensures)
+          (subst (λ (bs : List Bool). IsChoice c.as_slice.result.now bs c.in-Some.positions.items) (c.as_slice-2.ensures.value ∙ c.in_ok-pins.ensures.pins ∙ map_heads (is_among c.args.inputs.now) parts) c.in-Some.ensures.choice),
+      c.in_ok-ids_at.ensures ∙ ap (map (λ i. get_or (ids_of parts) i 0)) c.as_slice-3.ensures.value,
+    )

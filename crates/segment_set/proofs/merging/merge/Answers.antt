@@ -1,4 +1,6 @@
-use Rattle.std.proofs.Common.{All, IsTrue, Option, subst, ap, ◌∙◌}
+use Rattle.std.proofs.Common.{◌≡◌, All, IsTrue, None, Option, subst, ap, ◌∙◌}
+use Rattle.std.specs.Option.{option_copied}
+use Rattle.segment_set.proofs.Rearranged.{both_ok}
 use Rattle.std.proofs.lemmas.Result.{err_from_is_err_and, on_ok_weaker}
 use Rattle.page_cache.specs.Cache.{Agrees}
 use Rattle.segment_build.specs.NewSegments.{NewSegmentData}
@@ -21,13 +23,17 @@ returns-in_err-built-clause-whole g c =
 pub returns-clause-merged : goal.returns-clause-merged
 returns-clause-merged g c =
     let same = ap living c.as_ref.ensures.value ∙ living_whole c.in_ok-built.built (λ n is. (c.in_ok-built.ensures.gathered n is).made.some) in
+    let built = living (option_copied c.as_ref.result) in
     on_ok_weaker c.replace.result
     (λ r. record {
       built = c.in_ok-built.built;
-      replaces = subst (λ (o : Option NewSegmentData). Replaces g.row.D (IsTrue g.F.Pages.told) c.args.names.now c.replace.new.names (g.F.Pages.files c.replace.new.folder) c.args.ids.now o c.args.segments.now c.replace.new.segments) same r;
+      replaces = subst (λ (o : Option NewSegmentData). Replaces g.row.D (IsTrue g.F.Pages.told) c.args.names.now c.replace.new.names (g.F.Pages.files c.replace.new.folder) c.args.ids.now o c.args.segments.now c.replace.new.segments) same r.0;
+      unnamed = λ none. r.1 (same ∙ none);
       gathered = c.in_ok-built.ensures.gathered;
       makes = c.in_ok-built.ensures.makes;
-    }) c.replace.ensures.replaced
+    })
+    (both_ok (Replaces g.row.D (IsTrue g.F.Pages.told) c.args.names.now c.replace.new.names (g.F.Pages.files c.replace.new.folder) c.args.ids.now built c.args.segments.now c.replace.new.segments)
+    (built ≡ None → c.replace.new.names ≡ c.args.names.now) c.replace.result c.replace.ensures.replaced c.replace.ensures.unnamed)
 
 pub returns-in_err-built-clause-shown : goal.returns-in_err-built-clause-shown
 returns-in_err-built-clause-shown g c =

@@ -32,7 +32,7 @@ returns-in_err-id-clause-cause g c =
 
 pub returns-in_err-head-clause-kept : goal.returns-in_err-head-clause-kept
 returns-in_err-head-clause-kept g c =
-    keeps_written _ _ _ _ _ (Segment c.in_ok-id.id) c.in_ok-id.ensures.named c.in_ok-id.ensures.fresh (λ e. cc) c.in_err-head.ensures.others
+    keeps_written _ _ _ _ _ (Segment c.in_ok-id.id) (c.in_ok-id.ensures.next, c.in_ok-id.ensures.named) c.in_ok-id.ensures.named c.in_ok-id.ensures.fresh (λ e. cc) c.in_err-head.ensures.others
 
 pub returns-in_err-head-clause-cause : goal.returns-in_err-head-clause-cause
 returns-in_err-head-clause-cause g c =
@@ -46,13 +46,14 @@ insert-requires g c =
 
 pub returns-in_err-insert-clause-kept : goal.returns-in_err-insert-clause-kept
 returns-in_err-insert-clause-kept g c =
-    keeps_written _ _ _ _ _ (Segment c.in_ok-id.id) c.in_ok-id.ensures.named c.in_ok-id.ensures.fresh (λ e. cc) c.in_ok-head.ensures.others
+    keeps_written _ _ _ _ _ (Segment c.in_ok-id.id) (c.in_ok-id.ensures.next, c.in_ok-id.ensures.named) c.in_ok-id.ensures.named c.in_ok-id.ensures.fresh (λ e. cc) c.in_ok-head.ensures.others
 
 pub returns-clause-put : goal.returns-clause-put
 returns-clause-put g c = record {
   id = c.in_ok-id.id;
   fresh = c.in_ok-id.ensures.fresh;
   named = c.in_ok-id.ensures.joins;
+  next = (c.in_ok-id.ensures.next, c.in_ok-id.ensures.named);
   placed = subst (IsPlaced (part_at c.in_ok-id.id c.args.new.now) (parts_but c.args.ids.now c.args.segments.now)) (sym c.remove.ensures.rest)
       (but_placed c.args.ids.now (part_at c.in_ok-id.id c.args.new.now) c.args.segments.now c.insert.new.self
       (subst (λ (p : Part). IsPlaced p c.args.segments.now c.insert.new.self) (same_part c.in_ok-head.ensures.head (c.in_ok-live.ensures ∙ c.live.ensures)) c.in_ok-insert.ensures.placed)
@@ -64,4 +65,4 @@ returns-clause-put g c = record {
 
 pub returns-clause-kept : goal.returns-clause-kept
 returns-clause-kept g c =
-    keeps_written _ _ _ _ _ (Segment c.in_ok-id.id) c.in_ok-id.ensures.named c.in_ok-id.ensures.fresh (λ e. cc) c.in_ok-head.ensures.others
+    keeps_written _ _ _ _ _ (Segment c.in_ok-id.id) (c.in_ok-id.ensures.next, c.in_ok-id.ensures.named) c.in_ok-id.ensures.named c.in_ok-id.ensures.fresh (λ e. cc) c.in_ok-head.ensures.others

@@ -1,3 +1,4 @@
+use Rattle.std.proofs.lemmas.Grind.{merely}
 use Rattle.std.proofs.Common.{◌≡◌, List, length, ap, sym, subst, ◌∙◌, arith}
 use Rattle.point_codec.specs.Points.{Item}
 use Rattle.point_codec.specs.Seen.{items_of}
@@ -5,7 +6,7 @@ use Rattle.documents.specs.Entries.{has_entry}
 use Rattle.number_checks.specs.Crowded.{AreUncrowded}
 use Rattle.segment_set.specs.Merges.{HoldsLive}
 use Rattle.segment_set.proofs.Counted.{uncrowded}
-use Rattle.segment_set.proofs.Fresh.{holds_live, items_length, made}
+use Rattle.segment_set.proofs.Fresh.{all_live, holds_live, items_length, made}
 use Rattle.segment_set.proofs.merging.spill.Goals as goal
 
 pub returns-clause-spilled : goal.returns-clause-spilled
@@ -21,4 +22,5 @@ returns-clause-spilled g c =
       put = c.in_ok-put.ensures.put;
       live = live.1 ∙ ap (λ (es : List Item). λ number. has_entry number es) same;
       holds = subst (λ (es : List Item). HoldsLive g.row.D es c.in_ok-new.new) same (holds_live g.row.D (items_of c.as_mut_slice.result.now) has.0 c.in_ok-new.new has.1 has.2 live.1);
+      all = merely (record { items = has.0; has = has.2; all = all_live g.row.D (items_of c.as_mut_slice.result.now) has.0 c.in_ok-new.new has.1 has.2 live.1 });
     }

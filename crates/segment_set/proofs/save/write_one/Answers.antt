@@ -9,6 +9,7 @@ use Rattle.segment_set.proofs.save.write_one.Goals as goal
 pub returns-in_err-write_live-clause-kept : goal.returns-in_err-write_live-clause-kept
 returns-in_err-write_live-clause-kept g c =
     keeps_written (IsTrue g.F.Pages.told) c.args.names.now c.name_live.new.self (g.F.Pages.files c.args.folder.now) (g.F.Pages.files c.write_live.new.folder) (Live c.id-segment.result c.in_ok-generation.generation)
+    (c.in_ok-generation.ensures.rule, c.in_ok-generation.ensures.named, c.in_ok-generation.ensures.next)
     c.in_ok-generation.ensures.named c.in_ok-generation.ensures.fresh (λ e. cc) c.in_err-write_live.ensures.others
 
 pub returns-in_err-write_live-clause-cause : goal.returns-in_err-write_live-clause-cause
@@ -24,6 +25,7 @@ returns-in_err-write_live-clause-whole g c =
 pub returns-clause-kept : goal.returns-clause-kept
 returns-clause-kept g c =
     keeps_written (IsTrue g.F.Pages.told) c.args.names.now c.name_live.new.self (g.F.Pages.files c.args.folder.now) (g.F.Pages.files c.write_live.new.folder) (Live c.id-segment.result c.in_ok-generation.generation)
+    (c.in_ok-generation.ensures.rule, c.in_ok-generation.ensures.named, c.in_ok-generation.ensures.next)
     c.in_ok-generation.ensures.named c.in_ok-generation.ensures.fresh (λ e. cc) c.in_ok-write_live.ensures.others
 
 pub returns-clause-listed : goal.returns-clause-listed
@@ -41,6 +43,7 @@ returns-clause-listed g c =
       };
       fresh = c.in_ok-generation.ensures.fresh;
       named = c.in_ok-generation.ensures.joins;
+      rule = c.in_ok-generation.ensures.rule;
       written = c.in_ok-write_live.ensures.written;
     }
 
@@ -52,3 +55,6 @@ returns-in_err-write_live-clause-reads g c = c.in_err-write_live.ensures.reads
 
 pub returns-clause-reads : goal.returns-clause-reads
 returns-clause-reads g c = c.in_ok-write_live.ensures.reads
+
+pub returns-clause-joined : goal.returns-clause-joined
+returns-clause-joined g c = c.in_ok-generation.ensures.named

@@ -176,3 +176,9 @@ returns-clause-faithful g c = λ told keeps. c.delete_all.ensures.faithful (g.F.
 
 pub returns-clause-evident : goal.returns-clause-evident
 returns-clause-evident g c = tt
+
+pub returns-in_err-hits-clause-alone : goal.returns-in_err-hits-clause-alone
+returns-in_err-hits-clause-alone g c = at_error _ c.from_residual.result c.from_residual.ensures.1 _ c.visit.ensures.alone
+
+pub returns-clause-alone : goal.returns-clause-alone
+returns-clause-alone g c = tt

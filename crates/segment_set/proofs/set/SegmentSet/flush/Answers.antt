@@ -1,13 +1,14 @@
 use Rattle.std.proofs.Common.{◌∙◌, IsTrue, subst, arith}
-use Rattle.std.proofs.lemmas.Result.{err_from_is_err_and, on_ok_weaker}
+use Rattle.std.proofs.lemmas.Result.{err_from_is_err_and, on_err_weaker, on_ok_weaker}
 use Rattle.page_cache.specs.Causes.{HasPageCause}
 use Rattle.page_cache.proofs.Damages.{on_damage_weaker}
 use Rattle.segment_view.specs.Parts.{live_in_parts}
 use Rattle.segment_set.specs.Merged.{Rearranges}
+use Rattle.segment_set.specs.Settles.{spot}
 use Rattle.segment_set.specs.Damages.{IsDoubt, IsMergeDamage, IsMergeDamageOf}
 use Rattle.segment_set.specs.Evidence.{IsCrowdedIn, IsEvidentIn}
 use Rattle.segment_set.proofs.Rearranged.{rearranges_then}
-use Rattle.segment_set.proofs.Refused.{never_ok, same_cause, same_damage}
+use Rattle.segment_set.proofs.Refused.{at_error, never_ok, same_cause, same_damage}
 use Rattle.segment_set.proofs.Trusted.{IsTrusted}
 use Rattle.segment_set.proofs.Evident.{none_with}
 use Rattle.segment_set.proofs.set.SegmentSet.flush.Given as given
@@ -134,3 +135,15 @@ returns-clause-faithful g c = λ told faithful. c.spill.ensures.faithful told (c
 pub returns-clause-evident : goal.returns-clause-evident
 returns-clause-evident g c =
     none_with (IsCrowdedIn g.row.D (g.F.Pages.files c.spill.new.folder) c.args.self.now.parts) (IsTrusted g.F.Pages.told g.row.D (g.F.Pages.files c.args.folder.now) c.args.self.now) (g.F.Pages.files c.spill.new.folder) c.spill.result c.spill.ensures.whole
+
+pub returns-in_err-merge_settle-clause-flushed : goal.returns-in_err-merge_settle-clause-flushed
+returns-in_err-merge_settle-clause-flushed g c = never_ok _ c.from_residual.result c.from_residual.ensures.1 _
+
+pub returns-in_err-merge_settle-clause-left : goal.returns-in_err-merge_settle-clause-left
+returns-in_err-merge_settle-clause-left g c = at_error _ c.from_residual.result c.from_residual.ensures.1 _ c.in_err-merge_settle.ensures.left
+
+pub returns-clause-flushed : goal.returns-clause-flushed
+returns-clause-flushed g c = on_ok_weaker c.spill.result (λ spills. record { mid = (spot (g.F.Pages.files c.merge_settle.new.folder) c.merge_settle.new.self); settles = c.in_ok-merge_settle.ensures.settled; spills = spills }) c.spill.ensures.spills
+
+pub returns-clause-left : goal.returns-clause-left
+returns-clause-left g c = on_err_weaker c.spill.result (λ same. ((spot (g.F.Pages.files c.merge_settle.new.folder) c.merge_settle.new.self), c.in_ok-merge_settle.ensures.settled, same)) c.spill.ensures.refused

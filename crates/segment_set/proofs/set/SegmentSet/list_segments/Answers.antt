@@ -1,4 +1,4 @@
-use Rattle.std.proofs.Common.{◌∙◌, List, Some, sym, ap, subst}
+use Rattle.std.proofs.Common.{◌∙◌, List, Some, refl, sym, ap, subst}
 use Rattle.std.specs.Prelude.{IsTrue}
 use Rattle.std.specs.List.{AllZip}
 use Rattle.commit_list.specs.declared.listed.Listed.{Listed}
@@ -9,6 +9,8 @@ use Rattle.segment_set.specs.Saved.{IsSaved}
 use Rattle.segment_set.specs.Faithful.{IsFaithful}
 use Rattle.segment_set.proofs.Saving.{IsLine, but_saved, commit_of_set, is_commit, saved_lines, well_names}
 use Rattle.segment_set.proofs.Faithful.{faithful_saved}
+use Rattle.segment_set.proofs.Refused.{at_error}
+use Rattle.segment_set.proofs.Settled.{before_moved}
 use Rattle.segment_set.proofs.set.SegmentSet.list_segments.Goals as goal
 
 pub invariant_of-self : goal.invariant_of-self
@@ -106,3 +108,12 @@ pub returns-clause-faithful : goal.returns-clause-faithful
 returns-clause-faithful g c = λ told faithful.
     faithful_saved g.row.D (IsTrue g.F.Pages.told) (g.F.Pages.files c.args.folder.now) (g.F.Pages.files c.write_lives.new.folder) _ c.write_lives.new.names (Some c.new-kept.result) c.self.invariant c.write_lives.ensures.kept told
     (subst (IsFaithful g.row.D (g.F.Pages.files c.args.folder.now)) (sym c.self.view_is) faithful)
+
+pub returns-in_err-listed-clause-refused : goal.returns-in_err-listed-clause-refused
+returns-in_err-listed-clause-refused g c = at_error _ c.from_residual.result c.from_residual.ensures.1 _ (before_moved c.args.self.now _ c.self.view_is c.write_lives.new.names c.self.inside.segments _ c.self.inside.cache refl refl)
+
+pub returns-in_err-again-clause-refused : goal.returns-in_err-again-clause-refused
+returns-in_err-again-clause-refused g c = at_error _ c.from_residual-in_err-again.result c.from_residual-in_err-again.ensures.1 _ (before_moved c.args.self.now _ c.self.view_is c.write_lives.new.names c.self.inside.segments _ c.self.inside.cache refl refl)
+
+pub returns-clause-refused : goal.returns-clause-refused
+returns-clause-refused g c = tt

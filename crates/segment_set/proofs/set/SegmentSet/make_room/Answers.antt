@@ -4,6 +4,8 @@ use Rattle.std.proofs.Common.{IsTrue, length, refl, ap, arith}
 use Rattle.std.proofs.lemmas.Bool.{both_ways}
 use Rattle.std.proofs.lemmas.Result.{on_ok_weaker}
 use Rattle.segment_set.proofs.Saving.{done_cause}
+use Rattle.segment_set.proofs.Settled.{flushes_none}
+use Rattle.segment_set.specs.Settles.{spot}
 use Rattle.segment_set.proofs.set.SegmentSet.make_room.Goals as goal
 
 pub returns-then-has_room-clause-canon : goal.returns-then-has_room-clause-canon
@@ -116,3 +118,15 @@ returns-clause-faithful g c = c.flush.ensures.faithful
 
 pub returns-clause-evident : goal.returns-clause-evident
 returns-clause-evident g c = c.flush.ensures.evident
+
+pub returns-then-has_room-clause-flushed : goal.returns-then-has_room-clause-flushed
+returns-then-has_room-clause-flushed g c = flushes_none g.row.D (IsTrue g.F.Pages.told) (spot (g.F.Pages.files c.args.folder.now) c.args.self.now)
+
+pub returns-then-has_room-clause-left : goal.returns-then-has_room-clause-left
+returns-then-has_room-clause-left g c = tt
+
+pub returns-clause-flushed : goal.returns-clause-flushed
+returns-clause-flushed g c = c.flush.ensures.flushed
+
+pub returns-clause-left : goal.returns-clause-left
+returns-clause-left g c = c.flush.ensures.left

@@ -1,6 +1,6 @@
-use Rattle.std.proofs.Common.{◌≡◌, ◌≤◌, length, lit<, IsTrue, sym, ap, subst, ◌∙◌}
+use Rattle.std.proofs.Common.{◌≡◌, ◌≤◌, length, lit<, IsTrue, refl, sym, ap, subst, ◌∙◌}
 use Rattle.std.specs.Result.{OnOk}
-use Rattle.std.proofs.lemmas.Result.{on_ok_weaker}
+use Rattle.std.proofs.lemmas.Result.{on_err_weaker, on_ok_weaker}
 use Rattle.point_codec.specs.Seen.{items_of}
 use Rattle.documents.proofs.Kept.{among_to}
 use Rattle.page_cache.specs.Cache.{Agrees}
@@ -15,6 +15,7 @@ use Rattle.segment_set.specs.Faithful.{IsFaithful}
 use Rattle.segment_set.proofs.Faithful.{faithful_rearranged}
 use Rattle.segment_set.proofs.Moved.{moved}
 use Rattle.segment_set.proofs.Rearranged.{entries_merged, rearranges_after}
+use Rattle.segment_set.proofs.Settled.{before_moved, but_parts}
 use Rattle.segment_set.proofs.Sizes.{set_fits}
 use Rattle.segment_set.proofs.Sources.{merge_docs, merge_few}
 use Rattle.segment_set.proofs.Standing.{ids_named}
@@ -150,3 +151,10 @@ returns-clause-doubled g c = λ told agrees contents reads.
 pub returns-clause-evident : goal.returns-clause-evident
 returns-clause-evident g c =
     on_evident_set g.row.D g.F.Pages.told (g.F.Pages.files c.args.folder.now) (g.F.Pages.files c.merge.new.folder) (was g c) c.args.self.now c.merge.result c.self.view_is c.self.invariant.spread c.merge.ensures.evident
+
+pub returns-clause-alone : goal.returns-clause-alone
+returns-clause-alone g c = but_parts c.args.self.now (was g c) c.self.view_is c.merge.new.names c.merge.new.segments c.merge.new.cache
+
+pub returns-clause-refused : goal.returns-clause-refused
+returns-clause-refused g c = on_err_weaker c.merge.result
+    (λ same. before_moved c.args.self.now (was g c) c.self.view_is c.merge.new.names c.merge.new.segments (items_of c.self.inside.buffer.items) c.merge.new.cache same refl) c.merge.ensures.refused

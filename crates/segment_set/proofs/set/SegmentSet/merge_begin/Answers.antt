@@ -18,7 +18,9 @@ use Rattle.segment_set.proofs.Faulted.{begun_cause, begun_damage, begun_memory}
 use Rattle.segment_set.proofs.Moved.{moved}
 use Rattle.segment_set.proofs.Sizes.{set_fits}
 use Rattle.segment_set.proofs.Sources.{begun_seen, begun_well, chosen_few, chosen_is, chosen_there, gathered_merges, merge_docs, merge_few, places_within}
+use Rattle.segment_set.proofs.Spilled.{some_is}
 use Rattle.segment_set.proofs.Steps.{cached_more}
+use Rattle.segment_build.specs.NewSegments.{NewSegmentData}
 use Rattle.segment_set.proofs.Viewed.{looked_sees}
 use Rattle.segment_set.proofs.Well.{well_cache}
 use Rattle.segment_set.proofs.Trusted.{IsTrusted, faithful_looked, on_evident_set}
@@ -120,6 +122,11 @@ chosen g c =
 abbrev merge_of : (g : given.Over) (c : goal.Joined-self g) → BegunMerge
 merge_of g c = record { inputs = c.in_ok-inputs.inputs.items; built = c.in_ok-built.built }
 
+gathered_here : (g : given.Over) (c : goal.Joined-self g) (n : NewSegmentData) → c.in_ok-built.built ≡ Some n → IsGathered g.row.D c.self.inside.leaf (parts_among c.in_ok-inputs.inputs.items c.self.inside.segments) n
+gathered_here g c n is =
+    subst (λ leaf. IsGathered g.row.D leaf (parts_among c.in_ok-inputs.inputs.items c.self.inside.segments) n) (c.plan-plan.ensures.leaf ∙ sym (ap (λ (s : SetData). s.leaf) c.self.view_is))
+    (subst (λ (ns : List ℕ). IsGathered g.row.D c.plan-plan.result.leaf (parts_among ns c.self.inside.segments) n) c.as_slice-2.ensures.value (c.in_ok-built.ensures.gathered n is))
+
 pub invariant_of-self-2 : goal.invariant_of-self-2
 invariant_of-self-2 g c =
     let well = c.self.invariant in
@@ -127,9 +134,7 @@ invariant_of-self-2 g c =
     begun_well g.row.D {s = set_of c.self.inside} well (merge_of g c) c.gathered.new.cache
     (subst (All (λ id. is_among ids id ≡ true)) (sym (chosen g c)) (chosen_there c.args.which.now ids))
     (subst (λ (ns : List ℕ). length ns ≤ 64) (sym (chosen g c)) (chosen_few c.args.which.now ids))
-    (λ n is.
-    subst (λ leaf. IsGathered g.row.D leaf (parts_among c.in_ok-inputs.inputs.items c.self.inside.segments) n) (c.plan-plan.ensures.leaf ∙ sym (ap (λ (s : SetData). s.leaf) c.self.view_is))
-    (subst (λ (ns : List ℕ). IsGathered g.row.D c.plan-plan.result.leaf (parts_among ns c.self.inside.segments) n) c.as_slice-2.ensures.value (c.in_ok-built.ensures.gathered n is)))
+    (gathered_here g c)
     (cached_more c.self.inside.names c.self.inside.segments c.self.inside.cache c.gathered.new.cache c.as_slice-2.result.now well.named well.cached c.gathered.ensures.calm.others)
 
 pub returns-clause-seen : goal.returns-clause-seen
@@ -161,3 +166,9 @@ returns-in_err-built-clause-evident g c =
 pub returns-clause-faithful : goal.returns-clause-faithful
 returns-clause-faithful g c =
     faithful_looked g.row.D g.F.Pages.told (g.F.Pages.files c.args.folder.now) (g.F.Pages.files c.gathered.new.folder) (set_of c.self.inside) c.args.self.now (ids_of (parts_among c.as_slice-2.result.now c.self.inside.segments)) (Some (merge_of g c)) c.gathered.new.cache c.self.view_is c.gathered.ensures.calm
+
+pub returns-clause-built : goal.returns-clause-built
+returns-clause-built g c = λ b n is has.
+    let same : merge_of g c ≡ b = some_is (merge_of g c) b is in
+    subst (λ (m : BegunMerge). IsGathered g.row.D c.args.self.now.leaf (parts_among m.inputs c.args.self.now.parts) n) same
+    (subst (λ (s : SetData). IsGathered g.row.D s.leaf (parts_among c.in_ok-inputs.inputs.items s.parts) n) c.self.view_is (gathered_here g c n (ap (λ (m : BegunMerge). m.built) same ∙ has)))

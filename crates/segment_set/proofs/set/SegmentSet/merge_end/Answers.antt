@@ -21,6 +21,8 @@ use Rattle.segment_set.proofs.Spilled.{refused_after, some_is}
 use Rattle.segment_set.proofs.Standing.{ids_named}
 use Rattle.segment_set.proofs.Steps.{IsAfter}
 use Rattle.segment_set.proofs.Faithful.{faithful_named}
+use Rattle.segment_set.proofs.Refused.{at_error, never_ok}
+use Rattle.segment_set.proofs.Settled.{before_moved}
 use Rattle.segment_set.proofs.Trusted.{faithful_replaced}
 use Rattle.segment_set.proofs.set.SegmentSet.merge_end.Given as given
 use Rattle.segment_set.proofs.set.SegmentSet.merge_end.Goals as goal
@@ -149,3 +151,16 @@ returns-clause-faithful g c = λ told faithful.
     (end_canon g.row.D (IsTrue g.F.Pages.told) (g.F.Pages.files c.args.folder.now) (g.F.Pages.files c.replace.new.folder) {s = set_of c.self.inside} c.replace.new.names c.replace.new.segments c.in_ok-replace.ensures.kept c.in-Some.begun c.in-Some.is (replaced g c)
     c.self.invariant)
     refl refl told (subst (IsFaithful g.row.D (g.F.Pages.files c.args.folder.now)) (sym c.self.view_is) faithful)
+
+pub returns-in_err-replace-clause-alone : goal.returns-in_err-replace-clause-alone
+returns-in_err-replace-clause-alone g c = at_error _ c.from_residual.result c.from_residual.ensures.1 _
+    (before_moved c.args.self.now (set_of c.self.inside) c.self.view_is c.replace.new.names c.replace.new.segments (items_of c.self.inside.buffer.items) c.self.inside.cache c.in_err-replace.ensures.refused refl)
+
+pub returns-in_err-replace-clause-replaced : goal.returns-in_err-replace-clause-replaced
+returns-in_err-replace-clause-replaced g c = λ b is. never_ok _ c.from_residual.result c.from_residual.ensures.1 _
+
+pub returns-clause-replaced : goal.returns-clause-replaced
+returns-clause-replaced g c = λ b is.
+    let same : c.in-Some.begun ≡ b = some_is c.in-Some.begun b (sym c.in-Some.is ∙ ap (λ (s : SetData). s.begun) c.self.view_is ∙ is) in
+    subst (λ (m : BegunMerge). Replaces g.row.D (IsTrue g.F.Pages.told) c.args.self.now.names c.replace.new.names (g.F.Pages.files c.replace.new.folder) m.inputs (living m.built) c.args.self.now.parts c.replace.new.segments) same
+    (subst (λ (s : SetData). Replaces g.row.D (IsTrue g.F.Pages.told) s.names c.replace.new.names (g.F.Pages.files c.replace.new.folder) c.in-Some.begun.inputs (living c.in-Some.begun.built) s.parts c.replace.new.segments) c.self.view_is (replaced g c))

@@ -1,7 +1,7 @@
-use Rattle.std.proofs.Common.{◌≤◌, ◌<◌, ℕ, List, length, subst, sym}
+use Rattle.std.proofs.Common.{◌≡◌, ◌≤◌, ◌<◌, ℕ, List, get_or, length, map, subst, sym}
 use Rattle.std.specs.Prelude.{IfOk, IfNone, IfSome}
-use Rattle.merge_policy.specs.Choice.{free_count}
-use Rattle.segment_view.specs.Parts.{parts_among}
+use Rattle.merge_policy.specs.Choice.{IsChoice, free_count}
+use Rattle.segment_view.specs.Parts.{ids_of, parts_among}
 use Rattle.segment_set.specs.Sets.{IsWell, SetData, inputs_of, pins_of, sizes_of}
 use Rattle.segment_set.specs.Merged.{IsApart}
 use Rattle.segment_set.proofs.Leveled.{pinned}
@@ -35,3 +35,9 @@ returns-clause-room g c =
 
 pub returns-clause-well : goal.returns-clause-well
 returns-clause-well g c = subst (IsWell g.row.D) c.self.view_is c.self.invariant
+
+pub returns-clause-choice : goal.returns-clause-choice
+returns-clause-choice g c =
+    let parts = c.self.inside.segments in
+    subst (λ (s : SetData). IfOk c.chosen.result (λ o. IfSome o (λ ids. (positions : List ℕ) × IsChoice (sizes_of s.parts) (pins_of s.begun s.parts) positions × (ids.items ≡ map (λ i. get_or (ids_of s.parts) i 0) positions)))) c.self.view_is
+    (subst (λ (ids : List ℕ). IfOk c.chosen.result (λ o. IfSome o (λ v. (positions : List ℕ) × IsChoice (sizes_of parts) (pinned ids parts) positions × (v.items ≡ map (λ i. get_or (ids_of parts) i 0) positions)))) c.inputs_of.ensures c.chosen.ensures.choice)

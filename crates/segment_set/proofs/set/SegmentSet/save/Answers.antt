@@ -1,7 +1,7 @@
 use Rattle.std.proofs.Common.{◌≡◌, ◌≤◌, ◌∙◌, ℕ, false, List, Option, Some, sym, subst}
 use Rattle.std.specs.Prelude.{All, IsTrue}
 use Rattle.std.specs.List.{AllZip}
-use Rattle.std.proofs.lemmas.Result.{err_from_is_err_and}
+use Rattle.std.proofs.lemmas.Result.{err_from_is_err_and, on_err_weaker}
 use Rattle.outer_io.specs.declared.file_name.FileName.{FileName}
 use Rattle.outer_io.specs.declared.file_name.FileName.TheVariants.{Commit, Live}
 use Rattle.outer_io.specs.Files.{Files, bytes_of}
@@ -18,12 +18,14 @@ use Rattle.file_names.specs.Names.{is_named}
 use Rattle.segment_set.specs.Sets.{BegunMerge, pins_of, sizes_of}
 use Rattle.segment_set.specs.Kept.{Follows, IsCommitOf}
 use Rattle.segment_set.specs.Damages.{IsDoubt, IsMergeDamage, IsMergeDamageOf}
-use Rattle.segment_set.specs.Saved.{IsSaved}
+use Rattle.segment_set.specs.Saved.{HasNextGeneration, IsSaved, StaysButSaved}
 use Rattle.segment_set.specs.Faithful.{IsFaithful}
 use Rattle.segment_set.specs.Evidence.{IsEvidentIn}
 use Rattle.segment_set.proofs.Carried.{keeps_then, stays_then}
-use Rattle.segment_set.proofs.Saving.{all_fresh, all_written, canon_saved, cause_after, if_ok_both, if_ok_map, no_damage, ok_always, saved_is_stored, sees_saved, stays_saved, well_saved}
-use Rattle.segment_set.proofs.Refused.{never_ok, never_value, same_cause, same_damage}
+use Rattle.segment_set.proofs.Saving.{all_fresh, all_next, all_written, canon_saved, cause_after, if_ok_both, if_ok_map, no_damage, ok_always, saved_is_stored, sees_saved, stays_saved, well_saved}
+use Rattle.segment_set.proofs.Refused.{at_error, never_ok, never_value, same_cause, same_damage}
+use Rattle.segment_set.proofs.Settled.{left_settled}
+use Rattle.segment_set.specs.Settles.{Flushes, Spot, spot}
 use Rattle.segment_set.proofs.set.SegmentSet.save.Goals as goal
 
 pub returns-in_err-flush-clause-whole : goal.returns-in_err-flush-clause-whole
@@ -195,3 +197,21 @@ returns-clause-faithful g c = λ told keeps. c.list_segments.ensures.faithful to
 pub returns-clause-evident : goal.returns-clause-evident
 returns-clause-evident g c =
     no_damage c.list_segments.result (IsEvidentIn g.row.D c.args.self.now.parts (IsTrue g.F.Pages.told × IsFaithful g.row.D (g.F.Pages.files c.args.folder.now) c.args.self.now) (g.F.Pages.files c.list_segments.new.folder)) c.list_segments.ensures.whole
+
+pub returns-in_err-flush-clause-flushed : goal.returns-in_err-flush-clause-flushed
+returns-in_err-flush-clause-flushed g c = never_value _ c.from_residual.result c.from_residual.ensures.1 _
+
+pub returns-in_err-flush-clause-left : goal.returns-in_err-flush-clause-left
+returns-in_err-flush-clause-left g c = at_error _ c.from_residual.result c.from_residual.ensures.1 _ (left_settled g.row.D (IsTrue g.F.Pages.told) (spot (g.F.Pages.files c.args.folder.now) c.args.self.now) c.flush.new.self c.in_err-flush.ensures.left)
+
+pub returns-clause-flushed : goal.returns-clause-flushed
+returns-clause-flushed g c =
+    let s = c.flush.new.self in
+    let t = c.list_segments.new.self in
+    let files = g.F.Pages.files c.list_segments.new.folder in
+    if_ok_map c.list_segments.result (λ (k : CommitData). AllZip (IsSaved (IsTrue g.F.Pages.told) s.names t.names files) k.listed s.parts)
+    (λ (k : CommitData). (u : Spot) × Flushes g.row.D (IsTrue g.F.Pages.told) (spot (g.F.Pages.files c.args.folder.now) c.args.self.now) u × StaysButSaved u.set t × All (HasNextGeneration u.set.names) k.listed)
+    (λ k all. (spot (g.F.Pages.files c.flush.new.folder) s, c.in_ok-flush.ensures.flushed, c.list_segments.ensures.alone, all_next (IsTrue g.F.Pages.told) s.names t.names files k.listed s.parts all)) c.list_segments.ensures.listed
+
+pub returns-clause-left : goal.returns-clause-left
+returns-clause-left g c = on_err_weaker c.list_segments.result (λ same. ((spot (g.F.Pages.files c.flush.new.folder) c.flush.new.self), c.in_ok-flush.ensures.flushed, same)) c.list_segments.ensures.refused

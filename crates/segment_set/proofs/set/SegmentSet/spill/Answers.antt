@@ -17,6 +17,7 @@ use Rattle.segment_set.proofs.Fresh.{items_length}
 use Rattle.segment_set.proofs.Leveled.{free_placed, pinned}
 use Rattle.segment_set.proofs.Moved.{moved}
 use Rattle.segment_set.proofs.Rearranged.{both_ok, empty_list, rearranges_after, rearranges_none, waiting_below}
+use Rattle.segment_set.proofs.Settled.{before_moved, spills_moved}
 use Rattle.segment_set.proofs.Sizes.{entry_fits, set_fits}
 use Rattle.segment_set.proofs.Spilled.{spill_after}
 use Rattle.segment_set.proofs.Steps.{IsAfter, ok_or_err}
@@ -134,3 +135,18 @@ returns-then-is_empty-clause-reads g c = refl
 
 pub returns-clause-reads : goal.returns-clause-reads
 returns-clause-reads g c = c.spill.ensures.reads
+
+pub returns-then-is_empty-clause-spills : goal.returns-then-is_empty-clause-spills
+returns-then-is_empty-clause-spills g c = inl refl
+
+pub returns-clause-spills : goal.returns-clause-spills
+returns-clause-spills g c = on_ok_weaker c.spill.result
+    (λ h. inr (spills_moved g.row.D (IsTrue g.F.Pages.told) (g.F.Pages.files c.args.folder.now) (g.F.Pages.files c.spill.new.folder) c.args.self.now (was g c) c.self.view_is c.spill.new.names c.spill.new.segments (items_of c.spill.new.buffer.items) h.0 h.1))
+    (both_ok
+    (IsSpilled g.row.D (IsTrue g.F.Pages.told) c.self.inside.leaf c.self.inside.names c.spill.new.names (g.F.Pages.files c.spill.new.folder) (items_of c.self.inside.buffer.items) c.self.inside.segments c.spill.new.segments)
+    (items_of c.spill.new.buffer.items ≡ [])
+    c.spill.result (spilled g c) (on_ok_weaker c.spill.result (λ none. ap items_of none) c.spill.ensures.emptied))
+
+pub returns-clause-refused : goal.returns-clause-refused
+returns-clause-refused g c = on_err_weaker c.spill.result
+    (λ r. before_moved c.args.self.now (was g c) c.self.view_is c.spill.new.names c.spill.new.segments (items_of c.spill.new.buffer.items) c.self.inside.cache r.0 (ap items_of r.1)) c.spill.ensures.refused

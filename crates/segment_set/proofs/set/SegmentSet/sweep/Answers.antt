@@ -65,3 +65,11 @@ pub returns-in_err-place-clause-named : goal.returns-in_err-place-clause-named
 returns-in_err-place-clause-named g c = λ k saved m need there.
     c.in_err-place.ensures.swept.named k (saved_still c.args.self.now c.names.self c.names.invariant.swept.alone ∙ saved) m (needed_still c.args.self.now c.names.self k m c.names.invariant.swept.alone need)
     (c.names.invariant.swept.named k saved m need there)
+
+pub returns-clause-left : goal.returns-clause-left
+returns-clause-left g c = λ told m there none. c.names.invariant.swept.gone told m there none
+
+pub returns-in_err-place-clause-left : goal.returns-in_err-place-clause-left
+returns-in_err-place-clause-left g c = λ told m there none.
+    (swept_then (IsTrue g.F.Pages.told) c.args.self.now c.names.self c.sweep_at.new.self (g.F.Pages.files c.args.folder.now) (g.F.Pages.files c.names.folder) (g.F.Pages.files c.sweep_at.new.folder)
+    c.names.invariant.swept c.in_err-place.ensures.swept).gone told m there none

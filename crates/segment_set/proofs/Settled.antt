@@ -1,0 +1,73 @@
+-- Merges of the policy, one after another, and a set that a fault left as it was.
+use Rattle.std.proofs.Common.{◌≡◌, ℕ, List, [], ◌∷◌, ◌++◌, map, get_or, refl, subst, inl, inr, ◌∙◌}
+use Rattle.outer_io.specs.Files.{Files}
+use Rattle.point_codec.specs.Points.{Item}
+use Rattle.page_cache.specs.declared.cache.PageCache.{PageCache}
+use Rattle.merge_policy.specs.Choice.{IsChoice}
+use Rattle.segment_view.specs.Parts.{Part, ids_of}
+use Rattle.file_names.specs.Names.{NameList}
+use Rattle.segment_set.specs.Sets.{SetData, pins_of, sizes_of}
+use Rattle.segment_set.specs.Kept.{IsAsBefore, StaysButParts}
+use Rattle.segment_set.specs.Merges.{IsMerged, IsSpilled}
+use Rattle.segment_set.specs.Settles.{Spot, spot, MergesChoice, MergesChoices, Settles, Spills, Flushes, IsLeft}
+use Rattle.segment_set.proofs.Moved.{moved}
+
+-- ---- the set alone
+
+pub before_itself : (s : SetData) → IsAsBefore s s
+before_itself s = record { is = refl }
+
+pub before_same : (s t : SetData) → t ≡ s → IsAsBefore s t
+before_same s t same = subst (λ (u : SetData). IsAsBefore u t) same (before_itself t)
+
+-- after a refusal the set is told by its fields
+pub before_moved : (s was : SetData) → was ≡ s → (names : NameList) (parts : List Part) (buffer : List Item) (cache : PageCache) → parts ≡ was.parts → buffer ≡ was.buffer
+    → IsAsBefore s (moved was names parts buffer was.begun cache)
+before_moved s was view names parts buffer cache p b =
+    subst (λ (u : SetData). IsAsBefore u (moved was names parts buffer was.begun cache)) view (record { is = λ i. moved was names (p i) (b i) was.begun cache })
+
+pub but_parts : (s was : SetData) → was ≡ s → (names : NameList) (parts : List Part) (cache : PageCache) → StaysButParts s (moved was names parts was.buffer was.begun cache)
+but_parts s was view names parts cache = subst (λ (u : SetData). StaysButParts u (moved was names parts was.buffer was.begun cache)) view (record { is = refl })
+
+-- ---- merges
+
+choices_one : (D : ℕ) (told : Type 0) (old : Spot) (spots : List Spot) (mid new : Spot) → MergesChoices D told old spots mid → MergesChoice D told mid new → MergesChoices D told old (spots ++ new ∷ []) new
+choices_one D told old [] mid new done one = (subst (λ (s : Spot). MergesChoice D told s new) done one, refl)
+choices_one D told old (s ∷ spots) mid new done one = (done.0, choices_one D told s spots mid new done.1 one)
+
+pub settles_none : (D : ℕ) (told : Type 0) (s : Spot) → Settles D told s s
+settles_none D told s = record { spots = []; merges = refl }
+
+pub settles_one : (D : ℕ) (told : Type 0) (old mid new : Spot) → Settles D told old mid → MergesChoice D told mid new → Settles D told old new
+settles_one D told old mid new done one = record { spots = done.spots ++ new ∷ []; merges = choices_one D told old done.spots mid new done.merges one }
+
+-- a merge of the segments that were chosen
+pub merges_chosen : (D : ℕ) (told : Type 0) (old new : Spot) (ids these : List ℕ) → these ≡ ids
+    → (positions : List ℕ) × IsChoice (sizes_of old.set.parts) (pins_of old.set.begun old.set.parts) positions × (ids ≡ map (λ i. get_or (ids_of old.set.parts) i 0) positions)
+    → IsMerged D told old.set.leaf old.set.names new.set.names old.files new.files old.set.cache these old.set.parts new.set.parts → StaysButParts old.set new.set → MergesChoice D told old new
+merges_chosen D told old new ids these same chosen merged alone = record {
+  positions = chosen.0;
+  choice = chosen.1;
+  merges = record {
+    merged = subst (λ (ns : List ℕ). IsMerged D told old.set.leaf old.set.names new.set.names old.files new.files old.set.cache ns old.set.parts new.set.parts) (same ∙ chosen.2) merged;
+    alone = alone;
+  };
+}
+
+-- ---- flushes
+
+pub flushes_settled : (D : ℕ) (told : Type 0) (old new : Spot) → Settles D told old new → Flushes D told old new
+flushes_settled D told old new done = record { mid = new; settles = done; spills = inl refl }
+
+pub flushes_none : (D : ℕ) (told : Type 0) (s : Spot) → Flushes D told s s
+flushes_none D told s = flushes_settled D told s s (settles_none D told s)
+
+pub left_settled : (D : ℕ) (told : Type 0) (old : Spot) (t : SetData) → IsLeft (Settles D told old) t → IsLeft (Flushes D told old) t
+left_settled D told old t left = (left.0, flushes_settled D told old left.0 left.1, left.2)
+
+-- what waited went to a segment, where the set is told by its fields
+pub spills_moved : (D : ℕ) (told : Type 0) (files new_files : Files) (s was : SetData) → was ≡ s → (names : NameList) (parts : List Part) (buffer : List Item)
+    → IsSpilled D told was.leaf was.names names new_files was.buffer was.parts parts → buffer ≡ [] → Spills D told (spot files s) (spot new_files (moved was names parts buffer was.begun was.cache))
+spills_moved D told files new_files s was view names parts buffer spilled none =
+    subst (λ (u : SetData). Spills D told (spot files u) (spot new_files (moved was names parts buffer was.begun was.cache))) view
+    (record { spilled = spilled; alone = λ i. moved was names parts (none i) was.begun was.cache })
