@@ -7,7 +7,7 @@ ghost use Rattle.cell_relate.specs.Relations.{RelatesTo};
 ghost use Rattle.polygon_query.specs.Shape.{has, crosses};
 
 use cell_relate::{Relation, Shape};
-use edge_tree::EdgeTree;
+use edge_tree::Locator;
 use point_codec::{Cell, Point};
 use ring_parity::Rings;
 use std::alloc::{AllocError, Global};
@@ -20,7 +20,7 @@ pub type Memory = AllocError;
 /// even-odd rule counts as inside, all its rings alike.
 #[derive(Drop)]
 pub struct PolygonShape {
-    edges: EdgeTree,
+    edges: Locator,
     tests: u64,
     compares: u64,
 }
@@ -40,7 +40,7 @@ impl PolygonShape {
         ensures { IfOk result (λ s. s ≡ record { edges = all_edges r.now; tests = 0; compares = 0 }) }
     {
         Ok(PolygonShape {
-            edges: EdgeTree::new(alloc, r)?,
+            edges: Locator::new(alloc, r)?,
             tests: 0,
             compares: 0,
         })
@@ -80,18 +80,19 @@ impl<const D: usize> Shape<D> for PolygonShape {
         if D != 2 {
             return Relation::Outside;
         }
-        relation_of(&self.edges, &cell_in_plane(c))
+        relation_of(&mut self.edges, &cell_in_plane(c))
     }
 }
 
 /// How the cell lies to the polygon of these edges. A cell that no edge meets has all its points in the polygon or none,
 /// so that its least corner tells which.
-fn relation_of(edges: &EdgeTree, c: &Cell<2>) -> Relation
-    ensures { RelatesTo (has 2 edges.now) (crosses 2 edges.now) (region_of c.now) result }
+fn relation_of(edges: &mut Locator, c: &Cell<2>) -> Relation
+    ensures told { RelatesTo (has 2 edges.old) (crosses 2 edges.old) (region_of c.now) result }
+    ensures same { edges.new ≡ edges.old }
 {
     if edges.any_meets(c) {
         Relation::Crosses
-    } else if edges.contains(&c.lo) {
+    } else if edges.tree().contains(&c.lo) {
         Relation::Inside
     } else {
         Relation::Outside

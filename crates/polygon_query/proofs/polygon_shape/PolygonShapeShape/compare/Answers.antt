@@ -15,4 +15,4 @@ two_dimensions dims edges seen cell flat answer d e f h = rw (d, ← e, ← f) h
 pub returns-clause-answer : goal.returns-clause-answer
 returns-clause-answer g c =
     two_dimensions g.row.D c.args.self.now.edges c.self.inside.edges (region_of c.args.c.now) (region_of c.cell_in_plane.result) c.relation_of.result
-    c.if-this-ne2.false (ap (λ s. s.edges) c.self.view_is) c.cell_in_plane.ensures c.relation_of.ensures
+    c.if-this-ne2.false (ap (λ s. s.edges) c.self.view_is) c.cell_in_plane.ensures c.relation_of.ensures.told
