@@ -5,7 +5,7 @@ use Rattle.point_codec.specs.Points.{Region, all_le}
 use Rattle.point_codec.specs.Cells.{within, left_of, right_of}
 use Rattle.cell_relate.specs.Relations.{AllAnswer, IsUncrossed}
 use Rattle.cell_relate.proofs.Corners.{all_le-refl}
-use Rattle.cell_relate.proofs.RelationLemmas.{AllAnswer-within, is_outside-all}
+use Rattle.cell_relate.proofs.RelationLemmas.{AllAnswer-within, is_outside-all, is_outside-inside, is_outside-outside, is_outside-crosses}
 use Rattle.inner_pack.specs.Trees.{IndexTree, Leaf, Split, HasCells, cell_of, leaf_count}
 use Rattle.bkd_reader.specs.Counts.{tested, touched}
 
@@ -59,13 +59,13 @@ module _ (has : List ℤ → Bool) (crosses : Region → Bool) (count : ℕ → 
   uncrossed_tested b u = subst (λ r. 0 ≡ tested crosses count first (Leaf len r)) same (rw u.uncrossed refl)
 
   pub outside_touched : IsUncrossed has crosses seen false → 0 ≡ touched has crosses (Leaf len own)
-  outside_touched u = subst (λ r. 0 ≡ touched has crosses (Leaf len r)) same (rw (u.uncrossed, u.corner) refl)
+  outside_touched u = subst (λ r. 0 ≡ touched has crosses (Leaf len r)) same (rw (is_outside-outside has crosses seen u) refl)
 
   pub inside_touched : IsUncrossed has crosses seen true → 1 ≡ touched has crosses (Leaf len own)
-  inside_touched u = subst (λ r. 1 ≡ touched has crosses (Leaf len r)) same (rw (u.uncrossed, u.corner) refl)
+  inside_touched u = subst (λ r. 1 ≡ touched has crosses (Leaf len r)) same (rw (is_outside-inside has crosses seen u) refl)
 
   pub crossed_tested : crosses seen ≡ true → count first ≡ tested crosses count first (Leaf len own)
   crossed_tested e = subst (λ r. count first ≡ tested crosses count first (Leaf len r)) same (rw e refl)
 
   pub crossed_touched : crosses seen ≡ true → 1 ≡ touched has crosses (Leaf len own)
-  crossed_touched e = subst (λ r. 1 ≡ touched has crosses (Leaf len r)) same (rw e refl)
+  crossed_touched e = subst (λ r. 1 ≡ touched has crosses (Leaf len r)) same (rw (is_outside-crosses has crosses seen e) refl)

@@ -11,6 +11,3 @@ pub mod shape;
 pub use box_shape::BoxShape;
 pub use laws::corner_tells_outside;
 pub use shape::{Relation, Shape};
-
-#[cfg(test)]
-mod tests;

@@ -1,5 +1,5 @@
 -- Payloads of a Commit file, and the commit that they say.
-use Rattle.std.proofs.Common.{◌≡◌, ◌≢◌, ◌≤◌, ◌+◌, ◌-◌, ◌*◌, ℕ, List, [], ◌++◌, length, take, drop, replicate, Option, Some, None, refl, sym, ap, subst, ◌∙◌, arith, length-append, MatchOption}
+use Rattle.std.proofs.Common.{◌≡◌, ◌≢◌, ◌≤◌, ◌+◌, ◌-◌, ◌*◌, ℕ, List, [], ◌∷◌, ◌++◌, length, take, drop, replicate, Option, Some, None, refl, sym, ap, subst, ◌∙◌, arith, append-nil, length-append, MatchOption}
 use Rattle.std.proofs.Math.Seq.{take-append-add}
 use Rattle.std.proofs.lemmas.List.{take_at, drop_at, take-append-drop, length-replicate, length-take}
 use Rattle.outer_io.specs.declared.file_name.FileName.{FileName}
@@ -14,7 +14,7 @@ use Rattle.commit_list.specs.declared.head.Layout.{Layout}
 use Rattle.commit_list.specs.declared.head.Layout.TheVariants.{First, Second}
 use Rattle.commit_list.specs.Commits.{CommitData}
 use Rattle.commit_list.specs.Layout.{spell_head, given_length, head_length, SpellsCommit, BeginsBody, HasNoCommit}
-use Rattle.commit_list.specs.CommitFiles.{IsCommitFile, SpellsFilled, HasNoFilled, BeginsNone}
+use Rattle.commit_list.specs.CommitFiles.{IsCommitFile, SpellsFilled, HasNoFilled, IsNoCommitBody}
 use Rattle.page_cache.proofs.PageRuns.{payloads_join, payloads_of_one}
 use Rattle.commit_list.proofs.Heads.{head-length}
 use Rattle.commit_list.proofs.Bodies.{one_commit, one_length, begins-more, body_begins}
@@ -65,11 +65,22 @@ begins-front bytes k n le b =
     }
 
 -- a first payload with no head in range begins no body
-pub begins_none : (payload : List ℕ) → length payload ≡ 4064 → ((n : ℕ) → BeginsBody payload n → ⊥) → BeginsNone payload
-begins_none payload len none = record {
-  len = len;
-  none = λ c body h e. none (length body) (subst (λ (bytes : List ℕ). BeginsBody bytes (length body)) (sym e) (begins-front (filled body) 4064 (length body) (omega arith) (filled_begins body c h)));
-}
+pub begins_none : (payload : List ℕ) → length payload ≡ 4064 → ((n : ℕ) → BeginsBody payload n → ⊥) → IsNoCommitBody payload
+begins_none payload len none c body rest h e =
+    let front : take 4064 (filled body) ≡ payload = ap (λ (bytes : List ℕ). take 4064 bytes) (sym e) ∙ take_at payload rest 4064 len in
+    none (length body) (subst (λ (bytes : List ℕ). BeginsBody bytes (length body)) front (begins-front (filled body) 4064 (length body) (omega arith) (filled_begins body c h)))
+
+-- nor do payloads that are as many as their head asks for and are those of no body
+pub filled_none : (payloads : List ℕ) (n : ℕ) → BeginsBody payloads n → length payloads ≡ 4064 * pages_for n → HasNoFilled payloads → IsNoCommitBody payloads
+filled_none payloads n b long none c body rest h e =
+    let whole = subst (λ (bytes : List ℕ). BeginsBody bytes n) e (begins-more payloads rest n b) in
+    let same : length body ≡ n = one_length (filled body) (length body) n (filled_begins body c h) whole in
+    let all : length (filled body) ≡ 4064 * pages_for n = filled-length body ∙ ap (λ (m : ℕ). 4064 * pages_for m) same in
+    none c (record { body = body; same = sym (no_more rest (omega (arith, length-append payloads rest, ap length e, all, long))) ∙ e; spells = h })
+  where
+    no_more : (more : List ℕ) → length more ≡ 0 → payloads ++ more ≡ payloads
+    no_more [] gone = append-nil payloads
+    no_more (x ∷ xs) gone = absurd (omega (arith, gone))
 
 -- ---- payloads and the body that their head speaks of
 

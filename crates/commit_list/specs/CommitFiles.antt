@@ -1,5 +1,5 @@
 -- The file of a commit, over the bytes of that one file, and what a damage of it shows.
-use Rattle.std.specs.Prelude.{◌≡◌, ◌≢◌, ℕ, ◌⊎◌, List, length, take}
+use Rattle.std.specs.Prelude.{◌≡◌, ℕ, List, ◌++◌}
 use Rattle.outer_io.specs.declared.file_name.FileName.TheVariants.{Commit}
 use Rattle.outer_io.specs.Files.{Files}
 use Rattle.page_cache.specs.declared.faults.Damage.{Damage}
@@ -30,14 +30,9 @@ pub record SpellsFilled (payloads : List ℕ) (c : CommitData) : Type 0 where
 abbrev pub HasNoFilled : List ℕ → Type 0
 HasNoFilled payloads = (c : CommitData) → SpellsFilled payloads c → ⊥
 
--- no body of a commit begins with this payload of a first page
-pub record BeginsNone (payload : List ℕ) : Type 0 where
-  pub len : length payload ≡ 4064
-  pub none : (c : CommitData) (body : List ℕ) → SpellsCommit body c → payload ≢ take 4064 (filled body)
-
--- the payloads of a Commit file show that it says no commit: the first begins none, or all together are of none
+-- no body of a commit begins with these payloads
 abbrev pub IsNoCommitBody : List ℕ → Type 0
-IsNoCommitBody payloads = BeginsNone payloads ⊎ HasNoFilled payloads
+IsNoCommitBody payloads = (c : CommitData) (body rest : List ℕ) → SpellsCommit body c → payloads ++ rest ≡ filled body → ⊥
 
 -- the first page of a Commit file asks for the pages of the body that it begins
 pub record AsksCommit (payload : List ℕ) (pages : ℕ) : Type 0 where

@@ -1,10 +1,12 @@
 //! The file of the commit, read and written.
 
-ghost use Rattle.std.specs.Prelude.{◌≡◌, ◌≤◌, ◌+◌, ◌/◌, ◌⊎◌, ℕ, None, Some, length, IsTrue, IfOk, OnSome, OnOk, OnErr, IsErrOf, MatchOption, replicate, ◌↔◌};
+ghost use Rattle.std.specs.Prelude.{◌≡◌, ◌≤◌, ◌+◌, ◌*◌, ◌/◌, ◌++◌, ◌⊎◌, ℕ, List, None, Some, length, vec_len, IsTrue, IfOk, OnSome, OnOk, OnErr, IsErrOf, MatchOption, replicate, ◌↔◌};
 ghost use Rattle.outer_io.specs.Files.{Files, bytes_of, SameButTwo};
 ghost use Rattle.outer_io.specs.declared.file_name.FileName.TheVariants.{Commit as CommitName, CommitNew};
 ghost use Rattle.page_cache.specs.Causes.{HasPageCause, HasSegCause, IsSteady};
-ghost use Rattle.page_cache.specs.Evidence.{OnDamage, NotDamaged, ArePayloadsOf};
+ghost use Rattle.page_cache.specs.Bodies.{pages_for as pages_for_body};
+ghost use Rattle.page_cache.specs.Evidence.{OnDamage, NotDamaged, SizeWithin, IsFileDamage, IsFileDamageOf, ArePayloadsOf};
+ghost use Rattle.page_cache.specs.FilePages.{ArePages, payloads_of};
 ghost use Rattle.page_cache.specs.declared.faults.Damage.TheVariants.{Body};
 ghost use Rattle.page_cache.specs.FirstPages.{first_name, first_payload, IsFirstPage};
 ghost use Rattle.page_cache.specs.declared.faults.PageFault.TheVariants as page;
@@ -18,7 +20,7 @@ use crate::reading::{body_length, decode};
 use crate::writing::encode_commit;
 use byte_cursor::{Bytes, Memory};
 use outer_io::{FileName, Folder};
-use page_cache::{Damage, FirstPage, PageFault, SegFault, pages_for, pages_of};
+use page_cache::{Damage, FirstPage, PageFault, SegFault, pages_for, pages_of, read_payloads};
 use std::alloc::Global;
 
 /// The bytes of a page's payload.
@@ -79,8 +81,37 @@ fn read_from<F: Folder>(
     let length = length_of(alloc, first)?;
     let pages = pages_for(length);
     first.check_size(pages)?;
-    let payloads = first.joined(alloc, folder, pages)?;
-    commit_of(alloc, payloads)
+    let payloads = all_payloads(alloc, folder, first, pages)?;
+    commit_of(alloc, payloads, length)
+}
+
+/// The payloads of the first `pages` pages of the Commit, of which the first one is read.
+fn all_payloads<F: Folder>(
+    alloc: Global,
+    folder: &mut F,
+    first: &FirstPage,
+    pages: u32,
+) -> Result<Vec<u8>, PageFault>
+    requires some { 1 ≤ pages }
+    requires name { first_name first.now ≡ CommitName }
+    ensures files { IsTrue F.told → F.files folder.new ≡ F.files folder.old }
+    ensures reads { F.reads folder.new + 1 ≤ F.reads folder.old + pages }
+    ensures cause { HasPageCause (F.faults folder.old) (F.faults folder.new) result }
+    ensures steady { IsSteady (F.faults folder.old) (F.faults folder.new) result }
+    ensures len { IfOk result (λ v. vec_len v ≡ 4064 * pages) }
+    ensures front { IfOk result (λ v. (rest : List ℕ) × (v.items ≡ first_payload first.now ++ rest)) }
+    ensures payloads { IsTrue F.told → IsFirstPage (F.files folder.old) first.now → IfOk result (λ v. v.items ≡ payloads_of (bytes_of (F.files folder.old CommitName)) 0 pages) }
+    ensures pages { IsTrue F.told → IsFirstPage (F.files folder.old) first.now → OnOk result (ArePages CommitName (bytes_of (F.files folder.old CommitName)) 0 pages) }
+    ensures shown { OnDamage result (IsFileDamage CommitName) }
+    ensures within { OnDamage result (SizeWithin (4096 * pages)) }
+    ensures damage { IsTrue F.told → OnDamage result (IsFileDamageOf (F.files folder.old)) }
+    ensures whole { IsTrue F.told → ArePages CommitName (bytes_of (F.files folder.old CommitName)) 1 pages → NotDamaged result }
+{
+    let rest = read_payloads(alloc, folder, &FileName::Commit, 1, pages - 1)?;
+    let mut all = Vec::with_capacity(alloc, PAYLOAD_LEN * pages as usize)?;
+    all.extend_from_slice(first.payload())?;
+    all.extend_from_slice(rest.as_slice())?;
+    Ok(all)
 }
 
 /// The length of the body that the file's first page begins.
@@ -101,15 +132,17 @@ fn length_of(alloc: Global, first: &FirstPage) -> Result<u32, PageFault>
     }
 }
 
-/// The commit that the joined payloads of the file say.
-fn commit_of(alloc: Global, payloads: Vec<u8>) -> Result<Commit, PageFault>
+/// The commit that the joined payloads of the file say, which begin a body of this length.
+fn commit_of(alloc: Global, payloads: Vec<u8>, len: u32) -> Result<Commit, PageFault>
+    requires begins { BeginsBody payloads.items len }
+    requires long { vec_len payloads ≡ 4064 * pages_for_body len }
     ensures found { IfOk result (SpellsFilled payloads.items) }
     ensures failed { IsErrOf result page.Failed → ⊥ }
     ensures shown { OnDamage result IsCommitDamage }
     ensures damage { (files : Files) → ArePayloadsOf files CommitName payloads.items → OnDamage result (IsCommitDamageOf files) }
     ensures whole { (c : CommitData) → SpellsFilled payloads.items c → NotDamaged result }
 {
-    match decode_filled(alloc, payloads.as_slice())? {
+    match decode_filled(alloc, payloads.as_slice(), len)? {
         Some(commit) => Ok(commit),
         None => Err(no_commit(payloads)),
     }
@@ -125,17 +158,14 @@ fn no_commit(payloads: Vec<u8>) -> PageFault
     })
 }
 
-/// The commit whose body, filled up with zeros, the payloads are. None exactly where they are that of none.
-fn decode_filled(alloc: Global, payloads: &[u8]) -> Result<Option<Commit>, Memory>
+/// The commit whose body, filled up with zeros, the payloads are, which begin a body of this length. None exactly where they
+/// are that of none.
+fn decode_filled(alloc: Global, payloads: &[u8], len: u32) -> Result<Option<Commit>, Memory>
+    requires begins { BeginsBody payloads.now len }
+    requires long { length payloads.now ≡ 4064 * pages_for_body len }
     ensures { IfOk result (λ found. MatchOption found (HasNoFilled payloads.now) (SpellsFilled payloads.now)) }
 {
-    let Some(length) = body_length(payloads) else {
-        return Ok(None);
-    };
-    if payloads.len() != PAYLOAD_LEN * pages_for(length) as usize {
-        return Ok(None);
-    }
-    let (body, filling) = payloads.split_at(length as usize);
+    let (body, filling) = payloads.split_at(len as usize);
     if !is_zero(filling) {
         return Ok(None);
     }

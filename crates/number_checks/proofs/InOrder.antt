@@ -1,14 +1,15 @@
 -- Lists in order of number and coordinates: equal entries are neighbours, and those of one number stand in a row.
-use Rattle.std.proofs.Common.{◌≡◌, ◌≢◌, ℕ, zero, suc, ◌+◌, ◌-◌, ◌<◌, ◌≤◌, Bool, true, false, ◌&&◌, ◌||◌, eqb, leb, cond, List, [], ◌∷◌, length, map, get_or, refl, sym, ap, subst, ◌∙◌, inl, inr, arith, Ordering, Less, Equal, Greater}
+use Rattle.std.proofs.Common.{◌≡◌, ◌≢◌, ℕ, zero, suc, ◌+◌, ◌-◌, ◌<◌, ◌≤◌, Bool, true, false, ◌&&◌, ◌||◌, eqb, leb, cond, List, [], ◌∷◌, length, map, get_or, take, drop, refl, sym, ap, subst, ◌∙◌, inl, inr, arith, Ordering, Less, Equal, Greater}
 use Rattle.std.specs.List.{All, AllPairs, count_by}
 use Rattle.std.specs.List.Sorted.{IsSorted, IsStrictlySortedBy}
 use Rattle.std.specs.Ordering.{int_cmp, nat_cmp, is_eq, is_lt, ordering_reverse, ordering_then}
 use Rattle.std.specs.Cmp.Lexicographic.{slice_cmp}
 use Rattle.std.proofs.lemmas.Bool.{cases_Bool, cases_eq, cases_lt, eq-eqb, eqb-true, ne_eqb, le-leb, leb-true, or_parts, or_cases, and_parts, and_from, true≢false, false≢true}
 use Rattle.std.proofs.lemmas.Cmp.{by_ranked, ranked, tied_itself}
-use Rattle.std.proofs.lemmas.List.{get_or-map, length-map}
+use Rattle.std.proofs.lemmas.List.{get_or-map, length-map, get_or-take, get_or-drop, get_or_default, length-drop, length-take-le, take-map}
 use Rattle.std.proofs.lemmas.List.Elements.{All-cons, All-head, All-tail, All-weaker}
 use Rattle.std.proofs.lemmas.List.Sorted.{ranks_by, sorted_far}
+use Rattle.std.proofs.lemmas.List.Sums.{sum_by-take-drop}
 use Rattle.std.proofs.lemmas.Map.Keys.{Less-from_sorted, sorted_from_all_adjacent}
 use Rattle.point_codec.specs.Points.{Item}
 use Rattle.point_codec.specs.Seen.{items_of}
@@ -17,8 +18,9 @@ use Rattle.leaf_codec.specs.LeafOrder.{item_of, same_item, NoneTwice}
 use Rattle.leaf_codec.proofs.OrderLemmas.{count-cons}
 use Rattle.documents.proofs.Lists.{pairs_after, pairs_tail}
 use Rattle.documents.proofs.Totals.{item_exact, item_total}
-use Rattle.number_checks.specs.Crowded.{AreFew, IsCrowded, by_number, count_of, repeats_at}
+use Rattle.number_checks.specs.Crowded.{AreFew, IsCrowded, IsFirstRepeat, IsLeastCrowded, by_number, count_of, repeats_at}
 use Rattle.number_checks.proofs.Once.{is_same, once_from, twice}
+use Rattle.number_checks.proofs.Moved.{no_more}
 
 -- ---- an order that is strict
 
@@ -227,7 +229,71 @@ pub stand_once : {D : ℕ} (xs : List (Entry D)) → IsSorted by_number (items_o
 stand_once {D} [] up none = (once_from (items_of {D = D} []) (λ i j d lt long. absurd (omega arith)), λ n. omega arith)
 stand_once (x ∷ xs) up none = none_crowded (x ∷ xs) up x (λ k. none k x)
 
-pub one_crowded : {D : ℕ} (xs : List (Entry D)) (n : ℕ) → IsSorted by_number (items_of xs)
-    → (k : ℕ) × (1 ≤ k) × (k < length xs) × ((d : Entry D) → (repeats_at d xs k ≡ true) × ((get_or xs k d).doc ≡ n)) → IsCrowded n (items_of xs)
-one_crowded [] n up (k, some, lt, at) = absurd (omega arith)
-one_crowded (x ∷ xs) n up (k, some, lt, at) = subst (λ (m : ℕ). IsCrowded m (items_of (x ∷ xs))) (at x).1 (some_crowded (x ∷ xs) up x k some lt (at x).0)
+one_crowded : {D : ℕ} (xs : List (Entry D)) (n : ℕ) → IsSorted by_number (items_of xs) → IsFirstRepeat xs n → IsCrowded n (items_of xs)
+one_crowded [] n up h = absurd (omega (arith, h.within))
+one_crowded (x ∷ xs) n up h = subst (λ (m : ℕ). IsCrowded m (items_of (x ∷ xs))) (h.repeats x).1 (some_crowded (x ∷ xs) up x h.place h.some h.within (h.repeats x).0)
+
+-- ---- of those in front of a place, and from it on
+
+-- what stands from a place on has no lesser number than what stands there
+no_lesser : (k m : ℕ) (xs : List Item) (d : Item) → Rises xs → m < (get_or xs k d).doc → count_of m (drop k xs) ≡ 0
+no_lesser k m xs d up less = none_above m (drop k xs) above
+  where
+    above : All (λ (x : Item). m < x.doc) (drop k xs)
+    above i e lt = elim (cases_eq i 0) [
+      | inl first ↦
+          let long : k < length xs = omega (arith, lt, length-drop k xs) in
+          let here : get_or (drop k xs) i e ≡ get_or xs k d = get_or-drop k xs i e ∙ ap (λ (j : ℕ). get_or xs j e) (omega (arith, first)) ∙ get_or_default xs k e d long in
+          subst (λ (x : Item). m < x.doc) (sym here) less
+      | inr later ↦
+          let long : k + i < length xs = omega (arith, lt, length-drop k xs) in
+          let le : (get_or xs k d).doc ≤ (get_or xs (k + i) d).doc = up k (k + i) d (omega (arith, later)) long in
+          let here : get_or (drop k xs) i e ≡ get_or xs (k + i) d = get_or-drop k xs i e ∙ get_or_default xs (k + i) e d long in
+          subst (λ (x : Item). m < x.doc) (sym here) (omega (arith, le, less))
+    ]
+
+-- so a lesser number that is crowded is crowded in front of the place
+crowded_before : (k m : ℕ) (xs : List Item) (d : Item) → Rises xs → m < (get_or xs k d).doc → IsCrowded m xs → IsCrowded m (take k xs)
+crowded_before k m xs d up less (inl many) = inl (omega (arith, many, sum_by-take-drop (λ (x : Item). one_if (has m x)) xs k, no_lesser k m xs d up less))
+crowded_before k m xs d up less (inr (x, is, two)) =
+    let none = no_lesser k m xs d up less in
+    let few : count_by (same_item x) (drop k xs) ≤ count_of m (drop k xs) = subst (λ (n : ℕ). count_by (same_item x) (drop k xs) ≤ count_of n (drop k xs)) is (no_more x (drop k xs)) in
+    inr (x, is, omega (arith, two, sum_by-take-drop (λ (y : Item). one_if (same_item x y)) xs k, few, none))
+
+not_crowded : (n : ℕ) (xs : List Item) → NoneTwice xs × AreFew xs → IsCrowded n xs → ⊥
+unfolding NoneTwice
+not_crowded n xs (once, few) (inl many) = omega (arith, many, few n)
+not_crowded n xs (once, few) (inr (x, is, two)) = omega (arith, two, once x)
+
+pub least_crowded : {D : ℕ} (xs : List (Entry D)) (n : ℕ) → IsSorted by_number (items_of xs) → IsFirstRepeat xs n → IsLeastCrowded n (items_of xs)
+least_crowded [] n up h = absurd (omega (arith, h.within))
+least_crowded {D} (x ∷ xs) n up h = record { crowded = one_crowded (x ∷ xs) n up h; least = least }
+  where
+    front : List (Entry D)
+    front = take h.place (x ∷ xs)
+
+    fronts : items_of front ≡ take h.place (items_of (x ∷ xs))
+    fronts = sym (take-map (item_of {D = D}) h.place (x ∷ xs))
+
+    front_sorted : IsSorted by_number (take h.place (items_of (x ∷ xs)))
+    front_sorted k d low lt =
+        let items = items_of (x ∷ xs) in
+        let all : length items ≡ length (x ∷ xs) = length-map (x ∷ xs) (item_of {D = D}) in
+        let inside : k + 1 < h.place = omega (arith, lt, length-take-le h.place items (omega (arith, h.within, all))) in
+        rw (get_or-take h.place items (k + 1) d inside, get_or-take h.place items k d (omega (arith, inside))) (up k d low (omega (arith, inside, h.within, all)))
+
+    in_order : IsSorted by_number (items_of front)
+    in_order = subst (IsSorted by_number) (sym fronts) front_sorted
+
+    none : (k : ℕ) (d : Entry D) → 1 ≤ k → k < length front → repeats_at d front k ≡ false
+    none k d some lt =
+        let inside : k < h.place = omega (arith, lt, length-take-le h.place (x ∷ xs) (omega (arith, h.within))) in
+        rw (get_or-take h.place (x ∷ xs) k d inside, get_or-take h.place (x ∷ xs) (k - 1) d (omega (arith, inside)), get_or-take h.place (x ∷ xs) (k - 16) d (omega (arith, inside))) (h.before k d some inside)
+
+    here : (get_or (items_of (x ∷ xs)) h.place (item_of x)).doc ≡ n
+    here = ap (λ (y : Item). y.doc) (get_or-map (λ (y : Entry D). item_of y) (x ∷ xs) h.place x (item_of x) h.within) ∙ (h.repeats x).1
+
+    least : (m : ℕ) → m < n → IsCrowded m (items_of (x ∷ xs)) → ⊥
+    least m lt crowd =
+        not_crowded m (items_of front) (stand_once front in_order none)
+        (subst (IsCrowded m) (sym fronts) (crowded_before h.place m (items_of (x ∷ xs)) (item_of x) (rises (items_of (x ∷ xs)) up) (omega (arith, lt, here)) crowd))

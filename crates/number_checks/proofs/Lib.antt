@@ -4,3 +4,4 @@ pub mod Once
 pub mod InOrder
 pub mod Moved
 pub mod Again
+pub mod WithEntries

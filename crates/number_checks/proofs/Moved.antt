@@ -10,7 +10,7 @@ use Rattle.point_codec.specs.Seen.{items_of}
 use Rattle.point_codec.specs.declared.entries.Entry.{Entry}
 use Rattle.leaf_codec.specs.LeafOrder.{item_of, same_item, NoneTwice}
 use Rattle.documents.proofs.Totals.{sum_by-filter}
-use Rattle.number_checks.specs.Crowded.{AreFew, IsCrowded, count_of}
+use Rattle.number_checks.specs.Crowded.{AreFew, IsCrowded, IsLeastCrowded, count_of}
 use Rattle.number_checks.proofs.Once.{same_is}
 
 abbrev one_if : Bool → ℕ
@@ -49,7 +49,7 @@ same_number x y e = subst (λ (z : Item). eqb z.doc x.doc ≡ true) (same_is x y
     itself : (n : ℕ) → eqb n n ≡ true
     itself n = eq-eqb n n refl
 
-no_more : (x : Item) (xs : List Item) → count_by (same_item x) xs ≤ count_of x.doc xs
+pub no_more : (x : Item) (xs : List Item) → count_by (same_item x) xs ≤ count_of x.doc xs
 no_more x xs = sum_by-le-sum_by (λ (y : Item). one_if (same_item x y)) (λ (y : Item). one_if (eqb y.doc x.doc)) xs each
   where
     each : (y : Item) → one_if (same_item x y) ≤ one_if (eqb y.doc x.doc)
@@ -70,9 +70,16 @@ module _ (xs ys : List Item) (moved : IsPermutation xs ys) where
   same_count : (q : Item → Bool) → count_by q ys ≡ count_by q xs
   same_count q = sum_by-IsPermutation (λ (x : Item). one_if (q x)) xs ys moved
 
-  pub crowded_back : (n : ℕ) → IsCrowded n ys → IsCrowded n xs
+  crowded_back : (n : ℕ) → IsCrowded n ys → IsCrowded n xs
   crowded_back n (inl many) = inl (omega (arith, many, same_count (λ x. eqb x.doc n)))
   crowded_back n (inr (x, is, two)) = inr (x, is, omega (arith, two, same_count (same_item x)))
+
+  pub crowded_on : (n : ℕ) → IsCrowded n xs → IsCrowded n ys
+  crowded_on n (inl many) = inl (omega (arith, many, same_count (λ x. eqb x.doc n)))
+  crowded_on n (inr (x, is, two)) = inr (x, is, omega (arith, two, same_count (same_item x)))
+
+  pub least_back : (n : ℕ) → IsLeastCrowded n ys → IsLeastCrowded n xs
+  least_back n h = record { crowded = crowded_back n h.crowded; least = λ m lt crowd. h.least m lt (crowded_on m crowd) }
 
   pub once_back : NoneTwice ys × AreFew ys → NoneTwice xs × AreFew xs
   unfolding NoneTwice
@@ -80,7 +87,7 @@ module _ (xs ys : List Item) (moved : IsPermutation xs ys) where
 
 -- those that p keeps
 module _ (p : Item → Bool) (xs : List Item) where
-  pub crowded_among : (n : ℕ) → IsCrowded n (filter p xs) → IsCrowded n xs
+  crowded_among : (n : ℕ) → IsCrowded n (filter p xs) → IsCrowded n xs
   crowded_among n (inl many) = inl (omega (arith, many, fewer p (λ x. eqb x.doc n) xs))
   crowded_among n (inr (x, is, two)) = inr (x, is, omega (arith, two, fewer p (same_item x) xs))
 
@@ -100,6 +107,15 @@ module _ (p : Item → Bool) (xs : List Item) where
         | inr one ↦ omega (arith, one)
         | inl two ↦ omega (arith, few n, as_many p (λ x. eqb x.doc n) xs (keeps n two))
       ]
+
+  -- and so a crowded number is crowded among those that are kept
+  pub least_among : ((n : ℕ) → 2 ≤ count_of n xs → (x : Item) → eqb x.doc n ≡ true → p x ≡ true) → (n : ℕ) → IsLeastCrowded n (filter p xs) → IsLeastCrowded n xs
+  least_among keeps n h = record { crowded = crowded_among n h.crowded; least = λ m lt crowd. h.least m lt (still m crowd) }
+    where
+      still : (m : ℕ) → IsCrowded m xs → IsCrowded m (filter p xs)
+      still m (inl many) = inl (omega (arith, many, as_many p (λ x. eqb x.doc m) xs (keeps m (omega (arith, many)))))
+      still m (inr (x, is, two)) =
+          inr (x, is, omega (arith, two, as_many p (same_item x) xs (λ y e. keeps x.doc (omega (arith, two, no_more x xs)) y (same_number x y e))))
 
 -- ---- entries as items
 

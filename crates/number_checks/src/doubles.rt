@@ -1,11 +1,11 @@
 //! Entries that stand twice, and numbers with too many of them.
 
-ghost use Rattle.std.specs.Prelude.{◌≡◌, ◌<◌, ◌≤◌, ◌+◌, ◌-◌, ◌/◌, ◌&&◌, ◌||◌, ℕ, true, false, nat_eq, nat_le, length, filter, count_by, slice_index_or, All, IfOk, IfSome, IfNone};
+ghost use Rattle.std.specs.Prelude.{◌≡◌, ◌<◌, ◌≤◌, ◌+◌, ◌-◌, ◌/◌, ◌&&◌, ◌||◌, ℕ, true, false, nat_eq, length, filter, count_by, All, IfOk, IfSome, IfNone};
 ghost use Rattle.point_codec.specs.Seen.{items_of};
 ghost use Rattle.point_codec.specs.declared.entries.Entry.{Entry};
 ghost use Rattle.leaf_codec.specs.LeafOrder.{item_of, NoneTwice};
 ghost use Rattle.number_checks.specs.Marks.{is_marked};
-ghost use Rattle.number_checks.specs.Crowded.{by_number, AreFew, IsCrowded, repeats_at};
+ghost use Rattle.number_checks.specs.Crowded.{by_number, AreFew, IsFirstRepeat, IsLeastCrowded, repeats_at};
 
 use crate::Memory;
 use crate::marks::{is_marked, mark};
@@ -16,12 +16,12 @@ use std::cmp::Ordering;
 /// The greatest number of points of a document.
 const MOST_POINTS: usize = 16;
 
-/// A number of which one entry stands twice in the list, or of which there are more than 16 entries, if there is one. Entries
-/// may stand in any order. Where no two entries have one number, nothing is sorted, and the call takes memory of two bits for
-/// each number from the least of the entries to the greatest; else also that of the entries whose number another one has.
+/// The least number of which one entry stands twice in the list, or of which there are more than 16 entries, if there is one.
+/// Entries may stand in any order. Where no two entries have one number, nothing is sorted, and the call takes memory of two bits
+/// for each number from the least of the entries to the greatest; else also that of the entries whose number another one has.
 pub fn doubled<const D: usize>(alloc: Global, entries: &[Entry<D>]) -> Result<Option<u32>, Memory>
     ensures none { IfOk result (λ r. IfNone r (NoneTwice (items_of entries.now) × AreFew (items_of entries.now))) }
-    ensures some { IfOk result (λ r. IfSome r (λ number. IsCrowded number (items_of entries.now))) }
+    ensures some { IfOk result (λ r. IfSome r (λ number. IsLeastCrowded number (items_of entries.now))) }
 {
     let (least, greatest) = reach(entries);
     let words = (greatest.saturating_sub(least) / 64 + 1) as usize;
@@ -119,10 +119,10 @@ fn entries_again<const D: usize>(
     Ok(list)
 }
 
-/// A number of which one entry stands twice in the list, or of which there are more than 16 entries.
+/// The least number of which one entry stands twice in the list, or of which there are more than 16 entries.
 fn crowded<const D: usize>(list: Vec<Entry<D>>) -> Option<u32>
     ensures none { IfNone result (NoneTwice (items_of list.entry.items) × AreFew (items_of list.entry.items)) }
-    ensures some { IfSome result (λ number. IsCrowded number (items_of list.entry.items)) }
+    ensures some { IfSome result (λ number. IsLeastCrowded number (items_of list.entry.items)) }
 {
     let mut list = list;
     list.sort_unstable_by(
@@ -146,8 +146,7 @@ fn by_number<const D: usize>(a: &Entry<D>, b: &Entry<D>) -> Ordering
 /// The number of the first entry that repeats one before it.
 fn first_crowded<const D: usize>(list: &[Entry<D>]) -> Option<u32>
     ensures none { IfNone result ((k : ℕ) (d : Entry D) → 1 ≤ k → k < length list.now → repeats_at d list.now k ≡ false) }
-    ensures some { IfSome result (λ number. (k : ℕ) × (1 ≤ k) × (k < length list.now)
-        × ((d : Entry D) → (repeats_at d list.now k ≡ true) × ((slice_index_or list.now k d).doc ≡ number))) }
+    ensures some { IfSome result (IsFirstRepeat list.now) }
 {
     for k in 1..list.len() {
         if repeats_at(list, k) {

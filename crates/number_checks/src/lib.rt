@@ -3,12 +3,14 @@
 #![tactic(auto)]
 
 mod doubles;
+mod found;
 mod laws;
 mod marks;
 mod placing;
 mod told;
 
 pub use doubles::doubled;
+pub use found::live_with_entries;
 pub use laws::{fits_docs, none_twice};
 pub use placing::misplaced;
 use std::alloc::AllocError;
@@ -16,6 +18,3 @@ pub use told::Misplaced;
 
 /// Memory is wanting.
 pub type Memory = AllocError;
-
-#[cfg(test)]
-mod tests;

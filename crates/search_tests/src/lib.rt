@@ -4,6 +4,8 @@
 #![tactic(auto)]
 
 #[cfg(test)]
+mod box_relations;
+#[cfg(test)]
 mod index_forms;
 #[cfg(test)]
 mod leaf_pages;
@@ -11,6 +13,8 @@ mod leaf_pages;
 mod long_leaves;
 #[cfg(test)]
 mod nearest_ones;
+#[cfg(test)]
+mod number_rows;
 #[cfg(test)]
 mod ring_parity_rings;
 #[cfg(test)]

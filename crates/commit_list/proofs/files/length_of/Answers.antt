@@ -1,4 +1,4 @@
-use Rattle.std.proofs.Common.{refl, sym, ap, subst, ◌∙◌, List, ℕ, length, inl}
+use Rattle.std.proofs.Common.{refl, sym, ap, subst, ◌∙◌, List, ℕ, length}
 use Rattle.commit_list.specs.Layout.{BeginsBody}
 use Rattle.commit_list.proofs.CommitPages.{begins_none, first_of, first_payloads}
 use Rattle.commit_list.proofs.files.length_of.Goals as goal
@@ -8,8 +8,8 @@ returns-in_ok-bytes-in-None-clause-shown c =
     let same = c.in_ok-bytes-in-None.ensures.items in
     rw c.no_commit.ensures (
       refl,
-      inl (begins_none c.in_ok-bytes-in-None.bytes.items (ap length same ∙ c.payload-in-None.ensures.len)
-          (λ n b. c.in-None.ensures.none n (subst (λ (xs : List ℕ). BeginsBody xs n) (same ∙ c.payload-in-None.ensures.bytes ∙ sym c.payload.ensures.bytes) b))),
+      begins_none c.in_ok-bytes-in-None.bytes.items (ap length same ∙ c.payload-in-None.ensures.len)
+          (λ n b. c.in-None.ensures.none n (subst (λ (xs : List ℕ). BeginsBody xs n) (same ∙ c.payload-in-None.ensures.bytes ∙ sym c.payload.ensures.bytes) b)),
     )
 
 pub returns-in_ok-bytes-in-None-clause-damage : goal.returns-in_ok-bytes-in-None-clause-damage

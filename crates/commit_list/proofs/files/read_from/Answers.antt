@@ -36,7 +36,7 @@ returns-in_err-payloads-clause-damage g c = λ told first.
     rw (e.1, e.2)
     (joined_fault_of files c.pages_for-pages.result c.in_err-payloads.field-0.0 (first_is_there files c.args.first.now c.in_err-payloads.field-0.0 c.requires first)
     (sym (first_of files c.args.first.now c.requires first).size_is ∙ c.in_ok-check_size.ensures.ok.0 refl)
-    (subst (λ (name : FileName). FaultShows (IsFileDamage name) c.in_err-payloads.field-0.0) c.requires c.in_err-payloads.ensures.shown) c.in_err-payloads.ensures.within (c.in_err-payloads.ensures.damage told))
+    c.in_err-payloads.ensures.shown c.in_err-payloads.ensures.within (c.in_err-payloads.ensures.damage told))
 
 pub returns-in_err-check_size-clause-whole : goal.returns-in_err-check_size-clause-whole
 returns-in_err-check_size-clause-whole g c = λ told first d h.
@@ -46,10 +46,10 @@ returns-in_err-check_size-clause-whole g c = λ told first d h.
     absurd (cc)
 
 pub returns-in_err-payloads-clause-reads : goal.returns-in_err-payloads-clause-reads
-returns-in_err-payloads-clause-reads g c = let short = begins-short _ _ c.in_ok-length.ensures.begins in omega (arith, short.1, c.pages_for-pages.ensures, c.joined.ensures.reads)
+returns-in_err-payloads-clause-reads g c = let short = begins-short _ _ c.in_ok-length.ensures.begins in omega (arith, short.1, c.pages_for-pages.ensures, c.all_payloads.ensures.reads)
 
 pub returns-clause-reads : goal.returns-clause-reads
-returns-clause-reads g c = let short = begins-short _ _ c.in_ok-length.ensures.begins in omega (arith, short.1, c.pages_for-pages.ensures, c.joined.ensures.reads)
+returns-clause-reads g c = let short = begins-short _ _ c.in_ok-length.ensures.begins in omega (arith, short.1, c.pages_for-pages.ensures, c.all_payloads.ensures.reads)
 
 pub returns-clause-found : goal.returns-clause-found
 returns-clause-found g c = λ told first.
@@ -58,8 +58,8 @@ returns-clause-found g c = λ told first.
     let payloads = c.in_ok-payloads.payloads.items in
     let f = first_of files c.args.first.now c.requires first in
     let long = sym f.size_is ∙ c.in_ok-check_size.ensures.ok.0 refl in
-    let are = subst (λ (n : FileName). ArePages n (bytes_of (files n)) 0 pages) c.requires (c.in_ok-payloads.ensures.pages told first) in
-    let same = c.in_ok-payloads.ensures.payloads told first ∙ ap (λ (n : FileName). payloads_of (bytes_of (files n)) 0 pages) c.requires in
+    let are = c.in_ok-payloads.ensures.pages told first in
+    let same = c.in_ok-payloads.ensures.payloads told first in
     let len : length payloads ≡ 4064 * pages = omega (arith, c.in_ok-payloads.ensures.len, c.in_ok-payloads.payloads.ok.0) in
     IfOk-weaker c.commit_of.result (SpellsFilled payloads) (IsCommitFile (bytes_of (files Commit))) (λ d h. file_so (bytes_of (files Commit)) payloads pages d long are same len h) c.commit_of.ensures.found
 
@@ -68,8 +68,8 @@ returns-clause-damage g c = λ told first.
     let files = g.F.Pages.files c.args.folder.now in
     let pages = c.pages_for-pages.result in
     let short = begins-short _ _ c.in_ok-length.ensures.begins in
-    let are = subst (λ (n : FileName). ArePages n (bytes_of (files n)) 0 pages) c.requires (c.in_ok-payloads.ensures.pages told first) in
-    let same = c.in_ok-payloads.ensures.payloads told first ∙ ap (λ (n : FileName). payloads_of (bytes_of (files n)) 0 pages) c.requires in
+    let are = c.in_ok-payloads.ensures.pages told first in
+    let same = c.in_ok-payloads.ensures.payloads told first in
     c.commit_of.ensures.damage files (record { count = pages; some = omega (arith, short.0, c.pages_for-pages.ensures); pages = are; same = same })
 
 pub returns-clause-whole : goal.returns-clause-whole
@@ -78,7 +78,7 @@ returns-clause-whole g c = λ told first d h.
     let pages = c.pages_for-pages.result in
     let f = first_of files c.args.first.now c.requires first in
     let long = sym f.size_is ∙ c.in_ok-check_size.ensures.ok.0 refl in
-    let same = c.in_ok-payloads.ensures.payloads told first ∙ ap (λ (n : FileName). payloads_of (bytes_of (files n)) 0 pages) c.requires in
+    let same = c.in_ok-payloads.ensures.payloads told first in
     c.commit_of.ensures.whole d (file_payloads (bytes_of (files Commit)) c.in_ok-payloads.payloads.items pages d long same h)
 
 -- ---- how much is read

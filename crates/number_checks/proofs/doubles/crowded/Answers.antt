@@ -11,8 +11,8 @@ use Rattle.leaf_codec.specs.LeafOrder.{item_of}
 use Rattle.leaf_codec.proofs.OrderLemmas.{sorted-map}
 use Rattle.documents.proofs.Totals.{item_total}
 use Rattle.number_checks.specs.Crowded.{by_number}
-use Rattle.number_checks.proofs.InOrder.{one_crowded, stand_once}
-use Rattle.number_checks.proofs.Moved.{IfNone_then, crowded_back, once_back}
+use Rattle.number_checks.proofs.InOrder.{least_crowded, stand_once}
+use Rattle.number_checks.proofs.Moved.{IfNone_then, least_back, once_back}
 use Rattle.number_checks.proofs.doubles.crowded.Goals as goal
 
 -- what first_crowded is given is in order, and has the entries of the list
@@ -36,4 +36,4 @@ returns-clause-none g c =
 pub returns-clause-some : goal.returns-clause-some
 returns-clause-some g c =
     IfSome_then c.first_crowded.result c.first_crowded.ensures.some (λ n found.
-    crowded_back (items_of c.args.list.items) (items_of c.as_slice.result.now) (moved g c) n (one_crowded c.as_slice.result.now n (ascending g c) found))
+    least_back (items_of c.args.list.items) (items_of c.as_slice.result.now) (moved g c) n (least_crowded c.as_slice.result.now n (ascending g c) found))

@@ -7,8 +7,8 @@ use Rattle.point_codec.specs.Seen.{items_of}
 use Rattle.point_codec.specs.declared.entries.Entry.{Entry}
 use Rattle.leaf_codec.specs.LeafOrder.{item_of, NoneTwice}
 use Rattle.number_checks.specs.Marks.{is_marked}
-use Rattle.number_checks.specs.Crowded.{AreFew, IsCrowded, count_of}
-use Rattle.number_checks.proofs.Moved.{IfNone_then, all_fit, count_entries, crowded_among, items-filter, lone}
+use Rattle.number_checks.specs.Crowded.{AreFew, IsLeastCrowded, count_of}
+use Rattle.number_checks.proofs.Moved.{IfNone_then, all_fit, count_entries, least_among, items-filter, lone}
 use Rattle.number_checks.proofs.doubles.doubled.Goals as goal
 
 -- the entries whose numbers are marked
@@ -43,4 +43,4 @@ returns-clause-none g c =
 pub returns-clause-some : goal.returns-clause-some
 returns-clause-some g c =
     IfSome_then c.crowded.result c.crowded.ensures.some (λ n crowded.
-    crowded_among (kept g c) (items_of c.args.entries.now) n (subst (λ (xs : List Item). IsCrowded n xs) (collected g c) crowded))
+    least_among (kept g c) (items_of c.args.entries.now) (marked g c) n (subst (λ (xs : List Item). IsLeastCrowded n xs) (collected g c) crowded))

@@ -1,9 +1,10 @@
-use crate::box_shape::BoxShape;
-use crate::shape::{Relation, Shape};
+//! Boxes and cells, with answers reckoned by hand.
+
+use cell_relate::{BoxShape, Relation, Shape};
 use point_codec::{Cell, Point};
 use std::test::Fail;
 
-// as a walk asks, which knows no more than the bound
+/// Asks as a walk does, which knows no more than the bound.
 fn ask<S: Shape<2>>(shape: &mut S, lo: [i32; 2], hi: [i32; 2]) -> Option<(Relation, bool)> {
     let cell = Cell::new(Point { c: lo }, Point { c: hi })?;
     let relation = shape.compare(&cell);
