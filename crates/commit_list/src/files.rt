@@ -107,7 +107,7 @@ fn all_payloads<F: Folder>(
     ensures damage { IsTrue F.told → OnDamage result (IsFileDamageOf (F.files folder.old)) }
     ensures whole { IsTrue F.told → ArePages CommitName (bytes_of (F.files folder.old CommitName)) 1 pages → NotDamaged result }
 {
-    let rest = read_payloads(alloc, folder, &FileName::Commit, 1, pages - 1)?;
+    let rest = read_payloads(alloc, folder, &FileName::Commit, pages - 1)?;
     let mut all = Vec::with_capacity(alloc, PAYLOAD_LEN * pages as usize)?;
     all.extend_from_slice(first.payload())?;
     all.extend_from_slice(rest.as_slice())?;
