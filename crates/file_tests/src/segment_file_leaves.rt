@@ -9,7 +9,7 @@ use crate::samples::{
 use inner_pack::NodeAt;
 use live_bits::LiveBits;
 use outer_io::{FileName, MemFolder};
-use page_cache::PageCache;
+use page_cache::{LeafNote, PageCache};
 use point_codec::{Entry, Point};
 use segment_file::{SegmentHead, bad_leaf, leaf_in, load_leaf, open_segment, read_entries};
 use std::process::Abort;
@@ -246,5 +246,33 @@ fn a_page_is_not_kept_where_a_leaf_is_none(rt: HostRuntime) -> Result<(), Fail> 
     assert_eq!(rt; first, Err(Told::Leaf(2, 12, 9)));
     let again = middle_doc(&rt, &mut folder, &mut cache, &head, 0)?;
     assert_eq!(rt; again, Err(Told::Failed));
+    Ok(())
+}
+
+/// Whether the second leaf, once its page was loaded, is noted there as one of so many entries.
+fn is_noted(rt: &HostRuntime, leaves: &[u8], count: u16) -> Result<bool, Fail> {
+    let mut cache = PageCache::new(rt.alloc(), 1)?;
+    let (mut folder, head) = stored(rt, &OWN_HEAD, &OWN, leaves)?;
+    let node = middle(&head).ok_or("no leaf")?;
+    let Ok(place) = load_leaf(rt.alloc(), &mut folder, &mut cache, &head, &node) else {
+        return Ok(false);
+    };
+    let note = LeafNote::of(&node.cell(), place.offset, place.length, count);
+    let (_, noted) = cache.noted_view(head.id(), head.page_of(place), &note);
+    Ok(noted)
+}
+
+/// The leaf page, a count, and whether the second leaf is known to have as many entries: a leaf that is none isn't.
+const NOTES: [(&[u8], u16, bool); 3] = [
+    (&LEAVES, 2, true),
+    (&LEAVES, 1, false),
+    (&ASTRAY, 2, false),
+];
+
+#[test]
+fn a_leaf_that_was_read_is_known_the_second_time(rt: HostRuntime) -> Result<(), Fail> {
+    for (leaves, count, expected) in NOTES {
+        assert_eq!(rt; is_noted(&rt, leaves, count)?, expected);
+    }
     Ok(())
 }
