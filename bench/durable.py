@@ -1,11 +1,12 @@
 #!/usr/bin/env python3
 """Shows what a power cut leaves of the program bkd, which has to be built (rt run in crates/bkd).
 
-usage: bench/durable.py order | cuts | cost [COMMITS]
+usage: bench/durable.py order | cuts [FOLDERS] | cost [COMMITS]
 
 order    the calls on files that a script with some commits makes, as strace (Debian's strace) tells them
 cuts     these calls cut off at every point: what was synced is there, of the rest any part is; each folder that can be left so is
-         opened, and its answer has to be that of the last commit that was answered, or of the one in flight
+         opened, and its answer has to be that of the last commit that was answered, or of the one in flight. Where more than FOLDERS
+         (1000) could be left by a cut a tenth as many are drawn, beside those where one call alone is missing, or alone was done
 cost     what a commit takes with its syncs, without them, and beside SQLite's (Python's sqlite3), for COMMITS commits (200)
 BKD names the program where it is not crates/bkd/out/bkd.
 """
@@ -23,8 +24,6 @@ import time
 HERE = os.path.dirname(os.path.abspath(__file__))
 PROGRAM = os.environ.get("BKD", os.path.join(HERE, "..", "crates", "bkd", "out", "bkd"))
 TRACED = "open,openat,creat,close,write,writev,pwrite64,fsync,fdatasync,ftruncate,rename,renameat,renameat2,unlink,unlinkat,link,symlink"
-WHOLE = 3000  # so many folders of one cut are tried, or else a sample of them
-SAMPLE = 300
 
 # the lines of the script, and after a commit the numbers of the documents that a box over everything finds
 SCRIPT = [
@@ -176,23 +175,24 @@ def left(calls, parts):
     return {name: bytes(files.get(file, b"")) for name, file in names.items()}
 
 
-def choices(calls, cut, seed):
+def choices(calls, cut, most):
     """What may have been done of each call before the cut: all combinations, or where they are too many none, all, each alone, all but
     each, and a sample."""
     ranges = [(2,) if not is_change(calls[i]) or is_sure(calls, i, cut) else (0, 2, 1) if calls[i].kind == "write" else (0, 2) for i in range(cut)]
     count = 1
     for options in ranges:
         count *= len(options)
-    if count <= WHOLE:
+    if count <= most:
         yield from itertools.product(*ranges)
         return
     none, whole = [r[0] for r in ranges], [2] * cut
     yield from (none, whole)
     for i in range(cut):
-        yield whole[:i] + [ranges[i][0]] + whole[i + 1:]
-        yield none[:i] + [2] + none[i + 1:]
-    draw = random.Random(seed)
-    for _ in range(SAMPLE):
+        if len(ranges[i]) > 1:
+            yield whole[:i] + [0] + whole[i + 1:]
+            yield none[:i] + [2] + none[i + 1:]
+    draw = random.Random(cut)
+    for _ in range(most // 10):
         yield [draw.choice(options) for options in ranges]
 
 
@@ -204,15 +204,17 @@ def allowed(calls, cut):
     return {answer(done[-1] if done else None), answer(coming[0] if coming else done[-1])}
 
 
-def cuts():
+def cuts(most):
     work = tempfile.mkdtemp(prefix="durable-")
     folder = os.path.join(work, "traced")
     os.mkdir(folder)
     calls, _ = traced(folder)
     asked, wrong, copy = {}, 0, os.path.join(work, "left")
     for cut in range(len(calls) + 1):
+        if sys.stderr.isatty():
+            print("cut %d of %d, %d folders" % (cut, len(calls), len(asked)), end="\r", file=sys.stderr)
         wanted = allowed(calls, cut)
-        for parts in choices(calls, cut, cut):
+        for parts in choices(calls, cut, most):
             files = left(calls[:cut], parts)
             key = tuple(sorted(files.items()))
             if key not in asked:
@@ -286,5 +288,6 @@ if __name__ == "__main__":
     words = sys.argv[1:]
     if not words or words[0] not in ("order", "cuts", "cost"):
         raise SystemExit(__doc__)
-    good = cost(int(words[1]) if len(words) > 1 else 200) if words[0] == "cost" else {"order": order, "cuts": cuts}[words[0]]()
+    count = int(words[1]) if len(words) > 1 else {"cuts": 1000, "cost": 200}.get(words[0])
+    good = order() if words[0] == "order" else cuts(count) if words[0] == "cuts" else cost(count)
     sys.exit(0 if good else 1)
