@@ -1,11 +1,13 @@
 use Rattle.leaf_codec.specs.LeafOrder.{NoneTwice}
 use Rattle.point_codec.specs.Seen.{items_of}
-use Rattle.number_checks.specs.Crowded.{AreFew}
+use Rattle.number_checks.specs.Crowded.{AreFew, IsLeastCrowded}
 use Rattle.segment_set.proofs.Counted.{uncrowded}
 use Rattle.segment_set.proofs.merging.check_entries.Goals as goal
 
 pub returns-in-Some-clause-whole : goal.returns-in-Some-clause-whole
-returns-in-Some-clause-whole g c = λ next make few. c.fits_docs.ensures.crowded next c.in-Some.doc _ (rw c.in-Some.is at c.in_ok-doc.ensures.some) make
+returns-in-Some-clause-whole g c = λ next make few.
+    let least : IsLeastCrowded c.in-Some.doc (items_of c.args.entries.now) = rw c.in-Some.is at c.in_ok-doc.ensures.some in
+    c.fits_docs.ensures.crowded next c.in-Some.doc _ least.crowded make
 
 pub returns-in-None-clause-uncrowded : goal.returns-in-None-clause-uncrowded
 returns-in-None-clause-uncrowded g c =
