@@ -14,7 +14,8 @@ use Rattle.segment_view.specs.Parts.{Contents, Part, ids_of}
 use Rattle.segment_set.specs.Sets.{BegunMerge, SetData, pins_of, sizes_of}
 use Rattle.segment_set.specs.Seen.{Sees, StandsOver}
 use Rattle.segment_set.specs.Kept.{AreCanonical, HasCanonical, StaysButMerge}
-use Rattle.segment_set.specs.Merged.{IsEnded, chosen_ids}
+use Rattle.segment_set.specs.Merged.{IsEnded, IsTidy, chosen_ids, free_ids, free_parts}
+use Rattle.segment_set.specs.Settles.{MergesParts, spot}
 use Rattle.index_core.specs.Sessions.{IsStill, SessionData}
 
 -- P holds where the command is done
@@ -50,13 +51,16 @@ pub record IsFlushed (D : ℕ) (told : Type 0) (files : Files) (s t : SetData) :
   pub begun : t.begun ≡ s.begun
   pub canon : told → AreCanonical D files s.names t.parts
 
--- where no merge is begun one segment is left at most, of index form 3, and each of its entries is live
+-- Of the segments that are no inputs of a begun merge one is left at most, of index form 3, and each of its entries is live. Where it was so
+-- already the set stays, and else just these were merged.
 pub record IsMergedAll (D : ℕ) (told : Type 0) (files new_files : Files) (s t : SetData) : Type 0 where
   pub buffer : t.buffer ≡ s.buffer
   pub begun : t.begun ≡ s.begun
-  pub one : s.begun ≡ None → (length t.parts ≤ 1) × All (λ p. p.head.index.form ≡ 3) t.parts
-  pub all_live : told → s.begun ≡ None → (i : Index) → Sees D files s i → (c : Contents) → StandsOver D new_files c t
-      → All (λ p. All (λ x. is_live p.live x.doc ≡ true) (c p.head.id)) t.parts
+  pub one : (length (free_parts t) ≤ 1) × All (λ p. p.head.index.form ≡ 3) (free_parts t)
+  pub all_live : told → (i : Index) → Sees D files s i → (c : Contents) → StandsOver D new_files c t
+      → All (λ p. All (λ x. is_live p.live x.doc ≡ true) (c p.head.id)) (free_parts t)
+  pub still : IsTidy s → t ≡ s
+  pub merged : IsTidy s ⊎ MergesParts D told (free_ids s) (spot files s) (spot new_files t)
   pub canon : told → AreCanonical D new_files s.names t.parts
 
 -- a merge is begun of the segments at these positions, and all else is as before

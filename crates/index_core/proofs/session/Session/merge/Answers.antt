@@ -49,7 +49,7 @@ pub returns-clause-leaves : goal.returns-clause-leaves
 returns-clause-leaves g c =
     let done = c.in_ok-merge_all.ensures in
     subst (λ (s : SessionData). IsMergedAll g.row.D (IsTrue g.F.Pages.told) (g.F.Pages.files c.args.folder.now) (g.F.Pages.files c.merge_all.new.folder) s.set c.merge_all.new.self) c.self.view_is
-    (record { buffer = done.buffer; begun = done.begun; one = done.one; all_live = done.all_live; canon = done.canon })
+    (record { buffer = done.buffer; begun = done.begun; one = done.one; all_live = done.all_live; still = λ tidy. (done.still tidy).0; merged = done.merged; canon = done.canon })
 
 pub returns-in_err-merge_all-clause-damage : goal.returns-in_err-merge_all-clause-damage
 returns-in_err-merge_all-clause-damage g c =
