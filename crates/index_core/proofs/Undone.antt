@@ -31,6 +31,7 @@ undone_flight {T} U old new commit fault r is whole flight = subst (KeepsUndone 
   where
     either : SameKept old new ⊎ HasCommit new
     either = ⊎_elim (λ same. inl same) (λ says. inr (says_commit new commit says)) flight
+
     by : (f : PageFault) → NotDamaged {T = U} (Err f) → FaultKeeps old new f
     by page.Failed w = either
     by page.Memory w = either

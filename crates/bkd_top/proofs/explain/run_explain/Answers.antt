@@ -42,7 +42,7 @@ returns-in-Ok-clause-input g c = λ told. record {
 pub returns-in-Ok-clause-damage : goal.returns-in-Ok-clause-damage
 returns-in-Ok-clause-damage g c = record {
   never = λ told state h d.
-    let scope = scope_of _ state h in told_undamaged _ scope.0 _ _ _ _ _ c.explain_lines.result (c.explain_lines.ensures.ends told scope.0 scope.1) (subst IsDamaged c.status_of.ensures d);
+      let scope = scope_of _ state h in told_undamaged _ scope.0 _ _ _ _ _ c.explain_lines.result (c.explain_lines.ensures.ends told scope.0 scope.1) (subst IsDamaged c.status_of.ensures d);
   evident = rw c.status_of.ensures (status_shows _ c.explain_lines.result c.explain_lines.ensures.evident);
 }
 
