@@ -215,15 +215,16 @@ const FORKED: [(u32, u8, u64); 10] = [
     (14, 3, 6),
 ];
 
-/// How often the left halves passed, and how often the right ones.
+/// How often the left halves passed, and how often the right ones. Of no entries, or too many, nothing is built.
 fn passes<R: Threads + Sync>(
     rt: &R,
     alloc: Global,
     count: u32,
     forks: u8,
-) -> Result<(u64, u64), Memory>
-    requires { (1 ≤ count) × (count ≤ 2 ^ 24) }
-{
+) -> Result<(u64, u64), Memory> {
+    if count == 0 || count > 1 << 24 {
+        return Ok((0, 0));
+    }
     let gate = Counting {
         passes: [AtomicU64::new(0), AtomicU64::new(0)],
     };

@@ -62,6 +62,9 @@ const MISPLACED: [(&[&[u32]], u32, Option<Misplaced>); 13] = [
 fn tells_the_least(rt: HostRuntime) -> Result<(), Fail> {
     for (lists, next, answer) in MISPLACED {
         let sets = sets_of(rt.alloc(), lists)?;
+        if next > 1 << 24 {
+            return Err("a number of 24 bits")?;
+        }
         assert_eq!(rt;
             misplaced(rt.alloc(), sets.as_slice(), next)?,
             answer,
