@@ -136,7 +136,7 @@ _FAULTS: dict[int, type[Fault]] = {
 def fault_of(status: int, said: str, done: int | None = None, last: str | None = None) -> Error:
     """The error for a program that ended with this status and said this on standard error."""
     line = said.strip().splitlines()[-1] if said.strip() else ""
-    if status == 1:
+    if status == 1 and line.startswith("usage: "):
         return Unsupported(f"the program doesn't know these words: {line}")
     if status == 6 and line.startswith("damaged: ") and (damage := Damage.read(line.removeprefix("damaged: "))):
         return Damaged(damage, done, last)

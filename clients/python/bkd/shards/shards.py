@@ -1,8 +1,10 @@
 """An index over the folders of a layout, each asked by a task on a worker."""
 from __future__ import annotations
 
+import contextlib
 import time
 from collections.abc import Callable, Iterable, Mapping, Sequence
+from concurrent.futures import CancelledError
 from types import TracebackType
 from typing import Any, SupportsIndex
 
@@ -140,22 +142,26 @@ class Shards:
         return self._gathered({place: self._submit(task, place, words, bound[place]) for place, words in asked.items()}, bound)
 
     def _submit(self, task: Callable[..., Any], place: int, words: tuple[Any, ...], worker: str | None) -> Future:
-        large = [self._client.scatter(word, hash=False) if isinstance(word, Documents) else word for word in words]
-        only = {} if worker is None else {"workers": [worker], "allow_other_workers": False}
+        only: dict[str, Any] = {} if worker is None else {"workers": [worker], "allow_other_workers": False}
+        large = [self._client.scatter(word, workers=only.get("workers"), hash=False) if isinstance(word, Documents) else word
+                 for word in words]
         return self._client.submit(task, self.layout.folders[place], *large, pure=False, **only)
 
     def _gathered(self, futures: dict[int, Future], bound: Mapping[int, str | None]) -> dict[int, Any]:
         """What tasks answer; a worker that a task is bound to and that isn't there any more is told."""
-        while futures:
-            try:
+        while not all(future.done() for future in futures.values()):
+            with contextlib.suppress(NotYet, CancelledError):
                 wait(list(futures.values()), timeout=_LOOK)
-                break
-            except NotYet:
-                self._look_for_lost(futures, bound)
+            self._look_for_lost(futures, bound)
+        return {place: self._result(place, future) for place, future in futures.items()}
+
+    def _result(self, place: int, future: Future) -> Any:
         try:
-            return {place: future.result() for place, future in futures.items()}
+            return future.result()
         except KilledWorker as error:
-            raise WorkerLost(self.layout.folders[min(futures)], f"workers died again and again: {error}") from error
+            raise WorkerLost(self.layout.folders[place], f"workers died again and again: {error}") from error
+        except CancelledError as error:  # what it was given went with its worker
+            raise WorkerLost(self.layout.folders[place], "its worker died") from error
 
     def _look_for_lost(self, futures: dict[int, Future], bound: Mapping[int, str | None]) -> None:
         there = self._client.scheduler_info()["workers"]

@@ -90,6 +90,8 @@ def _run(program: Program, folder: str, asked: Sequence[Request], held: int | No
 
 def delete(folder: str, words: Any, keys: Array) -> int:
     """Deletes the documents of these keys, and answers how many were live."""
+    if read_commit(folder) is None:
+        return 0
     program = find(words)
     with _held(folder, program) as held:
         numbers = numpy.flatnonzero(numpy.isin(_keys(folder), keys))
@@ -101,9 +103,11 @@ def delete(folder: str, words: Any, keys: Array) -> int:
 
 def change(folder: str, words: Any, request: Request) -> Any:
     """Has one request done on an index that is there, and committed; None where there is none."""
+    if read_commit(folder) is None:
+        return None
     program = find(words)
     with _held(folder, program) as held:
-        return None if read_commit(folder) is None else _run(program, folder, [request], held)[0]
+        return _run(program, folder, [request], held)[0]
 
 
 def about(folder: str) -> tuple[int, int]:
