@@ -9,6 +9,7 @@ from typing import Any
 import numpy
 
 from .. import requests
+from ..answers import HITS
 from ..requests import Request
 
 Array = numpy.ndarray[Any, Any]
@@ -31,7 +32,7 @@ class Documents:
         """Where each document's points begin."""
         if self.counts is None:
             return numpy.arange(len(self.points))
-        return numpy.concatenate(([0], self.counts.cumsum()[:-1])).astype(numpy.int64)
+        return (self.counts.cumsum() - self.counts).astype(numpy.int64)
 
     def chosen(self, rows: Array) -> Documents:
         """Some of the documents."""
@@ -96,5 +97,5 @@ class Query:
         if self.box is not None:
             return requests.box(*self.box)
         if self.polygon is not None:
-            return Request("polygon " + self.polygon, requests.HITS)
+            return Request("polygon " + self.polygon, HITS)
         return requests.nearest(self.k, self.at)
