@@ -81,12 +81,13 @@ def script(folder: str, stays: bool) -> None:
     for raw in lines:
         if model.lines + 1 == int(at):
             fail(what)
-        sys.stdout.write(model.line(raw.removesuffix(b"\n")))
-        if stays:
-            sys.stdout.flush()
+        answer = model.line(raw.removesuffix(b"\n"))
         if model.committed:
             store(folder, model.state)
             model.committed = False
+        sys.stdout.write(answer)
+        if stays:
+            sys.stdout.flush()
     store(folder, model.state)
     end(2 if model.count else 0, f"refused {model.count}" if model.count else "")
 
