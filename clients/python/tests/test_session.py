@@ -86,13 +86,13 @@ def test_many_lines_of_a_program_that_dies(tmp_path, monkeypatch, stand_in):
 
 def test_a_program_that_hangs(tmp_path, monkeypatch, stand_in):
     monkeypatch.setenv("STAND_IN_AT", "3:hang")
-    index = bkd.open(tmp_path, program=stand_in, timeout=0.5)
+    index = bkd.open(tmp_path, program=stand_in, timeout=5)
     index.add((1, 1))
     pid = pid_of(index)
     begun = time.monotonic()
     with pytest.raises(bkd.Hung) as told:
         index.add((2, 2))
-    assert time.monotonic() - begun < 10 and told.value.last == "add 1 1" and told.value.done == 2
+    assert time.monotonic() - begun < 60 and told.value.last == "add 1 1" and told.value.done == 2
     assert not alive(pid)
     index.close()
 
