@@ -16,7 +16,7 @@ from .cleaning import clean
 from .commands import Checked, batch, check, explain, generate, load
 from .damage import Damage
 from .errors import (BadAnswer, Closed, Damaged, Died, Error, Fault, FolderFault, Hung, Locked, NoIndex, NotFound,
-                     OutOfMemory, Refused, SinkFault, SourceFault, TooLarge, Unsupported)
+                     OutOfMemory, Refused, SinkFault, SourceFault, TooLarge, Unsupported, WorkerLost)
 from .exporting import export, export_csv
 from .index import Index, Snapshot, open
 from .program import Program, find
@@ -25,6 +25,6 @@ from .ranges import Ranges, open_ranges
 __all__ = [
     "BadAnswer", "Checked", "Closed", "Damage", "Damaged", "Died", "Error", "Explained", "Fault", "FolderFault", "Hung",
     "Index", "Locked", "NoIndex", "NotFound", "OutOfMemory", "Program", "Ranges", "Refused", "SinkFault", "Snapshot",
-    "SourceFault", "TooLarge", "Unsupported", "batch", "check", "clean", "explain", "export", "export_csv", "find",
+    "SourceFault", "TooLarge", "Unsupported", "WorkerLost", "batch", "check", "clean", "explain", "export", "export_csv", "find",
     "generate", "geo", "load", "open", "open_ranges", "requests",
 ]

@@ -6,6 +6,7 @@ from __future__ import annotations
 
 import re
 from dataclasses import dataclass, fields
+from typing import Any
 
 _FORMS = (
     ("leaf", "{file} page {page} leaf at {offset}"),
@@ -61,8 +62,9 @@ class Damage:
         """The damage that this text tells, or None where it tells none."""
         for kind, pattern in _PATTERNS:
             if match := pattern.fullmatch(text):
-                found = match.groupdict()
-                return cls(kind, **{name: value if name == "file" else int(value) for name, value in found.items()})
+                found: dict[str, Any] = {name: value if name == "file" else int(value)
+                                         for name, value in match.groupdict().items()}
+                return cls(kind, **found)
         return None
 
     def __str__(self) -> str:

@@ -2,12 +2,22 @@
 from __future__ import annotations
 
 from collections.abc import Sequence
+from typing import Any
 
 from .damage import Damage
 
 
 class Error(Exception):
-    """Whatever this package raises of its own."""
+    """Whatever this package raises of its own. It goes whole from one process to another."""
+
+    def __reduce__(self) -> tuple[Any, ...]:
+        return _again, (type(self), self.args, self.__dict__)
+
+
+def _again(kind: type[Error], args: tuple[Any, ...], told: dict[str, Any]) -> Error:
+    error = kind.__new__(kind, *args)
+    error.__dict__.update(told)
+    return error
 
 
 class NotFound(Error):
@@ -24,6 +34,14 @@ class Locked(Error):
 
 class Closed(Error):
     """The index was closed, or its program has ended."""
+
+
+class WorkerLost(Error):
+    """A worker of `bkd.shards` died while it wrote, or while it alone could reach a folder: `folder` names it."""
+
+    def __init__(self, folder: str, what: str) -> None:
+        super().__init__(f"{folder}: {what}")
+        self.folder = folder
 
 
 class NoIndex(Error):
@@ -118,7 +136,7 @@ _FAULTS: dict[int, type[Fault]] = {
 def fault_of(status: int, said: str, done: int | None = None, last: str | None = None) -> Error:
     """The error for a program that ended with this status and said this on standard error."""
     line = said.strip().splitlines()[-1] if said.strip() else ""
-    if status == 1:
+    if status == 1 and line.startswith("usage: "):
         return Unsupported(f"the program doesn't know these words: {line}")
     if status == 6 and line.startswith("damaged: ") and (damage := Damage.read(line.removeprefix("damaged: "))):
         return Damaged(damage, done, last)

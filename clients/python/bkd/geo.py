@@ -9,7 +9,7 @@ plane of longitude and latitude, not on the globe.
 from __future__ import annotations
 
 import decimal
-from collections.abc import Iterable, Sequence
+from collections.abc import Callable, Iterable, Sequence
 from decimal import Decimal
 from fractions import Fraction
 from math import ceil, floor
@@ -18,7 +18,7 @@ from typing import Any
 UNIT = 10_000_000
 LEAST, GREATEST = -(1 << 31), (1 << 31) - 1
 Degrees = float | int | str | Decimal | Fraction
-_ROUNDINGS = {"nearest": round, "down": floor, "up": ceil}
+_ROUNDINGS: dict[str, Callable[[Fraction], int]] = {"nearest": round, "down": floor, "up": ceil}
 
 
 def whole(degrees: Degrees, rounding: str | None = None) -> int:
@@ -35,7 +35,7 @@ def whole(degrees: Degrees, rounding: str | None = None) -> int:
             raise ValueError(f"not a whole number of 10^-7 degrees: {degrees!r}")
         number = exact.numerator
     elif rounding in _ROUNDINGS:
-        number = int(_ROUNDINGS[rounding](exact))
+        number = _ROUNDINGS[rounding](exact)
     else:
         raise ValueError(f"no rounding: {rounding!r}")
     if not LEAST <= number <= GREATEST:

@@ -155,5 +155,6 @@ def _parts(pieces: Iterator[tuple[bytes, int]]) -> Iterator[Iterator[tuple[bytes
 
 def connect(program: Program, folder: str, options: Sequence[str], timeout: float | None) -> Session | Runs:
     """A session where the program has the command, else runs."""
-    kind = Session if "session" in program.commands else Runs
-    return kind(program, folder, options, timeout)
+    if "session" in program.commands:
+        return Session(program, folder, options, timeout)
+    return Runs(program, folder, options, timeout)

@@ -1,9 +1,11 @@
 #!/usr/bin/python3
-"""A program that talks as `bkd` does, over the model of its language: `session` and `run`, and what else it is told to have.
+"""A program that talks as `bkd` does, over the model of its language: `session`, `run`, and what else it is told to have.
 
 It keeps its documents in `model.json`, and writes a commit file that lists no segments, so that a client finds the
-dimensions; with STAND_IN_FILES there are segments too, which hold the documents. The environment tells how it differs: STAND_IN_COMMANDS is the list of its commands, and STAND_IN_AT, as
-`LINE:WHAT`, what it does in place of that line: `die` (by SIGKILL), `hang`, `damaged`, `garbage`, or a status.
+dimensions; with STAND_IN_FILES there are segments too, which hold the documents. The environment tells how it differs:
+STAND_IN_COMMANDS is the list of its commands, STAND_IN_LOCKS says that it takes the folder's lock as the launcher does,
+and STAND_IN_AT, as `LINE:WHAT`, tells what it does in place of that line: `die` (by SIGKILL), `hang`, `damaged`,
+`garbage`, or a status.
 """
 from __future__ import annotations
 
@@ -79,12 +81,13 @@ def script(folder: str, stays: bool) -> None:
     for raw in lines:
         if model.lines + 1 == int(at):
             fail(what)
-        sys.stdout.write(model.line(raw.removesuffix(b"\n")))
-        if stays:
-            sys.stdout.flush()
+        answer = model.line(raw.removesuffix(b"\n"))
         if model.committed:
             store(folder, model.state)
             model.committed = False
+        sys.stdout.write(answer)
+        if stays:
+            sys.stdout.flush()
     store(folder, model.state)
     end(2 if model.count else 0, f"refused {model.count}" if model.count else "")
 

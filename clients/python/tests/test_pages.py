@@ -5,7 +5,7 @@ import subprocess
 
 import pytest
 
-from conftest import TOP
+from conftest import HERE, TOP, real_program
 
 PAGE = TOP / "docs" / "bkd.1"
 COMPLETION = TOP / "docs" / "completion" / "bkd.bash"
@@ -63,3 +63,21 @@ def completed(*words):
 ])
 def test_completion(words, wanted):
     assert completed(*words) == wanted
+
+
+def test_the_readme(tmp_path, monkeypatch):
+    """Its example runs, and says in its comments what it answers."""
+    import ast
+    text = (HERE.parent / "README.md").read_text()
+    code = "\n".join(line[4:] for line in text.split("    import bkd", 1)[1].splitlines() if line.startswith("    "))
+    code = "import bkd\n" + code.split("clients/python/test", 1)[0]
+    told = dict(re.findall(r"(index\.\w+)\(.*\)\s+# (\[.*\])", code))
+    found = real_program()
+    monkeypatch.setenv("BKD", found.words[0] if found else str(HERE / "stand_in.py"))
+    monkeypatch.chdir(tmp_path)
+    kept = {"squared distance": 0}
+    lines = re.sub(r"(?m)^    (index\.\w+)(\(.*\))(\s+#.*)?$", r"    answers['\1'] = \1\2", code)
+    answers = {}
+    exec(compile(lines, "README", "exec"), {"answers": answers} | kept)
+    assert ast.literal_eval(told["index.box"]) == answers["index.box"] and answers["index.polygon"] == [1, 2]
+    assert answers["index.nearest"][0][0] == 2

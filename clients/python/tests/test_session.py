@@ -32,8 +32,8 @@ def test_full_pipes_block_nobody(stand_in, tmp_path):
         values = index.ask([every] * 150 + [requests.delete(1 << 24)] * 30_000 + [every] * 150)
         assert values == [numbers] * 150 + [0] * 30_000 + [numbers] * 150
         index.delete_box((0, 0), (2990, 2990))
-        ring = [(i % 3000, i % 7) for i in range(20_000)] + [(0, 0)]
-        assert index.ask([requests.polygon([ring])] * 3) == [numbers[2991:2996]] * 3
+        ring = [(i, 0) for i in range(3001)] + [(3000, i) for i in range(1, 3001)] + [(0, 3000), (0, 0)]
+        assert index.ask([requests.polygon([ring])] * 3) == [numbers[2991:]] * 3
 
 
 def test_a_line_is_answered_before_the_next(stand_in, tmp_path):
@@ -86,13 +86,13 @@ def test_many_lines_of_a_program_that_dies(tmp_path, monkeypatch, stand_in):
 
 def test_a_program_that_hangs(tmp_path, monkeypatch, stand_in):
     monkeypatch.setenv("STAND_IN_AT", "3:hang")
-    index = bkd.open(tmp_path, program=stand_in, timeout=0.5)
+    index = bkd.open(tmp_path, program=stand_in, timeout=5)
     index.add((1, 1))
     pid = pid_of(index)
     begun = time.monotonic()
     with pytest.raises(bkd.Hung) as told:
         index.add((2, 2))
-    assert time.monotonic() - begun < 10 and told.value.last == "add 1 1" and told.value.done == 2
+    assert time.monotonic() - begun < 60 and told.value.last == "add 1 1" and told.value.done == 2
     assert not alive(pid)
     index.close()
 

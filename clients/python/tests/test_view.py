@@ -2,6 +2,7 @@
 import http.client
 import json
 import math
+import os
 import random
 import shutil
 import threading
@@ -12,7 +13,6 @@ import pytest
 import bkd
 from bkd import lock, requests
 from bkd.view import serve
-from conftest import TOP
 from test_export import made
 
 
@@ -144,13 +144,13 @@ def towns(count=9000):
 @pytest.mark.skipif(shutil.which("chromium") is None, reason="no chromium")
 def test_in_a_browser(filed, tmp_path, shown):
     from chromium import Chromium
-    with bkd.open(tmp_path / "index", leaf=64, program=filed) as index:
+    with bkd.open(tmp_path / "towns", leaf=64, program=filed) as index:
         points = list(towns())
         numbers = index.add_many(points[:6000])
         index.flush()
         index.add_many(points[6000:])
         index.delete_many(numbers[::6])
-    server = shown(tmp_path / "index", filed)
+    server = shown(tmp_path / "towns", filed)
     with Chromium(tmp_path / "profile") as page:
         page.call("Page.navigate", url=f"http://127.0.0.1:{server.server_address[1]}/")
         page.wait("document.body && document.body.dataset.ready === 'yes'")
@@ -161,11 +161,12 @@ def test_in_a_browser(filed, tmp_path, shown):
         mode = "document.querySelector('input[value={}]').click()"
         answered = "document.body.dataset.answered === 'yes' && state.hits !== null"
         for check in (check_nearest, check_polygon, check_box):
-            check(page, tmp_path / "index", filed, mode, answered)
+            check(page, tmp_path / "towns", filed, mode, answered)
         assert page.value("byId('error').textContent") == "" and page.errors == []
         page.screenshot(tmp_path / "view.png")
         assert (tmp_path / "view.png").stat().st_size > 20_000
-        shutil.copy(tmp_path / "view.png", TOP / "docs" / "images" / "view.png")
+        if "BKD_SCREENSHOT" in os.environ:
+            shutil.copy(tmp_path / "view.png", os.environ["BKD_SCREENSHOT"])
 
 
 def told(folder, program, request):

@@ -185,7 +185,8 @@ function showAnswer(told) {
 
 function showAbout() {
   const { folder, dims, leaf, next, given, segments } = state.about;
-  byId("folder").textContent = folder;
+  byId("folder").textContent = folder.split("/").pop();
+  byId("folder").title = folder;
   const live = segments.reduce((sum, segment) => sum + segment.live, 0);
   byId("about").textContent = `${live} live documents in ${dims} dimensions, leaves of ${leaf}, next number ${next}, ${given} points given`;
   const head = document.createElement("tr");

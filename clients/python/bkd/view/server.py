@@ -134,8 +134,8 @@ class _Handler(BaseHTTPRequestHandler):
         self._answer(lambda: self.server.viewer.ask(json.loads(text)))
 
     def _answer(self, work: Any) -> None:
-        host, port = self.server.server_address[:2]
-        if self.headers.get("Host") not in (f"{host}:{port}", f"localhost:{port}"):
+        port = self.server.server_address[1]
+        if self.headers.get("Host") not in (f"127.0.0.1:{port}", f"localhost:{port}"):
             self._reply(403, b'{"error": "another host"}')
             return
         try:

@@ -1,0 +1,101 @@
+"""Documents and queries in the form that goes to workers."""
+from __future__ import annotations
+
+from collections.abc import Iterable
+from dataclasses import dataclass
+from itertools import chain
+from typing import Any
+
+import numpy
+
+from .. import requests
+from ..answers import HITS
+from ..requests import Request
+
+Array = numpy.ndarray[Any, Any]
+
+
+@dataclass(frozen=True)
+class Documents:
+    """Documents as the array of all their points, of shape (m, dims) and type int32, and how many points each has.
+
+    `counts` is None where each has one.
+    """
+
+    points: Array
+    counts: Array | None = None
+
+    def __len__(self) -> int:
+        return len(self.points) if self.counts is None else len(self.counts)
+
+    def begins(self) -> Array:
+        """Where each document's points begin."""
+        if self.counts is None:
+            return numpy.arange(len(self.points))
+        return (self.counts.cumsum() - self.counts).astype(numpy.int64)
+
+    def chosen(self, rows: Array) -> Documents:
+        """Some of the documents."""
+        if self.counts is None:
+            return Documents(self.points[rows])
+        begins = self.begins()
+        places = [range(begins[row], begins[row] + self.counts[row]) for row in rows]
+        return Documents(self.points[list(chain.from_iterable(places))], self.counts[rows])
+
+    def spelled(self) -> Any:
+        """As `Index.add_many` takes them."""
+        if self.counts is None:
+            return self.points
+        return (part.tolist() for part in numpy.split(self.points, self.begins()[1:]))
+
+
+def documents_of(given: Any, dims: int) -> Documents:
+    """Documents of an array of shape (n, dims), a point each, or of an iterable of what `Index.add` takes.
+
+    What has a coordinate beyond 32 bits, or not 1 to 16 points, raises ValueError, and what is no whole number TypeError.
+    """
+    if hasattr(given, "dtype"):
+        if given.dtype.kind not in "iu":
+            raise TypeError(f"an array of {given.dtype} has no whole numbers")
+        points = given.reshape(-1, 1) if dims == 1 and given.ndim == 1 else given
+        counts = None
+    else:
+        listed = [requests.points_of(document) for document in given]
+        if not all(1 <= len(document) <= 16 for document in listed):
+            raise ValueError("a document has 1 to 16 points")
+        if not all(len(point) == dims for document in listed for point in document):
+            raise ValueError(f"a point has {dims} coordinates")
+        points = numpy.array(list(chain.from_iterable(listed)), dtype=object).reshape(-1, dims)
+        counts = numpy.array([len(document) for document in listed]) if len(points) > len(listed) else None
+    if points.ndim != 2 or points.shape[1] != dims:
+        raise ValueError(f"an array of shape {points.shape} has no points of {dims} dimensions")
+    if len(points) and not (-(1 << 31) <= points.min() and points.max() < 1 << 31):
+        raise ValueError("a coordinate is beyond 32 bits")
+    return Documents(points.astype(numpy.int32), counts)
+
+
+def keys_of(given: Iterable[int] | Array) -> Array:
+    """Keys as an array of int64. What is no whole number of 64 bits raises TypeError or OverflowError."""
+    keys = numpy.asarray(given if hasattr(given, "dtype") else list(given))
+    if len(keys) and keys.dtype.kind not in "iu":
+        raise TypeError(f"keys of {keys.dtype} are no whole numbers")
+    if keys.dtype.kind == "u" and len(keys) and int(keys.max()) >= 1 << 63:
+        raise OverflowError("a key is beyond 64 bits")
+    return keys.astype(numpy.int64)
+
+
+@dataclass(frozen=True)
+class Query:
+    """A query: of a box its ends, of a polygon its text, of the nearest `k` (0 of all others) and the point."""
+
+    box: tuple[tuple[int, ...], tuple[int, ...]] | None = None
+    polygon: str | None = None
+    k: int = 0
+    at: tuple[int, ...] = ()
+
+    def request(self) -> Request:
+        if self.box is not None:
+            return requests.box(*self.box)
+        if self.polygon is not None:
+            return Request("polygon " + self.polygon, HITS)
+        return requests.nearest(self.k, self.at)
