@@ -38,7 +38,9 @@ def load(folder: Folder, columns: Sequence[str], table: bytes | str, forks: int 
     """Adds a document for each record of a CSV table, its points the columns of these 1 to 8 names, and commits.
 
     Answers how many were loaded and the next number. All of the table is loaded, or nothing is and `Refused` says why.
+    The folder is made where it isn't there.
     """
+    os.makedirs(folder, exist_ok=True)
     source = table.encode() if isinstance(table, str) else table
     words = ["load", "--columns", ",".join(columns), "--forks", str(forks)]
     text = _told(find(program), folder, words, source)
@@ -49,7 +51,11 @@ def load(folder: Folder, columns: Sequence[str], table: bytes | str, forks: int 
 
 
 def generate(folder: Folder, docs: int, seed: int, forks: int = 1, *, program: Which = None) -> dict[str, int]:
-    """Makes an index of drawn documents. Answers `docs`, `live`, `box hits` and `nearest sum`; `Refused` where one is there."""
+    """Makes an index of drawn documents, and the folder where it isn't there. `Refused` where an index is there.
+
+    Answers `docs`, `live`, `box hits` and `nearest sum`.
+    """
+    os.makedirs(folder, exist_ok=True)
     text = _told(find(program), folder, ["generate", "--docs", str(docs), "--seed", str(seed), "--forks", str(forks)])
     found = re.fullmatch(r"docs (\d+) live (\d+)\nbox hits (\d+)\nnearest sum (\d+)\n", text)
     if found is None:
