@@ -5,7 +5,7 @@ import os
 
 from . import commands, lock
 from .commands import Folder, Which
-from .errors import NoIndex
+from .errors import NoIndex, Unsupported
 from .formats import open_stored
 from .formats.pages import is_own_name
 from .program import Program, find
@@ -33,5 +33,11 @@ def clean(folder: Folder, *, program: Which = None) -> list[str]:
 def _ask_program(path: str, program: Which, held: int) -> None:
     """Has the program check the folder, where it has the command and leaves the lock to us."""
     found: Program = find(program)
-    if not found.locks and "check" in found.commands and commands.check(path, program=found, held=held) is None:
+    if found.locks or "check" not in found.commands:
+        return
+    try:
+        checked = commands.check(path, program=found, held=held)
+    except Unsupported:
+        return  # the command is listed before it works
+    if checked is None:
         raise NoIndex(f"{path} holds no index")
