@@ -1,4 +1,5 @@
 """The program is killed in the middle, or its disk is full: what was committed stays, and the client tells."""
+import contextlib
 import os
 import random
 import signal
@@ -96,6 +97,7 @@ def test_killed_in_the_middle(program, tmp_path, seed, monkeypatch):
                 killer.start()
             index.ask([requests.add((i, done)) for i in range(500)] + [requests.COMMIT])
             done += 1
+    killer.over.set()
     killer.join()
     index.close()
     with bkd.open(tmp_path, program=program) as index:
@@ -104,13 +106,18 @@ def test_killed_in_the_middle(program, tmp_path, seed, monkeypatch):
 
 
 class KillerOfLast(Killer):
-    """Waits until something runs that it can kill."""
+    """Kills what was started last, again and again until it is over: a process may end before it is hit."""
+
+    def __init__(self, pids, after):
+        super().__init__(pids, after)
+        self.over = threading.Event()
 
     def run(self):
         time.sleep(self.after)
-        while not self.pids:
-            time.sleep(0.001)
-        os.kill(self.pids[-1], signal.SIGKILL)
+        while not self.over.wait(0.001):
+            with contextlib.suppress(ProcessLookupError):
+                for pid in self.pids[-1:]:
+                    os.kill(pid, signal.SIGKILL)
 
 
 def test_killed_files_can_be_read_and_cleaned(real, tmp_path):
