@@ -11,16 +11,17 @@ use Rattle.index_core.specs.Sessions.{SessionData}
 use Rattle.page_cache.specs.declared.faults.PageFault.{PageFault}
 use Rattle.page_cache.specs.declared.faults.PageFault.TheVariants as page
 use Rattle.index_core.specs.Steps.{FaultKeeps, HasCommit, KeepsOver}
-use Rattle.bkd_top.specs.Calls.{Counts, HasCauses, NoneRose, RunCosts, StatusKeeps, StopKeeps}
-use Rattle.bkd_top.specs.Commands.{IsAnswer}
+use Rattle.run_status.specs.Causes.{Counts, HasCauses, NoneRose}
+use Rattle.bkd_top.specs.Calls.{RunCosts, StatusKeeps, StopKeeps}
+use Rattle.run_status.specs.Ends.{IsAnswer}
 use Rattle.bkd_top.specs.Costs.{NoneCommits}
-use Rattle.bkd_top.specs.Runs.{IsDamaged}
-use Rattle.bkd_top.specs.Stops.{status_of, stop_of}
-use Rattle.bkd_top.specs.declared.stop.Stop.{Stop}
-use Rattle.bkd_top.specs.declared.stop.Stop.TheVariants as stop
+use Rattle.run_status.specs.Ends.{IsDamaged}
+use Rattle.run_status.specs.Stops.{status_of, stop_of}
+use Rattle.run_status.specs.declared.stop.Stop.{Stop}
+use Rattle.run_status.specs.declared.stop.Stop.TheVariants as stop
 use Rattle.bkd_top.proofs.Ending.{counted}
-use Rattle.bkd_top.specs.declared.status.Status.{Status}
-use Rattle.bkd_top.specs.declared.status.Status.TheVariants as status
+use Rattle.run_status.specs.declared.status.Status.{Status}
+use Rattle.run_status.specs.declared.status.Status.TheVariants as status
 
 -- what has done nothing costs nothing
 same_status : (files : Files) (s : Status) → StatusKeeps files files s

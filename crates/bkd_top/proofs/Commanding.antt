@@ -12,8 +12,8 @@ use Rattle.load_points.specs.Loaded.{loaded}
 use Rattle.bkd_top.specs.Commands.{Before, EndsAsked, EndsExplain, EndsWhole, Rests}
 use Rattle.bkd_top.specs.Progress.{start}
 use Rattle.bkd_top.specs.Runs.{Ends}
-use Rattle.bkd_top.specs.declared.status.Status.{Status}
-use Rattle.bkd_top.specs.declared.status.Status.TheVariants as status
+use Rattle.run_status.specs.declared.status.Status.{Status}
+use Rattle.run_status.specs.declared.status.Status.TheVariants as status
 use Rattle.bkd_top.proofs.Going.{stops_here}
 
 pub asked_is : (x y : Asked) (o : Option Asked) → o ≡ Some x → o ≡ Some y → x ≡ y

@@ -5,12 +5,13 @@ use Rattle.outer_io.specs.Counts.{Rose}
 use Rattle.outer_io.specs.Files.{Files}
 use Rattle.index_model.specs.Script.{refused_in}
 use Rattle.bkd_top.specs.Progress.{Place}
-use Rattle.bkd_top.specs.Runs.{Ends, EndsLines, Finishes, HasStopCause, DoesNothing, IsDamaged}
-use Rattle.bkd_top.specs.Stops.{status_of}
-use Rattle.bkd_top.specs.declared.stop.Stop.{Stop}
-use Rattle.bkd_top.specs.declared.stop.Stop.TheVariants as stop
-use Rattle.bkd_top.specs.declared.status.Status.{Status}
-use Rattle.bkd_top.specs.declared.status.Status.TheVariants as status
+use Rattle.run_status.specs.Ends.{HasStopCause, DoesNothing, IsDamaged}
+use Rattle.bkd_top.specs.Runs.{Ends, EndsLines, Finishes}
+use Rattle.run_status.specs.Stops.{status_of}
+use Rattle.run_status.specs.declared.stop.Stop.{Stop}
+use Rattle.run_status.specs.declared.stop.Stop.TheVariants as stop
+use Rattle.run_status.specs.declared.status.Status.{Status}
+use Rattle.run_status.specs.declared.status.Status.TheVariants as status
 
 abbrev pub counted : Bool → ℕ → Status
 counted b count = if b then status.Done else status.SomeRefused count

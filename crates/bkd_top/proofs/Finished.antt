@@ -13,14 +13,15 @@ use Rattle.page_cache.specs.Evidence.{NotDamaged}
 use Rattle.index_model.specs.Script.{Answer}
 use Rattle.index_model.specs.State.{State}
 use Rattle.index_core.specs.Whole.{DoesWhole}
-use Rattle.bkd_top.specs.Answers.{IsSent}
-use Rattle.bkd_top.specs.Commands.{Before, EndsWhole, IsAnswer}
-use Rattle.bkd_top.specs.Runs.{IsDamaged}
-use Rattle.bkd_top.specs.Stops.{status_of, stop_of}
-use Rattle.bkd_top.specs.declared.stop.Stop.{Stop}
-use Rattle.bkd_top.specs.declared.stop.Stop.TheVariants as stop
-use Rattle.bkd_top.specs.declared.status.Status.{Status}
-use Rattle.bkd_top.specs.declared.status.Status.TheVariants as status
+use Rattle.run_status.specs.Sent.{IsSent}
+use Rattle.run_status.specs.Ends.{IsAnswer}
+use Rattle.bkd_top.specs.Commands.{Before, EndsWhole}
+use Rattle.run_status.specs.Ends.{IsDamaged}
+use Rattle.run_status.specs.Stops.{status_of, stop_of}
+use Rattle.run_status.specs.declared.stop.Stop.{Stop}
+use Rattle.run_status.specs.declared.stop.Stop.TheVariants as stop
+use Rattle.run_status.specs.declared.status.Status.{Status}
+use Rattle.run_status.specs.declared.status.Status.TheVariants as status
 
 -- the status of a command that is done, or refused
 abbrev done_status : (is_refused : Bool) → Status

@@ -12,9 +12,9 @@ use Rattle.index_model.specs.Script.{answer, text_of, state_after, stored_by, st
 use Rattle.stored_index.specs.Stored.{IsStored}
 use Rattle.bkd_top.specs.Progress.{Place, Progress}
 use Rattle.bkd_top.specs.Runs.{Finishes, InFlight, Stops, Breaks, EndsLines}
-use Rattle.bkd_top.specs.Stops.{stop_of}
-use Rattle.bkd_top.specs.declared.stop.Stop.{Stop}
-use Rattle.bkd_top.specs.declared.stop.Stop.TheVariants as stop
+use Rattle.run_status.specs.Stops.{stop_of}
+use Rattle.run_status.specs.declared.stop.Stop.{Stop}
+use Rattle.run_status.specs.declared.stop.Stop.TheVariants as stop
 
 step_length : (line : ℕ) (ls : List (List ℕ)) → line + 1 + length ls ≡ line + suc (length ls)
 step_length line ls = omega arith

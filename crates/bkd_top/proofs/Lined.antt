@@ -21,12 +21,14 @@ use Rattle.bkd_top.specs.declared.origin.Origin.{Origin}
 use Rattle.bkd_top.specs.declared.origin.Origin.TheVariants as origin
 use Rattle.bkd_top.proofs.Ending.{rose_from}
 use Rattle.bkd_top.proofs.Opened.{none_stored, some_stored}
-use Rattle.bkd_top.specs.Answers.{Answers, IsAnswered, IsCut, IsEnd, IsSent, Line, Replies, Stands, answer_to_line, stored_by_line}
+use Rattle.run_status.specs.Sent.{IsCut, IsSent}
+use Rattle.bkd_top.specs.Answers.{Answers, IsAnswered, IsEnd, Line, Replies, Stands, answer_to_line, stored_by_line}
 use Rattle.bkd_top.specs.Progress.{Place, Progress, start}
-use Rattle.bkd_top.specs.Runs.{EndsLines, HasStopCause}
-use Rattle.bkd_top.specs.Stops.{stop_of}
-use Rattle.bkd_top.specs.declared.stop.Stop.{Stop}
-use Rattle.bkd_top.specs.declared.stop.Stop.TheVariants as stop
+use Rattle.run_status.specs.Ends.{HasStopCause}
+use Rattle.bkd_top.specs.Runs.{EndsLines}
+use Rattle.run_status.specs.Stops.{stop_of}
+use Rattle.run_status.specs.declared.stop.Stop.{Stop}
+use Rattle.run_status.specs.declared.stop.Stop.TheVariants as stop
 use Rattle.bkd_top.proofs.Going.{start_here, one_more, ends_from, stops_here, breaks_here, fault_stops, finishes_here}
 
 -- a place where an index is there

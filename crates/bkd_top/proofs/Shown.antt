@@ -12,10 +12,10 @@ use Rattle.segment_set.specs.Evidence.{IsEvident, IsTwice}
 use Rattle.segment_set.specs.Faithful.{IsFaithful}
 use Rattle.segment_set.proofs.Evident.{evident_at, evident_less}
 use Rattle.index_core.specs.Sessions.{AreTraced, Guards, SessionData, Trusts}
-use Rattle.bkd_top.specs.Runs.{OnStatusDamage, OnStopDamage}
-use Rattle.bkd_top.specs.Stops.{status_of, stop_of}
-use Rattle.bkd_top.specs.declared.stop.Stop.{Stop}
-use Rattle.bkd_top.specs.declared.stop.Stop.TheVariants as stop
+use Rattle.run_status.specs.Ends.{OnStatusDamage, OnStopDamage}
+use Rattle.run_status.specs.Stops.{status_of, stop_of}
+use Rattle.run_status.specs.declared.stop.Stop.{Stop}
+use Rattle.run_status.specs.declared.stop.Stop.TheVariants as stop
 use Rattle.bkd_top.proofs.Ending.{counted}
 
 -- ---- where there is no damage

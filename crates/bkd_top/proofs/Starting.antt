@@ -28,11 +28,11 @@ use Rattle.index_core.proofs.Listed.{attached_listed}
 use Rattle.explain_queries.specs.Explained.{IsScope, Scope}
 use Rattle.bkd_top.specs.Costs.{AllAsk, AreLight, RunReadsFew, TouchesLines, begins_no_merge, given_of, is_query}
 use Rattle.bkd_top.specs.Leads.{AreListed, Leads, LeadsAll, LeadsFrom, Opens, Spot}
-use Rattle.bkd_top.specs.Commands.{IsAnswer}
+use Rattle.run_status.specs.Ends.{IsAnswer}
 use Rattle.bkd_top.specs.Origins.{IsFrom}
-use Rattle.bkd_top.specs.Stops.{status_of}
-use Rattle.bkd_top.specs.declared.stop.Stop.{Stop}
-use Rattle.bkd_top.specs.declared.stop.Stop.TheVariants as stop
+use Rattle.run_status.specs.Stops.{status_of}
+use Rattle.run_status.specs.declared.stop.Stop.{Stop}
+use Rattle.run_status.specs.declared.stop.Stop.TheVariants as stop
 use Rattle.bkd_top.specs.declared.origin.Origin.{Origin}
 use Rattle.bkd_top.specs.declared.origin.Origin.TheVariants as origin
 use Rattle.bkd_top.proofs.Asking.{all_first, all_rest, query_stays, state_rest, touches_parts}

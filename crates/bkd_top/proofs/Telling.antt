@@ -7,12 +7,12 @@ use Rattle.page_cache.specs.declared.faults.PageFault.TheVariants as page
 use Rattle.page_cache.specs.Evidence.{FaultShows}
 use Rattle.explain_queries.specs.Explained.{Scope, Told, TellsLine, TellsLines, followed_by, silence}
 use Rattle.explain_queries.specs.Explains.{IsTold}
-use Rattle.bkd_top.specs.Answers.{IsSent}
+use Rattle.run_status.specs.Sent.{IsSent}
 use Rattle.bkd_top.specs.Commands.{EndsExplain, EndsTold, SendsLine, Stage, Tellings, TellsAll, TellsPart, TellsSome}
-use Rattle.bkd_top.specs.Runs.{IsDamaged}
-use Rattle.bkd_top.specs.Stops.{status_of, stop_of}
-use Rattle.bkd_top.specs.declared.stop.Stop.{Stop}
-use Rattle.bkd_top.specs.declared.stop.Stop.TheVariants as stop
+use Rattle.run_status.specs.Ends.{IsDamaged}
+use Rattle.run_status.specs.Stops.{status_of, stop_of}
+use Rattle.run_status.specs.declared.stop.Stop.{Stop}
+use Rattle.run_status.specs.declared.stop.Stop.TheVariants as stop
 use Rattle.bkd_top.proofs.Ending.{counted}
 
 step_length : (line : ℕ) (ls : List (List ℕ)) → line + 1 + length ls ≡ line + suc (length ls)

@@ -11,8 +11,8 @@ use Rattle.stored_index.specs.Stored.{IsStored}
 use Rattle.segment_set.specs.Seen.{Sees}
 use Rattle.index_core.specs.Sessions.{SessionData, Guards}
 use Rattle.bkd_top.specs.Runs.{InFlight}
-use Rattle.bkd_top.specs.declared.stop.Stop.{Stop}
-use Rattle.bkd_top.specs.declared.stop.Stop.TheVariants as stop
+use Rattle.run_status.specs.declared.stop.Stop.{Stop}
+use Rattle.run_status.specs.declared.stop.Stop.TheVariants as stop
 use Rattle.bkd_top.specs.declared.answers.Opening.{Opening}
 use Rattle.bkd_top.specs.declared.answers.Opening.TheVariants as opening
 
@@ -82,18 +82,6 @@ pub record IsAnswer (answer : Answer) (after : State) (is_refused : Bool) : Type
 abbrev pub IsOpening : Answer → Opening → Type 0
 IsOpening answer (opening.Nothing refused) = IsAnswer answer None refused
 IsOpening answer (opening.Made dims leaf) = (answer.state ≡ Some (new_index dims leaf)) × (answer.refused ≡ 0)
-
--- an answer wasn't sent whole: where the sink failed a prefix of it went out, and for want of memory nothing
-abbrev pub IsCut : List ℕ → List ℕ → List ℕ → Stop → Type 0
-IsCut text old new stop.SinkFault = WritesPart old new text
-IsCut text old new stop.Memory = new ≡ old
-IsCut text old new stop.FolderFault = ⊥
-IsCut text old new (stop.Damaged damage) = ⊥
-
--- an answer went out whole, or was cut
-abbrev pub IsSent : {T : Type 0} → List ℕ → List ℕ → List ℕ → Result T Stop → Type 0
-IsSent text old new (Ok x) = new ≡ old ++ text
-IsSent text old new (Err e) = IsCut text old new e
 
 -- a new index has 1 to 8 dimensions, and leaves within the limits
 abbrev pub IsNew : (dims leaf : ℕ) → Type 0

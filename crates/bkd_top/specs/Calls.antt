@@ -9,44 +9,21 @@ use Rattle.index_model.specs.State.{State}
 use Rattle.stored_index.specs.Kept.{SameKept}
 use Rattle.stored_index.specs.Stored.{IsStored}
 use Rattle.segment_set.specs.Evidence.{IsEvident}
-use Rattle.bkd_top.specs.Commands.{IsAnswer, ReadsFew}
+use Rattle.run_status.specs.Ends.{IsAnswer}
+use Rattle.bkd_top.specs.Commands.{ReadsFew}
 use Rattle.index_core.specs.Light.{KeepsLevels}
 use Rattle.index_core.specs.Steps.{HasCommit}
 use Rattle.bkd_top.specs.Costs.{AllAsk, NoneCommits, RunReadsFew, begins_no_merge, is_query}
-use Rattle.bkd_top.specs.Runs.{GoesOn, IsDamaged, OnStatusDamage}
-use Rattle.bkd_top.specs.declared.stop.Stop.{Stop}
-use Rattle.bkd_top.specs.declared.stop.Stop.TheVariants as stop
-use Rattle.bkd_top.specs.declared.status.Status.{Status}
-use Rattle.bkd_top.specs.declared.status.Status.TheVariants as status
+use Rattle.run_status.specs.Ends.{GoesOn, IsDamaged, OnStatusDamage}
+use Rattle.run_status.specs.declared.stop.Stop.{Stop}
+use Rattle.run_status.specs.declared.stop.Stop.TheVariants as stop
+use Rattle.run_status.specs.declared.status.Status.{Status}
+use Rattle.run_status.specs.declared.status.Status.TheVariants as status
 
 -- wrong words are told as that, unless memory was wanting, and no others are
 pub record TellsUsage (served : Bool) (s : Status) : Type 0 where
   pub only : s ≡ status.Usage → served ≡ false
   pub told : served ≡ false → (s ≡ status.Usage) ⊎ (s ≡ status.Memory)
-
--- an input above 536,870,912 bytes is too large, and nothing else is; what is not refused so was read to its end
-pub record ReadsInput (left left_now : List ℕ) (s : Status) : Type 0 where
-  pub too_large : s ≡ status.TooLarge → 2 ^ 29 < length left
-  pub fits : GoesOn s → length left ≤ 2 ^ 29
-  pub whole : GoesOn s → left_now ≡ []
-
--- the faults that the outside has counted
-pub record Counts : Type 0 where
-  pub source : ℕ
-  pub folder : ℕ
-  pub sink : ℕ
-
--- a fault is answered only where the object whose it is has counted one
-pub record HasCauses (before now : Counts) (s : Status) : Type 0 where
-  pub source : s ≡ status.SourceFault → Rose before.source now.source
-  pub folder : s ≡ status.FolderFault → Rose before.folder now.folder
-  pub sink : s ≡ status.SinkFault → Rose before.sink now.sink
-
--- no object has counted a fault
-pub record NoneRose (before now : Counts) : Type 0 where
-  pub source : Rose before.source now.source → ⊥
-  pub folder : Rose before.folder now.folder → ⊥
-  pub sink : Rose before.sink now.sink → ⊥
 
 -- a folder that stored a state is never found damaged, and a damage is shown by what it carries, and is true of told files
 pub record TellsDamage (told : Type 0) (old new : Files) (s : Status) : Type 0 where

@@ -14,10 +14,10 @@ use Rattle.drawn_points.specs.Generated.{generated}
 use Rattle.explain_queries.specs.Explained.{Scope, IsScope, Told, TellsLine, TellsLines}
 use Rattle.bkd_top.specs.Progress.{start}
 use Rattle.bkd_top.specs.Runs.{Ends}
-use Rattle.bkd_top.specs.declared.status.Status.{Status}
-use Rattle.bkd_top.specs.declared.status.Status.TheVariants as status
-use Rattle.bkd_top.specs.declared.stop.Stop.{Stop}
-use Rattle.bkd_top.specs.declared.stop.Stop.TheVariants as stop
+use Rattle.run_status.specs.declared.status.Status.{Status}
+use Rattle.run_status.specs.declared.status.Status.TheVariants as status
+use Rattle.run_status.specs.declared.stop.Stop.{Stop}
+use Rattle.run_status.specs.declared.stop.Stop.TheVariants as stop
 
 -- ---- what is asked
 
@@ -187,9 +187,3 @@ EndsAsked told (Load columns forks) b files new s = EndsWhole told b (loaded b.s
 EndsAsked told (Explain cache) b files new s = (scope : Scope) → IsScope b.files scope → EndsExplain told scope (lines_of b.input) b.written new s
 EndsAsked told Check b files new s = Rests told b files new
 EndsAsked told (Generate docs seed forks) b files new s = EndsWhole told b (generated b.state docs seed) files new s
-
--- all was done, or refused by rule
-abbrev pub IsAnswer : Status → Type 0
-IsAnswer status.Done = Unit {0}
-IsAnswer (status.SomeRefused count) = Unit {0}
-IsAnswer _ = ⊥

@@ -6,5 +6,3 @@ pub mod Leads
 pub mod Origins
 pub mod Progress
 pub mod Runs
-pub mod Stops
-pub mod Texts

@@ -12,19 +12,19 @@ ghost use Rattle.script_lang.specs.Replies.{line_fault_text, why_text};
 ghost use Rattle.script_lang.specs.Seen.{IsWithinLimits, request_of};
 ghost use Rattle.index_model.specs.State.{Index, State};
 ghost use Rattle.index_model.specs.Script.{answer};
-ghost use Rattle.bkd_top.specs.Answers.{Answers, IsOpening, IsSent, IsWithin, Replies, Stands};
+ghost use Rattle.run_status.specs.Sent.{IsSent};
+ghost use Rattle.bkd_top.specs.Answers.{Answers, IsOpening, IsWithin, Replies, Stands};
 ghost use Rattle.stored_index.specs.Kept.{SameKept};
 ghost use Rattle.bkd_top.specs.Costs.{asks_commit};
 ghost use Rattle.bkd_top.specs.Leads.{Passes};
-ghost use Rattle.bkd_top.specs.Runs.{HasStopCause, OnStopDamage};
+ghost use Rattle.run_status.specs.Ends.{HasStopCause, OnStopDamage};
 
 use crate::lines::Work;
-use crate::status::Memory;
-use crate::stop::{Stop, stopped};
 use bkd_build::Gate;
 use index_core::{Applied, Session};
-use outer_io::{Folder, Sink, write_all};
+use outer_io::{Folder, Sink};
 use page_cache::PageFault;
+use run_status::{Memory, Stop, send, stopped};
 use script_lang::{
     Command, First, LineFault, Why, put_line_fault, put_ok, put_why, read_first, read_line,
 };
@@ -68,20 +68,6 @@ pub fn answer_line<const D: usize, R: Threads + Sync, F: Folder, K: Sink, G: Gat
     match reply_to(work, session, folder, number, line, reply) {
         Ok(refused) => send(out, reply.as_slice(), refused),
         Err(fault) => stopped(fault),
-    }
-}
-
-/// Sends an answer in one piece, and hands on what is known of its line.
-pub fn send<T: Copy, K: Sink>(out: &mut K, reply: &[u8], known: T) -> Result<T, Stop>
-    ensures known { IfOk result (λ x. x ≡ known) }
-    ensures text { IsTrue K.told → IsSent reply.now (K.written out.old) (K.written out.new) result }
-    ensures sink { IsErrOf result Stop.SinkFault → Rose (K.faults out.old) (K.faults out.new) }
-    ensures later { K.faults out.old ≤ K.faults out.new }
-    ensures cause { OnErr result (IsErrOf result Stop.SinkFault) }
-{
-    match write_all(out, reply) {
-        Ok(()) => Ok(known),
-        Err(_) => Err(Stop::SinkFault),
     }
 }
 

@@ -6,11 +6,9 @@ mod explain;
 mod lines;
 mod origin;
 mod program;
-pub mod status;
-mod stop;
 mod whole;
 
 pub use explain::run_explain;
-pub use program::{MAX_INPUT, run, run_script};
-pub use status::{Memory, Status, code, status_line};
+pub use program::{run, run_script};
+pub use run_status::{MAX_INPUT, Memory, Status, code, status_line};
 pub use whole::{run_generate, run_load};

@@ -17,15 +17,16 @@ ghost use Rattle.bkd_top.specs.Costs.{NoneCommits};
 ghost use Rattle.bkd_top.specs.Leads.{Closes, Leads, LeadsAll, LeadsFrom};
 ghost use Rattle.bkd_top.specs.Origins.{dims_of, IsFrom, IsMade, IsThere};
 ghost use Rattle.bkd_top.specs.Progress.{start};
-ghost use Rattle.bkd_top.specs.Runs.{EndsLines, HasStopCause, OnStopDamage};
+ghost use Rattle.run_status.specs.Ends.{HasStopCause, OnStopDamage};
+ghost use Rattle.bkd_top.specs.Runs.{EndsLines};
 
 use crate::answers::{Opening, answer_first, answer_line};
 use crate::origin::{Origin, open};
-use crate::stop::{Stop, stopped};
 use bkd_build::Gate;
 use commit_list::read_commit;
 use index_core::{Session, Settings};
 use outer_io::{Folder, Sink};
+use run_status::{Stop, stopped};
 use script_lang::first_line;
 use std::alloc::Global;
 use std::marker::Sync;

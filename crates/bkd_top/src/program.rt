@@ -6,28 +6,27 @@ ghost use Rattle.script_lang.specs.Lines.{lines_of};
 ghost use Rattle.index_model.specs.State.{State};
 ghost use Rattle.stored_index.specs.Stored.{IsStored};
 ghost use Rattle.bkd_top.specs.Progress.{start};
-ghost use Rattle.bkd_top.specs.Runs.{Ends, DoesNothing};
+ghost use Rattle.run_status.specs.Ends.{DoesNothing};
+ghost use Rattle.bkd_top.specs.Runs.{Ends};
 ghost use Rattle.command_words.specs.Commands.{Asked, IsWithin, asked, said};
 ghost use Rattle.index_core.specs.Whole.{HasNewCanonical};
-ghost use Rattle.bkd_top.specs.Calls.{ExplainCosts, HasCauses, NoneRose, ReadsInput, RunCosts, TellsDamage, TellsUsage, WholeLeaves};
-ghost use Rattle.bkd_top.specs.Commands.{EndsAsked, IsAnswer, does, is_explain, is_served, is_whole, reads_input};
+ghost use Rattle.run_status.specs.Causes.{HasCauses, NoneRose, ReadsInput};
+ghost use Rattle.bkd_top.specs.Calls.{ExplainCosts, RunCosts, TellsDamage, TellsUsage, WholeLeaves};
+ghost use Rattle.run_status.specs.Ends.{IsAnswer};
+ghost use Rattle.bkd_top.specs.Commands.{EndsAsked, does, is_explain, is_served, is_whole, reads_input};
 ghost use Rattle.bkd_top.specs.Costs.{is_run};
 
 use crate::explain::run_explain;
 use crate::lines::{Work, run_lines};
-use crate::status::Status;
-use crate::stop::status_of;
 use crate::whole::{run_generate, run_load};
 use bkd_build::Gate;
 use command_words::{Words, WordsFault, read_words};
 use index_core::Settings;
 use outer_io::{Folder, ReadAll, Sink, Source, read_all};
+use run_status::{MAX_INPUT, Status, status_of};
 use std::alloc::Global;
 use std::marker::Sync;
 use std::thread::Threads;
-
-/// The greatest input, in bytes.
-pub const MAX_INPUT: u64 = 536_870_912;
 
 /// Runs the program with these words: a folder, a command and its options.
 ///

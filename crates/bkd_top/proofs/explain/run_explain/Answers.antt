@@ -1,6 +1,6 @@
 -- The lines that were read are the source's text, and the status says how they ended.
 use Rattle.std.proofs.Common.{refl, sym, subst, ◌∙◌, ◌≤◌, ◌^◌, ℕ, List, length}
-use Rattle.bkd_top.specs.Runs.{DoesNothing, IsDamaged}
+use Rattle.run_status.specs.Ends.{DoesNothing, IsDamaged}
 use Rattle.bkd_top.proofs.Ending.{does_lines, folder_stopped, sink_stopped}
 use Rattle.bkd_top.proofs.Scoped.{scope_of}
 use Rattle.bkd_top.proofs.Telling.{none_told, told_ends, told_undamaged}

@@ -1,6 +1,6 @@
 -- The script that was read is the source's text.
 use Rattle.std.proofs.Common.{refl, sym, subst, ◌∙◌, inl, ◌≤◌, ◌^◌, ℕ, List, length}
-use Rattle.bkd_top.specs.Runs.{DoesNothing}
+use Rattle.run_status.specs.Ends.{DoesNothing}
 use Rattle.bkd_top.proofs.Calling.{nothing_costs}
 use Rattle.bkd_top.proofs.Going.{stops_here}
 use Rattle.bkd_top.proofs.program.run_script.Goals as goal

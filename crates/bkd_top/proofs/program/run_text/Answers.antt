@@ -1,7 +1,7 @@
 -- The status says how the lines ended.
 use Rattle.std.proofs.Common.{sym, subst, ◌∙◌}
-use Rattle.bkd_top.specs.Commands.{IsAnswer}
-use Rattle.bkd_top.specs.Runs.{DoesNothing, IsDamaged}
+use Rattle.run_status.specs.Ends.{IsAnswer}
+use Rattle.run_status.specs.Ends.{DoesNothing, IsDamaged}
 use Rattle.bkd_top.proofs.Calling.{stop_status}
 use Rattle.bkd_top.proofs.Ending.{status_ends, never_damaged, does_lines, folder_stopped, sink_stopped}
 use Rattle.bkd_top.proofs.Starting.{when_answered}

@@ -1,7 +1,7 @@
 -- The file that was read is the source's bytes.
 use Rattle.std.proofs.Common.{inl, refl, sym, subst, ◌∙◌, ◌≤◌, ◌^◌, ℕ, List, length}
 use Rattle.stored_index.proofs.KeptFiles.{kept_itself}
-use Rattle.bkd_top.specs.Runs.{DoesNothing}
+use Rattle.run_status.specs.Ends.{DoesNothing}
 use Rattle.bkd_top.proofs.whole.run_load.Goals as goal
 
 pub returns-in-Ok-clause-never_usage : goal.returns-in-Ok-clause-never_usage

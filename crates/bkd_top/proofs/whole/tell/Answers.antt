@@ -1,9 +1,9 @@
 -- The text of a command that is done is sent, and a fault says what was left.
 use Rattle.std.proofs.Common.{IsTrue, sym, ap, subst, ◌∙◌}
 use Rattle.segment_set.specs.Evidence.{IsEvident}
-use Rattle.bkd_top.specs.Commands.{IsAnswer}
-use Rattle.bkd_top.specs.Runs.{DoesNothing, IsDamaged}
-use Rattle.bkd_top.specs.Stops.{status_of}
+use Rattle.run_status.specs.Ends.{IsAnswer}
+use Rattle.run_status.specs.Ends.{DoesNothing, IsDamaged}
+use Rattle.run_status.specs.Stops.{status_of}
 use Rattle.bkd_top.proofs.Calling.{fault_keeps, sent_keeps}
 use Rattle.bkd_top.proofs.Ending.{does_lines, folder_stopped, sink_stopped}
 use Rattle.bkd_top.proofs.Finished.{count_sent, fault_ends, fault_no_answer, fault_no_sink, fault_rose, fault_undamaged, sent_ends, sent_no_folder, sent_undamaged}

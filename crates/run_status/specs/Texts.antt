@@ -1,8 +1,8 @@
 -- What the program says of how a run ended.
 use Rattle.std.specs.Prelude.{ℕ, List, [], ◌++◌, codes, decimal}
 use Rattle.damage_text.specs.Texts.{damage_text}
-use Rattle.bkd_top.specs.declared.status.Status.{Status}
-use Rattle.bkd_top.specs.declared.status.Status.TheVariants as status
+use Rattle.run_status.specs.declared.status.Status.{Status}
+use Rattle.run_status.specs.declared.status.Status.TheVariants as status
 
 -- the exit status
 abbrev pub number_of : Status → ℕ

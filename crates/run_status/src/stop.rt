@@ -1,7 +1,7 @@
 //! Why a run stops before its end, and its status.
 
 ghost use Rattle.std.specs.Prelude.{◌≡◌, ◌==◌, if◌then◌else◌, Err};
-ghost use Rattle.bkd_top.specs.Stops.{status_of, stop_of};
+ghost use Rattle.run_status.specs.Stops.{status_of, stop_of};
 
 use crate::status::Status;
 use page_cache::{Damage, PageFault};
@@ -22,7 +22,7 @@ pub enum Stop {
 
 impl From<AllocError> for Stop {
     ghost use Rattle.std.specs.Prelude.{◌≡◌};
-    ghost use Rattle.bkd_top.specs.declared.stop.Stop.TheVariants.{Memory};
+    ghost use Rattle.run_status.specs.declared.stop.Stop.TheVariants.{Memory};
 
     ghost from_gives = { λ _ e. e ≡ Memory };
 
@@ -33,7 +33,7 @@ impl From<AllocError> for Stop {
 
 impl From<PageFault> for Stop {
     ghost use Rattle.std.specs.Prelude.{◌≡◌};
-    ghost use Rattle.bkd_top.specs.Stops.{stop_of};
+    ghost use Rattle.run_status.specs.Stops.{stop_of};
 
     ghost from_gives = { λ fault e. e ≡ stop_of fault };
 

@@ -2,7 +2,7 @@
 
 ghost use Rattle.std.specs.Prelude.{◌≡◌, ◌++◌, OnOk, OnErr, take, length, codes, decimal};
 ghost use Rattle.damage_text.specs.Texts.{damage_text};
-ghost use Rattle.bkd_top.specs.Texts.{line_of, number_of};
+ghost use Rattle.run_status.specs.Texts.{line_of, number_of};
 
 use damage_text::put_damage;
 use itoa::Buffer;

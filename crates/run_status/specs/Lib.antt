@@ -1,0 +1,5 @@
+pub mod Ends
+pub mod Sent
+pub mod Causes
+pub mod Stops
+pub mod Texts
