@@ -1,5 +1,5 @@
 -- What the words ask for, and how it ends.
-use Rattle.std.proofs.Common.{◌≡◌, ℕ, Bool, true, false, List, [], Some, Option, refl, sym, ap, subst, ◌∙◌, inl, append-nil}
+use Rattle.std.proofs.Common.{◌≡◌, ℕ, Bool, true, false, List, [], Some, Option, refl, sym, ap, subst, ◌∙◌, ◌⊎◌, inl, inr, append-nil}
 use Rattle.std.proofs.lemmas.Bool.{false≢true}
 use Rattle.outer_io.specs.Files.{Files}
 use Rattle.script_lang.specs.Lines.{lines_of}
@@ -10,17 +10,32 @@ use Rattle.drawn_points.specs.Generated.{generated}
 use Rattle.explain_queries.specs.Explained.{IsScope, Scope, silence}
 use Rattle.load_points.specs.Loaded.{loaded}
 use Rattle.bkd_top.specs.Commands.{Before, EndsAsked, EndsExplain, EndsWhole, Rests}
-use Rattle.bkd_top.specs.Progress.{start}
-use Rattle.bkd_top.specs.Runs.{Ends}
+use Rattle.script_run.specs.Progress.{start}
+use Rattle.script_run.specs.Runs.{Ends}
+use Rattle.run_status.specs.Causes.{Counts, HasCauses, NoneRose}
+use Rattle.run_status.specs.Ends.{IsAnswer, IsDamaged}
 use Rattle.run_status.specs.declared.status.Status.{Status}
 use Rattle.run_status.specs.declared.status.Status.TheVariants as status
-use Rattle.bkd_top.proofs.Going.{stops_here}
+use Rattle.script_run.proofs.Going.{stops_here}
 
 pub asked_is : (x y : Asked) (o : Option Asked) → o ≡ Some x → o ≡ Some y → x ≡ y
 asked_is x y o is also = some_inj (sym is ∙ also)
   where
     some_inj : Some x ≡ Some y → x ≡ y
     some_inj e = cc
+
+-- where every other end is ruled out, it is done, or memory was wanting
+pub completes : (s : Status) (before now : Counts) → (s ≡ status.Usage → ⊥) → (s ≡ status.TooLarge → ⊥) → NoneRose before now → (IsDamaged s → ⊥) → HasCauses before now s
+    → IsAnswer s ⊎ (s ≡ status.Memory)
+completes status.Done before now usage large none damage causes = inl tt
+completes (status.SomeRefused count) before now usage large none damage causes = inl tt
+completes status.Memory before now usage large none damage causes = inr refl
+completes status.Usage before now usage large none damage causes = absurd (usage refl)
+completes status.TooLarge before now usage large none damage causes = absurd (large refl)
+completes status.SourceFault before now usage large none damage causes = absurd (none.source (causes.source refl))
+completes status.FolderFault before now usage large none damage causes = absurd (none.folder (causes.folder refl))
+completes status.SinkFault before now usage large none damage causes = absurd (none.sink (causes.sink refl))
+completes (status.Damaged d) before now usage large none damage causes = absurd (damage tt)
 
 -- memory was wanting before anything was done
 pub no_memory_ends : (told : Type 0) (a : Asked) (b : Before) (files : Files) (new : List ℕ) → IsStored files b.state → (told → new ≡ b.written) → EndsAsked told a b files new status.Memory

@@ -13,7 +13,7 @@ use Rattle.run_status.specs.Ends.{IsDamaged}
 use Rattle.run_status.specs.Stops.{status_of, stop_of}
 use Rattle.run_status.specs.declared.stop.Stop.{Stop}
 use Rattle.run_status.specs.declared.stop.Stop.TheVariants as stop
-use Rattle.bkd_top.proofs.Ending.{counted}
+use Rattle.script_run.proofs.Ending.{counted}
 
 step_length : (line : ℕ) (ls : List (List ℕ)) → line + 1 + length ls ≡ line + suc (length ls)
 step_length line ls = omega arith

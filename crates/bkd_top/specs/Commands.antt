@@ -12,8 +12,8 @@ use Rattle.command_words.specs.Commands.{Asked, Run, Load, Explain, Check, Gener
 use Rattle.load_points.specs.Loaded.{loaded}
 use Rattle.drawn_points.specs.Generated.{generated}
 use Rattle.explain_queries.specs.Explained.{Scope, IsScope, Told, TellsLine, TellsLines}
-use Rattle.bkd_top.specs.Progress.{start}
-use Rattle.bkd_top.specs.Runs.{Ends}
+use Rattle.script_run.specs.Progress.{start}
+use Rattle.script_run.specs.Runs.{Ends}
 use Rattle.run_status.specs.declared.status.Status.{Status}
 use Rattle.run_status.specs.declared.status.Status.TheVariants as status
 use Rattle.run_status.specs.declared.stop.Stop.{Stop}
@@ -34,6 +34,11 @@ reads_input (Load columns forks) = true
 reads_input (Explain cache) = true
 reads_input Check = false
 reads_input (Generate docs seed forks) = false
+
+-- a script is run
+abbrev pub is_run : Asked → Bool
+is_run (Run cache forks) = true
+is_run _ = false
 
 abbrev pub is_explain : Asked → Bool
 is_explain (Explain cache) = true

@@ -1,10 +1,7 @@
 //! The program over its streams and its folder.
 #![tactic(auto)]
 
-mod answers;
 mod explain;
-mod lines;
-mod origin;
 mod program;
 mod whole;
 

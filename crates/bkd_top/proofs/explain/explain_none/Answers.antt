@@ -1,11 +1,11 @@
 -- Each line is told after those before it.
 use Rattle.std.proofs.Common.{◌≡◌, Bool, ℕ, length, arith, refl}
 use Rattle.std.proofs.lemmas.Bool.Decides.{nat_tests}
-use Rattle.bkd_top.proofs.Ending.{cause_from}
-use Rattle.bkd_top.proofs.Going.{at_most_one, no_lines, refused_more}
-use Rattle.bkd_top.proofs.Lined.{cause_to}
+use Rattle.script_run.proofs.Ending.{cause_from}
+use Rattle.script_run.proofs.Going.{at_most_one, no_lines, refused_more}
+use Rattle.script_run.proofs.Lined.{cause_to}
 use Rattle.bkd_top.proofs.Telling.{line_stops, stage_all, stage_here, stage_sent}
-use Rattle.bkd_top.proofs.Shown.{same_stop}
+use Rattle.script_run.proofs.Shown.{same_stop}
 use Rattle.bkd_top.proofs.explain.explain_none.Goals as goal
 
 pub lines-init : goal.lines-init

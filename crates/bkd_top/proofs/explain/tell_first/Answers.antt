@@ -2,9 +2,9 @@
 use Rattle.std.proofs.Common.{Bool, IsTrue, refl}
 use Rattle.page_cache.specs.declared.faults.PageFault.TheVariants as page
 use Rattle.index_core.proofs.Answering.{no_cause}
-use Rattle.bkd_top.proofs.Lined.{fault_cause, page_memory, send_cause, sent_as}
+use Rattle.script_run.proofs.Lined.{fault_cause, page_memory, send_cause, sent_as}
 use Rattle.bkd_top.proofs.Telling.{sent_line}
-use Rattle.bkd_top.proofs.Shown.{sink_shows}
+use Rattle.script_run.proofs.Shown.{sink_shows}
 use Rattle.bkd_top.proofs.explain.tell_first.Goals as goal
 
 pub returns-in-Ok-clause-ends : goal.returns-in-Ok-clause-ends

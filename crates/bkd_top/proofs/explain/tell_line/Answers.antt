@@ -1,9 +1,9 @@
 -- What is told of a line is sent.
 use Rattle.std.proofs.Common.{IsTrue, refl}
 use Rattle.segment_set.proofs.Sizes.{set_fits}
-use Rattle.bkd_top.proofs.Lined.{fault_cause, send_cause, sent_as}
+use Rattle.script_run.proofs.Lined.{fault_cause, send_cause, sent_as}
 use Rattle.bkd_top.proofs.Telling.{left_line, sent_line}
-use Rattle.bkd_top.proofs.Shown.{fault_shows, sink_shows}
+use Rattle.script_run.proofs.Shown.{fault_shows, sink_shows}
 use Rattle.bkd_top.proofs.explain.tell_line.Goals as goal
 
 pub explain_line-requires : goal.explain_line-requires

@@ -3,11 +3,10 @@ use Rattle.std.proofs.lemmas.Bool.{false≢true}
 use Rattle.std.proofs.Common.{arith, ◌∙◌, ◌≡◌, true, false, Option, Err, IsTrue, refl, sym, ap, subst, inl, inr}
 use Rattle.command_words.specs.Commands.{Asked}
 use Rattle.command_words.specs.declared.WordsFault.{WordsFault}
-use Rattle.bkd_top.specs.Commands.{EndsAsked, does, is_explain, is_served, is_whole, reads_input}
-use Rattle.bkd_top.specs.Costs.{is_run}
+use Rattle.bkd_top.specs.Commands.{EndsAsked, does, is_explain, is_served, is_whole, reads_input, is_run}
 use Rattle.stored_index.proofs.KeptFiles.{kept_itself}
-use Rattle.bkd_top.proofs.Calling.{completes, nothing_costs}
-use Rattle.bkd_top.proofs.Commanding.{asked_is, no_memory_ends}
+use Rattle.script_run.proofs.Calling.{nothing_costs}
+use Rattle.bkd_top.proofs.Commanding.{asked_is, no_memory_ends, completes}
 use Rattle.bkd_top.proofs.program.run.Goals as goal
 
 pub returns-in-Ok-clause-canon : goal.returns-in-Ok-clause-canon

@@ -1,12 +1,11 @@
 -- Each command ends as its own definition says.
 use Rattle.std.proofs.Common.{IsTrue, Some, refl, sym, ap, subst}
 use Rattle.command_words.specs.Commands.{Asked, said}
-use Rattle.bkd_top.specs.Commands.{is_explain, is_served, is_whole, reads_input}
-use Rattle.bkd_top.specs.Costs.{is_run}
+use Rattle.bkd_top.specs.Commands.{is_explain, is_served, is_whole, reads_input, is_run}
 use Rattle.run_status.specs.Ends.{DoesNothing}
 use Rattle.run_status.specs.declared.status.Status.TheVariants as status
 use Rattle.bkd_top.proofs.Commanding.{check_ends, explain_ends, generate_ends, is_so, load_ends, not_so, run_ends}
-use Rattle.bkd_top.proofs.Starting.{canonical_still}
+use Rattle.script_run.proofs.Starting.{canonical_still}
 use Rattle.bkd_top.proofs.program.run_command.Goals as goal
 
 pub returns-in-Run-clause-usage : goal.returns-in-Run-clause-usage

@@ -1,8 +1,8 @@
 -- The script that was read is the source's text.
 use Rattle.std.proofs.Common.{refl, sym, subst, ◌∙◌, inl, ◌≤◌, ◌^◌, ℕ, List, length}
 use Rattle.run_status.specs.Ends.{DoesNothing}
-use Rattle.bkd_top.proofs.Calling.{nothing_costs}
-use Rattle.bkd_top.proofs.Going.{stops_here}
+use Rattle.script_run.proofs.Calling.{nothing_costs}
+use Rattle.script_run.proofs.Going.{stops_here}
 use Rattle.bkd_top.proofs.program.run_script.Goals as goal
 
 pub returns-in-Ok-clause-never_usage : goal.returns-in-Ok-clause-never_usage

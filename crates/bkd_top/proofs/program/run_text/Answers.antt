@@ -2,10 +2,10 @@
 use Rattle.std.proofs.Common.{sym, subst, ◌∙◌}
 use Rattle.run_status.specs.Ends.{IsAnswer}
 use Rattle.run_status.specs.Ends.{DoesNothing, IsDamaged}
-use Rattle.bkd_top.proofs.Calling.{stop_status}
-use Rattle.bkd_top.proofs.Ending.{status_ends, never_damaged, does_lines, folder_stopped, sink_stopped}
-use Rattle.bkd_top.proofs.Starting.{when_answered}
-use Rattle.bkd_top.proofs.Shown.{status_shows}
+use Rattle.script_run.proofs.Calling.{stop_status}
+use Rattle.script_run.proofs.Ending.{status_ends, never_damaged, does_lines, folder_stopped, sink_stopped}
+use Rattle.script_run.proofs.Starting.{when_answered}
+use Rattle.script_run.proofs.Shown.{status_shows}
 use Rattle.bkd_top.proofs.program.run_text.Goals as goal
 
 pub returns-clause-lines : goal.returns-clause-lines

@@ -1,0 +1,295 @@
+-- What lines ask for, and what becomes of the index.
+use Rattle.std.proofs.Common.{◌≡◌, ◌≤◌, ◌+◌, ◌^◌, ◌<◌, ℕ, Bool, true, false, not, if◌then◌else◌, nat_lt, nat_le, List, [], ◌∷◌, ◌++◌, length, filter, Option, None, Some, refl, sym, ap, subst, ◌∙◌, ◌⊎◌, inl, inr, arith, ℤ}
+use Rattle.std.specs.Prelude.{is_some}
+use Rattle.std.specs.Option.{option_map}
+use Rattle.std.specs.Str.{bytes_eq}
+use Rattle.std.proofs.lemmas.Bool.Decides.{nat_tests}
+use Rattle.documents.specs.Documents.{Document}
+use Rattle.segment_file.specs.Heads.{Head}
+use Rattle.script_lang.specs.Reading.{Reading, Says, Fails, read}
+use Rattle.script_lang.specs.Requests.{Request}
+use Rattle.script_lang.specs.Requests as asks
+use Rattle.script_lang.specs.Replies.{doc_text}
+use Rattle.script_lang.specs.declared.faults.LineFault.{LineFault}
+use Rattle.script_lang.specs.declared.faults.Why.TheVariants as why
+use Rattle.index_model.specs.State.{Index, State, snapshot_of, viewed_docs}
+use Rattle.index_model.specs.Step.{Outcome, Done, Refused, answered, fine, step, step_on}
+use Rattle.index_model.specs.Script.{Answer, answer, answer_of, answer_to, state_after}
+use Rattle.index_core.specs.Light.{is_light, points_in}
+use Rattle.script_run.specs.Costs.{AllAsk, AsksOnly, TouchesLine, TouchesLines, begins_no_merge, given_of, is_query}
+
+-- ---- an outcome
+
+abbrev pub IsRefusal : Outcome → Type 0
+IsRefusal (Done state text) = ⊥
+IsRefusal (Refused cause) = Unit {0}
+
+refusal_of : (line : ℕ) (state : State) (o : Outcome) → (answer_to line state o).refused ≡ 1 → IsRefusal o
+refusal_of line state (Done after text) e = absurd (omega (arith, e))
+refusal_of line state (Refused cause) e = tt
+
+pub refusal_state : (line : ℕ) (state : State) (o : Outcome) → IsRefusal o → (answer_to line state o).state ≡ state
+refusal_state line state (Done after text) h = absurd h
+refusal_state line state (Refused cause) h = refl
+
+no : {P : Type 0} → false ≡ true → P
+no e = cc
+
+-- what holds of the state after each of two outcomes, or of a query that is answered, holds after it
+module _ (P : State → Type 0) (line : ℕ) (i : Index) where
+  either : (b : Bool) (o p : Outcome) → P (answer_to line (Some i) o).state → P (answer_to line (Some i) p).state → P (answer_to line (Some i) (if b then o else p)).state
+  either true o p x y = x
+  either false o p x y = y
+
+  queried : (docs : Option (List Document)) (text : List Document → List ℕ) → P (Some i) → P (answer_to line (Some i) (answered i docs text)).state
+  queried None text h = h
+  queried (Some docs) text h = h
+
+-- the request asks so of the index, or is refused
+abbrev pub Asks : (Request → Bool) → Index → Request → Type 0
+Asks test i r = IsRefusal (step_on i r) ⊎ (test r ≡ true)
+
+-- what requests that may be refused leave, where they aren't
+abbrev more : List (List ℤ) → Index → Outcome
+more points i = Done (Some (record i { next = i.next + 1; given = i.given + length points; docs = i.docs ++ record { number = i.next; points = points } ∷ [] })) (doc_text i.next)
+
+abbrev taken : List ℕ → Index → Outcome
+taken name i = fine (record i { snapshots = i.snapshots ++ record { name = name; docs = i.docs } ∷ [] })
+
+abbrev let_go : List ℕ → Index → Outcome
+let_go name i = fine (record i { snapshots = filter (λ s. not (bytes_eq s.name name)) i.snapshots })
+
+abbrev is_full : List (List ℤ) → Index → Bool
+is_full points i = nat_lt (2 ^ 24) (i.given + length points)
+
+abbrev is_taken : List ℕ → Index → Bool
+is_taken name i = is_some (snapshot_of name i.snapshots)
+
+abbrev are_many : Index → Bool
+are_many i = nat_le 16 (length i.snapshots)
+
+abbrev taken_if : List ℕ → Index → Outcome
+taken_if name i = if are_many i then Refused why.TooManySnapshots else taken name i
+
+-- ---- a begun merge
+
+-- no merge is begun
+abbrev pub Rested : State → Type 0
+Rested None = Unit {0}
+Rested (Some i) = i.begun ≡ false
+
+pub begin_refused : (b : Bool) (j : Outcome) → b ≡ false → IsRefusal (if b then Refused why.Begun else j) → IsRefusal j
+begin_refused true j e h = absurd cc
+begin_refused false j e h = h
+
+begun_rests : (line : ℕ) (i : Index) (b : Bool) (j : Outcome) → b ≡ false → (IsRefusal j → ⊥) → IsRefusal (if b then Refused why.Begun else j) → Rested (answer_to line (Some i) (if b then Refused why.Begun else j)).state
+begun_rests line i b j e none h = absurd (none (begin_refused b j e h))
+
+-- only `merge begin` begins one
+request_rests : (line : ℕ) (i : Index) (r : Request) → Asks begins_no_merge i r → i.begun ≡ false → Rested (answer_to line (Some i) (step_on i r)).state
+unfolding step_on
+request_rests line i (asks.Add points) ask e = either Rested line i (is_full points i) (Refused why.Full) (more points i) e e
+request_rests line i (asks.InBox view lo hi) ask e = queried Rested line i (viewed_docs view i) _ e
+request_rests line i (asks.InPolygon view rings) ask e = queried Rested line i (viewed_docs view i) _ e
+request_rests line i (asks.Nearest view k at) ask e = queried Rested line i (viewed_docs view i) _ e
+request_rests line i (asks.MergeBegin positions) (inl h) e = begun_rests line i i.begun (fine (record i { begun = true })) e (λ f. f) h
+request_rests line i (asks.MergeBegin positions) (inr t) e = no t
+request_rests line i asks.MergeEnd ask e = either Rested line i i.begun (fine (record i { begun = false })) (Refused why.NotBegun) refl e
+request_rests line i (asks.Snapshot name) ask e =
+    either Rested line i (is_taken name i) (Refused why.NameTaken) (taken_if name i) e (either Rested line i (are_many i) (Refused why.TooManySnapshots) (taken name i) e e)
+request_rests line i (asks.Release name) ask e = either Rested line i (is_taken name i) (let_go name i) (Refused why.UnknownSnapshot) e e
+request_rests line i asks.Reopen ask e = refl
+request_rests line i r ask e = e
+
+-- ---- the points given
+
+abbrev Grows : ℕ → State → Type 0
+Grows n state = n ≤ given_of state
+
+request_gives : (line : ℕ) (i : Index) (r : Request) → i.given ≤ given_of (answer_to line (Some i) (step_on i r)).state
+unfolding step_on
+request_gives line i (asks.Add points) = either (Grows i.given) line i (is_full points i) (Refused why.Full) (more points i) (omega arith) (omega arith)
+request_gives line i (asks.InBox view lo hi) = queried (Grows i.given) line i (viewed_docs view i) _ (omega arith)
+request_gives line i (asks.InPolygon view rings) = queried (Grows i.given) line i (viewed_docs view i) _ (omega arith)
+request_gives line i (asks.Nearest view k at) = queried (Grows i.given) line i (viewed_docs view i) _ (omega arith)
+request_gives line i (asks.MergeBegin positions) = either (Grows i.given) line i i.begun (Refused why.Begun) (fine (record i { begun = true })) (omega arith) (omega arith)
+request_gives line i asks.MergeEnd = either (Grows i.given) line i i.begun (fine (record i { begun = false })) (Refused why.NotBegun) (omega arith) (omega arith)
+request_gives line i (asks.Snapshot name) =
+    either (Grows i.given) line i (is_taken name i) (Refused why.NameTaken) (taken_if name i) (omega arith)
+    (either (Grows i.given) line i (are_many i) (Refused why.TooManySnapshots) (taken name i) (omega arith) (omega arith))
+request_gives line i (asks.Release name) = either (Grows i.given) line i (is_taken name i) (let_go name i) (Refused why.UnknownSnapshot) (omega arith) (omega arith)
+request_gives line i r = omega arith
+
+-- where it is done, as many more as the request adds
+module _ (line : ℕ) (i : Index) where
+  abbrev Gives : ℕ → Outcome → Type 0
+  Gives n o = (IsRefusal o → ⊥) → given_of (answer_to line (Some i) o).state ≡ i.given + n
+
+  both : (n : ℕ) (b : Bool) (o p : Outcome) → Gives n o → Gives n p → Gives n (if b then o else p)
+  both n true o p x y = x
+  both n false o p x y = y
+
+  answers : (docs : Option (List Document)) (text : List Document → List ℕ) → Gives 0 (answered i docs text)
+  answers None text done = absurd (done tt)
+  answers (Some docs) text done = omega arith
+
+  pub light_gives : (r : Request) → is_light r ≡ true → Gives (points_in r) (step_on i r)
+  unfolding step_on
+  light_gives (asks.Create dims leaf) light done = absurd (done tt)
+  light_gives (asks.Add points) light done = both (length points) (is_full points i) (Refused why.Full) (more points i) (λ d. absurd (d tt)) (λ d. refl) done
+  light_gives (asks.InBox view lo hi) light done = answers (viewed_docs view i) _ done
+  light_gives (asks.InPolygon view rings) light done = answers (viewed_docs view i) _ done
+  light_gives (asks.Nearest view k at) light done = answers (viewed_docs view i) _ done
+  light_gives (asks.Snapshot name) light done =
+      both 0 (is_taken name i) (Refused why.NameTaken) (taken_if name i) (λ d. absurd (d tt))
+      (both 0 (are_many i) (Refused why.TooManySnapshots) (taken name i) (λ d. absurd (d tt)) (λ d. omega arith)) done
+  light_gives (asks.Release name) light done = both 0 (is_taken name i) (let_go name i) (Refused why.UnknownSnapshot) (λ d. omega arith) (λ d. absurd (d tt)) done
+  light_gives asks.Blank light done = omega arith
+  light_gives (asks.Delete doc) light done = omega arith
+  light_gives (asks.DeleteBox lo hi) light done = no light
+  light_gives asks.Flush light done = no light
+  light_gives asks.Merge light done = no light
+  light_gives (asks.MergeBegin positions) light done = no light
+  light_gives asks.MergeEnd light done = no light
+  light_gives asks.Commit light done = no light
+  light_gives asks.Reopen light done = no light
+
+full_by : (n : ℕ) (b : Bool) (o : Outcome) → nat_lt (2 ^ 24) n ≡ b → (IsRefusal o → ⊥) → IsRefusal (if b then Refused why.Full else o) → 2 ^ 24 < n
+full_by n true o e none h = grind (arith, nat_tests)
+full_by n false o e none h = absurd (none h)
+
+-- an addition is refused where more points would be given than may be
+pub full_of : (i : Index) (points : List (List ℤ)) → IsRefusal (step_on i (asks.Add points)) → 2 ^ 24 < i.given + length points
+unfolding step_on
+full_of i points h = full_by (i.given + length points) (is_full points i) (more points i) refl (λ f. f) h
+
+added_by : (line : ℕ) (i : Index) (n : ℕ) (b : Bool) (o : Outcome) → given_of (answer_to line (Some i) o).state ≡ n → IsRefusal (if b then Refused why.Full else o) ⊎ (given_of (answer_to line (Some i) (if b then Refused why.Full else o)).state ≡ n)
+added_by line i n true o e = inl tt
+added_by line i n false o e = inr e
+
+-- and else they are given
+pub full_or_given : (line : ℕ) (i : Index) (points : List (List ℤ)) → IsRefusal (step_on i (asks.Add points)) ⊎ (given_of (answer_to line (Some i) (step_on i (asks.Add points))).state ≡ i.given + length points)
+unfolding step_on
+full_or_given line i points = added_by line i (i.given + length points) (is_full points i) (more points i) refl
+
+-- ---- the same state
+
+query_request : (line : ℕ) (i : Index) (r : Request) → is_query r ≡ true → (answer_to line (Some i) (step_on i r)).state ≡ Some i
+unfolding step_on
+query_request line i asks.Blank q = refl
+query_request line i (asks.InBox view lo hi) q = queried (λ (s : State). s ≡ Some i) line i (viewed_docs view i) _ refl
+query_request line i (asks.InPolygon view rings) q = queried (λ (s : State). s ≡ Some i) line i (viewed_docs view i) _ refl
+query_request line i (asks.Nearest view k at) q = queried (λ (s : State). s ≡ Some i) line i (viewed_docs view i) _ refl
+query_request line i r q = no q
+
+-- a query leaves the state
+request_stays : (line : ℕ) (i : Index) (r : Request) → Asks is_query i r → (answer_to line (Some i) (step_on i r)).state ≡ Some i
+request_stays line i r (inl h) = refusal_state line (Some i) (step_on i r) h
+request_stays line i r (inr q) = query_request line i r q
+
+-- without an index none makes one
+first_stays : (line : ℕ) (r : Request) → ((answer_to line None (step None r)).refused ≡ 1) ⊎ (is_query r ≡ true) → (answer_to line None (step None r)).state ≡ None
+first_stays line (asks.Create dims leaf) (inl e) = absurd (omega (arith, e))
+first_stays line (asks.Create dims leaf) (inr q) = no q
+first_stays line r ask = refl
+
+-- ---- which requests are which
+
+pub light_begins : (r : Request) → is_light r ≡ true → begins_no_merge r ≡ true
+light_begins (asks.MergeBegin positions) e = no e
+light_begins r e = refl
+
+pub query_light : (r : Request) → is_query r ≡ true → is_light r ≡ true
+query_light asks.Blank e = refl
+query_light (asks.InBox view lo hi) e = refl
+query_light (asks.InPolygon view rings) e = refl
+query_light (asks.Nearest view k at) e = refl
+query_light r e = no e
+
+-- ---- a line
+
+answer_is : (line : ℕ) (state : State) (bytes : List ℕ) (reading : Reading) → read (option_map (λ (i : Index). i.dims) state) bytes ≡ reading → answer line state bytes ≡ answer_of line state reading
+unfolding answer
+answer_is line state bytes reading is = ap (answer_of line state) is
+
+says_inj : (q r : Request) → Says q ≡ Says r → q ≡ r
+says_inj q r e = cc
+
+-- what it asks, by what was read of it
+pub asked : (test : Request → Bool) (line : ℕ) (i : Index) (bytes : List ℕ) (r : Request) → read (Some i.dims) bytes ≡ Says r → AsksOnly test line (Some i) bytes → Asks test i r
+asked test line i bytes r is (inl refused) = inl (refusal_of line (Some i) (step_on i r) (sym (ap (λ (a : Answer). a.refused) (answer_is line (Some i) bytes (Says r) is)) ∙ refused))
+asked test line i bytes r is (inr (q, says, t)) = inr (subst (λ (x : Request). test x ≡ true) (says_inj q r (sym says ∙ is)) t)
+
+-- what holds of the state after each request that asks so, and of the state before, holds after the line
+module _ (P : State → Type 0) (test : Request → Bool) (line : ℕ) (i : Index) (bytes : List ℕ) (here : P (Some i)) (there : (r : Request) → Asks test i r → P (answer_to line (Some i) (step_on i r)).state)
+    (ask : AsksOnly test line (Some i) bytes) where
+  by_reading : (reading : Reading) → read (Some i.dims) bytes ≡ reading → P (answer line (Some i) bytes).state
+  by_reading (Says r) is = subst (λ (a : Answer). P a.state) (sym (answer_is line (Some i) bytes (Says r) is)) (there r (asked test line i bytes r is ask))
+  by_reading (Fails f) is = subst (λ (a : Answer). P a.state) (sym (answer_is line (Some i) bytes (Fails f) is)) here
+
+  by_line : P (answer line (Some i) bytes).state
+  by_line = by_reading (read (Some i.dims) bytes) refl
+
+pub line_rests : (line : ℕ) (i : Index) (bytes : List ℕ) → AsksOnly begins_no_merge line (Some i) bytes → i.begun ≡ false → Rested (answer line (Some i) bytes).state
+line_rests line i bytes ask e = by_line Rested begins_no_merge line i bytes e (λ r a. request_rests line i r a e) ask
+
+line_gives : (line : ℕ) (state : State) (bytes : List ℕ) → given_of state ≤ given_of (answer line state bytes).state
+line_gives line None bytes = omega arith
+line_gives line (Some i) bytes = by (read (Some i.dims) bytes) refl
+  where
+    by : (reading : Reading) → read (Some i.dims) bytes ≡ reading → i.given ≤ given_of (answer line (Some i) bytes).state
+    by (Says r) is = subst (λ (a : Answer). i.given ≤ given_of a.state) (sym (answer_is line (Some i) bytes (Says r) is)) (request_gives line i r)
+    by (Fails f) is = subst (λ (a : Answer). i.given ≤ given_of a.state) (sym (answer_is line (Some i) bytes (Fails f) is)) (omega arith)
+
+pub lines_give : (line : ℕ) (state : State) (lines : List (List ℕ)) → given_of state ≤ given_of (state_after line state lines)
+lines_give line state [] = omega arith
+lines_give line state (l ∷ ls) = omega (arith, line_gives line state l, lines_give (line + 1) (answer line state l).state ls)
+
+pub query_stays : (line : ℕ) (state : State) (bytes : List ℕ) → AsksOnly is_query line state bytes → (answer line state bytes).state ≡ state
+query_stays line (Some i) bytes ask = by_line (λ (s : State). s ≡ Some i) is_query line i bytes refl (λ r a. request_stays line i r a) ask
+query_stays line None bytes ask = by (read None bytes) refl
+  where
+    asks_so : (r : Request) → read None bytes ≡ Says r → AsksOnly is_query line None bytes → ((answer_to line None (step None r)).refused ≡ 1) ⊎ (is_query r ≡ true)
+    asks_so r is (inl refused) = inl (sym (ap (λ (a : Answer). a.refused) (answer_is line None bytes (Says r) is)) ∙ refused)
+    asks_so r is (inr (q, says, t)) = inr (subst (λ (x : Request). is_query x ≡ true) (says_inj q r (sym says ∙ is)) t)
+
+    by : (reading : Reading) → read None bytes ≡ reading → (answer line None bytes).state ≡ None
+    by (Says r) is = ap (λ (a : Answer). a.state) (answer_is line None bytes (Says r) is) ∙ first_stays line r (asks_so r is ask)
+    by (Fails f) is = ap (λ (a : Answer). a.state) (answer_is line None bytes (Fails f) is)
+
+pub unread_state : (line : ℕ) (i : Index) (bytes : List ℕ) (f : LineFault) → read (Some i.dims) bytes ≡ Fails f → (answer line (Some i) bytes).state ≡ Some i
+unread_state line i bytes f fails = ap (λ (a : Answer). a.state) (answer_is line (Some i) bytes (Fails f) fails)
+
+pub read_state : (line : ℕ) (i : Index) (bytes : List ℕ) (r : Request) → read (Some i.dims) bytes ≡ Says r → answer line (Some i) bytes ≡ answer_to line (Some i) (step_on i r)
+read_state line i bytes r is = answer_is line (Some i) bytes (Says r) is
+
+-- ---- lines
+
+asks_weaker : (t u : Request → Bool) → ((r : Request) → t r ≡ true → u r ≡ true) → (line : ℕ) (state : State) (bytes : List ℕ) → AsksOnly t line state bytes → AsksOnly u line state bytes
+asks_weaker t u weaker line state bytes (inl refused) = inl refused
+asks_weaker t u weaker line state bytes (inr (r, says, test)) = inr (r, says, weaker r test)
+
+pub all_weaker : (t u : Request → Bool) → ((r : Request) → t r ≡ true → u r ≡ true) → (line : ℕ) (state : State) (lines : List (List ℕ)) → AllAsk t line state lines → AllAsk u line state lines
+all_weaker t u weaker line state [] h = tt
+all_weaker t u weaker line state (l ∷ ls) h = (asks_weaker t u weaker line state l h.0, all_weaker t u weaker (line + 1) (answer line state l).state ls h.1)
+
+-- queries leave the state
+pub queries_stay : (line : ℕ) (state : State) (lines : List (List ℕ)) → AllAsk is_query line state lines → state_after line state lines ≡ state
+queries_stay line state [] h = refl
+queries_stay line state (l ∷ ls) h = queries_stay (line + 1) (answer line state l).state ls h.1 ∙ query_stays line state l h.0
+
+module _ (line : ℕ) (state after : State) (lines : List (List ℕ)) (x : List ℕ) (more : List (List ℕ)) (is : lines ≡ x ∷ more) (leads : (answer line state x).state ≡ after) where
+  pub all_first : (test : Request → Bool) → AllAsk test line state lines → AsksOnly test line state x
+  all_first test h = (subst (λ (ls : List (List ℕ)). AllAsk test line state ls) is h).0
+
+  pub all_rest : (test : Request → Bool) → AllAsk test line state lines → AllAsk test (line + 1) after more
+  all_rest test h = subst (λ (s : State). AllAsk test (line + 1) s more) leads (subst (λ (ls : List (List ℕ)). AllAsk test line state ls) is h).1
+
+  pub state_rest : state_after (line + 1) after more ≡ state_after line state lines
+  state_rest = ap (λ (s : State). state_after (line + 1) s more) (sym leads) ∙ ap (state_after line state) (sym is)
+
+  pub touches_parts : (heads : List Head) (n : ℕ) → TouchesLines heads line state lines n → (first : ℕ) × (rest : ℕ) × TouchesLine heads state x first × TouchesLines heads (line + 1) after more rest × (n ≡ first + rest)
+  touches_parts heads n h = by (subst (λ (ls : List (List ℕ)). TouchesLines heads line state ls n) is h)
+    where
+      by : TouchesLines heads line state (x ∷ more) n → (first : ℕ) × (rest : ℕ) × TouchesLine heads state x first × TouchesLines heads (line + 1) after more rest × (n ≡ first + rest)
+      by (first, rest, one, others, sum) = (first, rest, one, subst (λ (s : State). TouchesLines heads (line + 1) s more rest) leads others, sum)

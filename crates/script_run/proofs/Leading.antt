@@ -1,0 +1,240 @@
+-- What lines do on their way, one after the other, and with the commit at their end.
+use Rattle.std.proofs.Common.{◌≡◌, ◌≤◌, ◌<◌, ◌+◌, ◌&&◌, ℕ, Bool, true, false, not, cond, List, [], ◌∷◌, length, Option, None, Some, Result, Ok, Err, OnOk, refl, sym, ap, subst, ◌∙◌, ◌⊎◌, inl, inr, ⊎_elim, arith}
+use Rattle.std.specs.List.{count_by, zip}
+use Rattle.std.proofs.lemmas.List.Sums.{sum_by-cons}
+use Rattle.outer_io.specs.declared.file_name.FileName.TheVariants.{Commit}
+use Rattle.outer_io.specs.Files.{Files, bytes_of}
+use Rattle.merge_policy.specs.Choice.{free_count, is_of_level}
+use Rattle.commit_list.specs.Commits.{CommitData}
+use Rattle.commit_list.specs.CommitFiles.{IsCommitFile}
+use Rattle.segment_file.specs.Heads.{Head}
+use Rattle.index_model.specs.State.{Index, State}
+use Rattle.index_model.specs.Script.{answer, state_after}
+use Rattle.segment_view.specs.Parts.{Part, heads_of}
+use Rattle.segment_set.specs.Sets.{BegunMerge, IsSettled, SetData, pins_of, sizes_of}
+use Rattle.segment_set.specs.Seen.{Sees}
+use Rattle.index_core.specs.Effects.{BringsCanonical}
+use Rattle.index_core.specs.Light.{CommitsFewOfLevels, KeepsLevels, LooksAt, is_light}
+use Rattle.index_core.specs.Sessions.{Guards, IsUnchanged}
+use Rattle.index_core.specs.Steps.{SaysCommit}
+use Rattle.index_core.specs.Whole.{HasNewCanonical}
+use Rattle.index_core.proofs.Bringing.{brings_same, brings_then}
+use Rattle.index_core.proofs.Listed.{new_canonical}
+use Rattle.script_run.specs.Costs.{AllAsk, AreLight, HasRoomInLevels, TouchesLines, begins_no_merge, given_of, is_query}
+use Rattle.script_run.specs.Leads.{AreListed, Closes, HasRoom, Leads, Passes, Spot}
+use Rattle.script_run.proofs.Asking.{Rested, all_first, all_rest, all_weaker, light_begins, line_rests, lines_give, queries_stay, query_light, state_rest, touches_parts}
+use Rattle.script_run.proofs.Deciding.{unchanged_or_not}
+use Rattle.index_core.proofs.Undone.{begins_none, few_listed}
+
+-- ---- levels
+
+pub levels_still : (old new : Files) → new ≡ old → KeepsLevels old new
+levels_still old new same = inl (ap (λ (f : Files). f Commit) same)
+
+pub levels_then : (f g h : Files) → KeepsLevels f g → KeepsLevels g h → KeepsLevels f h
+levels_then f g h (inl one) (inl two) = inl (two ∙ one)
+levels_then f g h (inr (c, says, few)) (inl two) = inr (c, subst (λ (b : Option (List ℕ)). IsCommitFile (bytes_of b) c) (sym two) says, few)
+levels_then f g h first (inr few) = inr few
+
+-- where no merge is begun, the free segments of a level are all of it
+free_of : (level : ℕ) (parts : List Part) → free_count level (sizes_of parts) (pins_of None parts) ≡ count_by (λ (h : Head). is_of_level level h.entries) (heads_of parts)
+unfolding free_count
+free_of level [] = refl
+free_of level (p ∷ ps) =
+    sum_by-cons (λ (s : ℕ × Bool). cond (is_of_level level s.0 && not s.1) 1 0) (p.head.entries, false) (zip (sizes_of ps) (pins_of None ps))
+    ∙ (λ i. one (is_of_level level p.head.entries) i + free_of level ps i)
+    ∙ sym (sum_by-cons (λ (h : Head). cond (is_of_level level h.entries) 1 0) p.head (heads_of ps))
+  where
+    one : (b : Bool) → ◌≡◌ {A = ℕ} (cond (b && not false) 1 0) (cond b 1 0)
+    one true = refl
+    one false = refl
+
+settled_by : (s : SetData) (begun : Option BegunMerge) (heads : List Head) → begun ≡ None → heads_of s.parts ≡ heads → HasRoomInLevels heads → (level : ℕ) → free_count level (sizes_of s.parts) (pins_of begun s.parts) < 10
+settled_by s begun heads none same room level =
+    let free : free_count level (sizes_of s.parts) (pins_of begun s.parts) ≡ count_by (λ (h : Head). is_of_level level h.entries) heads
+    = ap (λ b. free_count level (sizes_of s.parts) (pins_of b s.parts)) none ∙ free_of level s.parts ∙ ap (count_by (λ (h : Head). is_of_level level h.entries)) same in
+    let few = room level in
+    omega (arith, free, few)
+
+pub settled : (s : SetData) (heads : List Head) → s.begun ≡ None → LooksAt heads s → HasRoomInLevels heads → IsSettled s
+settled s heads none looks room = settled_by s s.begun heads none looks.now room
+
+-- ---- the commit at the end
+
+-- what a session's commit says
+pub record IsClosed {T E : Type 0} (D : ℕ) (i : Index) (old new : Spot) (result : Result T E) : Type 0 where
+  pub seen : Sees D new.files new.session.set i
+  pub guards : Guards D new.files new.session
+  pub says : OnOk result (SaysCommit new.files new.session.commit)
+  pub unchanged : OnOk result (IsUnchanged new.session)
+  pub canon : BringsCanonical D old.files new.files old.session.set.parts new.session.set.parts
+  pub files : IsUnchanged old.session → new.files ≡ old.files
+  pub unread : IsUnchanged old.session → new.reads ≡ old.reads
+  pub rested : IsSettled old.session.set → new.reads ≡ old.reads
+  pub levels : (IsUnchanged old.session → ⊥) → old.session.set.begun ≡ None → OnOk result (CommitsFewOfLevels new.session.commit)
+
+closes_levels : {T E : Type 0} (D : ℕ) (i : Index) (old new : Spot) (r : Result T E) → Sees D old.files old.session.set i → IsClosed D i old new r → i.begun ≡ false → OnOk r (KeepsLevels old.files new.files)
+closes_levels D i old new (Err e) seen c rested = tt
+closes_levels D i old new (Ok x) seen c rested = ⊎_elim
+    (λ u. levels_still old.files new.files (c.files u))
+    (λ n. few_listed old.files new.files new.session.commit c.says (c.levels n (begins_none D old.files old.session.set i seen rested)))
+    (unchanged_or_not old.session)
+
+closes_canon : {T E : Type 0} (D : ℕ) (i : Index) (old new : Spot) (r : Result T E) → IsClosed D i old new r → (first : Files) (s : SetData) → AreListed first s
+    → BringsCanonical D first old.files s.parts old.session.set.parts → OnOk r (HasNewCanonical first new.files)
+closes_canon D i old new (Err e) c first s listed brings = tt
+closes_canon D i old new (Ok x) c first s listed brings =
+    new_canonical D first new.files s new.session i listed (brings_then D first old.files new.files s.parts old.session.set.parts new.session.set.parts brings c.canon) c.seen c.guards c.says c.unchanged
+
+pub closes_by : {T E : Type 0} (D : ℕ) (i : Index) (old new : Spot) (r : Result T E) → Sees D old.files old.session.set i → IsClosed D i old new r → Closes D i old new r
+closes_by D i old new r seen c = record {
+  canon = λ first s listed brings. closes_canon D i old new r c first s listed brings;
+  levels = λ rested. closes_levels D i old new r seen c rested;
+  still = c.files;
+  reads = λ which. ⊎_elim c.unread c.rested which;
+}
+
+-- where it failed
+pub closes_fails : {T E : Type 0} (D : ℕ) (i : Index) (old new : Spot) (r : Result T E) (e : E) → r ≡ Err e → Sees D old.files old.session.set i → IsClosed {T = T} D i old new (Err e) → Closes D i old new r
+closes_fails {T} D i old new r e is seen c = subst (Closes D i old new) (sym is) (closes_by {T = T} D i old new (Err e) seen c)
+
+-- ---- the lines so far
+
+-- light lines: those that are left are, and what they touch still fits
+pub record LedLight (heads : List Head) (i0 : Index) (line : ℕ) (i : Index) (rest : List (List ℕ)) (now : Spot) (before all : ℕ) : Type 0 where
+  pub rested : i.begun ≡ false
+  pub asks : AllAsk is_light line (Some i) rest
+  pub points : given_of (state_after line (Some i) rest) ≤ i0.given + 16384
+  pub looks : LooksAt heads now.session.set
+  pub waits : length now.session.set.buffer + i0.given ≤ i.given
+  pub left : ℕ
+  pub touches : TouchesLines heads line (Some i) rest left
+  pub fits : now.reads + left ≤ before + all
+
+pub record Led (D line0 : ℕ) (i0 : Index) (lines : List (List ℕ)) (start : Spot) (line : ℕ) (i : Index) (rest : List (List ℕ)) (now : Spot) : Type 0 where
+  pub canon : BringsCanonical D start.files now.files start.session.set.parts now.session.set.parts
+  pub levels : i0.begun ≡ false → AllAsk begins_no_merge line0 (Some i0) lines → (i.begun ≡ false) × AllAsk begins_no_merge line (Some i) rest × KeepsLevels start.files now.files
+  pub still : i0.begun ≡ false → IsUnchanged start.session → AllAsk is_query line0 (Some i0) lines
+      → (i.begun ≡ false) × AllAsk is_query line (Some i) rest × (now.files ≡ start.files) × IsUnchanged now.session
+  pub light : (heads : List Head) → LooksAt heads start.session.set → start.session.set.buffer ≡ [] → i0.begun ≡ false → AllAsk is_light line0 (Some i0) lines
+      → given_of (state_after line0 (Some i0) lines) ≤ i0.given + 16384 → (n : ℕ) → TouchesLines heads line0 (Some i0) lines n → LedLight heads i0 line i rest now start.reads n
+
+pub led_first : (D line : ℕ) (i : Index) (lines : List (List ℕ)) (s : Spot) → Led D line i lines s line i lines s
+led_first D line i lines s = record {
+  canon = brings_same D s.files s.files s.session.set.parts s.session.set.parts refl refl;
+  levels = λ rested asks. (rested, asks, inl refl);
+  still = λ rested u asks. (rested, asks, refl, u);
+  light = λ heads looks empty rested asks points n touches. record {
+    rested = rested;
+    asks = asks;
+    points = points;
+    looks = looks;
+    waits = let none = ap length empty in omega (arith, none);
+    left = n;
+    touches = touches;
+    fits = omega arith;
+  };
+}
+
+rests_on : (state : State) (j : Index) → state ≡ Some j → Rested state → j.begun ≡ false
+rests_on state j is h = subst Rested is h
+
+module _ (D line0 : ℕ) (i0 : Index) (lines : List (List ℕ)) (start : Spot) (line : ℕ) (i : Index) (rest : List (List ℕ)) (now : Spot) (led : Led D line0 i0 lines start line i rest now)
+    (x : List ℕ) (more : List (List ℕ)) (is : rest ≡ x ∷ more) (new : Spot) where
+  -- the next of light lines has room
+  room_here : (heads : List Head) (before all : ℕ) → LedLight heads i0 line i rest now before all → HasRoom now.session.set i (answer line (Some i) x).state
+  room_here heads before all l =
+      let grows = lines_give (line + 1) (answer line (Some i) x).state more in
+      let same = state_rest line (Some i) (answer line (Some i) x).state rest x more is refl in
+      let most : given_of (state_after (line + 1) (answer line (Some i) x).state more) ≤ i0.given + 16384 = subst (λ (s : State). given_of s ≤ i0.given + 16384) (sym same) l.points in
+      omega (arith, grows, most, l.waits)
+
+  module _ {T E : Type 0} (y : T) (p : Passes {T = T} {E = E} D line i x now new (Ok y)) (j : Index) (leads : (answer line (Some i) x).state ≡ Some j) where
+    light_on : (heads : List Head) (before all : ℕ) → LedLight heads i0 line i rest now before all → LedLight heads i0 (line + 1) j more new before all
+    light_on heads before all l =
+        let ask = all_first line (Some i) (Some j) rest x more is leads is_light l.asks in
+        let room = room_here heads before all l in
+        let few = p.looks heads l.looks l.rested ask room in
+        let parts = touches_parts line (Some i) (Some j) rest x more is leads heads l.left l.touches in
+        let reads = p.reads heads l.looks l.rested ask room parts.0 parts.2 in
+        let given : given_of (answer line (Some i) x).state ≡ j.given = ap given_of leads in
+        record {
+          rested = rests_on (answer line (Some i) x).state j leads (line_rests line i x (all_first line (Some i) (Some j) rest x more is leads begins_no_merge (all_weaker is_light begins_no_merge light_begins line (Some i) rest l.asks)) l.rested);
+          asks = all_rest line (Some i) (Some j) rest x more is leads is_light l.asks;
+          points = subst (λ (s : State). given_of s ≤ i0.given + 16384) (sym (state_rest line (Some i) (Some j) rest x more is leads)) l.points;
+          looks = few.looks;
+          waits = omega (arith, few.waits, given, l.waits);
+          left = parts.1;
+          touches = parts.3;
+          fits = omega (arith, reads, parts.4, l.fits);
+        }
+
+    -- one more line is done
+    pub led_on : Led D line0 i0 lines start (line + 1) j more new
+    led_on = record {
+      canon = brings_then D start.files now.files new.files start.session.set.parts now.session.set.parts new.session.set.parts led.canon p.canon;
+      levels = λ rested asks.
+          let l = led.levels rested asks in (
+            rests_on (answer line (Some i) x).state j leads (line_rests line i x (all_first line (Some i) (Some j) rest x more is leads begins_no_merge l.1) l.0),
+            all_rest line (Some i) (Some j) rest x more is leads begins_no_merge l.1,
+            levels_then start.files now.files new.files l.2 (p.levels l.0),
+          );
+      still = λ rested u asks.
+          let l = led.still rested u asks in
+          let ask = all_first line (Some i) (Some j) rest x more is leads is_query l.1 in (
+            rests_on (answer line (Some i) x).state j leads
+                (line_rests line i x (all_first line (Some i) (Some j) rest x more is leads begins_no_merge (all_weaker is_query begins_no_merge (λ r e. light_begins r (query_light r e)) line (Some i) rest l.1)) l.0),
+            all_rest line (Some i) (Some j) rest x more is leads is_query l.1,
+            p.still l.0 l.3 ask ∙ l.2,
+            p.unchanged l.0 l.3 ask,
+          );
+      light = λ heads looks empty rested asks points n touches. light_on heads start.reads n (led.light heads looks empty rested asks points n touches);
+    }
+
+  -- queries are light lines
+  either_light : (heads : List Head) → (IsUnchanged start.session × AllAsk is_query line0 (Some i0) lines) ⊎ AreLight heads line0 (Some i0) lines
+      → AllAsk is_light line0 (Some i0) lines × (given_of (state_after line0 (Some i0) lines) ≤ i0.given + 16384)
+  either_light heads (inr l) = (l.asks, l.points)
+  either_light heads (inl (u, asks)) =
+      let same = ap given_of (queries_stay line0 (Some i0) lines asks) in
+      (all_weaker is_query is_light query_light line0 (Some i0) lines asks, omega (arith, same))
+
+  -- the run stops at the next line
+  pub led_stops : {S T E F : Type 0} (e : E) (d : F) → Passes {T = S} D line i x now new (Err e) → Leads {T = T} line0 i0 lines start new (Err d)
+  led_stops e d p = record {
+    canon = λ listed. tt;
+    levels = λ rested asks. tt;
+    still = λ rested u asks. let l = led.still rested u asks in p.still l.0 l.3 (all_first line (Some i) (answer line (Some i) x).state rest x more is refl is_query l.1) ∙ l.2;
+    reads = λ heads looks empty rested which n touches.
+        let light = either_light heads which in
+        let l = led.light heads looks empty rested light.0 light.1 n touches in
+        let parts = touches_parts line (Some i) (answer line (Some i) x).state rest x more is refl heads l.left l.touches in
+        let reads = p.reads heads l.looks l.rested (all_first line (Some i) (answer line (Some i) x).state rest x more is refl is_light l.asks) (room_here heads start.reads n l) parts.0 parts.2 in
+        omega (arith, reads, parts.4, l.fits);
+  }
+
+-- no line is left, and what they left is committed
+pub led_ends : {T E : Type 0} (D line0 : ℕ) (i0 : Index) (lines : List (List ℕ)) (start : Spot) (line : ℕ) (i : Index) (rest : List (List ℕ)) (now : Spot) → Led D line0 i0 lines start line i rest now
+    → Sees D now.files now.session.set i → (new : Spot) (r : Result T E) → Closes D i now new r → Leads line0 i0 lines start new r
+led_ends D line0 i0 lines start line i rest now led seen new r c = record {
+  canon = λ listed. c.canon start.files start.session.set listed led.canon;
+  levels = λ rested asks. let l = led.levels rested asks in then_levels r l.2 (c.levels l.0);
+  still = λ rested u asks. let l = led.still rested u asks in c.still l.3 ∙ l.2;
+  reads = λ heads looks empty rested which n touches. by_which heads looks empty rested n touches which;
+}
+  where
+    then_levels : {T E : Type 0} (r : Result T E) → KeepsLevels start.files now.files → OnOk r (KeepsLevels now.files new.files) → OnOk r (KeepsLevels start.files new.files)
+    then_levels (Ok x) first second = levels_then start.files now.files new.files first second
+    then_levels (Err e) first second = tt
+
+    by_which : (heads : List Head) → LooksAt heads start.session.set → start.session.set.buffer ≡ [] → i0.begun ≡ false → (n : ℕ) → TouchesLines heads line0 (Some i0) lines n
+        → (IsUnchanged start.session × AllAsk is_query line0 (Some i0) lines) ⊎ AreLight heads line0 (Some i0) lines → new.reads ≤ start.reads + n
+    by_which heads looks empty rested n touches (inl (u, asks)) =
+        let given = ap given_of (queries_stay line0 (Some i0) lines asks) in
+        let l = led.light heads looks empty rested (all_weaker is_query is_light query_light line0 (Some i0) lines asks) (omega (arith, given)) n touches in
+        let same = c.reads (inl (led.still rested u asks).3) in
+        omega (arith, same, l.fits)
+    by_which heads looks empty rested n touches (inr light) =
+        let l = led.light heads looks empty rested light.asks light.points n touches in
+        let same = c.reads (inr (settled now.session.set heads (begins_none D now.files now.session.set i seen l.rested) l.looks light.room)) in
+        omega (arith, same, l.fits)

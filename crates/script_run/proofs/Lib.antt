@@ -1,0 +1,14 @@
+pub mod Answered
+pub mod Ending
+pub mod Going
+pub mod Lined
+pub mod Opened
+pub mod Sizes
+pub mod Calling
+pub mod Scoped
+pub mod Asking
+pub mod Deciding
+pub mod Passing
+pub mod Leading
+pub mod Starting
+pub mod Shown

@@ -1,0 +1,69 @@
+-- A line is done where it can be read, and refused where not.
+use Rattle.std.proofs.Common.{◌≢◌, ◌∙◌, ap, sym, inl, rules}
+use Rattle.index_core.proofs.Sizes.{session_fits}
+use Rattle.script_lang.specs.Seen.{request_of}
+use Rattle.script_lang.specs.declared.faults.LineFault.TheVariants as fault
+use Rattle.stored_index.proofs.KeptFiles.{kept_itself}
+use Rattle.script_run.specs.Costs.{asks_commit}
+use Rattle.script_run.proofs.Answered.{unread_replies, fault_read}
+use Rattle.script_run.proofs.Lined.{page_memory, page_still}
+use Rattle.script_run.proofs.Passing.{passes_none, passes_unread}
+use Rattle.script_run.proofs.Sizes.{command_fits}
+use Rattle.script_run.proofs.Shown.{memory_shows}
+use Rattle.script_run.proofs.answers.reply_to.Goals as goal
+
+pub obey-requires-after_bounds : goal.obey-requires-after_bounds
+obey-requires-after_bounds g c κs = λ _. (session_fits g.row.D c.requires.few, (command_fits g.row.D c.requires.few, c.in-Ok.ensures.limits))
+
+pub returns-in-Ok-clause-replies : goal.returns-in-Ok-clause-replies
+returns-in-Ok-clause-replies g c = λ told i stored h. c.obey.ensures.replies told i stored h c.args.line.now c.in-Ok.ensures.reads
+
+pub returns-in-Err-Memory-clause-replies : goal.returns-in-Err-Memory-clause-replies
+returns-in-Err-Memory-clause-replies g c = λ told i stored h. inl h.keeps
+
+pub returns-in-Err-Memory-clause-cause : goal.returns-in-Err-Memory-clause-cause
+returns-in-Err-Memory-clause-cause g c = page_memory _
+
+pub returns-in-Err-clause-replies : goal.returns-in-Err-clause-replies
+returns-in-Err-clause-replies g c = λ told i stored h.
+    let other : c.in-Err.fault ≢ fault.Memory = search rules in
+    unread_replies g.row.D _ _ i stored c.args.number c.args.line.now _ _ c.in-Err.fault h (fault_read (request_of {D = g.row.D}) c.in-Err.fault _ other c.in-Err.ensures.reads)
+    c.refuse_line.result c.refuse_line.ensures.refused c.refuse_line.ensures.memory
+
+pub returns-in-Err-clause-cause : goal.returns-in-Err-clause-cause
+returns-in-Err-clause-cause g c = page_still _ c.refuse_line.result c.refuse_line.ensures.memory
+
+pub returns-in-Ok-clause-passes : goal.returns-in-Ok-clause-passes
+returns-in-Ok-clause-passes g c = λ told i stored h. c.obey.ensures.passes told i stored h c.args.line.now c.in-Ok.ensures.reads
+
+pub returns-in-Err-Memory-clause-passes : goal.returns-in-Err-Memory-clause-passes
+returns-in-Err-Memory-clause-passes g c = λ told i stored h. passes_none g.row.D c.args.number i c.args.line.now _ _
+
+pub returns-in-Err-clause-passes : goal.returns-in-Err-clause-passes
+returns-in-Err-clause-passes g c = λ told i stored h.
+    let other : c.in-Err.fault ≢ fault.Memory = search rules in
+    passes_unread g.row.D c.args.number i c.args.line.now c.in-Err.fault _ c.refuse_line.result h.seen.dims (fault_read (request_of {D = g.row.D}) c.in-Err.fault _ other c.in-Err.ensures.reads)
+
+pub returns-in-Ok-clause-trusts : goal.returns-in-Ok-clause-trusts
+returns-in-Ok-clause-trusts g c = c.obey.ensures.trusts
+
+pub returns-in-Ok-clause-evident : goal.returns-in-Ok-clause-evident
+returns-in-Ok-clause-evident g c = c.obey.ensures.evident
+
+pub returns-in-Err-Memory-clause-trusts : goal.returns-in-Err-Memory-clause-trusts
+returns-in-Err-Memory-clause-trusts g c = λ told h. h
+
+pub returns-in-Err-clause-trusts : goal.returns-in-Err-clause-trusts
+returns-in-Err-clause-trusts g c = λ told h. h
+
+pub returns-in-Err-clause-evident : goal.returns-in-Err-clause-evident
+returns-in-Err-clause-evident g c = memory_shows _ c.refuse_line.result c.refuse_line.ensures.memory
+
+pub returns-in-Ok-clause-kept : goal.returns-in-Ok-clause-kept
+returns-in-Ok-clause-kept g c = λ told h quiet. c.obey.ensures.kept told h (ap asks_commit (sym c.in-Ok.ensures.reads) ∙ quiet)
+
+pub returns-in-Err-Memory-clause-kept : goal.returns-in-Err-Memory-clause-kept
+returns-in-Err-Memory-clause-kept g c = λ told h quiet. kept_itself _
+
+pub returns-in-Err-clause-kept : goal.returns-in-Err-clause-kept
+returns-in-Err-clause-kept g c = λ told h quiet. kept_itself _

@@ -1,0 +1,58 @@
+-- What the lines left is committed, or the run stops.
+use Rattle.std.proofs.Common.{ℕ, refl}
+use Rattle.script_run.proofs.Calling.{fault_stops}
+use Rattle.script_run.proofs.Lined.{stops_end, ok_cause, fault_cause}
+use Rattle.script_run.proofs.Leading.{closes_by, closes_fails}
+use Rattle.script_run.proofs.Shown.{fault_at, fault_shows}
+use Rattle.script_run.proofs.lines.finish.Goals as goal
+
+pub returns-in-Ok-clause-ends : goal.returns-in-Ok-clause-ends
+returns-in-Ok-clause-ends g c = λ told i stored h. (refl, (c.in-Ok.ensures.stored told i h.seen h.guards).0)
+
+pub returns-in-Ok-clause-cause : goal.returns-in-Ok-clause-cause
+returns-in-Ok-clause-cause g c = λ sink. ok_cause _ _ sink _ c.args.refused c.in-Ok.ensures.cause
+
+pub returns-in-Err-clause-ends : goal.returns-in-Err-clause-ends
+returns-in-Err-clause-ends g c = λ told i stored h.
+    stops_end _ _ i stored c.args.refused c.in-Err.fault (c.in-Err.ensures.whole told i h.seen) h.keeps (c.in-Err.ensures.stored told i h.seen h.guards) c.stopped.result c.stopped.ensures
+
+pub returns-in-Err-clause-cause : goal.returns-in-Err-clause-cause
+returns-in-Err-clause-cause g c = λ sink. fault_cause _ _ sink c.in-Err.fault c.in-Err.ensures.cause c.stopped.result c.stopped.ensures
+
+pub returns-in-Ok-clause-closes : goal.returns-in-Ok-clause-closes
+returns-in-Ok-clause-closes g c = λ told i stored h.
+    closes_by g.row.D i _ _ _ h.seen (record {
+      seen = c.in-Ok.ensures.seen told i h.seen;
+      guards = c.in-Ok.ensures.guards told h.guards;
+      says = c.in-Ok.ensures.kept told h.guards;
+      unchanged = c.in-Ok.ensures.unchanged;
+      canon = c.in-Ok.ensures.canon told;
+      files = λ u. (c.in-Ok.ensures.idle u).2;
+      unread = λ u. (c.in-Ok.ensures.idle u).3;
+      rested = c.in-Ok.ensures.rested;
+      levels = c.in-Ok.ensures.levels;
+    })
+
+pub returns-in-Err-clause-closes : goal.returns-in-Err-clause-closes
+returns-in-Err-clause-closes g c = λ told i stored h.
+    closes_fails g.row.D i _ _ c.stopped.result _ c.stopped.ensures h.seen (record {
+      seen = c.in-Err.ensures.seen told i h.seen;
+      guards = c.in-Err.ensures.guards told h.guards;
+      says = tt;
+      unchanged = tt;
+      canon = c.in-Err.ensures.canon told;
+      files = λ u. (c.in-Err.ensures.idle u).2;
+      unread = λ u. (c.in-Err.ensures.idle u).3;
+      rested = c.in-Err.ensures.rested;
+      levels = λ n none. tt;
+    })
+
+pub returns-in-Err-clause-evident : goal.returns-in-Err-clause-evident
+returns-in-Err-clause-evident g c =
+    fault_shows _ c.in-Err.fault (fault_at _ _ _ _ c.in-Err.fault (λ p. p) (λ p. refl) c.in-Err.ensures.evident) c.stopped.result c.stopped.ensures
+
+pub returns-in-Ok-clause-undone : goal.returns-in-Ok-clause-undone
+returns-in-Ok-clause-undone g c = λ told h. tt
+
+pub returns-in-Err-clause-undone : goal.returns-in-Err-clause-undone
+returns-in-Err-clause-undone g c = λ told h. rw c.stopped.ensures (fault_stops ℕ (g.F.Pages.files c.args.folder.now) (g.F.Pages.files c.commit.new.folder) c.in-Err.fault (c.in-Err.ensures.undone told h.guards))

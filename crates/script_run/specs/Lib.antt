@@ -1,0 +1,7 @@
+pub mod Answers
+pub mod Costs
+pub mod Kept
+pub mod Leads
+pub mod Origins
+pub mod Progress
+pub mod Runs

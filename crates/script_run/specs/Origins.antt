@@ -1,0 +1,30 @@
+-- Where the index of a run comes from.
+use Rattle.std.specs.Prelude.{ℕ, ◌≡◌, Some, None}
+use Rattle.outer_io.specs.declared.file_name.FileName.TheVariants.{Commit}
+use Rattle.outer_io.specs.Files.{Files, bytes_of}
+use Rattle.commit_list.specs.CommitFiles.{IsCommitFile}
+use Rattle.index_model.specs.State.{Index, State, new_index}
+use Rattle.stored_index.specs.Stored.{IsStored}
+use Rattle.script_run.specs.Answers.{IsNew}
+use Rattle.script_run.specs.declared.origin.Origin.{Origin}
+use Rattle.script_run.specs.declared.origin.Origin.TheVariants as origin
+
+-- how many dimensions it has
+abbrev pub dims_of : Origin → ℕ
+dims_of (origin.New dims leaf) = dims
+dims_of (origin.Stored commit) = commit.dims
+
+-- a new index is within the limits
+abbrev pub IsMade : Origin → Type 0
+IsMade (origin.New dims leaf) = IsNew dims leaf
+IsMade (origin.Stored commit) = Unit {0}
+
+-- a new index over files that have none, or the one that the files store, whose commit this is
+abbrev pub IsFrom : Files → Origin → Index → State → Type 0
+IsFrom files (origin.New dims leaf) i stored = (files Commit ≡ None) × (i ≡ new_index dims leaf) × (stored ≡ None)
+IsFrom files (origin.Stored commit) i stored = IsCommitFile (bytes_of (files Commit)) commit × IsStored files (Some i) × (stored ≡ Some i)
+
+-- no index is there, or the folder's commit is this
+abbrev pub IsThere : Files → Origin → Type 0
+IsThere files (origin.New dims leaf) = files Commit ≡ None
+IsThere files (origin.Stored commit) = IsCommitFile (bytes_of (files Commit)) commit
