@@ -8,7 +8,7 @@ use Rattle.commit_list.specs.CommitFiles.{IsCommitFile}
 use Rattle.index_model.specs.State.{State}
 use Rattle.stored_index.specs.Kept.{SameKept}
 use Rattle.stored_index.specs.Stored.{IsStored}
-use Rattle.segment_set.specs.Evidence.{IsEvident}
+use Rattle.index_opening.specs.Evidence.{IsEvident}
 use Rattle.run_status.specs.Ends.{IsAnswer}
 use Rattle.bkd_top.specs.Commands.{ReadsFew}
 use Rattle.index_core.specs.Light.{KeepsLevels}

@@ -7,8 +7,8 @@ use Rattle.load_points.proofs.Loading.{made_trusts}
 use Rattle.bkd_top.proofs.Lined.{page_memory, page_none}
 use Rattle.bkd_top.proofs.Opened.{made_stands, attached_stands}
 use Rattle.bkd_top.proofs.Starting.{opens_new, opens_none, opens_stored}
-use Rattle.segment_set.specs.Evidence.{IsTwice}
-use Rattle.segment_set.proofs.Evident.{on_evident_at}
+use Rattle.index_opening.specs.Evidence.{IsTwice}
+use Rattle.index_opening.proofs.Evident.{on_evident_at}
 use Rattle.bkd_top.proofs.Shown.{attached_trusts}
 use Rattle.bkd_top.proofs.origin.open.Goals as goal
 
