@@ -8,7 +8,7 @@ ghost use Rattle.commit_list.specs.CommitFiles.{IsCommitFile};
 ghost use Rattle.script_lang.specs.Lines.{lines_of};
 ghost use Rattle.index_model.specs.State.{State};
 ghost use Rattle.stored_index.specs.Stored.{IsStored};
-ghost use Rattle.segment_set.specs.Evidence.{IsEvident};
+ghost use Rattle.index_opening.specs.Evidence.{IsEvident};
 ghost use Rattle.segment_set.specs.Faithful.{IsFaithful};
 ghost use Rattle.explain_queries.specs.Explained.{IsScope, Scope, TellsLine, TellsLines, Told};
 ghost use Rattle.explain_queries.specs.Explains.{IsExplaining};

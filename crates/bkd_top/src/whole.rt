@@ -8,7 +8,7 @@ ghost use Rattle.page_cache.specs.Evidence.{NotDamaged, OnDamage};
 ghost use Rattle.index_model.specs.Script.{Answer};
 ghost use Rattle.index_model.specs.State.{State};
 ghost use Rattle.stored_index.specs.Stored.{IsStored};
-ghost use Rattle.segment_set.specs.Evidence.{IsEvident};
+ghost use Rattle.index_opening.specs.Evidence.{IsEvident};
 ghost use Rattle.drawn_points.specs.Generated.{generated};
 ghost use Rattle.load_points.specs.Loaded.{loaded};
 ghost use Rattle.index_core.specs.Steps.{KeepsUndone};

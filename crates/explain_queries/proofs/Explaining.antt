@@ -27,7 +27,7 @@ use Rattle.script_lang.specs.Replies.{line_fault_text}
 use Rattle.segment_set.specs.Sets.{SetData}
 use Rattle.segment_set.specs.Seen.{Sees}
 use Rattle.segment_set.specs.Kept.{StaysButCache}
-use Rattle.segment_set.specs.Evidence.{IsEvident}
+use Rattle.index_opening.specs.Evidence.{IsEvident}
 use Rattle.segment_set.specs.Faithful.{IsFaithful}
 use Rattle.explain_queries.specs.Explained.{Scope, Tells, TellsIn, TellsLine, TellsOn, TellsReading, TellsShape, Told, reach, refusal, shape_text}
 use Rattle.explain_queries.specs.Explains.{Explains, InScope, IsExplaining, IsTold, Place}

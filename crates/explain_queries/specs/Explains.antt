@@ -8,7 +8,7 @@ use Rattle.index_model.specs.State.{Index}
 use Rattle.segment_view.specs.Parts.{heads_of}
 use Rattle.segment_set.specs.Sets.{SetData}
 use Rattle.segment_set.specs.Seen.{Sees}
-use Rattle.segment_set.specs.Evidence.{IsEvident}
+use Rattle.index_opening.specs.Evidence.{IsEvident}
 use Rattle.segment_set.specs.Faithful.{IsFaithful}
 use Rattle.explain_queries.specs.Explained.{Scope, Told}
 

@@ -20,8 +20,8 @@ use Rattle.stored_index.specs.Stored.{IsStored}
 use Rattle.stored_index.proofs.KeptFiles.{stored_still}
 use Rattle.segment_view.specs.Parts.{Part}
 use Rattle.segment_set.specs.Seen.{Sees}
-use Rattle.segment_set.specs.Evidence.{IsEvident, IsTwice}
-use Rattle.segment_set.proofs.Evident.{on_commit_evident, on_evident_at, on_evident_less}
+use Rattle.index_opening.specs.Evidence.{IsEvident, IsTwice}
+use Rattle.index_opening.proofs.Evident.{on_commit_evident, on_evident_at, on_evident_less}
 use Rattle.index_core.specs.Sessions.{Guards, SessionData}
 use Rattle.index_core.specs.Whole.{DoesWhole, HasNewCanonical, Spot}
 use Rattle.index_core.proofs.Bringing.{brings_then}

@@ -13,9 +13,9 @@ use Rattle.stored_index.specs.Kept.{SameKept}
 use Rattle.stored_index.proofs.KeptFiles.{kept_after, kept_itself}
 use Rattle.segment_view.specs.Parts.{Part}
 use Rattle.segment_set.specs.Seen.{Sees}
-use Rattle.segment_set.specs.Evidence.{IsEvident}
+use Rattle.index_opening.specs.Evidence.{IsEvident}
 use Rattle.segment_set.specs.Faithful.{IsFaithful}
-use Rattle.segment_set.proofs.Evident.{on_evident_less}
+use Rattle.index_opening.proofs.Evident.{on_evident_less}
 use Rattle.index_core.specs.Sessions.{AreTraced, Guards, IsTraced, SessionData, Trusts}
 use Rattle.index_core.specs.Effects.{BringsCanonical}
 use Rattle.index_core.specs.Whole.{Adds, Spot, with_points}

@@ -7,7 +7,7 @@ use Rattle.documents.specs.Documents.{Document}
 use Rattle.index_model.specs.State.{Index, new_index}
 use Rattle.stored_index.specs.Kept.{SameKept}
 use Rattle.segment_set.specs.Seen.{Sees}
-use Rattle.segment_set.specs.Evidence.{IsEvident}
+use Rattle.index_opening.specs.Evidence.{IsEvident}
 use Rattle.segment_set.specs.Faithful.{IsFaithful}
 use Rattle.index_core.specs.Effects.{BringsCanonical}
 use Rattle.index_core.specs.Sessions.{AreTraced, Guards, Trusts}

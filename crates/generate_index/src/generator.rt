@@ -9,7 +9,7 @@ ghost use Rattle.page_cache.specs.Evidence.{OnDamage};
 ghost use Rattle.documents.specs.Nearest.{found_of};
 ghost use Rattle.index_model.specs.State.{State};
 ghost use Rattle.stored_index.specs.Stored.{IsStored};
-ghost use Rattle.segment_set.specs.Evidence.{IsEvident};
+ghost use Rattle.index_opening.specs.Evidence.{IsEvident};
 ghost use Rattle.segment_set.specs.Faithful.{IsFaithful};
 ghost use Rattle.index_core.specs.Sessions.{AreTraced, Guards};
 ghost use Rattle.index_core.specs.Effects.{BringsCanonical};

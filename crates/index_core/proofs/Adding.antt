@@ -30,10 +30,10 @@ use Rattle.segment_view.specs.Parts.{Part}
 use Rattle.segment_set.specs.Sets.{IsNamed, SetData}
 use Rattle.segment_set.specs.Seen.{Sees}
 use Rattle.segment_set.specs.Kept.{AreCanonical, Follows, KeepsNamed, StaysButCache}
-use Rattle.segment_set.specs.Evidence.{IsEvident, IsEvidentIn}
+use Rattle.index_opening.specs.Evidence.{IsEvident, IsEvidentIn}
 use Rattle.segment_set.specs.Faithful.{IsFaithful}
 use Rattle.segment_set.proofs.Carried.{follows_same, keeps_calm}
-use Rattle.segment_set.proofs.Evident.{on_evident_less}
+use Rattle.index_opening.proofs.Evident.{on_evident_less}
 use Rattle.segment_set.specs.Faults.{HasCauseOf, OnAddDamage}
 use Rattle.segment_set.specs.declared.faults.AddFault.{AddFault}
 use Rattle.segment_set.specs.declared.faults.AddFault.TheVariants as add

@@ -28,10 +28,10 @@ use Rattle.segment_set.specs.Faults.{HasCauseOf, OnAddDamage, OnBeginDamage, OnE
 use Rattle.segment_set.specs.Sets.{IsNamed, NamedView, SetData}
 use Rattle.segment_set.specs.Seen.{Sees}
 use Rattle.segment_set.specs.Kept.{Follows, KeepsNamed, StaysButCache}
-use Rattle.segment_set.specs.Evidence.{IsEvident, IsEvidentIn}
+use Rattle.index_opening.specs.Evidence.{IsEvident, IsEvidentIn}
 use Rattle.segment_set.specs.Faithful.{IsFaithful}
 use Rattle.segment_set.proofs.Carried.{follows_same, keeps_calm}
-use Rattle.segment_set.proofs.Evident.{none_evident, on_evident_less}
+use Rattle.index_opening.proofs.Evident.{none_evident, on_evident_less}
 use Rattle.index_core.specs.Sessions.{SessionData, Trusts}
 use Rattle.index_core.specs.Effects.{BringsCanonical}
 use Rattle.index_core.specs.Steps.{Applies, DoesOver, Place}

@@ -11,7 +11,7 @@ use Rattle.segment_set.specs.declared.faults.AddFault.{AddFault}
 use Rattle.segment_set.specs.declared.faults.AddFault.TheVariants as add
 use Rattle.segment_set.specs.declared.faults.BeginFault.{BeginFault}
 use Rattle.segment_set.specs.declared.faults.BeginFault.TheVariants as begin
-use Rattle.segment_set.specs.Damages.{IsAttachDamage, IsAttachDamageOf}
+use Rattle.index_opening.specs.Damages.{IsAttachDamage, IsAttachDamageOf}
 use Rattle.segment_set.specs.Faults.{OnAddDamage, OnBeginDamage}
 use Rattle.segment_set.specs.Sets.{SetData}
 use Rattle.index_core.specs.Replies.{add_answer, begin_answer}

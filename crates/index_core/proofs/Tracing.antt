@@ -24,11 +24,11 @@ use Rattle.segment_view.specs.Parts.{Part, cleared, lives_of, part_of}
 use Rattle.file_names.specs.Names.{NameList, is_named}
 use Rattle.segment_set.specs.Sets.{IsNamed, SetData}
 use Rattle.segment_set.specs.Kept.{AreCanonical, Follows, IsAtRest, IsCommitOf, IsWithin, KeepsNamed}
-use Rattle.segment_set.specs.Evidence.{CrowdsPart, InSegment, IsCrowdedIn, IsEvident, IsEvidentIn, IsTwice}
+use Rattle.index_opening.specs.Evidence.{CrowdsPart, InSegment, IsCrowdedIn, IsEvident, IsEvidentIn, IsTwice}
 use Rattle.segment_set.specs.Faithful.{IsFaithful}
 use Rattle.segment_set.proofs.Carried.{canon_file, within_cleared, within_itself}
 use Rattle.segment_set.proofs.Crowds.{crowd_before, none_crowded}
-use Rattle.segment_set.proofs.Evident.{on_evident_twice}
+use Rattle.index_opening.proofs.Evident.{on_evident_twice}
 use Rattle.index_core.specs.Sessions.{AreTraced, Guards, GuardsSet, IsLast, IsLastCommit, IsListedWith, IsTraced, SessionData, Trusts}
 use Rattle.index_core.specs.Effects.{BringsCanonical, IsOfBefore}
 use Rattle.index_core.proofs.Bringing.{brings_written}

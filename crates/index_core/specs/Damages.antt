@@ -11,7 +11,8 @@ use Rattle.script_lang.specs.Requests as asks
 use Rattle.segment_view.specs.Parts.{AreRead, Contents, Part, live_in_parts}
 use Rattle.segment_view.specs.Damages.{IsPartDamage}
 use Rattle.segment_set.specs.Sets.{SetData, viewed_parts}
-use Rattle.segment_set.specs.Damages.{IsAttachDamage, IsAttachDamageOf, IsDoubt, IsMergeDamage, IsMergeDamageOf}
+use Rattle.index_opening.specs.Damages.{IsAttachDamage, IsAttachDamageOf}
+use Rattle.segment_set.specs.Damages.{IsDoubt, IsMergeDamage, IsMergeDamageOf}
 use Rattle.index_core.specs.Sessions.{SessionData}
 
 -- of a search: a leaf of one of the segments

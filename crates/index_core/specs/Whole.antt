@@ -16,7 +16,7 @@ use Rattle.stored_index.specs.Kept.{ListsFile, SameKept}
 use Rattle.stored_index.specs.Stored.{HasHead, IsStored}
 use Rattle.segment_set.specs.Kept.{HasCanonical}
 use Rattle.segment_set.specs.Seen.{Sees}
-use Rattle.segment_set.specs.Evidence.{IsEvident}
+use Rattle.index_opening.specs.Evidence.{IsEvident}
 use Rattle.segment_set.specs.Faithful.{IsFaithful}
 use Rattle.segment_set.specs.declared.faults.AddFault.{AddFault}
 use Rattle.segment_set.specs.declared.faults.AddFault.TheVariants as add

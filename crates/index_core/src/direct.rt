@@ -9,7 +9,7 @@ ghost use Rattle.documents.specs.Documents.{deleted, hits, is_live};
 ghost use Rattle.documents.specs.Nearest.{found_of, nearest};
 ghost use Rattle.index_model.specs.State.{Index};
 ghost use Rattle.segment_set.specs.Seen.{Sees};
-ghost use Rattle.segment_set.specs.Evidence.{IsEvident};
+ghost use Rattle.index_opening.specs.Evidence.{IsEvident};
 ghost use Rattle.segment_set.specs.Faithful.{IsFaithful};
 ghost use Rattle.index_core.specs.Sessions.{AreTraced, Guards};
 ghost use Rattle.index_core.specs.Effects.{BringsCanonical};

@@ -15,9 +15,9 @@ ghost use Rattle.live_bits.specs.LiveSet.{LiveSet};
 ghost use Rattle.segment_file.specs.Heads.{Head};
 ghost use Rattle.stored_index.specs.Stored.{HaveHeads, HaveLive, IsStored, IsUndefined};
 ghost use Rattle.stored_index.specs.Opening.{segments_pages};
-ghost use Rattle.segment_set.specs.Damages.{IsAttachDamage, IsAttachDamageOf};
+ghost use Rattle.index_opening.specs.Damages.{IsAttachDamage, IsAttachDamageOf};
 ghost use Rattle.segment_set.specs.Seen.{Sees};
-ghost use Rattle.segment_set.specs.Evidence.{IsEvident};
+ghost use Rattle.index_opening.specs.Evidence.{IsEvident};
 ghost use Rattle.segment_set.specs.Faithful.{IsFaithful};
 
 use bkd_build::Gate;

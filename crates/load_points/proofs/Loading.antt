@@ -21,9 +21,9 @@ use Rattle.stored_index.proofs.Whole.{held_for}
 use Rattle.documents.proofs.Lists.{nil_none}
 use Rattle.segment_view.specs.Parts.{Part}
 use Rattle.segment_set.specs.Seen.{Sees}
-use Rattle.segment_set.specs.Evidence.{IsEvident, IsTwice}
+use Rattle.index_opening.specs.Evidence.{IsEvident, IsTwice}
 use Rattle.segment_set.specs.Faithful.{IsFaithful}
-use Rattle.segment_set.proofs.Evident.{on_commit_evident, on_evident_at, on_evident_less}
+use Rattle.index_opening.proofs.Evident.{on_commit_evident, on_evident_at, on_evident_less}
 use Rattle.index_core.specs.Sessions.{AreTraced, Guards, IsTraced, IsUnchanged, SessionData, Trusts}
 use Rattle.index_core.specs.Light.{KeepsLevels}
 use Rattle.index_core.specs.Steps.{FaultKeeps, KeepsUndone}

@@ -10,7 +10,7 @@ ghost use Rattle.commit_list.specs.CommitFiles.{IsCommitFile};
 ghost use Rattle.csv_load.specs.Loading.{points_of, records_of};
 ghost use Rattle.index_model.specs.State.{State};
 ghost use Rattle.stored_index.specs.Stored.{IsStored};
-ghost use Rattle.segment_set.specs.Evidence.{IsEvident};
+ghost use Rattle.index_opening.specs.Evidence.{IsEvident};
 ghost use Rattle.index_core.specs.Sessions.{Trusts};
 ghost use Rattle.index_core.specs.Light.{KeepsLevels};
 ghost use Rattle.index_core.specs.Steps.{KeepsUndone};

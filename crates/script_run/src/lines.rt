@@ -6,7 +6,7 @@ ghost use Rattle.outer_io.specs.Files.{bytes_of};
 ghost use Rattle.page_cache.specs.Causes.{HasPageCause};
 ghost use Rattle.commit_list.specs.Commits.{CommitData};
 ghost use Rattle.commit_list.specs.CommitFiles.{IsCommitFile};
-ghost use Rattle.segment_set.specs.Evidence.{IsEvident};
+ghost use Rattle.index_opening.specs.Evidence.{IsEvident};
 ghost use Rattle.index_core.specs.Sessions.{Trusts};
 ghost use Rattle.script_lang.specs.Lines.{lines_of};
 ghost use Rattle.index_model.specs.State.{Index, State};

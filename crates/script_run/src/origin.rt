@@ -3,7 +3,7 @@
 ghost use Rattle.std.specs.Prelude.{◌≡◌, ◌≤◌, IsTrue, IfOk};
 ghost use Rattle.page_cache.specs.Causes.{HasPageCause};
 ghost use Rattle.page_cache.specs.Evidence.{NotDamaged, OnDamage};
-ghost use Rattle.segment_set.specs.Evidence.{IsEvident};
+ghost use Rattle.index_opening.specs.Evidence.{IsEvident};
 ghost use Rattle.index_core.specs.Sessions.{Trusts};
 ghost use Rattle.index_model.specs.State.{Index, State};
 ghost use Rattle.script_run.specs.Answers.{Stands};

@@ -25,7 +25,7 @@ use Rattle.number_checks.specs.Crowded.{IsCrowded}
 use Rattle.file_names.specs.Names.{NameList}
 use Rattle.segment_set.specs.Sets.{AreAlone}
 use Rattle.segment_set.specs.Kept.{AreCanonical, Follows, HasCanonical, IsWithin}
-use Rattle.segment_set.specs.Evidence.{CrowdsPart, IsCrowdedIn}
+use Rattle.index_opening.specs.Evidence.{CrowdsPart, IsCrowdedIn}
 use Rattle.segment_set.proofs.Carried.{canon_file}
 use Rattle.segment_set.proofs.Counted.{crowded_whole, crowded_within}
 use Rattle.segment_set.proofs.Replaced.{one_if, parted, place_in, places_in}

@@ -46,6 +46,7 @@ use Rattle.segment_set.specs.Saved.{HasNextGeneration, IsSaved, StaysButSaved}
 use Rattle.segment_set.proofs.Replaced.{id_of_part}
 use Rattle.segment_set.proofs.Carried.{canon_named, canon_then, follows_none, unnamed_before}
 use Rattle.segment_set.proofs.Standing.{sees_alike, sees_like}
+use Rattle.index_opening.proofs.Ordered.{zip_pushed}
 
 -- ---- what every set keeps to, with other names
 
@@ -100,12 +101,6 @@ zip_left R P [] [] more p = All-nil P
 zip_left R P [] (y ∷ ys) more p = absurd p
 zip_left R P (x ∷ xs) [] more p = absurd p
 zip_left R P (x ∷ xs) (y ∷ ys) more p = All-cons P x xs (more x y p.0) (zip_left R P xs ys more p.1)
-
-pub zip_pushed : {A B : Type 0} (R : A → B → Type 0) (xs : List A) (ys : List B) (x : A) (y : B) → AllZip R xs ys → R x y → AllZip R (xs ++ x ∷ []) (ys ++ y ∷ [])
-zip_pushed R [] [] x y all r = (r, tt)
-zip_pushed R [] (b ∷ ys) x y all r = absurd all
-zip_pushed R (a ∷ xs) [] x y all r = absurd all
-zip_pushed R (a ∷ xs) (b ∷ ys) x y all r = (all.0, zip_pushed R xs ys x y all.1 r)
 
 -- a fact of each on the right, beside the pairs
 pub zip_beside : {A B : Type 0} (R S : A → B → Type 0) (P : B → Type 0) (xs : List A) (ys : List B) → ((x : A) (y : B) → R x y → P y → S x y) → All P ys → AllZip R xs ys → AllZip S xs ys

@@ -13,10 +13,10 @@ use Rattle.segment_view.specs.Calm.{IsCalm}
 use Rattle.segment_set.specs.Sets.{AreAlone, BegunMerge, IsNamed, IsSpread, IsWell, SetData, set_with}
 use Rattle.segment_set.specs.Merged.{Rearranges}
 use Rattle.segment_set.specs.Kept.{AreCanonical, Follows, KeepsNamed}
-use Rattle.segment_set.specs.Evidence.{IsCrowdedIn, IsEvidentIn}
+use Rattle.index_opening.specs.Evidence.{IsCrowdedIn, IsEvidentIn}
 use Rattle.segment_set.specs.Faithful.{HasFileHead, IsFaithful}
 use Rattle.segment_set.proofs.Crowds.{crowded_before}
-use Rattle.segment_set.proofs.Evident.{on_less_with, on_evident_twice}
+use Rattle.index_opening.proofs.Evident.{on_less_with, on_evident_twice}
 use Rattle.segment_set.proofs.Faithful.{faithful_named, faithful_parts}
 
 -- the files are told, and what the set keeps of them is theirs

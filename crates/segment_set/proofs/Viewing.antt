@@ -22,13 +22,14 @@ use Rattle.segment_view.specs.Damages.{IsPartDamage}
 use Rattle.segment_view.specs.Parts.{Part}
 use Rattle.file_names.specs.Names.{NameList}
 use Rattle.segment_set.specs.Sets.{NamedView, SetData, viewed_parts}
-use Rattle.segment_set.specs.Opened.{IsOpened}
+use Rattle.index_opening.specs.Opened.{IsOpened}
 use Rattle.segment_set.specs.Swept.{IsUnneeded}
-use Rattle.segment_set.specs.Evidence.{IsEvident, IsTwice}
+use Rattle.index_opening.specs.Evidence.{IsEvident, IsTwice}
 use Rattle.segment_set.specs.Faithful.{HasFileHead, IsFaithful}
-use Rattle.segment_set.proofs.Attaching.{attached, zip_right}
+use Rattle.index_opening.proofs.Ordered.{zip_right}
+use Rattle.segment_set.proofs.Attaching.{attached}
 use Rattle.segment_set.proofs.Empty.{empty_set}
-use Rattle.segment_set.proofs.Evident.{on_evident_at, on_part_evident}
+use Rattle.index_opening.proofs.Evident.{on_evident_at, on_part_evident}
 use Rattle.segment_set.proofs.Snapped.{set_released, set_snapped}
 use Rattle.segment_set.proofs.Viewed.{viewed_all}
 

@@ -1,18 +1,12 @@
 -- What a damage that a call of a set answers shows: by what it carries alone, and of the files where those are told.
-use Rattle.std.specs.Prelude.{◌≡◌, ◌≢◌, ◌≤◌, ◌<◌, ◌⊎◌, ℕ, false, List, length, Contains}
-use Rattle.outer_io.specs.declared.file_name.FileName.{FileName}
-use Rattle.outer_io.specs.declared.file_name.FileName.TheVariants.{Commit, Segment, Live}
+use Rattle.std.specs.Prelude.{◌≡◌, ◌≤◌, ◌<◌, ◌⊎◌, ℕ, false, List, length, Contains}
+use Rattle.outer_io.specs.declared.file_name.FileName.TheVariants.{Commit, Segment}
 use Rattle.outer_io.specs.Files.{Files}
 use Rattle.point_codec.specs.Points.{Item}
-use Rattle.live_bits.specs.LiveSet.{LiveSet}
 use Rattle.page_cache.specs.declared.faults.Damage.{Damage}
 use Rattle.page_cache.specs.declared.faults.Damage.TheVariants.{Page, Leaf, Body, Missing, Size, Unequal, Beyond, Doubled}
-use Rattle.commit_list.specs.declared.listed.Listed.{Listed}
-use Rattle.commit_list.specs.Commits.{CommitData}
 use Rattle.segment_file.specs.Heads.{Head}
-use Rattle.segment_file.specs.Damages.{IsHeadDamage, IsHeadDamageOf, IsLeafDamageOf, IsLiveDamage, IsLiveDamageOf}
-use Rattle.stored_index.specs.Segments.{places}
-use Rattle.stored_index.specs.Stored.{HasHead, HasLive, HaveLive}
+use Rattle.segment_file.specs.Damages.{IsLeafDamageOf}
 use Rattle.segment_view.specs.Parts.{Part}
 use Rattle.segment_view.specs.Damages.{IsReadDamage}
 use Rattle.number_checks.specs.Crowded.{IsCrowded}
@@ -41,55 +35,3 @@ pub data IsMergeDamage (D given : ℕ) (names : NameList) (parts : List Part) (d
 -- and it is true of the files
 abbrev pub IsMergeDamageOf : Files → ℕ → Damage → Type 0
 IsMergeDamageOf files given d = IsLeafDamageOf files d ⊎ ((items : List Item) × IsDoubt given items d)
-
--- ---- attaching
-
--- two numbers differ that the commit says and the file of a listed segment, or that of its live bits, has
-abbrev pub IsUnequal : Listed → Damage → Type 0
-IsUnequal s (Unequal file said found) = ((file ≡ Segment s.segment) ⊎ (file ≡ Live s.segment s.generation)) × (said ≢ found)
-IsUnequal s (Page file number bytes) = ⊥
-IsUnequal s (Leaf file number offset len bytes) = ⊥
-IsUnequal s (Body file bytes) = ⊥
-IsUnequal s (Missing file) = ⊥
-IsUnequal s (Size file size needed) = ⊥
-IsUnequal s (Beyond doc next) = ⊥
-IsUnequal s (Doubled doc) = ⊥
-
--- a number is live that isn't below the next one, or is live in two segments
-abbrev pub IsMisplaced : (beyond doubled : ℕ → Type 0) → (next : ℕ) → Damage → Type 0
-IsMisplaced beyond doubled n (Beyond doc next) = (next ≡ n) × (n ≤ doc) × beyond doc
-IsMisplaced beyond doubled n (Doubled doc) = doubled doc
-IsMisplaced beyond doubled n (Page file number bytes) = ⊥
-IsMisplaced beyond doubled n (Leaf file number offset len bytes) = ⊥
-IsMisplaced beyond doubled n (Body file bytes) = ⊥
-IsMisplaced beyond doubled n (Missing file) = ⊥
-IsMisplaced beyond doubled n (Size file size needed) = ⊥
-IsMisplaced beyond doubled n (Unequal file said found) = ⊥
-
--- attaching the segments that a commit lists shows one of their files to be damaged, or live numbers that are misplaced
-abbrev pub IsAttachDamage : CommitData → Damage → Type 0
-IsAttachDamage c d =
-    ((s : Listed) × Contains c.listed s × (IsHeadDamage s.segment d ⊎ IsLiveDamage s.segment s.generation d ⊎ IsUnequal s d))
-    ⊎ IsMisplaced (λ _. Unit {0}) (λ _. Unit {0}) c.next d
-
--- the two numbers are a pair of the files that must agree: the leaf size, or a segment's entries or live numbers
-pub data IsPair (files : Files) (c : CommitData) (s : Listed) : FileName → (said found : ℕ) → Type 0 where
-  LeafSize : (head : Head) → HasHead c.dims files s head → IsPair files c s (Segment s.segment) c.leaf head.leaf
-  Entries : (head : Head) → HasHead c.dims files s head → IsPair files c s (Segment s.segment) s.entries head.entries
-  LiveCount : (live : LiveSet) → HasLive files s live → IsPair files c s (Live s.segment s.generation) s.live (length live.live)
-
-abbrev pub IsUnequalOf : Files → CommitData → Listed → Damage → Type 0
-IsUnequalOf files c s (Unequal file said found) = IsPair files c s file said found
-IsUnequalOf files c s (Page file number bytes) = ⊥
-IsUnequalOf files c s (Leaf file number offset len bytes) = ⊥
-IsUnequalOf files c s (Body file bytes) = ⊥
-IsUnequalOf files c s (Missing file) = ⊥
-IsUnequalOf files c s (Size file size needed) = ⊥
-IsUnequalOf files c s (Beyond doc next) = ⊥
-IsUnequalOf files c s (Doubled doc) = ⊥
-
--- and it is true of the files
-abbrev pub IsAttachDamageOf : Files → CommitData → Damage → Type 0
-IsAttachDamageOf files c d =
-    ((s : Listed) × Contains c.listed s × (IsHeadDamageOf c.dims files d ⊎ IsLiveDamageOf files d ⊎ IsUnequalOf files c s d))
-    ⊎ ((sets : List LiveSet) × HaveLive files c sets × IsMisplaced (λ doc. 1 ≤ places doc sets) (λ doc. 2 ≤ places doc sets) c.next d)

@@ -4,7 +4,7 @@ use Rattle.outer_io.specs.Files.{Files}
 use Rattle.page_cache.specs.Cache.{Agrees}
 use Rattle.segment_view.specs.Parts.{Part}
 use Rattle.segment_set.specs.Sets.{SetData}
-use Rattle.segment_set.specs.Evidence.{IsHeadIn}
+use Rattle.index_opening.specs.Evidence.{IsHeadIn}
 
 -- the segment's head is that of its file
 abbrev pub HasFileHead : ℕ → Files → Part → Type 0

@@ -10,6 +10,4 @@ pub mod Settles
 pub mod Runs
 pub mod Saved
 pub mod Swept
-pub mod Opened
-pub mod Evidence
 pub mod Faithful

@@ -18,11 +18,11 @@ ghost use Rattle.index_model.specs.State.{Index, State};
 ghost use Rattle.segment_view.specs.Parts.{lives_of};
 ghost use Rattle.file_names.specs.Names.{is_named};
 
-use crate::opening::{check_numbers, open_all};
 use crate::set::SegmentSet;
 use crate::settings::Settings;
 use commit_list::Commit;
 use file_names::FileNames;
+use index_opening::{check_numbers, open_all};
 use outer_io::{FileName, Folder};
 use page_cache::{Memory, PageCache, PageFault};
 use std::alloc::Global;
@@ -31,9 +31,9 @@ impl<const D: usize> SegmentSet<D> {
     ghost use Rattle.segment_set.specs.Sets.{SetData};
     ghost use Rattle.segment_set.specs.Seen.{Sees};
     ghost use Rattle.segment_set.specs.Kept.{IsAtRest};
-    ghost use Rattle.segment_set.specs.Damages.{IsAttachDamage, IsAttachDamageOf};
+    ghost use Rattle.index_opening.specs.Damages.{IsAttachDamage, IsAttachDamageOf};
     ghost use Rattle.segment_set.specs.Faithful.{IsFaithful};
-    ghost use Rattle.segment_set.specs.Evidence.{IsEvident};
+    ghost use Rattle.index_opening.specs.Evidence.{IsEvident};
 
     /// The set of a commit's segments. It reads their heads, indexes and live bits, no leaf, and answers Unequal, Beyond or Doubled where
     /// these show it.

@@ -41,7 +41,7 @@ impl<const D: usize> SegmentSet<D> {
     ghost use Rattle.segment_set.specs.Settles.{Flushes, IsLeft, Settles, Spot, spot};
     ghost use Rattle.segment_set.specs.Damages.{IsDoubt, IsMergeDamage, IsMergeDamageOf};
     ghost use Rattle.segment_set.specs.Faithful.{IsFaithful};
-    ghost use Rattle.segment_set.specs.Evidence.{IsEvident, IsEvidentIn};
+    ghost use Rattle.index_opening.specs.Evidence.{IsEvident, IsEvidentIn};
     ghost use Rattle.segment_set.specs.declared.faults.AddFault.TheVariants.{Full, Failed};
 
     /// Adds a document with these points, and answers its number. Full exactly where more than 16,777,216 points would be given. Where the

@@ -14,7 +14,6 @@ mod choosing;
 mod faults;
 mod merges;
 mod merging;
-mod opening;
 mod queries;
 mod save;
 mod set;

@@ -31,7 +31,7 @@ impl<const D: usize> SegmentSet<D> {
     ghost use Rattle.segment_set.specs.Settles.{Flushes, IsLeft, MergesParts, Settles, Spills, spot};
     ghost use Rattle.segment_set.specs.Damages.{IsDoubt, IsMergeDamage, IsMergeDamageOf};
     ghost use Rattle.segment_set.specs.Faithful.{IsFaithful};
-    ghost use Rattle.segment_set.specs.Evidence.{IsEvidentIn};
+    ghost use Rattle.index_opening.specs.Evidence.{IsEvidentIn};
     ghost use Rattle.segment_set.specs.declared.faults.BeginFault.TheVariants as begin;
     ghost use Rattle.segment_set.specs.declared.faults.EndFault.TheVariants as end;
 

@@ -23,7 +23,7 @@ ghost use Rattle.segment_set.specs.Sets.{AreAlone, IsNamed};
 ghost use Rattle.segment_set.specs.Kept.{KeepsNamed};
 ghost use Rattle.segment_set.specs.Merges.{IsGathered, IsMerged, IsPut, IsSpilled, MakesLive, Replaces, living};
 ghost use Rattle.segment_set.specs.Damages.{IsDoubt, IsMergeDamage, IsMergeDamageOf};
-ghost use Rattle.segment_set.specs.Evidence.{IsEvidentIn};
+ghost use Rattle.index_opening.specs.Evidence.{IsEvidentIn};
 ghost use Rattle.segment_set.specs.Faithful.{HasFileHead};
 
 use bkd_build::Gate;

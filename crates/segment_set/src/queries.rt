@@ -32,7 +32,7 @@ impl<const D: usize> SegmentSet<D> {
     ghost use Rattle.segment_set.specs.Seen.{Sees, StandsOver, entries_seen};
     ghost use Rattle.segment_set.specs.Kept.{StaysButCache};
     ghost use Rattle.segment_set.specs.Faithful.{IsFaithful};
-    ghost use Rattle.segment_set.specs.Evidence.{IsEvident};
+    ghost use Rattle.index_opening.specs.Evidence.{IsEvident};
 
     /// The numbers of the view's documents that the shape has, ascending. Only leaves whose own cell is not outside are read, and only
     /// entries of the buffer and of leaves whose own cell the shape crosses are tested.

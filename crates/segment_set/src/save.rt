@@ -41,7 +41,7 @@ impl<const D: usize> SegmentSet<D> {
     ghost use Rattle.segment_set.specs.Settles.{Flushes, IsLeft, Spot, spot};
     ghost use Rattle.segment_set.specs.Damages.{IsDoubt, IsMergeDamage, IsMergeDamageOf};
     ghost use Rattle.segment_set.specs.Faithful.{IsFaithful};
-    ghost use Rattle.segment_set.specs.Evidence.{IsEvidentIn};
+    ghost use Rattle.index_opening.specs.Evidence.{IsEvidentIn};
 
     /// Flushes, writes the live bits of each segment under a generation that the list of names doesn't have, and answers the commit that
     /// lists the segments of now with them.

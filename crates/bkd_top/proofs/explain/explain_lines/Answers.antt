@@ -12,7 +12,7 @@ use Rattle.script_run.proofs.Ending.{cause_from}
 use Rattle.script_run.proofs.Lined.{fault_cause, not_damaged}
 use Rattle.script_run.proofs.Scoped.{commit_few, none_scope, opening_is}
 use Rattle.bkd_top.proofs.Telling.{unread_ends}
-use Rattle.segment_set.proofs.Evident.{on_commit_evident}
+use Rattle.index_opening.proofs.Evident.{on_commit_evident}
 use Rattle.script_run.proofs.Shown.{fault_at, fault_shows, none_shows, says_after, stop_less}
 use Rattle.bkd_top.proofs.explain.explain_lines.Goals as goal
 

@@ -1,6 +1,6 @@
 -- The text of a command that is done is sent, and a fault says what was left.
 use Rattle.std.proofs.Common.{IsTrue, sym, ap, subst, ◌∙◌}
-use Rattle.segment_set.specs.Evidence.{IsEvident}
+use Rattle.index_opening.specs.Evidence.{IsEvident}
 use Rattle.run_status.specs.Ends.{IsAnswer}
 use Rattle.run_status.specs.Ends.{DoesNothing, IsDamaged}
 use Rattle.run_status.specs.Stops.{status_of}

@@ -4,7 +4,7 @@ use Rattle.std.proofs.lemmas.Result.{err_from_is_err_and}
 use Rattle.outer_io.specs.declared.file_name.FileName.TheVariants.{Commit}
 use Rattle.outer_io.specs.Files.{Files}
 use Rattle.page_cache.specs.declared.faults.PageFault.{PageFault}
-use Rattle.segment_set.proofs.Evident.{on_evident_less}
+use Rattle.index_opening.proofs.Evident.{on_evident_less}
 use Rattle.index_core.specs.Light.{KeepsLevels}
 use Rattle.index_core.specs.Steps.{KeepsUndone}
 use Rattle.index_core.specs.Whole.{DoesWhole, HasNewCanonical}

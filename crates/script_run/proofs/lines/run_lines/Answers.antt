@@ -11,7 +11,7 @@ use Rattle.script_run.specs.Progress.{start}
 use Rattle.script_run.proofs.Ending.{cause_from}
 use Rattle.script_run.proofs.Lined.{unopened, fault_cause, from_none, from_some, not_damaged}
 use Rattle.script_run.proofs.Starting.{leads_first, leads_some, leads_unread}
-use Rattle.segment_set.proofs.Evident.{on_commit_evident}
+use Rattle.index_opening.proofs.Evident.{on_commit_evident}
 use Rattle.script_run.proofs.Shown.{fault_at, fault_shows, says_after, stop_less}
 use Rattle.script_run.proofs.lines.run_lines.Goals as goal
 

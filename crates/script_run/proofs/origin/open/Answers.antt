@@ -6,8 +6,8 @@ use Rattle.index_core.proofs.Sizes.{session_fits}
 use Rattle.script_run.proofs.Lined.{page_memory, page_none}
 use Rattle.script_run.proofs.Opened.{made_stands, attached_stands}
 use Rattle.script_run.proofs.Starting.{opens_new, opens_none, opens_stored}
-use Rattle.segment_set.specs.Evidence.{IsTwice}
-use Rattle.segment_set.proofs.Evident.{on_evident_at}
+use Rattle.index_opening.specs.Evidence.{IsTwice}
+use Rattle.index_opening.proofs.Evident.{on_evident_at}
 use Rattle.script_run.proofs.Shown.{attached_trusts, bare_trusts}
 use Rattle.script_run.proofs.origin.open.Goals as goal
 

@@ -16,11 +16,12 @@ use Rattle.segment_view.specs.Damages.{IsPartDamage}
 use Rattle.segment_view.specs.Held.{AreHeld}
 use Rattle.segment_set.specs.Merges.{HoldsLive, IsGathered}
 use Rattle.segment_set.specs.Damages.{IsDoubt, IsMergeDamage, IsMergeDamageOf, Doubt}
-use Rattle.segment_set.specs.Evidence.{IsCrowdedIn, IsEvidentIn}
+use Rattle.index_opening.specs.Evidence.{IsCrowdedIn, IsEvidentIn}
 use Rattle.segment_set.specs.Faithful.{HasFileHead}
 use Rattle.segment_set.specs.Sets.{AreAlone}
 use Rattle.segment_set.proofs.Doubted.{doubt_among, part_shown, whole_shows}
-use Rattle.segment_set.proofs.Evident.{doubt_evident, gathered_of_files, on_evident_at, on_part_evident}
+use Rattle.index_opening.proofs.Evident.{on_evident_at, on_part_evident}
+use Rattle.segment_set.proofs.Evident.{doubt_evident, gathered_of_files}
 use Rattle.segment_set.proofs.Fresh.{gathered_of, holds_live, items_length}
 use Rattle.segment_set.proofs.Sizes.{built_fits, entry_fits}
 use Rattle.segment_set.proofs.Spilled.{some_is}

@@ -7,12 +7,12 @@ use Rattle.segment_build.specs.NewSegments.{NewSegmentData}
 use Rattle.segment_set.specs.Merges.{Replaces, living}
 use Rattle.segment_set.specs.Damages.{IsDoubt, IsMergeDamage, IsMergeDamageOf}
 use Rattle.segment_view.specs.Parts.{live_in_parts}
-use Rattle.segment_set.specs.Evidence.{IsCrowdedIn}
+use Rattle.index_opening.specs.Evidence.{IsCrowdedIn}
 use Rattle.segment_set.specs.Faithful.{HasFileHead}
 use Rattle.segment_set.specs.Sets.{AreAlone}
 use Rattle.segment_set.proofs.Doubted.{whole_shows}
 use Rattle.segment_set.proofs.Ended.{living_whole}
-use Rattle.segment_set.proofs.Evident.{none_with}
+use Rattle.index_opening.proofs.Evident.{none_with}
 use Rattle.segment_set.proofs.merging.merge.Goals as goal
 
 pub returns-in_err-built-clause-whole : goal.returns-in_err-built-clause-whole

@@ -7,8 +7,8 @@ use Rattle.index_core.proofs.Tracing.{traced_anew}
 use Rattle.index_core.proofs.Committing.{on_ok_each, some_same}
 use Rattle.segment_set.proofs.Sizes.{set_fits}
 use Rattle.page_cache.specs.Evidence.{OnDamage}
-use Rattle.segment_set.specs.Damages.{IsAttachDamage, IsAttachDamageOf}
-use Rattle.segment_set.proofs.Evident.{on_evident_less}
+use Rattle.index_opening.specs.Damages.{IsAttachDamage, IsAttachDamageOf}
+use Rattle.index_opening.proofs.Evident.{on_evident_less}
 use Rattle.index_core.proofs.session.Session.attach_anew.Goals as goal
 
 pub attach-requires : goal.attach-requires

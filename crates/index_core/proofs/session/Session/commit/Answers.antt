@@ -23,9 +23,9 @@ use Rattle.index_core.proofs.Lightly.{commits_few}
 use Rattle.index_core.proofs.Tracing.{traced_by, traced_shows}
 use Rattle.index_core.proofs.Undone.{few_listed, undone_flight, undone_kept, undone_written}
 use Rattle.page_cache.specs.Evidence.{FaultShows}
-use Rattle.segment_set.specs.Evidence.{IsEvident}
+use Rattle.index_opening.specs.Evidence.{IsEvident}
 use Rattle.segment_set.specs.Faithful.{IsFaithful}
-use Rattle.segment_set.proofs.Evident.{none_evident}
+use Rattle.index_opening.proofs.Evident.{none_evident}
 use Rattle.index_core.proofs.session.Session.commit.Goals as goal
 
 pub returns-then-not-is_changed-clause-kept : goal.returns-then-not-is_changed-clause-kept

@@ -10,9 +10,9 @@ use Rattle.index_model.specs.declared.session.Applied.TheVariants as applied
 use Rattle.stored_index.specs.Stored.{IsStored}
 use Rattle.stored_index.specs.Kept.{SameKept}
 use Rattle.segment_set.specs.Seen.{Sees}
-use Rattle.segment_set.specs.Evidence.{IsTwice}
+use Rattle.index_opening.specs.Evidence.{IsTwice}
 use Rattle.segment_set.specs.Faithful.{IsFaithful}
-use Rattle.segment_set.proofs.Evident.{on_evident_at}
+use Rattle.index_opening.proofs.Evident.{on_evident_at}
 use Rattle.index_core.specs.Sessions.{AreTraced, Guards, IsCommitAnew, IsUnchanged, SessionData}
 use Rattle.index_core.specs.Effects.{BringsCanonical}
 use Rattle.index_core.proofs.Bringing.{brings_anew, brings_then}
@@ -22,7 +22,7 @@ use Rattle.segment_set.proofs.Sizes.{set_fits}
 use Rattle.index_core.proofs.Sizes.{session_fits}
 use Rattle.page_cache.specs.Evidence.{FaultShows}
 use Rattle.page_cache.specs.declared.faults.PageFault.TheVariants as page
-use Rattle.segment_set.specs.Damages.{IsAttachDamageOf}
+use Rattle.index_opening.specs.Damages.{IsAttachDamageOf}
 use Rattle.index_core.proofs.Showing.{anew_attached, anew_none, anew_saved, damage_to}
 use Rattle.index_core.specs.Light.{CommitsFewOfLevels}
 use Rattle.index_core.proofs.Keeping.{fault_keeps}

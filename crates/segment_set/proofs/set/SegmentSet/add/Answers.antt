@@ -7,7 +7,7 @@ use Rattle.segment_set.specs.Sets.{SetData}
 use Rattle.segment_set.specs.Seen.{Sees}
 use Rattle.segment_set.specs.Kept.{AreCanonical, Follows, KeepsNamed, StaysAlone}
 use Rattle.segment_set.specs.Damages.{IsDoubt, IsMergeDamage, IsMergeDamageOf}
-use Rattle.segment_set.specs.Evidence.{IsEvidentIn}
+use Rattle.index_opening.specs.Evidence.{IsEvidentIn}
 use Rattle.segment_set.specs.Faithful.{IsFaithful}
 use Rattle.segment_set.proofs.Carried.{canon_named, follows_none, keeps_none, stays_none}
 use Rattle.segment_set.proofs.Changed.{full_given, index_with, not_full, parts_with, sees_with}

@@ -16,11 +16,12 @@ use Rattle.segment_view.specs.Parts.{lives_of}
 use Rattle.segment_set.specs.Sets.{IsWell, SetData}
 use Rattle.segment_set.specs.Seen.{Sees}
 use Rattle.segment_set.specs.Kept.{IsAtRest}
-use Rattle.segment_set.specs.Damages.{IsAttachDamage, IsAttachDamageOf, IsMisplaced}
-use Rattle.segment_set.specs.Opened.{IsListedDamage, IsListedDamageOf}
+use Rattle.index_opening.specs.Damages.{IsAttachDamage, IsAttachDamageOf, IsMisplaced}
+use Rattle.index_opening.specs.Opened.{IsListedDamage, IsListedDamageOf}
 use Rattle.segment_set.specs.Faithful.{IsFaithful}
-use Rattle.segment_set.proofs.Attaching.{at_rest_attached, attached_is, listed_of, listed_shown, misplaced_of, misplaced_shown, opened_heads, opened_lives, sees_attached, undefined_fault, well_attached, whole_listed, whole_placed}
-use Rattle.segment_set.proofs.Evident.{on_attach_evident}
+use Rattle.index_opening.proofs.Listed.{listed_of, listed_shown, misplaced_of, misplaced_shown, opened_heads, opened_lives, undefined_fault, whole_listed, whole_placed}
+use Rattle.segment_set.proofs.Attaching.{at_rest_attached, attached_is, sees_attached, well_attached}
+use Rattle.index_opening.proofs.Evident.{on_attach_evident}
 use Rattle.segment_set.proofs.Saving.{done_cause}
 use Rattle.segment_set.proofs.Viewing.{faithful_attached}
 use Rattle.segment_set.proofs.set.SegmentSet.attach.Goals as goal

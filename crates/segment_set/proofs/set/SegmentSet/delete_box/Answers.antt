@@ -18,7 +18,7 @@ use Rattle.file_names.specs.Names.{is_named}
 use Rattle.segment_file.specs.Damages.{IsLeafDamageOf}
 use Rattle.segment_view.specs.Damages.{IsPartDamage}
 use Rattle.segment_set.specs.Faithful.{IsFaithful}
-use Rattle.segment_set.specs.Evidence.{IsEvident}
+use Rattle.index_opening.specs.Evidence.{IsEvident}
 use Rattle.segment_set.proofs.set.SegmentSet.delete_box.Goals as goal
 
 pub returns-in_err-hits-clause-reads : goal.returns-in_err-hits-clause-reads

@@ -6,11 +6,11 @@ use Rattle.segment_view.specs.Parts.{live_in_parts}
 use Rattle.segment_set.specs.Merged.{Rearranges}
 use Rattle.segment_set.specs.Settles.{spot}
 use Rattle.segment_set.specs.Damages.{IsDoubt, IsMergeDamage, IsMergeDamageOf}
-use Rattle.segment_set.specs.Evidence.{IsCrowdedIn, IsEvidentIn}
+use Rattle.index_opening.specs.Evidence.{IsCrowdedIn, IsEvidentIn}
 use Rattle.segment_set.proofs.Rearranged.{rearranges_then}
 use Rattle.segment_set.proofs.Refused.{at_error, never_ok, same_cause, same_damage}
 use Rattle.segment_set.proofs.Trusted.{IsTrusted}
-use Rattle.segment_set.proofs.Evident.{none_with}
+use Rattle.index_opening.proofs.Evident.{none_with}
 use Rattle.segment_set.proofs.set.SegmentSet.flush.Given as given
 use Rattle.segment_set.proofs.set.SegmentSet.flush.Goals as goal
 

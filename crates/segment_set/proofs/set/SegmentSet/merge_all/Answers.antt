@@ -17,7 +17,7 @@ use Rattle.segment_set.proofs.Wholes.{IsOne, merged_one, settled_one, tidy_from,
 use Rattle.segment_set.proofs.Refused.{at_error, memory_caused, memory_damage, never_ok}
 use Rattle.segment_set.proofs.Saving.{done_cause}
 use Rattle.segment_set.specs.Damages.{IsDoubt, IsMergeDamage, IsMergeDamageOf}
-use Rattle.segment_set.specs.Evidence.{IsEvidentIn}
+use Rattle.index_opening.specs.Evidence.{IsEvidentIn}
 use Rattle.segment_view.specs.Parts.{ids_of, live_in_parts, parts_among, parts_but}
 use Rattle.segment_set.proofs.Trusted.{IsTrusted}
 use Rattle.segment_set.proofs.set.SegmentSet.merge_all.Goals as goal

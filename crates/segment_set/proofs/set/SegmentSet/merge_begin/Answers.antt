@@ -13,7 +13,7 @@ use Rattle.segment_set.specs.Seen.{Sees}
 use Rattle.segment_set.specs.Damages.{IsDoubt, IsMergeDamage, IsMergeDamageOf}
 use Rattle.segment_set.specs.Merged.{chosen_ids, each_once}
 use Rattle.segment_set.specs.Merges.{IsGathered, MakesLive}
-use Rattle.segment_set.specs.Evidence.{IsEvidentIn}
+use Rattle.index_opening.specs.Evidence.{IsEvidentIn}
 use Rattle.segment_set.proofs.Faulted.{begun_cause, begun_damage, begun_memory}
 use Rattle.segment_set.proofs.Moved.{moved}
 use Rattle.segment_set.proofs.Sizes.{set_fits}

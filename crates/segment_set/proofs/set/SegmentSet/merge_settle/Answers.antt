@@ -3,7 +3,7 @@ use Rattle.std.proofs.lemmas.Result.{err_from_is_err_and}
 use Rattle.page_cache.proofs.Damages.{on_damage_weaker}
 use Rattle.segment_view.specs.Parts.{live_in_parts, parts_among}
 use Rattle.segment_set.specs.Damages.{IsDoubt, IsMergeDamage, IsMergeDamageOf}
-use Rattle.segment_set.specs.Evidence.{IsEvidentIn}
+use Rattle.index_opening.specs.Evidence.{IsEvidentIn}
 use Rattle.segment_set.proofs.Chosen.{unsettled}
 use Rattle.segment_set.proofs.Rearranged.{damage_before, doubt_same, entries_none, entries_then, rearranges_none, rearranges_then}
 use Rattle.segment_set.proofs.Refused.{at_error, memory_caused, memory_damage, never_ok, same_cause, same_damage}

@@ -7,7 +7,7 @@ use Rattle.commit_list.specs.Commits.{CommitData}
 use Rattle.segment_file.specs.Damages.{IsHeadDamage, IsHeadDamageOf, IsLiveDamage, IsLiveDamageOf}
 use Rattle.stored_index.specs.Stored.{HasHead, HasLive}
 use Rattle.segment_view.specs.Parts.{Part}
-use Rattle.segment_set.specs.Damages.{IsUnequal, IsUnequalOf}
+use Rattle.index_opening.specs.Damages.{IsUnequal, IsUnequalOf}
 
 -- the segment is as the commit lists it
 pub record IsListedAs (c : CommitData) (s : Listed) (p : Part) : Type 0 where

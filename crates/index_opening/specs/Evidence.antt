@@ -21,7 +21,7 @@ use Rattle.stored_index.specs.Segments.{places}
 use Rattle.stored_index.specs.Stored.{HasLive, HaveLive}
 use Rattle.segment_view.specs.Parts.{Part}
 use Rattle.number_checks.specs.Crowded.{IsCrowded}
-use Rattle.segment_set.specs.Damages.{IsPair}
+use Rattle.index_opening.specs.Damages.{IsPair}
 
 -- ---- by what it carries
 

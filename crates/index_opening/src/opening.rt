@@ -16,8 +16,8 @@ ghost use Rattle.stored_index.specs.Segments.{SegmentData, places};
 ghost use Rattle.stored_index.specs.Opening.{listed_pages, segments_pages};
 ghost use Rattle.stored_index.specs.Stored.{HasHead, HasLive, HaveHeads, HaveLive, HoldAll, HoldsFiles};
 ghost use Rattle.segment_view.specs.Parts.{part_of};
-ghost use Rattle.segment_set.specs.Damages.{IsMisplaced};
-ghost use Rattle.segment_set.specs.Opened.{IsOpened, IsListedDamage, IsListedDamageOf};
+ghost use Rattle.index_opening.specs.Damages.{IsMisplaced};
+ghost use Rattle.index_opening.specs.Opened.{IsOpened, IsListedDamage, IsListedDamageOf};
 
 use commit_list::{Commit, Listed};
 use live_bits::LiveBits;
@@ -29,7 +29,7 @@ use segment_view::Segments;
 use std::alloc::Global;
 
 /// The segments that the commit lists. Of each first the head and the index are read, then the live bits.
-pub(crate) fn open_all<const D: usize, F: Folder>(
+pub fn open_all<const D: usize, F: Folder>(
     alloc: Global,
     folder: &mut F,
     c: &Commit,
@@ -134,7 +134,7 @@ fn agree(file: FileName, said: u64, found: u64) -> Result<(), PageFault>
 }
 
 /// Whether each live number is below the next one and live in one segment alone.
-pub(crate) fn check_numbers(alloc: Global, lives: &[LiveBits], next: u32) -> Result<(), PageFault>
+pub fn check_numbers(alloc: Global, lives: &[LiveBits], next: u32) -> Result<(), PageFault>
     requires { next ≤ 2 ^ 24 }
     ensures alone { OnOk result ((number : ℕ) → (places number lives.now ≤ 1) × (next ≤ number → places number lives.now ≡ 0)) }
     ensures shown { OnDamage result (IsMisplaced (λ doc. 1 ≤ places doc lives.now) (λ doc. 2 ≤ places doc lives.now) next) }

@@ -2,8 +2,8 @@ use Rattle.std.proofs.Common.{◌∙◌, sym, ap}
 use Rattle.std.proofs.lemmas.Result.{err_from_is_err_and}
 use Rattle.outer_io.specs.declared.file_name.FileName.TheVariants.{Segment}
 use Rattle.segment_file.specs.Heads.{Head}
-use Rattle.segment_set.proofs.Attaching.{entries_pair, equal_fault, head_held, is_held, leaf_pair, listed_head, pair_fault}
-use Rattle.segment_set.proofs.opening.open_head.Goals as goal
+use Rattle.index_opening.proofs.Listed.{entries_pair, equal_fault, head_held, is_held, leaf_pair, listed_head, pair_fault}
+use Rattle.index_opening.proofs.opening.open_head.Goals as goal
 
 pub returns-in_err-head-clause-whole : goal.returns-in_err-head-clause-whole
 returns-in_err-head-clause-whole g c = λ told d held.

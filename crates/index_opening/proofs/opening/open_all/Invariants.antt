@@ -5,8 +5,8 @@ use Rattle.live_bits.specs.LiveSet.{LiveSet}
 use Rattle.segment_file.specs.Heads.{Head}
 use Rattle.stored_index.specs.Opening.{segments_pages}
 use Rattle.stored_index.specs.Stored.{HaveHeads, HaveLive}
-use Rattle.segment_set.specs.Opened.{IsOpened}
-use Rattle.segment_set.proofs.opening.open_all.Given as goal
+use Rattle.index_opening.specs.Opened.{IsOpened}
+use Rattle.index_opening.proofs.opening.open_all.Given as goal
 
 abbrev pub invariant-loop-s : goal.invariant-loop-s
 invariant-loop-s g l = record {

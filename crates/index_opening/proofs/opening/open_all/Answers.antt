@@ -2,8 +2,8 @@ use Rattle.std.proofs.Common.{◌∙◌, rules, arith}
 use Rattle.std.specs.Prelude.{IsTrue}
 use Rattle.std.proofs.lemmas.Result.{err_from_is_err_and}
 use Rattle.segment_view.specs.Parts.{part_of}
-use Rattle.segment_set.proofs.Attaching.{fresh_next, opened_next, reads_next, whole_next}
-use Rattle.segment_set.proofs.opening.open_all.Goals as goal
+use Rattle.index_opening.proofs.Ordered.{fresh_next, opened_next, reads_next, whole_next}
+use Rattle.index_opening.proofs.opening.open_all.Goals as goal
 
 pub returns-in_err-head-clause-reads : goal.returns-in_err-head-clause-reads
 returns-in_err-head-clause-reads g c = λ told heads sets have lives.

@@ -2,8 +2,8 @@ use Rattle.std.proofs.Common.{◌∙◌, length, sym, ap}
 use Rattle.std.proofs.lemmas.Result.{err_from_is_err_and}
 use Rattle.outer_io.specs.declared.file_name.FileName.TheVariants.{Live}
 use Rattle.live_bits.specs.LiveSet.{LiveSet}
-use Rattle.segment_set.proofs.Attaching.{equal_fault, live_held, live_pair, pair_fault}
-use Rattle.segment_set.proofs.opening.open_live.Goals as goal
+use Rattle.index_opening.proofs.Listed.{equal_fault, live_held, live_pair, pair_fault}
+use Rattle.index_opening.proofs.opening.open_live.Goals as goal
 
 pub returns-in_err-agree-clause-damage : goal.returns-in_err-agree-clause-damage
 returns-in_err-agree-clause-damage g c = λ told commit.
