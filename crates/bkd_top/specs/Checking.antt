@@ -1,0 +1,35 @@
+-- How checking ends, whatever the folder holds.
+use Rattle.std.specs.Prelude.{ℕ, ◌+◌, ◌≡◌, ◌≤◌, ◌⊎◌, List, ◌++◌}
+use Rattle.outer_io.specs.Files.{Files}
+use Rattle.outer_io.specs.Parts.{WritesPart}
+use Rattle.stored_index.specs.Stored.{IsUndefined}
+use Rattle.folder_check.specs.Checked.{IsChecked, IsChecking}
+use Rattle.run_status.specs.Causes.{Counts, NoneRose}
+use Rattle.run_status.specs.declared.status.Status.{Status}
+use Rattle.run_status.specs.declared.status.Status.TheVariants as status
+
+-- What there is to tell of the files went out, or a prefix of it where the sink failed; else nothing did, and where it ends as damaged the files store no
+-- state. No line is refused, and no input is read.
+abbrev pub EndsCheck : (told : Type 0) → Files → (old new : List ℕ) → Status → Type 0
+EndsCheck told files old new status.Done = (text : List ℕ) × IsChecked files text × (told → new ≡ old ++ text)
+EndsCheck told files old new status.SinkFault = (text : List ℕ) × IsChecked files text × (told → WritesPart old new text)
+EndsCheck told files old new (status.Damaged damage) = IsUndefined files × (told → new ≡ old)
+EndsCheck told files old new status.FolderFault = told → new ≡ old
+EndsCheck told files old new status.Memory = told → new ≡ old
+EndsCheck told files old new status.Usage = ⊥
+EndsCheck told files old new (status.SomeRefused count) = ⊥
+EndsCheck told files old new status.SourceFault = ⊥
+EndsCheck told files old new status.TooLarge = ⊥
+
+-- it was told whether the files store a state, unless a fault was counted or memory was wanting
+abbrev pub IsVerdict : Status → Type 0
+IsVerdict status.Done = Unit {0}
+IsVerdict (status.Damaged damage) = Unit {0}
+IsVerdict status.Memory = Unit {0}
+IsVerdict _ = ⊥
+
+-- checking tells what the files hold, changes none of them, and reads each page of what the commit lists at most once
+pub record Checks (told : Type 0) (old new : Files) (written written_now : List ℕ) (before now : ℕ) (s : Status) : Type 0 where
+  pub ends : EndsCheck told old written written_now s
+  pub files : new ≡ old
+  pub reads : (pages : ℕ) → IsChecking old pages → now ≤ before + pages
