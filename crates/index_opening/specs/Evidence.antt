@@ -1,5 +1,5 @@
 -- What a damage shows of a folder's files, whichever call answers it: by what it carries alone, and of the files where those are told.
-use Rattle.std.specs.Prelude.{◌≡◌, ◌≤◌, ◌<◌, ◌⊎◌, ℕ, List, None, Contains, filter}
+use Rattle.std.specs.Prelude.{◌≡◌, ◌≤◌, ◌<◌, ◌⊎◌, ℕ, List, None, Contains, length, filter, count_by}
 use Rattle.outer_io.specs.declared.file_name.FileName.{FileName}
 use Rattle.outer_io.specs.declared.file_name.FileName.TheVariants.{Commit, CommitNew, Segment, Live}
 use Rattle.outer_io.specs.Files.{Files, bytes_of}
@@ -8,6 +8,7 @@ use Rattle.live_bits.specs.LiveSet.{LiveSet, is_live}
 use Rattle.inner_pack.specs.Places.{front}
 use Rattle.inner_pack.specs.Trees.{IndexTree}
 use Rattle.inner_pack.specs.Bodies.{HasTree}
+use Rattle.documents.specs.Entries.{has_entry}
 use Rattle.page_cache.specs.Evidence.{IsShown, IsPageOf, ArePayloadsOf, IsSizeOf}
 use Rattle.page_cache.specs.declared.faults.Damage.{Damage}
 use Rattle.page_cache.specs.declared.faults.Damage.TheVariants.{Page, Leaf, Body, Missing, Size, Unequal, Beyond, Doubled}
@@ -17,8 +18,8 @@ use Rattle.commit_list.specs.CommitFiles.{IsCommitFile, IsNoCommitBody, AsksComm
 use Rattle.segment_file.specs.Heads.{Head, HasRanges}
 use Rattle.segment_file.specs.Segments.{IsHeadOf, IsSegment}
 use Rattle.segment_file.specs.Damages.{AreHeadPair, AsksFor, BeginsNoHead, BeginsNoSet, IsNoLeaf}
-use Rattle.stored_index.specs.Segments.{places}
-use Rattle.stored_index.specs.Stored.{HasLive, HaveLive}
+use Rattle.stored_index.specs.Segments.{SegmentData, all_live_entries, places}
+use Rattle.stored_index.specs.Stored.{HasLive, HaveLive, HoldAll}
 use Rattle.segment_view.specs.Parts.{Part}
 use Rattle.number_checks.specs.Crowded.{IsCrowded}
 use Rattle.index_opening.specs.Damages.{IsPair}
@@ -68,11 +69,22 @@ AsksPages (Live segment generation) payload pages = AsksFor (Live segment genera
 AsksPages Commit payload pages = AsksCommit payload pages
 AsksPages CommitNew payload pages = ⊥
 
--- Two numbers that must agree: of a segment's file and the dimensions of the commit, of that file alone, or of the commit and a file that it lists. Where
--- more live entries are read than points were given, the Commit file is named, and the numbers need be none of files.
+-- the two files of a listed segment hold these entries and live numbers
+pub record HoldsEntries (files : Files) (c : CommitData) (s : Listed) (d : SegmentData) : Type 0 where
+  pub id : d.head.id ≡ s.segment
+  pub segment : IsSegment c.dims (bytes_of (files (Segment s.segment))) d.head d.entries
+  pub live : HasLive files s d.live
+
+-- Two numbers that must agree: of a segment's file and the dimensions of the commit, of that file alone, or of the commit and a file that it lists; the
+-- live numbers of a segment and those of them that have an entry; the points given and the live entries of all segments. Where entries are about to be
+-- merged that are more than the points given, the Commit file is named too, and the numbers need be none of files.
 pub data ArePair (files : Files) (file : FileName) (said found : ℕ) : Type 0 where
   InHead : (c : CommitData) → IsCommitFile (bytes_of (files Commit)) c → AreHeadPair c.dims (bytes_of (files file)) said found → ArePair files file said found
   InList : (c : CommitData) → IsCommitFile (bytes_of (files Commit)) c → (s : Listed) → Contains c.listed s → IsPair files c s file said found → ArePair files file said found
+  InLive : (c : CommitData) → IsCommitFile (bytes_of (files Commit)) c → (s : Listed) → Contains c.listed s → (d : SegmentData) → HoldsEntries files c s d
+      → file ≡ Live s.segment s.generation → said ≡ length d.live.live → found ≡ count_by (λ number. has_entry number d.entries) d.live.live → ArePair files file said found
+  InCommit : (c : CommitData) → IsCommitFile (bytes_of (files Commit)) c → (parts : List SegmentData) → HoldAll files c parts
+      → file ≡ Commit → said ≡ c.given → found ≡ length (all_live_entries parts) → ArePair files file said found
   OfGiven : file ≡ Commit → said < found → ArePair files file said found
 
 -- the number is live in a listed segment, and this is the commit's next one

@@ -3,5 +3,7 @@
 #![tactic(auto)]
 
 mod opening;
+mod whole;
 
 pub use opening::{check_numbers, open_all};
+pub use whole::open_index;

@@ -1,0 +1,164 @@
+-- What was found shows that the files hold an index, or that no state is stored.
+use Rattle.std.proofs.Common.{◌≡◌, ℕ, ◌≤◌, ◌<◌, ◌^◌, ◌⊎◌, List, [], ◌∷◌, length, sym, subst, ◌∙◌, inl, inr, arith, None, Option}
+use Rattle.std.specs.Prelude.{IfNone, IfSome}
+use Rattle.std.specs.List.{All, AllZip, Contains}
+use Rattle.std.proofs.lemmas.Bool.{cases_lt}
+use Rattle.std.proofs.lemmas.List.Elements.{All-contains, All-contains_itself, All-weaker}
+use Rattle.std.proofs.lemmas.List.Sums.{count_by-le-length, length-filter, sum_by-le}
+use Rattle.outer_io.specs.declared.file_name.FileName.TheVariants.{Commit, Segment}
+use Rattle.outer_io.specs.Files.{Files, bytes_of}
+use Rattle.point_codec.specs.Points.{Item}
+use Rattle.leaf_codec.specs.LeafOrder.{NoneTwice}
+use Rattle.live_bits.specs.LiveSet.{LiveSet, is_live}
+use Rattle.documents.specs.Documents.{Document}
+use Rattle.documents.specs.Entries.{MakeDocs, has_entry}
+use Rattle.documents.proofs.Lists.{cons_cases, cons_head, cons_tail, in_map, nil_none, of_filter}
+use Rattle.page_cache.specs.declared.faults.Damage.{Damage}
+use Rattle.commit_list.specs.declared.listed.Listed.{Listed}
+use Rattle.commit_list.specs.Commits.{CommitData, IsCommit, IsListed}
+use Rattle.commit_list.specs.CommitFiles.{IsCommitFile}
+use Rattle.segment_file.proofs.Counted.{segment_counted}
+use Rattle.stored_index.specs.Segments.{SegmentData, live_entries, live_sets, places}
+use Rattle.stored_index.specs.Stored.{HoldsIndex, IsUndefined}
+use Rattle.stored_index.proofs.BySegment.{docs_of_each, each_of_docs}
+use Rattle.stored_index.proofs.Damaged.{no_documents, no_entry}
+use Rattle.stored_index.proofs.Pairwise.{partner_of}
+use Rattle.stored_index.proofs.Parts.{EntriesOnce}
+use Rattle.stored_index.proofs.Places.{some_place}
+use Rattle.segment_view.specs.Parts.{Part, lives_of}
+use Rattle.number_checks.specs.Placed.{IsPlaced}
+use Rattle.number_checks.specs.Crowded.{AreFew, IsLeastCrowded}
+use Rattle.number_checks.proofs.Once.{never_crowded, pairs_from}
+use Rattle.index_opening.specs.Opened.{IsOpened}
+use Rattle.folder_check.specs.declared.findings.Finding.{Finding}
+use Rattle.folder_check.specs.Found.{AreFine, IsFinding, Beyond, Crowding, HasAll, IsBeyondGiven, IsCrowding, IsLacking, IsWrong, Lacking, all_entries}
+use Rattle.folder_check.proofs.Entries.{number_live, one_fails}
+use Rattle.folder_check.proofs.Gathered.{HoldsBut, IsFoundIn, all_held, entries_found, gathered, gathered_found, gathered_holds, gathered_lives}
+use Rattle.folder_check.proofs.Pairs.{get_in, zip_at, zip_long, zip_over}
+
+-- all that is known of what the files of a commit's segments hold before what was found is looked through
+pub record AreGathered (files : Files) (c : CommitData) (held : List SegmentData) (findings : List Finding) : Type 0 where
+  pub says : IsCommitFile (bytes_of (files Commit)) c
+  pub but : AllZip (HoldsBut files c) c.listed held
+  pub found : AllZip IsFoundIn held findings
+  pub alone : (number : ℕ) → places number (live_sets held) ≤ 1
+  pub below : (number : ℕ) → c.next ≤ number → places number (live_sets held) ≡ 0
+
+commit_of : (c : CommitData) {bytes : List ℕ} → IsCommitFile bytes c → IsCommit c
+commit_of c says = says.spells.commit
+
+-- what was found of a segment
+finding_at : (held : List SegmentData) (findings : List Finding) → AllZip IsFoundIn held findings → (d : SegmentData) → Contains held d → (f : Finding) × Contains findings f × IsFoundIn d f
+finding_at [] fs all d h = nil_none d _ h
+finding_at (e ∷ es) [] all d h = absurd all
+finding_at (e ∷ es) (f ∷ fs) all d h = elim (cons_cases e es d h) [
+  | inl here ↦ (f, cons_head f fs, subst (λ (x : SegmentData). IsFoundIn x f) here all.0)
+  | inr later ↦ let rest = finding_at es fs all.1 d later in (rest.0, cons_tail f fs rest.0 rest.1, rest.2)
+]
+
+-- and of which segment
+segment_at : (held : List SegmentData) (findings : List Finding) → AllZip IsFoundIn held findings → (f : Finding) → Contains findings f → (d : SegmentData) × Contains held d × IsFoundIn d f
+segment_at held findings all f h = partner_of IsFoundIn held findings all f h
+
+module _ (files : Files) (c : CommitData) (held : List SegmentData) (findings : List Finding) (g : AreGathered files c held findings) where
+  -- ---- nothing is wrong
+
+  live_below : (d : SegmentData) → Contains held d → (x : Item) → Contains (live_entries d) x → x.doc < c.next
+  live_below d there x h = by (cases_lt x.doc c.next)
+    where
+      by : (x.doc < c.next) ⊎ (c.next ≤ x.doc) → x.doc < c.next
+      by (inl lt) = lt
+      by (inr le) =
+          let live = (of_filter (λ (y : Item). is_live d.live y.doc) d.entries x h).1 in
+          absurd (omega (arith, g.below x.doc le, some_place x.doc (live_sets held) d.live (in_map (λ (e : SegmentData). e.live) held d there) live))
+
+  makes : All (λ f. f.crowded ≡ None) findings → (d : SegmentData) → Contains held d → MakeDocs c.next (live_entries d)
+  makes none d there =
+      let f = finding_at held findings g.found d there in
+      let few : NoneTwice (live_entries d) × AreFew (live_entries d) = subst (λ (o : Option ℕ). IfNone o (NoneTwice (live_entries d) × AreFew (live_entries d))) (All-contains (λ (h : Finding). h.crowded ≡ None) findings f.0 none f.1) f.2.none in
+      record {
+        below = All-weaker (Contains (live_entries d)) (λ (x : Item). x.doc < c.next) (live_below d there) (live_entries d) (All-contains_itself (live_entries d));
+        few = few.1;
+        once = pairs_from (live_entries d) few.0;
+      }
+
+  pub fine_holds : AreFine c.listed c.given findings → (docs : List Document) × HoldsIndex files c docs
+  fine_holds fine =
+      let made = docs_of_each c.next held g.alone (All-weaker (Contains held) (λ (d : SegmentData). MakeDocs c.next (live_entries d)) (makes fine.none) held (All-contains_itself held)) in (
+        made.0,
+        record {
+          commit = g.says;
+          parts = held;
+          segments = all_held files c c.listed held findings g.but g.found fine.all;
+          alone = g.alone;
+          are_docs = made.1;
+          few = subst (λ n. n ≤ c.given) (entries_found held findings g.found) fine.few;
+        },
+      )
+
+  -- ---- something is
+
+  module _ (once : EntriesOnce) where
+    lacking_undefined : (d : Damage) → IsLacking c.listed findings d → IsUndefined files
+    lacking_undefined d l =
+        let at = zip_at (λ s f. (e : SegmentData) × HoldsBut files c s e × IsFoundIn e f) c.listed findings l.place l.segment l.finding (zip_over (HoldsBut files c) IsFoundIn c.listed held findings g.but g.found) l.listed_there l.found_there in
+        let e : SegmentData = at.0 in
+        let bare = one_fails (λ n. has_entry n e.entries) e.live.live (λ all. l.apart (sym at.1.live_count ∙ sym all ∙ sym at.2.found)) in
+        no_entry once files c l.segment e.head e.entries e.live bare.0 g.says (get_in c.listed l.place l.segment l.listed_there) at.1.id at.1.segment at.1.live (number_live e.live bare.0 bare.1) bare.2
+
+    -- a segment in which a number is crowded has no documents
+    crowding_undefined : AllZip HasAll c.listed findings → (d : Damage) → IsCrowding findings d → IsUndefined files
+    crowding_undefined all d (number, tells, least) =
+        let at = segment_at held findings g.found least.finding least.there in
+        let e : SegmentData = at.0 in
+        let crowded : IsLeastCrowded number (live_entries e) = subst (λ (o : Option ℕ). IfSome o (λ n. IsLeastCrowded n (live_entries e))) least.is at.2.some in
+        no_documents once files c held g.says (all_held files c c.listed held findings g.but g.found all)
+        (λ docs are few. never_crowded c.next number (live_entries e) crowded.crowded
+        (All-contains (λ (d : SegmentData). MakeDocs c.next (live_entries d)) held e (each_of_docs c.next held docs are) at.1))
+
+    beyond_undefined : AllZip HasAll c.listed findings → (d : Damage) → IsBeyondGiven c.given findings d → all_entries findings < 2 ^ 64 → IsUndefined files
+    beyond_undefined all d b fits =
+        no_documents once files c held g.says (all_held files c c.listed held findings g.but g.found all)
+        (λ docs are few. omega (arith, few, b.more, b.is fits, entries_found held findings g.found))
+
+    pub wrong_undefined : (d : Damage) → all_entries findings < 2 ^ 64 → IsWrong c.listed c.given findings d → IsUndefined files
+    wrong_undefined d fits (Lacking l) = lacking_undefined d l
+    wrong_undefined d fits (Crowding all crowd) = crowding_undefined all d crowd
+    wrong_undefined d fits (Beyond all none b) = beyond_undefined all d b fits
+
+  -- ---- how many entries there may be
+
+  live_short : (s : Listed) (d : SegmentData) → HoldsBut files c s d → s.entries ≤ 16777216 → length (live_entries d) ≤ 16777216
+  live_short s d h most =
+      let long = segment_counted c.dims (bytes_of (files (Segment s.segment))) d.head d.entries h.segment in
+      omega (arith, long, h.count, most, length-filter (λ (x : Item). is_live d.live x.doc) d.entries, count_by-le-length (λ (x : Item). is_live d.live x.doc) d.entries)
+
+  finding_short : (f : Finding) → Contains findings f → f.entries ≤ 16777216
+  finding_short f h =
+      let at = segment_at held findings g.found f h in
+      let part = partner_of (HoldsBut files c) c.listed held g.but at.0 at.1 in
+      let listed = All-contains (IsListed c.next_segment) c.listed part.0 (commit_of c g.says).segments.each part.1 in
+      omega (arith, at.2.entries, live_short part.0 at.0 part.2 listed.most)
+
+  pub entries_fit : all_entries findings < 2 ^ 64
+  entries_fit =
+      let sum = sum_by-le (λ (f : Finding). f.entries) 16777216 findings (All-weaker (Contains findings) (λ (f : Finding). f.entries ≤ 16777216) finding_short findings (All-contains_itself findings)) in
+      let long = zip_long IsFoundIn held findings g.found in
+      let listed = zip_long (HoldsBut files c) c.listed held g.but in
+      let few = (commit_of c g.says).ranges.few in
+      omega (arith, sum, long, listed, few)
+
+-- it is known where all segments are opened and their leaves are read
+pub gather_all : (T : Type 0) (D : ℕ) (files : Files) (c : CommitData) (parts : List Part) (findings : List Finding) → T → c.dims ≡ D → IsCommitFile (bytes_of (files Commit)) c
+    → AllZip (IsOpened T files c) c.listed parts → ((number : ℕ) → IsPlaced c.next (lives_of parts) number) → (all : AllZip (IsFinding D files) parts findings)
+    → AreGathered files c (gathered D files parts findings all) findings
+gather_all T D files c parts findings t dims says opened placed all = record {
+  says = says;
+  but = gathered_holds T D files c c.listed parts findings all t dims opened;
+  found = gathered_found D files parts findings all;
+  alone = λ number. subst (λ (ss : List LiveSet). places number ss ≤ 1) (sym lives) (placed number).0;
+  below = λ number le. subst (λ (ss : List LiveSet). places number ss ≡ 0) (sym lives) ((placed number).1 le);
+}
+  where
+    lives : live_sets (gathered D files parts findings all) ≡ lives_of parts
+    lives = gathered_lives D files parts findings all

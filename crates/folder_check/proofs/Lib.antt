@@ -1,0 +1,12 @@
+pub mod Entries
+pub mod Totals
+pub mod Counted
+pub mod Pairs
+pub mod Gathered
+pub mod Judged
+pub mod Shown
+pub mod Found
+pub mod Lines
+pub mod Leaves
+pub mod Crowded
+pub mod Whole

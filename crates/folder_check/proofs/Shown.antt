@@ -1,0 +1,75 @@
+-- What a damage that was found shows.
+use Rattle.std.proofs.Common.{◌≢◌, ℕ, List, Result, refl, sym, subst, ◌∙◌, Option, arith}
+use Rattle.std.specs.Prelude.{IfSome}
+use Rattle.std.specs.List.{AllZip}
+use Rattle.std.proofs.lemmas.Grind.{merely}
+use Rattle.outer_io.specs.declared.file_name.FileName.TheVariants.{Segment}
+use Rattle.outer_io.specs.Files.{Files, bytes_of}
+use Rattle.page_cache.specs.declared.faults.Damage.{Damage}
+use Rattle.page_cache.specs.declared.faults.PageFault.{PageFault}
+use Rattle.page_cache.specs.Evidence.{IsShown, OnDamage}
+use Rattle.page_cache.proofs.Damages.{on_damage_weaker}
+use Rattle.commit_list.specs.declared.listed.Listed.{Listed}
+use Rattle.commit_list.specs.Commits.{CommitData}
+use Rattle.segment_file.specs.Heads.{Head, HasRanges}
+use Rattle.segment_file.specs.Segments.{IsSegment}
+use Rattle.stored_index.specs.Segments.{SegmentData, live_entries}
+use Rattle.stored_index.proofs.Pairwise.{partner_of}
+use Rattle.segment_view.specs.Parts.{part_of}
+use Rattle.number_checks.specs.Crowded.{IsLeastCrowded}
+use Rattle.index_opening.specs.Evidence.{HasNoBody, InCommit, InLive, InSegment, IsEvident, IsHeadIn, IsTrueOf, IsTwice, LacksLeaf}
+use Rattle.folder_check.specs.declared.findings.Finding.{Finding}
+use Rattle.folder_check.specs.Found.{Beyond, Crowding, HasAll, IsBeyondGiven, IsCrowding, IsLacking, IsWrong, Lacking}
+use Rattle.folder_check.proofs.Gathered.{HoldsBut, IsFoundIn, all_held, entries_found}
+use Rattle.folder_check.proofs.Judged.{AreGathered, entries_fit}
+use Rattle.folder_check.proofs.Pairs.{get_in, zip_at, zip_over}
+
+wrong_shows : (P : ℕ → Head → Type 0) (listed : List Listed) (given : ℕ) (findings : List Finding) (d : Damage) → IsWrong listed given findings d → IsShown (LacksLeaf P) HasNoBody d
+wrong_shows P listed given findings d (Lacking l) = subst (IsShown (LacksLeaf P) HasNoBody) (sym l.tells) l.apart
+wrong_shows P listed given findings d (Crowding all (number, tells, least)) = subst (IsShown (LacksLeaf P) HasNoBody) (sym tells) tt
+wrong_shows P listed given findings d (Beyond all none b) =
+    subst (IsShown (LacksLeaf P) HasNoBody) (sym b.tells) (let more = b.more in let apart : given ≢ b.found = omega arith in apart)
+
+module _ (files : Files) (c : CommitData) (held : List SegmentData) (findings : List Finding) (g : AreGathered files c held findings) where
+  lacking_carried : (d : Damage) → IsLacking c.listed findings d → IsTrueOf (IsTwice files) files d
+  lacking_carried d l =
+      let at = zip_at (λ s f. (e : SegmentData) × HoldsBut files c s e × IsFoundIn e f) c.listed findings l.place l.segment l.finding (zip_over (HoldsBut files c) IsFoundIn c.listed held findings g.but g.found) l.listed_there l.found_there in
+      subst (IsTrueOf (IsTwice files) files) (sym l.tells)
+      (InLive c g.says l.segment (get_in c.listed l.place l.segment l.listed_there) at.0 (record { id = at.1.id; segment = at.1.segment; live = at.1.live }) refl (sym at.1.live_count) at.2.found)
+
+  crowding_carried : (d : Damage) → IsCrowding findings d → IsTrueOf (IsTwice files) files d
+  crowding_carried d (number, tells, least) =
+      let at = partner_of IsFoundIn held findings g.found least.finding least.there in
+      let e : SegmentData = at.0 in
+      let part = partner_of (HoldsBut files c) c.listed held g.but e at.1 in
+      let s : Listed = part.0 in
+      let crowded : IsLeastCrowded number (live_entries e) = subst (λ (o : Option ℕ). IfSome o (λ n. IsLeastCrowded n (live_entries e))) least.is at.2.some in
+      subst (IsTrueOf (IsTwice files) files) (sym tells)
+      (InSegment c g.says s part.1 (part_of e.head e.live) part.2.id part.2.live (record {
+        items = e.entries;
+        held = subst (λ id. IsSegment c.dims (bytes_of (files (Segment id))) e.head e.entries) (sym part.2.id) part.2.segment;
+        crowded = crowded.crowded;
+      }))
+
+  beyond_carried : AllZip HasAll c.listed findings → (d : Damage) → IsBeyondGiven c.given findings d → IsTrueOf (IsTwice files) files d
+  beyond_carried all d b =
+      subst (IsTrueOf (IsTwice files) files) (sym b.tells)
+      (InCommit c g.says held (all_held files c c.listed held findings g.but g.found all) refl refl (b.is (entries_fit files c held findings g) ∙ entries_found held findings g.found))
+
+  wrong_carried : (d : Damage) → IsWrong c.listed c.given findings d → IsTrueOf (IsTwice files) files d
+  wrong_carried d (Lacking l) = lacking_carried d l
+  wrong_carried d (Crowding all crowd) = crowding_carried d crowd
+  wrong_carried d (Beyond all none b) = beyond_carried all d b
+
+wrong_evident : (T : Type 0) (files : Files) (c : CommitData) (findings : List Finding) (d : Damage) → (T → (held : List SegmentData) × AreGathered files c held findings) → IsWrong c.listed c.given findings d → IsEvident T files d
+wrong_evident T files c findings d know wrong = record {
+  shows = merely (wrong_shows HasRanges c.listed c.given findings d wrong);
+  of_files = λ t. let (held, g) = know t in record {
+    shows = merely (wrong_shows (IsHeadIn files) c.listed c.given findings d wrong);
+    carries = merely (wrong_carried files c held findings g d wrong);
+  };
+}
+
+pub on_wrong_evident : {X : Type 0} (T : Type 0) (files : Files) (c : CommitData) (findings : List Finding) (r : Result X PageFault) → (T → (held : List SegmentData) × AreGathered files c held findings)
+    → OnDamage r (IsWrong c.listed c.given findings) → OnDamage r (IsEvident T files)
+on_wrong_evident T files c findings r know = on_damage_weaker r (IsWrong c.listed c.given findings) (IsEvident T files) (λ d h. wrong_evident T files c findings d know h)

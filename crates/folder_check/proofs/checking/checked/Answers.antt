@@ -1,0 +1,66 @@
+-- What is told is so.
+use Rattle.std.proofs.Common.{◌∙◌, List, ap, refl, sym, subst, inr}
+use Rattle.std.specs.List.{sum_by}
+use Rattle.std.proofs.lemmas.Result.{err_from_is_err_and}
+use Rattle.outer_io.specs.declared.file_name.FileName.TheVariants.{Commit}
+use Rattle.outer_io.specs.Files.{Files, bytes_of}
+use Rattle.commit_list.specs.declared.listed.Listed.{Listed}
+use Rattle.commit_list.specs.CommitFiles.{IsCommitFile}
+use Rattle.stored_index.specs.Stored.{HoldsIndex}
+use Rattle.index_opening.proofs.Listed.{undefined_fault}
+use Rattle.folder_check.specs.Checked.{ok_text}
+use Rattle.folder_check.proofs.Counted.{documents_counted}
+use Rattle.folder_check.proofs.Whole.{commit_undefined, live_fits, pages_all, pages_read, read_at}
+use Rattle.folder_check.proofs.checking.checked.Goals as goal
+
+pub returns-in_err-commit-clause-reads : goal.returns-in_err-commit-clause-reads
+returns-in_err-commit-clause-reads g c = λ told pages checking.
+    pages_read (g.F.Pages.files c.args.folder.now) pages (g.F.Pages.reads c.args.folder.now) (g.F.Pages.reads c.read_commit.new.folder) (g.F.Pages.reads c.read_commit.new.folder)
+    (c.in_err-commit.ensures.unread told) (c.in_err-commit.ensures.most told) refl checking
+
+pub returns-in_err-commit-clause-undefined : goal.returns-in_err-commit-clause-undefined
+returns-in_err-commit-clause-undefined g c = λ told.
+    let files = g.F.Pages.files c.args.folder.now in
+    let e = err_from_is_err_and c.from_residual.result c.from_residual.ensures.1 in
+    rw (e.1, e.2)
+    (undefined_fault files c.in_err-commit.field-0.0 (commit_undefined files c.in_err-commit.field-0.0 (c.in_err-commit.ensures.absent told) (c.in_err-commit.ensures.whole told)))
+
+pub returns-in_err-check_commit-clause-reads : goal.returns-in_err-check_commit-clause-reads
+returns-in_err-check_commit-clause-reads g c = λ told pages checking.
+    pages_all (g.F.Pages.files c.args.folder.now) c.in-Some.commit pages (g.F.Pages.reads c.args.folder.now) (g.F.Pages.reads c.read_commit.new.folder) (g.F.Pages.reads c.check_commit.new.folder)
+    (rw c.in-Some.is at (c.in_ok-commit.ensures.found told)) (c.in_ok-commit.ensures.most told)
+    (read_at (g.F.Pages.files c.args.folder.now) (g.F.Pages.files c.read_commit.new.folder) c.in-Some.commit (g.F.Pages.reads c.read_commit.new.folder) (g.F.Pages.reads c.check_commit.new.folder) (c.in_ok-commit.ensures.files told) (c.in_err-check_commit.ensures.reads told))
+    checking
+
+pub returns-in_err-ok_line-clause-reads : goal.returns-in_err-ok_line-clause-reads
+returns-in_err-ok_line-clause-reads g c = λ told pages checking.
+    pages_all (g.F.Pages.files c.args.folder.now) c.in-Some.commit pages (g.F.Pages.reads c.args.folder.now) (g.F.Pages.reads c.read_commit.new.folder) (g.F.Pages.reads c.check_commit.new.folder)
+    (rw c.in-Some.is at (c.in_ok-commit.ensures.found told)) (c.in_ok-commit.ensures.most told)
+    (read_at (g.F.Pages.files c.args.folder.now) (g.F.Pages.files c.read_commit.new.folder) c.in-Some.commit (g.F.Pages.reads c.read_commit.new.folder) (g.F.Pages.reads c.check_commit.new.folder) (c.in_ok-commit.ensures.files told) (c.in_ok-check_commit.ensures.reads told))
+    checking
+
+pub returns-clause-reads : goal.returns-clause-reads
+returns-clause-reads g c = λ told pages checking.
+    pages_all (g.F.Pages.files c.args.folder.now) c.in-Some.commit pages (g.F.Pages.reads c.args.folder.now) (g.F.Pages.reads c.read_commit.new.folder) (g.F.Pages.reads c.check_commit.new.folder)
+    (rw c.in-Some.is at (c.in_ok-commit.ensures.found told)) (c.in_ok-commit.ensures.most told)
+    (read_at (g.F.Pages.files c.args.folder.now) (g.F.Pages.files c.read_commit.new.folder) c.in-Some.commit (g.F.Pages.reads c.read_commit.new.folder) (g.F.Pages.reads c.check_commit.new.folder) (c.in_ok-commit.ensures.files told) (c.in_ok-check_commit.ensures.reads told))
+    checking
+
+pub live_documents-requires : goal.live_documents-requires
+live_documents-requires g c = live_fits c.in-Some.commit c.listed.result.now c.listed.ensures.commit c.listed.ensures.value
+
+pub returns-clause-tells : goal.returns-clause-tells
+returns-clause-tells g c = λ told.
+    let files = g.F.Pages.files c.args.folder.now in
+    let commit = c.in-Some.commit in
+    let same = c.in_ok-commit.ensures.files told in
+    let says : IsCommitFile (bytes_of (files Commit)) commit = rw c.in-Some.is at (c.in_ok-commit.ensures.found told) in
+    let held = c.in_ok-check_commit.ensures.holds told (subst (λ (f : Files). IsCommitFile (bytes_of (f Commit)) commit) (sym same) says) in
+    let holds : HoldsIndex files commit held.0 = subst (λ (f : Files). HoldsIndex f commit held.0) same held.1 in
+    inr (record {
+      commit = commit;
+      docs = held.0;
+      holds = holds;
+      told = c.in_ok-ok_line.ensures
+          ∙ ap (ok_text commit) (c.live_documents.ensures ∙ ap (λ (ss : List Listed). sum_by (λ (s : Listed). s.live) ss) c.listed.ensures.value ∙ sym (documents_counted files commit held.0 holds));
+    })

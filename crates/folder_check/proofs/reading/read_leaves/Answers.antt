@@ -1,0 +1,81 @@
+use Rattle.std.proofs.Common.{◌∙◌, ap, length, sym, subst, arith}
+use Rattle.std.proofs.lemmas.List.{length_push}
+use Rattle.std.proofs.lemmas.List.Elements.{All-contains}
+use Rattle.std.proofs.lemmas.Result.{err_from_is_err_and}
+use Rattle.outer_io.specs.Files.{Files}
+use Rattle.page_cache.specs.Cache.{Agrees}
+use Rattle.segment_file.specs.Damages.{IsLeafDamageOf}
+use Rattle.page_cache.specs.Evidence.{FaultShows}
+use Rattle.segment_view.specs.Held.{HasOwnHead}
+use Rattle.segment_view.specs.Parts.{part_of}
+use Rattle.segment_view.proofs.Living.{part_in}
+use Rattle.segment_view.proofs.Stepwise.{leaves_more, leaves_upto}
+use Rattle.folder_check.specs.Found.{HasSegment, IsFinding}
+use Rattle.folder_check.proofs.Leaves.{fault_of_part, found_more}
+use Rattle.folder_check.proofs.reading.read_leaves.Goals as goal
+
+pub loop-i-preserved : goal.loop-i-preserved
+loop-i-preserved g c =
+    let was = c.loop-i.invariant in
+    let one = c.in_ok-finding.ensures in
+    let parts = c.args.segments.now in
+    let p = part_of c.part.result.0.now c.part.result.1.now in
+    let files = g.F.Pages.files c.args.folder.now in
+    record {
+      files = λ told. one.files told ∙ was.files told;
+      agrees = λ told. subst (λ (f : Files). Agrees f c.read_segment.new.cache) (was.files told) (one.agrees told (subst (λ (f : Files). Agrees f c.loop-i.cache) (sym (was.files told)) (was.agrees told)));
+      faults = one.cause.fine ∙ was.faults;
+      reads =
+          let step = leaves_more parts c.loop-i.i p c.part.ensures in
+          let before = was.reads in
+          let here = one.reads in
+          omega (arith, step, before, here);
+      each = let is = ap length c.in_ok-extend_from_slice.ensures.items in let more = length_push c.loop-i.findings.items c.in_ok-finding.finding in let was_long = was.each in omega (arith, is, more, was_long);
+      found = λ told own.
+          found_more g.row.D files parts c.loop-i.i p c.loop-i.findings.items _ c.in_ok-finding.finding c.part.ensures c.in_ok-extend_from_slice.ensures.items
+          (subst (λ (f : Files). IsFinding g.row.D f p c.in_ok-finding.finding) (was.files told)
+          (one.found told (subst (λ (f : Files). Agrees f c.loop-i.cache) (sym (was.files told)) (was.agrees told))
+          (subst (λ (f : Files). HasOwnHead g.row.D f p) (sym (was.files told)) (All-contains (HasOwnHead g.row.D files) parts p own (part_in parts c.loop-i.i p c.part.ensures)))))
+          (was.found told own);
+    }
+
+pub returns-in_err-finding-clause-files : goal.returns-in_err-finding-clause-files
+returns-in_err-finding-clause-files g c = λ told. c.in_err-finding.ensures.files told ∙ c.loop-i.invariant.files told
+
+pub returns-in_err-finding-clause-reads : goal.returns-in_err-finding-clause-reads
+returns-in_err-finding-clause-reads g c =
+    let most = leaves_upto c.args.segments.now c.loop-i.i (part_of c.part.result.0.now c.part.result.1.now) c.part.ensures in
+    let before = c.loop-i.invariant.reads in
+    let here = c.in_err-finding.ensures.reads in
+    omega (arith, most, before, here)
+
+pub returns-in_err-finding-clause-shown : goal.returns-in_err-finding-clause-shown
+returns-in_err-finding-clause-shown g c =
+    let e = err_from_is_err_and c.from_residual-in_err-finding.result c.from_residual-in_err-finding.ensures.1 in
+    let p = part_of c.part.result.0.now c.part.result.1.now in
+    rw (e.1, e.2) (fault_of_part g.row.D c.args.segments.now p c.in_err-finding.field-0.0 (part_in c.args.segments.now c.loop-i.i p c.part.ensures) c.in_err-finding.ensures.shown)
+
+pub returns-in_err-finding-clause-damage : goal.returns-in_err-finding-clause-damage
+returns-in_err-finding-clause-damage g c = λ told.
+    let e = err_from_is_err_and c.from_residual-in_err-finding.result c.from_residual-in_err-finding.ensures.1 in
+    let same = c.loop-i.invariant.files told in
+    rw (e.1, e.2)
+    (subst (λ (f : Files). FaultShows (IsLeafDamageOf f) c.in_err-finding.field-0.0) same
+    (c.in_err-finding.ensures.damage told (subst (λ (f : Files). Agrees f c.loop-i.cache) (sym same) (c.loop-i.invariant.agrees told))))
+
+pub returns-in_err-finding-clause-whole : goal.returns-in_err-finding-clause-whole
+returns-in_err-finding-clause-whole g c = λ told have.
+    let e = err_from_is_err_and c.from_residual-in_err-finding.result c.from_residual-in_err-finding.ensures.1 in
+    let same = c.loop-i.invariant.files told in
+    let p = part_of c.part.result.0.now c.part.result.1.now in
+    rw (e.1, e.2)
+    (c.in_err-finding.ensures.whole told (subst (λ (f : Files). Agrees f c.loop-i.cache) (sym same) (c.loop-i.invariant.agrees told))
+    (subst (λ (f : Files). HasSegment g.row.D f p) (sym same)
+    (All-contains (HasSegment g.row.D (g.F.Pages.files c.args.folder.now)) c.args.segments.now p have (part_in c.args.segments.now c.loop-i.i p c.part.ensures))))
+
+pub returns-in_err-extend_from_slice-clause-reads : goal.returns-in_err-extend_from_slice-clause-reads
+returns-in_err-extend_from_slice-clause-reads g c =
+    let most = leaves_upto c.args.segments.now c.loop-i.i (part_of c.part.result.0.now c.part.result.1.now) c.part.ensures in
+    let before = c.loop-i.invariant.reads in
+    let here = c.in_ok-finding.ensures.reads in
+    omega (arith, most, before, here)

@@ -1,0 +1,120 @@
+//! The check of a folder.
+
+ghost use Rattle.std.specs.Prelude.{◌≡◌, ◌≤◌, ◌<◌, ◌+◌, ◌^◌, ◌++◌, ℕ, List, sum_by, IsTrue, IfOk, OnOk, OnErr};
+ghost use Rattle.outer_io.specs.Files.{bytes_of};
+ghost use Rattle.outer_io.specs.declared.file_name.FileName.TheVariants.{Commit as CommitName};
+ghost use Rattle.live_bits.specs.LiveSet.{LiveSet};
+ghost use Rattle.documents.specs.Documents.{Document};
+ghost use Rattle.page_cache.specs.Causes.{HasPageCause};
+ghost use Rattle.page_cache.specs.Evidence.{OnDamage, NotDamaged};
+ghost use Rattle.commit_list.specs.CommitFiles.{IsCommitFile};
+ghost use Rattle.segment_file.specs.Heads.{Head};
+ghost use Rattle.index_model.specs.State.{State};
+ghost use Rattle.stored_index.specs.Opening.{segments_pages};
+ghost use Rattle.stored_index.specs.Stored.{HaveHeads, HaveLive, HoldsIndex, IsStored, IsUndefined};
+ghost use Rattle.segment_view.specs.Costs.{leaves_in};
+ghost use Rattle.index_opening.specs.Evidence.{IsEvident};
+ghost use Rattle.folder_check.specs.Checked.{IsChecked, IsChecking};
+
+use crate::findings::judge;
+use crate::reading::read_leaves;
+use crate::texts::{none_line, ok_line};
+use commit_list::{Commit, Listed, read_commit};
+use index_opening::open_index;
+use outer_io::Folder;
+use page_cache::PageFault;
+use segment_file::one_segment;
+use std::alloc::Global;
+
+/// Reads every page of each file that the Commit file lists, and appends `no index` or how large the index is, a line of
+/// `ok dims D leaf B next N live L segments S`. So it ends exactly where the folder stores a state; where it stores none, it answers
+/// the first damage of these: of the Commit file; of the segments in order of id, each one's head and index, and then its live bits;
+/// of the live numbers, the least one that isn't below the next number or is live in two segments; of the leaves of the segments in
+/// order; a segment with a live number that has no entry; the least live number that has one point twice, or more than 16; more live
+/// points than were given.
+///
+/// Of one segment at a time the live entries are in memory. No file changes.
+pub fn check<F: Folder>(alloc: Global, folder: &mut F, text: &mut Vec<u8>) -> Result<(), PageFault>
+    ensures tells { IsTrue F.told → OnOk result ((told : List ℕ) × IsChecked (F.files folder.old) told × (text.new.items ≡ text.old.items ++ told)) }
+    ensures kept { OnErr result (text.new.items ≡ text.old.items) }
+    ensures files { IsTrue F.told → F.files folder.new ≡ F.files folder.old }
+    ensures reads { IsTrue F.told → (pages : ℕ) → IsChecking (F.files folder.old) pages → F.reads folder.new ≤ F.reads folder.old + pages }
+    ensures cause { HasPageCause (F.faults folder.old) (F.faults folder.new) result }
+    // a damage is answered where no state is stored, and there alone
+    ensures undefined { IsTrue F.told → OnDamage result (λ _. IsUndefined (F.files folder.old)) }
+    ensures whole { IsTrue F.told → (state : State) → IsStored (F.files folder.old) state → NotDamaged result }
+    ensures evident { OnDamage result (IsEvident (IsTrue F.told) (F.files folder.old)) }
+{
+    let line = checked(alloc, folder)?;
+    text.extend_from_slice(line.as_slice())?;
+    Ok(())
+}
+
+/// The line that is told of the folder.
+fn checked<F: Folder>(alloc: Global, folder: &mut F) -> Result<Vec<u8>, PageFault>
+    ensures tells { IsTrue F.told → IfOk result (λ v. IsChecked (F.files folder.old) v.items) }
+    ensures files { IsTrue F.told → F.files folder.new ≡ F.files folder.old }
+    ensures reads { IsTrue F.told → (pages : ℕ) → IsChecking (F.files folder.old) pages → F.reads folder.new ≤ F.reads folder.old + pages }
+    ensures cause { HasPageCause (F.faults folder.old) (F.faults folder.new) result }
+    ensures undefined { IsTrue F.told → OnDamage result (λ _. IsUndefined (F.files folder.old)) }
+    ensures evident { OnDamage result (IsEvident (IsTrue F.told) (F.files folder.old)) }
+{
+    let Some(commit) = read_commit(alloc, folder)? else {
+        return Ok(none_line(alloc)?);
+    };
+    check_commit(alloc, folder, &commit)?;
+    Ok(ok_line(alloc, &commit, live_documents(commit.listed()))?)
+}
+
+/// Looks at what a commit lists, in as many dimensions as it has.
+fn check_commit<F: Folder>(alloc: Global, folder: &mut F, c: &Commit) -> Result<(), PageFault>
+    ensures holds { IsTrue F.told → IsCommitFile (bytes_of (F.files folder.old CommitName)) c.now → OnOk result ((docs : List Document) × HoldsIndex (F.files folder.old) c.now docs) }
+    ensures files { IsTrue F.told → F.files folder.new ≡ F.files folder.old }
+    ensures reads { IsTrue F.told → (heads : List Head) (sets : List LiveSet) → HaveHeads (F.files folder.old) c.now heads → HaveLive (F.files folder.old) c.now sets
+        → F.reads folder.new ≤ F.reads folder.old + segments_pages (F.files folder.old) c.now.listed heads + leaves_in heads }
+    ensures cause { HasPageCause (F.faults folder.old) (F.faults folder.new) result }
+    ensures undefined { IsTrue F.told → IsCommitFile (bytes_of (F.files folder.old CommitName)) c.now → OnDamage result (λ _. IsUndefined (F.files folder.old)) }
+    ensures evident { OnDamage result (IsEvident (IsTrue F.told × IsCommitFile (bytes_of (F.files folder.old CommitName)) c.now) (F.files folder.old)) }
+{
+    match c.dims() {
+        1 => check_index::<1, F>(alloc, folder, c),
+        2 => check_index::<2, F>(alloc, folder, c),
+        3 => check_index::<3, F>(alloc, folder, c),
+        4 => check_index::<4, F>(alloc, folder, c),
+        5 => check_index::<5, F>(alloc, folder, c),
+        6 => check_index::<6, F>(alloc, folder, c),
+        7 => check_index::<7, F>(alloc, folder, c),
+        _ => check_index::<8, F>(alloc, folder, c),
+    }
+}
+
+/// Looks at the segments that a commit of `D` dimensions lists: opens them all, then reads the leaves of all, and then looks through
+/// what was found.
+fn check_index<const D: usize, F: Folder>(
+    alloc: Global,
+    folder: &mut F,
+    c: &Commit,
+) -> Result<(), PageFault>
+    requires { c.now.dims ≡ D }
+    ensures holds { IsTrue F.told → IsCommitFile (bytes_of (F.files folder.old CommitName)) c.now → OnOk result ((docs : List Document) × HoldsIndex (F.files folder.old) c.now docs) }
+    ensures files { IsTrue F.told → F.files folder.new ≡ F.files folder.old }
+    ensures reads { IsTrue F.told → (heads : List Head) (sets : List LiveSet) → HaveHeads (F.files folder.old) c.now heads → HaveLive (F.files folder.old) c.now sets
+        → F.reads folder.new ≤ F.reads folder.old + segments_pages (F.files folder.old) c.now.listed heads + leaves_in heads }
+    ensures cause { HasPageCause (F.faults folder.old) (F.faults folder.new) result }
+    ensures undefined { IsTrue F.told → IsCommitFile (bytes_of (F.files folder.old CommitName)) c.now → OnDamage result (λ _. IsUndefined (F.files folder.old)) }
+    ensures evident { OnDamage result (IsEvident (IsTrue F.told × IsCommitFile (bytes_of (F.files folder.old CommitName)) c.now) (F.files folder.old)) }
+{
+    let segments = open_index::<D, F>(alloc, folder, c)?;
+    let findings = read_leaves(alloc, folder, &segments)?;
+    // the entries of a file are one list
+    one_segment();
+    judge(c.listed(), c.given(), findings.as_slice())
+}
+
+/// How many documents are live, by what the commit says of its segments.
+fn live_documents(listed: &[Listed]) -> u64
+    requires { sum_by (λ s. s.live) listed.now < 2 ^ 64 }
+    ensures { result ≡ sum_by (λ s. s.live) listed.now }
+{
+    listed.iter().map(|s| u64::from(s.live)).sum()
+}

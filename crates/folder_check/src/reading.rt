@@ -1,0 +1,79 @@
+//! The leaves of all segments, read one segment after the other.
+
+ghost use Rattle.std.specs.Prelude.{◌≡◌, ◌≤◌, ◌+◌, length, IsTrue, IfOk, All};
+ghost use Rattle.std.specs.List.{AllZip};
+ghost use Rattle.point_codec.specs.Seen.{items_of};
+ghost use Rattle.page_cache.specs.Cache.{Agrees};
+ghost use Rattle.page_cache.specs.Causes.{HasPageCause};
+ghost use Rattle.page_cache.specs.Evidence.{OnDamage, NotDamaged};
+ghost use Rattle.segment_file.specs.Damages.{IsLeafDamageOf};
+ghost use Rattle.segment_view.specs.Parts.{heads_of, part_of};
+ghost use Rattle.segment_view.specs.Held.{HasOwnHead};
+ghost use Rattle.segment_view.specs.Costs.{leaves_in};
+ghost use Rattle.segment_view.specs.Damages.{IsPartDamage, IsReadDamage};
+ghost use Rattle.folder_check.specs.Found.{HasSegment, IsFinding};
+
+use crate::findings::Finding;
+use live_bits::LiveBits;
+use number_checks::{doubled, live_with_entries};
+use outer_io::Pages;
+use page_cache::{PageCache, PageFault};
+use segment_file::{SegmentHead, read_entries};
+use segment_view::Segments;
+use std::alloc::Global;
+
+/// What the leaves of each segment have. All leaves are read, those of segments without a live number too. Of one segment at a time
+/// the live entries are in memory.
+pub(crate) fn read_leaves<const D: usize, F: Pages>(
+    alloc: Global,
+    folder: &mut F,
+    segments: &Segments<D>,
+) -> Result<Vec<Finding>, PageFault>
+    ensures found { IsTrue F.told → All (HasOwnHead D (F.files folder.old)) segments.now
+        → IfOk result (λ v. AllZip (IsFinding D (F.files folder.old)) segments.now v.items) }
+    ensures each { IfOk result (λ v. length v.items ≡ length segments.now) }
+    ensures files { IsTrue F.told → F.files folder.new ≡ F.files folder.old }
+    ensures reads { F.reads folder.new ≤ F.reads folder.old + leaves_in (heads_of segments.now) }
+    ensures cause { HasPageCause (F.faults folder.old) (F.faults folder.new) result }
+    ensures shown { OnDamage result (IsPartDamage D segments.now) }
+    ensures damage { IsTrue F.told → OnDamage result (IsLeafDamageOf (F.files folder.old)) }
+    ensures whole { IsTrue F.told → All (HasSegment D (F.files folder.old)) segments.now → NotDamaged result }
+{
+    let mut cache = PageCache::new(alloc, 1)?;
+    let mut findings = Vec::new(alloc);
+    for i in 0..segments.len() {
+        let (head, live) = segments.part(i);
+        let finding = read_segment(alloc, folder, &mut cache, head, live)?;
+        findings.extend_from_slice(&[finding])?;
+    }
+    Ok(findings)
+}
+
+/// What the leaves of a segment have.
+fn read_segment<const D: usize, F: Pages>(
+    alloc: Global,
+    folder: &mut F,
+    cache: &mut PageCache,
+    head: &SegmentHead<D>,
+    live: &LiveBits,
+) -> Result<Finding, PageFault>
+    ensures found { IsTrue F.told → Agrees (F.files folder.old) cache.old → HasOwnHead D (F.files folder.old) (part_of head.now live.now)
+        → IfOk result (IsFinding D (F.files folder.old) (part_of head.now live.now)) }
+    ensures files { IsTrue F.told → F.files folder.new ≡ F.files folder.old }
+    ensures agrees { IsTrue F.told → Agrees (F.files folder.old) cache.old → Agrees (F.files folder.old) cache.new }
+    ensures reads { F.reads folder.new ≤ F.reads folder.old + head.now.index.leaves }
+    ensures cause { HasPageCause (F.faults folder.old) (F.faults folder.new) result }
+    ensures shown { OnDamage result (IsReadDamage D head.now) }
+    ensures damage { IsTrue F.told → Agrees (F.files folder.old) cache.old → OnDamage result (IsLeafDamageOf (F.files folder.old)) }
+    ensures whole { IsTrue F.told → Agrees (F.files folder.old) cache.old → HasSegment D (F.files folder.old) (part_of head.now live.now) → NotDamaged result }
+{
+    head.index().is_spelled();
+    let entries = read_entries(alloc, folder, cache, head, live)?;
+    let found = live_with_entries(alloc, live, entries.as_slice())?;
+    let crowded = doubled(alloc, entries.as_slice())?;
+    Ok(Finding {
+        found,
+        crowded,
+        entries: entries.len() as u64,
+    })
+}
