@@ -1,10 +1,12 @@
 #!/usr/bin/env python3
 """Times the program bkd from outside, which has to be built (rt run in crates/bkd), and prints ratios of one run.
 
-usage: bench/program.py add | lines | open | load | memory | sqlite | lucene | limits | all [COUNT]
+usage: bench/program.py add | lines | tree | open | load | memory | sqlite | lucene | limits | all [COUNT]
 
 add      a script adds COUNT documents (a million where it is left out) of two dimensions, and merges them
 lines    small boxes and queries for the ten nearest over those documents, on pages that are kept, a line
+tree     the same queries, and boxes that hold 10 to 100,000 documents, beside a plain k-d tree in flat arrays (bench/tree.rs, which wants
+         rustc): the same lines in, the same text out, which is compared
 open     a run without a line over them
 load     the same points loaded from a CSV file, for several levels of forks
 memory   what loading takes at most beside its input
@@ -162,6 +164,39 @@ def lines(data):
     print("  the %d nearest          %7.2f us" % (NEAREST, each_line(data, data.near_lines) * 1e6))
 
 
+def box_of(data, wanted):
+    """Half the width of the boxes that hold so many documents in the middle."""
+    return max(1, round(200_001 * (wanted / data.count) ** 0.5 / 2))
+
+
+def tree(data):
+    """Each kind of query: what a line takes here and in the plain tree, in one run, as the difference of three rounds and one."""
+    plain, points = data.path("plain"), write(data.path("plain_points"), ["%d %d" % p for p in data.points])
+    subprocess.run(["rustc", "-O", "-o", plain, os.path.join(HERE, "tree.rs")], check=True)
+    folder = data.merged()
+    print("tree: over %d documents in one segment, pages kept, beside a plain tree; a line, its answer written" % data.count)
+
+    def lines_of(count, rounds, ask):
+        return write(data.path("tree_lines_%d" % rounds), [ask(x, y) for x, y in data.centres[:count]] * rounds)
+
+    def each(words, count, ask):
+        spent = [best(lambda: Run(words, lines_of(count, rounds, ask)), 3).processor for rounds in (1, 3)]
+        return (spent[1] - spent[0]) / (2 * count)
+
+    def boxes(half):
+        return lambda x, y: "box %d %d %d %d" % (x - half, y - half, x + half, y + half)
+
+    kinds = [("the %d nearest  " % NEAREST, QUERIES, lambda x, y: "nearest %d %d %d" % (NEAREST, x, y))]
+    for wanted in (10, 1_000, 100_000):
+        kinds.append(("a box of %6d" % wanted, max(50, min(QUERIES, 2_000_000 // wanted)), boxes(box_of(data, wanted))))
+    ours, theirs = [PROGRAM, folder, "run", "--cache", "65536"], [plain, points]
+    for name, count, ask in kinds:
+        asked = lines_of(min(count, COMPARED), 1, ask)
+        compare(Run(ours, asked, True).done().text, Run(theirs, asked, True).done().text)
+        mine, least = each(ours, count, ask), each(theirs, count, ask)
+        print("  %s: bkd %9.2f us, the tree %9.2f us, ratio %5.2f" % (name, mine * 1e6, least * 1e6, mine / least))
+
+
 def opening(data):
     folder = data.merged()
     none = best(lambda: bkd(data.empty("none"), "run"), 20)
@@ -305,7 +340,7 @@ def limits(data):
                 sys.exit("wanted status %d and an empty folder" % status)
 
 
-KINDS = {"add": add, "lines": lines, "open": opening, "load": load, "memory": memory, "sqlite": sqlite, "lucene": lucene, "limits": limits}
+KINDS = {"add": add, "lines": lines, "tree": tree, "open": opening, "load": load, "memory": memory, "sqlite": sqlite, "lucene": lucene, "limits": limits}
 
 
 if __name__ == "__main__":

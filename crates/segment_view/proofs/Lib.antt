@@ -7,3 +7,4 @@ pub mod Shown
 pub mod Counting
 pub mod Stepwise
 pub mod Hits
+pub mod Marked

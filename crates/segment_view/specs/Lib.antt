@@ -4,3 +4,4 @@ pub mod Costs
 pub mod Found
 pub mod Calm
 pub mod Damages
+pub mod Marks

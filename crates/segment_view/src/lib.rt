@@ -8,6 +8,7 @@
 mod gathering;
 mod laws;
 mod nearby;
+mod ordering;
 mod pairs;
 mod segments;
 mod surveys;

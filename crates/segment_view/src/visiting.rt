@@ -14,6 +14,7 @@ ghost use Rattle.segment_view.specs.Found.{AreFound};
 ghost use Rattle.segment_view.specs.Calm.{IsCalm};
 ghost use Rattle.segment_view.specs.Damages.{IsPartDamage, IsReadDamage};
 
+use crate::ordering::ascending;
 use crate::segments::Segments;
 use bkd_reader::intersect;
 use cell_relate::Shape;
@@ -56,9 +57,7 @@ pub fn visit<const D: usize, S: Shape<D>, F: Pages>(
     let mut hits = Vec::new(alloc);
     visit_segments(alloc, segments, cache, folder, shape, &mut hits)?;
     visit_buffer(buffer, shape, &mut hits)?;
-    hits.sort_unstable();
-    hits.dedup();
-    Ok(hits)
+    Ok(ascending(alloc, hits)?)
 }
 
 /// Appends the numbers of the live entries of the segments that the shape has.

@@ -1,18 +1,10 @@
-use Rattle.std.proofs.Common.{◌++◌, ℕ, List, eqb, ap, sym, subst, ◌∙◌}
-use Rattle.std.specs.List.Sorted.{IsStrictlyIncreasing}
-use Rattle.std.proofs.lemmas.List.Filters.{dedup_is}
-use Rattle.std.proofs.lemmas.Map.Keys.{IsStrictlyIncreasing-dedup}
+use Rattle.std.proofs.Common.{◌++◌, ℕ, List, ap, sym, ◌∙◌}
 use Rattle.point_codec.specs.Seen.{items_of}
 use Rattle.documents.specs.Entries.{numbers_found}
 use Rattle.documents.proofs.HitNumbers.{found_append}
 use Rattle.segment_view.specs.Parts.{live_in_parts}
-use Rattle.segment_view.specs.Found.{AreFound}
-use Rattle.segment_view.proofs.Hits.{sorted_found}
+use Rattle.segment_view.proofs.Hits.{ordered_found}
 use Rattle.segment_view.proofs.visiting.visit.Goals as goal
-
-pub returns-clause-rises : goal.returns-clause-rises
-returns-clause-rises g c =
-    subst IsStrictlyIncreasing (sym (dedup_is eqb c.sort_unstable.new.self.items c.dedup.new.self.items c.dedup.ensures.filtered)) (IsStrictlyIncreasing-dedup c.sort_unstable.new.self.items c.sort_unstable.ensures.sorted)
 
 pub returns-clause-found : goal.returns-clause-found
 returns-clause-found g c = λ told agrees es read.
@@ -24,5 +16,4 @@ returns-clause-found g c = λ told agrees es read.
     ∙ ap (λ (ns : List ℕ). ns ++ numbers_found (g.S.Shape.has c.visit_segments.new.shape) buffer) first
     ∙ ap (λ k. numbers_found has segments ++ numbers_found k buffer) c.in_ok-visit_segments.ensures.has
     ∙ sym (found_append has segments buffer) in
-    subst (AreFound has (segments ++ buffer)) (sym (dedup_is eqb c.sort_unstable.new.self.items c.dedup.new.self.items c.dedup.ensures.filtered))
-    (sorted_found has (segments ++ buffer) c.visit_buffer.new.hits.items c.sort_unstable.new.self.items hits c.sort_unstable.ensures.permutation c.sort_unstable.ensures.sorted)
+    ordered_found has (segments ++ buffer) c.visit_buffer.new.hits.items c.in_ok-ascending.field-0.items hits c.in_ok-ascending.ensures.rises c.in_ok-ascending.ensures.each
