@@ -21,3 +21,5 @@ mod rows;
 mod runs;
 #[cfg(test)]
 mod scripts;
+#[cfg(test)]
+mod sessions;

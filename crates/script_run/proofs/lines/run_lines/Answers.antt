@@ -10,13 +10,13 @@ use Rattle.script_run.proofs.Starting.{leads_none}
 use Rattle.script_run.proofs.lines.run_lines.Goals as goal
 
 pub returns-in-Ok-clause-does : goal.returns-in-Ok-clause-does
-returns-in-Ok-clause-does g c = λ told. new_reader _ c.in-Ok.reader _ _ c.in-Ok.ensures (c.run_read.ensures.does told)
+returns-in-Ok-clause-does g c = λ told. new_reader _ c.in-Ok.reader (g.S.Source.left c.args.input.now) _ c.in-Ok.ensures (c.run_read.ensures.does told)
 
 pub returns-in-Ok-clause-read : goal.returns-in-Ok-clause-read
-returns-in-Ok-clause-read g c = λ source. c.run_read.ensures.read source (new_knows c.in-Ok.reader _ c.in-Ok.ensures)
+returns-in-Ok-clause-read g c = λ source. c.run_read.ensures.read source (new_knows c.in-Ok.reader (g.S.Source.left c.args.input.now) c.in-Ok.ensures)
 
 pub returns-in-Ok-clause-undone : goal.returns-in-Ok-clause-undone
-returns-in-Ok-clause-undone g c = λ told. new_reader _ c.in-Ok.reader _ _ c.in-Ok.ensures (c.run_read.ensures.undone told)
+returns-in-Ok-clause-undone g c = λ told. new_reader _ c.in-Ok.reader (g.S.Source.left c.args.input.now) _ c.in-Ok.ensures (c.run_read.ensures.undone told)
 
 pub returns-in-Err-clause-does : goal.returns-in-Err-clause-does
 returns-in-Err-clause-does g c = λ told. (

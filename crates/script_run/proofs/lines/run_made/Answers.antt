@@ -8,7 +8,7 @@ use Rattle.script_run.specs.Costs.{asks_commit}
 use Rattle.script_run.proofs.Calling.{stop_after, stop_kept}
 use Rattle.script_run.proofs.Ending.{cause_from, rose_from}
 use Rattle.script_run.proofs.Going.{refused_more, at_most_one}
-use Rattle.script_run.proofs.Halting.{halted_no_source, memory_cause, no_source, on_halted}
+use Rattle.script_run.proofs.Halting.{halted_no_source, memory_cause, no_source, halted_cause, halted_ends, halted_keeps, halted_shows}
 use Rattle.script_run.proofs.Lined.{cause_to}
 use Rattle.script_run.proofs.Passing.{on_ok}
 use Rattle.script_run.proofs.Reading.{closes_halted, going_ends, going_first, going_halts, going_on, going_stops, going_wants, none_read, of_all, of_left, of_line, one_read, quiet_first, quiet_on, reads_alike}
@@ -97,7 +97,7 @@ returns-in-Ok-false-clause-does g c =
       let going = so_far.1 told i stored h [] in
       let ends = going_ends _ g.row.D _ _ i stored _ _ _ _ _ _ _ going _ c.finish.result c.halted.result (c.finish.ensures.ends told going.goes.index going.goes.stored going.goes.stands)
       (closes_halted g.row.D going.goes.index _ _ c.finish.result c.halted.result c.halted.ensures (c.finish.ensures.closes told going.goes.index going.goes.stored going.goes.stands)) in
-      (on_halted _ _ c.finish.result c.halted.result c.halted.ensures ends.0, ends.1))
+      (halted_ends _ _ _ _ c.finish.result c.halted.result c.halted.ensures ends.0, ends.1))
 
 pub returns-in-Ok-false-clause-read : goal.returns-in-Ok-false-clause-read
 returns-in-Ok-false-clause-read g c =
@@ -106,7 +106,7 @@ returns-in-Ok-false-clause-read g c =
 
 pub returns-in-Ok-false-clause-cause : goal.returns-in-Ok-false-clause-cause
 returns-in-Ok-false-clause-cause g c =
-    on_halted _ _ c.finish.result c.halted.result c.halted.ensures (cause_from _ _ _ _ _ _ c.finish.result c.lines.invariant.folder_later c.lines.invariant.sink_later (c.finish.ensures.cause _))
+    halted_cause _ _ _ _ c.finish.result c.halted.result c.halted.ensures (cause_from _ _ _ _ _ _ c.finish.result c.lines.invariant.folder_later c.lines.invariant.sink_later (c.finish.ensures.cause _))
 
 pub returns-in-Ok-false-clause-source : goal.returns-in-Ok-false-clause-source
 returns-in-Ok-false-clause-source g c =
@@ -116,12 +116,12 @@ pub returns-in-Ok-false-clause-undone : goal.returns-in-Ok-false-clause-undone
 returns-in-Ok-false-clause-undone g c =
     let so_far = c.lines.invariant.so_far in
     λ told. of_all _ _ _ c.lines.reader _ so_far.0 _ c.next_line.new.self _ (rw c.in-Ok-false.field-0-is at c.in-Ok-false.ensures.gives) (λ h quiet.
-      on_halted _ _ c.finish.result c.halted.result c.halted.ensures
+      halted_keeps (g.F.Pages.files c.args.folder.now) (g.F.Pages.files c.finish.new.folder) c.finish.result c.halted.result c.halted.ensures
       (stop_after _ _ _ c.finish.result ((so_far.2 told h).kept [] quiet).0 (c.finish.ensures.undone told (c.lines.invariant.trusts told h))))
 
 pub returns-in-Ok-false-clause-evident : goal.returns-in-Ok-false-clause-evident
 returns-in-Ok-false-clause-evident g c =
-    on_halted _ _ c.finish.result c.halted.result c.halted.ensures
+    halted_shows _ c.finish.result c.halted.result c.halted.ensures
     (stop_less (IsTrue g.F.Pages.told × Trusts g.row.D (g.F.Pages.files c.lines.folder) c.lines.session) (IsTrue g.F.Pages.told × Trusts g.row.D (g.F.Pages.files c.args.folder.now) c.args.session.now)
     (g.F.Pages.files c.finish.new.folder) c.finish.result (λ p. (p.0, c.lines.invariant.trusts p.0 p.1)) c.finish.ensures.evident)
 
