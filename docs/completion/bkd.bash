@@ -9,7 +9,7 @@ _bkd() {
         return
     fi
     if [ "$COMP_CWORD" -eq 2 ]; then
-        mapfile -t COMPREPLY < <(compgen -W 'run load explain check generate' -- "$word")
+        mapfile -t COMPREPLY < <(compgen -W 'run load explain check generate session' -- "$word")
         return
     fi
     case $before in
@@ -17,7 +17,7 @@ _bkd() {
         --cache | --docs | --seed | --columns) return ;;
     esac
     case ${COMP_WORDS[2]} in
-        run) options='--cache --forks' ;;
+        run | session) options='--cache --forks' ;;
         load) options='--columns --forks' ;;
         explain) options='--cache' ;;
         generate) options='--docs --seed --forks' ;;

@@ -4,14 +4,14 @@ use Rattle.std.proofs.lemmas.Bool.{false≢true}
 use Rattle.outer_io.specs.Files.{Files}
 use Rattle.script_lang.specs.Lines.{lines_of}
 use Rattle.stored_index.specs.Stored.{IsStored}
-use Rattle.command_words.specs.Commands.{Asked, Run, Load, Explain, Check, Generate, said}
+use Rattle.command_words.specs.Commands.{Asked, Run, Load, Explain, Check, Generate, Session, said}
 use Rattle.command_words.specs.declared.Words.{Words}
 use Rattle.drawn_points.specs.Generated.{generated}
 use Rattle.explain_queries.specs.Explained.{IsScope, Scope, silence}
 use Rattle.load_points.specs.Loaded.{loaded}
-use Rattle.bkd_top.specs.Commands.{Before, EndsAsked, EndsExplain, EndsWhole, Rests}
+use Rattle.bkd_top.specs.Commands.{Before, EndsAsked, EndsExplain, EndsWhole, Rests, reads_input, reads_whole}
 use Rattle.script_run.specs.Progress.{start}
-use Rattle.script_run.specs.Runs.{Ends}
+use Rattle.script_run.specs.Runs.{Ends, EndsSession}
 use Rattle.run_status.specs.Causes.{Counts, HasCauses, NoneRose}
 use Rattle.run_status.specs.Ends.{IsAnswer, IsDamaged}
 use Rattle.run_status.specs.declared.status.Status.{Status}
@@ -45,6 +45,7 @@ no_memory_ends told (Explain cache) b files new keeps still =
     λ scope is. record { done = []; rest = lines_of b.input; whole = refl; of_done = silence; tells = refl; text = λ t. still t ∙ sym (append-nil b.written) }
 no_memory_ends told Check b files new keeps still = record { text = still; stored = keeps }
 no_memory_ends told (Generate docs seed forks) b files new keeps still = record { text = still; stored = inl keeps }
+no_memory_ends told (Session cache forks) b files new keeps still = stops_here {told = told} (start b.state (lines_of b.input) b.written) files new still (inl keeps)
 
 -- what passes a test of what is asked does not fail it
 pub is_so : {P : Type 0} (test : Asked → Bool) (w : Words) (a : Asked) → said w ≡ a → test a ≡ true → test (said w) ≡ false → P
@@ -52,6 +53,15 @@ is_so test w a is so not_so = absurd (false≢true (sym not_so ∙ ap test is �
 
 pub not_so : {P : Type 0} (test : Asked → Bool) (w : Words) (a : Asked) → said w ≡ a → test a ≡ false → test (said w) ≡ true → P
 not_so test w a is not so = absurd (false≢true (sym not ∙ ap test (sym is) ∙ so))
+
+-- what reads the whole input reads the input
+pub whole_reads : (a : Asked) → reads_whole a ≡ true → reads_input a ≡ true
+whole_reads (Run cache forks) e = refl
+whole_reads (Load columns forks) e = refl
+whole_reads (Explain cache) e = refl
+whole_reads Check e = e
+whole_reads (Generate docs seed forks) e = e
+whole_reads (Session cache forks) e = refl
 
 -- each command ends as its own definition says
 module _ (told : Type 0) (w : Words) (b : Before) (files : Files) (new : List ℕ) (s : Status) where
@@ -69,3 +79,6 @@ module _ (told : Type 0) (w : Words) (b : Before) (files : Files) (new : List �
 
   pub generate_ends : (docs seed forks : ℕ) → said w ≡ Generate docs seed forks → EndsWhole told b (generated b.state docs seed) files new s → EndsAsked told (said w) b files new s
   generate_ends docs seed forks is ends = subst (λ (a : Asked). EndsAsked told a b files new s) (sym is) ends
+
+  pub session_asked : (cache forks : ℕ) → said w ≡ Session cache forks → EndsSession told (start b.state (lines_of b.input) b.written) files new s → EndsAsked told (said w) b files new s
+  session_asked cache forks is ends = subst (λ (a : Asked). EndsAsked told a b files new s) (sym is) ends

@@ -8,12 +8,12 @@ use Rattle.index_model.specs.State.{State}
 use Rattle.index_model.specs.Script.{Answer}
 use Rattle.stored_index.specs.Stored.{IsStored}
 use Rattle.stored_index.specs.Opening.{IsOpening, segments_pages}
-use Rattle.command_words.specs.Commands.{Asked, Run, Load, Explain, Check, Generate}
+use Rattle.command_words.specs.Commands.{Asked, Run, Load, Explain, Check, Generate, Session}
 use Rattle.load_points.specs.Loaded.{loaded}
 use Rattle.drawn_points.specs.Generated.{generated}
 use Rattle.explain_queries.specs.Explained.{Scope, IsScope, Told, TellsLine, TellsLines}
 use Rattle.script_run.specs.Progress.{start}
-use Rattle.script_run.specs.Runs.{Ends}
+use Rattle.script_run.specs.Runs.{Ends, EndsSession}
 use Rattle.run_status.specs.declared.status.Status.{Status}
 use Rattle.run_status.specs.declared.status.Status.TheVariants as status
 use Rattle.run_status.specs.declared.stop.Stop.{Stop}
@@ -34,11 +34,23 @@ reads_input (Load columns forks) = true
 reads_input (Explain cache) = true
 reads_input Check = false
 reads_input (Generate docs seed forks) = false
+reads_input (Session cache forks) = true
+
+-- its lines are done as they come, and no input is too large
+abbrev pub is_session : Asked → Bool
+is_session (Session cache forks) = true
+is_session _ = false
+
+-- the whole input is read first
+abbrev pub reads_whole : Asked → Bool
+reads_whole (Session cache forks) = false
+reads_whole asked = reads_input asked
 
 -- a script is run
-abbrev pub is_run : Asked → Bool
-is_run (Run cache forks) = true
-is_run _ = false
+abbrev pub is_script : Asked → Bool
+is_script (Run cache forks) = true
+is_script (Session cache forks) = true
+is_script _ = false
 
 abbrev pub is_explain : Asked → Bool
 is_explain (Explain cache) = true
@@ -192,3 +204,4 @@ EndsAsked told (Load columns forks) b files new s = EndsWhole told b (loaded b.s
 EndsAsked told (Explain cache) b files new s = (scope : Scope) → IsScope b.files scope → EndsExplain told scope (lines_of b.input) b.written new s
 EndsAsked told Check b files new s = Rests told b files new
 EndsAsked told (Generate docs seed forks) b files new s = EndsWhole told b (generated b.state docs seed) files new s
+EndsAsked told (Session cache forks) b files new s = EndsSession told (start b.state (lines_of b.input) b.written) files new s

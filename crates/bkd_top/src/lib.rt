@@ -6,6 +6,6 @@ mod program;
 mod whole;
 
 pub use explain::run_explain;
-pub use program::{run, run_script};
+pub use program::{run, run_script, run_session};
 pub use run_status::{MAX_INPUT, Memory, Status, code, status_line};
 pub use whole::{run_generate, run_load};

@@ -7,23 +7,24 @@ ghost use Rattle.index_model.specs.State.{State};
 ghost use Rattle.stored_index.specs.Stored.{IsStored};
 ghost use Rattle.script_run.specs.Progress.{start};
 ghost use Rattle.run_status.specs.Ends.{DoesNothing};
-ghost use Rattle.script_run.specs.Runs.{Ends};
+ghost use Rattle.script_run.specs.Runs.{Ends, EndsSession};
 ghost use Rattle.command_words.specs.Commands.{Asked, IsWithin, asked, said};
 ghost use Rattle.index_core.specs.Whole.{HasNewCanonical};
 ghost use Rattle.run_status.specs.Causes.{HasCauses, NoneRose, ReadsInput};
 ghost use Rattle.bkd_top.specs.Calls.{ExplainCosts, TellsDamage, TellsUsage, WholeLeaves};
 ghost use Rattle.script_run.specs.Kept.{RunCosts};
 ghost use Rattle.run_status.specs.Ends.{IsAnswer};
-ghost use Rattle.bkd_top.specs.Commands.{EndsAsked, does, is_explain, is_run, is_served, is_whole, reads_input};
+ghost use Rattle.bkd_top.specs.Commands.{EndsAsked, does, is_explain, is_script, is_served, is_session, is_whole, reads_input, reads_whole};
 
 use crate::explain::run_explain;
 use crate::whole::{run_generate, run_load};
 use bkd_build::Gate;
 use command_words::{Words, WordsFault, read_words};
 use index_core::Settings;
+use line_source::HeldBytes;
 use outer_io::{Folder, ReadAll, Sink, Source, read_all};
-use run_status::{MAX_INPUT, Status, status_of};
-use script_run::{Work, run_lines};
+use run_status::{MAX_INPUT, Status};
+use script_run::{Work, run_lines, status_of_lines};
 use std::alloc::Global;
 use std::marker::Sync;
 use std::thread::Threads;
@@ -36,6 +37,7 @@ use std::thread::Threads;
 /// | `load` | reads a CSV file, adds all its points, commits, and says how many |
 /// | `explain` | reads queries, and says of each how much of the stored segments it tests and touches, and how much it finds |
 /// | `generate` | makes an index of drawn documents, commits, and says what drawn queries find in it |
+/// | `session` | does the lines of a script as `run` does, each as soon as it has come, before the input is asked for more |
 ///
 /// **The headline.** On a folder that stores an index, or none, what `run` writes is, line for line, what a scan of the live documents
 /// answers to the script's adds, deletes and queries, whatever flushes, merges, snapshots and reopenings stand between, and the folder
@@ -57,15 +59,17 @@ pub fn run<S: Source, F: Folder, K: Sink, R: Threads + Sync, G: Gate>(
         (F.files folder.new) (K.written out.new) result }
     // where no call failed, a command over a folder that stores a state is done, or memory was wanting
     ensures complete { IsTrue F.told → (state : State) → IsStored (F.files folder.old) state → is_served (asked (map string_bytes words.now)) ≡ true
-        → (does (λ a. reads_input a) (asked (map string_bytes words.now)) ≡ true → IsTrue S.told × (length (S.left input.old) ≤ 2 ^ 29))
+        → (does (λ a. reads_input a) (asked (map string_bytes words.now)) ≡ true → IsTrue S.told)
+        → (does (λ a. reads_whole a) (asked (map string_bytes words.now)) ≡ true → length (S.left input.old) ≤ 2 ^ 29)
         → NoneRose (record { source = S.faults input.old; folder = F.faults folder.old; sink = K.faults out.old })
         (record { source = S.faults input.new; folder = F.faults folder.new; sink = K.faults out.new }) → IsAnswer result ⊎ (result ≡ Status.Memory) }
-    ensures input { IsTrue S.told → does (λ a. reads_input a) (asked (map string_bytes words.now)) ≡ true → ReadsInput (S.left input.old) (S.left input.new) result }
+    ensures input { IsTrue S.told → does (λ a. reads_whole a) (asked (map string_bytes words.now)) ≡ true → ReadsInput (S.left input.old) (S.left input.new) result }
+    ensures lines { IsTrue S.told → does (λ a. is_session a) (asked (map string_bytes words.now)) ≡ true → IsAnswer result → S.left input.new ≡ [] }
     ensures unread { does (λ a. reads_input a) (asked (map string_bytes words.now)) ≡ false → input.new ≡ input.old }
-    ensures untouched { DoesNothing result → (folder.new ≡ folder.old) × (out.new ≡ out.old) }
+    ensures untouched { does (λ a. is_session a) (asked (map string_bytes words.now)) ≡ false → DoesNothing result → (folder.new ≡ folder.old) × (out.new ≡ out.old) }
     // each segment that the commit lists anew is canonical
     ensures canon { IsTrue F.told → (state : State) → IsStored (F.files folder.old) state → IsAnswer result → HasNewCanonical (F.files folder.old) (F.files folder.new) }
-    ensures costs { IsTrue S.told → IsTrue F.told → does (λ a. is_run a) (asked (map string_bytes words.now)) ≡ true
+    ensures costs { IsTrue S.told → IsTrue F.told → does (λ a. is_script a) (asked (map string_bytes words.now)) ≡ true
         → RunCosts (lines_of (S.left input.old)) (F.files folder.old) (F.files folder.new) (F.reads folder.old) (F.reads folder.new) result }
     ensures explains { IsTrue F.told → does (λ a. is_explain a) (asked (map string_bytes words.now)) ≡ true
         → ExplainCosts (IsTrue S.told) (lines_of (S.left input.old)) (F.files folder.old) (F.files folder.new) (F.reads folder.old) (F.reads folder.new) }
@@ -98,12 +102,13 @@ fn run_command<S: Source, F: Folder, K: Sink, R: Threads + Sync, G: Gate>(
     ensures ends { IsTrue F.told → (state : State) → IsStored (F.files folder.old) state → (reads_input (said words) ≡ true → IsTrue S.told)
         → EndsAsked (IsTrue K.told) (said words) (record { state = state; files = F.files folder.old; input = S.left input.old; written = K.written out.old })
         (F.files folder.new) (K.written out.new) result }
-    ensures input { IsTrue S.told → reads_input (said words) ≡ true → ReadsInput (S.left input.old) (S.left input.new) result }
+    ensures input { IsTrue S.told → reads_whole (said words) ≡ true → ReadsInput (S.left input.old) (S.left input.new) result }
+    ensures lines { IsTrue S.told → is_session (said words) ≡ true → IsAnswer result → S.left input.new ≡ [] }
     ensures unread { reads_input (said words) ≡ false → input.new ≡ input.old }
-    ensures large { result ≡ Status.TooLarge → reads_input (said words) ≡ true }
-    ensures untouched { DoesNothing result → (folder.new ≡ folder.old) × (out.new ≡ out.old) }
+    ensures large { result ≡ Status.TooLarge → reads_whole (said words) ≡ true }
+    ensures untouched { is_session (said words) ≡ false → DoesNothing result → (folder.new ≡ folder.old) × (out.new ≡ out.old) }
     ensures canon { IsTrue F.told → (state : State) → IsStored (F.files folder.old) state → IsAnswer result → HasNewCanonical (F.files folder.old) (F.files folder.new) }
-    ensures costs { IsTrue S.told → IsTrue F.told → is_run (said words) ≡ true
+    ensures costs { IsTrue S.told → IsTrue F.told → is_script (said words) ≡ true
         → RunCosts (lines_of (S.left input.old)) (F.files folder.old) (F.files folder.new) (F.reads folder.old) (F.reads folder.new) result }
     ensures explains { IsTrue F.told → is_explain (said words) ≡ true
         → ExplainCosts (IsTrue S.told) (lines_of (S.left input.old)) (F.files folder.old) (F.files folder.new) (F.reads folder.old) (F.reads folder.new) }
@@ -134,6 +139,10 @@ fn run_command<S: Source, F: Folder, K: Sink, R: Threads + Sync, G: Gate>(
         Words::Check => Status::Usage,
         Words::Generate { docs, seed, forks } => {
             run_generate(rt, alloc, docs, seed, forks, folder, out, gate)
+        }
+        Words::Session { cache_pages, forks } => {
+            let settings = Settings { cache_pages, forks };
+            run_session(rt, alloc, settings, input, folder, out, gate)
         }
     }
 }
@@ -188,11 +197,37 @@ fn run_text<F: Folder, K: Sink, R: Threads + Sync, G: Gate>(
     ensures folder_fault { result ≡ Status.FolderFault → Rose (F.faults folder.old) (F.faults folder.new) }
     ensures sink_fault { result ≡ Status.SinkFault → Rose (K.faults out.old) (K.faults out.new) }
 {
+    let mut script = HeldBytes { left: script };
+    run_session(rt, alloc, settings, &mut script, folder, out, gate)
+}
+
+/// The command `session`: does the lines of a script as `run` does, each as soon as it has come. The whole answer to a line is written before
+/// the input is asked for more. There is no limit on the whole input; a line is held as far as 4,194,306 bytes.
+pub fn run_session<S: Source, F: Folder, K: Sink, R: Threads + Sync, G: Gate>(
+    rt: &R,
+    alloc: Global,
+    settings: Settings,
+    input: &mut S,
+    folder: &mut F,
+    out: &mut K,
+    gate: &G,
+) -> Status
+    ensures never { (result ≡ Status.Usage) ⊎ (result ≡ Status.TooLarge) → ⊥ }
+    ensures ends { IsTrue S.told → IsTrue F.told → (state : State) → IsStored (F.files folder.old) state
+        → EndsSession (IsTrue K.told) (start state (lines_of (S.left input.old)) (K.written out.old)) (F.files folder.new) (K.written out.new) result }
+    ensures lines { IsTrue S.told → IsAnswer result → S.left input.new ≡ [] }
+    ensures canon { IsTrue F.told → (state : State) → IsStored (F.files folder.old) state → IsAnswer result → HasNewCanonical (F.files folder.old) (F.files folder.new) }
+    ensures costs { IsTrue S.told → IsTrue F.told
+        → RunCosts (lines_of (S.left input.old)) (F.files folder.old) (F.files folder.new) (F.reads folder.old) (F.reads folder.new) result }
+    ensures damage { TellsDamage (IsTrue F.told) (F.files folder.old) (F.files folder.new) result }
+    ensures causes { HasCauses (record { source = S.faults input.old; folder = F.faults folder.old; sink = K.faults out.old })
+        (record { source = S.faults input.new; folder = F.faults folder.new; sink = K.faults out.new }) result }
+{
     let work = Work {
         rt,
         alloc,
         settings,
         gate,
     };
-    status_of(run_lines(&work, script, folder, out))
+    status_of_lines(run_lines(&work, input, folder, out))
 }

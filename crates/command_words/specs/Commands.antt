@@ -15,6 +15,7 @@ pub data Asked : Type 0 where
   Explain : (cache : ℕ) → Asked
   Check : Asked
   Generate : (docs seed forks : ℕ) → Asked
+  Session : (cache forks : ℕ) → Asked
 
 -- ---- the options
 
@@ -117,8 +118,15 @@ generate = record {
   asks = λ found. option_and_then (λ n. option_map (λ s. Generate n s (forks_by found)) (number_by seed found)) (number_by docs found);
 }
 
+abbrev pub session : Form
+session = record {
+  name = codes "session";
+  options = cache ∷ forks ∷ [];
+  asks = λ found. Some (Session (cache_by found) (forks_by found));
+}
+
 abbrev pub forms : List Form
-forms = run ∷ load ∷ explain ∷ check ∷ generate ∷ []
+forms = run ∷ load ∷ explain ∷ check ∷ generate ∷ session ∷ []
 
 -- ---- the words
 
@@ -153,6 +161,7 @@ said (words.Load columns forks) = Load columns.items forks
 said (words.Explain cache_pages) = Explain cache_pages
 said words.Check = Check
 said (words.Generate docs seed forks) = Generate docs seed forks
+said (words.Session cache_pages forks) = Session cache_pages forks
 
 -- ---- the ranges
 
@@ -166,3 +175,4 @@ IsWithin (words.Load columns forks) = AreColumns columns.items × (forks ≤ 6)
 IsWithin (words.Explain cache_pages) = (1 ≤ cache_pages) × (cache_pages ≤ 65536)
 IsWithin words.Check = Unit {0}
 IsWithin (words.Generate docs seed forks) = (1 ≤ docs) × (docs ≤ 1000000) × (1 ≤ seed) × (seed ≤ 2147483646) × (forks ≤ 6)
+IsWithin (words.Session cache_pages forks) = (1 ≤ cache_pages) × (cache_pages ≤ 65536) × (forks ≤ 6)

@@ -9,7 +9,7 @@ ghost use Rattle.std.specs.Prelude.{◌≡◌, Some, None, IfOk, Err, map, strin
 ghost use Rattle.command_words.specs.Commands.{IsWithin, asked, said};
 
 use byte_cursor::Bytes;
-use reading::{read_check, read_explain, read_generate, read_load, read_run};
+use reading::{read_check, read_explain, read_generate, read_load, read_run, read_session};
 use std::alloc::{AllocError, AllocFailed, Global};
 
 /// A command with what its options say. Every number and list is within the range of its option.
@@ -25,6 +25,8 @@ pub enum Words {
     Check,
     /// Makes an index of 1 to 1,000,000 drawn points, from a seed of 1 to 2,147,483,646.
     Generate { docs: u32, seed: u32, forks: u8 },
+    /// Does the lines of a script as they come, with the options of `Run`.
+    Session { cache_pages: u32, forks: u8 },
 }
 
 /// Why words are no command.
@@ -65,6 +67,7 @@ impl<T: Drop> From<AllocFailed<T>> for WordsFault {
 /// | `FOLDER explain [--cache N]` | cache 1,024 |
 /// | `FOLDER check` | |
 /// | `FOLDER generate --docs N --seed N [--forks N]` | forks 1 |
+/// | `FOLDER session [--cache N] [--forks N]` | cache 1,024; forks 1 |
 pub fn read_words(alloc: Global, words: &[String]) -> Result<Words, WordsFault>
     ensures words { IfOk result (λ w. asked (map string_bytes words.now) ≡ Some (said w)) }
     ensures usage { result ≡ Err WordsFault.Usage → asked (map string_bytes words.now) ≡ None }
@@ -80,6 +83,7 @@ pub fn read_words(alloc: Global, words: &[String]) -> Result<Words, WordsFault>
         "explain" => read_explain(alloc, command),
         "check" => read_check(alloc, command),
         "generate" => read_generate(alloc, command),
+        "session" => read_session(alloc, command),
         _ => Err(WordsFault::Usage),
     }
 }

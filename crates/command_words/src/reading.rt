@@ -2,7 +2,7 @@
 
 ghost use Rattle.std.specs.Prelude.{◌≡◌, ◌≢◌, Some, None, true, IfOk, Err, map, string_bytes};
 ghost use Rattle.clap.specs.Words.{app_of, found_of, kind_of, rows_of};
-ghost use Rattle.command_words.specs.Commands.{IsWithin, asked_by, command_of, said, found_by, run, load, explain, check, generate};
+ghost use Rattle.command_words.specs.Commands.{IsWithin, asked_by, command_of, said, found_by, run, load, explain, check, generate, session};
 ghost use Rattle.command_words.specs.Found.{AreFound, is_plain};
 
 use crate::options::{CACHE, COLUMNS, DOCS, FORKS, SEED, columns_by, text_option};
@@ -82,6 +82,20 @@ pub(crate) fn read_generate(alloc: Global, words: &[String]) -> Result<Words, Wo
     Ok(Words::Generate { docs, seed, forks })
 }
 
+/// `session [--cache N] [--forks N]`
+pub(crate) fn read_session(alloc: Global, words: &[String]) -> Result<Words, WordsFault>
+    ensures words { IfOk result (λ w. asked_by session (map string_bytes words.now) ≡ Some (said w)) }
+    ensures usage { result ≡ Err WordsFault.Usage → asked_by session (map string_bytes words.now) ≡ None }
+    ensures ranges { IfOk result IsWithin }
+{
+    let command = session_command(alloc)?;
+    let matches = parse(command, words)?;
+    Ok(Words::Session {
+        cache_pages: CACHE.read(&matches).unwrap_or(CACHE_PAGES),
+        forks: FORKS.read(&matches).unwrap_or(FORK_LEVELS) as u8,
+    })
+}
+
 fn run_command<'a>(alloc: Global) -> Result<Command<'a>, AllocError>
     ensures { IfOk result (λ c. app_of c ≡ command_of run) }
 {
@@ -110,6 +124,14 @@ fn generate_command<'a>(alloc: Global) -> Result<Command<'a>, AllocError>
     Command::new(alloc, "generate")
         .arg(DOCS.arg(alloc).required(true))?
         .arg(SEED.arg(alloc).required(true))?
+        .arg(FORKS.arg(alloc))
+}
+
+fn session_command<'a>(alloc: Global) -> Result<Command<'a>, AllocError>
+    ensures { IfOk result (λ c. app_of c ≡ command_of session) }
+{
+    Command::new(alloc, "session")
+        .arg(CACHE.arg(alloc))?
         .arg(FORKS.arg(alloc))
 }
 

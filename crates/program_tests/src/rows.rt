@@ -14,7 +14,7 @@ pub struct Row {
     pub refused: u64,
 }
 
-const ROWS: &[Row] = &[
+pub const ROWS: &[Row] = &[
     // boxes, deletions and lines that are refused
     Row {
         script: "",

@@ -2,7 +2,7 @@
 
 use bkd_build::OpenGate;
 use bkd_top::{Status, run, status_line};
-use outer_io::{MemFolder, MemSink, MemSource};
+use outer_io::{MemFolder, MemSink, MemSource, Source};
 use std::alloc::Global;
 use std::marker::Sync;
 use std::process::Abort;
@@ -25,11 +25,11 @@ pub fn words_of(alloc: Global, words: &[&str]) -> Result<Vec<String>, Fail> {
 }
 
 /// Runs the program with these words.
-pub fn run_words<R: Threads + Sync>(
+pub fn run_words<R: Threads + Sync, S: Source>(
     rt: &R,
     alloc: Global,
     words: &[&str],
-    input: &mut MemSource,
+    input: &mut S,
     folder: &mut MemFolder,
     output: &mut MemSink,
 ) -> Result<Status, Fail> {
@@ -43,6 +43,19 @@ pub fn run_words<R: Threads + Sync>(
         output,
         &OpenGate,
     ))
+}
+
+/// Runs the program with these words over this input.
+pub fn run_from<R: Threads + Sync, S: Source>(
+    rt: &R,
+    alloc: Global,
+    words: &[&str],
+    input: &mut S,
+    folder: &mut MemFolder,
+) -> Result<(Status, MemSink), Fail> {
+    let mut output = MemSink::new(alloc, ROOM, Vec::new(alloc))?;
+    let status = run_words(rt, alloc, words, input, folder, &mut output)?;
+    Ok((status, output))
 }
 
 /// Runs a script where these calls of the input fail, and these of the output.

@@ -56,6 +56,11 @@ pub first_is : (line : ℕ) (bytes : List ℕ) (reading : Reading) → read None
 unfolding answer
 first_is line bytes reading r = ap (answer_of line None) r
 
+-- lines that read alike are answered alike
+pub first_alike : (line : ℕ) (bytes others : List ℕ) → read None bytes ≡ read None others → answer line None bytes ≡ answer line None others
+unfolding answer
+first_alike line bytes others same = ap (answer_of line None) same
+
 -- ---- a line that can't be read
 
 refused_one : (b : Bool) (n : ℕ) → n ≡ 1 → b ≡ true → n ≡ cond b 1 0

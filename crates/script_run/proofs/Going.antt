@@ -6,12 +6,13 @@ use Rattle.outer_io.specs.Parts.{WritesPart}
 use Rattle.page_cache.specs.declared.faults.PageFault.{PageFault}
 use Rattle.page_cache.specs.declared.faults.PageFault.TheVariants as page
 use Rattle.page_cache.specs.Evidence.{FaultShows}
-use Rattle.script_lang.specs.Lines.{lines_of}
 use Rattle.index_model.specs.State.{State}
 use Rattle.index_model.specs.Script.{answer, text_of, state_after, stored_by, stored_after, refused_in, final}
 use Rattle.stored_index.specs.Stored.{IsStored}
 use Rattle.script_run.specs.Progress.{Place, Progress}
-use Rattle.script_run.specs.Runs.{Finishes, InFlight, Stops, Breaks, EndsLines}
+use Rattle.script_run.specs.Runs.{Finishes, InFlight, Stops, Breaks, Halts, EndsLines, EndsRead}
+use Rattle.script_run.specs.declared.halt.Halt.{Halt}
+use Rattle.script_run.specs.declared.halt.Halt.TheVariants as halt
 use Rattle.run_status.specs.Stops.{stop_of}
 use Rattle.run_status.specs.declared.stop.Stop.{Stop}
 use Rattle.run_status.specs.declared.stop.Stop.TheVariants as stop
@@ -116,12 +117,26 @@ module _ {told : Type 0} (a b : Place) (p : Progress told a b) (files : Files) (
         stored = subst (IsStored files) (sym (ap (stored_after a.line a.stored a.state) (append_assoc p.done s.done (s.at ∷ [])) ∙ stored_then a b p (s.done ++ s.at ∷ []))) s.stored;
       }
 
+  pub halts_from : Halts told b files new → Halts told a files new
+  halts_from s = record {
+    done = p.done ++ s.done;
+    rest = s.rest;
+    whole = whole_then a b p s.done s.rest s.whole;
+    text = λ t. s.text t ∙ text_then a b p s.done t;
+    stored = subst (IsStored files) (sym (stored_then a b p s.done)) s.stored;
+  }
+
   pub ends_from : (done : Result ℕ Stop) → EndsLines told b files new done → EndsLines told a files new done
   ends_from (Ok count) h = (finishes_from h.0, h.1 ∙ sym refused_from)
   ends_from (Err stop.FolderFault) h = stops_from h
   ends_from (Err stop.Memory) h = stops_from h
   ends_from (Err stop.SinkFault) h = breaks_from h
   ends_from (Err (stop.Damaged damage)) h = absurd h
+
+  pub read_from : (done : Result ℕ Halt) → EndsRead told b files new done → EndsRead told a files new done
+  read_from (Ok count) h = ends_from (Ok count) h
+  read_from (Err halt.Source) h = halts_from h
+  read_from (Err (halt.Stopped s)) h = ends_from (Err s) h
 
 -- ---- progress
 
@@ -166,6 +181,16 @@ stops_here b files new same stored = record {
   stored = subst (λ n. IsStored files b.stored ⊎ InFlight files n b.state b.rest) (sym (add-zero b.line)) stored;
 }
 
+-- the source fails before another line has come
+pub halts_here : {told : Type 0} (b : Place) (files : Files) (new : List ℕ) → (told → new ≡ b.written) → IsStored files b.stored → Halts told b files new
+halts_here b files new same stored = record {
+  done = [];
+  rest = b.rest;
+  whole = refl;
+  text = λ t. same t ∙ sym (append-nil b.written);
+  stored = stored;
+}
+
 -- a fault that is no damage stops it so
 pub fault_stops : {told : Type 0} (b : Place) (files : Files) (new : List ℕ) (fault : PageFault) → FaultShows (λ _. ⊥) fault → (told → new ≡ b.written)
     → IsStored files b.stored ⊎ InFlight files b.line b.state b.rest → EndsLines told b files new (Err (stop_of fault))
@@ -205,9 +230,3 @@ refused_more n false r m h k = ap (λ x. n + x) (k ∙ sym h)
 pub at_most_one : (b : Bool) (m : ℕ) → m ≡ bool_byte b → m ≤ 1
 at_most_one true m h = omega arith
 at_most_one false m h = omega arith
-
--- a text without bytes has no line
-pub no_lines : (bytes : List ℕ) → length bytes ≡ 0 → lines_of bytes ≡ []
-unfolding lines_of
-no_lines [] h = refl
-no_lines (b ∷ bs) h = absurd (omega arith)

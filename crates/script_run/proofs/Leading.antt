@@ -238,3 +238,23 @@ led_ends D line0 i0 lines start line i rest now led seen new r c = record {
         let l = led.light heads looks empty rested light.asks light.points n touches in
         let same = c.reads (inr (settled now.session.set heads (begins_none D now.files now.session.set i seen l.rested) l.looks light.room)) in
         omega (arith, same, l.fits)
+
+-- no other line has come
+pub led_breaks : {T E : Type 0} (D line0 : ℕ) (i0 : Index) (lines : List (List ℕ)) (start : Spot) (line : ℕ) (i : Index) (rest : List (List ℕ)) (now : Spot) → Led D line0 i0 lines start line i rest now
+    → (e : E) → Leads {T = T} line0 i0 lines start now (Err e)
+led_breaks D line0 i0 lines start line i rest now led e = record {
+  canon = λ listed. tt;
+  levels = λ rested asks. tt;
+  still = λ rested u asks. (led.still rested u asks).2;
+  reads = λ heads looks empty rested which n touches. by_which heads looks empty rested n touches which;
+}
+  where
+    by_which : (heads : List Head) → LooksAt heads start.session.set → start.session.set.buffer ≡ [] → i0.begun ≡ false → (n : ℕ) → TouchesLines heads line0 (Some i0) lines n
+        → (IsUnchanged start.session × AllAsk is_query line0 (Some i0) lines) ⊎ AreLight heads line0 (Some i0) lines → now.reads ≤ start.reads + n
+    by_which heads looks empty rested n touches (inl (u, asks)) =
+        let given = ap given_of (queries_stay line0 (Some i0) lines asks) in
+        let l = led.light heads looks empty rested (all_weaker is_query is_light query_light line0 (Some i0) lines asks) (omega (arith, given)) n touches in
+        omega (arith, l.fits)
+    by_which heads looks empty rested n touches (inr light) =
+        let l = led.light heads looks empty rested light.asks light.points n touches in
+        omega (arith, l.fits)

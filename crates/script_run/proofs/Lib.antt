@@ -11,4 +11,7 @@ pub mod Deciding
 pub mod Passing
 pub mod Leading
 pub mod Starting
+pub mod Halting
+pub mod Reading
 pub mod Shown
+pub mod Statuses

@@ -25,11 +25,12 @@ use Rattle.run_status.specs.Sent.{IsCut, IsSent}
 use Rattle.script_run.specs.Answers.{Answers, IsAnswered, IsEnd, Line, Replies, Stands, answer_to_line, stored_by_line}
 use Rattle.script_run.specs.Progress.{Place, Progress, start}
 use Rattle.run_status.specs.Ends.{HasStopCause}
-use Rattle.script_run.specs.Runs.{EndsLines}
+use Rattle.script_run.specs.Runs.{EndsLines, EndsRead, Halts}
+use Rattle.script_run.specs.declared.halt.Halt.{Halt}
 use Rattle.run_status.specs.Stops.{stop_of}
 use Rattle.run_status.specs.declared.stop.Stop.{Stop}
 use Rattle.run_status.specs.declared.stop.Stop.TheVariants as stop
-use Rattle.script_run.proofs.Going.{start_here, one_more, ends_from, stops_here, breaks_here, fault_stops, finishes_here}
+use Rattle.script_run.proofs.Going.{start_here, one_more, ends_from, halts_from, halts_here, read_from, stops_here, breaks_here, fault_stops, finishes_here}
 
 -- a place where an index is there
 abbrev pub place_on : (line refused : ℕ) → Index → (stored : State) → (rest : List (List ℕ)) → (written : List ℕ) → Place
@@ -83,6 +84,16 @@ module _ {told : Type 0} (D : ℕ) (from : Place) (old files : Files) (s t : Ses
       ends_from from (place_on line refused g.index g.stored ls written) g.progress files new (Err e)
       (subst (λ xs. EndsLines told (place_on line refused g.index g.stored xs written) files new (Err e)) (sym next) (line_stops bytes rest e a))
 
+  -- the source fails before another line has come
+  pub halts_at : Halts told from old written
+  halts_at = halts_from from (place_on line refused g.index g.stored ls written) g.progress old written
+      (halts_here (place_on line refused g.index g.stored ls written) old written (λ _. refl) g.stands.keeps)
+
+  -- or memory is wanting
+  pub memory_at : EndsLines told from old written (Err stop.Memory)
+  memory_at = ends_from from (place_on line refused g.index g.stored ls written) g.progress old written (Err stop.Memory)
+      (stops_here (place_on line refused g.index g.stored ls written) old written (λ _. refl) (inl g.stands.keeps))
+
 -- no line is left, and what they leave ends the run
 pub ends_then : {told : Type 0} (D : ℕ) (from : Place) (old : Files) (s : SessionData) (line refused : ℕ) (ls : List (List ℕ)) (written : List ℕ)
     → (g : Goes told D from old s line refused ls written) → ls ≡ [] → (after : Files) (result : Result ℕ Stop)
@@ -134,18 +145,18 @@ origin_keeps files (origin.Stored commit) i stored h = subst (IsStored files) (s
 
 module _ (told : Type 0) (old files after : Files) (written : List ℕ) where
   -- no commit was found
-  pub from_none : (state : State) → files ≡ old → old Commit ≡ None → IsStored old state → (lines : List (List ℕ)) (new : List ℕ) (result : Result ℕ Stop)
-      → (files Commit ≡ None → EndsLines told (start None lines written) after new result) → EndsLines told (start state lines written) after new result
+  pub from_none : (state : State) → files ≡ old → old Commit ≡ None → IsStored old state → (lines : List (List ℕ)) (new : List ℕ) (result : Result ℕ Halt)
+      → (files Commit ≡ None → EndsRead told (start None lines written) after new result) → EndsRead told (start state lines written) after new result
   from_none state same none h lines new result ends =
-      subst (λ s. EndsLines told (start s lines written) after new result) (sym (none_stored old state none h)) (ends (ap (λ (f : Files). f Commit) same ∙ none))
+      subst (λ s. EndsRead told (start s lines written) after new result) (sym (none_stored old state none h)) (ends (ap (λ (f : Files). f Commit) same ∙ none))
 
   -- this one was
-  pub from_some : (commit : CommitData) (state : State) → files ≡ old → IsCommitFile (bytes_of (old Commit)) commit → IsStored old state → (lines : List (List ℕ)) (new : List ℕ) (result : Result ℕ Stop)
-      → ((i : Index) (stored : State) → IsFrom files (origin.Stored commit) i stored → EndsLines told (place_on 1 0 i stored lines written) after new result)
-      → EndsLines told (start state lines written) after new result
+  pub from_some : (commit : CommitData) (state : State) → files ≡ old → IsCommitFile (bytes_of (old Commit)) commit → IsStored old state → (lines : List (List ℕ)) (new : List ℕ) (result : Result ℕ Halt)
+      → ((i : Index) (stored : State) → IsFrom files (origin.Stored commit) i stored → EndsRead told (place_on 1 0 i stored lines written) after new result)
+      → EndsRead told (start state lines written) after new result
   from_some commit state same says h lines new result ends =
       let some = some_stored old commit state says h in
-      subst (λ s. EndsLines told (start s lines written) after new result) (sym some.1)
+      subst (λ s. EndsRead told (start s lines written) after new result) (sym some.1)
       (ends some.0 (Some some.0) (subst (λ (f : Files). IsFrom f (origin.Stored commit) some.0 (Some some.0)) (sym same) (says, some.2, refl)))
 
 -- reading the commit of a folder that stores a state finds no damage
@@ -202,9 +213,9 @@ module _ {told : Type 0} (from : Place) (line refused : ℕ) (ls : List (List �
   -- a line makes an index, and the rest is done on it
   pub made_ends : (bytes : List ℕ) (rest : List (List ℕ)) → ls ≡ bytes ∷ rest → (i : Index) (middle : List ℕ) → (answer line None bytes).state ≡ Some i
       → (answer line None bytes).refused ≡ 0 → (told → middle ≡ written ++ (answer line None bytes).text)
-      → (after : Files) (last : List ℕ) (result : Result ℕ Stop) → EndsLines told (place_on (line + 1) refused i None rest middle) after last result → EndsLines told from after last result
+      → (after : Files) (last : List ℕ) (result : Result ℕ Halt) → EndsRead told (place_on (line + 1) refused i None rest middle) after last result → EndsRead told from after last result
   made_ends bytes rest next i middle state none_refused text after last result h =
-      ends_from from (place_on (line + 1) refused i None rest middle)
+      read_from from (place_on (line + 1) refused i None rest middle)
       (one_more from (place_off line refused ls written) (place_on (line + 1) refused i None rest middle) bytes g next refl state refl
       (sym (ap (λ r. refused + r) none_refused ∙ add-zero refused)) text)
       after last result h
@@ -214,6 +225,15 @@ module _ {told : Type 0} (from : Place) (line refused : ℕ) (ls : List (List �
   finishes_first files none empty =
       ends_from from (place_off line refused ls written) g files written (Ok refused)
       (finishes_here {told = told} (place_off line refused ls written) files written empty (λ _. refl) none)
+
+  -- the source fails before another line has come
+  pub halts_first : (files : Files) → IsStored files None → Halts told from files written
+  halts_first files none = halts_from from (place_off line refused ls written) g files written (halts_here (place_off line refused ls written) files written (λ _. refl) none)
+
+  -- or memory is wanting
+  pub memory_first : (files : Files) → IsStored files None → EndsLines told from files written (Err stop.Memory)
+  memory_first files none =
+      ends_from from (place_off line refused ls written) g files written (Err stop.Memory) (stops_here (place_off line refused ls written) files written (λ _. refl) (inl none))
 
 module _ {told : Type 0} (from : Place) (files : Files) (line refused : ℕ) (ls : List (List ℕ)) (written new : List ℕ)
     (g : Progress told from (place_off line refused ls written)) (none : IsStored files None) where

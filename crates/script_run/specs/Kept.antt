@@ -14,13 +14,16 @@ use Rattle.run_status.specs.declared.stop.Stop.{Stop}
 use Rattle.run_status.specs.declared.stop.Stop.TheVariants as stop
 use Rattle.run_status.specs.declared.status.Status.{Status}
 use Rattle.run_status.specs.declared.status.Status.TheVariants as status
+use Rattle.script_run.specs.declared.halt.Halt.{Halt}
+use Rattle.script_run.specs.Halted.{OnLines}
 use Rattle.script_run.specs.Costs.{AllAsk, NoneCommits, RunReadsFew, begins_no_merge, is_query}
 
--- After a damage all that is kept is the same; after a fault of the folder or for want of memory it is too, or the commit in flight has taken its place.
+-- After a damage or a fault of the source all that is kept is the same; after a fault of the folder or for want of memory it is too, or the commit in flight has taken its place.
 abbrev pub StatusKeeps : Files → Files → Status → Type 0
 StatusKeeps old new status.FolderFault = SameKept old new ⊎ HasCommit new
 StatusKeeps old new status.Memory = SameKept old new ⊎ HasCommit new
 StatusKeeps old new (status.Damaged damage) = SameKept old new
+StatusKeeps old new status.SourceFault = SameKept old new
 StatusKeeps old new _ = Unit {0}
 
 -- the same of lines that stop, of which none asks for a commit
@@ -30,6 +33,10 @@ StopKeeps old new (Err stop.FolderFault) = SameKept old new ⊎ HasCommit new
 StopKeeps old new (Err stop.Memory) = SameKept old new ⊎ HasCommit new
 StopKeeps old new (Err stop.SinkFault) = SameKept old new
 StopKeeps old new (Err (stop.Damaged damage)) = SameKept old new
+
+-- and of lines that come from a source
+abbrev pub HaltKeeps : {T : Type 0} → Files → Files → Result T Halt → Type 0
+HaltKeeps old new result = OnLines (StopKeeps old new) (SameKept old new) result
 
 -- a script that begins no merge leaves few segments of each level; one of queries changes no file; it, or one that needs no segment to be merged, reads little.
 -- One that asks for no commit before its end loses nothing that is kept where it isn't done, whatever the folder of the commit holds

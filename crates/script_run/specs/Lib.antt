@@ -1,5 +1,6 @@
 pub mod Answers
 pub mod Costs
+pub mod Halted
 pub mod Kept
 pub mod Leads
 pub mod Origins

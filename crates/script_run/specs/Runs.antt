@@ -7,7 +7,9 @@ use Rattle.page_cache.specs.declared.faults.Damage.{Damage}
 use Rattle.index_model.specs.State.{State}
 use Rattle.index_model.specs.Script.{answer, text_of, state_after, refused_in, final, commits, stored_after}
 use Rattle.stored_index.specs.Stored.{IsStored}
+use Rattle.script_run.specs.Halted.{OnLines}
 use Rattle.script_run.specs.Progress.{Place}
+use Rattle.script_run.specs.declared.halt.Halt.{Halt}
 use Rattle.run_status.specs.declared.stop.Stop.{Stop}
 use Rattle.run_status.specs.declared.stop.Stop.TheVariants as stop
 use Rattle.run_status.specs.declared.status.Status.{Status}
@@ -41,6 +43,14 @@ pub record Breaks (told : Type 0) (p : Place) (files : Files) (new : List ℕ) :
   pub text : told → WritesPart (p.written ++ text_of p.line p.state done) new (answer (p.line + length done) (state_after p.line p.state done) at).text
   pub stored : IsStored files (stored_after p.line p.stored p.state (done ++ at ∷ []))
 
+-- The source failed: the lines that had come whole were done, and nothing else. No commit was done that none of them asked for.
+pub record Halts (told : Type 0) (p : Place) (files : Files) (new : List ℕ) : Type 0 where
+  pub done : List (List ℕ)
+  pub rest : List (List ℕ)
+  pub whole : p.rest ≡ done ++ rest
+  pub text : told → new ≡ p.written ++ text_of p.line p.state done
+  pub stored : IsStored files (stored_after p.line p.stored p.state done)
+
 -- no line was done
 pub record Waits (told : Type 0) (p : Place) (files : Files) (new : List ℕ) : Type 0 where
   pub text : told → new ≡ p.written
@@ -58,6 +68,18 @@ Ends told p files new status.Usage = Waits told p files new
 Ends told p files new status.SourceFault = Waits told p files new
 Ends told p files new status.TooLarge = Waits told p files new
 
+-- how a session ends whose folder stored a state: as a run does, but for a source that fails, and its input is never too large
+abbrev pub EndsSession : (told : Type 0) → Place → Files → List ℕ → Status → Type 0
+EndsSession told p files new status.Done = Ends told p files new status.Done
+EndsSession told p files new (status.SomeRefused count) = Ends told p files new (status.SomeRefused count)
+EndsSession told p files new status.FolderFault = Stops told p files new
+EndsSession told p files new status.Memory = Stops told p files new
+EndsSession told p files new status.SinkFault = Breaks told p files new
+EndsSession told p files new status.SourceFault = Halts told p files new
+EndsSession told p files new (status.Damaged damage) = ⊥
+EndsSession told p files new status.Usage = ⊥
+EndsSession told p files new status.TooLarge = ⊥
+
 -- the same of lines alone: they are all answered, and so many were refused, or the run stops
 abbrev pub EndsLines : (told : Type 0) → Place → Files → List ℕ → Result ℕ Stop → Type 0
 EndsLines told p files new (Ok count) = Finishes told p files new × (count ≡ p.refused + refused_in p.line p.state p.rest)
@@ -65,3 +87,7 @@ EndsLines told p files new (Err stop.FolderFault) = Stops told p files new
 EndsLines told p files new (Err stop.Memory) = Stops told p files new
 EndsLines told p files new (Err stop.SinkFault) = Breaks told p files new
 EndsLines told p files new (Err (stop.Damaged damage)) = ⊥
+
+-- and of lines that come from a source
+abbrev pub EndsRead : (told : Type 0) → Place → Files → List ℕ → Result ℕ Halt → Type 0
+EndsRead told p files new result = OnLines (EndsLines told p files new) (Halts told p files new) result

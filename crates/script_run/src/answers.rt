@@ -41,7 +41,8 @@ pub enum Opening {
     Made { dims: u8, leaf: u16 },
 }
 
-/// Answers a line where an index is there, and sends the answer. True where the line is refused.
+/// Answers a line where an index is there, and sends the answer. True where the line is refused. Of a line that is too long a part that is
+/// too long too may stand for it: the answer is that of each line that reads as this one.
 pub fn answer_line<const D: usize, R: Threads + Sync, F: Folder, K: Sink, G: Gate>(
     work: &Work<'_, R, G>,
     session: &mut Session<D>,
@@ -54,10 +55,12 @@ pub fn answer_line<const D: usize, R: Threads + Sync, F: Folder, K: Sink, G: Gat
     requires some { 1 ≤ D }
     requires few { D ≤ 8 }
     ensures answers { IsTrue F.told → (i : Index) → (stored : State) → Stands D (F.files folder.old) session.old i stored
-        → Answers (IsTrue K.told) D (record { number = number; index = i; stored = stored; bytes = line.now }) (F.files folder.new) session.new
+        → (bytes : List ℕ) → read (Some D) bytes ≡ read (Some D) line.now
+        → Answers (IsTrue K.told) D (record { number = number; index = i; stored = stored; bytes = bytes }) (F.files folder.new) session.new
         (K.written out.old) (K.written out.new) result }
     ensures passes { IsTrue F.told → (i : Index) → (stored : State) → Stands D (F.files folder.old) session.old i stored
-        → Passes D number i line.now (record { files = F.files folder.old; session = session.old; reads = F.reads folder.old })
+        → (bytes : List ℕ) → read (Some D) bytes ≡ read (Some D) line.now
+        → Passes D number i bytes (record { files = F.files folder.old; session = session.old; reads = F.reads folder.old })
         (record { files = F.files folder.new; session = session.new; reads = F.reads folder.new }) result }
     ensures cause { HasStopCause (F.faults folder.old) (F.faults folder.new) (K.faults out.old) (K.faults out.new) result }
     ensures trusts { IsTrue F.told → Trusts D (F.files folder.old) session.old → Trusts D (F.files folder.new) session.new }
@@ -83,9 +86,11 @@ fn reply_to<const D: usize, R: Threads + Sync, F: Folder, G: Gate>(
     requires some { 1 ≤ D }
     requires few { D ≤ 8 }
     ensures replies { IsTrue F.told → (i : Index) → (stored : State) → Stands D (F.files folder.old) session.old i stored
-        → Replies D (record { number = number; index = i; stored = stored; bytes = line.now }) (F.files folder.new) session.new reply.old.items reply.new.items result }
+        → (bytes : List ℕ) → read (Some D) bytes ≡ read (Some D) line.now
+        → Replies D (record { number = number; index = i; stored = stored; bytes = bytes }) (F.files folder.new) session.new reply.old.items reply.new.items result }
     ensures passes { IsTrue F.told → (i : Index) → (stored : State) → Stands D (F.files folder.old) session.old i stored
-        → Passes D number i line.now (record { files = F.files folder.old; session = session.old; reads = F.reads folder.old })
+        → (bytes : List ℕ) → read (Some D) bytes ≡ read (Some D) line.now
+        → Passes D number i bytes (record { files = F.files folder.old; session = session.old; reads = F.reads folder.old })
         (record { files = F.files folder.new; session = session.new; reads = F.reads folder.new }) result }
     ensures cause { HasPageCause (F.faults folder.old) (F.faults folder.new) result }
     ensures trusts { IsTrue F.told → Trusts D (F.files folder.old) session.old → Trusts D (F.files folder.new) session.new }

@@ -1,9 +1,11 @@
 //! The lines of a script, done one after the other on the index that a folder stores, each answer sent before the next line
-//! is done, with a commit at the end.
+//! is read, with a commit at the end.
 #![tactic(auto)]
 
 mod answers;
+mod halt;
 mod lines;
 mod origin;
 
+pub use halt::{Halt, status_of_lines};
 pub use lines::{Work, run_lines};

@@ -1,6 +1,6 @@
-//! The lines of a script, one after the other.
+//! The lines of a source, one after the other.
 
-ghost use Rattle.std.specs.Prelude.{◌≡◌, ◌≤◌, ◌<◌, ◌+◌, ◌^◌, length, Some, None, IsTrue, ℕ};
+ghost use Rattle.std.specs.Prelude.{◌≡◌, ◌≤◌, Some, None, [], IsTrue, OnOk, ℕ};
 ghost use Rattle.outer_io.specs.declared.file_name.FileName.TheVariants.{Commit as CommitName};
 ghost use Rattle.outer_io.specs.Files.{bytes_of};
 ghost use Rattle.page_cache.specs.Causes.{HasPageCause};
@@ -8,27 +8,30 @@ ghost use Rattle.commit_list.specs.Commits.{CommitData};
 ghost use Rattle.commit_list.specs.CommitFiles.{IsCommitFile};
 ghost use Rattle.index_opening.specs.Evidence.{IsEvident};
 ghost use Rattle.index_core.specs.Sessions.{Trusts};
-ghost use Rattle.script_lang.specs.Lines.{lines_of};
 ghost use Rattle.index_model.specs.State.{Index, State};
+ghost use Rattle.stored_index.specs.Kept.{SameKept};
 ghost use Rattle.stored_index.specs.Stored.{IsStored};
+ghost use Rattle.line_source.specs.Reader.{KnowsEnd};
 ghost use Rattle.script_run.specs.Answers.{IsEnd, Stands};
-ghost use Rattle.script_run.specs.Kept.{StopKeeps};
 ghost use Rattle.script_run.specs.Costs.{NoneCommits};
+ghost use Rattle.script_run.specs.Halted.{HasHaltCause, HasSourceCause, OfLines, OfSource, OnHaltDamage};
+ghost use Rattle.script_run.specs.Kept.{HaltKeeps, StopKeeps};
 ghost use Rattle.script_run.specs.Leads.{Closes, Leads, LeadsAll, LeadsFrom};
 ghost use Rattle.script_run.specs.Origins.{dims_of, IsFrom, IsMade, IsThere};
 ghost use Rattle.script_run.specs.Progress.{start};
+ghost use Rattle.script_run.specs.Runs.{EndsRead};
 ghost use Rattle.run_status.specs.Ends.{HasStopCause, OnStopDamage};
-ghost use Rattle.script_run.specs.Runs.{EndsLines};
 
 use crate::answers::{Opening, answer_first, answer_line};
+use crate::halt::{Halt, halted};
 use crate::origin::{Origin, open};
 use bkd_build::Gate;
 use commit_list::read_commit;
 use index_core::{Session, Settings};
-use outer_io::{Folder, Sink};
+use line_source::{LineReader, ReadFault};
+use outer_io::{Folder, Sink, Source};
 use run_status::{Stop, stopped};
-use script_lang::first_line;
-use std::alloc::Global;
+use std::alloc::{AllocError, Global};
 use std::marker::Sync;
 use std::thread::Threads;
 
@@ -41,208 +44,245 @@ pub struct Work<'a, R, G> {
     pub gate: &'a G,
 }
 
-/// Where a run stands: what is left of the script, the number of the next line, and how many lines were refused.
+/// Where a run stands: the number of the next line, and how many lines were refused.
 #[derive(Clone, Copy)]
-pub struct Script<'a> {
-    pub rest: &'a [u8],
+pub struct Tally {
     pub line: u64,
     pub refused: u64,
 }
 
-/// Does the lines of a script on what the folder stores, and commits at the end. Answers how many lines were refused.
-pub fn run_lines<R: Threads + Sync, F: Folder, K: Sink, G: Gate>(
+/// Does the lines of a source on what the folder stores, and commits at the end. Answers how many lines were refused. Each line is done and
+/// answered as soon as it has come, before the source is asked again.
+pub fn run_lines<S: Source, R: Threads + Sync, F: Folder, K: Sink, G: Gate>(
     work: &Work<'_, R, G>,
-    script: &[u8],
+    input: &mut S,
     folder: &mut F,
     out: &mut K,
-) -> Result<u64, Stop>
-    requires { length script.now ≤ 2 ^ 32 }
-    ensures ends { IsTrue F.told → (state : State) → IsStored (F.files folder.old) state
-        → EndsLines (IsTrue K.told) (start state (lines_of script.now) (K.written out.old)) (F.files folder.new) (K.written out.new) result }
-    ensures leads { IsTrue F.told → (state : State) → IsStored (F.files folder.old) state
-        → LeadsAll state (lines_of script.now) (F.files folder.old) (F.files folder.new) (F.reads folder.old) (F.reads folder.new) result }
-    ensures cause { HasStopCause (F.faults folder.old) (F.faults folder.new) (K.faults out.old) (K.faults out.new) result }
-    ensures undone { IsTrue F.told → (c : CommitData) → IsCommitFile (bytes_of (F.files folder.old CommitName)) c → NoneCommits c.dims (lines_of script.now)
-        → StopKeeps (F.files folder.old) (F.files folder.new) result }
-    ensures evident { OnStopDamage result (IsEvident (IsTrue F.told) (F.files folder.new)) }
+) -> Result<u64, Halt>
+    ensures does { IsTrue F.told → OfSource (IsTrue S.told) (S.left input.old) (λ lines. (state : State) → IsStored (F.files folder.old) state
+        → EndsRead (IsTrue K.told) (start state lines (K.written out.old))
+        (F.files folder.new) (K.written out.new) result
+        × LeadsAll state lines (F.files folder.old) (F.files folder.new) (F.reads folder.old) (F.reads folder.new) result) }
+    ensures read { IsTrue S.told → OnOk result (S.left input.new ≡ []) }
+    ensures cause { HasHaltCause (F.faults folder.old) (F.faults folder.new) (K.faults out.old) (K.faults out.new) result }
+    ensures source { HasSourceCause (S.faults input.old) (S.faults input.new) result }
+    ensures undone { IsTrue F.told → OfSource (IsTrue S.told) (S.left input.old) (λ lines. (c : CommitData) → IsCommitFile (bytes_of (F.files folder.old CommitName)) c → NoneCommits c.dims lines
+        → HaltKeeps (F.files folder.old) (F.files folder.new) result) }
+    ensures evident { OnHaltDamage result (IsEvident (IsTrue F.told) (F.files folder.new)) }
+{
+    match LineReader::new(work.alloc) {
+        Ok(mut reader) => run_read(work, &mut reader, input, folder, out),
+        Err(AllocError) => Err(Halt::Stopped(Stop::Memory)),
+    }
+}
+
+/// Does the lines that a reader has, on what the folder stores.
+fn run_read<S: Source, R: Threads + Sync, F: Folder, K: Sink, G: Gate>(
+    work: &Work<'_, R, G>,
+    reader: &mut LineReader,
+    input: &mut S,
+    folder: &mut F,
+    out: &mut K,
+) -> Result<u64, Halt>
+    ensures does { IsTrue F.told → OfLines (IsTrue S.told) reader.old (S.left input.old) (λ lines. (state : State) → IsStored (F.files folder.old) state
+        → EndsRead (IsTrue K.told) (start state lines (K.written out.old))
+        (F.files folder.new) (K.written out.new) result
+        × LeadsAll state lines (F.files folder.old) (F.files folder.new) (F.reads folder.old) (F.reads folder.new) result) }
+    ensures read { IsTrue S.told → KnowsEnd reader.old (S.left input.old) → OnOk result (S.left input.new ≡ []) }
+    ensures cause { HasHaltCause (F.faults folder.old) (F.faults folder.new) (K.faults out.old) (K.faults out.new) result }
+    ensures source { HasSourceCause (S.faults input.old) (S.faults input.new) result }
+    ensures undone { IsTrue F.told → OfLines (IsTrue S.told) reader.old (S.left input.old) (λ lines. (c : CommitData) → IsCommitFile (bytes_of (F.files folder.old CommitName)) c → NoneCommits c.dims lines
+        → HaltKeeps (F.files folder.old) (F.files folder.new) result) }
+    ensures evident { OnHaltDamage result (IsEvident (IsTrue F.told) (F.files folder.new)) }
 {
     match read_commit(work.alloc, folder) {
-        Ok(None) => run_first(work, script, folder, out),
+        Ok(None) => run_first(work, reader, input, folder, out),
         Ok(Some(commit)) => {
-            let script = Script {
-                rest: script,
+            let tally = Tally {
                 line: 1,
                 refused: 0,
             };
-            run_from(work, Origin::Stored(commit), script, folder, out)
+            run_from(work, Origin::Stored(commit), tally, reader, input, folder, out)
         }
-        Err(fault) => stopped(fault),
+        Err(fault) => halted(stopped(fault)),
     }
 }
 
-/// Does the lines of a script on a folder that has no index.
-fn run_first<R: Threads + Sync, F: Folder, K: Sink, G: Gate>(
+/// Does the lines that a reader has, on a folder that has no index.
+fn run_first<S: Source, R: Threads + Sync, F: Folder, K: Sink, G: Gate>(
     work: &Work<'_, R, G>,
-    script: &[u8],
+    reader: &mut LineReader,
+    input: &mut S,
     folder: &mut F,
     out: &mut K,
-) -> Result<u64, Stop>
-    requires { length script.now ≤ 2 ^ 32 }
-    ensures ends { IsTrue F.told → F.files folder.old CommitName ≡ None
-        → EndsLines (IsTrue K.told) (start None (lines_of script.now) (K.written out.old)) (F.files folder.new) (K.written out.new) result }
-    ensures leads { IsTrue F.told → F.files folder.old CommitName ≡ None
-        → LeadsAll None (lines_of script.now) (F.files folder.old) (F.files folder.new) (F.reads folder.old) (F.reads folder.new) result }
-    ensures cause { HasStopCause (F.faults folder.old) (F.faults folder.new) (K.faults out.old) (K.faults out.new) result }
-    ensures evident { OnStopDamage result (IsEvident (IsTrue F.told × (F.files folder.old CommitName ≡ None)) (F.files folder.new)) }
+) -> Result<u64, Halt>
+    ensures does { IsTrue F.told → OfLines (IsTrue S.told) reader.old (S.left input.old) (λ lines. F.files folder.old CommitName ≡ None
+        → EndsRead (IsTrue K.told) (start None lines (K.written out.old))
+        (F.files folder.new) (K.written out.new) result
+        × LeadsAll None lines (F.files folder.old) (F.files folder.new) (F.reads folder.old) (F.reads folder.new) result) }
+    ensures read { IsTrue S.told → KnowsEnd reader.old (S.left input.old) → OnOk result (S.left input.new ≡ []) }
+    ensures cause { HasHaltCause (F.faults folder.old) (F.faults folder.new) (K.faults out.old) (K.faults out.new) result }
+    ensures source { HasSourceCause (S.faults input.old) (S.faults input.new) result }
+    ensures evident { OnHaltDamage result (IsEvident (IsTrue F.told × (F.files folder.old CommitName ≡ None)) (F.files folder.new)) }
 {
     let mut reply = Vec::new(work.alloc);
-    let mut rest = script;
-    let mut line = 1;
+    let mut text = Vec::new(work.alloc);
     let mut refused = 0;
-    'lines: while !rest.is_empty() {
-        let (text, behind) = first_line(rest);
-        rest = behind;
-        match answer_first(line, text, &mut reply, out) {
-            Ok(
-                Opening::Nothing {
-                    refused: is_refused,
-                },
-            ) => refused += u64::from(is_refused),
-            Ok(Opening::Made { dims, leaf }) => {
-                let script = Script {
-                    rest,
-                    line: line + 1,
-                    refused,
-                };
-                return run_from(work, Origin::New { dims, leaf }, script, folder, out);
-            }
-            Err(stop) => return Err(stop),
+    'lines: for line in 1..u64::MAX {
+        match reader.next_line(input, &mut text) {
+            Ok(true) => match answer_first(line, text.as_slice(), &mut reply, out) {
+                Ok(
+                    Opening::Nothing {
+                        refused: is_refused,
+                    },
+                ) => refused += u64::from(is_refused),
+                Ok(Opening::Made { dims, leaf }) => {
+                    let tally = Tally {
+                        line: line + 1,
+                        refused,
+                    };
+                    return run_from(work, Origin::New { dims, leaf }, tally, reader, input, folder, out);
+                }
+                Err(stop) => return Err(Halt::Stopped(stop)),
+            },
+            Ok(false) => return Ok(refused),
+            Err(ReadFault::Failed) => return Err(Halt::Source),
+            Err(ReadFault::Memory) => return Err(Halt::Stopped(Stop::Memory)),
         }
-        line += 1;
     }
-    Ok(refused)
+    // no input has so many lines
+    Err(Halt::Stopped(Stop::Memory))
 }
 
-/// Does the lines that are left on an index, with as many dimensions as it has.
-fn run_from<R: Threads + Sync, F: Folder, K: Sink, G: Gate>(
+/// Does the lines that a reader has, on an index, with as many dimensions as that has.
+fn run_from<S: Source, R: Threads + Sync, F: Folder, K: Sink, G: Gate>(
     work: &Work<'_, R, G>,
     origin: Origin,
-    script: Script<'_>,
+    tally: Tally,
+    reader: &mut LineReader,
+    input: &mut S,
     folder: &mut F,
     out: &mut K,
-) -> Result<u64, Stop>
+) -> Result<u64, Halt>
     requires made { IsMade origin }
-    requires lines { script.line + length script.rest.now < 2 ^ 64 }
-    requires refused { script.refused ≤ script.line }
-    ensures ends { IsTrue F.told → (i : Index) → (stored : State) → IsFrom (F.files folder.old) origin i stored
-        → EndsLines (IsTrue K.told) (record {
-          line = script.entry.line;
-          refused = script.entry.refused;
+    requires refused { tally.refused ≤ tally.line }
+    ensures does { IsTrue F.told → OfLines (IsTrue S.told) reader.old (S.left input.old) (λ lines. (i : Index) → (stored : State) → IsFrom (F.files folder.old) origin i stored
+        → EndsRead (IsTrue K.told) (record {
+          line = tally.line;
+          refused = tally.refused;
           state = Some i;
           stored = stored;
-          rest = lines_of script.entry.rest.now;
+          rest = lines;
           written = K.written out.old;
         })
-        (F.files folder.new) (K.written out.new) result }
-    ensures leads { IsTrue F.told → (i : Index) → (stored : State) → IsFrom (F.files folder.old) origin i stored
-        → LeadsFrom origin i stored script.entry.line (lines_of script.entry.rest.now) (F.files folder.old) (F.files folder.new) (F.reads folder.old) (F.reads folder.new) result }
-    ensures cause { HasStopCause (F.faults folder.old) (F.faults folder.new) (K.faults out.old) (K.faults out.new) result }
-    ensures undone { IsTrue F.told → IsThere (F.files folder.old) origin → NoneCommits (dims_of origin) (lines_of script.entry.rest.now)
-        → StopKeeps (F.files folder.old) (F.files folder.new) result }
-    ensures evident { OnStopDamage result (IsEvident (IsTrue F.told × IsThere (F.files folder.old) origin) (F.files folder.new)) }
+        (F.files folder.new) (K.written out.new) result
+        × LeadsFrom origin i stored tally.line lines (F.files folder.old) (F.files folder.new) (F.reads folder.old) (F.reads folder.new) result) }
+    ensures read { IsTrue S.told → KnowsEnd reader.old (S.left input.old) → OnOk result (S.left input.new ≡ []) }
+    ensures cause { HasHaltCause (F.faults folder.old) (F.faults folder.new) (K.faults out.old) (K.faults out.new) result }
+    ensures source { HasSourceCause (S.faults input.old) (S.faults input.new) result }
+    ensures undone { IsTrue F.told → OfLines (IsTrue S.told) reader.old (S.left input.old) (λ lines. IsThere (F.files folder.old) origin → NoneCommits (dims_of origin) lines
+        → HaltKeeps (F.files folder.old) (F.files folder.new) result) }
+    ensures evident { OnHaltDamage result (IsEvident (IsTrue F.told × IsThere (F.files folder.old) origin) (F.files folder.new)) }
 {
     match origin.dims() {
-        1 => run_over::<1, R, F, K, G>(work, origin, script, folder, out),
-        2 => run_over::<2, R, F, K, G>(work, origin, script, folder, out),
-        3 => run_over::<3, R, F, K, G>(work, origin, script, folder, out),
-        4 => run_over::<4, R, F, K, G>(work, origin, script, folder, out),
-        5 => run_over::<5, R, F, K, G>(work, origin, script, folder, out),
-        6 => run_over::<6, R, F, K, G>(work, origin, script, folder, out),
-        7 => run_over::<7, R, F, K, G>(work, origin, script, folder, out),
-        _ => run_over::<8, R, F, K, G>(work, origin, script, folder, out),
+        1 => run_over::<1, S, R, F, K, G>(work, origin, tally, reader, input, folder, out),
+        2 => run_over::<2, S, R, F, K, G>(work, origin, tally, reader, input, folder, out),
+        3 => run_over::<3, S, R, F, K, G>(work, origin, tally, reader, input, folder, out),
+        4 => run_over::<4, S, R, F, K, G>(work, origin, tally, reader, input, folder, out),
+        5 => run_over::<5, S, R, F, K, G>(work, origin, tally, reader, input, folder, out),
+        6 => run_over::<6, S, R, F, K, G>(work, origin, tally, reader, input, folder, out),
+        7 => run_over::<7, S, R, F, K, G>(work, origin, tally, reader, input, folder, out),
+        _ => run_over::<8, S, R, F, K, G>(work, origin, tally, reader, input, folder, out),
     }
 }
 
-/// Does the lines that are left on an index of `D` dimensions, and commits.
-fn run_over<const D: usize, R: Threads + Sync, F: Folder, K: Sink, G: Gate>(
+/// Does the lines that a reader has, on an index of `D` dimensions, and commits.
+fn run_over<const D: usize, S: Source, R: Threads + Sync, F: Folder, K: Sink, G: Gate>(
     work: &Work<'_, R, G>,
     origin: Origin,
-    script: Script<'_>,
+    tally: Tally,
+    reader: &mut LineReader,
+    input: &mut S,
     folder: &mut F,
     out: &mut K,
-) -> Result<u64, Stop>
+) -> Result<u64, Halt>
     requires some { 1 ≤ D }
     requires few { D ≤ 8 }
     requires dims { dims_of origin ≡ D }
     requires made { IsMade origin }
-    requires lines { script.line + length script.rest.now < 2 ^ 64 }
-    requires refused { script.refused ≤ script.line }
-    ensures ends { IsTrue F.told → (i : Index) → (stored : State) → IsFrom (F.files folder.old) origin i stored
-        → EndsLines (IsTrue K.told) (record {
-          line = script.entry.line;
-          refused = script.entry.refused;
+    requires refused { tally.refused ≤ tally.line }
+    ensures does { IsTrue F.told → OfLines (IsTrue S.told) reader.old (S.left input.old) (λ lines. (i : Index) → (stored : State) → IsFrom (F.files folder.old) origin i stored
+        → EndsRead (IsTrue K.told) (record {
+          line = tally.line;
+          refused = tally.refused;
           state = Some i;
           stored = stored;
-          rest = lines_of script.entry.rest.now;
+          rest = lines;
           written = K.written out.old;
         })
-        (F.files folder.new) (K.written out.new) result }
-    ensures leads { IsTrue F.told → (i : Index) → (stored : State) → IsFrom (F.files folder.old) origin i stored
-        → LeadsFrom origin i stored script.entry.line (lines_of script.entry.rest.now) (F.files folder.old) (F.files folder.new) (F.reads folder.old) (F.reads folder.new) result }
-    ensures cause { HasStopCause (F.faults folder.old) (F.faults folder.new) (K.faults out.old) (K.faults out.new) result }
-    ensures undone { IsTrue F.told → IsThere (F.files folder.old) origin → NoneCommits (dims_of origin) (lines_of script.entry.rest.now)
-        → StopKeeps (F.files folder.old) (F.files folder.new) result }
-    ensures evident { OnStopDamage result (IsEvident (IsTrue F.told × IsThere (F.files folder.old) origin) (F.files folder.new)) }
+        (F.files folder.new) (K.written out.new) result
+        × LeadsFrom origin i stored tally.line lines (F.files folder.old) (F.files folder.new) (F.reads folder.old) (F.reads folder.new) result) }
+    ensures read { IsTrue S.told → KnowsEnd reader.old (S.left input.old) → OnOk result (S.left input.new ≡ []) }
+    ensures cause { HasHaltCause (F.faults folder.old) (F.faults folder.new) (K.faults out.old) (K.faults out.new) result }
+    ensures source { HasSourceCause (S.faults input.old) (S.faults input.new) result }
+    ensures undone { IsTrue F.told → OfLines (IsTrue S.told) reader.old (S.left input.old) (λ lines. IsThere (F.files folder.old) origin → NoneCommits (dims_of origin) lines
+        → HaltKeeps (F.files folder.old) (F.files folder.new) result) }
+    ensures evident { OnHaltDamage result (IsEvident (IsTrue F.told × IsThere (F.files folder.old) origin) (F.files folder.new)) }
 {
     match open::<D, F>(work.alloc, work.settings, origin, folder) {
-        Ok(mut session) => run_made(work, &mut session, script, folder, out),
-        Err(fault) => stopped(fault),
+        Ok(mut session) => run_made(work, &mut session, tally, reader, input, folder, out),
+        Err(fault) => halted(stopped(fault)),
     }
 }
 
-/// Does the lines that are left in a session, and commits.
-fn run_made<const D: usize, R: Threads + Sync, F: Folder, K: Sink, G: Gate>(
+/// Does the lines that a reader has, in a session, and commits.
+fn run_made<const D: usize, S: Source, R: Threads + Sync, F: Folder, K: Sink, G: Gate>(
     work: &Work<'_, R, G>,
     session: &mut Session<D>,
-    script: Script<'_>,
+    tally: Tally,
+    reader: &mut LineReader,
+    input: &mut S,
     folder: &mut F,
     out: &mut K,
-) -> Result<u64, Stop>
+) -> Result<u64, Halt>
     requires some { 1 ≤ D }
     requires few { D ≤ 8 }
-    requires lines { script.line + length script.rest.now < 2 ^ 64 }
-    requires refused { script.refused ≤ script.line }
-    ensures ends { IsTrue F.told → (i : Index) → (stored : State) → Stands D (F.files folder.old) session.old i stored
-        → EndsLines (IsTrue K.told) (record {
-          line = script.entry.line;
-          refused = script.entry.refused;
+    requires refused { tally.refused ≤ tally.line }
+    ensures does { IsTrue F.told → OfLines (IsTrue S.told) reader.old (S.left input.old) (λ lines. (i : Index) → (stored : State) → Stands D (F.files folder.old) session.old i stored
+        → EndsRead (IsTrue K.told) (record {
+          line = tally.line;
+          refused = tally.refused;
           state = Some i;
           stored = stored;
-          rest = lines_of script.entry.rest.now;
+          rest = lines;
           written = K.written out.old;
         })
-        (F.files folder.new) (K.written out.new) result }
-    ensures leads { IsTrue F.told → (i : Index) → (stored : State) → Stands D (F.files folder.old) session.old i stored
-        → Leads script.entry.line i (lines_of script.entry.rest.now) (record { files = F.files folder.old; session = session.old; reads = F.reads folder.old })
-        (record { files = F.files folder.new; session = session.new; reads = F.reads folder.new }) result }
-    ensures cause { HasStopCause (F.faults folder.old) (F.faults folder.new) (K.faults out.old) (K.faults out.new) result }
-    ensures undone { IsTrue F.told → Trusts D (F.files folder.old) session.old → NoneCommits D (lines_of script.entry.rest.now) → StopKeeps (F.files folder.old) (F.files folder.new) result }
-    ensures evident { OnStopDamage result (IsEvident (IsTrue F.told × Trusts D (F.files folder.old) session.old) (F.files folder.new)) }
+        (F.files folder.new) (K.written out.new) result
+        × Leads tally.line i lines (record { files = F.files folder.old; session = session.old; reads = F.reads folder.old })
+        (record { files = F.files folder.new; session = session.new; reads = F.reads folder.new }) result) }
+    ensures read { IsTrue S.told → KnowsEnd reader.old (S.left input.old) → OnOk result (S.left input.new ≡ []) }
+    ensures cause { HasHaltCause (F.faults folder.old) (F.faults folder.new) (K.faults out.old) (K.faults out.new) result }
+    ensures source { HasSourceCause (S.faults input.old) (S.faults input.new) result }
+    ensures undone { IsTrue F.told → OfLines (IsTrue S.told) reader.old (S.left input.old) (λ lines. Trusts D (F.files folder.old) session.old → NoneCommits D lines
+        → HaltKeeps (F.files folder.old) (F.files folder.new) result) }
+    ensures evident { OnHaltDamage result (IsEvident (IsTrue F.told × Trusts D (F.files folder.old) session.old) (F.files folder.new)) }
 {
     let mut reply = Vec::new(work.alloc);
-    let mut rest = script.rest;
-    let mut line = script.line;
-    let mut refused = script.refused;
-    'lines: while !rest.is_empty() {
-        let (text, behind) = first_line(rest);
-        rest = behind;
-        match answer_line(work, session, folder, line, text, &mut reply, out) {
-            Ok(is_refused) => refused += u64::from(is_refused),
-            Err(stop) => return Err(stop),
+    let mut text = Vec::new(work.alloc);
+    let mut refused = tally.refused;
+    'lines: for line in tally.line..u64::MAX {
+        match reader.next_line(input, &mut text) {
+            Ok(true) => match answer_line(work, session, folder, line, text.as_slice(), &mut reply, out) {
+                Ok(is_refused) => refused += u64::from(is_refused),
+                Err(stop) => return Err(Halt::Stopped(stop)),
+            },
+            Ok(false) => return halted(finish(work, session, folder, refused)),
+            Err(ReadFault::Failed) => return Err(Halt::Source),
+            Err(ReadFault::Memory) => return Err(Halt::Stopped(Stop::Memory)),
         }
-        line += 1;
     }
-    finish(work, session, folder, refused)
+    // no input has so many lines
+    Err(Halt::Stopped(Stop::Memory))
 }
 
 /// Commits what the lines left, of which so many were refused.

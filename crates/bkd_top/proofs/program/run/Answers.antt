@@ -3,10 +3,10 @@ use Rattle.std.proofs.lemmas.Bool.{false≢true}
 use Rattle.std.proofs.Common.{arith, ◌∙◌, ◌≡◌, true, false, Option, Err, IsTrue, refl, sym, ap, subst, inl, inr}
 use Rattle.command_words.specs.Commands.{Asked}
 use Rattle.command_words.specs.declared.WordsFault.{WordsFault}
-use Rattle.bkd_top.specs.Commands.{EndsAsked, does, is_explain, is_served, is_whole, reads_input, is_run}
+use Rattle.bkd_top.specs.Commands.{EndsAsked, does, is_explain, is_script, is_served, is_session, is_whole, reads_input, reads_whole}
 use Rattle.stored_index.proofs.KeptFiles.{kept_itself}
 use Rattle.script_run.proofs.Calling.{nothing_costs}
-use Rattle.bkd_top.proofs.Commanding.{asked_is, no_memory_ends, completes}
+use Rattle.bkd_top.proofs.Commanding.{asked_is, no_memory_ends, completes, whole_reads}
 use Rattle.bkd_top.proofs.program.run.Goals as goal
 
 pub returns-in-Ok-clause-canon : goal.returns-in-Ok-clause-canon
@@ -33,19 +33,21 @@ returns-in-Ok-clause-ends g c = λ told state h a is source.
     (c.run_command.ensures.ends told state h (λ reads. source (subst (λ (b : Asked). reads_input b ≡ true) same reads)))
 
 pub returns-in-Ok-clause-complete : goal.returns-in-Ok-clause-complete
-returns-in-Ok-clause-complete g c = λ told state h served fits none.
+returns-in-Ok-clause-complete g c = λ told state h served source fits none.
     completes c.run_command.result _ _ (λ e. false≢true (sym (c.run_command.ensures.usage e) ∙ subst (λ (o : Option Asked). is_served o ≡ true) c.in-Ok.ensures.words served))
-    (λ e. let reads = c.run_command.ensures.large e in let few = fits (subst (λ (o : Option Asked). does (λ a. reads_input a) o ≡ true) (sym c.in-Ok.ensures.words) reads) in
-    let much = (c.run_command.ensures.input few.0 reads).too_large e in let short = few.1 in omega (arith, much, short)) none (c.run_command.ensures.damage.never told state h) c.run_command.ensures.causes
+    (λ e. let reads = c.run_command.ensures.large e in
+    let short = fits (subst (λ (o : Option Asked). does (λ a. reads_whole a) o ≡ true) (sym c.in-Ok.ensures.words) reads) in
+    let tells = source (subst (λ (o : Option Asked). does (λ a. reads_input a) o ≡ true) (sym c.in-Ok.ensures.words) (whole_reads _ reads)) in
+    let much = (c.run_command.ensures.input tells reads).too_large e in omega (arith, much, short)) none (c.run_command.ensures.damage.never told state h) c.run_command.ensures.causes
 
 pub returns-in-Ok-clause-input : goal.returns-in-Ok-clause-input
-returns-in-Ok-clause-input g c = λ told e. c.run_command.ensures.input told (subst (λ (o : Option Asked). does (λ a. reads_input a) o ≡ true) c.in-Ok.ensures.words e)
+returns-in-Ok-clause-input g c = λ told e. c.run_command.ensures.input told (subst (λ (o : Option Asked). does (λ a. reads_whole a) o ≡ true) c.in-Ok.ensures.words e)
 
 pub returns-in-Ok-clause-unread : goal.returns-in-Ok-clause-unread
 returns-in-Ok-clause-unread g c = λ e. c.run_command.ensures.unread (subst (λ (o : Option Asked). does (λ a. reads_input a) o ≡ false) c.in-Ok.ensures.words e)
 
 pub returns-in-Ok-clause-costs : goal.returns-in-Ok-clause-costs
-returns-in-Ok-clause-costs g c = λ source told e. c.run_command.ensures.costs source told (subst (λ (o : Option Asked). does (λ a. is_run a) o ≡ true) c.in-Ok.ensures.words e)
+returns-in-Ok-clause-costs g c = λ source told e. c.run_command.ensures.costs source told (subst (λ (o : Option Asked). does (λ a. is_script a) o ≡ true) c.in-Ok.ensures.words e)
 
 pub returns-in-Err-Usage-clause-usage : goal.returns-in-Err-Usage-clause-usage
 returns-in-Err-Usage-clause-usage g c = record {
@@ -54,7 +56,7 @@ returns-in-Err-Usage-clause-usage g c = record {
 }
 
 pub returns-in-Err-Usage-clause-complete : goal.returns-in-Err-Usage-clause-complete
-returns-in-Err-Usage-clause-complete g c = λ told state h served fits none.
+returns-in-Err-Usage-clause-complete g c = λ told state h served source fits none.
     absurd (false≢true (sym (ap is_served (c.in-Err-Usage.ensures.usage (ap (λ (f : WordsFault). Err f) c.in-Err-Usage.field-0-is))) ∙ served))
 
 pub returns-in-Err-Usage-clause-costs : goal.returns-in-Err-Usage-clause-costs
@@ -67,7 +69,7 @@ pub returns-in-Err-Memory-clause-ends : goal.returns-in-Err-Memory-clause-ends
 returns-in-Err-Memory-clause-ends g c = λ told state h a is source. no_memory_ends (IsTrue g.K.Sink.told) a _ _ _ h (λ sink. refl)
 
 pub returns-in-Err-Memory-clause-complete : goal.returns-in-Err-Memory-clause-complete
-returns-in-Err-Memory-clause-complete g c = λ told state h served fits none. inr refl
+returns-in-Err-Memory-clause-complete g c = λ told state h served source fits none. inr refl
 
 pub returns-in-Err-Memory-clause-costs : goal.returns-in-Err-Memory-clause-costs
 returns-in-Err-Memory-clause-costs g c = λ source told e. nothing_costs _ _ _ _ (λ a. a)
@@ -89,3 +91,9 @@ returns-in-Err-Memory-clause-explains g c = λ told e. record { files = refl; re
 
 pub returns-in-Err-Memory-clause-whole : goal.returns-in-Err-Memory-clause-whole
 returns-in-Err-Memory-clause-whole g c = λ told e. record { levels = λ state h a. absurd a; undone = inl (kept_itself _) }
+
+pub returns-in-Ok-clause-lines : goal.returns-in-Ok-clause-lines
+returns-in-Ok-clause-lines g c = λ told e. c.run_command.ensures.lines told (subst (λ (o : Option Asked). does (λ a. is_session a) o ≡ true) c.in-Ok.ensures.words e)
+
+pub returns-in-Ok-clause-untouched : goal.returns-in-Ok-clause-untouched
+returns-in-Ok-clause-untouched g c = λ e. c.run_command.ensures.untouched (subst (λ (o : Option Asked). does (λ a. is_session a) o ≡ false) c.in-Ok.ensures.words e)

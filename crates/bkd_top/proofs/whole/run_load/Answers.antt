@@ -37,7 +37,7 @@ returns-in-Ok-clause-causes g c = record {
 }
 
 pub returns-in-Err-Failed-clause-whole : goal.returns-in-Err-Failed-clause-whole
-returns-in-Err-Failed-clause-whole g c = λ told. record { levels = λ state h a. absurd a; undone = tt }
+returns-in-Err-Failed-clause-whole g c = λ told. record { levels = λ state h a. absurd a; undone = kept_itself _ }
 
 pub returns-in-Err-TooLarge-clause-whole : goal.returns-in-Err-TooLarge-clause-whole
 returns-in-Err-TooLarge-clause-whole g c = λ told. record { levels = λ state h a. absurd a; undone = tt }

@@ -16,33 +16,33 @@ pub obey-requires-after_bounds : goal.obey-requires-after_bounds
 obey-requires-after_bounds g c κs = λ _. (session_fits g.row.D c.requires.few, (command_fits g.row.D c.requires.few, c.in-Ok.ensures.limits))
 
 pub returns-in-Ok-clause-replies : goal.returns-in-Ok-clause-replies
-returns-in-Ok-clause-replies g c = λ told i stored h. c.obey.ensures.replies told i stored h c.args.line.now c.in-Ok.ensures.reads
+returns-in-Ok-clause-replies g c = λ told i stored h bytes same. c.obey.ensures.replies told i stored h bytes (same ∙ c.in-Ok.ensures.reads)
 
 pub returns-in-Err-Memory-clause-replies : goal.returns-in-Err-Memory-clause-replies
-returns-in-Err-Memory-clause-replies g c = λ told i stored h. inl h.keeps
+returns-in-Err-Memory-clause-replies g c = λ told i stored h bytes same. inl h.keeps
 
 pub returns-in-Err-Memory-clause-cause : goal.returns-in-Err-Memory-clause-cause
 returns-in-Err-Memory-clause-cause g c = page_memory _
 
 pub returns-in-Err-clause-replies : goal.returns-in-Err-clause-replies
-returns-in-Err-clause-replies g c = λ told i stored h.
+returns-in-Err-clause-replies g c = λ told i stored h bytes same.
     let other : c.in-Err.fault ≢ fault.Memory = search rules in
-    unread_replies g.row.D _ _ i stored c.args.number c.args.line.now _ _ c.in-Err.fault h (fault_read (request_of {D = g.row.D}) c.in-Err.fault _ other c.in-Err.ensures.reads)
+    unread_replies g.row.D _ _ i stored c.args.number bytes _ _ c.in-Err.fault h (same ∙ fault_read (request_of {D = g.row.D}) c.in-Err.fault _ other c.in-Err.ensures.reads)
     c.refuse_line.result c.refuse_line.ensures.refused c.refuse_line.ensures.memory
 
 pub returns-in-Err-clause-cause : goal.returns-in-Err-clause-cause
 returns-in-Err-clause-cause g c = page_still _ c.refuse_line.result c.refuse_line.ensures.memory
 
 pub returns-in-Ok-clause-passes : goal.returns-in-Ok-clause-passes
-returns-in-Ok-clause-passes g c = λ told i stored h. c.obey.ensures.passes told i stored h c.args.line.now c.in-Ok.ensures.reads
+returns-in-Ok-clause-passes g c = λ told i stored h bytes same. c.obey.ensures.passes told i stored h bytes (same ∙ c.in-Ok.ensures.reads)
 
 pub returns-in-Err-Memory-clause-passes : goal.returns-in-Err-Memory-clause-passes
-returns-in-Err-Memory-clause-passes g c = λ told i stored h. passes_none g.row.D c.args.number i c.args.line.now _ _
+returns-in-Err-Memory-clause-passes g c = λ told i stored h bytes same. passes_none g.row.D c.args.number i bytes _ _
 
 pub returns-in-Err-clause-passes : goal.returns-in-Err-clause-passes
-returns-in-Err-clause-passes g c = λ told i stored h.
+returns-in-Err-clause-passes g c = λ told i stored h bytes same.
     let other : c.in-Err.fault ≢ fault.Memory = search rules in
-    passes_unread g.row.D c.args.number i c.args.line.now c.in-Err.fault _ c.refuse_line.result h.seen.dims (fault_read (request_of {D = g.row.D}) c.in-Err.fault _ other c.in-Err.ensures.reads)
+    passes_unread g.row.D c.args.number i bytes c.in-Err.fault _ c.refuse_line.result h.seen.dims (same ∙ fault_read (request_of {D = g.row.D}) c.in-Err.fault _ other c.in-Err.ensures.reads)
 
 pub returns-in-Ok-clause-trusts : goal.returns-in-Ok-clause-trusts
 returns-in-Ok-clause-trusts g c = c.obey.ensures.trusts

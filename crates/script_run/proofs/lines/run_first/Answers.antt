@@ -1,98 +1,193 @@
 -- Each line goes on from those before it; the one that makes an index hands the rest on, and else the last one ends the script.
-use Rattle.std.proofs.Common.{◌≡◌, ◌≤◌, ℕ, length, arith, refl, ap, None}
-use Rattle.std.proofs.lemmas.Bool.Decides.{nat_tests}
+use Rattle.std.proofs.Common.{◌≡◌, ◌≤◌, ◌+◌, ◌++◌, ◌∷◌, [], ℕ, List, arith, refl, sym, ap, ◌∙◌, subst, None, Err, append_assoc}
 use Rattle.outer_io.specs.declared.file_name.FileName.TheVariants.{Commit}
 use Rattle.index_model.specs.State.{new_index}
-use Rattle.script_run.proofs.Going.{start_here, no_lines, refused_more, at_most_one}
-use Rattle.script_run.proofs.Lined.{stops_first, finishes_first, first_goes_on, made_ends, first_cause, cause_on}
-use Rattle.script_run.proofs.Starting.{leads_none, leads_same, made_leads, nears_first, nears_on}
+use Rattle.index_model.specs.Script.{Answer}
+use Rattle.line_source.specs.Reader.{lines_left}
+use Rattle.run_status.specs.Sent.{IsCut}
 use Rattle.script_run.specs.declared.answers.Opening.{Opening}
-use Rattle.script_run.proofs.Shown.{first_shows, stop_less}
+use Rattle.script_run.proofs.Answered.{first_alike}
+use Rattle.script_run.proofs.Ending.{rose_from}
+use Rattle.script_run.proofs.Going.{start_here, refused_more, at_most_one}
+use Rattle.script_run.proofs.Halting.{halt_cause_from, halt_less, memory_cause, no_source, source_cause_from}
+use Rattle.script_run.proofs.Lined.{stops_first, finishes_first, first_goes_on, halts_first, made_ends, memory_first, first_cause, cause_on}
+use Rattle.script_run.proofs.Reading.{none_read, of_all, of_left, of_line, of_rest, one_read, reads_alike}
+use Rattle.script_run.proofs.Shown.{first_shows}
+use Rattle.script_run.proofs.Starting.{leads_none, leads_same, made_leads, nears_first, nears_on}
 use Rattle.script_run.proofs.lines.run_first.Goals as goal
+
+pub overflow_add-refused : goal.overflow_add-refused
+overflow_add-refused g c = omega (arith, c.lines.invariant.counted, at_most_one _ _ c.from-refused.ensures)
 
 pub lines-init : goal.lines-init
 lines-init g c = record {
-  going = start_here _;
-  near = nears_first _;
-  room = omega (arith, c.requires);
+  so_far = (none_read _ c.args.reader.now _, λ more. (start_here _, nears_first more));
   counted = omega arith;
   folder = refl;
   sink_later = omega arith;
+  source_later = omega arith;
 }
 
 pub lines-preserved : goal.lines-preserved
 lines-preserved g c =
+    let so_far = c.lines.invariant.so_far in
+    let gives = rw c.in-Ok-true.field-0-is at c.in-Ok-true.ensures.gives in
+    let is = first_alike c.lines.line gives.line c.as_slice.result.now (reads_alike None gives.line c.next_line.new.line.items c.as_slice.result.now gives.bytes_are c.as_slice.ensures.value) in
     let same = rw c.in-Ok-Nothing.field-0-is at c.in-Ok-Nothing.ensures.opening in
+    let state = ap (λ (a : Answer). a.state) is ∙ same.state in
     record {
-      going = first_goes_on _ _ _ _ _ c.lines.invariant.going _ _ _ c.first_line.ensures.line _
-          (refused_more c.lines.refused _ _ _ same.refused c.from-refused.ensures) same.state c.in-Ok-Nothing.ensures.text;
-      near = nears_on _ _ _ c.lines.invariant.near _ _ c.first_line.ensures.line same.state;
-      room = omega (arith, c.lines.invariant.room, c.first_line.ensures.shorter);
+      so_far = (
+        one_read _ _ _ c.lines.reader _ so_far.0 _ _ _ gives,
+        λ more.
+            let so = so_far.1 (gives.line ∷ more) in
+            rw (append_assoc so_far.0.lines (gives.line ∷ []) more)
+            (first_goes_on _ _ _ _ _ so.0 _ gives.line more refl _
+            (refused_more c.lines.refused _ _ _ same.refused c.from-refused.ensures ∙ ap (λ (a : Answer). c.lines.refused + a.refused) (sym is)) state
+            (λ sink. c.in-Ok-Nothing.ensures.text sink ∙ ap (λ (a : Answer). g.K.Sink.written c.lines.out ++ a.text) (sym is)),
+            nears_on _ _ _ so.1 gives.line more refl state),
+      );
       counted = omega (arith, c.lines.invariant.counted, at_most_one _ _ c.from-refused.ensures);
       folder = c.lines.invariant.folder;
       sink_later = omega (arith, c.lines.invariant.sink_later, c.answer_first.ensures.later);
+      source_later = omega (arith, c.lines.invariant.source_later, c.in-Ok-true.ensures.cause.later);
     }
 
-pub returns-in-Ok-Made-clause-ends : goal.returns-in-Ok-Made-clause-ends
-returns-in-Ok-Made-clause-ends g c = λ told none.
+pub returns-in-Ok-Made-clause-does : goal.returns-in-Ok-Made-clause-does
+returns-in-Ok-Made-clause-does g c =
+    let so_far = c.lines.invariant.so_far in
+    let gives = rw c.in-Ok-true.field-0-is at c.in-Ok-true.ensures.gives in
+    let is = first_alike c.lines.line gives.line c.as_slice.result.now (reads_alike None gives.line c.next_line.new.line.items c.as_slice.result.now gives.bytes_are c.as_slice.ensures.value) in
     let made = rw c.in-Ok-Made.field-0-is at c.in-Ok-Made.ensures.opening in
     let same = ap (λ f. g.F.Pages.files f) c.lines.invariant.folder in
-    let still : g.F.Pages.files c.lines.folder Commit ≡ None = rw same none in
-    made_ends _ _ _ _ _ c.lines.invariant.going _ _ c.first_line.ensures.line (new_index c.in-Ok-Made.dims c.in-Ok-Made.leaf) _ made.0 made.1 c.in-Ok-Made.ensures.text
-    _ _ c.run_from.result (c.run_from.ensures.ends told (new_index c.in-Ok-Made.dims c.in-Ok-Made.leaf) None (still, refl, refl))
+    let state = ap (λ (a : Answer). a.state) is ∙ made.0 in
+    λ told. of_rest _ _ _ c.next_line.new.self _ (one_read _ _ _ c.lines.reader _ so_far.0 _ _ _ gives) _ _
+    (λ ls does none.
+      let so = so_far.1 (gives.line ∷ ls) in
+      let still : g.F.Pages.files c.lines.folder Commit ≡ None = rw same none in
+      let done = does (new_index c.in-Ok-Made.dims c.in-Ok-Made.leaf) None (still, refl, refl) in
+      rw (append_assoc so_far.0.lines (gives.line ∷ []) ls) (
+        made_ends _ _ _ _ _ so.0 gives.line ls refl (new_index c.in-Ok-Made.dims c.in-Ok-Made.leaf) _ state (ap (λ (a : Answer). a.refused) is ∙ made.1)
+            (λ sink. c.in-Ok-Made.ensures.text sink ∙ ap (λ (a : Answer). g.K.Sink.written c.lines.out ++ a.text) (sym is)) _ _ c.run_from.result done.0,
+        leads_same None _ _ _ _ _ _ _ c.run_from.result same (ap (λ f. g.F.Pages.reads f) c.lines.invariant.folder)
+            (made_leads _ _ _ so.1 gives.line ls refl c.in-Ok-Made.dims c.in-Ok-Made.leaf state _ _ _ _ still c.run_from.result done.1),
+      ))
+    (c.run_from.ensures.does told)
+
+pub returns-in-Ok-Made-clause-read : goal.returns-in-Ok-Made-clause-read
+returns-in-Ok-Made-clause-read g c =
+    let gives = rw c.in-Ok-true.field-0-is at c.in-Ok-true.ensures.gives in
+    λ source knows. c.run_from.ensures.read source (gives.ended source (c.lines.invariant.so_far.0.ended source knows))
 
 pub returns-in-Ok-Made-clause-cause : goal.returns-in-Ok-Made-clause-cause
 returns-in-Ok-Made-clause-cause g c =
-    let later : g.K.Sink.faults c.args.out.now ≤ g.K.Sink.faults c.answer_first.new.out = omega (arith, c.lines.invariant.sink_later, c.answer_first.ensures.later) in
-    cause_on _ _ _ _ _ _ c.run_from.result (ap (λ f. g.F.Pages.faults f) c.lines.invariant.folder) later c.run_from.ensures.cause
+    let same = ap (λ f. g.F.Pages.faults f) c.lines.invariant.folder in
+    halt_cause_from _ _ _ _ _ _ c.run_from.result (omega (arith, same)) (omega (arith, c.lines.invariant.sink_later, c.answer_first.ensures.later)) c.run_from.ensures.cause
 
-pub returns-in-Err-clause-ends : goal.returns-in-Err-clause-ends
-returns-in-Err-clause-ends g c = λ told none.
+pub returns-in-Ok-Made-clause-source : goal.returns-in-Ok-Made-clause-source
+returns-in-Ok-Made-clause-source g c =
+    source_cause_from _ _ _ c.run_from.result (omega (arith, c.lines.invariant.source_later, c.in-Ok-true.ensures.cause.later)) c.run_from.ensures.source
+
+pub returns-in-Ok-Made-clause-evident : goal.returns-in-Ok-Made-clause-evident
+returns-in-Ok-Made-clause-evident g c =
     let same = ap (λ f. g.F.Pages.files f) c.lines.invariant.folder in
-    let still : g.F.Pages.files c.lines.folder Commit ≡ None = rw same none in
-    stops_first _ (g.F.Pages.files c.lines.folder) _ _ _ _ _ c.lines.invariant.going still _ _ c.first_line.ensures.line c.in-Err.stop c.in-Err.ensures.cause c.in-Err.ensures.text
+    halt_less _ _ _ c.run_from.result (λ p. let still : g.F.Pages.files c.lines.folder Commit ≡ None = rw same p.1 in (p.0, still)) c.run_from.ensures.evident
+
+pub returns-in-Err-clause-does : goal.returns-in-Err-clause-does
+returns-in-Err-clause-does g c =
+    let so_far = c.lines.invariant.so_far in
+    let gives = rw c.in-Ok-true.field-0-is at c.in-Ok-true.ensures.gives in
+    let is = first_alike c.lines.line gives.line c.as_slice.result.now (reads_alike None gives.line c.next_line.new.line.items c.as_slice.result.now gives.bytes_are c.as_slice.ensures.value) in
+    let same = ap (λ f. g.F.Pages.files f) c.lines.invariant.folder in
+    λ told. of_line _ _ _ c.lines.reader _ so_far.0 _ _ _ _ gives (λ none.
+      let still : g.F.Pages.files c.lines.folder Commit ≡ None = rw same none in (
+        stops_first _ (g.F.Pages.files c.lines.folder) _ _ _ _ _ (so_far.1 (gives.line ∷ lines_left c.next_line.new.self (g.S.Source.left c.next_line.new.source))).0 still gives.line _ refl c.in-Err.stop c.in-Err.ensures.cause
+            (λ sink. subst (λ (a : Answer). IsCut a.text _ _ c.in-Err.stop) (sym is) (c.in-Err.ensures.text sink)),
+        leads_none None _ _ _ _ _ _ same (ap (λ f. g.F.Pages.reads f) c.lines.invariant.folder),
+      ))
 
 pub returns-in-Err-clause-cause : goal.returns-in-Err-clause-cause
 returns-in-Err-clause-cause g c =
     cause_on _ _ _ _ _ _ _ (ap (λ f. g.F.Pages.faults f) c.lines.invariant.folder) c.lines.invariant.sink_later
     (first_cause (g.F.Pages.faults c.lines.folder) _ _ c.in-Err.stop c.in-Err.ensures.cause c.in-Err.ensures.later c.in-Err.ensures.sink)
 
-pub returns-clause-ends : goal.returns-clause-ends
-returns-clause-ends g c = λ told none.
-    let empty : length c.lines.rest.now ≡ 0 = grind (arith, nat_tests) in
-    let same = ap (λ f. g.F.Pages.files f) c.lines.invariant.folder in
-    let still : g.F.Pages.files c.lines.folder Commit ≡ None = rw same none in
-    finishes_first _ _ _ _ _ c.lines.invariant.going (g.F.Pages.files c.lines.folder) still (no_lines _ empty)
+pub returns-in-Err-clause-source : goal.returns-in-Err-clause-source
+returns-in-Err-clause-source g c = no_source _ _ _ (omega (arith, c.lines.invariant.source_later, c.in-Ok-true.ensures.cause.later)) (λ e. cc)
 
-pub returns-clause-cause : goal.returns-clause-cause
-returns-clause-cause g c = record {
+pub returns-in-Err-clause-evident : goal.returns-in-Err-clause-evident
+returns-in-Err-clause-evident g c = first_shows Opening ℕ _ c.in-Err.stop c.in-Err.ensures.cause
+
+pub returns-in-Ok-false-clause-does : goal.returns-in-Ok-false-clause-does
+returns-in-Ok-false-clause-does g c =
+    let so_far = c.lines.invariant.so_far in
+    let same = ap (λ f. g.F.Pages.files f) c.lines.invariant.folder in
+    λ told. of_all _ _ _ c.lines.reader _ so_far.0 _ c.next_line.new.self _ (rw c.in-Ok-false.field-0-is at c.in-Ok-false.ensures.gives) (λ none.
+      let still : g.F.Pages.files c.lines.folder Commit ≡ None = rw same none in (
+        finishes_first _ _ _ _ _ (so_far.1 []).0 (g.F.Pages.files c.lines.folder) still refl,
+        leads_none None _ _ _ _ _ _ same (ap (λ f. g.F.Pages.reads f) c.lines.invariant.folder),
+      ))
+
+pub returns-in-Ok-false-clause-read : goal.returns-in-Ok-false-clause-read
+returns-in-Ok-false-clause-read g c =
+    let none = rw c.in-Ok-false.field-0-is at c.in-Ok-false.ensures.gives in
+    λ source knows. (none source (c.lines.invariant.so_far.0.ended source knows)).1
+
+pub returns-in-Ok-false-clause-cause : goal.returns-in-Ok-false-clause-cause
+returns-in-Ok-false-clause-cause g c = record {
   folder_later = omega (arith, ap (λ f. g.F.Pages.faults f) c.lines.invariant.folder);
   sink_later = c.lines.invariant.sink_later;
   folder = λ e. absurd cc;
   sink = λ e. absurd cc;
 }
 
-pub returns-in-Ok-Made-clause-leads : goal.returns-in-Ok-Made-clause-leads
-returns-in-Ok-Made-clause-leads g c = λ told none.
-    let made = rw c.in-Ok-Made.field-0-is at c.in-Ok-Made.ensures.opening in
+pub returns-in-Ok-false-clause-source : goal.returns-in-Ok-false-clause-source
+returns-in-Ok-false-clause-source g c = no_source _ _ _ (omega (arith, c.lines.invariant.source_later, c.in-Ok-false.ensures.cause.later)) (λ e. cc)
+
+pub returns-in-Err-Failed-clause-does : goal.returns-in-Err-Failed-clause-does
+returns-in-Err-Failed-clause-does g c =
+    let so_far = c.lines.invariant.so_far in
     let same = ap (λ f. g.F.Pages.files f) c.lines.invariant.folder in
-    let still : g.F.Pages.files c.lines.folder Commit ≡ None = rw same none in
-    leads_same None _ _ _ _ _ _ _ c.run_from.result same (ap (λ f. g.F.Pages.reads f) c.lines.invariant.folder)
-    (made_leads _ _ _ c.lines.invariant.near _ _ c.first_line.ensures.line c.in-Ok-Made.dims c.in-Ok-Made.leaf made.0 _ _ _ _ still c.run_from.result
-    (c.run_from.ensures.leads told (new_index c.in-Ok-Made.dims c.in-Ok-Made.leaf) None (still, refl, refl)))
+    λ told. of_left _ _ _ c.lines.reader _ so_far.0 _ (λ none.
+      let still : g.F.Pages.files c.lines.folder Commit ≡ None = rw same none in (
+        halts_first _ _ _ _ _ (so_far.1 (lines_left c.lines.reader (g.S.Source.left c.lines.input))).0 (g.F.Pages.files c.lines.folder) still,
+        leads_none None _ _ _ _ _ _ same (ap (λ f. g.F.Pages.reads f) c.lines.invariant.folder),
+      ))
 
-pub returns-in-Err-clause-leads : goal.returns-in-Err-clause-leads
-returns-in-Err-clause-leads g c = λ told none.
-    leads_none None _ _ _ _ _ _ (ap (λ f. g.F.Pages.files f) c.lines.invariant.folder) (ap (λ f. g.F.Pages.reads f) c.lines.invariant.folder)
+pub returns-in-Err-Failed-clause-cause : goal.returns-in-Err-Failed-clause-cause
+returns-in-Err-Failed-clause-cause g c = (omega (arith, ap (λ f. g.F.Pages.faults f) c.lines.invariant.folder), c.lines.invariant.sink_later)
 
-pub returns-clause-leads : goal.returns-clause-leads
-returns-clause-leads g c = λ told none.
-    leads_none None _ _ _ _ _ _ (ap (λ f. g.F.Pages.files f) c.lines.invariant.folder) (ap (λ f. g.F.Pages.reads f) c.lines.invariant.folder)
+pub returns-in-Err-Failed-clause-source : goal.returns-in-Err-Failed-clause-source
+returns-in-Err-Failed-clause-source g c =
+    let cause = rw c.in-Err-Failed.field-0-is at c.in-Err-Failed.ensures.cause in
+    record { later = omega (arith, c.lines.invariant.source_later, cause.later); failed = λ e. rose_from _ _ _ c.lines.invariant.source_later (cause.failed refl) }
 
-pub returns-in-Ok-Made-clause-evident : goal.returns-in-Ok-Made-clause-evident
-returns-in-Ok-Made-clause-evident g c =
+pub returns-in-Err-Memory-clause-does : goal.returns-in-Err-Memory-clause-does
+returns-in-Err-Memory-clause-does g c =
+    let so_far = c.lines.invariant.so_far in
     let same = ap (λ f. g.F.Pages.files f) c.lines.invariant.folder in
-    stop_less _ _ _ c.run_from.result (λ p. let still : g.F.Pages.files c.lines.folder Commit ≡ None = rw same p.1 in (p.0, still)) c.run_from.ensures.evident
+    λ told. of_left _ _ _ c.lines.reader _ so_far.0 _ (λ none.
+      let still : g.F.Pages.files c.lines.folder Commit ≡ None = rw same none in (
+        memory_first _ _ _ _ _ (so_far.1 (lines_left c.lines.reader (g.S.Source.left c.lines.input))).0 (g.F.Pages.files c.lines.folder) still,
+        leads_none None _ _ _ _ _ _ same (ap (λ f. g.F.Pages.reads f) c.lines.invariant.folder),
+      ))
 
-pub returns-in-Err-clause-evident : goal.returns-in-Err-clause-evident
-returns-in-Err-clause-evident g c = first_shows Opening ℕ _ c.in-Err.stop c.in-Err.ensures.cause
+pub returns-in-Err-Memory-clause-cause : goal.returns-in-Err-Memory-clause-cause
+returns-in-Err-Memory-clause-cause g c = memory_cause _ _ _ _ (omega (arith, ap (λ f. g.F.Pages.faults f) c.lines.invariant.folder)) c.lines.invariant.sink_later
+
+pub returns-in-Err-Memory-clause-source : goal.returns-in-Err-Memory-clause-source
+returns-in-Err-Memory-clause-source g c = no_source _ _ _ (omega (arith, c.lines.invariant.source_later, c.in-Err-Memory.ensures.cause.later)) (λ e. cc)
+
+pub returns-clause-does : goal.returns-clause-does
+returns-clause-does g c =
+    let so_far = c.lines.invariant.so_far in
+    let same = ap (λ f. g.F.Pages.files f) c.lines.invariant.folder in
+    λ told. of_left _ _ _ c.lines.reader _ so_far.0 _ (λ none.
+      let still : g.F.Pages.files c.lines.folder Commit ≡ None = rw same none in (
+        memory_first _ _ _ _ _ (so_far.1 (lines_left c.lines.reader (g.S.Source.left c.lines.input))).0 (g.F.Pages.files c.lines.folder) still,
+        leads_none None _ _ _ _ _ _ same (ap (λ f. g.F.Pages.reads f) c.lines.invariant.folder),
+      ))
+
+pub returns-clause-cause : goal.returns-clause-cause
+returns-clause-cause g c = memory_cause _ _ _ _ (omega (arith, ap (λ f. g.F.Pages.faults f) c.lines.invariant.folder)) c.lines.invariant.sink_later
+
+pub returns-clause-source : goal.returns-clause-source
+returns-clause-source g c = no_source _ _ _ c.lines.invariant.source_later (λ e. cc)

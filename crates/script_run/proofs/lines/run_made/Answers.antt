@@ -1,15 +1,17 @@
 -- Each line goes on from those before it; after the last one what they leave is committed.
-use Rattle.std.proofs.Common.{◌≡◌, Bool, ℕ, length, arith, refl, subst, IsTrue, Err}
-use Rattle.std.proofs.lemmas.Bool.Decides.{nat_tests}
+use Rattle.std.proofs.Common.{◌≡◌, ◌≤◌, Bool, ℕ, List, [], ◌∷◌, ◌++◌, arith, refl, sym, ap, ◌∙◌, IsTrue, Err, Some, inl, append_assoc}
 use Rattle.index_core.specs.Sessions.{Trusts}
 use Rattle.index_core.proofs.Sizes.{session_fits}
-use Rattle.stored_index.proofs.KeptFiles.{kept_after, kept_itself}
-use Rattle.script_run.specs.Costs.{NoneCommits}
+use Rattle.line_source.specs.Reader.{lines_left}
+use Rattle.stored_index.proofs.KeptFiles.{kept_after}
+use Rattle.script_run.specs.Costs.{asks_commit}
 use Rattle.script_run.proofs.Calling.{stop_after, stop_kept}
-use Rattle.script_run.proofs.Ending.{cause_from}
-use Rattle.script_run.proofs.Going.{no_lines, refused_more, at_most_one}
-use Rattle.script_run.proofs.Leading.{led_ends, led_first, led_on, led_stops}
-use Rattle.script_run.proofs.Lined.{goes_first, goes_on, stops_at, ends_then, end_lines, cause_to}
+use Rattle.script_run.proofs.Ending.{cause_from, rose_from}
+use Rattle.script_run.proofs.Going.{refused_more, at_most_one}
+use Rattle.script_run.proofs.Halting.{halted_no_source, memory_cause, no_source, halted_cause, halted_ends, halted_keeps, halted_shows}
+use Rattle.script_run.proofs.Lined.{cause_to}
+use Rattle.script_run.proofs.Passing.{on_ok}
+use Rattle.script_run.proofs.Reading.{closes_halted, going_ends, going_first, going_halts, going_on, going_stops, going_wants, none_read, of_all, of_left, of_line, one_read, quiet_first, quiet_on, reads_alike}
 use Rattle.script_run.proofs.Shown.{same_stop, stop_less}
 use Rattle.script_run.proofs.lines.run_made.Goals as goal
 
@@ -19,81 +21,153 @@ answer_line-requires-after_bounds g c κs = λ _. (session_fits g.row.D c.requir
 pub finish-requires-after_bounds : goal.finish-requires-after_bounds
 finish-requires-after_bounds g c κs = λ _. session_fits g.row.D c.requires.few
 
+pub overflow_add-refused : goal.overflow_add-refused
+overflow_add-refused g c = omega (arith, c.lines.invariant.counted, at_most_one _ _ c.from-refused.ensures)
+
 pub lines-init : goal.lines-init
 lines-init g c = record {
-  going = λ told i stored h. (goes_first g.row.D (g.F.Pages.files c.args.folder.now) c.args.session.now i stored _ _ _ _ h, led_first g.row.D _ i _ _);
+  so_far = (
+    none_read _ c.args.reader.now _,
+    λ told i stored h more. going_first _ g.row.D _ _ i stored _ _ more h,
+    λ told h. quiet_first g.row.D _,
+  );
   trusts = λ told h. h;
-  kept = λ told h quiet. (kept_itself _, quiet);
-  room = c.requires.lines;
   counted = c.requires.refused;
   folder_later = omega arith;
   sink_later = omega arith;
+  source_later = omega arith;
 }
 
 pub lines-preserved : goal.lines-preserved
-lines-preserved g c = record {
-  going = λ told i stored h.
-      let so_far = c.lines.invariant.going told i stored h in
-      let answered = c.in-Ok.ensures.answers told so_far.0.index so_far.0.stored so_far.0.stands in (
-        goes_on g.row.D _ _ _ _ _ _ _ _ _ _ so_far.0 _ _ c.first_line.ensures.line c.in-Ok.is_refused _ (refused_more c.lines.refused c.in-Ok.is_refused _ _ refl c.from-refused.ensures) answered,
-        led_on g.row.D _ i _ _ _ so_far.0.index _ _ so_far.1 _ _ c.first_line.ensures.line _ c.in-Ok.is_refused (c.in-Ok.ensures.passes told so_far.0.index so_far.0.stored so_far.0.stands)
-            answered.0.index answered.0.state,
+lines-preserved g c =
+    let so_far = c.lines.invariant.so_far in
+    let gives = rw c.in-Ok-true.field-0-is at c.in-Ok-true.ensures.gives in
+    let alike = reads_alike (Some g.row.D) gives.line c.next_line.new.line.items c.as_slice.result.now gives.bytes_are c.as_slice.ensures.value in
+    record {
+      so_far = (
+        one_read _ _ _ c.lines.reader _ so_far.0 _ _ _ gives,
+        λ told i stored h more.
+            let going = so_far.1 told i stored h (gives.line ∷ more) in
+            rw (append_assoc so_far.0.lines (gives.line ∷ []) more)
+            (going_on _ g.row.D _ _ i stored _ _ _ _ _ _ _ gives.line more going _ _ c.in-Ok.is_refused _ (refused_more c.lines.refused c.in-Ok.is_refused _ _ refl c.from-refused.ensures)
+            (c.in-Ok.ensures.answers told going.goes.index going.goes.stored going.goes.stands gives.line alike) (c.in-Ok.ensures.passes told going.goes.index going.goes.stored going.goes.stands gives.line alike)),
+        λ told h. quiet_on g.row.D so_far.0.lines gives.line _ _ _ (so_far.2 told h) (λ quiet. c.in-Ok.ensures.kept told (c.lines.invariant.trusts told h) (ap asks_commit (sym alike) ∙ quiet)),
       );
-  trusts = λ told h. c.in-Ok.ensures.trusts told (c.lines.invariant.trusts told h);
-  kept = λ told h quiet.
-      let so_far = c.lines.invariant.kept told h quiet in
-      let next = subst (NoneCommits g.row.D) c.first_line.ensures.line so_far.1 in
-      (kept_after _ _ _ so_far.0 (c.in-Ok.ensures.kept told (c.lines.invariant.trusts told h) next.0), next.1);
-  room = omega (arith, c.lines.invariant.room, c.first_line.ensures.shorter);
-  counted = omega (arith, c.lines.invariant.counted, at_most_one _ _ c.from-refused.ensures);
-  folder_later = omega (arith, c.lines.invariant.folder_later, c.answer_line.ensures.cause.folder_later);
-  sink_later = omega (arith, c.lines.invariant.sink_later, c.answer_line.ensures.cause.sink_later);
-}
+      trusts = λ told h. c.in-Ok.ensures.trusts told (c.lines.invariant.trusts told h);
+      counted = omega (arith, c.lines.invariant.counted, at_most_one _ _ c.from-refused.ensures);
+      folder_later = omega (arith, c.lines.invariant.folder_later, c.answer_line.ensures.cause.folder_later);
+      sink_later = omega (arith, c.lines.invariant.sink_later, c.answer_line.ensures.cause.sink_later);
+      source_later = omega (arith, c.lines.invariant.source_later, c.in-Ok-true.ensures.cause.later);
+    }
 
-pub returns-in-Err-clause-ends : goal.returns-in-Err-clause-ends
-returns-in-Err-clause-ends g c = λ told i stored h.
-    let so_far = c.lines.invariant.going told i stored h in
-    stops_at g.row.D _ _ _ _ c.answer_line.new.session _ _ _ _ _ so_far.0 _ _ c.first_line.ensures.line c.in-Err.stop (c.in-Err.ensures.answers told so_far.0.index so_far.0.stored so_far.0.stands)
+pub returns-in-Err-clause-does : goal.returns-in-Err-clause-does
+returns-in-Err-clause-does g c =
+    let so_far = c.lines.invariant.so_far in
+    let gives = rw c.in-Ok-true.field-0-is at c.in-Ok-true.ensures.gives in
+    let alike = reads_alike (Some g.row.D) gives.line c.next_line.new.line.items c.as_slice.result.now gives.bytes_are c.as_slice.ensures.value in
+    λ told. of_line _ _ _ c.lines.reader _ so_far.0 _ _ _ _ gives (λ i stored h.
+      let going = so_far.1 told i stored h (gives.line ∷ lines_left c.next_line.new.self (g.S.Source.left c.next_line.new.source)) in
+      going_stops _ g.row.D _ _ i stored _ _ _ _ _ _ _ gives.line _ going _ _ c.in-Err.stop _
+      (c.in-Err.ensures.answers told going.goes.index going.goes.stored going.goes.stands gives.line alike) (c.in-Err.ensures.passes told going.goes.index going.goes.stored going.goes.stands gives.line alike))
 
 pub returns-in-Err-clause-cause : goal.returns-in-Err-clause-cause
-returns-in-Err-clause-cause g c = cause_from _ _ _ _ _ _ _ c.lines.invariant.folder_later c.lines.invariant.sink_later (cause_to _ _ _ _ c.in-Err.stop c.in-Err.ensures.cause)
+returns-in-Err-clause-cause g c = cause_from {T = ℕ} _ _ _ _ _ _ (Err c.in-Err.stop) c.lines.invariant.folder_later c.lines.invariant.sink_later (cause_to _ _ _ _ c.in-Err.stop c.in-Err.ensures.cause)
 
-pub returns-clause-ends : goal.returns-clause-ends
-returns-clause-ends g c =
-    let none : length c.lines.rest.now ≡ 0 = grind (arith, nat_tests) steps 40000000 in
-    λ told i stored h.
-    let so_far = c.lines.invariant.going told i stored h in
-    ends_then g.row.D _ _ _ _ _ _ _ so_far.0 (no_lines _ none) _ c.finish.result
-    (end_lines (IsTrue g.K.Sink.told) _ so_far.0.index so_far.0.stored c.lines.line c.lines.refused _ c.finish.result (c.finish.ensures.ends told so_far.0.index so_far.0.stored so_far.0.stands))
+pub returns-in-Err-clause-source : goal.returns-in-Err-clause-source
+returns-in-Err-clause-source g c = no_source _ _ _ (omega (arith, c.lines.invariant.source_later, c.in-Ok-true.ensures.cause.later)) (λ e. cc)
 
-pub returns-clause-cause : goal.returns-clause-cause
-returns-clause-cause g c = cause_from _ _ _ _ _ _ _ c.lines.invariant.folder_later c.lines.invariant.sink_later (c.finish.ensures.cause _)
-
-pub returns-in-Err-clause-leads : goal.returns-in-Err-clause-leads
-returns-in-Err-clause-leads g c = λ told i stored h.
-    let so_far = c.lines.invariant.going told i stored h in
-    led_stops g.row.D _ i _ _ _ so_far.0.index _ _ so_far.1 _ _ c.first_line.ensures.line _ c.in-Err.stop c.in-Err.stop (c.in-Err.ensures.passes told so_far.0.index so_far.0.stored so_far.0.stands)
-
-pub returns-clause-leads : goal.returns-clause-leads
-returns-clause-leads g c = λ told i stored h.
-    let so_far = c.lines.invariant.going told i stored h in
-    led_ends g.row.D _ i _ _ _ so_far.0.index _ _ so_far.1 so_far.0.stands.seen _ c.finish.result (c.finish.ensures.closes told so_far.0.index so_far.0.stored so_far.0.stands)
+pub returns-in-Err-clause-undone : goal.returns-in-Err-clause-undone
+returns-in-Err-clause-undone g c =
+    let so_far = c.lines.invariant.so_far in
+    let gives = rw c.in-Ok-true.field-0-is at c.in-Ok-true.ensures.gives in
+    let alike = reads_alike (Some g.row.D) gives.line c.next_line.new.line.items c.as_slice.result.now gives.bytes_are c.as_slice.ensures.value in
+    λ told. of_line _ _ _ c.lines.reader _ so_far.0 _ _ _ _ gives (λ h quiet.
+      let next = (so_far.2 told h).kept (gives.line ∷ lines_left c.next_line.new.self (g.S.Source.left c.next_line.new.source)) quiet in
+      stop_kept ℕ _ _ c.in-Err.stop (kept_after _ _ _ next.0 (c.in-Err.ensures.kept told (c.lines.invariant.trusts told h) (ap asks_commit (sym alike) ∙ next.1.0))))
 
 pub returns-in-Err-clause-evident : goal.returns-in-Err-clause-evident
 returns-in-Err-clause-evident g c =
     stop_less {X = ℕ} (IsTrue g.F.Pages.told × Trusts g.row.D (g.F.Pages.files c.lines.folder) c.lines.session) (IsTrue g.F.Pages.told × Trusts g.row.D (g.F.Pages.files c.args.folder.now) c.args.session.now)
     (g.F.Pages.files c.answer_line.new.folder) (Err c.in-Err.stop) (λ p. (p.0, c.lines.invariant.trusts p.0 p.1)) (same_stop Bool ℕ _ c.in-Err.stop c.in-Err.ensures.evident)
 
-pub returns-clause-evident : goal.returns-clause-evident
-returns-clause-evident g c =
-    stop_less (IsTrue g.F.Pages.told × Trusts g.row.D (g.F.Pages.files c.lines.folder) c.lines.session) (IsTrue g.F.Pages.told × Trusts g.row.D (g.F.Pages.files c.args.folder.now) c.args.session.now)
-    (g.F.Pages.files c.finish.new.folder) c.finish.result (λ p. (p.0, c.lines.invariant.trusts p.0 p.1)) c.finish.ensures.evident
+pub returns-in-Ok-false-clause-does : goal.returns-in-Ok-false-clause-does
+returns-in-Ok-false-clause-does g c =
+    let so_far = c.lines.invariant.so_far in
+    λ told. of_all _ _ _ c.lines.reader _ so_far.0 _ c.next_line.new.self _ (rw c.in-Ok-false.field-0-is at c.in-Ok-false.ensures.gives) (λ i stored h.
+      let going = so_far.1 told i stored h [] in
+      let ends = going_ends _ g.row.D _ _ i stored _ _ _ _ _ _ _ going _ c.finish.result c.halted.result (c.finish.ensures.ends told going.goes.index going.goes.stored going.goes.stands)
+      (closes_halted g.row.D going.goes.index _ _ c.finish.result c.halted.result c.halted.ensures (c.finish.ensures.closes told going.goes.index going.goes.stored going.goes.stands)) in
+      (halted_ends _ _ _ _ c.finish.result c.halted.result c.halted.ensures ends.0, ends.1))
 
-pub returns-in-Err-clause-undone : goal.returns-in-Err-clause-undone
-returns-in-Err-clause-undone g c = λ told h quiet.
-    let so_far = c.lines.invariant.kept told h quiet in
-    let next = subst (NoneCommits g.row.D) c.first_line.ensures.line so_far.1 in
-    stop_kept ℕ _ _ c.in-Err.stop (kept_after _ _ _ so_far.0 (c.in-Err.ensures.kept told (c.lines.invariant.trusts told h) next.0))
+pub returns-in-Ok-false-clause-read : goal.returns-in-Ok-false-clause-read
+returns-in-Ok-false-clause-read g c =
+    let none = rw c.in-Ok-false.field-0-is at c.in-Ok-false.ensures.gives in
+    λ source knows. on_ok c.halted.result (none source (c.lines.invariant.so_far.0.ended source knows)).1
+
+pub returns-in-Ok-false-clause-cause : goal.returns-in-Ok-false-clause-cause
+returns-in-Ok-false-clause-cause g c =
+    halted_cause _ _ _ _ c.finish.result c.halted.result c.halted.ensures (cause_from _ _ _ _ _ _ c.finish.result c.lines.invariant.folder_later c.lines.invariant.sink_later (c.finish.ensures.cause _))
+
+pub returns-in-Ok-false-clause-source : goal.returns-in-Ok-false-clause-source
+returns-in-Ok-false-clause-source g c =
+    no_source _ _ c.halted.result (omega (arith, c.lines.invariant.source_later, c.in-Ok-false.ensures.cause.later)) (halted_no_source c.finish.result c.halted.result c.halted.ensures)
+
+pub returns-in-Ok-false-clause-undone : goal.returns-in-Ok-false-clause-undone
+returns-in-Ok-false-clause-undone g c =
+    let so_far = c.lines.invariant.so_far in
+    λ told. of_all _ _ _ c.lines.reader _ so_far.0 _ c.next_line.new.self _ (rw c.in-Ok-false.field-0-is at c.in-Ok-false.ensures.gives) (λ h quiet.
+      halted_keeps (g.F.Pages.files c.args.folder.now) (g.F.Pages.files c.finish.new.folder) c.finish.result c.halted.result c.halted.ensures
+      (stop_after _ _ _ c.finish.result ((so_far.2 told h).kept [] quiet).0 (c.finish.ensures.undone told (c.lines.invariant.trusts told h))))
+
+pub returns-in-Ok-false-clause-evident : goal.returns-in-Ok-false-clause-evident
+returns-in-Ok-false-clause-evident g c =
+    halted_shows _ c.finish.result c.halted.result c.halted.ensures
+    (stop_less (IsTrue g.F.Pages.told × Trusts g.row.D (g.F.Pages.files c.lines.folder) c.lines.session) (IsTrue g.F.Pages.told × Trusts g.row.D (g.F.Pages.files c.args.folder.now) c.args.session.now)
+    (g.F.Pages.files c.finish.new.folder) c.finish.result (λ p. (p.0, c.lines.invariant.trusts p.0 p.1)) c.finish.ensures.evident)
+
+pub returns-in-Err-Failed-clause-does : goal.returns-in-Err-Failed-clause-does
+returns-in-Err-Failed-clause-does g c =
+    let so_far = c.lines.invariant.so_far in
+    λ told. of_left _ _ _ c.lines.reader _ so_far.0 _ (λ i stored h. going_halts _ g.row.D _ _ i stored _ _ _ _ _ _ _ _ (so_far.1 told i stored h (lines_left c.lines.reader (g.S.Source.left c.lines.input))) _)
+
+pub returns-in-Err-Failed-clause-source : goal.returns-in-Err-Failed-clause-source
+returns-in-Err-Failed-clause-source g c =
+    let cause = rw c.in-Err-Failed.field-0-is at c.in-Err-Failed.ensures.cause in
+    record { later = omega (arith, c.lines.invariant.source_later, cause.later); failed = λ e. rose_from _ _ _ c.lines.invariant.source_later (cause.failed refl) }
+
+pub returns-in-Err-Failed-clause-undone : goal.returns-in-Err-Failed-clause-undone
+returns-in-Err-Failed-clause-undone g c =
+    let so_far = c.lines.invariant.so_far in
+    λ told. of_left _ _ _ c.lines.reader _ so_far.0 _ (λ h quiet. ((so_far.2 told h).kept _ quiet).0)
+
+pub returns-in-Err-Memory-clause-does : goal.returns-in-Err-Memory-clause-does
+returns-in-Err-Memory-clause-does g c =
+    let so_far = c.lines.invariant.so_far in
+    λ told. of_left _ _ _ c.lines.reader _ so_far.0 _ (λ i stored h. going_wants _ g.row.D _ _ i stored _ _ _ _ _ _ _ _ (so_far.1 told i stored h (lines_left c.lines.reader (g.S.Source.left c.lines.input))) _)
+
+pub returns-in-Err-Memory-clause-cause : goal.returns-in-Err-Memory-clause-cause
+returns-in-Err-Memory-clause-cause g c = memory_cause _ _ _ _ c.lines.invariant.folder_later c.lines.invariant.sink_later
+
+pub returns-in-Err-Memory-clause-source : goal.returns-in-Err-Memory-clause-source
+returns-in-Err-Memory-clause-source g c = no_source _ _ _ (omega (arith, c.lines.invariant.source_later, c.in-Err-Memory.ensures.cause.later)) (λ e. cc)
+
+pub returns-in-Err-Memory-clause-undone : goal.returns-in-Err-Memory-clause-undone
+returns-in-Err-Memory-clause-undone g c =
+    let so_far = c.lines.invariant.so_far in
+    λ told. of_left _ _ _ c.lines.reader _ so_far.0 _ (λ h quiet. inl ((so_far.2 told h).kept _ quiet).0)
+
+pub returns-clause-does : goal.returns-clause-does
+returns-clause-does g c =
+    let so_far = c.lines.invariant.so_far in
+    λ told. of_left _ _ _ c.lines.reader _ so_far.0 _ (λ i stored h. going_wants _ g.row.D _ _ i stored _ _ _ _ _ _ _ _ (so_far.1 told i stored h (lines_left c.lines.reader (g.S.Source.left c.lines.input))) _)
+
+pub returns-clause-cause : goal.returns-clause-cause
+returns-clause-cause g c = memory_cause _ _ _ _ c.lines.invariant.folder_later c.lines.invariant.sink_later
+
+pub returns-clause-source : goal.returns-clause-source
+returns-clause-source g c = no_source _ _ _ c.lines.invariant.source_later (λ e. cc)
 
 pub returns-clause-undone : goal.returns-clause-undone
-returns-clause-undone g c = λ told h quiet. stop_after _ _ _ c.finish.result (c.lines.invariant.kept told h quiet).0 (c.finish.ensures.undone told (c.lines.invariant.trusts told h))
+returns-clause-undone g c =
+    let so_far = c.lines.invariant.so_far in
+    λ told. of_left _ _ _ c.lines.reader _ so_far.0 _ (λ h quiet. inl ((so_far.2 told h).kept _ quiet).0)

@@ -1,0 +1,36 @@
+//! Why lines that come from a source are not done to their end, and with which status they end.
+
+ghost use Rattle.std.specs.Prelude.{◌≡◌};
+ghost use Rattle.script_run.specs.Halted.{halted, status_of_lines};
+
+use run_status::{Status, Stop, status_of};
+
+/// Why the lines of a source are not done to their end.
+#[derive(Debug, Drop)]
+pub enum Halt {
+    /// The source failed.
+    Source,
+    /// A line, or the commit at the end, could not be done.
+    Stopped(Stop),
+}
+
+/// The same, of lines that come from a source.
+pub(crate) fn halted<T>(done: Result<T, Stop>) -> Result<T, Halt>
+    ensures { result ≡ halted done }
+{
+    match done {
+        Ok(known) => Ok(known),
+        Err(stop) => Err(Halt::Stopped(stop)),
+    }
+}
+
+/// The status of lines that were all answered, of which so many were refused, or that ended before.
+pub fn status_of_lines(done: Result<u64, Halt>) -> Status
+    ensures { result ≡ status_of_lines done }
+{
+    match done {
+        Ok(refused) => status_of(Ok(refused)),
+        Err(Halt::Source) => Status::SourceFault,
+        Err(Halt::Stopped(stop)) => status_of(Err(stop)),
+    }
+}
