@@ -1,5 +1,5 @@
 -- What the words ask for, and how it ends.
-use Rattle.std.proofs.Common.{◌≡◌, ℕ, Bool, true, false, List, [], Some, Option, refl, sym, ap, subst, ◌∙◌, ◌⊎◌, inl, inr, append-nil}
+use Rattle.std.proofs.Common.{◌≡◌, ℕ, Bool, true, false, List, [], None, Some, Option, refl, sym, ap, subst, ◌∙◌, ◌⊎◌, inl, inr, append-nil, arith}
 use Rattle.std.proofs.lemmas.Bool.{false≢true}
 use Rattle.outer_io.specs.Files.{Files}
 use Rattle.script_lang.specs.Lines.{lines_of}
@@ -9,7 +9,12 @@ use Rattle.command_words.specs.declared.Words.{Words}
 use Rattle.drawn_points.specs.Generated.{generated}
 use Rattle.explain_queries.specs.Explained.{IsScope, Scope, silence}
 use Rattle.load_points.specs.Loaded.{loaded}
-use Rattle.bkd_top.specs.Commands.{Before, EndsAsked, EndsExplain, EndsWhole, Rests, reads_input, reads_whole}
+use Rattle.bkd_top.specs.Calls.{Call, LeavesAsked, OnAsked, TakesInput, WholeLeaves}
+use Rattle.bkd_top.specs.Checking.{EndsCheck}
+use Rattle.bkd_top.specs.Commands.{Before, EndsAsked, EndsExplain, EndsWhole, reads_input, reads_whole}
+use Rattle.run_status.specs.Causes.{ReadsInput}
+use Rattle.script_run.proofs.Calling.{nothing_costs}
+use Rattle.stored_index.proofs.KeptFiles.{kept_itself}
 use Rattle.script_run.specs.Progress.{start}
 use Rattle.script_run.specs.Runs.{Ends, EndsSession}
 use Rattle.run_status.specs.Causes.{Counts, HasCauses, NoneRose}
@@ -38,14 +43,14 @@ completes status.SinkFault before now usage large none damage causes = absurd (n
 completes (status.Damaged d) before now usage large none damage causes = absurd (damage tt)
 
 -- memory was wanting before anything was done
-pub no_memory_ends : (told : Type 0) (a : Asked) (b : Before) (files : Files) (new : List ℕ) → IsStored files b.state → (told → new ≡ b.written) → EndsAsked told a b files new status.Memory
-no_memory_ends told (Run cache forks) b files new keeps still = stops_here {told = told} (start b.state (lines_of b.input) b.written) files new still (inl keeps)
-no_memory_ends told (Load columns forks) b files new keeps still = record { text = still; stored = inl keeps }
-no_memory_ends told (Explain cache) b files new keeps still =
+pub no_memory_ends : (told : Type 0) (a : Asked) (b : Before) (files : Files) (new : List ℕ) → IsStored files b.state → files ≡ b.files → (told → new ≡ b.written) → EndsAsked told a b files new status.Memory
+no_memory_ends told (Run cache forks) b files new keeps same still = stops_here {told = told} (start b.state (lines_of b.input) b.written) files new still (inl keeps)
+no_memory_ends told (Load columns forks) b files new keeps same still = record { text = still; stored = inl keeps }
+no_memory_ends told (Explain cache) b files new keeps same still =
     λ scope is. record { done = []; rest = lines_of b.input; whole = refl; of_done = silence; tells = refl; text = λ t. still t ∙ sym (append-nil b.written) }
-no_memory_ends told Check b files new keeps still = record { text = still; stored = keeps }
-no_memory_ends told (Generate docs seed forks) b files new keeps still = record { text = still; stored = inl keeps }
-no_memory_ends told (Session cache forks) b files new keeps still = stops_here {told = told} (start b.state (lines_of b.input) b.written) files new still (inl keeps)
+no_memory_ends told Check b files new keeps same still = (same, still)
+no_memory_ends told (Generate docs seed forks) b files new keeps same still = record { text = still; stored = inl keeps }
+no_memory_ends told (Session cache forks) b files new keeps same still = stops_here {told = told} (start b.state (lines_of b.input) b.written) files new still (inl keeps)
 
 -- what passes a test of what is asked does not fail it
 pub is_so : {P : Type 0} (test : Asked → Bool) (w : Words) (a : Asked) → said w ≡ a → test a ≡ true → test (said w) ≡ false → P
@@ -74,7 +79,7 @@ module _ (told : Type 0) (w : Words) (b : Before) (files : Files) (new : List �
   pub explain_ends : (cache : ℕ) → said w ≡ Explain cache → ((scope : Scope) → IsScope b.files scope → EndsExplain told scope (lines_of b.input) b.written new s) → EndsAsked told (said w) b files new s
   explain_ends cache is ends = subst (λ (a : Asked). EndsAsked told a b files new s) (sym is) ends
 
-  pub check_ends : said w ≡ Check → Rests told b files new → EndsAsked told (said w) b files new s
+  pub check_ends : said w ≡ Check → (files ≡ b.files) × EndsCheck told b.files b.written new s → EndsAsked told (said w) b files new s
   check_ends is ends = subst (λ (a : Asked). EndsAsked told a b files new s) (sym is) ends
 
   pub generate_ends : (docs seed forks : ℕ) → said w ≡ Generate docs seed forks → EndsWhole told b (generated b.state docs seed) files new s → EndsAsked told (said w) b files new s
@@ -82,3 +87,65 @@ module _ (told : Type 0) (w : Words) (b : Before) (files : Files) (new : List �
 
   pub session_asked : (cache forks : ℕ) → said w ≡ Session cache forks → EndsSession told (start b.state (lines_of b.input) b.written) files new s → EndsAsked told (said w) b files new s
   session_asked cache forks is ends = subst (λ (a : Asked). EndsAsked told a b files new s) (sym is) ends
+
+-- what is asked isn't nothing
+pub is_none_and : {P : Type 0} (a : Asked) (o : Option Asked) → o ≡ None → o ≡ Some a → P
+is_none_and a o none some = absurd (apart (sym none ∙ some))
+  where
+    apart : None ≡ Some a → ⊥
+    apart e = cc
+
+-- ---- the input
+
+-- the words ask for this command, which takes its input so
+pub taken_by : (w : Words) (a : Asked) (left now : List ℕ) (s : Status) → said w ≡ a → TakesInput a left now s → TakesInput (said w) left now s
+taken_by w a left now s is takes = subst (λ (b : Asked). TakesInput b left now s) (sym is) takes
+
+-- what reads the whole input takes it so
+pub taken_whole : (a : Asked) (left now : List ℕ) (s : Status) → reads_whole a ≡ true → TakesInput a left now s → ReadsInput left now s
+taken_whole (Run cache forks) left now s e takes = takes
+taken_whole (Load columns forks) left now s e takes = takes
+taken_whole (Explain cache) left now s e takes = takes
+taken_whole Check left now s e takes = absurd (false≢true e)
+taken_whole (Generate docs seed forks) left now s e takes = absurd (false≢true e)
+taken_whole (Session cache forks) left now s e takes = absurd (false≢true e)
+
+-- for want of memory nothing was read
+no_input : (left now : List ℕ) → ReadsInput left now status.Memory
+no_input left now = record { too_large = λ e. absurd cc; fits = λ goes. absurd goes; whole = λ goes. absurd goes }
+
+pub none_taken : (o : Option Asked) (left now : List ℕ) → OnAsked (λ a. TakesInput a left now status.Memory) o
+none_taken None left now = tt
+none_taken (Some (Run cache forks)) left now = no_input left now
+none_taken (Some (Load columns forks)) left now = no_input left now
+none_taken (Some (Explain cache)) left now = no_input left now
+none_taken (Some Check) left now = tt
+none_taken (Some (Generate docs seed forks)) left now = tt
+none_taken (Some (Session cache forks)) left now = λ answer. absurd answer
+
+-- ---- what is left
+
+-- the words ask for this command, which leaves so much
+pub left_by : (w : Words) (a : Asked) (c : Call) (s : Status) → said w ≡ a → LeavesAsked a c s → LeavesAsked (said w) c s
+left_by w a c s is leaves = subst (λ (b : Asked). LeavesAsked b c s) (sym is) leaves
+
+no_whole : (files : Files) → WholeLeaves files files status.Memory
+no_whole files = record { levels = λ state h a. absurd a; undone = inl (kept_itself files) }
+
+-- where memory was wanting before anything was done each command has left what was there
+none_left_of : (a : Asked) (source sink : Bool) (input written : List ℕ) (files : Files) (reads : ℕ)
+    → LeavesAsked a (record { source = source; sink = sink; input = input; old = files; new = files; written = written; written_now = written; before = reads; now = reads })
+    status.Memory
+none_left_of (Run cache forks) source sink input written files reads = λ told. nothing_costs (lines_of input) files reads status.Memory (λ a. a)
+none_left_of (Session cache forks) source sink input written files reads = λ told. nothing_costs (lines_of input) files reads status.Memory (λ a. a)
+none_left_of (Explain cache) source sink input written files reads = record { files = refl; reads = λ told pages opening scope is t tells. omega arith }
+none_left_of (Load columns forks) source sink input written files reads = no_whole files
+none_left_of (Generate docs seed forks) source sink input written files reads = no_whole files
+none_left_of Check source sink input written files reads = record { ends = λ told. refl; files = refl; reads = λ pages is. omega arith }
+
+pub none_left : (o : Option Asked) (source sink : Bool) (input written : List ℕ) (files : Files) (reads : ℕ)
+    → OnAsked (λ a. LeavesAsked a
+    (record { source = source; sink = sink; input = input; old = files; new = files; written = written; written_now = written; before = reads; now = reads })
+    status.Memory) o
+none_left None source sink input written files reads = tt
+none_left (Some a) source sink input written files reads = none_left_of a source sink input written files reads

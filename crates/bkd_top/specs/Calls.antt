@@ -1,6 +1,8 @@
 -- What holds of every command, whatever the folder holds: which words are of none, what it reads of its input, and why it ended so.
-use Rattle.std.specs.Prelude.{ℕ, ◌≡◌, ◌⊎◌, Bool, false, List}
+use Rattle.std.specs.Prelude.{ℕ, ◌≡◌, ◌⊎◌, Bool, IsTrue, List, [], Option, None, Some}
 use Rattle.outer_io.specs.Files.{Files}
+use Rattle.script_lang.specs.Lines.{lines_of}
+use Rattle.command_words.specs.Commands.{Asked, Run, Load, Explain, Check, Generate, Session}
 use Rattle.index_model.specs.State.{State}
 use Rattle.stored_index.specs.Stored.{IsStored}
 use Rattle.index_opening.specs.Evidence.{IsEvident}
@@ -8,13 +10,34 @@ use Rattle.index_core.specs.Light.{KeepsLevels}
 use Rattle.run_status.specs.Ends.{IsAnswer, IsDamaged, OnStatusDamage}
 use Rattle.run_status.specs.declared.status.Status.{Status}
 use Rattle.run_status.specs.declared.status.Status.TheVariants as status
-use Rattle.script_run.specs.Kept.{StatusKeeps}
+use Rattle.script_run.specs.Kept.{RunCosts, StatusKeeps}
+use Rattle.run_status.specs.Causes.{ReadsInput}
+use Rattle.bkd_top.specs.Checking.{Checks}
 use Rattle.bkd_top.specs.Commands.{ReadsFew}
 
--- wrong words are told as that, unless memory was wanting, and no others are
-pub record TellsUsage (served : Bool) (s : Status) : Type 0 where
-  pub only : s ≡ status.Usage → served ≡ false
-  pub told : served ≡ false → (s ≡ status.Usage) ⊎ (s ≡ status.Memory)
+-- words of no command are told as that, unless memory was wanting, and no others are
+pub record TellsUsage (asked : Option Asked) (s : Status) : Type 0 where
+  pub only : s ≡ status.Usage → asked ≡ None
+  pub told : asked ≡ None → (s ≡ status.Usage) ⊎ (s ≡ status.Memory)
+
+-- where a command is asked for, this holds of it
+abbrev pub OnAsked : (Asked → Type 0) → Option Asked → Type 0
+OnAsked P None = Unit {0}
+OnAsked P (Some asked) = P asked
+
+-- ---- the input
+
+-- The whole input is read before anything is done, or none of it; but the lines of a session are read as they are done, to the end of the input where
+-- all are.
+abbrev pub TakesInput : Asked → (left left_now : List ℕ) → Status → Type 0
+TakesInput (Run cache forks) left now s = ReadsInput left now s
+TakesInput (Load columns forks) left now s = ReadsInput left now s
+TakesInput (Explain cache) left now s = ReadsInput left now s
+TakesInput (Session cache forks) left now s = IsAnswer s → now ≡ []
+TakesInput Check left now s = Unit {0}
+TakesInput (Generate docs seed forks) left now s = Unit {0}
+
+-- ---- damage
 
 -- a folder that stored a state is never found damaged, and a damage is shown by what it carries, and is true of told files
 pub record TellsDamage (told : Type 0) (old new : Files) (s : Status) : Type 0 where
@@ -30,3 +53,26 @@ pub record ExplainCosts (source : Type 0) (lines : List (List ℕ)) (old new : F
 pub record WholeLeaves (old new : Files) (s : Status) : Type 0 where
   pub levels : (state : State) → IsStored old state → IsAnswer s → KeepsLevels old new
   pub undone : StatusKeeps old new s
+
+-- ---- what each command leaves, whatever the folder holds
+
+-- A call: whether its source and its sink tell what they hold, its input, the files before and after it, what had gone out before and after, and the
+-- folder's reads before and after
+pub record Call : Type 0 where
+  pub source : Bool
+  pub sink : Bool
+  pub input : List ℕ
+  pub old : Files
+  pub new : Files
+  pub written : List ℕ
+  pub written_now : List ℕ
+  pub before : ℕ
+  pub now : ℕ
+
+abbrev pub LeavesAsked : Asked → Call → Status → Type 0
+LeavesAsked (Run cache forks) c s = IsTrue c.source → RunCosts (lines_of c.input) c.old c.new c.before c.now s
+LeavesAsked (Session cache forks) c s = IsTrue c.source → RunCosts (lines_of c.input) c.old c.new c.before c.now s
+LeavesAsked (Explain cache) c s = ExplainCosts (IsTrue c.source) (lines_of c.input) c.old c.new c.before c.now
+LeavesAsked (Load columns forks) c s = WholeLeaves c.old c.new s
+LeavesAsked (Generate docs seed forks) c s = WholeLeaves c.old c.new s
+LeavesAsked Check c s = Checks (IsTrue c.sink) c.old c.new c.written c.written_now c.before c.now s

@@ -14,18 +14,13 @@ use Rattle.drawn_points.specs.Generated.{generated}
 use Rattle.explain_queries.specs.Explained.{Scope, IsScope, Told, TellsLine, TellsLines}
 use Rattle.script_run.specs.Progress.{start}
 use Rattle.script_run.specs.Runs.{Ends, EndsSession}
+use Rattle.bkd_top.specs.Checking.{EndsCheck}
 use Rattle.run_status.specs.declared.status.Status.{Status}
 use Rattle.run_status.specs.declared.status.Status.TheVariants as status
 use Rattle.run_status.specs.declared.stop.Stop.{Stop}
 use Rattle.run_status.specs.declared.stop.Stop.TheVariants as stop
 
 -- ---- what is asked
-
--- there is a command for it; `check` is read and not there yet
-abbrev pub is_served : Option Asked → Bool
-is_served None = false
-is_served (Some Check) = false
-is_served (Some asked) = true
 
 -- the input is read
 abbrev pub reads_input : Asked → Bool
@@ -45,22 +40,6 @@ is_session _ = false
 abbrev pub reads_whole : Asked → Bool
 reads_whole (Session cache forks) = false
 reads_whole asked = reads_input asked
-
--- a script is run
-abbrev pub is_script : Asked → Bool
-is_script (Run cache forks) = true
-is_script (Session cache forks) = true
-is_script _ = false
-
-abbrev pub is_explain : Asked → Bool
-is_explain (Explain cache) = true
-is_explain _ = false
-
--- it is done as a whole, with one text
-abbrev pub is_whole : Asked → Bool
-is_whole (Load columns forks) = true
-is_whole (Generate docs seed forks) = true
-is_whole _ = false
 
 -- something is asked, and it is so
 abbrev pub does : (Asked → Bool) → Option Asked → Bool
@@ -197,11 +176,11 @@ ReadsFew files lines old new =
 
 -- ---- the program
 
--- Explaining leaves what is stored. `check` is not there yet.
+-- Explaining and checking leave what is stored.
 abbrev pub EndsAsked : (told : Type 0) → Asked → Before → Files → List ℕ → Status → Type 0
 EndsAsked told (Run cache forks) b files new s = Ends told (start b.state (lines_of b.input) b.written) files new s
 EndsAsked told (Load columns forks) b files new s = EndsWhole told b (loaded b.state b.input columns) files new s
 EndsAsked told (Explain cache) b files new s = (scope : Scope) → IsScope b.files scope → EndsExplain told scope (lines_of b.input) b.written new s
-EndsAsked told Check b files new s = Rests told b files new
+EndsAsked told Check b files new s = (files ≡ b.files) × EndsCheck told b.files b.written new s
 EndsAsked told (Generate docs seed forks) b files new s = EndsWhole told b (generated b.state docs seed) files new s
 EndsAsked told (Session cache forks) b files new s = EndsSession told (start b.state (lines_of b.input) b.written) files new s

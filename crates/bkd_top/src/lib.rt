@@ -1,10 +1,12 @@
 //! The program over its streams and its folder.
 #![tactic(auto)]
 
+mod check;
 mod explain;
 mod program;
 mod whole;
 
+pub use check::run_check;
 pub use explain::run_explain;
 pub use program::{run, run_script, run_session};
 pub use run_status::{MAX_INPUT, Memory, Status, code, status_line};

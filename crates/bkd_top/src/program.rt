@@ -11,11 +11,12 @@ ghost use Rattle.script_run.specs.Runs.{Ends, EndsSession};
 ghost use Rattle.command_words.specs.Commands.{Asked, IsWithin, asked, said};
 ghost use Rattle.index_core.specs.Whole.{HasNewCanonical};
 ghost use Rattle.run_status.specs.Causes.{HasCauses, NoneRose, ReadsInput};
-ghost use Rattle.bkd_top.specs.Calls.{ExplainCosts, TellsDamage, TellsUsage, WholeLeaves};
+ghost use Rattle.bkd_top.specs.Calls.{LeavesAsked, OnAsked, TakesInput, TellsDamage, TellsUsage};
 ghost use Rattle.script_run.specs.Kept.{RunCosts};
 ghost use Rattle.run_status.specs.Ends.{IsAnswer};
-ghost use Rattle.bkd_top.specs.Commands.{EndsAsked, does, is_explain, is_script, is_served, is_session, is_whole, reads_input, reads_whole};
+ghost use Rattle.bkd_top.specs.Commands.{EndsAsked, does, is_session, reads_input, reads_whole};
 
+use crate::check::run_check;
 use crate::explain::run_explain;
 use crate::whole::{run_generate, run_load};
 use bkd_build::Gate;
@@ -36,6 +37,7 @@ use std::thread::Threads;
 /// | `run` | reads a script, does its lines one after the other on the index that the folder stores, and writes the answer to each before the next one is done; at the end it commits, if something changed |
 /// | `load` | reads a CSV file, adds all its points, commits, and says how many |
 /// | `explain` | reads queries, and says of each how much of the stored segments it tests and touches, and how much it finds |
+/// | `check` | reads every page of the files that the commit lists, and says how large the index is that they hold, or ends with the first damage |
 /// | `generate` | makes an index of drawn documents, commits, and says what drawn queries find in it |
 /// | `session` | does the lines of a script as `run` does, each as soon as it has come, before the input is asked for more |
 ///
@@ -52,28 +54,25 @@ pub fn run<S: Source, F: Folder, K: Sink, R: Threads + Sync, G: Gate>(
     out: &mut K,
     gate: &G,
 ) -> Status
-    ensures usage { TellsUsage (is_served (asked (map string_bytes words.now))) result }
+    ensures usage { TellsUsage (asked (map string_bytes words.now)) result }
     // the headline, and what each other end leaves of the text and the folder
     ensures ends { IsTrue F.told → (state : State) → IsStored (F.files folder.old) state → (a : Asked) → asked (map string_bytes words.now) ≡ Some a → (reads_input a ≡ true → IsTrue S.told)
         → EndsAsked (IsTrue K.told) a (record { state = state; files = F.files folder.old; input = S.left input.old; written = K.written out.old })
         (F.files folder.new) (K.written out.new) result }
     // where no call failed, a command over a folder that stores a state is done, or memory was wanting
-    ensures complete { IsTrue F.told → (state : State) → IsStored (F.files folder.old) state → is_served (asked (map string_bytes words.now)) ≡ true
-        → (does (λ a. reads_input a) (asked (map string_bytes words.now)) ≡ true → IsTrue S.told)
-        → (does (λ a. reads_whole a) (asked (map string_bytes words.now)) ≡ true → length (S.left input.old) ≤ 2 ^ 29)
+    ensures complete { IsTrue F.told → (state : State) → IsStored (F.files folder.old) state → (a : Asked) → asked (map string_bytes words.now) ≡ Some a → (reads_input a ≡ true → IsTrue S.told)
+        → (reads_whole a ≡ true → length (S.left input.old) ≤ 2 ^ 29)
         → NoneRose (record { source = S.faults input.old; folder = F.faults folder.old; sink = K.faults out.old })
         (record { source = S.faults input.new; folder = F.faults folder.new; sink = K.faults out.new }) → IsAnswer result ⊎ (result ≡ Status.Memory) }
-    ensures input { IsTrue S.told → does (λ a. reads_whole a) (asked (map string_bytes words.now)) ≡ true → ReadsInput (S.left input.old) (S.left input.new) result }
-    ensures lines { IsTrue S.told → does (λ a. is_session a) (asked (map string_bytes words.now)) ≡ true → IsAnswer result → S.left input.new ≡ [] }
+    ensures input { IsTrue S.told → OnAsked (λ a. TakesInput a (S.left input.old) (S.left input.new) result) (asked (map string_bytes words.now)) }
     ensures unread { does (λ a. reads_input a) (asked (map string_bytes words.now)) ≡ false → input.new ≡ input.old }
     ensures untouched { does (λ a. is_session a) (asked (map string_bytes words.now)) ≡ false → DoesNothing result → (folder.new ≡ folder.old) × (out.new ≡ out.old) }
     // each segment that the commit lists anew is canonical
     ensures canon { IsTrue F.told → (state : State) → IsStored (F.files folder.old) state → IsAnswer result → HasNewCanonical (F.files folder.old) (F.files folder.new) }
-    ensures costs { IsTrue S.told → IsTrue F.told → does (λ a. is_script a) (asked (map string_bytes words.now)) ≡ true
-        → RunCosts (lines_of (S.left input.old)) (F.files folder.old) (F.files folder.new) (F.reads folder.old) (F.reads folder.new) result }
-    ensures explains { IsTrue F.told → does (λ a. is_explain a) (asked (map string_bytes words.now)) ≡ true
-        → ExplainCosts (IsTrue S.told) (lines_of (S.left input.old)) (F.files folder.old) (F.files folder.new) (F.reads folder.old) (F.reads folder.new) }
-    ensures whole { IsTrue F.told → does (λ a. is_whole a) (asked (map string_bytes words.now)) ≡ true → WholeLeaves (F.files folder.old) (F.files folder.new) result }
+    // what it leaves and costs, whatever the folder holds
+    ensures leaves { IsTrue F.told → OnAsked (λ a. LeavesAsked a
+        (record { source = S.told; sink = K.told; input = S.left input.old; old = F.files folder.old; new = F.files folder.new; written = K.written out.old;
+          written_now = K.written out.new; before = F.reads folder.old; now = F.reads folder.new }) result) (asked (map string_bytes words.now)) }
     // why it ended otherwise
     ensures damage { TellsDamage (IsTrue F.told) (F.files folder.old) (F.files folder.new) result }
     ensures causes { HasCauses (record { source = S.faults input.old; folder = F.faults folder.old; sink = K.faults out.old })
@@ -97,22 +96,18 @@ fn run_command<S: Source, F: Folder, K: Sink, R: Threads + Sync, G: Gate>(
     gate: &G,
 ) -> Status
     requires { IsWithin words }
-    ensures usage { result ≡ Status.Usage → is_served (Some (said words)) ≡ false }
-    ensures served { is_served (Some (said words)) ≡ false → result ≡ Status.Usage }
+    ensures never_usage { result ≡ Status.Usage → ⊥ }
     ensures ends { IsTrue F.told → (state : State) → IsStored (F.files folder.old) state → (reads_input (said words) ≡ true → IsTrue S.told)
         → EndsAsked (IsTrue K.told) (said words) (record { state = state; files = F.files folder.old; input = S.left input.old; written = K.written out.old })
         (F.files folder.new) (K.written out.new) result }
-    ensures input { IsTrue S.told → reads_whole (said words) ≡ true → ReadsInput (S.left input.old) (S.left input.new) result }
-    ensures lines { IsTrue S.told → is_session (said words) ≡ true → IsAnswer result → S.left input.new ≡ [] }
+    ensures input { IsTrue S.told → TakesInput (said words) (S.left input.old) (S.left input.new) result }
     ensures unread { reads_input (said words) ≡ false → input.new ≡ input.old }
     ensures large { result ≡ Status.TooLarge → reads_whole (said words) ≡ true }
     ensures untouched { is_session (said words) ≡ false → DoesNothing result → (folder.new ≡ folder.old) × (out.new ≡ out.old) }
     ensures canon { IsTrue F.told → (state : State) → IsStored (F.files folder.old) state → IsAnswer result → HasNewCanonical (F.files folder.old) (F.files folder.new) }
-    ensures costs { IsTrue S.told → IsTrue F.told → is_script (said words) ≡ true
-        → RunCosts (lines_of (S.left input.old)) (F.files folder.old) (F.files folder.new) (F.reads folder.old) (F.reads folder.new) result }
-    ensures explains { IsTrue F.told → is_explain (said words) ≡ true
-        → ExplainCosts (IsTrue S.told) (lines_of (S.left input.old)) (F.files folder.old) (F.files folder.new) (F.reads folder.old) (F.reads folder.new) }
-    ensures whole { IsTrue F.told → is_whole (said words) ≡ true → WholeLeaves (F.files folder.old) (F.files folder.new) result }
+    ensures leaves { IsTrue F.told → LeavesAsked (said words)
+        (record { source = S.told; sink = K.told; input = S.left input.old; old = F.files folder.old; new = F.files folder.new; written = K.written out.old;
+          written_now = K.written out.new; before = F.reads folder.old; now = F.reads folder.new }) result }
     ensures damage { TellsDamage (IsTrue F.told) (F.files folder.old) (F.files folder.new) result }
     ensures causes { HasCauses (record { source = S.faults input.old; folder = F.faults folder.old; sink = K.faults out.old })
         (record { source = S.faults input.new; folder = F.faults folder.new; sink = K.faults out.new }) result }
@@ -135,8 +130,7 @@ fn run_command<S: Source, F: Folder, K: Sink, R: Threads + Sync, G: Gate>(
             )
         }
         Words::Explain { cache_pages } => run_explain(alloc, cache_pages, input, folder, out),
-        // not there yet
-        Words::Check => Status::Usage,
+        Words::Check => run_check(alloc, folder, out),
         Words::Generate { docs, seed, forks } => {
             run_generate(rt, alloc, docs, seed, forks, folder, out, gate)
         }

@@ -1,18 +1,11 @@
 -- Each command ends as its own definition says.
-use Rattle.std.proofs.Common.{IsTrue, Some, refl, sym, ap, subst, inl, inr}
+use Rattle.std.proofs.Common.{IsTrue, refl, sym, ap, subst, inl, inr}
 use Rattle.command_words.specs.Commands.{Asked, said}
-use Rattle.bkd_top.specs.Commands.{is_explain, is_script, is_served, is_session, is_whole, reads_input, reads_whole}
+use Rattle.bkd_top.specs.Commands.{is_session, reads_input, reads_whole}
 use Rattle.run_status.specs.Ends.{DoesNothing}
-use Rattle.run_status.specs.declared.status.Status.TheVariants as status
-use Rattle.bkd_top.proofs.Commanding.{check_ends, explain_ends, generate_ends, is_so, load_ends, not_so, run_ends, session_asked}
+use Rattle.bkd_top.proofs.Commanding.{check_ends, explain_ends, generate_ends, is_so, left_by, load_ends, run_ends, session_asked, taken_by}
 use Rattle.script_run.proofs.Starting.{canonical_still}
 use Rattle.bkd_top.proofs.program.run_command.Goals as goal
-
-pub returns-in-Run-clause-usage : goal.returns-in-Run-clause-usage
-returns-in-Run-clause-usage g c = λ e. absurd (c.run_script.ensures.never_usage e)
-
-pub returns-in-Run-clause-served : goal.returns-in-Run-clause-served
-returns-in-Run-clause-served g c = is_so (λ a. is_served (Some a)) c.args.words _ (ap said c.in-Run.is) refl
 
 pub returns-in-Run-clause-ends : goal.returns-in-Run-clause-ends
 returns-in-Run-clause-ends g c = λ told state h source.
@@ -20,12 +13,6 @@ returns-in-Run-clause-ends g c = λ told state h source.
     (record { state = state; files = g.F.Pages.files c.args.folder.now; input = g.S.Source.left c.args.input.now; written = g.K.Sink.written c.args.out.now })
     (g.F.Pages.files c.run_script.new.folder) (g.K.Sink.written c.run_script.new.out) c.run_script.result
     _ _ (ap said c.in-Run.is) (c.run_script.ensures.ends (source (ap (λ (a : Asked). reads_input a) (ap said c.in-Run.is))) told state h)
-
-pub returns-in-Load-clause-usage : goal.returns-in-Load-clause-usage
-returns-in-Load-clause-usage g c = λ e. absurd (c.run_load.ensures.never_usage e)
-
-pub returns-in-Load-clause-served : goal.returns-in-Load-clause-served
-returns-in-Load-clause-served g c = is_so (λ a. is_served (Some a)) c.args.words _ (ap said c.in-Load.is) refl
 
 pub returns-in-Load-clause-ends : goal.returns-in-Load-clause-ends
 returns-in-Load-clause-ends g c = λ told state h source.
@@ -37,24 +24,12 @@ returns-in-Load-clause-ends g c = λ told state h source.
 pub returns-in-Load-clause-canon : goal.returns-in-Load-clause-canon
 returns-in-Load-clause-canon g c = c.run_load.ensures.canon
 
-pub returns-in-Explain-clause-usage : goal.returns-in-Explain-clause-usage
-returns-in-Explain-clause-usage g c = λ e. absurd (c.run_explain.ensures.never_usage e)
-
-pub returns-in-Explain-clause-served : goal.returns-in-Explain-clause-served
-returns-in-Explain-clause-served g c = is_so (λ a. is_served (Some a)) c.args.words _ (ap said c.in-Explain.is) refl
-
 pub returns-in-Explain-clause-ends : goal.returns-in-Explain-clause-ends
 returns-in-Explain-clause-ends g c = λ told state h source.
     explain_ends (IsTrue g.K.Sink.told) c.args.words
     (record { state = state; files = g.F.Pages.files c.args.folder.now; input = g.S.Source.left c.args.input.now; written = g.K.Sink.written c.args.out.now })
     (g.F.Pages.files c.run_explain.new.folder) (g.K.Sink.written c.run_explain.new.out) c.run_explain.result
     _ (ap said c.in-Explain.is) (c.run_explain.ensures.ends (source (ap (λ (a : Asked). reads_input a) (ap said c.in-Explain.is))) told)
-
-pub returns-in-Check-clause-ends : goal.returns-in-Check-clause-ends
-returns-in-Check-clause-ends g c = λ told state h source.
-    check_ends (IsTrue g.K.Sink.told) c.args.words
-    (record { state = state; files = g.F.Pages.files c.args.folder.now; input = g.S.Source.left c.args.input.now; written = g.K.Sink.written c.args.out.now })
-    (g.F.Pages.files c.args.folder.now) (g.K.Sink.written c.args.out.now) status.Usage (ap said c.in-Check.is) (record { text = λ sink. refl; stored = h })
 
 pub returns-in-Generate-clause-ends : goal.returns-in-Generate-clause-ends
 returns-in-Generate-clause-ends g c = λ told state h source.
@@ -72,47 +47,14 @@ returns-in-Run-clause-canon g c = c.run_script.ensures.canon
 pub returns-in-Explain-clause-canon : goal.returns-in-Explain-clause-canon
 returns-in-Explain-clause-canon g c = λ told state h a. canonical_still _ _ (c.run_explain.ensures.files told)
 
-pub returns-in-Check-clause-canon : goal.returns-in-Check-clause-canon
-returns-in-Check-clause-canon g c = λ told state h a. absurd a
-
-pub returns-in-Run-clause-input : goal.returns-in-Run-clause-input
-returns-in-Run-clause-input g c = λ told e. c.run_script.ensures.input told
-
 pub returns-in-Run-clause-unread : goal.returns-in-Run-clause-unread
 returns-in-Run-clause-unread g c = is_so (λ a. reads_input a) c.args.words _ (ap said c.in-Run.is) refl
-
-pub returns-in-Load-clause-input : goal.returns-in-Load-clause-input
-returns-in-Load-clause-input g c = λ told e. c.run_load.ensures.input told
 
 pub returns-in-Load-clause-unread : goal.returns-in-Load-clause-unread
 returns-in-Load-clause-unread g c = is_so (λ a. reads_input a) c.args.words _ (ap said c.in-Load.is) refl
 
-pub returns-in-Explain-clause-input : goal.returns-in-Explain-clause-input
-returns-in-Explain-clause-input g c = λ told e. c.run_explain.ensures.input told
-
 pub returns-in-Explain-clause-unread : goal.returns-in-Explain-clause-unread
 returns-in-Explain-clause-unread g c = is_so (λ a. reads_input a) c.args.words _ (ap said c.in-Explain.is) refl
-
-pub returns-in-Check-clause-input : goal.returns-in-Check-clause-input
-returns-in-Check-clause-input g c = λ told. not_so (λ a. reads_whole a) c.args.words _ (ap said c.in-Check.is) refl
-
-pub returns-in-Generate-clause-input : goal.returns-in-Generate-clause-input
-returns-in-Generate-clause-input g c = λ told. not_so (λ a. reads_whole a) c.args.words _ (ap said c.in-Generate.is) refl
-
-pub returns-in-Run-clause-costs : goal.returns-in-Run-clause-costs
-returns-in-Run-clause-costs g c = λ source told e. c.run_script.ensures.costs source told
-
-pub returns-in-Load-clause-costs : goal.returns-in-Load-clause-costs
-returns-in-Load-clause-costs g c = λ source told. not_so is_script c.args.words _ (ap said c.in-Load.is) refl
-
-pub returns-in-Explain-clause-costs : goal.returns-in-Explain-clause-costs
-returns-in-Explain-clause-costs g c = λ source told. not_so is_script c.args.words _ (ap said c.in-Explain.is) refl
-
-pub returns-in-Check-clause-costs : goal.returns-in-Check-clause-costs
-returns-in-Check-clause-costs g c = λ source told. not_so is_script c.args.words _ (ap said c.in-Check.is) refl
-
-pub returns-in-Generate-clause-costs : goal.returns-in-Generate-clause-costs
-returns-in-Generate-clause-costs g c = λ source told. not_so is_script c.args.words _ (ap said c.in-Generate.is) refl
 
 pub returns-in-Generate-clause-causes : goal.returns-in-Generate-clause-causes
 returns-in-Generate-clause-causes g c = record {
@@ -133,51 +75,6 @@ returns-in-Explain-clause-large g c = λ e. ap (λ (a : Asked). reads_whole a) (
 pub returns-in-Generate-clause-large : goal.returns-in-Generate-clause-large
 returns-in-Generate-clause-large g c = λ e. absurd (c.run_generate.ensures.done (subst DoesNothing (sym e) tt))
 
-pub returns-in-Explain-clause-explains : goal.returns-in-Explain-clause-explains
-returns-in-Explain-clause-explains g c = λ told e. record { files = c.run_explain.ensures.files told; reads = λ source. c.run_explain.ensures.reads source told }
-
-pub returns-in-Run-clause-explains : goal.returns-in-Run-clause-explains
-returns-in-Run-clause-explains g c = λ told. not_so is_explain c.args.words _ (ap said c.in-Run.is) refl
-
-pub returns-in-Load-clause-explains : goal.returns-in-Load-clause-explains
-returns-in-Load-clause-explains g c = λ told. not_so is_explain c.args.words _ (ap said c.in-Load.is) refl
-
-pub returns-in-Check-clause-explains : goal.returns-in-Check-clause-explains
-returns-in-Check-clause-explains g c = λ told. not_so is_explain c.args.words _ (ap said c.in-Check.is) refl
-
-pub returns-in-Generate-clause-explains : goal.returns-in-Generate-clause-explains
-returns-in-Generate-clause-explains g c = λ told. not_so is_explain c.args.words _ (ap said c.in-Generate.is) refl
-
-pub returns-in-Run-clause-whole : goal.returns-in-Run-clause-whole
-returns-in-Run-clause-whole g c = λ told. not_so is_whole c.args.words _ (ap said c.in-Run.is) refl
-
-pub returns-in-Explain-clause-whole : goal.returns-in-Explain-clause-whole
-returns-in-Explain-clause-whole g c = λ told. not_so is_whole c.args.words _ (ap said c.in-Explain.is) refl
-
-pub returns-in-Check-clause-whole : goal.returns-in-Check-clause-whole
-returns-in-Check-clause-whole g c = λ told. not_so is_whole c.args.words _ (ap said c.in-Check.is) refl
-
-pub returns-in-Load-clause-whole : goal.returns-in-Load-clause-whole
-returns-in-Load-clause-whole g c = λ told e. c.run_load.ensures.whole told
-
-pub returns-in-Generate-clause-whole : goal.returns-in-Generate-clause-whole
-returns-in-Generate-clause-whole g c = λ told e. c.run_generate.ensures.whole told
-
-pub returns-in-Run-clause-lines : goal.returns-in-Run-clause-lines
-returns-in-Run-clause-lines g c = λ told. not_so is_session c.args.words _ (ap said c.in-Run.is) refl
-
-pub returns-in-Load-clause-lines : goal.returns-in-Load-clause-lines
-returns-in-Load-clause-lines g c = λ told. not_so is_session c.args.words _ (ap said c.in-Load.is) refl
-
-pub returns-in-Explain-clause-lines : goal.returns-in-Explain-clause-lines
-returns-in-Explain-clause-lines g c = λ told. not_so is_session c.args.words _ (ap said c.in-Explain.is) refl
-
-pub returns-in-Check-clause-lines : goal.returns-in-Check-clause-lines
-returns-in-Check-clause-lines g c = λ told. not_so is_session c.args.words _ (ap said c.in-Check.is) refl
-
-pub returns-in-Generate-clause-lines : goal.returns-in-Generate-clause-lines
-returns-in-Generate-clause-lines g c = λ told. not_so is_session c.args.words _ (ap said c.in-Generate.is) refl
-
 pub returns-in-Run-clause-untouched : goal.returns-in-Run-clause-untouched
 returns-in-Run-clause-untouched g c = λ other. c.run_script.ensures.untouched
 
@@ -187,17 +84,8 @@ returns-in-Load-clause-untouched g c = λ other. c.run_load.ensures.untouched
 pub returns-in-Explain-clause-untouched : goal.returns-in-Explain-clause-untouched
 returns-in-Explain-clause-untouched g c = λ other. c.run_explain.ensures.untouched
 
-pub returns-in-Check-clause-untouched : goal.returns-in-Check-clause-untouched
-returns-in-Check-clause-untouched g c = λ other d. (refl, refl)
-
 pub returns-in-Generate-clause-untouched : goal.returns-in-Generate-clause-untouched
 returns-in-Generate-clause-untouched g c = λ other d. absurd (c.run_generate.ensures.done d)
-
-pub returns-in-Session-clause-usage : goal.returns-in-Session-clause-usage
-returns-in-Session-clause-usage g c = λ e. absurd (c.run_session.ensures.never (inl e))
-
-pub returns-in-Session-clause-served : goal.returns-in-Session-clause-served
-returns-in-Session-clause-served g c = is_so (λ a. is_served (Some a)) c.args.words _ (ap said c.in-Session.is) refl
 
 pub returns-in-Session-clause-ends : goal.returns-in-Session-clause-ends
 returns-in-Session-clause-ends g c = λ told state h source.
@@ -209,12 +97,6 @@ returns-in-Session-clause-ends g c = λ told state h source.
 pub returns-in-Session-clause-canon : goal.returns-in-Session-clause-canon
 returns-in-Session-clause-canon g c = c.run_session.ensures.canon
 
-pub returns-in-Session-clause-input : goal.returns-in-Session-clause-input
-returns-in-Session-clause-input g c = λ told. not_so (λ a. reads_whole a) c.args.words _ (ap said c.in-Session.is) refl
-
-pub returns-in-Session-clause-lines : goal.returns-in-Session-clause-lines
-returns-in-Session-clause-lines g c = λ told e. c.run_session.ensures.lines told
-
 pub returns-in-Session-clause-unread : goal.returns-in-Session-clause-unread
 returns-in-Session-clause-unread g c = is_so (λ a. reads_input a) c.args.words _ (ap said c.in-Session.is) refl
 
@@ -224,11 +106,133 @@ returns-in-Session-clause-large g c = λ e. absurd (c.run_session.ensures.never 
 pub returns-in-Session-clause-untouched : goal.returns-in-Session-clause-untouched
 returns-in-Session-clause-untouched g c = is_so is_session c.args.words _ (ap said c.in-Session.is) refl
 
-pub returns-in-Session-clause-costs : goal.returns-in-Session-clause-costs
-returns-in-Session-clause-costs g c = λ source told e. c.run_session.ensures.costs source told
+pub returns-in-Run-clause-never_usage : goal.returns-in-Run-clause-never_usage
+returns-in-Run-clause-never_usage g c = λ e. c.run_script.ensures.never_usage e
 
-pub returns-in-Session-clause-explains : goal.returns-in-Session-clause-explains
-returns-in-Session-clause-explains g c = λ told. not_so is_explain c.args.words _ (ap said c.in-Session.is) refl
+pub returns-in-Load-clause-never_usage : goal.returns-in-Load-clause-never_usage
+returns-in-Load-clause-never_usage g c = λ e. c.run_load.ensures.never_usage e
 
-pub returns-in-Session-clause-whole : goal.returns-in-Session-clause-whole
-returns-in-Session-clause-whole g c = λ told. not_so is_whole c.args.words _ (ap said c.in-Session.is) refl
+pub returns-in-Explain-clause-never_usage : goal.returns-in-Explain-clause-never_usage
+returns-in-Explain-clause-never_usage g c = λ e. c.run_explain.ensures.never_usage e
+
+pub returns-in-Session-clause-never_usage : goal.returns-in-Session-clause-never_usage
+returns-in-Session-clause-never_usage g c = λ e. c.run_session.ensures.never (inl e)
+
+pub returns-in-Generate-clause-never_usage : goal.returns-in-Generate-clause-never_usage
+returns-in-Generate-clause-never_usage g c = λ e. c.run_generate.ensures.done (subst DoesNothing (sym e) tt)
+
+pub returns-in-Check-clause-never_usage : goal.returns-in-Check-clause-never_usage
+returns-in-Check-clause-never_usage g c = λ e. c.run_check.ensures.done (subst DoesNothing (sym e) tt)
+
+pub returns-in-Run-clause-input : goal.returns-in-Run-clause-input
+returns-in-Run-clause-input g c = λ told.
+    taken_by c.args.words _ (g.S.Source.left c.args.input.now) (g.S.Source.left c.run_script.new.input) c.run_script.result (ap said c.in-Run.is) (c.run_script.ensures.input told)
+
+pub returns-in-Load-clause-input : goal.returns-in-Load-clause-input
+returns-in-Load-clause-input g c = λ told.
+    taken_by c.args.words _ (g.S.Source.left c.args.input.now) (g.S.Source.left c.run_load.new.input) c.run_load.result (ap said c.in-Load.is) (c.run_load.ensures.input told)
+
+pub returns-in-Explain-clause-input : goal.returns-in-Explain-clause-input
+returns-in-Explain-clause-input g c = λ told.
+    taken_by c.args.words _ (g.S.Source.left c.args.input.now) (g.S.Source.left c.run_explain.new.input) c.run_explain.result (ap said c.in-Explain.is) (c.run_explain.ensures.input told)
+
+pub returns-in-Session-clause-input : goal.returns-in-Session-clause-input
+returns-in-Session-clause-input g c = λ told.
+    taken_by c.args.words _ (g.S.Source.left c.args.input.now) (g.S.Source.left c.run_session.new.input) c.run_session.result (ap said c.in-Session.is) (c.run_session.ensures.lines told)
+
+pub returns-in-Generate-clause-input : goal.returns-in-Generate-clause-input
+returns-in-Generate-clause-input g c = λ told.
+    taken_by c.args.words _ (g.S.Source.left c.args.input.now) (g.S.Source.left c.args.input.now) c.run_generate.result (ap said c.in-Generate.is) tt
+
+pub returns-in-Check-clause-input : goal.returns-in-Check-clause-input
+returns-in-Check-clause-input g c = λ told.
+    taken_by c.args.words _ (g.S.Source.left c.args.input.now) (g.S.Source.left c.args.input.now) c.run_check.result (ap said c.in-Check.is) tt
+
+pub returns-in-Run-clause-leaves : goal.returns-in-Run-clause-leaves
+returns-in-Run-clause-leaves g c = λ told.
+    left_by c.args.words _
+    (record {
+      source = g.S.Source.told; sink = g.K.Sink.told; input = g.S.Source.left c.args.input.now;
+      old = g.F.Pages.files c.args.folder.now; new = g.F.Pages.files c.run_script.new.folder;
+      written = g.K.Sink.written c.args.out.now; written_now = g.K.Sink.written c.run_script.new.out;
+      before = g.F.Pages.reads c.args.folder.now; now = g.F.Pages.reads c.run_script.new.folder;
+    })
+    c.run_script.result (ap said c.in-Run.is) (λ source. c.run_script.ensures.costs source told)
+
+pub returns-in-Session-clause-leaves : goal.returns-in-Session-clause-leaves
+returns-in-Session-clause-leaves g c = λ told.
+    left_by c.args.words _
+    (record {
+      source = g.S.Source.told; sink = g.K.Sink.told; input = g.S.Source.left c.args.input.now;
+      old = g.F.Pages.files c.args.folder.now; new = g.F.Pages.files c.run_session.new.folder;
+      written = g.K.Sink.written c.args.out.now; written_now = g.K.Sink.written c.run_session.new.out;
+      before = g.F.Pages.reads c.args.folder.now; now = g.F.Pages.reads c.run_session.new.folder;
+    })
+    c.run_session.result (ap said c.in-Session.is) (λ source. c.run_session.ensures.costs source told)
+
+pub returns-in-Explain-clause-leaves : goal.returns-in-Explain-clause-leaves
+returns-in-Explain-clause-leaves g c = λ told.
+    left_by c.args.words _
+    (record {
+      source = g.S.Source.told; sink = g.K.Sink.told; input = g.S.Source.left c.args.input.now;
+      old = g.F.Pages.files c.args.folder.now; new = g.F.Pages.files c.run_explain.new.folder;
+      written = g.K.Sink.written c.args.out.now; written_now = g.K.Sink.written c.run_explain.new.out;
+      before = g.F.Pages.reads c.args.folder.now; now = g.F.Pages.reads c.run_explain.new.folder;
+    })
+    c.run_explain.result (ap said c.in-Explain.is) (record { files = c.run_explain.ensures.files told; reads = λ source. c.run_explain.ensures.reads source told })
+
+pub returns-in-Load-clause-leaves : goal.returns-in-Load-clause-leaves
+returns-in-Load-clause-leaves g c = λ told.
+    left_by c.args.words _
+    (record {
+      source = g.S.Source.told; sink = g.K.Sink.told; input = g.S.Source.left c.args.input.now;
+      old = g.F.Pages.files c.args.folder.now; new = g.F.Pages.files c.run_load.new.folder;
+      written = g.K.Sink.written c.args.out.now; written_now = g.K.Sink.written c.run_load.new.out;
+      before = g.F.Pages.reads c.args.folder.now; now = g.F.Pages.reads c.run_load.new.folder;
+    })
+    c.run_load.result (ap said c.in-Load.is) (c.run_load.ensures.whole told)
+
+pub returns-in-Generate-clause-leaves : goal.returns-in-Generate-clause-leaves
+returns-in-Generate-clause-leaves g c = λ told.
+    left_by c.args.words _
+    (record {
+      source = g.S.Source.told; sink = g.K.Sink.told; input = g.S.Source.left c.args.input.now;
+      old = g.F.Pages.files c.args.folder.now; new = g.F.Pages.files c.run_generate.new.folder;
+      written = g.K.Sink.written c.args.out.now; written_now = g.K.Sink.written c.run_generate.new.out;
+      before = g.F.Pages.reads c.args.folder.now; now = g.F.Pages.reads c.run_generate.new.folder;
+    })
+    c.run_generate.result (ap said c.in-Generate.is) (c.run_generate.ensures.whole told)
+
+pub returns-in-Check-clause-leaves : goal.returns-in-Check-clause-leaves
+returns-in-Check-clause-leaves g c = λ told.
+    left_by c.args.words _
+    (record {
+      source = g.S.Source.told; sink = g.K.Sink.told; input = g.S.Source.left c.args.input.now;
+      old = g.F.Pages.files c.args.folder.now; new = g.F.Pages.files c.run_check.new.folder;
+      written = g.K.Sink.written c.args.out.now; written_now = g.K.Sink.written c.run_check.new.out;
+      before = g.F.Pages.reads c.args.folder.now; now = g.F.Pages.reads c.run_check.new.folder;
+    })
+    c.run_check.result (ap said c.in-Check.is) (c.run_check.ensures.checks told)
+
+pub returns-in-Check-clause-ends : goal.returns-in-Check-clause-ends
+returns-in-Check-clause-ends g c = λ told state h source.
+    check_ends (IsTrue g.K.Sink.told) c.args.words
+    (record { state = state; files = g.F.Pages.files c.args.folder.now; input = g.S.Source.left c.args.input.now; written = g.K.Sink.written c.args.out.now })
+    (g.F.Pages.files c.run_check.new.folder) (g.K.Sink.written c.run_check.new.out) c.run_check.result
+    (ap said c.in-Check.is) ((c.run_check.ensures.checks told).files, (c.run_check.ensures.checks told).ends)
+
+pub returns-in-Check-clause-canon : goal.returns-in-Check-clause-canon
+returns-in-Check-clause-canon g c = λ told state h a. canonical_still _ _ (c.run_check.ensures.checks told).files
+
+pub returns-in-Check-clause-large : goal.returns-in-Check-clause-large
+returns-in-Check-clause-large g c = λ e. absurd (c.run_check.ensures.done (subst DoesNothing (sym e) tt))
+
+pub returns-in-Check-clause-untouched : goal.returns-in-Check-clause-untouched
+returns-in-Check-clause-untouched g c = λ other d. absurd (c.run_check.ensures.done d)
+
+pub returns-in-Check-clause-causes : goal.returns-in-Check-clause-causes
+returns-in-Check-clause-causes g c = record {
+  source = λ e. absurd (c.run_check.ensures.done (subst DoesNothing (sym e) tt));
+  folder = c.run_check.ensures.folder_fault;
+  sink = c.run_check.ensures.sink_fault;
+}
