@@ -112,6 +112,9 @@ fn visit_one<const D: usize, S: Shape<D>, F: Pages>(
     ensures damage { IsTrue F.told → Agrees (F.files folder.old) cache.old → OnDamage result (IsLeafDamageOf (F.files folder.old)) }
     ensures whole { IsTrue F.told → Agrees (F.files folder.old) cache.old → (c : Contents) → IsRead D (F.files folder.old) c (part_of head.now live.now) → NotDamaged result }
 {
+    if live.live_count() == 0 {
+        return Ok(());
+    }
     head.index().is_spelled();
     intersect(alloc, head, cache, folder, shape, live, hits)
 }

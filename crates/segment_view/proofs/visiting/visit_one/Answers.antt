@@ -1,17 +1,25 @@
 use Rattle.std.proofs.Common.{◌≡◌, ◌++◌, List, ap, sym, subst, ◌∙◌, arith, ℕ}
 use Rattle.std.specs.Prelude.{OnOk}
+use Rattle.std.proofs.lemmas.List.{append-nil}
+use Rattle.point_codec.specs.Points.{Item}
 use Rattle.inner_pack.specs.Trees.{IndexTree}
 use Rattle.segment_file.specs.Heads.{Head, count_of}
 use Rattle.bkd_reader.specs.Counts.{tested, touched}
 use Rattle.bkd_reader.proofs.Trees.{tree_count}
 use Rattle.documents.specs.Entries.{numbers_found}
 use Rattle.segment_view.specs.Parts.{part_of}
-use Rattle.segment_view.proofs.Living.{live_one}
+use Rattle.segment_view.proofs.Living.{live_one, nothing_live}
 use Rattle.segment_view.proofs.Reading.{calm_alone}
 use Rattle.segment_view.proofs.Counting.{le_by_tree, one_counted}
 use Rattle.segment_view.proofs.Hits.{hits_live}
 use Rattle.segment_view.proofs.Shown.{read_shown}
 use Rattle.segment_view.proofs.visiting.visit_one.Goals as goal
+
+pub returns-then-live_count-eq0-clause-found : goal.returns-then-live_count-eq0-clause-found
+returns-then-live_count-eq0-clause-found g c = λ told agrees es r.
+    let old = c.args.hits.now.items in
+    let none = nothing_live es (part_of c.args.head.now c.args.live.now) (sym c.live_count.ensures.value ∙ c.if-live_count-eq0.true) in
+    sym (ap (λ (xs : List Item). old ++ numbers_found (g.S.Shape.has c.args.shape.now) xs) none ∙ append-nil old)
 
 pub returns-clause-found : goal.returns-clause-found
 returns-clause-found g c = λ told agrees es r.
