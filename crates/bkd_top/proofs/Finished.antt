@@ -106,7 +106,7 @@ fault_no_answer page.Failed a = absurd a
 fault_no_answer page.Memory a = absurd a
 fault_no_answer (page.Damaged d) a = absurd a
 
-pub fault_rose : (old new : ℕ) (fault : PageFault) → HasPageCause {T = Bool} old new (Err fault) → status_of (Err (stop_of fault)) ≡ status.FolderFault → Rose old new
+pub fault_rose : {T : Type 0} (old new : ℕ) (fault : PageFault) → HasPageCause {T = T} old new (Err fault) → status_of (Err (stop_of fault)) ≡ status.FolderFault → Rose old new
 fault_rose old new page.Failed cause e = cause.failed refl
 fault_rose old new page.Memory cause e = absurd cc
 fault_rose old new (page.Damaged d) cause e = absurd cc

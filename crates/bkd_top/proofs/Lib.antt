@@ -1,3 +1,4 @@
 pub mod Commanding
 pub mod Finished
 pub mod Telling
+pub mod Verdict

@@ -1,0 +1,60 @@
+-- What there is to tell was sent, or cut, or a fault came before.
+use Rattle.std.proofs.Common.{IsTrue, refl, sym, ap, subst, ◌∙◌}
+use Rattle.index_opening.specs.Evidence.{IsEvident}
+use Rattle.run_status.specs.Ends.{DoesNothing, IsDamaged}
+use Rattle.run_status.specs.Stops.{status_of}
+use Rattle.script_run.proofs.Ending.{does_lines, folder_stopped, sink_stopped}
+use Rattle.script_run.proofs.Shown.{fault_status, sink_shows, status_shows}
+use Rattle.bkd_top.proofs.Finished.{fault_no_sink, fault_rose, sent_no_folder, sent_undamaged}
+use Rattle.bkd_top.proofs.Verdict.{fault_check, fault_whole, sent_check, told_text}
+use Rattle.bkd_top.proofs.check.run_check.Goals as goal
+
+pub returns-in-Ok-clause-done : goal.returns-in-Ok-clause-done
+returns-in-Ok-clause-done g c = λ d. does_lines c.send.result (subst DoesNothing c.status_of.ensures d)
+
+pub returns-in-Err-clause-done : goal.returns-in-Err-clause-done
+returns-in-Err-clause-done g c = λ d. does_lines c.stopped.result (subst DoesNothing c.status_of-in-Err.ensures d)
+
+pub returns-in-Ok-clause-checks : goal.returns-in-Ok-clause-checks
+returns-in-Ok-clause-checks g c = λ told. record {
+  ends = rw c.status_of.ensures (sent_check (IsTrue g.K.Sink.told) (g.F.Pages.files c.args.folder.now) (g.K.Sink.written c.args.out.now) (g.K.Sink.written c.send.new.out)
+  c.as_slice.result.now c.send.result (told_text _ _ _ _ c.new-text.ensures.items c.as_slice.ensures.value (rw c.in-Ok.is at (c.check.ensures.tells told)))
+  c.send.ensures.text c.send.ensures.known c.send.ensures.cause);
+  files = c.check.ensures.files told;
+  reads = c.check.ensures.reads told;
+}
+
+pub returns-in-Err-clause-checks : goal.returns-in-Err-clause-checks
+returns-in-Err-clause-checks g c = λ told. record {
+  ends = rw c.status_of-in-Err.ensures (rw c.stopped.ensures (fault_check (IsTrue g.K.Sink.told) (g.F.Pages.files c.args.folder.now) (g.K.Sink.written c.args.out.now)
+  (g.K.Sink.written c.args.out.now) c.in-Err.fault (rw c.in-Err.is at (c.check.ensures.undefined told)) (λ sink. refl)));
+  files = c.check.ensures.files told;
+  reads = c.check.ensures.reads told;
+}
+
+pub returns-in-Ok-clause-damage : goal.returns-in-Ok-clause-damage
+returns-in-Ok-clause-damage g c = record {
+  never = λ told state h d. sent_undamaged c.send.result c.send.ensures.cause (subst IsDamaged c.status_of.ensures d);
+  evident = let P = IsEvident (IsTrue g.F.Pages.told) (g.F.Pages.files c.check.new.folder) in
+  rw c.status_of.ensures (status_shows P c.send.result (sink_shows P c.send.result c.send.ensures.cause));
+}
+
+pub returns-in-Err-clause-damage : goal.returns-in-Err-clause-damage
+returns-in-Err-clause-damage g c = record {
+  never = λ told state h d. fault_whole (g.F.Pages.files c.args.folder.now) state c.in-Err.fault h (rw c.in-Err.is at (c.check.ensures.undefined told))
+  (subst IsDamaged (c.status_of-in-Err.ensures ∙ ap status_of c.stopped.ensures) d);
+  evident = rw c.status_of-in-Err.ensures (rw c.stopped.ensures (fault_status (IsEvident (IsTrue g.F.Pages.told) (g.F.Pages.files c.check.new.folder)) c.in-Err.fault
+  (rw c.in-Err.is at c.check.ensures.evident)));
+}
+
+pub returns-in-Ok-clause-folder_fault : goal.returns-in-Ok-clause-folder_fault
+returns-in-Ok-clause-folder_fault g c = λ e. sent_no_folder c.send.result c.send.ensures.cause (folder_stopped c.send.result (sym c.status_of.ensures ∙ e))
+
+pub returns-in-Err-clause-folder_fault : goal.returns-in-Err-clause-folder_fault
+returns-in-Err-clause-folder_fault g c = λ e. fault_rose _ _ c.in-Err.fault (rw c.in-Err.is at c.check.ensures.cause) (sym (c.status_of-in-Err.ensures ∙ ap status_of c.stopped.ensures) ∙ e)
+
+pub returns-in-Ok-clause-sink_fault : goal.returns-in-Ok-clause-sink_fault
+returns-in-Ok-clause-sink_fault g c = λ e. c.send.ensures.sink (sink_stopped c.send.result (sym c.status_of.ensures ∙ e))
+
+pub returns-in-Err-clause-sink_fault : goal.returns-in-Err-clause-sink_fault
+returns-in-Err-clause-sink_fault g c = λ e. fault_no_sink c.in-Err.fault (sym (c.status_of-in-Err.ensures ∙ ap status_of c.stopped.ensures) ∙ e)
