@@ -1,5 +1,5 @@
 -- Lines that are read one after the other: those so far, with whichever others behind them.
-use Rattle.std.proofs.Common.{◌≡◌, ◌≤◌, ◌+◌, ℕ, Bool, false, cond, Option, List, [], ◌∷◌, ◌++◌, Some, None, Result, Ok, Err, IsErrOf, refl, sym, ap, ◌∙◌, subst, ◌⊎◌, append_assoc, append-nil}
+use Rattle.std.proofs.Common.{◌≡◌, ◌≤◌, ◌+◌, ℕ, Bool, true, false, cond, Option, List, [], ◌∷◌, ◌++◌, Some, None, Result, Ok, Err, IsErrOf, refl, sym, ap, ◌∙◌, subst, ◌⊎◌, append_assoc, append-nil}
 use Rattle.outer_io.specs.declared.file_name.FileName.TheVariants.{Commit}
 use Rattle.outer_io.specs.Files.{Files}
 use Rattle.std.proofs.lemmas.Bool.{false≢true}
@@ -30,6 +30,14 @@ pub reads_alike : (dims : Option ℕ) (line bytes text : List ℕ) → bytes ≡
 reads_alike dims line bytes text are is = sym (kept_reads dims line) ∙ ap (read dims) (sym are) ∙ ap (read dims) (sym is)
 
 -- ---- what was read
+
+-- a line was given, or there was none
+pub gives_line : (told : Type 0) (old : LineReader) (left : List ℕ) (new : LineReader) (now bytes : List ℕ) (b : Bool) → b ≡ true → Gives told old left new now bytes (Ok b) → GivesLine told old left new now bytes
+gives_line told old left new now bytes b is h = subst (λ (b : Bool). Gives told old left new now bytes (Ok b)) is h
+
+pub gives_none : (told : Type 0) (old : LineReader) (left : List ℕ) (new : LineReader) (now bytes : List ℕ) (b : Bool) → b ≡ false → Gives told old left new now bytes (Ok b)
+    → told → KnowsEnd old left → (lines_left old left ≡ []) × (now ≡ [])
+gives_none told old left new now bytes b is h = subst (λ (b : Bool). Gives told old left new now bytes (Ok b)) is h
 
 -- these lines were read; where the source tells its bytes they are the first ones, and the others are left
 pub record HasRead (told : Type 0) (old : LineReader) (before : List ℕ) (new : LineReader) (now : List ℕ) : Type 0 where

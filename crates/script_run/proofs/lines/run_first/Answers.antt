@@ -1,5 +1,5 @@
 -- Each line goes on from those before it; the one that makes an index hands the rest on, and else the last one ends the script.
-use Rattle.std.proofs.Common.{◌≡◌, ◌≤◌, ◌+◌, ◌++◌, ◌∷◌, [], ℕ, List, arith, refl, sym, ap, ◌∙◌, subst, None, Err, append_assoc}
+use Rattle.std.proofs.Common.{◌≡◌, ◌≤◌, ◌+◌, ◌++◌, ◌∷◌, [], ℕ, List, arith, rules, true, false, refl, sym, ap, ◌∙◌, subst, IsTrue, None, Err, append_assoc}
 use Rattle.outer_io.specs.declared.file_name.FileName.TheVariants.{Commit}
 use Rattle.index_model.specs.State.{new_index}
 use Rattle.index_model.specs.Script.{Answer}
@@ -11,7 +11,7 @@ use Rattle.script_run.proofs.Ending.{rose_from}
 use Rattle.script_run.proofs.Going.{start_here, refused_more, at_most_one}
 use Rattle.script_run.proofs.Halting.{halt_cause_from, halt_less, memory_cause, no_source, source_cause_from}
 use Rattle.script_run.proofs.Lined.{stops_first, finishes_first, first_goes_on, halts_first, made_ends, memory_first, first_cause, cause_on}
-use Rattle.script_run.proofs.Reading.{none_read, of_all, of_left, of_line, of_rest, one_read, reads_alike}
+use Rattle.script_run.proofs.Reading.{gives_line, gives_none, none_read, of_all, of_left, of_line, of_rest, one_read, reads_alike}
 use Rattle.script_run.proofs.Shown.{first_shows}
 use Rattle.script_run.proofs.Starting.{leads_none, leads_same, made_leads, nears_first, nears_on}
 use Rattle.script_run.proofs.lines.run_first.Goals as goal
@@ -31,7 +31,8 @@ lines-init g c = record {
 pub lines-preserved : goal.lines-preserved
 lines-preserved g c =
     let so_far = c.lines.invariant.so_far in
-    let gives = rw c.in-Ok-true.field-0-is at c.in-Ok-true.ensures.gives in
+    let yes : c.in-Ok-true.field-0 ≡ true = search rules in
+    let gives = gives_line (IsTrue g.S.Source.told) c.lines.reader (g.S.Source.left c.lines.input) c.next_line.new.self (g.S.Source.left c.next_line.new.source) c.next_line.new.line.items c.in-Ok-true.field-0 yes c.in-Ok-true.ensures.gives in
     let is = first_alike c.lines.line gives.line c.as_slice.result.now (reads_alike None gives.line c.next_line.new.line.items c.as_slice.result.now gives.bytes_are c.as_slice.ensures.value) in
     let same = rw c.in-Ok-Nothing.field-0-is at c.in-Ok-Nothing.ensures.opening in
     let state = ap (λ (a : Answer). a.state) is ∙ same.state in
@@ -55,7 +56,8 @@ lines-preserved g c =
 pub returns-in-Ok-Made-clause-does : goal.returns-in-Ok-Made-clause-does
 returns-in-Ok-Made-clause-does g c =
     let so_far = c.lines.invariant.so_far in
-    let gives = rw c.in-Ok-true.field-0-is at c.in-Ok-true.ensures.gives in
+    let yes : c.in-Ok-true.field-0 ≡ true = search rules in
+    let gives = gives_line (IsTrue g.S.Source.told) c.lines.reader (g.S.Source.left c.lines.input) c.next_line.new.self (g.S.Source.left c.next_line.new.source) c.next_line.new.line.items c.in-Ok-true.field-0 yes c.in-Ok-true.ensures.gives in
     let is = first_alike c.lines.line gives.line c.as_slice.result.now (reads_alike None gives.line c.next_line.new.line.items c.as_slice.result.now gives.bytes_are c.as_slice.ensures.value) in
     let made = rw c.in-Ok-Made.field-0-is at c.in-Ok-Made.ensures.opening in
     let same = ap (λ f. g.F.Pages.files f) c.lines.invariant.folder in
@@ -75,7 +77,8 @@ returns-in-Ok-Made-clause-does g c =
 
 pub returns-in-Ok-Made-clause-read : goal.returns-in-Ok-Made-clause-read
 returns-in-Ok-Made-clause-read g c =
-    let gives = rw c.in-Ok-true.field-0-is at c.in-Ok-true.ensures.gives in
+    let yes : c.in-Ok-true.field-0 ≡ true = search rules in
+    let gives = gives_line (IsTrue g.S.Source.told) c.lines.reader (g.S.Source.left c.lines.input) c.next_line.new.self (g.S.Source.left c.next_line.new.source) c.next_line.new.line.items c.in-Ok-true.field-0 yes c.in-Ok-true.ensures.gives in
     λ source knows. c.run_from.ensures.read source (gives.ended source (c.lines.invariant.so_far.0.ended source knows))
 
 pub returns-in-Ok-Made-clause-cause : goal.returns-in-Ok-Made-clause-cause
@@ -95,13 +98,14 @@ returns-in-Ok-Made-clause-evident g c =
 pub returns-in-Err-clause-does : goal.returns-in-Err-clause-does
 returns-in-Err-clause-does g c =
     let so_far = c.lines.invariant.so_far in
-    let gives = rw c.in-Ok-true.field-0-is at c.in-Ok-true.ensures.gives in
+    let yes : c.in-Ok-true.field-0 ≡ true = search rules in
+    let gives = gives_line (IsTrue g.S.Source.told) c.lines.reader (g.S.Source.left c.lines.input) c.next_line.new.self (g.S.Source.left c.next_line.new.source) c.next_line.new.line.items c.in-Ok-true.field-0 yes c.in-Ok-true.ensures.gives in
     let is = first_alike c.lines.line gives.line c.as_slice.result.now (reads_alike None gives.line c.next_line.new.line.items c.as_slice.result.now gives.bytes_are c.as_slice.ensures.value) in
     let same = ap (λ f. g.F.Pages.files f) c.lines.invariant.folder in
     λ told. of_line _ _ _ c.lines.reader _ so_far.0 _ _ _ _ gives (λ none.
       let still : g.F.Pages.files c.lines.folder Commit ≡ None = rw same none in (
         stops_first _ (g.F.Pages.files c.lines.folder) _ _ _ _ _ (so_far.1 (gives.line ∷ lines_left c.next_line.new.self (g.S.Source.left c.next_line.new.source))).0 still gives.line _ refl c.in-Err.stop c.in-Err.ensures.cause
-            (λ sink. subst (λ (a : Answer). IsCut a.text _ _ c.in-Err.stop) (sym is) (c.in-Err.ensures.text sink)),
+            (λ sink. subst (λ (a : Answer). IsCut a.text (g.K.Sink.written c.lines.out) (g.K.Sink.written c.answer_first.new.out) c.in-Err.stop) (sym is) (c.in-Err.ensures.text sink)),
         leads_none None _ _ _ _ _ _ same (ap (λ f. g.F.Pages.reads f) c.lines.invariant.folder),
       ))
 
@@ -118,9 +122,10 @@ returns-in-Err-clause-evident g c = first_shows Opening ℕ _ c.in-Err.stop c.in
 
 pub returns-in-Ok-false-clause-does : goal.returns-in-Ok-false-clause-does
 returns-in-Ok-false-clause-does g c =
+    let no : c.in-Ok-false.field-0 ≡ false = search rules in
     let so_far = c.lines.invariant.so_far in
     let same = ap (λ f. g.F.Pages.files f) c.lines.invariant.folder in
-    λ told. of_all _ _ _ c.lines.reader _ so_far.0 _ c.next_line.new.self _ (rw c.in-Ok-false.field-0-is at c.in-Ok-false.ensures.gives) (λ none.
+    λ told. of_all _ _ _ c.lines.reader _ so_far.0 _ c.next_line.new.self (g.S.Source.left c.next_line.new.source) (gives_none (IsTrue g.S.Source.told) c.lines.reader (g.S.Source.left c.lines.input) c.next_line.new.self (g.S.Source.left c.next_line.new.source) c.next_line.new.line.items c.in-Ok-false.field-0 no c.in-Ok-false.ensures.gives) (λ none.
       let still : g.F.Pages.files c.lines.folder Commit ≡ None = rw same none in (
         finishes_first _ _ _ _ _ (so_far.1 []).0 (g.F.Pages.files c.lines.folder) still refl,
         leads_none None _ _ _ _ _ _ same (ap (λ f. g.F.Pages.reads f) c.lines.invariant.folder),
@@ -128,7 +133,8 @@ returns-in-Ok-false-clause-does g c =
 
 pub returns-in-Ok-false-clause-read : goal.returns-in-Ok-false-clause-read
 returns-in-Ok-false-clause-read g c =
-    let none = rw c.in-Ok-false.field-0-is at c.in-Ok-false.ensures.gives in
+    let no : c.in-Ok-false.field-0 ≡ false = search rules in
+    let none = gives_none (IsTrue g.S.Source.told) c.lines.reader (g.S.Source.left c.lines.input) c.next_line.new.self (g.S.Source.left c.next_line.new.source) c.next_line.new.line.items c.in-Ok-false.field-0 no c.in-Ok-false.ensures.gives in
     λ source knows. (none source (c.lines.invariant.so_far.0.ended source knows)).1
 
 pub returns-in-Ok-false-clause-cause : goal.returns-in-Ok-false-clause-cause

@@ -1,5 +1,5 @@
 -- Each line goes on from those before it; after the last one what they leave is committed.
-use Rattle.std.proofs.Common.{◌≡◌, ◌≤◌, Bool, ℕ, List, [], ◌∷◌, ◌++◌, arith, refl, sym, ap, ◌∙◌, IsTrue, Err, Some, inl, append_assoc}
+use Rattle.std.proofs.Common.{◌≡◌, ◌≤◌, Bool, ℕ, List, [], ◌∷◌, ◌++◌, arith, rules, true, false, refl, sym, ap, ◌∙◌, IsTrue, Err, Some, inl, append_assoc}
 use Rattle.index_core.specs.Sessions.{Trusts}
 use Rattle.index_core.proofs.Sizes.{session_fits}
 use Rattle.line_source.specs.Reader.{lines_left}
@@ -11,7 +11,7 @@ use Rattle.script_run.proofs.Going.{refused_more, at_most_one}
 use Rattle.script_run.proofs.Halting.{halted_no_source, memory_cause, no_source, halted_cause, halted_ends, halted_keeps, halted_shows}
 use Rattle.script_run.proofs.Lined.{cause_to}
 use Rattle.script_run.proofs.Passing.{on_ok}
-use Rattle.script_run.proofs.Reading.{closes_halted, going_ends, going_first, going_halts, going_on, going_stops, going_wants, none_read, of_all, of_left, of_line, one_read, quiet_first, quiet_on, reads_alike}
+use Rattle.script_run.proofs.Reading.{closes_halted, gives_line, gives_none, going_ends, going_first, going_halts, going_on, going_stops, going_wants, none_read, of_all, of_left, of_line, one_read, quiet_first, quiet_on, reads_alike}
 use Rattle.script_run.proofs.Shown.{same_stop, stop_less}
 use Rattle.script_run.proofs.lines.run_made.Goals as goal
 
@@ -41,7 +41,8 @@ lines-init g c = record {
 pub lines-preserved : goal.lines-preserved
 lines-preserved g c =
     let so_far = c.lines.invariant.so_far in
-    let gives = rw c.in-Ok-true.field-0-is at c.in-Ok-true.ensures.gives in
+    let yes : c.in-Ok-true.field-0 ≡ true = search rules in
+    let gives = gives_line (IsTrue g.S.Source.told) c.lines.reader (g.S.Source.left c.lines.input) c.next_line.new.self (g.S.Source.left c.next_line.new.source) c.next_line.new.line.items c.in-Ok-true.field-0 yes c.in-Ok-true.ensures.gives in
     let alike = reads_alike (Some g.row.D) gives.line c.next_line.new.line.items c.as_slice.result.now gives.bytes_are c.as_slice.ensures.value in
     record {
       so_far = (
@@ -63,7 +64,8 @@ lines-preserved g c =
 pub returns-in-Err-clause-does : goal.returns-in-Err-clause-does
 returns-in-Err-clause-does g c =
     let so_far = c.lines.invariant.so_far in
-    let gives = rw c.in-Ok-true.field-0-is at c.in-Ok-true.ensures.gives in
+    let yes : c.in-Ok-true.field-0 ≡ true = search rules in
+    let gives = gives_line (IsTrue g.S.Source.told) c.lines.reader (g.S.Source.left c.lines.input) c.next_line.new.self (g.S.Source.left c.next_line.new.source) c.next_line.new.line.items c.in-Ok-true.field-0 yes c.in-Ok-true.ensures.gives in
     let alike = reads_alike (Some g.row.D) gives.line c.next_line.new.line.items c.as_slice.result.now gives.bytes_are c.as_slice.ensures.value in
     λ told. of_line _ _ _ c.lines.reader _ so_far.0 _ _ _ _ gives (λ i stored h.
       let going = so_far.1 told i stored h (gives.line ∷ lines_left c.next_line.new.self (g.S.Source.left c.next_line.new.source)) in
@@ -79,7 +81,8 @@ returns-in-Err-clause-source g c = no_source _ _ _ (omega (arith, c.lines.invari
 pub returns-in-Err-clause-undone : goal.returns-in-Err-clause-undone
 returns-in-Err-clause-undone g c =
     let so_far = c.lines.invariant.so_far in
-    let gives = rw c.in-Ok-true.field-0-is at c.in-Ok-true.ensures.gives in
+    let yes : c.in-Ok-true.field-0 ≡ true = search rules in
+    let gives = gives_line (IsTrue g.S.Source.told) c.lines.reader (g.S.Source.left c.lines.input) c.next_line.new.self (g.S.Source.left c.next_line.new.source) c.next_line.new.line.items c.in-Ok-true.field-0 yes c.in-Ok-true.ensures.gives in
     let alike = reads_alike (Some g.row.D) gives.line c.next_line.new.line.items c.as_slice.result.now gives.bytes_are c.as_slice.ensures.value in
     λ told. of_line _ _ _ c.lines.reader _ so_far.0 _ _ _ _ gives (λ h quiet.
       let next = (so_far.2 told h).kept (gives.line ∷ lines_left c.next_line.new.self (g.S.Source.left c.next_line.new.source)) quiet in
@@ -92,8 +95,9 @@ returns-in-Err-clause-evident g c =
 
 pub returns-in-Ok-false-clause-does : goal.returns-in-Ok-false-clause-does
 returns-in-Ok-false-clause-does g c =
+    let no : c.in-Ok-false.field-0 ≡ false = search rules in
     let so_far = c.lines.invariant.so_far in
-    λ told. of_all _ _ _ c.lines.reader _ so_far.0 _ c.next_line.new.self _ (rw c.in-Ok-false.field-0-is at c.in-Ok-false.ensures.gives) (λ i stored h.
+    λ told. of_all _ _ _ c.lines.reader _ so_far.0 _ c.next_line.new.self (g.S.Source.left c.next_line.new.source) (gives_none (IsTrue g.S.Source.told) c.lines.reader (g.S.Source.left c.lines.input) c.next_line.new.self (g.S.Source.left c.next_line.new.source) c.next_line.new.line.items c.in-Ok-false.field-0 no c.in-Ok-false.ensures.gives) (λ i stored h.
       let going = so_far.1 told i stored h [] in
       let ends = going_ends _ g.row.D _ _ i stored _ _ _ _ _ _ _ going _ c.finish.result c.halted.result (c.finish.ensures.ends told going.goes.index going.goes.stored going.goes.stands)
       (closes_halted g.row.D going.goes.index _ _ c.finish.result c.halted.result c.halted.ensures (c.finish.ensures.closes told going.goes.index going.goes.stored going.goes.stands)) in
@@ -101,7 +105,8 @@ returns-in-Ok-false-clause-does g c =
 
 pub returns-in-Ok-false-clause-read : goal.returns-in-Ok-false-clause-read
 returns-in-Ok-false-clause-read g c =
-    let none = rw c.in-Ok-false.field-0-is at c.in-Ok-false.ensures.gives in
+    let no : c.in-Ok-false.field-0 ≡ false = search rules in
+    let none = gives_none (IsTrue g.S.Source.told) c.lines.reader (g.S.Source.left c.lines.input) c.next_line.new.self (g.S.Source.left c.next_line.new.source) c.next_line.new.line.items c.in-Ok-false.field-0 no c.in-Ok-false.ensures.gives in
     λ source knows. on_ok c.halted.result (none source (c.lines.invariant.so_far.0.ended source knows)).1
 
 pub returns-in-Ok-false-clause-cause : goal.returns-in-Ok-false-clause-cause
@@ -114,8 +119,9 @@ returns-in-Ok-false-clause-source g c =
 
 pub returns-in-Ok-false-clause-undone : goal.returns-in-Ok-false-clause-undone
 returns-in-Ok-false-clause-undone g c =
+    let no : c.in-Ok-false.field-0 ≡ false = search rules in
     let so_far = c.lines.invariant.so_far in
-    λ told. of_all _ _ _ c.lines.reader _ so_far.0 _ c.next_line.new.self _ (rw c.in-Ok-false.field-0-is at c.in-Ok-false.ensures.gives) (λ h quiet.
+    λ told. of_all _ _ _ c.lines.reader _ so_far.0 _ c.next_line.new.self (g.S.Source.left c.next_line.new.source) (gives_none (IsTrue g.S.Source.told) c.lines.reader (g.S.Source.left c.lines.input) c.next_line.new.self (g.S.Source.left c.next_line.new.source) c.next_line.new.line.items c.in-Ok-false.field-0 no c.in-Ok-false.ensures.gives) (λ h quiet.
       halted_keeps (g.F.Pages.files c.args.folder.now) (g.F.Pages.files c.finish.new.folder) c.finish.result c.halted.result c.halted.ensures
       (stop_after _ _ _ c.finish.result ((so_far.2 told h).kept [] quiet).0 (c.finish.ensures.undone told (c.lines.invariant.trusts told h))))
 
