@@ -80,7 +80,7 @@ pub(crate) fn add<const D: usize>(alloc: Global, words: Words<'_>) -> Result<Com
 }
 
 /// So many points, which all words that are left write.
-fn points_at<const D: usize>(
+pub fn points_at<const D: usize>(
     alloc: Global,
     mut words: Words<'_>,
     count: usize,
@@ -122,7 +122,7 @@ pub(crate) fn delete<const D: usize>(mut words: Words<'_>) -> Result<Command<D>,
 
 /// Nothing, `begin` with any positions, or `end`
 #[tactic(auto, unfolding(crate::specs::Reading::read_merge))]
-pub(crate) fn merge<const D: usize>(
+pub fn merge<const D: usize>(
     alloc: Global,
     mut words: Words<'_>,
 ) -> Result<Command<D>, LineFault>
@@ -157,7 +157,7 @@ fn positions_at(alloc: Global, mut words: Words<'_>) -> Result<Vec<u32>, LineFau
 
 /// `NAME`, alone
 #[tactic(auto, unfolding(crate::specs::Reading::name_of))]
-pub(crate) fn name_at(mut words: Words<'_>) -> Result<Name, LineFault>
+pub fn name_at(mut words: Words<'_>) -> Result<Name, LineFault>
     ensures { MatchResult result (λ name. name_of (left words.entry) ≡ Ok name) (λ f. name_of (left words.entry) ≡ Err f) }
 {
     let Some(word) = words.next() else {
@@ -171,7 +171,7 @@ pub(crate) fn name_at(mut words: Words<'_>) -> Result<Name, LineFault>
 }
 
 /// A command, where no words are left.
-pub(crate) fn alone<const D: usize>(
+pub fn alone<const D: usize>(
     mut words: Words<'_>,
     command: Command<D>,
 ) -> Result<Command<D>, LineFault>

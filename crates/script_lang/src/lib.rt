@@ -1,15 +1,15 @@
 //! The script of the index: what its lines ask, and the texts that answer them.
 #![tactic(auto)]
 
-mod changes;
+pub mod changes;
 pub mod commands;
 pub mod faults;
-mod lines;
-mod numbers;
-mod queries;
-mod reading;
-mod replies;
-mod words;
+pub mod lines;
+pub mod numbers;
+pub mod queries;
+pub mod reading;
+pub mod replies;
+pub mod words;
 
 pub use commands::{Command, First, Positions};
 pub use faults::{LineFault, Memory, Why};

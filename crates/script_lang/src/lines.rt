@@ -37,7 +37,7 @@ fn line_len(bytes: &[u8]) -> usize
 
 /// All words of a line, if it is a text that is not too long.
 #[tactic(auto, using(crate::proofs::WordsOf::words_fit), unfolding(crate::specs::Reading::text_of))]
-pub(crate) fn words_of(line: &[u8]) -> Result<Words<'_>, LineFault>
+pub fn words_of(line: &[u8]) -> Result<Words<'_>, LineFault>
     ensures { MatchResult result (λ words. (words.place ≡ 1) × (text_of line.now ≡ Ok words.text.now)) (λ f. text_of line.now ≡ Err f) }
 {
     let line = without_return(line);

@@ -10,14 +10,14 @@ use crate::words::Words;
 use point_codec::Point;
 
 /// The number that a word writes. The word has this place in its line.
-pub(crate) fn number_at(word: &str, place: u32) -> Result<u32, LineFault>
+pub fn number_at(word: &str, place: u32) -> Result<u32, LineFault>
     ensures { result ≡ value_of number place word.now }
 {
     number_text::number(word.as_bytes()).ok_or(LineFault::Number { word: place })
 }
 
 /// The point that the next `D` words write.
-pub(crate) fn point_at<const D: usize>(words: &mut Words<'_>) -> Result<Point<D>, LineFault>
+pub fn point_at<const D: usize>(words: &mut Words<'_>) -> Result<Point<D>, LineFault>
     requires some { 1 ≤ D }
     requires few { D ≤ 8 }
     requires enough { D ≤ length (left words.old) }
@@ -42,7 +42,7 @@ fn coordinate_at(word: &str, place: u32) -> Result<i32, LineFault>
 }
 
 /// The ends of a box, which all words that are left write.
-pub(crate) fn box_at<const D: usize>(
+pub fn box_at<const D: usize>(
     mut words: Words<'_>,
 ) -> Result<(Point<D>, Point<D>), LineFault>
     requires some { 1 ≤ D }

@@ -52,7 +52,7 @@ pub fn read_first(b: &[u8]) -> Result<First, LineFault>
 }
 
 /// Whether a line that begins with this word is a note.
-fn is_note(verb: &str) -> bool
+pub fn is_note(verb: &str) -> bool
     ensures { result ≡ (slice_index verb.now 0 == 35) }
 {
     matches!(verb.as_bytes(), [b'#', ..])

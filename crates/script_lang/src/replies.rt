@@ -195,7 +195,7 @@ pub fn put_why(out: &mut Vec<u8>, line: u64, w: Why) -> Result<(), Memory>
 }
 
 /// Appends a line's number and why it is refused, told in pieces.
-fn refuse(out: &mut Vec<u8>, line: u64, cause: &[&[u8]]) -> Result<(), Memory>
+pub fn refuse(out: &mut Vec<u8>, line: u64, cause: &[&[u8]]) -> Result<(), Memory>
     ensures ok { OnOk result (out.new.items ≡ out.old.items ++ refusal_text line (flat_map (λ piece. piece.now) cause.now)) }
     ensures memory { OnErr result (out.new.items ≡ out.old.items) }
 {

@@ -41,19 +41,19 @@ fn is_blank(b: u8) -> bool
 
 /// The words of a line that are not read yet.
 #[derive(Clone, Copy)]
-pub(crate) struct Words<'a> {
+pub struct Words<'a> {
     /// The rest of the line.
-    pub(crate) text: &'a str,
+    pub text: &'a str,
     /// The place of the first of the words in the line, counted from 1.
-    pub(crate) place: u32,
-    ghost fits: { place + length (words_of text.now) < 2 ^ 32 },
+    pub place: u32,
+    pub ghost fits: { place + length (words_of text.now) < 2 ^ 32 },
 }
 
 impl<'a> Words<'a> {
     ghost use Rattle.script_lang.specs.Parts.{left, Takes};
 
     /// The next word.
-    pub(crate) fn next(&mut self) -> Option<&'a str>
+    pub fn next(&mut self) -> Option<&'a str>
         ensures { MatchOption result (left self.old ≡ []) (λ word. Takes word.now self.old self.new) }
     {
         let (word, text) = first_word(self.text)?;
@@ -65,7 +65,7 @@ impl<'a> Words<'a> {
     }
 
     /// How many words there are.
-    pub(crate) fn count(&self) -> usize
+    pub fn count(&self) -> usize
         ensures { result ≡ length (left self.now) }
     {
         let mut count = 0;
