@@ -102,7 +102,15 @@ fn run_read<S: Source, R: Threads + Sync, F: Folder, K: Sink, G: Gate>(
                 line: 1,
                 refused: 0,
             };
-            run_from(work, Origin::Stored(commit), tally, reader, input, folder, out)
+            run_from(
+                work,
+                Origin::Stored(commit),
+                tally,
+                reader,
+                input,
+                folder,
+                out,
+            )
         }
         Err(fault) => halted(stopped(fault)),
     }
@@ -141,7 +149,15 @@ fn run_first<S: Source, R: Threads + Sync, F: Folder, K: Sink, G: Gate>(
                         line: line + 1,
                         refused,
                     };
-                    return run_from(work, Origin::New { dims, leaf }, tally, reader, input, folder, out);
+                    return run_from(
+                        work,
+                        Origin::New { dims, leaf },
+                        tally,
+                        reader,
+                        input,
+                        folder,
+                        out,
+                    );
                 }
                 Err(stop) => return Err(Halt::Stopped(stop)),
             },
@@ -272,7 +288,15 @@ fn run_made<const D: usize, S: Source, R: Threads + Sync, F: Folder, K: Sink, G:
     let mut refused = tally.refused;
     'lines: for line in tally.line..u64::MAX {
         match reader.next_line(input, &mut text) {
-            Ok(true) => match answer_line(work, session, folder, line, text.as_slice(), &mut reply, out) {
+            Ok(true) => match answer_line(
+                work,
+                session,
+                folder,
+                line,
+                text.as_slice(),
+                &mut reply,
+                out,
+            ) {
                 Ok(is_refused) => refused += u64::from(is_refused),
                 Err(stop) => return Err(Halt::Stopped(stop)),
             },
