@@ -13,7 +13,7 @@ use Rattle.script_run.proofs.Lined.{cause_to}
 use Rattle.script_run.proofs.Passing.{on_ok}
 use Rattle.script_run.proofs.Reading.{closes_halted, gives_line, gives_none, going_ends, going_first, going_halts, going_on, going_stops, going_wants, none_read, of_all, of_left, of_line, one_read, quiet_first, quiet_on, reads_alike}
 use Rattle.script_run.proofs.Shown.{same_stop, stop_less}
-use Rattle.script_run.proofs.lines.run_made.Goals as goal
+use Rattle.script_run.proofs.indexed.run_made.Goals as goal
 
 pub answer_line-requires-after_bounds : goal.answer_line-requires-after_bounds
 answer_line-requires-after_bounds g c κs = λ _. (session_fits g.row.D c.requires.few, (c.requires.some, c.requires.few))

@@ -12,7 +12,7 @@ use Rattle.script_run.proofs.Lined.{place_on, unopened, fault_cause, origin_keep
 use Rattle.script_run.proofs.Reading.{of_any, of_same}
 use Rattle.script_run.proofs.Shown.{fault_shows}
 use Rattle.script_run.proofs.Starting.{open_fails, open_leads}
-use Rattle.script_run.proofs.lines.run_over.Goals as goal
+use Rattle.script_run.proofs.indexed.run_over.Goals as goal
 
 pub open-requires : goal.open-requires
 open-requires g c = (session_fits g.row.D c.requires.few, (c.requires.some, (c.requires.few, (c.requires.dims, c.requires.made))))
