@@ -1,5 +1,5 @@
 -- Each line goes on from those before it; the one that makes an index hands the rest on, and else the last one ends the script.
-use Rattle.std.proofs.Common.{◌≡◌, ◌≤◌, ◌+◌, ◌++◌, ◌∷◌, [], ℕ, List, arith, rules, true, false, refl, sym, ap, ◌∙◌, subst, IsTrue, None, Err, append_assoc}
+use Rattle.std.proofs.Common.{◌≡◌, ◌+◌, ◌++◌, ◌∷◌, [], ℕ, arith, rules, true, false, refl, sym, ap, ◌∙◌, subst, IsTrue, None, append_assoc}
 use Rattle.outer_io.specs.declared.file_name.FileName.TheVariants.{Commit}
 use Rattle.index_model.specs.State.{new_index}
 use Rattle.index_model.specs.Script.{Answer}
