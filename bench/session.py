@@ -37,7 +37,8 @@ def session(folder, lines):
     """The answers of `session`, sent a line at a time, and its seconds."""
     start = time.perf_counter()
     answers = []
-    with subprocess.Popen([PROGRAM, folder, "session"], stdin=subprocess.PIPE, stdout=subprocess.PIPE, bufsize=0) as program:
+    words = [PROGRAM, folder, "session"]
+    with subprocess.Popen(words, stdin=subprocess.PIPE, stdout=subprocess.PIPE, bufsize=0) as program:
         output = os.fdopen(os.dup(program.stdout.fileno()), "rb")
         for line in lines:
             program.stdin.write(line)

@@ -1,11 +1,10 @@
 -- A parse finds something exactly where it is not refused.
-use Rattle.std.proofs.Common.{◌≡◌, ◌∙◌, ◌≤◌, ap, ap₂, sym, ℕ, length, get_or, arith, false, List, [], ◌∷◌, Some, None, refl, inl, inr}
+use Rattle.std.proofs.Common.{◌≡◌, ◌∙◌, ◌≤◌, ap₂, sym, ℕ, length, get_or, arith, false, List, [], ◌∷◌, Some, None, refl, inl, inr}
 use Rattle.std.specs.Str.{bytes_eq}
 use Rattle.std.proofs.lemmas.Bool.{false_from_ne_true}
 use Rattle.std.proofs.lemmas.Slice.Eq.{bytes_eq-Decides}
-use Rattle.clap.specs.Words.{App, HasKind, IsAmong, Kinds, Row, fault_of, kind_of, matches_of}
+use Rattle.clap.specs.Words.{App, HasKind, Kinds, Row, fault_of, kind_of, matches_of}
 use Rattle.clap.specs.declared.error.Error.{Error}
-use Rattle.clap.specs.declared.error.kind.ErrorKind.{ErrorKind}
 use Rattle.clap.specs.declared.error.kind.ErrorKind.TheVariants.{OutOfMemory}
 use Rattle.command_words.specs.Commands.{asked, check, explain, found_by, generate, load, run, unless_refused, session}
 

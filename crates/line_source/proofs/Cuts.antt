@@ -46,23 +46,23 @@ short_or_long n m = grind arith
 -- keeping less of a line first keeps the same
 pub kept_twice : (xs ys : List ℕ) → kept (kept xs ++ ys) ≡ kept (xs ++ ys)
 kept_twice xs ys = elim (short_or_long (length xs) 4194306) as (λ _. kept (kept xs ++ ys) ≡ kept (xs ++ ys)) [
-  inl short ↦ ap (λ zs. kept (zs ++ ys)) (take_all 4194306 xs short)
+  | inl short ↦ ap (λ zs. kept (zs ++ ys)) (take_all 4194306 xs short)
   | inr long ↦
-    let all : length (kept xs) ≡ 4194306 = length-take-le 4194306 xs long in
-    take-append-le 4194306 (kept xs) ys (omega (arith, all)) ∙ take-take 4194306 4194306 xs (omega arith) ∙ sym (take-append-le 4194306 xs ys long)
-  ]
+      let all : length (kept xs) ≡ 4194306 = length-take-le 4194306 xs long in
+      take-append-le 4194306 (kept xs) ys (omega (arith, all)) ∙ take-take 4194306 4194306 xs (omega arith) ∙ sym (take-append-le 4194306 xs ys long)
+]
 
 -- what was kept of a line and as much of a part as there is room for is what is kept of both
 pub kept_more : (xs ys : List ℕ) (n m : ℕ) → m ≡ length xs → m ≤ 4194306 → n ≡ min (length ys) (4194306 - m) → xs ++ take n ys ≡ kept (xs ++ ys)
 kept_more xs ys n m is few n-is = elim (short_or_long (length ys) (4194306 - m)) as (λ _. xs ++ take n ys ≡ kept (xs ++ ys)) [
-    inl short ↦
+  | inl short ↦
       let all : n ≡ length ys = omega (arith, n-is, short) in
       let long = length-append xs ys in
       ap (λ k. xs ++ take k ys) all ∙ ap (λ zs. xs ++ zs) (take-length ys) ∙ sym (take_all 4194306 (xs ++ ys) (omega (arith, long, short, is, few)))
   | inr long ↦
       let all : 4194306 ≡ length xs + n = omega (arith, n-is, long, is, few) in
       sym (ap (λ k. take k (xs ++ ys)) all ∙ take-append-add xs ys n)
-  ]
+]
 
 pub then_ok : {T E : Type 0} (r : Result T E) (a b c d : List ℕ) → a ≡ (if is_ok r then b else d) → b ≡ c → OnOk r (a ≡ c)
 then_ok (Ok x) a b c d h e = h ∙ e
@@ -210,8 +210,8 @@ module _ (told : Type 0) (old : LineReader) (before : List ℕ) (r s : LineReade
       bytes_are = taken.bytes_are;
       first = λ t knows. held_on true h t knows
           ∙ ap lines_of
-              (ap (λ b. so_far.seen ++ (b ++ now)) taken.waited ∙ ap (λ b. so_far.seen ++ b) (append_assoc taken.part (10 ∷ waiting u) now)
-              ∙ sym (append_assoc so_far.seen taken.part (10 ∷ (waiting u ++ now))))
+          (ap (λ b. so_far.seen ++ (b ++ now)) taken.waited ∙ ap (λ b. so_far.seen ++ b) (append_assoc taken.part (10 ∷ waiting u) now)
+          ∙ sym (append_assoc so_far.seen taken.part (10 ∷ (waiting u ++ now))))
           ∙ line_cut (so_far.seen ++ taken.part) (waiting u ++ now) (plain_append so_far.seen taken.part so_far.plain taken.plain);
       ended = λ t knows e. (h t (so_far.ended t knows)).ended (sym taken.ended ∙ e);
     }

@@ -1,5 +1,5 @@
 -- What is kept of a line reads as the line does.
-use Rattle.std.proofs.Common.{◌≡◌, ◌≤◌, ◌<◌, ◌+◌, ◌-◌, ℕ, Bool, true, false, if◌then◌else◌, List, length, take, Option, Err, refl, sym, ap, ◌∙◌, subst, ◌⊎◌, inl, inr, arith}
+use Rattle.std.proofs.Common.{◌≡◌, ◌≤◌, ◌+◌, ◌-◌, ℕ, Bool, true, false, if◌then◌else◌, List, length, take, Option, Err, refl, sym, ap, ◌∙◌, inl, inr, arith}
 use Rattle.std.specs.Prelude.{◌==◌, nat_lt, slice_index}
 use Rattle.std.specs.Str.Lines.{strip_carriage_return}
 use Rattle.std.proofs.lemmas.Bool.Decides.{nat_tests}
@@ -23,9 +23,9 @@ too_long line long =
 
 kept_text : (line : List ℕ) → text_of (kept line) ≡ text_of line
 kept_text line = elim (short_or_long (length line) 4194306) as (λ _. text_of (kept line) ≡ text_of line) [
-  inl short ↦ ap text_of (take_all 4194306 line short)
+  | inl short ↦ ap text_of (take_all 4194306 line short)
   | inr long ↦ too_long (kept line) (let all = length-take-le 4194306 line long in omega (arith, all)) ∙ sym (too_long line long)
-  ]
+]
 
 -- it is too long just where the line is, and else it is the line
 pub kept_reads : (dims : Option ℕ) (line : List ℕ) → read dims (kept line) ≡ read dims line

@@ -5,6 +5,7 @@ ghost use Rattle.std.specs.Prelude.{true, min, length};
 use outer_io::{Failed, Source};
 
 /// A source over bytes that are there already. It tells them, and never fails.
+#[derive(Drop)]
 pub struct HeldBytes<'a> {
     /// The bytes that are left.
     pub left: &'a [u8],

@@ -23,6 +23,7 @@ const SESSION: [&str; 2] = [".", "session"];
 const PIECES: [usize; 4] = [1, 2, 7, 65_536];
 
 /// A source that gives so many bytes at a time.
+#[derive(Drop)]
 struct Pieces<'a> {
     left: &'a [u8],
     most: usize,
@@ -119,6 +120,7 @@ fn a_line_that_is_too_long(rt: HostRuntime) -> Result<(), Fail> {
 }
 
 /// A sink that counts the calls on it.
+#[derive(Drop)]
 struct Counted<'a> {
     sink: MemSink,
     calls: &'a AtomicU64,
@@ -138,6 +140,7 @@ impl Sink for Counted<'_> {
 }
 
 /// A source that gives a line a call, and fails unless all lines before it are answered.
+#[derive(Drop)]
 struct Waiting<'a> {
     lines: &'a [&'static str],
     given: u64,
@@ -212,6 +215,7 @@ fn each_answer_comes_before_the_next_line(rt: HostRuntime) -> Result<(), Fail> {
 }
 
 /// A source that gives a piece a call, and fails after so many calls.
+#[derive(Drop)]
 struct Failing<'a> {
     pieces: &'a [&'static str],
     calls: u64,

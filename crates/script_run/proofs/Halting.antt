@@ -1,6 +1,5 @@
 -- Lines that come from a source: what holds of how lines alone end, and of a source that fails.
-use Rattle.std.proofs.Common.{◌≡◌, ◌≤◌, ℕ, List, Result, Ok, Err, refl, sym, subst, ap, ◌∙◌, arith}
-use Rattle.outer_io.specs.Counts.{Rose}
+use Rattle.std.proofs.Common.{◌≡◌, ◌≤◌, ℕ, List, Result, Ok, Err, sym, subst, ◌∙◌, arith}
 use Rattle.outer_io.specs.Files.{Files}
 use Rattle.stored_index.specs.Kept.{SameKept}
 use Rattle.stored_index.proofs.KeptFiles.{kept_after}

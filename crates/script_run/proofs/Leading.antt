@@ -5,7 +5,6 @@ use Rattle.std.proofs.lemmas.List.Sums.{sum_by-cons}
 use Rattle.outer_io.specs.declared.file_name.FileName.TheVariants.{Commit}
 use Rattle.outer_io.specs.Files.{Files, bytes_of}
 use Rattle.merge_policy.specs.Choice.{free_count, is_of_level}
-use Rattle.commit_list.specs.Commits.{CommitData}
 use Rattle.commit_list.specs.CommitFiles.{IsCommitFile}
 use Rattle.segment_file.specs.Heads.{Head}
 use Rattle.index_model.specs.State.{Index, State}

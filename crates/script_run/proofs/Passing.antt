@@ -1,6 +1,6 @@
 -- What one line does on its way, by what the session did with its request.
 use Rattle.std.proofs.Common.{◌≡◌, ◌≤◌, ◌+◌, ◌<◌, ◌^◌, ℕ, Bool, true, false, cond, List, [], ◌∷◌, length, Option, None, Some, Result, Ok, Err, OnOk, refl, sym, ap, subst, ◌∙◌, inl, inr, ⊎_elim, arith, ℤ}
-use Rattle.std.specs.Prelude.{IsOk, is_ok, is_some}
+use Rattle.std.specs.Prelude.{IsOk, is_ok}
 use Rattle.std.specs.List.{All, AllZip}
 use Rattle.std.specs.Option.{option_map}
 use Rattle.std.specs.Str.{bytes_eq}
@@ -33,7 +33,7 @@ use Rattle.index_model.specs.declared.session.Applied.{Applied}
 use Rattle.index_model.specs.declared.session.Applied.TheVariants as applied
 use Rattle.segment_view.specs.Costs.{AreTouched}
 use Rattle.segment_view.specs.Parts.{Contents, Part, heads_of}
-use Rattle.segment_set.specs.Sets.{BegunMerge, NamedView, SetData, buffer_in, parts_in, view_of, viewed_parts}
+use Rattle.segment_set.specs.Sets.{NamedView, SetData, buffer_in, parts_in, view_of, viewed_parts}
 use Rattle.segment_set.specs.Seen.{Sees, ShowsSnapshot, entries_seen}
 use Rattle.segment_set.specs.Kept.{IsAsCommitted, StaysButCache}
 use Rattle.index_core.specs.Costs.{ReadsAtMost, ReadsNear, ReadsTouched}

@@ -1,17 +1,14 @@
 -- Lines that are read one after the other: those so far, with whichever others behind them.
-use Rattle.std.proofs.Common.{◌≡◌, ◌≤◌, ◌+◌, ℕ, Bool, true, false, cond, Option, List, [], ◌∷◌, ◌++◌, Some, None, Result, Ok, Err, IsErrOf, refl, sym, ap, ◌∙◌, subst, ◌⊎◌, append_assoc, append-nil}
-use Rattle.outer_io.specs.declared.file_name.FileName.TheVariants.{Commit}
+use Rattle.std.proofs.Common.{◌≡◌, ◌+◌, ℕ, Bool, true, false, cond, Option, List, [], ◌∷◌, ◌++◌, Some, Result, Ok, Err, refl, sym, ap, ◌∙◌, subst, append_assoc}
 use Rattle.outer_io.specs.Files.{Files}
 use Rattle.std.proofs.lemmas.Bool.{false≢true}
 use Rattle.script_lang.specs.Lines.{lines_of}
 use Rattle.script_lang.specs.Reading.{read}
-use Rattle.index_model.specs.State.{Index, State, new_index}
-use Rattle.index_model.specs.Script.{answer}
+use Rattle.index_model.specs.State.{Index, State}
 use Rattle.line_source.specs.Reader.{Gives, GivesLine, IsNew, KnowsEnd, kept, lines_left}
 use Rattle.line_source.specs.declared.reader.LineReader.{LineReader}
 use Rattle.line_source.proofs.Kept.{kept_reads}
 use Rattle.stored_index.specs.Kept.{SameKept}
-use Rattle.stored_index.specs.Stored.{IsStored}
 use Rattle.stored_index.proofs.KeptFiles.{kept_after, kept_itself}
 use Rattle.run_status.specs.declared.stop.Stop.{Stop}
 use Rattle.run_status.specs.declared.stop.Stop.TheVariants as stop
@@ -20,7 +17,6 @@ use Rattle.script_run.specs.Costs.{NoneCommits, asks_commit}
 use Rattle.script_run.specs.Halted.{OfLines, OfSource, halted}
 use Rattle.script_run.specs.declared.halt.Halt.{Halt}
 use Rattle.script_run.specs.Leads.{Closes, Leads, Passes, Spot}
-use Rattle.script_run.specs.Progress.{Place, Progress}
 use Rattle.script_run.specs.Runs.{EndsLines, Halts}
 use Rattle.script_run.proofs.Leading.{Led, led_breaks, led_ends, led_first, led_on, led_stops}
 use Rattle.script_run.proofs.Lined.{Goes, end_lines, ends_then, goes_first, goes_on, halts_at, line_at, memory_at, place_on, stops_at}

@@ -1,9 +1,7 @@
 -- How a run over a folder ends.
-use Rattle.std.specs.Prelude.{ℕ, ◌+◌, ◌<◌, ◌≤◌, ◌≡◌, ◌⊎◌, true, List, [], ◌∷◌, ◌++◌, length, Result, Ok, Err, IsErrOf}
-use Rattle.outer_io.specs.Counts.{Rose}
+use Rattle.std.specs.Prelude.{ℕ, ◌+◌, ◌<◌, ◌≡◌, ◌⊎◌, true, List, [], ◌∷◌, ◌++◌, length, Result, Ok, Err}
 use Rattle.outer_io.specs.Files.{Files}
 use Rattle.outer_io.specs.Parts.{WritesPart}
-use Rattle.page_cache.specs.declared.faults.Damage.{Damage}
 use Rattle.index_model.specs.State.{State}
 use Rattle.index_model.specs.Script.{answer, text_of, state_after, refused_in, final, commits, stored_after}
 use Rattle.stored_index.specs.Stored.{IsStored}

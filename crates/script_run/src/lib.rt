@@ -4,6 +4,7 @@
 
 mod answers;
 mod halt;
+mod indexed;
 mod lines;
 mod origin;
 

@@ -1,33 +1,29 @@
 //! The lines of a source, one after the other.
 
-ghost use Rattle.std.specs.Prelude.{◌≡◌, ◌≤◌, Some, None, [], IsTrue, OnOk, ℕ};
+ghost use Rattle.std.specs.Prelude.{◌≡◌, ◌≤◌, Some, None, [], IsTrue, OnOk};
 ghost use Rattle.outer_io.specs.declared.file_name.FileName.TheVariants.{Commit as CommitName};
 ghost use Rattle.outer_io.specs.Files.{bytes_of};
-ghost use Rattle.page_cache.specs.Causes.{HasPageCause};
 ghost use Rattle.commit_list.specs.Commits.{CommitData};
 ghost use Rattle.commit_list.specs.CommitFiles.{IsCommitFile};
 ghost use Rattle.index_opening.specs.Evidence.{IsEvident};
-ghost use Rattle.index_core.specs.Sessions.{Trusts};
 ghost use Rattle.index_model.specs.State.{Index, State};
-ghost use Rattle.stored_index.specs.Kept.{SameKept};
 ghost use Rattle.stored_index.specs.Stored.{IsStored};
 ghost use Rattle.line_source.specs.Reader.{KnowsEnd};
-ghost use Rattle.script_run.specs.Answers.{IsEnd, Stands};
 ghost use Rattle.script_run.specs.Costs.{NoneCommits};
 ghost use Rattle.script_run.specs.Halted.{HasHaltCause, HasSourceCause, OfLines, OfSource, OnHaltDamage};
-ghost use Rattle.script_run.specs.Kept.{HaltKeeps, StopKeeps};
-ghost use Rattle.script_run.specs.Leads.{Closes, Leads, LeadsAll, LeadsFrom};
+ghost use Rattle.script_run.specs.Kept.{HaltKeeps};
+ghost use Rattle.script_run.specs.Leads.{LeadsAll, LeadsFrom};
 ghost use Rattle.script_run.specs.Origins.{dims_of, IsFrom, IsMade, IsThere};
 ghost use Rattle.script_run.specs.Progress.{start};
 ghost use Rattle.script_run.specs.Runs.{EndsRead};
-ghost use Rattle.run_status.specs.Ends.{HasStopCause, OnStopDamage};
 
-use crate::answers::{Opening, answer_first, answer_line};
+use crate::answers::{Opening, answer_first};
 use crate::halt::{Halt, halted};
-use crate::origin::{Origin, open};
+use crate::indexed::run_over;
+use crate::origin::Origin;
 use bkd_build::Gate;
 use commit_list::read_commit;
-use index_core::{Session, Settings};
+use index_core::Settings;
 use line_source::{LineReader, ReadFault};
 use outer_io::{Folder, Sink, Source};
 use run_status::{Stop, stopped};
@@ -102,7 +98,15 @@ fn run_read<S: Source, R: Threads + Sync, F: Folder, K: Sink, G: Gate>(
                 line: 1,
                 refused: 0,
             };
-            run_from(work, Origin::Stored(commit), tally, reader, input, folder, out)
+            run_from(
+                work,
+                Origin::Stored(commit),
+                tally,
+                reader,
+                input,
+                folder,
+                out,
+            )
         }
         Err(fault) => halted(stopped(fault)),
     }
@@ -141,7 +145,15 @@ fn run_first<S: Source, R: Threads + Sync, F: Folder, K: Sink, G: Gate>(
                         line: line + 1,
                         refused,
                     };
-                    return run_from(work, Origin::New { dims, leaf }, tally, reader, input, folder, out);
+                    return run_from(
+                        work,
+                        Origin::New { dims, leaf },
+                        tally,
+                        reader,
+                        input,
+                        folder,
+                        out,
+                    );
                 }
                 Err(stop) => return Err(Halt::Stopped(stop)),
             },
@@ -193,116 +205,5 @@ fn run_from<S: Source, R: Threads + Sync, F: Folder, K: Sink, G: Gate>(
         6 => run_over::<6, S, R, F, K, G>(work, origin, tally, reader, input, folder, out),
         7 => run_over::<7, S, R, F, K, G>(work, origin, tally, reader, input, folder, out),
         _ => run_over::<8, S, R, F, K, G>(work, origin, tally, reader, input, folder, out),
-    }
-}
-
-/// Does the lines that a reader has, on an index of `D` dimensions, and commits.
-fn run_over<const D: usize, S: Source, R: Threads + Sync, F: Folder, K: Sink, G: Gate>(
-    work: &Work<'_, R, G>,
-    origin: Origin,
-    tally: Tally,
-    reader: &mut LineReader,
-    input: &mut S,
-    folder: &mut F,
-    out: &mut K,
-) -> Result<u64, Halt>
-    requires some { 1 ≤ D }
-    requires few { D ≤ 8 }
-    requires dims { dims_of origin ≡ D }
-    requires made { IsMade origin }
-    requires refused { tally.refused ≤ tally.line }
-    ensures does { IsTrue F.told → OfLines (IsTrue S.told) reader.old (S.left input.old) (λ lines. (i : Index) → (stored : State) → IsFrom (F.files folder.old) origin i stored
-        → EndsRead (IsTrue K.told) (record {
-          line = tally.line;
-          refused = tally.refused;
-          state = Some i;
-          stored = stored;
-          rest = lines;
-          written = K.written out.old;
-        })
-        (F.files folder.new) (K.written out.new) result
-        × LeadsFrom origin i stored tally.line lines (F.files folder.old) (F.files folder.new) (F.reads folder.old) (F.reads folder.new) result) }
-    ensures read { IsTrue S.told → KnowsEnd reader.old (S.left input.old) → OnOk result (S.left input.new ≡ []) }
-    ensures cause { HasHaltCause (F.faults folder.old) (F.faults folder.new) (K.faults out.old) (K.faults out.new) result }
-    ensures source { HasSourceCause (S.faults input.old) (S.faults input.new) result }
-    ensures undone { IsTrue F.told → OfLines (IsTrue S.told) reader.old (S.left input.old) (λ lines. IsThere (F.files folder.old) origin → NoneCommits (dims_of origin) lines
-        → HaltKeeps (F.files folder.old) (F.files folder.new) result) }
-    ensures evident { OnHaltDamage result (IsEvident (IsTrue F.told × IsThere (F.files folder.old) origin) (F.files folder.new)) }
-{
-    match open::<D, F>(work.alloc, work.settings, origin, folder) {
-        Ok(mut session) => run_made(work, &mut session, tally, reader, input, folder, out),
-        Err(fault) => halted(stopped(fault)),
-    }
-}
-
-/// Does the lines that a reader has, in a session, and commits.
-fn run_made<const D: usize, S: Source, R: Threads + Sync, F: Folder, K: Sink, G: Gate>(
-    work: &Work<'_, R, G>,
-    session: &mut Session<D>,
-    tally: Tally,
-    reader: &mut LineReader,
-    input: &mut S,
-    folder: &mut F,
-    out: &mut K,
-) -> Result<u64, Halt>
-    requires some { 1 ≤ D }
-    requires few { D ≤ 8 }
-    requires refused { tally.refused ≤ tally.line }
-    ensures does { IsTrue F.told → OfLines (IsTrue S.told) reader.old (S.left input.old) (λ lines. (i : Index) → (stored : State) → Stands D (F.files folder.old) session.old i stored
-        → EndsRead (IsTrue K.told) (record {
-          line = tally.line;
-          refused = tally.refused;
-          state = Some i;
-          stored = stored;
-          rest = lines;
-          written = K.written out.old;
-        })
-        (F.files folder.new) (K.written out.new) result
-        × Leads tally.line i lines (record { files = F.files folder.old; session = session.old; reads = F.reads folder.old })
-        (record { files = F.files folder.new; session = session.new; reads = F.reads folder.new }) result) }
-    ensures read { IsTrue S.told → KnowsEnd reader.old (S.left input.old) → OnOk result (S.left input.new ≡ []) }
-    ensures cause { HasHaltCause (F.faults folder.old) (F.faults folder.new) (K.faults out.old) (K.faults out.new) result }
-    ensures source { HasSourceCause (S.faults input.old) (S.faults input.new) result }
-    ensures undone { IsTrue F.told → OfLines (IsTrue S.told) reader.old (S.left input.old) (λ lines. Trusts D (F.files folder.old) session.old → NoneCommits D lines
-        → HaltKeeps (F.files folder.old) (F.files folder.new) result) }
-    ensures evident { OnHaltDamage result (IsEvident (IsTrue F.told × Trusts D (F.files folder.old) session.old) (F.files folder.new)) }
-{
-    let mut reply = Vec::new(work.alloc);
-    let mut text = Vec::new(work.alloc);
-    let mut refused = tally.refused;
-    'lines: for line in tally.line..u64::MAX {
-        match reader.next_line(input, &mut text) {
-            Ok(true) => match answer_line(work, session, folder, line, text.as_slice(), &mut reply, out) {
-                Ok(is_refused) => refused += u64::from(is_refused),
-                Err(stop) => return Err(Halt::Stopped(stop)),
-            },
-            Ok(false) => return halted(finish(work, session, folder, refused)),
-            Err(ReadFault::Failed) => return Err(Halt::Source),
-            Err(ReadFault::Memory) => return Err(Halt::Stopped(Stop::Memory)),
-        }
-    }
-    // no input has so many lines
-    Err(Halt::Stopped(Stop::Memory))
-}
-
-/// Commits what the lines left, of which so many were refused.
-fn finish<const D: usize, R: Threads + Sync, F: Folder, G: Gate>(
-    work: &Work<'_, R, G>,
-    session: &mut Session<D>,
-    folder: &mut F,
-    refused: u64,
-) -> Result<u64, Stop>
-    ensures ends { IsTrue F.told → (i : Index) → (stored : State) → Stands D (F.files folder.old) session.old i stored
-        → IsEnd (F.files folder.new) i stored refused result }
-    ensures closes { IsTrue F.told → (i : Index) → (stored : State) → Stands D (F.files folder.old) session.old i stored
-        → Closes D i (record { files = F.files folder.old; session = session.old; reads = F.reads folder.old })
-        (record { files = F.files folder.new; session = session.new; reads = F.reads folder.new }) result }
-    ensures cause { (sink : ℕ) → HasStopCause (F.faults folder.old) (F.faults folder.new) sink sink result }
-    ensures undone { IsTrue F.told → Trusts D (F.files folder.old) session.old → StopKeeps (F.files folder.old) (F.files folder.new) result }
-    ensures evident { OnStopDamage result (IsEvident (IsTrue F.told × Trusts D (F.files folder.old) session.old) (F.files folder.new)) }
-{
-    match session.commit(work.rt, work.alloc, folder, work.gate) {
-        Ok(()) => Ok(refused),
-        Err(fault) => stopped(fault),
     }
 }

@@ -1,5 +1,5 @@
 -- Each line goes on from those before it; the one that makes an index hands the rest on, and else the last one ends the script.
-use Rattle.std.proofs.Common.{◌≡◌, ◌≤◌, ◌+◌, ◌++◌, ◌∷◌, [], ℕ, List, arith, rules, true, false, refl, sym, ap, ◌∙◌, subst, IsTrue, None, Err, append_assoc}
+use Rattle.std.proofs.Common.{◌≡◌, ◌+◌, ◌++◌, ◌∷◌, [], ℕ, arith, rules, true, false, refl, sym, ap, ◌∙◌, subst, IsTrue, None, append_assoc}
 use Rattle.outer_io.specs.declared.file_name.FileName.TheVariants.{Commit}
 use Rattle.index_model.specs.State.{new_index}
 use Rattle.index_model.specs.Script.{Answer}
@@ -41,11 +41,12 @@ lines-preserved g c =
         one_read _ _ _ c.lines.reader _ so_far.0 _ _ _ gives,
         λ more.
             let so = so_far.1 (gives.line ∷ more) in
-            rw (append_assoc so_far.0.lines (gives.line ∷ []) more)
-            (first_goes_on _ _ _ _ _ so.0 _ gives.line more refl _
-            (refused_more c.lines.refused _ _ _ same.refused c.from-refused.ensures ∙ ap (λ (a : Answer). c.lines.refused + a.refused) (sym is)) state
-            (λ sink. c.in-Ok-Nothing.ensures.text sink ∙ ap (λ (a : Answer). g.K.Sink.written c.lines.out ++ a.text) (sym is)),
-            nears_on _ _ _ so.1 gives.line more refl state),
+            rw (append_assoc so_far.0.lines (gives.line ∷ []) more) (
+              first_goes_on _ _ _ _ _ so.0 _ gives.line more refl _
+                  (refused_more c.lines.refused _ _ _ same.refused c.from-refused.ensures ∙ ap (λ (a : Answer). c.lines.refused + a.refused) (sym is)) state
+                  (λ sink. c.in-Ok-Nothing.ensures.text sink ∙ ap (λ (a : Answer). g.K.Sink.written c.lines.out ++ a.text) (sym is)),
+              nears_on _ _ _ so.1 gives.line more refl state,
+            ),
       );
       counted = omega (arith, c.lines.invariant.counted, at_most_one _ _ c.from-refused.ensures);
       folder = c.lines.invariant.folder;
@@ -64,15 +65,15 @@ returns-in-Ok-Made-clause-does g c =
     let state = ap (λ (a : Answer). a.state) is ∙ made.0 in
     λ told. of_rest _ _ _ c.next_line.new.self _ (one_read _ _ _ c.lines.reader _ so_far.0 _ _ _ gives) _ _
     (λ ls does none.
-      let so = so_far.1 (gives.line ∷ ls) in
-      let still : g.F.Pages.files c.lines.folder Commit ≡ None = rw same none in
-      let done = does (new_index c.in-Ok-Made.dims c.in-Ok-Made.leaf) None (still, refl, refl) in
-      rw (append_assoc so_far.0.lines (gives.line ∷ []) ls) (
-        made_ends _ _ _ _ _ so.0 gives.line ls refl (new_index c.in-Ok-Made.dims c.in-Ok-Made.leaf) _ state (ap (λ (a : Answer). a.refused) is ∙ made.1)
-            (λ sink. c.in-Ok-Made.ensures.text sink ∙ ap (λ (a : Answer). g.K.Sink.written c.lines.out ++ a.text) (sym is)) _ _ c.run_from.result done.0,
-        leads_same None _ _ _ _ _ _ _ c.run_from.result same (ap (λ f. g.F.Pages.reads f) c.lines.invariant.folder)
-            (made_leads _ _ _ so.1 gives.line ls refl c.in-Ok-Made.dims c.in-Ok-Made.leaf state _ _ _ _ still c.run_from.result done.1),
-      ))
+    let so = so_far.1 (gives.line ∷ ls) in
+    let still : g.F.Pages.files c.lines.folder Commit ≡ None = rw same none in
+    let done = does (new_index c.in-Ok-Made.dims c.in-Ok-Made.leaf) None (still, refl, refl) in
+    rw (append_assoc so_far.0.lines (gives.line ∷ []) ls) (
+      made_ends _ _ _ _ _ so.0 gives.line ls refl (new_index c.in-Ok-Made.dims c.in-Ok-Made.leaf) _ state (ap (λ (a : Answer). a.refused) is ∙ made.1)
+          (λ sink. c.in-Ok-Made.ensures.text sink ∙ ap (λ (a : Answer). g.K.Sink.written c.lines.out ++ a.text) (sym is)) _ _ c.run_from.result done.0,
+      leads_same None _ _ _ _ _ _ _ c.run_from.result same (ap (λ f. g.F.Pages.reads f) c.lines.invariant.folder)
+          (made_leads _ _ _ so.1 gives.line ls refl c.in-Ok-Made.dims c.in-Ok-Made.leaf state _ _ _ _ still c.run_from.result done.1),
+    ))
     (c.run_from.ensures.does told)
 
 pub returns-in-Ok-Made-clause-read : goal.returns-in-Ok-Made-clause-read
@@ -103,11 +104,11 @@ returns-in-Err-clause-does g c =
     let is = first_alike c.lines.line gives.line c.as_slice.result.now (reads_alike None gives.line c.next_line.new.line.items c.as_slice.result.now gives.bytes_are c.as_slice.ensures.value) in
     let same = ap (λ f. g.F.Pages.files f) c.lines.invariant.folder in
     λ told. of_line _ _ _ c.lines.reader _ so_far.0 _ _ _ _ gives (λ none.
-      let still : g.F.Pages.files c.lines.folder Commit ≡ None = rw same none in (
-        stops_first _ (g.F.Pages.files c.lines.folder) _ _ _ _ _ (so_far.1 (gives.line ∷ lines_left c.next_line.new.self (g.S.Source.left c.next_line.new.source))).0 still gives.line _ refl c.in-Err.stop c.in-Err.ensures.cause
-            (λ sink. subst (λ (a : Answer). IsCut a.text (g.K.Sink.written c.lines.out) (g.K.Sink.written c.answer_first.new.out) c.in-Err.stop) (sym is) (c.in-Err.ensures.text sink)),
-        leads_none None _ _ _ _ _ _ same (ap (λ f. g.F.Pages.reads f) c.lines.invariant.folder),
-      ))
+    let still : g.F.Pages.files c.lines.folder Commit ≡ None = rw same none in (
+      stops_first _ (g.F.Pages.files c.lines.folder) _ _ _ _ _ (so_far.1 (gives.line ∷ lines_left c.next_line.new.self (g.S.Source.left c.next_line.new.source))).0 still gives.line _ refl c.in-Err.stop c.in-Err.ensures.cause
+          (λ sink. subst (λ (a : Answer). IsCut a.text (g.K.Sink.written c.lines.out) (g.K.Sink.written c.answer_first.new.out) c.in-Err.stop) (sym is) (c.in-Err.ensures.text sink)),
+      leads_none None _ _ _ _ _ _ same (ap (λ f. g.F.Pages.reads f) c.lines.invariant.folder),
+    ))
 
 pub returns-in-Err-clause-cause : goal.returns-in-Err-clause-cause
 returns-in-Err-clause-cause g c =
@@ -126,10 +127,10 @@ returns-in-Ok-false-clause-does g c =
     let so_far = c.lines.invariant.so_far in
     let same = ap (λ f. g.F.Pages.files f) c.lines.invariant.folder in
     λ told. of_all _ _ _ c.lines.reader _ so_far.0 _ c.next_line.new.self (g.S.Source.left c.next_line.new.source) (gives_none (IsTrue g.S.Source.told) c.lines.reader (g.S.Source.left c.lines.input) c.next_line.new.self (g.S.Source.left c.next_line.new.source) c.next_line.new.line.items c.in-Ok-false.field-0 no c.in-Ok-false.ensures.gives) (λ none.
-      let still : g.F.Pages.files c.lines.folder Commit ≡ None = rw same none in (
-        finishes_first _ _ _ _ _ (so_far.1 []).0 (g.F.Pages.files c.lines.folder) still refl,
-        leads_none None _ _ _ _ _ _ same (ap (λ f. g.F.Pages.reads f) c.lines.invariant.folder),
-      ))
+    let still : g.F.Pages.files c.lines.folder Commit ≡ None = rw same none in (
+      finishes_first _ _ _ _ _ (so_far.1 []).0 (g.F.Pages.files c.lines.folder) still refl,
+      leads_none None _ _ _ _ _ _ same (ap (λ f. g.F.Pages.reads f) c.lines.invariant.folder),
+    ))
 
 pub returns-in-Ok-false-clause-read : goal.returns-in-Ok-false-clause-read
 returns-in-Ok-false-clause-read g c =
@@ -153,10 +154,10 @@ returns-in-Err-Failed-clause-does g c =
     let so_far = c.lines.invariant.so_far in
     let same = ap (λ f. g.F.Pages.files f) c.lines.invariant.folder in
     λ told. of_left _ _ _ c.lines.reader _ so_far.0 _ (λ none.
-      let still : g.F.Pages.files c.lines.folder Commit ≡ None = rw same none in (
-        halts_first _ _ _ _ _ (so_far.1 (lines_left c.lines.reader (g.S.Source.left c.lines.input))).0 (g.F.Pages.files c.lines.folder) still,
-        leads_none None _ _ _ _ _ _ same (ap (λ f. g.F.Pages.reads f) c.lines.invariant.folder),
-      ))
+    let still : g.F.Pages.files c.lines.folder Commit ≡ None = rw same none in (
+      halts_first _ _ _ _ _ (so_far.1 (lines_left c.lines.reader (g.S.Source.left c.lines.input))).0 (g.F.Pages.files c.lines.folder) still,
+      leads_none None _ _ _ _ _ _ same (ap (λ f. g.F.Pages.reads f) c.lines.invariant.folder),
+    ))
 
 pub returns-in-Err-Failed-clause-cause : goal.returns-in-Err-Failed-clause-cause
 returns-in-Err-Failed-clause-cause g c = (omega (arith, ap (λ f. g.F.Pages.faults f) c.lines.invariant.folder), c.lines.invariant.sink_later)
@@ -171,10 +172,10 @@ returns-in-Err-Memory-clause-does g c =
     let so_far = c.lines.invariant.so_far in
     let same = ap (λ f. g.F.Pages.files f) c.lines.invariant.folder in
     λ told. of_left _ _ _ c.lines.reader _ so_far.0 _ (λ none.
-      let still : g.F.Pages.files c.lines.folder Commit ≡ None = rw same none in (
-        memory_first _ _ _ _ _ (so_far.1 (lines_left c.lines.reader (g.S.Source.left c.lines.input))).0 (g.F.Pages.files c.lines.folder) still,
-        leads_none None _ _ _ _ _ _ same (ap (λ f. g.F.Pages.reads f) c.lines.invariant.folder),
-      ))
+    let still : g.F.Pages.files c.lines.folder Commit ≡ None = rw same none in (
+      memory_first _ _ _ _ _ (so_far.1 (lines_left c.lines.reader (g.S.Source.left c.lines.input))).0 (g.F.Pages.files c.lines.folder) still,
+      leads_none None _ _ _ _ _ _ same (ap (λ f. g.F.Pages.reads f) c.lines.invariant.folder),
+    ))
 
 pub returns-in-Err-Memory-clause-cause : goal.returns-in-Err-Memory-clause-cause
 returns-in-Err-Memory-clause-cause g c = memory_cause _ _ _ _ (omega (arith, ap (λ f. g.F.Pages.faults f) c.lines.invariant.folder)) c.lines.invariant.sink_later
@@ -187,10 +188,10 @@ returns-clause-does g c =
     let so_far = c.lines.invariant.so_far in
     let same = ap (λ f. g.F.Pages.files f) c.lines.invariant.folder in
     λ told. of_left _ _ _ c.lines.reader _ so_far.0 _ (λ none.
-      let still : g.F.Pages.files c.lines.folder Commit ≡ None = rw same none in (
-        memory_first _ _ _ _ _ (so_far.1 (lines_left c.lines.reader (g.S.Source.left c.lines.input))).0 (g.F.Pages.files c.lines.folder) still,
-        leads_none None _ _ _ _ _ _ same (ap (λ f. g.F.Pages.reads f) c.lines.invariant.folder),
-      ))
+    let still : g.F.Pages.files c.lines.folder Commit ≡ None = rw same none in (
+      memory_first _ _ _ _ _ (so_far.1 (lines_left c.lines.reader (g.S.Source.left c.lines.input))).0 (g.F.Pages.files c.lines.folder) still,
+      leads_none None _ _ _ _ _ _ same (ap (λ f. g.F.Pages.reads f) c.lines.invariant.folder),
+    ))
 
 pub returns-clause-cause : goal.returns-clause-cause
 returns-clause-cause g c = memory_cause _ _ _ _ (omega (arith, ap (λ f. g.F.Pages.faults f) c.lines.invariant.folder)) c.lines.invariant.sink_later

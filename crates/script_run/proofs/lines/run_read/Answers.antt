@@ -78,13 +78,13 @@ pub returns-in-Ok-Some-clause-undone : goal.returns-in-Ok-Some-clause-undone
 returns-in-Ok-Some-clause-undone g c = λ told.
     let found = rw c.in-Ok-Some.field-0-is at (c.in-Ok-Some.ensures.found told) in
     of_same _ c.args.reader.now (g.S.Source.left c.args.input.now) _ _ (λ lines undone listed says quiet.
-      subst (λ (f : Files). HaltKeeps f (g.F.Pages.files c.run_from.new.folder) c.run_from.result) (c.in-Ok-Some.ensures.files told)
-      (undone (says_after _ _ c.in-Ok-Some.commit (c.in-Ok-Some.ensures.files told) found)
-      (quiet_for (g.F.Pages.files c.args.folder.now) listed c.in-Ok-Some.commit _ says found quiet)))
+    subst (λ (f : Files). HaltKeeps f (g.F.Pages.files c.run_from.new.folder) c.run_from.result) (c.in-Ok-Some.ensures.files told)
+    (undone (says_after _ _ c.in-Ok-Some.commit (c.in-Ok-Some.ensures.files told) found)
+    (quiet_for (g.F.Pages.files c.args.folder.now) listed c.in-Ok-Some.commit _ says found quiet)))
     (c.run_from.ensures.undone told)
 
 pub returns-in-Err-clause-undone : goal.returns-in-Err-clause-undone
 returns-in-Err-clause-undone g c = λ told.
     of_any _ c.args.reader.now (g.S.Source.left c.args.input.now) _ (λ lines listed says quiet.
-      halted_keeps (g.F.Pages.files c.args.folder.now) (g.F.Pages.files c.read_commit.new.folder) c.stopped.result c.halted.result c.halted.ensures
-      (rw c.stopped.ensures (fault_stops ℕ (g.F.Pages.files c.args.folder.now) (g.F.Pages.files c.read_commit.new.folder) c.in-Err.fault (fault_kept _ _ (kept_equal _ _ (c.in-Err.ensures.files told)) c.in-Err.fault))))
+    halted_keeps (g.F.Pages.files c.args.folder.now) (g.F.Pages.files c.read_commit.new.folder) c.stopped.result c.halted.result c.halted.ensures
+    (rw c.stopped.ensures (fault_stops ℕ (g.F.Pages.files c.args.folder.now) (g.F.Pages.files c.read_commit.new.folder) c.in-Err.fault (fault_kept _ _ (kept_equal _ _ (c.in-Err.ensures.files told)) c.in-Err.fault))))

@@ -4,7 +4,7 @@ use Rattle.script_run.proofs.Calling.{fault_stops}
 use Rattle.script_run.proofs.Lined.{stops_end, ok_cause, fault_cause}
 use Rattle.script_run.proofs.Leading.{closes_by, closes_fails}
 use Rattle.script_run.proofs.Shown.{fault_at, fault_shows}
-use Rattle.script_run.proofs.lines.finish.Goals as goal
+use Rattle.script_run.proofs.indexed.finish.Goals as goal
 
 pub returns-in-Ok-clause-ends : goal.returns-in-Ok-clause-ends
 returns-in-Ok-clause-ends g c = λ told i stored h. (refl, (c.in-Ok.ensures.stored told i h.seen h.guards).0)

@@ -3,7 +3,7 @@ use Rattle.index_core.specs.Sessions.{Trusts}
 use Rattle.index_model.specs.State.{Index, State}
 use Rattle.script_run.specs.Answers.{Stands}
 use Rattle.script_run.proofs.Reading.{Going, HasRead, Quiet}
-use Rattle.script_run.proofs.lines.run_made.Given as goal
+use Rattle.script_run.proofs.indexed.run_made.Given as goal
 
 -- the lines so far were done as the script says, and the session is trusted with the files as before them
 abbrev pub invariant-lines : goal.invariant-lines

@@ -1,5 +1,5 @@
 -- Each line goes on from those before it; after the last one what they leave is committed.
-use Rattle.std.proofs.Common.{◌≡◌, ◌≤◌, Bool, ℕ, List, [], ◌∷◌, ◌++◌, arith, rules, true, false, refl, sym, ap, ◌∙◌, IsTrue, Err, Some, inl, append_assoc}
+use Rattle.std.proofs.Common.{◌≡◌, Bool, ℕ, [], ◌∷◌, arith, rules, true, false, refl, sym, ap, ◌∙◌, IsTrue, Err, Some, inl, append_assoc}
 use Rattle.index_core.specs.Sessions.{Trusts}
 use Rattle.index_core.proofs.Sizes.{session_fits}
 use Rattle.line_source.specs.Reader.{lines_left}
@@ -13,7 +13,7 @@ use Rattle.script_run.proofs.Lined.{cause_to}
 use Rattle.script_run.proofs.Passing.{on_ok}
 use Rattle.script_run.proofs.Reading.{closes_halted, gives_line, gives_none, going_ends, going_first, going_halts, going_on, going_stops, going_wants, none_read, of_all, of_left, of_line, one_read, quiet_first, quiet_on, reads_alike}
 use Rattle.script_run.proofs.Shown.{same_stop, stop_less}
-use Rattle.script_run.proofs.lines.run_made.Goals as goal
+use Rattle.script_run.proofs.indexed.run_made.Goals as goal
 
 pub answer_line-requires-after_bounds : goal.answer_line-requires-after_bounds
 answer_line-requires-after_bounds g c κs = λ _. (session_fits g.row.D c.requires.few, (c.requires.some, c.requires.few))
@@ -68,9 +68,9 @@ returns-in-Err-clause-does g c =
     let gives = gives_line (IsTrue g.S.Source.told) c.lines.reader (g.S.Source.left c.lines.input) c.next_line.new.self (g.S.Source.left c.next_line.new.source) c.next_line.new.line.items c.in-Ok-true.field-0 yes c.in-Ok-true.ensures.gives in
     let alike = reads_alike (Some g.row.D) gives.line c.next_line.new.line.items c.as_slice.result.now gives.bytes_are c.as_slice.ensures.value in
     λ told. of_line _ _ _ c.lines.reader _ so_far.0 _ _ _ _ gives (λ i stored h.
-      let going = so_far.1 told i stored h (gives.line ∷ lines_left c.next_line.new.self (g.S.Source.left c.next_line.new.source)) in
-      going_stops _ g.row.D _ _ i stored _ _ _ _ _ _ _ gives.line _ going _ _ c.in-Err.stop _
-      (c.in-Err.ensures.answers told going.goes.index going.goes.stored going.goes.stands gives.line alike) (c.in-Err.ensures.passes told going.goes.index going.goes.stored going.goes.stands gives.line alike))
+    let going = so_far.1 told i stored h (gives.line ∷ lines_left c.next_line.new.self (g.S.Source.left c.next_line.new.source)) in
+    going_stops _ g.row.D _ _ i stored _ _ _ _ _ _ _ gives.line _ going _ _ c.in-Err.stop _
+    (c.in-Err.ensures.answers told going.goes.index going.goes.stored going.goes.stands gives.line alike) (c.in-Err.ensures.passes told going.goes.index going.goes.stored going.goes.stands gives.line alike))
 
 pub returns-in-Err-clause-cause : goal.returns-in-Err-clause-cause
 returns-in-Err-clause-cause g c = cause_from {T = ℕ} _ _ _ _ _ _ (Err c.in-Err.stop) c.lines.invariant.folder_later c.lines.invariant.sink_later (cause_to _ _ _ _ c.in-Err.stop c.in-Err.ensures.cause)
@@ -85,8 +85,8 @@ returns-in-Err-clause-undone g c =
     let gives = gives_line (IsTrue g.S.Source.told) c.lines.reader (g.S.Source.left c.lines.input) c.next_line.new.self (g.S.Source.left c.next_line.new.source) c.next_line.new.line.items c.in-Ok-true.field-0 yes c.in-Ok-true.ensures.gives in
     let alike = reads_alike (Some g.row.D) gives.line c.next_line.new.line.items c.as_slice.result.now gives.bytes_are c.as_slice.ensures.value in
     λ told. of_line _ _ _ c.lines.reader _ so_far.0 _ _ _ _ gives (λ h quiet.
-      let next = (so_far.2 told h).kept (gives.line ∷ lines_left c.next_line.new.self (g.S.Source.left c.next_line.new.source)) quiet in
-      stop_kept ℕ _ _ c.in-Err.stop (kept_after _ _ _ next.0 (c.in-Err.ensures.kept told (c.lines.invariant.trusts told h) (ap asks_commit (sym alike) ∙ next.1.0))))
+    let next = (so_far.2 told h).kept (gives.line ∷ lines_left c.next_line.new.self (g.S.Source.left c.next_line.new.source)) quiet in
+    stop_kept ℕ _ _ c.in-Err.stop (kept_after _ _ _ next.0 (c.in-Err.ensures.kept told (c.lines.invariant.trusts told h) (ap asks_commit (sym alike) ∙ next.1.0))))
 
 pub returns-in-Err-clause-evident : goal.returns-in-Err-clause-evident
 returns-in-Err-clause-evident g c =
@@ -98,10 +98,10 @@ returns-in-Ok-false-clause-does g c =
     let no : c.in-Ok-false.field-0 ≡ false = search rules in
     let so_far = c.lines.invariant.so_far in
     λ told. of_all _ _ _ c.lines.reader _ so_far.0 _ c.next_line.new.self (g.S.Source.left c.next_line.new.source) (gives_none (IsTrue g.S.Source.told) c.lines.reader (g.S.Source.left c.lines.input) c.next_line.new.self (g.S.Source.left c.next_line.new.source) c.next_line.new.line.items c.in-Ok-false.field-0 no c.in-Ok-false.ensures.gives) (λ i stored h.
-      let going = so_far.1 told i stored h [] in
-      let ends = going_ends _ g.row.D _ _ i stored _ _ _ _ _ _ _ going _ c.finish.result c.halted.result (c.finish.ensures.ends told going.goes.index going.goes.stored going.goes.stands)
-      (closes_halted g.row.D going.goes.index _ _ c.finish.result c.halted.result c.halted.ensures (c.finish.ensures.closes told going.goes.index going.goes.stored going.goes.stands)) in
-      (halted_ends _ _ _ _ c.finish.result c.halted.result c.halted.ensures ends.0, ends.1))
+    let going = so_far.1 told i stored h [] in
+    let ends = going_ends _ g.row.D _ _ i stored _ _ _ _ _ _ _ going _ c.finish.result c.halted.result (c.finish.ensures.ends told going.goes.index going.goes.stored going.goes.stands)
+    (closes_halted g.row.D going.goes.index _ _ c.finish.result c.halted.result c.halted.ensures (c.finish.ensures.closes told going.goes.index going.goes.stored going.goes.stands)) in
+    (halted_ends _ _ _ _ c.finish.result c.halted.result c.halted.ensures ends.0, ends.1))
 
 pub returns-in-Ok-false-clause-read : goal.returns-in-Ok-false-clause-read
 returns-in-Ok-false-clause-read g c =
@@ -122,8 +122,8 @@ returns-in-Ok-false-clause-undone g c =
     let no : c.in-Ok-false.field-0 ≡ false = search rules in
     let so_far = c.lines.invariant.so_far in
     λ told. of_all _ _ _ c.lines.reader _ so_far.0 _ c.next_line.new.self (g.S.Source.left c.next_line.new.source) (gives_none (IsTrue g.S.Source.told) c.lines.reader (g.S.Source.left c.lines.input) c.next_line.new.self (g.S.Source.left c.next_line.new.source) c.next_line.new.line.items c.in-Ok-false.field-0 no c.in-Ok-false.ensures.gives) (λ h quiet.
-      halted_keeps (g.F.Pages.files c.args.folder.now) (g.F.Pages.files c.finish.new.folder) c.finish.result c.halted.result c.halted.ensures
-      (stop_after _ _ _ c.finish.result ((so_far.2 told h).kept [] quiet).0 (c.finish.ensures.undone told (c.lines.invariant.trusts told h))))
+    halted_keeps (g.F.Pages.files c.args.folder.now) (g.F.Pages.files c.finish.new.folder) c.finish.result c.halted.result c.halted.ensures
+    (stop_after _ _ _ c.finish.result ((so_far.2 told h).kept [] quiet).0 (c.finish.ensures.undone told (c.lines.invariant.trusts told h))))
 
 pub returns-in-Ok-false-clause-evident : goal.returns-in-Ok-false-clause-evident
 returns-in-Ok-false-clause-evident g c =

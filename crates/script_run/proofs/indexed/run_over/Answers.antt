@@ -12,7 +12,7 @@ use Rattle.script_run.proofs.Lined.{place_on, unopened, fault_cause, origin_keep
 use Rattle.script_run.proofs.Reading.{of_any, of_same}
 use Rattle.script_run.proofs.Shown.{fault_shows}
 use Rattle.script_run.proofs.Starting.{open_fails, open_leads}
-use Rattle.script_run.proofs.lines.run_over.Goals as goal
+use Rattle.script_run.proofs.indexed.run_over.Goals as goal
 
 pub open-requires : goal.open-requires
 open-requires g c = (session_fits g.row.D c.requires.few, (c.requires.some, (c.requires.few, (c.requires.dims, c.requires.made))))
@@ -57,11 +57,11 @@ returns-in-Err-clause-evident g c = halted_shows _ c.stopped.result c.halted.res
 pub returns-in-Ok-clause-undone : goal.returns-in-Ok-clause-undone
 returns-in-Ok-clause-undone g c = λ told.
     of_same _ c.args.reader.now (g.S.Source.left c.args.input.now) _ _ (λ lines undone there quiet.
-      subst (λ (f : Files). HaltKeeps f (g.F.Pages.files c.run_made.new.folder) c.run_made.result) (c.in-Ok.ensures.files told)
-      (undone (c.in-Ok.ensures.trusts told there) (subst (λ (n : ℕ). NoneCommits n lines) c.requires.dims quiet)))
+    subst (λ (f : Files). HaltKeeps f (g.F.Pages.files c.run_made.new.folder) c.run_made.result) (c.in-Ok.ensures.files told)
+    (undone (c.in-Ok.ensures.trusts told there) (subst (λ (n : ℕ). NoneCommits n lines) c.requires.dims quiet)))
     (c.run_made.ensures.undone told)
 
 pub returns-in-Err-clause-undone : goal.returns-in-Err-clause-undone
 returns-in-Err-clause-undone g c = λ told. of_any _ c.args.reader.now (g.S.Source.left c.args.input.now) _ (λ lines there quiet.
-  halted_keeps (g.F.Pages.files c.args.folder.now) (g.F.Pages.files c.open.new.folder) c.stopped.result c.halted.result c.halted.ensures
-  (rw c.stopped.ensures (fault_stops ℕ (g.F.Pages.files c.args.folder.now) (g.F.Pages.files c.open.new.folder) c.in-Err.fault (fault_kept _ _ (kept_equal _ _ (c.in-Err.ensures.files told)) c.in-Err.fault))))
+    halted_keeps (g.F.Pages.files c.args.folder.now) (g.F.Pages.files c.open.new.folder) c.stopped.result c.halted.result c.halted.ensures
+    (rw c.stopped.ensures (fault_stops ℕ (g.F.Pages.files c.args.folder.now) (g.F.Pages.files c.open.new.folder) c.in-Err.fault (fault_kept _ _ (kept_equal _ _ (c.in-Err.ensures.files told)) c.in-Err.fault))))
