@@ -26,14 +26,19 @@ use page_cache::PageFault;
 use segment_file::one_segment;
 use std::alloc::Global;
 
-/// Reads every page of each file that the Commit file lists, and appends `no index` or how large the index is, a line of
-/// `ok dims D leaf B next N live L segments S`. So it ends exactly where the folder stores a state; where it stores none, it answers
-/// the first damage of these: of the Commit file; of the segments in order of id, each one's head and index, and then its live bits;
-/// of the live numbers, the least one that isn't below the next number or is live in two segments; of the leaves of the segments in
-/// order; a segment with a live number that has no entry; the least live number that has one point twice, or more than 16; more live
-/// points than were given.
+/// Reads every page of each file that the Commit file lists, and appends `no index`, or how large the index is, as a line
+/// `ok dims D leaf B next N live L segments S`. It ends so exactly where the folder stores a state. Where it stores none, the
+/// first damage of these is answered:
 ///
-/// Of one segment at a time the live entries are in memory. No file changes.
+/// - that of the Commit file;
+/// - of the segments in order of id, that of the head and the index, and then of the live bits;
+/// - the least live number that isn't below the next number (Beyond) or is live in two segments (Doubled);
+/// - the first page or leaf of the segments in order;
+/// - the first segment in which a live number has no entry (Unequal, its file of live bits);
+/// - the least live number that has one point twice or more than 16 entries (Doubled);
+/// - more live entries than points were given (Unequal, the Commit file).
+///
+/// Of one segment at a time the live entries are in memory, and a bit for each number. No file changes.
 pub fn check<F: Folder>(alloc: Global, folder: &mut F, text: &mut Vec<u8>) -> Result<(), PageFault>
     ensures tells { IsTrue F.told → OnOk result ((told : List ℕ) × IsChecked (F.files folder.old) told × (text.new.items ≡ text.old.items ++ told)) }
     ensures kept { OnErr result (text.new.items ≡ text.old.items) }

@@ -23,8 +23,8 @@ use page_cache::PageFault;
 use segment_view::Segments;
 use std::alloc::Global;
 
-/// The segments that the commit lists, where each live number is below the next one and live in one segment alone. No leaf is read. A damage
-/// is answered only where no state is stored.
+/// The segments that the commit lists, where each live number is below the next one and live in one segment alone. No leaf is
+/// read. A damage is answered only where no state is stored.
 pub fn open_index<const D: usize, F: Folder>(
     alloc: Global,
     folder: &mut F,
