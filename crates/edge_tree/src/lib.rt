@@ -16,6 +16,3 @@ pub mod tree;
 
 pub use locator::Locator;
 pub use tree::EdgeTree;
-
-#[cfg(test)]
-mod tests;

@@ -8,6 +8,8 @@ mod asked_calls;
 #[cfg(test)]
 mod draws;
 #[cfg(test)]
+mod failing_calls;
+#[cfg(test)]
 mod faults;
 #[cfg(test)]
 mod folders;

@@ -1,6 +1,6 @@
 //! A ring of drawn positions: the tree answers as the plain list of edges does.
 
-use crate::EdgeTree;
+use edge_tree::EdgeTree;
 use point_codec::{Cell, Point};
 use ring_parity::{Ring, Rings, any_meets, odd, on_any};
 use std::test::Fail;
@@ -37,19 +37,25 @@ fn equals_the_plain_list(rt: HostRuntime) -> Result<(), Fail> {
     list.push(Ring::new(at))?;
     let rings = Rings::new(list)?;
     let tree = EdgeTree::new(alloc, &rings)?;
-    let mut counted = 0u32;
     for _ in 0..200 {
         let p = draws.point();
         assert_eq!(rt; tree.on_any(&p), on_any(&rings, &p));
         assert_eq!(rt; tree.odd(&p), odd(&rings, &p));
         assert_eq!(rt; tree.contains(&p), on_any(&rings, &p) || odd(&rings, &p));
-        let q = draws.point();
-        if let Some(cell) = Cell::new(p, q) {
+        for cell in [cell_from(&p, 2_000), cell_from(&p, 60_000)] {
+            let Some(cell) = cell else {
+                return Err("a cell above its own corner")?;
+            };
             assert_eq!(rt; tree.any_meets(&cell), any_meets(&rings, &cell));
-            counted = counted.saturating_add(1);
         }
     }
-    // a quarter of the drawn corners are in order
-    assert!(rt; counted > 20);
     Ok(())
+}
+
+/// The square cell of this width above and right of a point.
+fn cell_from(p: &Point<2>, width: i32) -> Option<Cell<2>> {
+    let far = Point {
+        c: [p.c[0].saturating_add(width), p.c[1].saturating_add(width)],
+    };
+    Cell::new(*p, far)
 }
