@@ -140,7 +140,7 @@ module _ (k : ℕ) (entries old mid new : List Near) (n : Near) (was : IsNearest
       ⊎_elim
       (λ e. subst (λ (z : Near). (n.dist2 ≤ z.dist2) × (z.dist2 ≤ n.dist2 → n.doc ≤ z.doc)) e p)
       (λ m. let c = pairs_head ComesBefore x xs u a m in
-          (omega (arith, p.0, c.near), λ t. let q = p.1 (omega (arith, c.near, t)) in let r = c.tie (omega (arith, p.0, t)) in omega arith))
+      (omega (arith, p.0, c.near), λ t. let q = p.1 (omega (arith, c.near, t)) in let r = c.tie (omega (arith, p.0, t)) in omega arith))
       (cons_cases x xs a h)
 
   before_back : (a : Near) → Contains put.back a → ComesBefore n a
@@ -294,8 +294,8 @@ replace_few k entries old mid new n some was none full lead cut put =
     (omega arith)
     (first_of_number k entries old n was some lead (λ a h f. absurd (All-contains (λ x. x.doc ≢ n.doc) old a none h f)))
     (λ a h. ⊎_elim (λ m. inl m)
-        (λ f. inr (inr (omega arith, subst (ComesBefore n) f (before_from_less n w (lead full)), λ b m. subst (ComesBefore b) f (behind_last b m is))))
-        (or_it old mid w (take p old) [] was.rises is without a h))
+    (λ f. inr (inr (omega arith, subst (ComesBefore n) f (before_from_less n w (lead full)), λ b m. subst (ComesBefore b) f (behind_last b m is))))
+    (or_it old mid w (take p old) [] was.rises is without a h))
     (λ f. omega arith)
     (λ x f all. leads_all k old n x some lead f all)
   where

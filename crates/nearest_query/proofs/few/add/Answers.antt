@@ -16,6 +16,6 @@ pub returns : goal.returns
 returns c = λ entries some was none lead.
     on_ok (IsPutAmong c.args.near c.pop.new.self.items c.put-2.new.nears.items) (IsNearest c.args.room (c.args.near ∷ entries) c.put-2.new.nears.items) c.put-2.result
     (λ put. replace_few c.args.room entries c.args.nears.now.items c.pop.new.self.items c.put-2.new.nears.items c.args.near some was none
-        (omega (arith, c.if-len-room.false, c.len.ensures, c.args.nears.now.ok.0)) lead
-        (subst (λ n. c.pop.new.self.items ≡ take (n - 1) c.args.nears.now.items) c.args.nears.now.ok.0 c.pop.ensures.rest) put)
+    (omega (arith, c.if-len-room.false, c.len.ensures, c.args.nears.now.ok.0)) lead
+    (subst (λ n. c.pop.new.self.items ≡ take (n - 1) c.args.nears.now.items) c.args.nears.now.ok.0 c.pop.ensures.rest) put)
     c.put-2.ensures

@@ -16,6 +16,6 @@ pub returns : goal.returns
 returns c = λ entries room was e lead.
     on_ok (IsPutAmong c.args.near c.remove.new.self.items c.put.new.nears.items) (IsNearest room (c.args.near ∷ entries) c.put.new.nears.items) c.put.result
     (λ put. improve_few room entries c.args.nears.now.items c.remove.new.self.items c.put.new.nears.items c.args.near c.args.place was c.requires e
-        (subst (λ (y : Near). c.args.near.dist2 < y.dist2) (same_place c.args.nears.now.items c.args.place c.index.result.now c.args.near c.requires c.index.ensures) c.if-index-near.false) lead
-        c.remove.ensures.by_index.2 put)
+    (subst (λ (y : Near). c.args.near.dist2 < y.dist2) (same_place c.args.nears.now.items c.args.place c.index.result.now c.args.near c.requires c.index.ensures) c.if-index-near.false) lead
+    c.remove.ensures.by_index.2 put)
     c.put.ensures
