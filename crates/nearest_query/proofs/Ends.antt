@@ -11,6 +11,7 @@ use Rattle.inner_pack.specs.declared.node.NodeAt.{NodeAt}
 use Rattle.nearest_query.specs.declared.candidates.Candidates.{Candidates}
 use Rattle.nearest_query.specs.declared.frontier.Waiting.{Waiting}
 use Rattle.documents.specs.NearestEntries.{ComesBefore, IsNearest}
+use Rattle.nearest_query.specs.Best.{found_of}
 use Rattle.nearest_query.specs.Segments.{is_within, bound_of, last_of}
 use Rattle.nearest_query.specs.Fronts.{span, spread}
 use Rattle.nearest_query.specs.Search.{World, IsNode, IsSought, nears_at}
@@ -96,34 +97,34 @@ module _ {D : ℕ} (w : World) (all : List Near) (turns : List Waiting) (nodes :
       other : (y : Near) → d ≤ y.dist2 → is_same x y ≡ false
       other y le = by_test _ (is_same x y) (λ e. let p = same_is x y e in let q : x.dist2 ≡ y.dist2 = ap (λ z. z.dist2) p in absurd (omega (arith, q, le, lt))) (λ e. e)
 
-  pub stop_nearest : (d : ℕ) → All (λ t. d ≤ t.dist2.0) turns → found.room ≤ length found.in_order.keys → All (λ a. a.dist2 < d) found.in_order.keys → IsNearest found.room all found.in_order.keys
-  stop_nearest d far full before = nearest_wider found.room s.seen all found.in_order.keys s.best.nearest seen_in
+  pub stop_nearest : (d : ℕ) → All (λ t. d ≤ t.dist2.0) turns → found.many.room ≤ length (found_of found) → All (λ a. a.dist2 < d) (found_of found) → IsNearest found.many.room all (found_of found)
+  stop_nearest d far full before = nearest_wider found.many.room s.seen all (found_of found) s.best.nearest seen_in
       (λ x h. by_test _ (nat_lt x.dist2 d)
       (λ lt. inl (near_seen d far x h (grind (arith, nat_tests))))
-      (λ ge. inr (let few = s.best.nearest.few in omega (arith, few, full), λ a m. let l = All-contains (λ b. b.dist2 < d) found.in_order.keys a before m in let g : d ≤ x.dist2 = grind (arith, nat_tests) in omega (arith, l, g))))
+      (λ ge. inr (let few = s.best.nearest.few in omega (arith, few, full), λ a m. let l = All-contains (λ b. b.dist2 < d) (found_of found) a before m in let g : d ≤ x.dist2 = grind (arith, nat_tests) in omega (arith, l, g))))
 
-  pub end_nearest : turns ≡ [] → IsNearest found.room all found.in_order.keys
-  end_nearest e = nearest_wider found.room s.seen all found.in_order.keys s.best.nearest seen_in
+  pub end_nearest : turns ≡ [] → IsNearest found.many.room all (found_of found)
+  end_nearest e = nearest_wider found.many.room s.seen all (found_of found) s.best.nearest seen_in
       (λ x h. inl (let c = counts_some x all h in let t = s.totals (one_if x) in let z : sum_by (spread (λ i n. sum_by (one_if x) (nears_at w i n))) turns ≡ 0 = ap (λ ts. sum_by (spread (λ i n. sum_by (one_if x) (nears_at w i n))) ts) e in some_counted x s.seen (omega (arith, c, t, z))))
 
-  last_within : (d : ℕ) (nearest : List Near) → All (λ t. d ≤ t.dist2.0) turns → IsNearest found.room all nearest
-      → (found.room ≤ length found.in_order.keys → (a : Near) × Contains found.in_order.keys a × (d ≤ a.dist2))
-      → nat_lt (length nearest) found.room ≡ false → is_within (last_of nearest) d ≡ true
+  last_within : (d : ℕ) (nearest : List Near) → All (λ t. d ≤ t.dist2.0) turns → IsNearest found.many.room all nearest
+      → (found.many.room ≤ length (found_of found) → (a : Near) × Contains (found_of found) a × (d ≤ a.dist2))
+      → nat_lt (length nearest) found.many.room ≡ false → is_within (last_of nearest) d ≡ true
   last_within d nearest far is not_ended enough = within (last_of nearest) refl
     where
-      length_is : nat_lt (length nearest) found.room ≡ false → found.room ≤ length nearest
+      length_is : nat_lt (length nearest) found.many.room ≡ false → found.many.room ≤ length nearest
       length_is h = grind (arith, nat_tests)
 
       too_near : (b : ℕ) → last_of nearest ≡ Some b → b < d → ⊥
       too_near b e lt =
-          let narrow = nearest_narrower found.room s.seen all nearest is seen_in (λ a h. let l = last_greatest nearest b is.rises e a h in near_seen d far a (is.among a h) (omega (arith, l, lt))) in
-          let same = nearest_unique found.room s.seen nearest found.in_order.keys narrow s.best.nearest in
+          let narrow = nearest_narrower found.many.room s.seen all nearest is seen_in (λ a h. let l = last_greatest nearest b is.rises e a h in near_seen d far a (is.among a h) (omega (arith, l, lt))) in
+          let same = nearest_unique found.many.room s.seen nearest (found_of found) narrow s.best.nearest in
           let after = not_ended (let l = ap length same in let m = full in omega (arith, l, m)) in
           let l = last_greatest nearest b is.rises e after.0 (subst (λ ns. Contains ns after.0) (sym same) after.1) in
           let m = after.2 in
           omega (arith, l, m, lt)
         where
-          full : found.room ≤ length nearest
+          full : found.many.room ≤ length nearest
           full = length_is enough
 
       within : (o : Option ℕ) → last_of nearest ≡ o → is_within o d ≡ true
@@ -131,10 +132,10 @@ module _ {D : ℕ} (w : World) (all : List Near) (turns : List Waiting) (nodes :
       within (Some b) e = by_test _ (nat_le d b) (λ h. h) (λ h. absurd (too_near b e (grind (arith, nat_tests))))
 
   -- where the search goes on at a node, the node is within the bound of the nearest of all
-  pub goes_on : (d : ℕ) (nearest : List Near) → All (λ t. d ≤ t.dist2.0) turns → IsNearest found.room all nearest
-      → (found.room ≤ length found.in_order.keys → (a : Near) × Contains found.in_order.keys a × (d ≤ a.dist2))
-      → is_within (bound_of found.room nearest) d ≡ true
-  goes_on d nearest far is not_ended = by_test _ (nat_lt (length nearest) found.room)
+  pub goes_on : (d : ℕ) (nearest : List Near) → All (λ t. d ≤ t.dist2.0) turns → IsNearest found.many.room all nearest
+      → (found.many.room ≤ length (found_of found) → (a : Near) × Contains (found_of found) a × (d ≤ a.dist2))
+      → is_within (bound_of found.many.room nearest) d ≡ true
+  goes_on d nearest far is not_ended = by_test _ (nat_lt (length nearest) found.many.room)
       (λ fewer. ap (λ b. is_within (cond b None (last_of nearest)) d) fewer)
       (λ enough. ap (λ b. is_within (cond b None (last_of nearest)) d) enough ∙ last_within d nearest far is not_ended enough)
 
@@ -144,8 +145,8 @@ next_node {D} w all next turns nodes nodes' found s e = subst (λ ns. IsNode D w
 
 -- and within the bound, where the search hasn't ended
 pub next_within : {D : ℕ} (w : World) (all : List Near) (next : Waiting) (turns : List Waiting) (nodes : List (NodeAt D)) (found : Candidates) → IsSought D w all (next ∷ turns) nodes found
-    → (room : ℕ) (nearest : List Near) → found.room ≡ room → IsNearest room all nearest → All (λ t. next.dist2.0 ≤ t.dist2.0) turns
-    → (1 ≤ found.room → found.room ≤ length found.in_order.keys → (a : Near) × Contains found.in_order.keys a × (next.dist2.0 ≤ a.dist2))
+    → (room : ℕ) (nearest : List Near) → found.many.room ≡ room → IsNearest room all nearest → All (λ t. next.dist2.0 ≤ t.dist2.0) turns
+    → (1 ≤ found.many.room → found.many.room ≤ length (found_of found) → (a : Near) × Contains (found_of found) a × (next.dist2.0 ≤ a.dist2))
     → is_within (bound_of room nearest) next.dist2.0 ≡ true
 next_within w all next turns nodes found s room nearest e is least not_ended =
     subst (λ k. is_within (bound_of k nearest) next.dist2.0 ≡ true) e

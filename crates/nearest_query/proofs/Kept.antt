@@ -10,14 +10,14 @@ use Rattle.std.specs.BTreeSet as sorted
 use Rattle.std.specs.BTreeSet.{BTreeSet}
 use Rattle.std.specs.HashMap as hash
 use Rattle.point_codec.specs.declared.entries.Near.{Near}
-use Rattle.nearest_query.specs.declared.candidates.Candidates.{Candidates}
+use Rattle.nearest_query.specs.declared.many.Many.{Many}
 use Rattle.documents.specs.NearestEntries.{ComesBefore, IsNearest}
-use Rattle.nearest_query.specs.Best.{near_cmp, AreLinked, AreBest, IsPut}
+use Rattle.nearest_query.specs.Best.{near_cmp, AreLinked, AreKept, IsPut}
 use Rattle.nearest_query.proofs.Order.{near_total, near_exact, same_near, behind, before_from_less, before_trans, pairs_from_sorted}
 use Rattle.nearest_query.proofs.Offers.{none_nearest, nearest_same, nearest_after}
 use Rattle.nearest_query.proofs.Links.{Linked, LinkedBut, at_one, at_itself, by_test, link_put, but_none, was_in, but_improved, but_replaced}
 
-abbrev given : Candidates → ℕ → Option ℕ
+abbrev given : Many → ℕ → Option ℕ
 given c d = hash.get eqb c.distances d
 
 abbrev has : BTreeSet Near → Near → Bool
@@ -29,24 +29,24 @@ in_keys s a h = (btree_set_contains_iff near_total near_exact s a).0 h
 from_keys : (s : BTreeSet Near) (a : Near) → Contains s.keys a → has s a ≡ true
 from_keys s a h = (btree_set_contains_iff near_total near_exact s a).1 h
 
-links : (c : Candidates) → AreLinked c → Linked (given c) (has c.in_order)
+links : (c : Many) → AreLinked c → Linked (given c) (has c.in_order)
 unfolding AreLinked
 links c h = h
 
-linked : (c : Candidates) → Linked (given c) (has c.in_order) → AreLinked c
+linked : (c : Many) → Linked (given c) (has c.in_order) → AreLinked c
 unfolding AreLinked
 linked c h = h
 
-none_linked : (c : Candidates) → c.in_order.keys ≡ [] → c.distances.entries ≡ [] → AreLinked c
+none_linked : (c : Many) → c.in_order.keys ≡ [] → c.distances.entries ≡ [] → AreLinked c
 unfolding AreLinked
 none_linked c e f = λ n. (λ h. let g = rw f at h in cc, λ h. let g = rw e at h in cc)
 
-pub none_best : (c : Candidates) → 1 ≤ c.room → c.in_order.keys ≡ [] → c.distances.entries ≡ [] → AreBest [] c
+pub none_best : (c : Many) → 1 ≤ c.room → c.in_order.keys ≡ [] → c.distances.entries ≡ [] → AreKept [] c
 none_best c some e f = record { some = some; linked = none_linked c e f; nearest = none_nearest c.room c.in_order.keys e }
 
 -- all places are taken by numbers that are not behind the entry
-pub skip_best : (entries : List Near) (c : Candidates) (n : Near) → AreBest entries c → c.room ≤ length c.in_order.keys
-    → All (λ a. is_lt (near_cmp n a) ≡ false) c.in_order.keys → AreBest (n ∷ entries) c
+pub skip_best : (entries : List Near) (c : Many) (n : Near) → AreKept entries c → c.room ≤ length c.in_order.keys
+    → All (λ a. is_lt (near_cmp n a) ≡ false) c.in_order.keys → AreKept (n ∷ entries) c
 skip_best entries c n best full all = record {
   some = best.some;
   linked = best.linked;
@@ -76,7 +76,7 @@ skip_best entries c n best full all = record {
         }
 
 -- a candidate that is as near already
-pub stay_best : (entries : List Near) (c : Candidates) (n : Near) (d : ℕ) → AreBest entries c → hash.get eqb c.distances n.doc ≡ Some d → d ≤ n.dist2 → AreBest (n ∷ entries) c
+pub stay_best : (entries : List Near) (c : Many) (n : Near) (d : ℕ) → AreKept entries c → hash.get eqb c.distances n.doc ≡ Some d → d ≤ n.dist2 → AreKept (n ∷ entries) c
 stay_best entries c n d best e near = record {
   some = best.some;
   linked = best.linked;
@@ -98,7 +98,7 @@ added : (b : Bool) → b ≡ false → one_more b ≡ 1
 added true h = cc
 added false h = refl
 
-module _ (entries : List Near) (old : BTreeSet Near) (mid new : Candidates) (n : Near) (some : 1 ≤ mid.room) (was : IsNearest mid.room entries old.keys)
+module _ (entries : List Near) (old : BTreeSet Near) (mid new : Many) (n : Near) (some : 1 ≤ mid.room) (was : IsNearest mid.room entries old.keys)
     (but : LinkedBut n (given mid) (has mid.in_order)) (put : IsPut n mid new) (sub : (a : Near) → has mid.in_order a ≡ true → has old a ≡ true) where
   no_number : has mid.in_order n ≡ false
   no_number = by_test _ (has mid.in_order n) (λ h. absurd (but.none n h refl)) (λ h. h)
@@ -129,7 +129,7 @@ module _ (entries : List Near) (old : BTreeSet Near) (mid new : Candidates) (n :
       → ((a : Near) → has old a ≡ true → (has mid.in_order a ≡ true) ⊎ ((n.doc ≡ a.doc) ⊎ ((length mid.in_order.keys + 1 ≡ mid.room) × (ComesBefore n a) × ((b : Near) → has mid.in_order b ≡ true → ComesBefore b a))))
       → (length old.keys ≡ mid.room → length mid.in_order.keys + 1 ≡ mid.room)
       → ((x : Near) → length old.keys ≡ mid.room → All (λ a. ComesBefore a x) old.keys → ComesBefore n x)
-      → AreBest (n ∷ entries) new
+      → AreKept (n ∷ entries) new
   put_best fits low kept full first = record {
     some = let r = put.room in omega arith;
     linked = linked new (link_put n (given mid) (given new) (has mid.in_order) (has new.in_order) but put.placed.0 put.kept.0);
@@ -153,11 +153,11 @@ module _ (entries : List Near) (old : BTreeSet Near) (mid new : Candidates) (n :
       )
 
 -- a candidate comes nearer
-pub improved_best : (entries : List Near) (old mid new : Candidates) (n : Near) (d : ℕ) → AreBest entries old → hash.get eqb old.distances n.doc ≡ Some d → n.dist2 < d
+pub improved_best : (entries : List Near) (old mid new : Many) (n : Near) (d : ℕ) → AreKept entries old → hash.get eqb old.distances n.doc ≡ Some d → n.dist2 < d
     → mid.room ≡ old.room → mid.distances ≡ old.distances
     → sorted.UpdatesBy near_cmp (near_cmp (record { dist2 = d; doc = n.doc })) old.in_order mid.in_order false
     → length mid.in_order.keys + cond (sorted.contains_by (near_cmp (record { dist2 = d; doc = n.doc })) old.in_order) 1 0 ≡ length old.in_order.keys
-    → IsPut n mid new → AreBest (n ∷ entries) new
+    → IsPut n mid new → AreKept (n ∷ entries) new
 improved_best entries old mid new n d best e near room same gone len put =
     put_best entries old.in_order mid new n (let s = best.some in omega arith) (subst (λ k. IsNearest k entries old.in_order.keys) (sym room) best.nearest) but put sub
     (let f = best.nearest.few in let l = length_mid in omega arith) low kept (λ f. let l = length_mid in omega arith)
@@ -193,8 +193,8 @@ improved_best entries old mid new n d best e near room same gone len put =
         (λ off. inl (gone.0 a ∙ ap (λ b. cond b false (has old.in_order a)) off ∙ h))
 
 -- a number more, where there is a place
-pub added_best : (entries : List Near) (old new : Candidates) (n : Near) → AreBest entries old → hash.get eqb old.distances n.doc ≡ None → length old.in_order.keys < old.room
-    → IsPut n old new → AreBest (n ∷ entries) new
+pub added_best : (entries : List Near) (old new : Many) (n : Near) → AreKept entries old → hash.get eqb old.distances n.doc ≡ None → length old.in_order.keys < old.room
+    → IsPut n old new → AreKept (n ∷ entries) new
 added_best entries old new n best e room put =
     put_best entries old.in_order old new n best.some best.nearest (but_none n (given old) (has old.in_order) is e) put (λ a h. h)
     (omega arith) low (λ a h. inl h) (λ f. omega arith) (λ x f all. absurd (omega arith))
@@ -209,12 +209,12 @@ added_best entries old new n best e room put =
         (best.nearest.left_out x h)
 
 -- a number in place of the last
-pub replaced_best : (entries : List Near) (old mid new : Candidates) (n w : Near) → AreBest entries old → hash.get eqb old.distances n.doc ≡ None
+pub replaced_best : (entries : List Near) (old mid new : Many) (n w : Near) → AreKept entries old → hash.get eqb old.distances n.doc ≡ None
     → old.room ≤ length old.in_order.keys → (a : Near) × Contains old.in_order.keys a × (near_cmp n a ≡ Less)
     → mid.room ≡ old.room → old.in_order.keys ≡ mid.in_order.keys ++ w ∷ [] → All (λ q. near_cmp q w ≡ Less) mid.in_order.keys
     → sorted.Updates near_cmp old.in_order mid.in_order w false
     → hash.UpdatesBy eqb (eqb w.doc) old.distances mid.distances None
-    → IsPut n mid new → AreBest (n ∷ entries) new
+    → IsPut n mid new → AreKept (n ∷ entries) new
 replaced_best entries old mid new n w best e full after room cut below gone lost put =
     put_best entries old.in_order mid new n (let s = best.some in omega arith) (subst (λ k. IsNearest k entries old.in_order.keys) (sym room) best.nearest) but put sub
     (let l = length_mid in omega arith) low kept (λ f. let l = length_mid in omega arith)

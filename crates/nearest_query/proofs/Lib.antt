@@ -3,6 +3,8 @@ pub mod Order
 pub mod Offers
 pub mod Links
 pub mod Kept
+pub mod Among
+pub mod Either
 pub mod Added
 pub mod Turns
 pub mod Placed

@@ -1,132 +1,71 @@
 //! The nearest numbers among the entries seen so far.
 
-ghost use Rattle.std.specs.Prelude.{◌≡◌, ◌≤◌, ◌<◌, List, [], ◌∷◌, length, OnOk, IfOk, IsTrue, Contains, All, false, None, Some, nat_eq};
-ghost use Rattle.std.specs.Ordering.{is_lt};
-ghost use Rattle.std.specs.declared.cmp.Ordering.TheVariants.{Less};
-ghost use Rattle.std.specs.HashMap as hash;
+ghost use Rattle.std.specs.Prelude.{◌≡◌, ◌≤◌, ◌<◌, List, [], ◌∷◌, length, OnOk, IfOk, IsTrue, Contains, All, false};
 ghost use Rattle.point_codec.specs.declared.entries.Near.{Near};
 
+use crate::few::{end_before, offer_few};
+use crate::many::Many;
 use point_codec::Near;
 use std::alloc::{AllocError, Global};
-use std::collections::{BTreeSet, HashMap};
 
-/// The `room` nearest numbers among the entries that were offered, each with the least distance of its entries.
+/// Up to so many places the numbers stand in one vector, where to move some of them takes less time than a tree and a table.
+const FEW: usize = 64;
+
+/// The nearest numbers among the entries that were offered, each with the least distance of its entries.
 #[derive(Drop)]
 pub struct Candidates {
-    pub room: usize,
-    /// The numbers with their distances, the nearest first.
-    pub in_order: BTreeSet<Near>,
-    /// The distance of each number.
-    pub distances: HashMap<u32, u128>,
+    /// The numbers with their distances where there are few places, the nearest first.
+    pub few: Vec<Near>,
+    /// How many places there are, and the numbers where there are more.
+    pub many: Many,
 }
 
 impl Candidates {
-    ghost use Rattle.nearest_query.specs.Best.{near_cmp, AreBest, IsPut};
+    ghost use Rattle.nearest_query.specs.Best.{AreBest, found_of};
 
     /// No number yet.
     pub fn new(alloc: Global, room: usize) -> Candidates
         requires { 1 ≤ room }
-        ensures room { result.room ≡ room }
+        ensures room { result.many.room ≡ room }
         ensures best { AreBest [] result }
     {
         Candidates {
-            room,
-            in_order: BTreeSet::new(alloc),
-            distances: HashMap::new(alloc),
+            few: Vec::new(alloc),
+            many: Many::new(alloc, room),
         }
     }
 
     /// The numbers found, the nearest first.
     pub fn found(&self, alloc: Global) -> Result<Vec<Near>, AllocError>
-        ensures { IfOk result (λ v. v.items ≡ self.now.in_order.keys) }
+        ensures { IfOk result (λ v. v.items ≡ found_of self.now) }
     {
-        self.in_order.iter().copied().collect(alloc)
+        if self.many.room > FEW {
+            return self.many.found(alloc);
+        }
+        Vec::from_slice(alloc, self.few.as_slice())
     }
 
     /// Takes the entry where it is among the nearest so far.
     pub fn offer(&mut self, near: Near) -> Result<(), AllocError>
-        ensures room { self.new.room ≡ self.old.room }
+        ensures room { self.new.many.room ≡ self.old.many.room }
         ensures best { (entries : List Near) → AreBest entries self.old → OnOk result (AreBest (near ∷ entries) self.new) }
     {
-        if self.is_left_out(&near) {
-            return Ok(());
+        if self.many.room > FEW {
+            return self.many.offer(near);
         }
-        match self.distances.get(&near.doc).copied() {
-            Some(dist2) => self.improve(dist2, near),
-            None => self.add(near),
-        }
+        offer_few(&mut self.few, self.many.room, near)
     }
 
     /// Whether all places are taken by numbers that are nearer than this distance.
     pub fn ends_before(&self, dist2: u128) -> bool
-        ensures yes { IsTrue result → (self.now.room ≤ length self.now.in_order.keys) × All (λ a. a.dist2 < dist2) self.now.in_order.keys }
-        ensures no { result ≡ false → 1 ≤ self.now.room → self.now.room ≤ length self.now.in_order.keys
-            → (a : Near) × Contains self.now.in_order.keys a × (dist2 ≤ a.dist2) }
+        ensures full { IsTrue result → self.now.many.room ≤ length (found_of self.now) }
+        ensures yes { IsTrue result → (entries : List Near) → AreBest entries self.now → All (λ a. a.dist2 < dist2) (found_of self.now) }
+        ensures no { result ≡ false → 1 ≤ self.now.many.room → self.now.many.room ≤ length (found_of self.now)
+            → (a : Near) × Contains (found_of self.now) a × (dist2 ≤ a.dist2) }
     {
-        if self.in_order.len() < self.room {
-            return false;
+        if self.many.room > FEW {
+            return self.many.ends_before(dist2);
         }
-        match self.in_order.last() {
-            Some(last) => last.dist2 < dist2,
-            None => false,
-        }
-    }
-
-    /// Whether all places are taken and the entry doesn't come before the last.
-    fn is_left_out(&self, near: &Near) -> bool
-        ensures yes { IsTrue result → (self.now.room ≤ length self.now.in_order.keys) × All (λ a. is_lt (near_cmp near.now a) ≡ false) self.now.in_order.keys }
-        ensures no { result ≡ false → 1 ≤ self.now.room → self.now.room ≤ length self.now.in_order.keys
-            → (a : Near) × Contains self.now.in_order.keys a × (near_cmp near.now a ≡ Less) }
-    {
-        if self.in_order.len() < self.room {
-            return false;
-        }
-        match self.in_order.last() {
-            Some(last) => !near.cmp(last).is_lt(),
-            None => false,
-        }
-    }
-
-    /// Gives a number of the candidates, whose distance is `dist2`, the entry's distance where that is less.
-    fn improve(&mut self, dist2: u128, near: Near) -> Result<(), AllocError>
-        ensures room { self.new.room ≡ self.old.room }
-        ensures best { (entries : List Near) → AreBest entries self.old → hash.get nat_eq self.old.distances near.doc ≡ Some dist2
-            → OnOk result (AreBest (near ∷ entries) self.new) }
-    {
-        if dist2 <= near.dist2 {
-            return Ok(());
-        }
-        self.in_order.remove(&Near {
-            dist2,
-            doc: near.doc,
-        });
-        self.put(near)
-    }
-
-    /// Adds a number that is no candidate, in place of the last where all places are taken.
-    fn add(&mut self, near: Near) -> Result<(), AllocError>
-        ensures room { self.new.room ≡ self.old.room }
-        ensures best { (entries : List Near) → AreBest entries self.old → hash.get nat_eq self.old.distances near.doc ≡ None
-            → (self.old.room ≤ length self.old.in_order.keys → (a : Near) × Contains self.old.in_order.keys a × (near_cmp near a ≡ Less))
-            → OnOk result (AreBest (near ∷ entries) self.new) }
-    {
-        if self.in_order.len() < self.room {
-            return self.put(near);
-        }
-        if let Some(last) = self.in_order.pop_last() {
-            self.distances.remove(&last.doc);
-            return self.put(near);
-        }
-        Ok(())
-    }
-
-    /// Puts the number where it belongs.
-    fn put(&mut self, near: Near) -> Result<(), AllocError>
-        ensures room { self.new.room ≡ self.old.room }
-        ensures put { OnOk result (IsPut near self.old self.new) }
-    {
-        self.in_order.insert(near)?;
-        self.distances.insert(near.doc, near.dist2)?;
-        Ok(())
+        end_before(self.few.as_slice(), self.many.room, dist2)
     }
 }

@@ -45,7 +45,7 @@ pub fn open_leaf<const D: usize, F: Pages>(
     ensures cause { HasPageCause (F.faults folder.old) (F.faults folder.new) result }
     ensures others { (i : ℕ) → KeepsFile cache.new i → KeepsFile cache.old i ⊎ (i ≡ head.now.id) }
     ensures agrees { IsTrue F.told → Agrees (F.files folder.old) cache.old → Agrees (F.files folder.old) cache.new }
-    ensures room { found.new.room ≡ found.old.room }
+    ensures room { found.new.many.room ≡ found.old.many.room }
     ensures found { IsTrue F.told → Agrees (F.files folder.old) cache.old → (first : ℕ) (s : Spot) (path : Region) (len : ℕ) (own : Region) (items : List Item) (seen : List Near)
         → IsAt node.now first s path (Leaf len own) → HoldsLeaf D (bytes_of (F.files folder.old (Segment head.now.id))) head.now first s len own items
         → AreBest seen found.old → OnOk result (AreAdded seen (nears_of at.now.c (live_items live.now items)) found.new) }
@@ -69,7 +69,7 @@ fn offer_leaf<const D: usize>(
     at: &Point<D>,
     found: &mut Candidates,
 ) -> Result<(), AllocError>
-    ensures room { found.new.room ≡ found.old.room }
+    ensures room { found.new.many.room ≡ found.old.many.room }
     ensures found { (seen : List Near) → AreBest seen found.old → OnOk result (AreAdded seen (nears_of at.now.c (live_items live.now view.now)) found.new) }
 {
     for i in 0..view.count() {
@@ -91,7 +91,7 @@ pub fn offer_all<const D: usize>(
     at: &Point<D>,
     found: &mut Candidates,
 ) -> Result<(), AllocError>
-    ensures room { found.new.room ≡ found.old.room }
+    ensures room { found.new.many.room ≡ found.old.many.room }
     ensures found { (seen : List Near) → AreBest seen found.old → OnOk result (AreAdded seen (nears_of at.now.c (items_of entries.now)) found.new) }
 {
     for entry in entries {

@@ -3,9 +3,11 @@
 #![tactic(auto)]
 
 mod candidates;
+mod few;
 mod frontier;
 mod laws;
 mod leaves;
+mod many;
 mod query;
 mod search;
 mod survey;

@@ -11,6 +11,7 @@ ghost use Rattle.page_cache.specs.Causes.{HasPageCause};
 ghost use Rattle.page_cache.specs.Evidence.{OnDamage, NotDamaged};
 ghost use Rattle.segment_file.specs.Damages.{IsLeafDamageOf};
 ghost use Rattle.documents.specs.NearestEntries.{IsNearest};
+ghost use Rattle.nearest_query.specs.Best.{found_of};
 ghost use Rattle.nearest_query.specs.Segments.{HasId, IsSegmentDamage, is_within, bound_of};
 ghost use Rattle.nearest_query.specs.Fronts.{Front, IsWaiting, span, spread, work};
 ghost use Rattle.nearest_query.specs.Search.{World, IsOver, IsInside, IsPart, IsNode, IsSought, one_within};
@@ -62,7 +63,7 @@ fn open<'a, const D: usize, F: Pages>(
     ensures cause { HasPageCause (F.faults folder.old) (F.faults folder.new) result }
     ensures others { (i : ℕ) → KeepsFile cache.new i → KeepsFile cache.old i ⊎ HasId heads.now i }
     ensures agrees { IsTrue F.told → Agrees (F.files folder.old) cache.old → Agrees (F.files folder.old) cache.new }
-    ensures room { found.new.room ≡ found.old.room }
+    ensures room { found.new.many.room ≡ found.old.many.room }
     ensures work { OnOk result (sum_by work frontier.new.turns < work next + sum_by work frontier.old.turns) }
     ensures inside { All (IsInside (length heads.now) frontier.old.nodes) frontier.old.turns → OnOk result (All (IsInside (length heads.now) frontier.new.nodes) frontier.new.turns) }
     ensures sought { IsTrue F.told → Agrees (F.files folder.old) cache.old → (w : World) (all : List Near) → IsOver w at.now.c heads.now lives.now (F.files folder.old)
@@ -109,10 +110,10 @@ pub fn search<'a, const D: usize, F: Pages>(
     ensures others { (i : ℕ) → KeepsFile cache.new i → KeepsFile cache.old i ⊎ HasId heads.now i }
     ensures agrees { IsTrue F.told → Agrees (F.files folder.old) cache.old → Agrees (F.files folder.old) cache.new }
     ensures answer { IsTrue F.told → Agrees (F.files folder.old) cache.old → (w : World) (all : List Near) → IsOver w at.now.c heads.now lives.now (F.files folder.old)
-        → IsSought D w all frontier.old.turns frontier.old.nodes found.old → OnOk result (IsNearest found.old.room all found.new.in_order.keys) }
+        → IsSought D w all frontier.old.turns frontier.old.nodes found.old → OnOk result (IsNearest found.old.many.room all (found_of found.new)) }
     ensures reads { IsTrue F.told → Agrees (F.files folder.old) cache.old → (w : World) (all nearest : List Near) → IsOver w at.now.c heads.now lives.now (F.files folder.old)
-        → IsSought D w all frontier.old.turns frontier.old.nodes found.old → IsNearest found.old.room all nearest
-        → F.reads folder.new ≤ F.reads folder.old + sum_by (spread (one_within w (bound_of found.old.room nearest))) frontier.old.turns }
+        → IsSought D w all frontier.old.turns frontier.old.nodes found.old → IsNearest found.old.many.room all nearest
+        → F.reads folder.new ≤ F.reads folder.old + sum_by (spread (one_within w (bound_of found.old.many.room nearest))) frontier.old.turns }
     ensures damage { IsTrue F.told → Agrees (F.files folder.old) cache.old → OnDamage result (IsLeafDamageOf (F.files folder.old)) }
     ensures shown { (trees : ℕ → IndexTree) → All (IsPart heads.now trees frontier.old.nodes) frontier.old.turns → OnDamage result (IsSegmentDamage D heads.now trees) }
     ensures whole { IsTrue F.told → Agrees (F.files folder.old) cache.old → (w : World) (all : List Near) → IsOver w at.now.c heads.now lives.now (F.files folder.old)

@@ -7,6 +7,6 @@ use Rattle.nearest_query.proofs.leaves.offer_all.Given as goal
 
 abbrev pub invariant-loop-entry : goal.invariant-loop-entry
 invariant-loop-entry g l = record {
-  room : l.found.room ≡ l.initial.found.room;
+  room : l.found.many.room ≡ l.initial.found.many.room;
   found : (seen : List Near) → AreBest seen l.initial.found → AreAdded seen (nears_of l.at.c (items_of (take l.entry-index l.entries))) l.found;
 }

@@ -7,6 +7,6 @@ use Rattle.nearest_query.proofs.leaves.offer_leaf.Given as goal
 
 abbrev pub invariant-loop-i : goal.invariant-loop-i
 invariant-loop-i g l = record {
-  room : l.found.room ≡ l.initial.found.room;
+  room : l.found.many.room ≡ l.initial.found.many.room;
   found : (seen : List Near) → AreBest seen l.initial.found → AreAdded seen (nears_of l.at.c (live_items l.live (take l.i l.view))) l.found;
 }

@@ -3,6 +3,7 @@ use Rattle.std.proofs.Common.{◌++◌, [], ap, subst, sym, refl, ◌∙◌, ari
 use Rattle.std.specs.Prelude.{sum_by}
 use Rattle.point_codec.specs.Seen.{items_of}
 use Rattle.documents.specs.NearestEntries.{IsNearest, nears_of}
+use Rattle.nearest_query.specs.Best.{found_of}
 use Rattle.nearest_query.specs.Segments.{live_in, bound_of}
 use Rattle.nearest_query.specs.Search.{one_within}
 use Rattle.nearest_query.specs.Fronts.{spread}
@@ -18,7 +19,7 @@ returns-clause-answer g c = λ told agrees contents segments.
     c.requires.lives (c.in_ok-offer_all.ensures.found [] c.new-found.ensures.best) (c.in_ok-put_roots.ensures.nodes w rs refl refl) (c.in_ok-put_roots.ensures.totals w rs refl) in
     let answer = c.in_ok-search.ensures.answer told agrees w _ (record { at_is = refl; heads_are = refl; lives_are = refl; files_are = refl }) sought in
     subst (λ xs. IsNearest c.args.k (nears_of c.args.at.now.c (live_in contents c.args.heads.now c.args.lives.now ++ items_of c.args.buffer.now)) xs) (sym c.in_ok-found.ensures)
-    (subst (λ k. IsNearest k (nears_of c.args.at.now.c (live_in contents c.args.heads.now c.args.lives.now ++ items_of c.args.buffer.now)) c.search.new.found.in_order.keys) room answer)
+    (subst (λ k. IsNearest k (nears_of c.args.at.now.c (live_in contents c.args.heads.now c.args.lives.now ++ items_of c.args.buffer.now)) (found_of c.search.new.found)) room answer)
 
 pub returns-clause-reads : goal.returns-clause-reads
 returns-clause-reads g c = λ told agrees contents segments nearest is leaves near.

@@ -5,6 +5,7 @@ use Rattle.std.proofs.lemmas.List.Sorted.{All-permutation, sum_by_popped}
 use Rattle.std.proofs.lemmas.List.Elements.{All-cons, All-head, All-tail}
 use Rattle.page_cache.specs.Cache.{Agrees}
 use Rattle.documents.specs.NearestEntries.{IsNearest}
+use Rattle.nearest_query.specs.Best.{found_of}
 use Rattle.nearest_query.specs.Segments.{bound_of}
 use Rattle.nearest_query.specs.Fronts.{spread, work}
 use Rattle.nearest_query.specs.Search.{IsInside, IsPart, IsSought, one_within}
@@ -14,12 +15,11 @@ use Rattle.nearest_query.proofs.search.search.Goals as goal
 
 pub returns-then-ends_before-clause-answer : goal.returns-then-ends_before-clause-answer
 returns-then-ends_before-clause-answer g c = λ told agrees w all over s.
-    let ended = c.ends_before.ensures.yes c.if-ends_before.true in
     let d = c.in-Some.next.dist2.0 in
     let far : All (λ t. d ≤ t.dist2.0) (c.in-Some.next ∷ c.pop.new.self.turns) = All-cons (λ t. d ≤ t.dist2.0) c.in-Some.next c.pop.new.self.turns (omega arith) c.in-Some.ensures.least in
     let here = sought_moved w all c.loop-next.frontier.turns (c.in-Some.next ∷ c.pop.new.self.turns) c.loop-next.frontier.nodes c.loop-next.found c.in-Some.ensures.some (c.loop-next.invariant.sought told agrees w all over s) in
-    subst (λ k. IsNearest k all c.loop-next.found.in_order.keys) c.loop-next.invariant.room
-    (stop_nearest w all (c.in-Some.next ∷ c.pop.new.self.turns) c.loop-next.frontier.nodes c.loop-next.found here d far ended.0 ended.1)
+    subst (λ k. IsNearest k all (found_of c.loop-next.found)) c.loop-next.invariant.room
+    (stop_nearest w all (c.in-Some.next ∷ c.pop.new.self.turns) c.loop-next.frontier.nodes c.loop-next.found here d far (c.ends_before.ensures.full c.if-ends_before.true) (c.ends_before.ensures.yes c.if-ends_before.true here.seen here.best))
 
 pub returns-then-ends_before-clause-reads : goal.returns-then-ends_before-clause-reads
 returns-then-ends_before-clause-reads g c = λ told agrees w all nearest over s is.
@@ -72,9 +72,9 @@ loop-next-preserved g c = record {
   reads = λ told a w all nearest over s is.
       let r = c.loop-next.invariant.reads told a w all nearest over s is in
       let here = sought_moved w all c.loop-next.frontier.turns (c.in-Some.next ∷ c.pop.new.self.turns) c.loop-next.frontier.nodes c.loop-next.found c.in-Some.ensures.some (c.loop-next.invariant.sought told a w all over s) in
-      let o = c.in_ok-open.ensures.reads w (bound_of c.args.found.now.room nearest) (next_node w all c.in-Some.next c.pop.new.self.turns c.loop-next.frontier.nodes c.pop.new.self.nodes c.loop-next.found here c.in-Some.ensures.nodes) over.at_is
-      (next_within w all c.in-Some.next c.pop.new.self.turns c.loop-next.frontier.nodes c.loop-next.found here c.args.found.now.room nearest c.loop-next.invariant.room is c.in-Some.ensures.least (c.ends_before.ensures.no c.if-ends_before.false)) in
-      let p = sum_by_popped (spread (one_within w (bound_of c.args.found.now.room nearest))) c.in-Some.next c.loop-next.frontier.turns c.pop.new.self.turns c.in-Some.ensures.some in
+      let o = c.in_ok-open.ensures.reads w (bound_of c.args.found.now.many.room nearest) (next_node w all c.in-Some.next c.pop.new.self.turns c.loop-next.frontier.nodes c.pop.new.self.nodes c.loop-next.found here c.in-Some.ensures.nodes) over.at_is
+      (next_within w all c.in-Some.next c.pop.new.self.turns c.loop-next.frontier.nodes c.loop-next.found here c.args.found.now.many.room nearest c.loop-next.invariant.room is c.in-Some.ensures.least (c.ends_before.ensures.no c.if-ends_before.false)) in
+      let p = sum_by_popped (spread (one_within w (bound_of c.args.found.now.many.room nearest))) c.in-Some.next c.loop-next.frontier.turns c.pop.new.self.turns c.in-Some.ensures.some in
       omega (arith, r, o, p);
 }
 
@@ -82,14 +82,14 @@ pub returns-in_err-open-clause-reads : goal.returns-in_err-open-clause-reads
 returns-in_err-open-clause-reads g c = λ told a w all nearest over s is.
     let r = c.loop-next.invariant.reads told a w all nearest over s is in
     let here = sought_moved w all c.loop-next.frontier.turns (c.in-Some.next ∷ c.pop.new.self.turns) c.loop-next.frontier.nodes c.loop-next.found c.in-Some.ensures.some (c.loop-next.invariant.sought told a w all over s) in
-    let o = c.in_err-open.ensures.reads w (bound_of c.args.found.now.room nearest) (next_node w all c.in-Some.next c.pop.new.self.turns c.loop-next.frontier.nodes c.pop.new.self.nodes c.loop-next.found here c.in-Some.ensures.nodes) over.at_is
-    (next_within w all c.in-Some.next c.pop.new.self.turns c.loop-next.frontier.nodes c.loop-next.found here c.args.found.now.room nearest c.loop-next.invariant.room is c.in-Some.ensures.least (c.ends_before.ensures.no c.if-ends_before.false)) in
-    let p = sum_by_popped (spread (one_within w (bound_of c.args.found.now.room nearest))) c.in-Some.next c.loop-next.frontier.turns c.pop.new.self.turns c.in-Some.ensures.some in
+    let o = c.in_err-open.ensures.reads w (bound_of c.args.found.now.many.room nearest) (next_node w all c.in-Some.next c.pop.new.self.turns c.loop-next.frontier.nodes c.pop.new.self.nodes c.loop-next.found here c.in-Some.ensures.nodes) over.at_is
+    (next_within w all c.in-Some.next c.pop.new.self.turns c.loop-next.frontier.nodes c.loop-next.found here c.args.found.now.many.room nearest c.loop-next.invariant.room is c.in-Some.ensures.least (c.ends_before.ensures.no c.if-ends_before.false)) in
+    let p = sum_by_popped (spread (one_within w (bound_of c.args.found.now.many.room nearest))) c.in-Some.next c.loop-next.frontier.turns c.pop.new.self.turns c.in-Some.ensures.some in
     omega (arith, r, o, p)
 
 pub returns-clause-answer : goal.returns-clause-answer
 returns-clause-answer g c = λ told agrees w all over s.
-    subst (λ k. IsNearest k all c.loop-next.found.in_order.keys) c.loop-next.invariant.room
+    subst (λ k. IsNearest k all (found_of c.loop-next.found)) c.loop-next.invariant.room
     (end_nearest w all c.loop-next.frontier.turns c.loop-next.frontier.nodes c.loop-next.found (c.loop-next.invariant.sought told agrees w all over s) c.in_default.ensures.none)
 
 pub returns-clause-reads : goal.returns-clause-reads

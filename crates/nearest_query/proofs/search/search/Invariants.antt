@@ -11,7 +11,7 @@ use Rattle.nearest_query.proofs.search.search.Given as goal
 
 abbrev pub invariant-loop-next : goal.invariant-loop-next
 invariant-loop-next g l = record {
-  room : l.found.room ≡ l.initial.found.room;
+  room : l.found.many.room ≡ l.initial.found.many.room;
   files : IsTrue g.F.Pages.told → g.F.Pages.files l.folder ≡ g.F.Pages.files l.initial.folder;
   faults : g.F.Pages.faults l.folder ≡ g.F.Pages.faults l.initial.folder;
   others : (i : ℕ) → KeepsFile l.cache i → KeepsFile l.initial.cache i ⊎ HasId l.heads i;
@@ -21,9 +21,9 @@ invariant-loop-next g l = record {
   sought : IsTrue g.F.Pages.told → Agrees (g.F.Pages.files l.initial.folder) l.initial.cache → (w : World) (all : List Near) → IsOver w l.at.c l.heads l.lives (g.F.Pages.files l.initial.folder)
       → IsSought g.row.D w all l.initial.frontier.turns l.initial.frontier.nodes l.initial.found → IsSought g.row.D w all l.frontier.turns l.frontier.nodes l.found;
   reads : IsTrue g.F.Pages.told → Agrees (g.F.Pages.files l.initial.folder) l.initial.cache → (w : World) (all nearest : List Near) → IsOver w l.at.c l.heads l.lives (g.F.Pages.files l.initial.folder)
-      → IsSought g.row.D w all l.initial.frontier.turns l.initial.frontier.nodes l.initial.found → IsNearest l.initial.found.room all nearest
-      → g.F.Pages.reads l.folder + sum_by (spread (one_within w (bound_of l.initial.found.room nearest))) l.frontier.turns
-      ≤ g.F.Pages.reads l.initial.folder + sum_by (spread (one_within w (bound_of l.initial.found.room nearest))) l.initial.frontier.turns;
+      → IsSought g.row.D w all l.initial.frontier.turns l.initial.frontier.nodes l.initial.found → IsNearest l.initial.found.many.room all nearest
+      → g.F.Pages.reads l.folder + sum_by (spread (one_within w (bound_of l.initial.found.many.room nearest))) l.frontier.turns
+      ≤ g.F.Pages.reads l.initial.folder + sum_by (spread (one_within w (bound_of l.initial.found.many.room nearest))) l.initial.frontier.turns;
 }
 
 abbrev pub decreases-loop-next : goal.decreases-loop-next
