@@ -71,8 +71,17 @@ pub fn run<S: Source, F: Folder, K: Sink, R: Threads + Sync, G: Gate>(
     ensures canon { IsTrue F.told → (state : State) → IsStored (F.files folder.old) state → IsAnswer result → HasNewCanonical (F.files folder.old) (F.files folder.new) }
     // what it leaves and costs, whatever the folder holds
     ensures leaves { IsTrue F.told → OnAsked (λ a. LeavesAsked a
-        (record { source = S.told; sink = K.told; input = S.left input.old; old = F.files folder.old; new = F.files folder.new; written = K.written out.old;
-          written_now = K.written out.new; before = F.reads folder.old; now = F.reads folder.new }) result) (asked (map string_bytes words.now)) }
+        (record {
+          source = S.told;
+          sink = K.told;
+          input = S.left input.old;
+          old = F.files folder.old;
+          new = F.files folder.new;
+          written = K.written out.old;
+          written_now = K.written out.new;
+          before = F.reads folder.old;
+          now = F.reads folder.new;
+        }) result) (asked (map string_bytes words.now)) }
     // why it ended otherwise
     ensures damage { TellsDamage (IsTrue F.told) (F.files folder.old) (F.files folder.new) result }
     ensures causes { HasCauses (record { source = S.faults input.old; folder = F.faults folder.old; sink = K.faults out.old })
@@ -106,8 +115,17 @@ fn run_command<S: Source, F: Folder, K: Sink, R: Threads + Sync, G: Gate>(
     ensures untouched { is_session (said words) ≡ false → DoesNothing result → (folder.new ≡ folder.old) × (out.new ≡ out.old) }
     ensures canon { IsTrue F.told → (state : State) → IsStored (F.files folder.old) state → IsAnswer result → HasNewCanonical (F.files folder.old) (F.files folder.new) }
     ensures leaves { IsTrue F.told → LeavesAsked (said words)
-        (record { source = S.told; sink = K.told; input = S.left input.old; old = F.files folder.old; new = F.files folder.new; written = K.written out.old;
-          written_now = K.written out.new; before = F.reads folder.old; now = F.reads folder.new }) result }
+        (record {
+          source = S.told;
+          sink = K.told;
+          input = S.left input.old;
+          old = F.files folder.old;
+          new = F.files folder.new;
+          written = K.written out.old;
+          written_now = K.written out.new;
+          before = F.reads folder.old;
+          now = F.reads folder.new;
+        }) result }
     ensures damage { TellsDamage (IsTrue F.told) (F.files folder.old) (F.files folder.new) result }
     ensures causes { HasCauses (record { source = S.faults input.old; folder = F.faults folder.old; sink = K.faults out.old })
         (record { source = S.faults input.new; folder = F.faults folder.new; sink = K.faults out.new }) result }

@@ -122,10 +122,7 @@ pub(crate) fn delete<const D: usize>(mut words: Words<'_>) -> Result<Command<D>,
 
 /// Nothing, `begin` with any positions, or `end`
 #[tactic(auto, unfolding(crate::specs::Reading::read_merge))]
-pub fn merge<const D: usize>(
-    alloc: Global,
-    mut words: Words<'_>,
-) -> Result<Command<D>, LineFault>
+pub fn merge<const D: usize>(alloc: Global, mut words: Words<'_>) -> Result<Command<D>, LineFault>
     requires { words.place ≡ 2 }
     ensures { Agrees request_of result (read_merge (left words.entry)) }
 {

@@ -42,9 +42,7 @@ fn coordinate_at(word: &str, place: u32) -> Result<i32, LineFault>
 }
 
 /// The ends of a box, which all words that are left write.
-pub fn box_at<const D: usize>(
-    mut words: Words<'_>,
-) -> Result<(Point<D>, Point<D>), LineFault>
+pub fn box_at<const D: usize>(mut words: Words<'_>) -> Result<(Point<D>, Point<D>), LineFault>
     requires some { 1 ≤ D }
     requires few { D ≤ 8 }
     ensures { MatchResult result (λ ends. box_of D words.entry.place (left words.entry) ≡ Ok (ends.0.c, ends.1.c)) (λ f. box_of D words.entry.place (left words.entry) ≡ Err f) }

@@ -18,8 +18,8 @@ returns-in-Err-clause-done g c = λ d. does_lines c.stopped.result (subst DoesNo
 pub returns-in-Ok-clause-checks : goal.returns-in-Ok-clause-checks
 returns-in-Ok-clause-checks g c = λ told. record {
   ends = rw c.status_of.ensures (sent_check (IsTrue g.K.Sink.told) (g.F.Pages.files c.args.folder.now) (g.K.Sink.written c.args.out.now) (g.K.Sink.written c.send.new.out)
-  c.as_slice.result.now c.send.result (told_text _ _ _ _ c.new-text.ensures.items c.as_slice.ensures.value (rw c.in-Ok.is at (c.check.ensures.tells told)))
-  c.send.ensures.text c.send.ensures.known c.send.ensures.cause);
+      c.as_slice.result.now c.send.result (told_text _ _ _ _ c.new-text.ensures.items c.as_slice.ensures.value (rw c.in-Ok.is at (c.check.ensures.tells told)))
+      c.send.ensures.text c.send.ensures.known c.send.ensures.cause);
   files = c.check.ensures.files told;
   reads = c.check.ensures.reads told;
 }
@@ -27,7 +27,7 @@ returns-in-Ok-clause-checks g c = λ told. record {
 pub returns-in-Err-clause-checks : goal.returns-in-Err-clause-checks
 returns-in-Err-clause-checks g c = λ told. record {
   ends = rw c.status_of-in-Err.ensures (rw c.stopped.ensures (fault_check (IsTrue g.K.Sink.told) (g.F.Pages.files c.args.folder.now) (g.K.Sink.written c.args.out.now)
-  (g.K.Sink.written c.args.out.now) c.in-Err.fault (rw c.in-Err.is at (c.check.ensures.undefined told)) (λ sink. refl)));
+      (g.K.Sink.written c.args.out.now) c.in-Err.fault (rw c.in-Err.is at (c.check.ensures.undefined told)) (λ sink. refl)));
   files = c.check.ensures.files told;
   reads = c.check.ensures.reads told;
 }
@@ -36,15 +36,15 @@ pub returns-in-Ok-clause-damage : goal.returns-in-Ok-clause-damage
 returns-in-Ok-clause-damage g c = record {
   never = λ told state h d. sent_undamaged c.send.result c.send.ensures.cause (subst IsDamaged c.status_of.ensures d);
   evident = let P = IsEvident (IsTrue g.F.Pages.told) (g.F.Pages.files c.check.new.folder) in
-  rw c.status_of.ensures (status_shows P c.send.result (sink_shows P c.send.result c.send.ensures.cause));
+      rw c.status_of.ensures (status_shows P c.send.result (sink_shows P c.send.result c.send.ensures.cause));
 }
 
 pub returns-in-Err-clause-damage : goal.returns-in-Err-clause-damage
 returns-in-Err-clause-damage g c = record {
   never = λ told state h d. fault_whole (g.F.Pages.files c.args.folder.now) state c.in-Err.fault h (rw c.in-Err.is at (c.check.ensures.undefined told))
-  (subst IsDamaged (c.status_of-in-Err.ensures ∙ ap status_of c.stopped.ensures) d);
+      (subst IsDamaged (c.status_of-in-Err.ensures ∙ ap status_of c.stopped.ensures) d);
   evident = rw c.status_of-in-Err.ensures (rw c.stopped.ensures (fault_status (IsEvident (IsTrue g.F.Pages.told) (g.F.Pages.files c.check.new.folder)) c.in-Err.fault
-  (rw c.in-Err.is at c.check.ensures.evident)));
+      (rw c.in-Err.is at c.check.ensures.evident)));
 }
 
 pub returns-in-Ok-clause-folder_fault : goal.returns-in-Ok-clause-folder_fault

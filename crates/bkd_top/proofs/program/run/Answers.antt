@@ -80,20 +80,30 @@ returns-in-Err-Memory-clause-input g c = λ told. none_taken _ _ _
 pub returns-in-Ok-clause-leaves : goal.returns-in-Ok-clause-leaves
 returns-in-Ok-clause-leaves g c = λ told. subst (λ (o : Option Asked). OnAsked (λ a. LeavesAsked a
     (record {
-      source = g.S.Source.told; sink = g.K.Sink.told; input = g.S.Source.left c.args.input.now;
-      old = g.F.Pages.files c.args.folder.now; new = g.F.Pages.files c.run_command.new.folder;
-      written = g.K.Sink.written c.args.out.now; written_now = g.K.Sink.written c.run_command.new.out;
-      before = g.F.Pages.reads c.args.folder.now; now = g.F.Pages.reads c.run_command.new.folder;
+      source = g.S.Source.told;
+      sink = g.K.Sink.told;
+      input = g.S.Source.left c.args.input.now;
+      old = g.F.Pages.files c.args.folder.now;
+      new = g.F.Pages.files c.run_command.new.folder;
+      written = g.K.Sink.written c.args.out.now;
+      written_now = g.K.Sink.written c.run_command.new.out;
+      before = g.F.Pages.reads c.args.folder.now;
+      now = g.F.Pages.reads c.run_command.new.folder;
     })
     c.run_command.result) o) (sym c.in-Ok.ensures.words) (c.run_command.ensures.leaves told)
 
 pub returns-in-Err-Usage-clause-leaves : goal.returns-in-Err-Usage-clause-leaves
 returns-in-Err-Usage-clause-leaves g c = λ told. subst (λ (o : Option Asked). OnAsked (λ a. LeavesAsked a
     (record {
-      source = g.S.Source.told; sink = g.K.Sink.told; input = g.S.Source.left c.args.input.now;
-      old = g.F.Pages.files c.args.folder.now; new = g.F.Pages.files c.args.folder.now;
-      written = g.K.Sink.written c.args.out.now; written_now = g.K.Sink.written c.args.out.now;
-      before = g.F.Pages.reads c.args.folder.now; now = g.F.Pages.reads c.args.folder.now;
+      source = g.S.Source.told;
+      sink = g.K.Sink.told;
+      input = g.S.Source.left c.args.input.now;
+      old = g.F.Pages.files c.args.folder.now;
+      new = g.F.Pages.files c.args.folder.now;
+      written = g.K.Sink.written c.args.out.now;
+      written_now = g.K.Sink.written c.args.out.now;
+      before = g.F.Pages.reads c.args.folder.now;
+      now = g.F.Pages.reads c.args.folder.now;
     })
     status.Usage) o) (sym (c.in-Err-Usage.ensures.usage (ap (λ (f : WordsFault). Err f) c.in-Err-Usage.field-0-is))) tt
 

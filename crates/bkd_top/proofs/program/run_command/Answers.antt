@@ -152,10 +152,15 @@ pub returns-in-Run-clause-leaves : goal.returns-in-Run-clause-leaves
 returns-in-Run-clause-leaves g c = λ told.
     left_by c.args.words _
     (record {
-      source = g.S.Source.told; sink = g.K.Sink.told; input = g.S.Source.left c.args.input.now;
-      old = g.F.Pages.files c.args.folder.now; new = g.F.Pages.files c.run_script.new.folder;
-      written = g.K.Sink.written c.args.out.now; written_now = g.K.Sink.written c.run_script.new.out;
-      before = g.F.Pages.reads c.args.folder.now; now = g.F.Pages.reads c.run_script.new.folder;
+      source = g.S.Source.told;
+      sink = g.K.Sink.told;
+      input = g.S.Source.left c.args.input.now;
+      old = g.F.Pages.files c.args.folder.now;
+      new = g.F.Pages.files c.run_script.new.folder;
+      written = g.K.Sink.written c.args.out.now;
+      written_now = g.K.Sink.written c.run_script.new.out;
+      before = g.F.Pages.reads c.args.folder.now;
+      now = g.F.Pages.reads c.run_script.new.folder;
     })
     c.run_script.result (ap said c.in-Run.is) (λ source. c.run_script.ensures.costs source told)
 
@@ -163,10 +168,15 @@ pub returns-in-Session-clause-leaves : goal.returns-in-Session-clause-leaves
 returns-in-Session-clause-leaves g c = λ told.
     left_by c.args.words _
     (record {
-      source = g.S.Source.told; sink = g.K.Sink.told; input = g.S.Source.left c.args.input.now;
-      old = g.F.Pages.files c.args.folder.now; new = g.F.Pages.files c.run_session.new.folder;
-      written = g.K.Sink.written c.args.out.now; written_now = g.K.Sink.written c.run_session.new.out;
-      before = g.F.Pages.reads c.args.folder.now; now = g.F.Pages.reads c.run_session.new.folder;
+      source = g.S.Source.told;
+      sink = g.K.Sink.told;
+      input = g.S.Source.left c.args.input.now;
+      old = g.F.Pages.files c.args.folder.now;
+      new = g.F.Pages.files c.run_session.new.folder;
+      written = g.K.Sink.written c.args.out.now;
+      written_now = g.K.Sink.written c.run_session.new.out;
+      before = g.F.Pages.reads c.args.folder.now;
+      now = g.F.Pages.reads c.run_session.new.folder;
     })
     c.run_session.result (ap said c.in-Session.is) (λ source. c.run_session.ensures.costs source told)
 
@@ -174,10 +184,15 @@ pub returns-in-Explain-clause-leaves : goal.returns-in-Explain-clause-leaves
 returns-in-Explain-clause-leaves g c = λ told.
     left_by c.args.words _
     (record {
-      source = g.S.Source.told; sink = g.K.Sink.told; input = g.S.Source.left c.args.input.now;
-      old = g.F.Pages.files c.args.folder.now; new = g.F.Pages.files c.run_explain.new.folder;
-      written = g.K.Sink.written c.args.out.now; written_now = g.K.Sink.written c.run_explain.new.out;
-      before = g.F.Pages.reads c.args.folder.now; now = g.F.Pages.reads c.run_explain.new.folder;
+      source = g.S.Source.told;
+      sink = g.K.Sink.told;
+      input = g.S.Source.left c.args.input.now;
+      old = g.F.Pages.files c.args.folder.now;
+      new = g.F.Pages.files c.run_explain.new.folder;
+      written = g.K.Sink.written c.args.out.now;
+      written_now = g.K.Sink.written c.run_explain.new.out;
+      before = g.F.Pages.reads c.args.folder.now;
+      now = g.F.Pages.reads c.run_explain.new.folder;
     })
     c.run_explain.result (ap said c.in-Explain.is) (record { files = c.run_explain.ensures.files told; reads = λ source. c.run_explain.ensures.reads source told })
 
@@ -185,10 +200,15 @@ pub returns-in-Load-clause-leaves : goal.returns-in-Load-clause-leaves
 returns-in-Load-clause-leaves g c = λ told.
     left_by c.args.words _
     (record {
-      source = g.S.Source.told; sink = g.K.Sink.told; input = g.S.Source.left c.args.input.now;
-      old = g.F.Pages.files c.args.folder.now; new = g.F.Pages.files c.run_load.new.folder;
-      written = g.K.Sink.written c.args.out.now; written_now = g.K.Sink.written c.run_load.new.out;
-      before = g.F.Pages.reads c.args.folder.now; now = g.F.Pages.reads c.run_load.new.folder;
+      source = g.S.Source.told;
+      sink = g.K.Sink.told;
+      input = g.S.Source.left c.args.input.now;
+      old = g.F.Pages.files c.args.folder.now;
+      new = g.F.Pages.files c.run_load.new.folder;
+      written = g.K.Sink.written c.args.out.now;
+      written_now = g.K.Sink.written c.run_load.new.out;
+      before = g.F.Pages.reads c.args.folder.now;
+      now = g.F.Pages.reads c.run_load.new.folder;
     })
     c.run_load.result (ap said c.in-Load.is) (c.run_load.ensures.whole told)
 
@@ -196,10 +216,15 @@ pub returns-in-Generate-clause-leaves : goal.returns-in-Generate-clause-leaves
 returns-in-Generate-clause-leaves g c = λ told.
     left_by c.args.words _
     (record {
-      source = g.S.Source.told; sink = g.K.Sink.told; input = g.S.Source.left c.args.input.now;
-      old = g.F.Pages.files c.args.folder.now; new = g.F.Pages.files c.run_generate.new.folder;
-      written = g.K.Sink.written c.args.out.now; written_now = g.K.Sink.written c.run_generate.new.out;
-      before = g.F.Pages.reads c.args.folder.now; now = g.F.Pages.reads c.run_generate.new.folder;
+      source = g.S.Source.told;
+      sink = g.K.Sink.told;
+      input = g.S.Source.left c.args.input.now;
+      old = g.F.Pages.files c.args.folder.now;
+      new = g.F.Pages.files c.run_generate.new.folder;
+      written = g.K.Sink.written c.args.out.now;
+      written_now = g.K.Sink.written c.run_generate.new.out;
+      before = g.F.Pages.reads c.args.folder.now;
+      now = g.F.Pages.reads c.run_generate.new.folder;
     })
     c.run_generate.result (ap said c.in-Generate.is) (c.run_generate.ensures.whole told)
 
@@ -207,10 +232,15 @@ pub returns-in-Check-clause-leaves : goal.returns-in-Check-clause-leaves
 returns-in-Check-clause-leaves g c = λ told.
     left_by c.args.words _
     (record {
-      source = g.S.Source.told; sink = g.K.Sink.told; input = g.S.Source.left c.args.input.now;
-      old = g.F.Pages.files c.args.folder.now; new = g.F.Pages.files c.run_check.new.folder;
-      written = g.K.Sink.written c.args.out.now; written_now = g.K.Sink.written c.run_check.new.out;
-      before = g.F.Pages.reads c.args.folder.now; now = g.F.Pages.reads c.run_check.new.folder;
+      source = g.S.Source.told;
+      sink = g.K.Sink.told;
+      input = g.S.Source.left c.args.input.now;
+      old = g.F.Pages.files c.args.folder.now;
+      new = g.F.Pages.files c.run_check.new.folder;
+      written = g.K.Sink.written c.args.out.now;
+      written_now = g.K.Sink.written c.run_check.new.out;
+      before = g.F.Pages.reads c.args.folder.now;
+      now = g.F.Pages.reads c.run_check.new.folder;
     })
     c.run_check.result (ap said c.in-Check.is) (c.run_check.ensures.checks told)
 
