@@ -284,7 +284,7 @@ fn refuses_too_many(rt: HostRuntime) -> Result<(), Fail> {
     Ok(())
 }
 
-/// Words that are none of a command, and `check`, which is not there yet.
+/// Words that are none of a command.
 const OTHER_WORDS: &[&[&str]] = &[
     &[],
     &["."],
@@ -314,7 +314,6 @@ const OTHER_WORDS: &[&[&str]] = &[
     &[".", "generate", "--docs", "1", "--seed", "0"],
     &[".", "generate", "--docs", "1", "--seed", "2147483647"],
     &[".", "generate", "--docs", "1"],
-    &[".", "check"],
     &[".", "check", "more"],
 ];
 

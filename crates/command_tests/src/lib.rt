@@ -1,8 +1,10 @@
-//! Tests of the commands that are no scripts: loading, explaining, generating, and all of them through the program.
+//! Tests of the commands that are no scripts: loading, explaining, checking, generating, and all of them through the program.
 //!
 //! They stand above the crates that they test, as Rust's integration tests do: a change of a test is no change of those.
 #![tactic(auto)]
 
+#[cfg(test)]
+mod checking;
 #[cfg(test)]
 mod command_faults;
 #[cfg(test)]
