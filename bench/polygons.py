@@ -105,26 +105,26 @@ class Bench:
 
     def run(self, folder, line, times):
         source = write(self.path("lines"), [line] * times)
-        return bkd(folder, "run", "--cache", "65536", source=source, keep=times == 1).done()
+        return bkd(folder, "run", "--cache", "65536", source=source).done()
 
     def best(self, folder, line, times, turns):
         return min(self.spent(self.run(folder, line, times)) for _ in range(turns))
 
     def line(self, folder, line):
         """The seconds of a line: first roughly, and again by many of them where it is quick."""
-        once = self.best(folder, line, 1, 3)
+        once = self.best(folder, line, 1, 1)
         more = self.spent(self.run(folder, line, 2)) - once
-        if more > LONG:
+        if more > 5 * LONG:
             return more
+        once = min(once, self.best(folder, line, 1, 2))
         times = min(MOST, math.ceil(LONG / max(more, LONG / MOST)))
         return (self.best(folder, line, 1 + times, 3) - once) / times
 
-    def is_slow(self, line):
+    def answer(self, line):
+        """What the line answers; None where it takes too long."""
         words = ["timeout", str(LIMIT), program.PROGRAM, self.folder, "run"]
-        status = Run(words, write(self.path("lines"), [line])).status
-        if status not in (0, 124):
-            sys.exit(f"a polygon's line ended with status {status}")
-        return status == 124
+        run = Run(words, write(self.path("lines"), [line]), keep=True)
+        return None if run.status == 124 else run.done().text
 
     def by_geos(self, rings):
         """GEOS's text, and its seconds: making ready, testing, and of that making a geometry of each point."""
@@ -145,9 +145,9 @@ def row(bench, name, rings):
     line = polygon_of(rings)
     theirs = bench.by_geos(rings) if bench.geos else None
     peer = "" if not bench.geos else f"more than {LIMIT} s" if theirs is None else seconds(sum(theirs[1][:2]))
-    if bench.is_slow(line):
+    text = bench.answer(line)
+    if text is None:
         return f"| {name} | | more than {LIMIT} s | | | | {peer} |"
-    text = bench.run(bench.folder, line, 1).text
     if theirs is not None:
         compare(in_order(text), in_order(theirs[0]))
     hits = int(text.split("\n", 1)[0].split()[1])
