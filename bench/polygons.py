@@ -1,7 +1,7 @@
 #!/usr/bin/env python3
 """Times polygons through the program bkd from outside, over a million drawn points, and prints a line for each shape.
 
-usage: bench/polygons.py [--processor] [COUNT]
+usage: bench/polygons.py [--processor] [--points COUNT] [--only WORD]
 
 A line is timed by what a run of some more such lines takes more than a run of one, so starting and opening are not in
 it; reading the line and writing its answer are. Beside each shape stand
@@ -12,8 +12,10 @@ it; reading the line and writing its answer are. Beside each shape stand
   it ready and testing took, without reading, the numbers of the points that are in compared with bkd's.
 
 What takes longer than LIMIT seconds is told as that. With --processor times are of the processor, not of the clock,
-for a machine that does other work. BKD names the program where it is not crates/bkd/out/bkd.
+for a machine that does other work; with --only shapes are timed whose names have the word. BKD names the program where
+it is not crates/bkd/out/bkd.
 """
+import argparse
 import json
 import math
 import os
@@ -158,15 +160,19 @@ def row(bench, name, rings):
 
 
 def main():
-    words = [word for word in sys.argv[1:] if word != "--processor"]
-    by_processor = len(words) < len(sys.argv) - 1
+    parser = argparse.ArgumentParser(description=__doc__, formatter_class=argparse.RawDescriptionHelpFormatter)
+    parser.add_argument("--processor", action="store_true")
+    parser.add_argument("--points", type=int, default=COUNT)
+    parser.add_argument("--only", default="")
+    words = parser.parse_args()
     with tempfile.TemporaryDirectory(prefix="bkd-polygons-") as room:
-        bench = Bench(room, int(words[0]) if words else COUNT, by_processor)
-        print("times of the " + ("processor" if by_processor else "clock"))
+        bench = Bench(room, words.points, words.processor)
+        print("times of the " + ("processor" if words.processor else "clock"))
         print("| Shape | Hits | A line | Its text | Its box | Without the text, to its box | GEOS |")
         print("|---|---|---|---|---|---|---|", flush=True)
         for name, rings in shapes():
-            print(row(bench, name, rings), flush=True)
+            if words.only in name:
+                print(row(bench, name, rings), flush=True)
 
 
 if __name__ == "__main__":

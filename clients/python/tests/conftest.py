@@ -1,4 +1,4 @@
-"""The programs that the tests talk with, the stand-in of `stand_in.py` and the real one; and the time that they have."""
+"""The programs that the tests talk with, the stand-in of `stand_in.py` and the real one; the time that tests have."""
 from __future__ import annotations
 
 import contextlib
@@ -20,8 +20,8 @@ sys.path[:0] = [str(HERE), str(HERE.parent)]
 
 import bkd  # noqa: E402
 
-# Machines are busy, and a process is started for many an example. The gate draws the same examples each time, so that what
-# fails comes of the change; --hypothesis-profile=drawn draws others.
+# Machines are busy, and a process is started for many an example. The gate draws the same examples each time, so that
+# what fails comes of the change; --hypothesis-profile=drawn draws others.
 settings.register_profile("drawn", deadline=None)
 settings.register_profile("same", deadline=None, derandomize=True, database=None)
 settings.load_profile("same")
@@ -85,7 +85,7 @@ def pytest_runtest_teardown(item):
 
 
 def real_program() -> bkd.Program | None:
-    """BKD's program, or the one that the gate built, or the released one; the launcher would prove and build it first."""
+    """BKD's program, or the gate's, or the released one; the launcher would prove and build it first."""
     for path in [os.environ["BKD"]] if "BKD" in os.environ else map(str, (BUILT, RELEASED)):
         if os.path.isfile(path):
             return bkd.find(path)
@@ -97,7 +97,7 @@ REAL = real_program()
 
 @functools.cache
 def works(command: str) -> bool:
-    """Whether the real program is there and has a command: it is listed, and its words aren't answered as wrong ones."""
+    """Whether the real program has a command: it is listed, and its words aren't answered as wrong ones."""
     if REAL is None or command not in REAL.commands:
         return False
     with tempfile.TemporaryDirectory() as folder:

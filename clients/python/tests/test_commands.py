@@ -68,7 +68,7 @@ def test_a_command_that_is_listed_and_does_not_work(tmp_path, monkeypatch, stand
 
 
 def drawn(index, seed, count=400):
-    """Documents of 1 to 3 points in segments, some deleted; answers those that are live by number, as sets of points."""
+    """Documents of 1 to 3 points in segments, some deleted; answers the live ones by number, as sets of points."""
     draw = random.Random(seed)
     points = [[tuple(draw.randint(-50, 50) for _ in range(index.dims)) for _ in range(draw.choice((1, 1, 1, 3)))]
               for _ in range(count)]
@@ -184,11 +184,12 @@ def test_ranges(has, tmp_path):
 def test_a_command_that_hangs(tmp_path):
     """A program that lists check and never ends."""
     path = tmp_path / "stuck"
-    path.write_text("#!/bin/sh\n[ $# -eq 0 ] && echo 'usage: bkd FOLDER run|load|check|generate [options]' >&2 && exit 1\n"
+    path.write_text("#!/bin/sh\n[ $# -eq 0 ] && echo 'usage: bkd FOLDER load|check|generate [options]' >&2 && exit 1\n"
                     "exec sleep 3600\n")
     path.chmod(0o755)
-    for use in (lambda: bkd.check(tmp_path, program=path, timeout=0.5), lambda: bkd.load(tmp_path, ["a"], "a\n1\n", program=path, timeout=0.5),
-                lambda: bkd.generate(tmp_path, 1, 1, program=path, timeout=0.5)):
+    how = {"program": path, "timeout": 0.5}
+    for use in (lambda: bkd.check(tmp_path, **how), lambda: bkd.load(tmp_path, ["a"], "a\n1\n", **how),
+                lambda: bkd.generate(tmp_path, 1, 1, **how)):
         with pytest.raises(bkd.Hung):
             use()
 
