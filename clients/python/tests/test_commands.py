@@ -116,7 +116,7 @@ def test_count_as_a_scan(has, tmp_path, dims):
     draw = random.Random(dims)
     with bkd.open(tmp_path, dims, leaf=7, program=program) as index:
         points = [point for found in drawn(index, dims).values() for point in found]
-        for _ in range(12):
+        for _ in range(6):
             ends = [sorted((draw.randint(-60, 60), draw.randint(-60, 60))) for _ in range(dims)]
             low, high = zip(*ends)
             inside = [p for p in points if all(a <= c <= b for a, c, b in zip(low, p, high))]
