@@ -135,6 +135,13 @@ batch explain 0
 batch_--merge explain 4
 explain batch_--merge 4
 ROWS
+    exec 8< index
+    flock -n 8
+    call at/bkd index run
+    holds "one who holds the folder keeps it out" 4 "another run works in 'index'"
+    BKD_HELD=1 call at/bkd index run
+    holds "but where it is told that the folder is held for it" 0 'program index run'
+    exec 8<&-
     mkdir bare
     for it in bash readlink find sort xargs sha256sum mktemp mkdir rm mv touch cat; do
         ln -s "$(command -v "$it")" "bare/$it"

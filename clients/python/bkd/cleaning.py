@@ -23,20 +23,19 @@ def clean(folder: Folder, *, program: Which = None) -> list[str]:
     with lock.locked(path) as held:
         stored = open_stored(path)
         stored.check()
-        _ask_program(path, program, held)
+        _ask_program(path, find(program), held)
         left = sorted(name for name in os.listdir(path) if is_own_name(name) and name not in stored.files())
         for name in left:
             os.remove(os.path.join(path, name))
         return left
 
 
-def _ask_program(path: str, program: Which, held: int) -> None:
-    """Has the program check the folder, where it has the command and leaves the lock to us."""
-    found: Program = find(program)
-    if found.locks or "check" not in found.commands:
+def _ask_program(path: str, program: Program, held: int) -> None:
+    """Has the program check the folder, where it has the command."""
+    if "check" not in program.commands:
         return
     try:
-        checked = commands.check(path, program=found, held=held)
+        checked = commands.check(path, program=program, held=held)
     except Unsupported:
         return  # the command is listed before it works
     if checked is None:

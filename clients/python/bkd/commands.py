@@ -1,7 +1,8 @@
 """The program's commands that run once over a folder.
 
-Each takes `program` as `bkd.open` does, and the folder's lock where the program doesn't. A command that the program
-doesn't list raises `Unsupported`.
+Each takes `program` as `bkd.open` does, and the folder's lock, but where `held` is a descriptor that holds it. A command
+that the program doesn't list raises `Unsupported`. `timeout` is for how many seconds the program may run, or, where it
+reads lines, take and give nothing, before it is killed and `Hung` raised; None for ever.
 """
 from __future__ import annotations
 
@@ -34,7 +35,8 @@ class Checked:
     segments: int
 
 
-def load(folder: Folder, columns: Sequence[str], table: bytes | str, forks: int = 1, *, program: Which = None) -> tuple[int, int]:
+def load(folder: Folder, columns: Sequence[str], table: bytes | str, forks: int = 1, *, program: Which = None,
+         timeout: float | None = None) -> tuple[int, int]:
     """Adds a document for each record of a CSV table, its points the columns of these 1 to 8 names, and commits.
 
     Answers how many were loaded and the next number. All of the table is loaded, or nothing is and `Refused` says why.
@@ -43,37 +45,40 @@ def load(folder: Folder, columns: Sequence[str], table: bytes | str, forks: int 
     os.makedirs(folder, exist_ok=True)
     source = table.encode() if isinstance(table, str) else table
     words = ["load", "--columns", ",".join(columns), "--forks", str(forks)]
-    text = _told(find(program), folder, words, source)
+    text = _told(find(program), folder, words, timeout, source)
     found = re.fullmatch(r"loaded (\d+)\nnext (\d+)\n", text)
     if found is None:
         raise BadAnswer(f"load answered {text[:100]!r}")
     return int(found[1]), int(found[2])
 
 
-def generate(folder: Folder, docs: int, seed: int, forks: int = 1, *, program: Which = None) -> dict[str, int]:
+def generate(folder: Folder, docs: int, seed: int, forks: int = 1, *, program: Which = None,
+             timeout: float | None = None) -> dict[str, int]:
     """Makes an index of drawn documents, and the folder where it isn't there. `Refused` where an index is there.
 
     Answers `docs`, `live`, `box hits` and `nearest sum`.
     """
     os.makedirs(folder, exist_ok=True)
-    text = _told(find(program), folder, ["generate", "--docs", str(docs), "--seed", str(seed), "--forks", str(forks)])
+    words = ["generate", "--docs", str(docs), "--seed", str(seed), "--forks", str(forks)]
+    text = _told(find(program), folder, words, timeout)
     found = re.fullmatch(r"docs (\d+) live (\d+)\nbox hits (\d+)\nnearest sum (\d+)\n", text)
     if found is None:
         raise BadAnswer(f"generate answered {text[:100]!r}")
     return dict(zip(("docs", "live", "box hits", "nearest sum"), map(int, found.groups())))
 
 
-def _told(program: Program, folder: Folder, words: Sequence[str], source: bytes = b"", held: int | None = None) -> str:
+def _told(program: Program, folder: Folder, words: Sequence[str], timeout: float | None, source: bytes = b"",
+          held: int | None = None) -> str:
     """The text of a command that is refused as a whole or not at all."""
-    status, text = program.output(os.fspath(folder), words, source, held=held)
+    status, text = program.output(os.fspath(folder), words, source, timeout, held)
     if status == 2:
         raise Refused(" ".join(words), text.strip(), 1)
     return text
 
 
-def check(folder: Folder, *, program: Which = None, held: int | None = None) -> Checked | None:
+def check(folder: Folder, *, program: Which = None, timeout: float | None = None, held: int | None = None) -> Checked | None:
     """Reads every page that the folder's commit needs. None where there is no index; `Damaged` where it isn't whole."""
-    text = _told(find(program), folder, ["check"], held=held)
+    text = _told(find(program), folder, ["check"], timeout, held=held)
     if text == "no index\n":
         return None
     found = re.fullmatch(r"ok dims (\d+) leaf (\d+) next (\d+) live (\d+) segments (\d+)\n", text)

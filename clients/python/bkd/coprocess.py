@@ -7,24 +7,30 @@ import selectors
 import subprocess
 from collections.abc import Sequence
 from types import TracebackType
+from typing import Any
 
-from .errors import Died, Error, Hung, fault_of
+from .errors import BadAnswer, Died, Error, Hung, fault_of
 from .talk import Talk
 
 _READ = 1 << 16
 _KEPT = 1 << 16
 
 
+def inherited(held: int | None) -> dict[str, Any]:
+    """How a process is started that inherits the folder's lock; the launcher is told that it needn't take it."""
+    return {} if held is None else {"pass_fds": (held,), "env": os.environ | {"BKD_HELD": "1"}}
+
+
 class Coprocess:
     """A running program.
 
-    `timeout` is for how many seconds it may take and give nothing while it is waited for, None for ever. `keep` are
-    descriptors that it inherits: the folder's lock, which so lasts as long as the program does.
+    `timeout` is for how many seconds it may take and give nothing while it is waited for, None for ever. `held` is the
+    folder's lock, which it inherits, so that the lock lasts as long as the program does.
     """
 
-    def __init__(self, words: Sequence[str], timeout: float | None = None, keep: Sequence[int] = ()) -> None:
+    def __init__(self, words: Sequence[str], timeout: float | None, held: int | None) -> None:
         pipe = subprocess.PIPE
-        self._process = subprocess.Popen(words, stdin=pipe, stdout=pipe, stderr=pipe, bufsize=0, pass_fds=tuple(keep))
+        self._process = subprocess.Popen(words, stdin=pipe, stdout=pipe, stderr=pipe, bufsize=0, **inherited(held))
         assert self._process.stdin and self._process.stdout and self._process.stderr
         self._in, self._out, self._err = self._process.stdin, self._process.stdout, self._process.stderr
         for stream in (self._in, self._out, self._err):
@@ -70,10 +76,13 @@ class Coprocess:
         try:
             with contextlib.suppress(BrokenPipeError):
                 self._in.close()
-            with _Exchange(self, _Silence(), True) as pump:
+            silence = _Silence()
+            with _Exchange(self, silence, True) as pump:
                 pump.run()
             if self._wait() not in (0, 2):
                 raise fault_of(self._wait(), self.said, self.lines, self.last)
+            if silence.heard:
+                raise BadAnswer(f"wrote {silence.heard[:100]!r} without being asked")
         finally:
             self.kill()
 
@@ -114,15 +123,18 @@ class Coprocess:
 
 
 class _Silence:
-    """A talk without lines: only the end is waited for, and whatever is written goes nowhere."""
+    """A talk without lines: only the end is waited for, and nothing is to be heard."""
 
     done = waiting = 0
+
+    def __init__(self) -> None:
+        self.heard = b""
 
     def piece(self) -> bytes:
         return b""
 
     def take(self, data: bytes) -> None:
-        pass
+        self.heard = self.heard or data
 
     def line(self, place: int) -> str | None:
         return None

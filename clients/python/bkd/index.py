@@ -80,6 +80,7 @@ class Index(Queries):
     Every method raises `Refused` where the program refuses its line, a `Fault` where the program ends before it has
     done it, and `Closed` afterwards. `dims` is the number of dimensions. `stays` says that one program is kept
     (`session`), and that what isn't committed is only seen here; else each call is a `run` of its own and committed.
+    One thread uses it at a time.
     """
 
     def __init__(self, program: Program, folder: str, transport: Session | Runs, dims: int, arrays: bool) -> None:
@@ -236,8 +237,6 @@ class Index(Queries):
         """How a further program is started on this folder."""
         if not self._transport.is_open:
             raise Closed("the index was closed, or its program has ended")
-        if self.stays and self._program.locks:
-            raise Unsupported("the launcher holds the folder's lock for its session: close the index first")
         return {"program": self._program, "held": self._transport.held}
 
 

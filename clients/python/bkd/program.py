@@ -6,13 +6,13 @@ import os
 import re
 import shutil
 import subprocess
-from collections.abc import Sequence
+from collections.abc import Iterator, Sequence
 from functools import cached_property
 from pathlib import Path
 
 from . import lock
-from .coprocess import Coprocess
-from .errors import NotFound, Unsupported, fault_of
+from .coprocess import Coprocess, inherited
+from .errors import Hung, NotFound, Unsupported, fault_of
 from .talk import Talk
 
 # what only reads shares the folder's lock; everything else has it alone
@@ -21,14 +21,10 @@ _USAGE = re.compile(r"usage: bkd FOLDER ([a-z|]+)")
 
 
 class Program:
-    """The program, as the words that start it.
+    """The program, as the words that start it."""
 
-    `locks` says that it takes the folder's lock itself, as the launcher does; a program that doesn't gets it from here.
-    """
-
-    def __init__(self, words: Sequence[str], locks: bool) -> None:
+    def __init__(self, words: Sequence[str]) -> None:
         self.words = tuple(words)
-        self.locks = locks
 
     def __repr__(self) -> str:
         return f"Program({' '.join(self.words)!r})"
@@ -54,35 +50,44 @@ class Program:
         """Starts a command, whose name is the first word. `held` is the folder's lock, which the program inherits."""
         self.require(words[0])
         try:
-            return Coprocess([*self.words, folder, *words], timeout, () if held is None else (held,))
+            return Coprocess([*self.words, folder, *words], timeout, held)
         except OSError as error:
             raise NotFound(f"{self.words[0]}: {error.strerror}") from error
 
     def run(self, folder: str, words: Sequence[str], talk: Talk, timeout: float | None, held: int | None = None) -> None:
-        """Runs a command over a talk to its end. Without `held` it takes the folder's lock, where the program doesn't."""
-        with contextlib.ExitStack() as stack:
-            if held is None and not self.locks:
-                shared = words[0] in _READERS and "--merge" not in words
-                held = stack.enter_context(lock.locked(folder, shared))
-            self.start(folder, words, timeout, held).exchange(talk, ends=True)
+        """Runs a command over a talk to its end. Without `held` it takes the folder's lock."""
+        self.require(words[0])
+        with _locked(folder, words, held) as kept:
+            self.start(folder, words, timeout, kept).exchange(talk, ends=True)
 
     def output(self, folder: str, words: Sequence[str], source: bytes = b"", timeout: float | None = None,
                held: int | None = None) -> tuple[int, str]:
-        """The status and the whole text of a command over this input. Statuses but 0 and 2 raise their error."""
-        with contextlib.ExitStack() as stack:
-            self.require(words[0])
-            if held is None and not self.locks:
-                held = stack.enter_context(lock.locked(folder, words[0] in _READERS and "--merge" not in words))
-            done = subprocess.run([*self.words, folder, *words], input=source, capture_output=True, timeout=timeout,
-                                  pass_fds=() if held is None else (held,), check=False)
+        """The status and the whole text of a command over this input. Statuses but 0 and 2 raise their error.
+
+        A program that hasn't ended after `timeout` seconds is killed and told as `Hung`.
+        """
+        self.require(words[0])
+        try:
+            with _locked(folder, words, held) as kept:
+                done = subprocess.run([*self.words, folder, *words], input=source, capture_output=True,
+                                      timeout=timeout, check=False, **inherited(kept))
+        except OSError as error:
+            raise NotFound(f"{self.words[0]}: {error.strerror}") from error
+        except subprocess.TimeoutExpired:
+            raise Hung(f"the program didn't end within {timeout} seconds") from None
         if done.returncode not in (0, 2):
             raise fault_of(done.returncode, done.stderr.decode(errors="replace"))
-        return done.returncode, done.stdout.decode()
+        return done.returncode, done.stdout.decode(errors="replace")
 
 
-def _is_script(path: str) -> bool:
-    with open(path, "rb") as file:
-        return file.read(2) == b"#!"
+@contextlib.contextmanager
+def _locked(folder: str, words: Sequence[str], held: int | None) -> Iterator[int]:
+    """The folder's lock for a command, where it isn't held already."""
+    if held is not None:
+        yield held
+        return
+    with lock.locked(folder, words[0] in _READERS and "--merge" not in words) as taken:
+        yield taken
 
 
 def _path() -> str:
@@ -96,7 +101,6 @@ def _path() -> str:
 def find(program: str | os.PathLike[str] | Sequence[str] | Program | None = None) -> Program:
     """The program of this path or these words; else that of the environment's BKD, else the launcher of the checkout.
 
-    A path to a script is the launcher, which takes the folder's lock itself. Words are taken as a program that doesn't.
     Raises `NotFound`.
     """
     if isinstance(program, Program):
@@ -105,5 +109,5 @@ def find(program: str | os.PathLike[str] | Sequence[str] | Program | None = None
         path = _path() if program is None else os.fspath(program)
         if not os.path.isfile(path):
             raise NotFound(f"no program {path}")
-        return Program([os.path.abspath(path)], locks=_is_script(path))
-    return Program(program, locks=False)
+        return Program([os.path.abspath(path)])
+    return Program(program)

@@ -157,6 +157,8 @@ class Many:
     def values(self) -> tuple[list[int], list[Refused]]:
         """The numbers of all answers in order, and the refusals of those lines that have none."""
         text = b"".join(self._texts)
+        if text and not text.endswith(b"\n"):
+            raise BadAnswer(f"wrote {text[-100:]!r}, and no end of its line")
         word = self._answer.word + b" "
         if text.count(word) == self.done and b":" not in text:
             return _numbers(text.replace(word, b"").split(b"\n")[:-1], text), []

@@ -37,10 +37,10 @@ class Transport(Protocol):
 
 
 class _Held:
-    """The folder's lock, where the program doesn't take it itself."""
+    """The folder's lock."""
 
-    def __init__(self, program: Program, folder: str) -> None:
-        self.held = None if program.locks else lock.take(folder)
+    def __init__(self, folder: str) -> None:
+        self.held: int | None = lock.take(folder)
         self.is_open = True
 
     def need_open(self) -> None:
@@ -61,7 +61,7 @@ class Session(_Held):
 
     def __init__(self, program: Program, folder: str, options: Sequence[str], timeout: float | None,
                  command: str = "session") -> None:
-        super().__init__(program, folder)
+        super().__init__(folder)
         try:
             self._program = program.start(folder, [command, *options], timeout, self.held)
         except BaseException:
@@ -108,7 +108,7 @@ class Runs(_Held):
     def __init__(self, program: Program, folder: str, options: Sequence[str], timeout: float | None,
                  command: str = "run") -> None:
         program.require(command)
-        super().__init__(program, folder)
+        super().__init__(folder)
         self._program = program
         self._folder = folder
         self._words = [command, *options]

@@ -1,8 +1,14 @@
-"""The programs that the tests talk with: the stand-in of `stand_in.py`, and the real one where it is built."""
+"""The programs that the tests talk with, the stand-in of `stand_in.py` and the real one; the time that tests have."""
 from __future__ import annotations
 
+import contextlib
+import functools
 import os
+import signal
+import subprocess
 import sys
+import tempfile
+import time
 from pathlib import Path
 
 import pytest
@@ -14,31 +20,106 @@ sys.path[:0] = [str(HERE), str(HERE.parent)]
 
 import bkd  # noqa: E402
 
-# machines are busy, and a process is started for many an example
-settings.register_profile("bkd", deadline=None)
-settings.load_profile("bkd")
+# Machines are busy, and a process is started for many an example. The gate draws the same examples each time, so that
+# what fails comes of the change; --hypothesis-profile=drawn draws others.
+settings.register_profile("drawn", deadline=None)
+settings.register_profile("same", deadline=None, derandomize=True, database=None)
+settings.load_profile("same")
 
-STAND_IN = (sys.executable, str(HERE / "stand_in.py"))
+STAND_IN = (sys.executable, "-S", str(HERE / "stand_in.py"))
+# what the stand-in can do
+EVERY = "run|load|explain|check|generate|session|ranges|count|batch"
 BUILT = TOP / "crates" / "bkd" / "out" / "bkd"
+RELEASED = TOP / "release" / "bkd"
+# seconds for a test, for the end of one, and for all of them: what isn't reached by then fails
+EACH, END = 120, 30
+ALL = float(os.environ.get("BKD_TEST_SECONDS", 330))
+BEGUN = time.monotonic()
+
+
+class TooLong(BaseException):
+    """A test took longer than it may. (No Exception, so that nothing takes it for a failure to be tried again.)"""
+
+
+@contextlib.contextmanager
+def limited(seconds):
+    """Ends what is done within it by `TooLong` when its time is over."""
+    def over(number, frame):
+        raise TooLong(f"longer than {seconds:.0f} seconds")
+
+    signal.signal(signal.SIGALRM, over)
+    signal.setitimer(signal.ITIMER_REAL, seconds)
+    try:
+        yield
+    finally:
+        signal.setitimer(signal.ITIMER_REAL, 0)
+
+
+def left():
+    """The seconds that a test may take now."""
+    return max(1, min(EACH, BEGUN + ALL - time.monotonic()))
+
+
+@pytest.hookimpl(hookwrapper=True)
+def pytest_runtest_setup(item):
+    with limited(left()):
+        yield
+
+
+@pytest.hookimpl(tryfirst=True)
+def pytest_runtest_call(item):
+    if time.monotonic() > BEGUN + ALL:
+        pytest.fail(f"not reached within {ALL:.0f} seconds for all tests", pytrace=False)
+
+
+@pytest.hookimpl(hookwrapper=True)
+def pytest_pyfunc_call(pyfuncitem):
+    with limited(left()):
+        yield
+
+
+@pytest.hookimpl(hookwrapper=True)
+def pytest_runtest_teardown(item):
+    with limited(END):
+        yield
 
 
 def real_program() -> bkd.Program | None:
-    """BKD's program, or the one that the gate built; the launcher would prove and build it first."""
-    path = os.environ.get("BKD") or str(BUILT)
-    return bkd.find(path) if os.path.isfile(path) else None
+    """BKD's program, or the gate's, or the released one; the launcher would prove and build it first."""
+    for path in [os.environ["BKD"]] if "BKD" in os.environ else map(str, (BUILT, RELEASED)):
+        if os.path.isfile(path):
+            return bkd.find(path)
+    return None
+
+
+REAL = real_program()
+
+
+@functools.cache
+def works(command: str) -> bool:
+    """Whether the real program has a command: it is listed, and its words aren't answered as wrong ones."""
+    if REAL is None or command not in REAL.commands:
+        return False
+    with tempfile.TemporaryDirectory() as folder:
+        run = subprocess.run([*REAL.words, folder, command], stdin=subprocess.DEVNULL, capture_output=True)
+    return run.returncode != 1
 
 
 def pytest_report_header() -> str:
-    found = real_program()
-    return f"program: {found} with {sorted(found.commands)}" if found else "program: none is built; set BKD"
+    return f"program: {REAL} with {sorted(REAL.commands)}" if REAL else "program: none is built; set BKD"
+
+
+def need(program: bkd.Program, command: str) -> None:
+    """Skips the test where the real program lacks a command."""
+    if not works(command):
+        pytest.skip(f"{program} has no {command}")
 
 
 @pytest.fixture
 def real() -> bkd.Program:
-    found = real_program()
-    if found is None:
+    if REAL is None:
         pytest.skip("no program is built; set BKD")
-    return found
+    return REAL
 
 
 @pytest.fixture
@@ -48,30 +129,35 @@ def stand_in(monkeypatch) -> bkd.Program:
     return bkd.find(STAND_IN)
 
 
-@pytest.fixture(params=["stand-in", "real"])
-def filed(request, monkeypatch) -> bkd.Program:
-    """Each program, over runs, with files that hold what it answers."""
-    if request.param == "real":
-        return request.getfixturevalue("real")
+# The other fixtures are of the real program, and of the stand-in only where that is not there or lacks a command.
+
+@pytest.fixture
+def filed(monkeypatch) -> bkd.Program:
+    """A program over runs, with files that hold what it answers."""
     monkeypatch.setenv("STAND_IN_FILES", "1")
     monkeypatch.setenv("STAND_IN_COMMANDS", "run|explain|check")
-    return bkd.find(STAND_IN)
+    return REAL or bkd.find(STAND_IN)
 
 
-@pytest.fixture(params=["stand-in session", "stand-in run", "real session", "real run"])
+@pytest.fixture
+def staying(stand_in) -> bkd.Program:
+    """A program that has `session`."""
+    return REAL if works("session") else stand_in
+
+
+@pytest.fixture
+def has(monkeypatch):
+    """Gives a program that has a command."""
+    monkeypatch.setenv("STAND_IN_COMMANDS", EVERY)
+    return lambda command: REAL if works(command) else bkd.find(STAND_IN)
+
+
+@pytest.fixture(params=["session", "run"])
 def program(request, monkeypatch) -> bkd.Program:
-    """Each program over each transport that it has."""
-    kind, transport = request.param.split()
-    if kind == "stand-in":
-        if transport == "run":
-            monkeypatch.setenv("STAND_IN_COMMANDS", "run|load|explain|check|generate")
-        return bkd.find(STAND_IN)
-    found = real_program()
-    if found is None:
-        pytest.skip("no program is built; set BKD")
-    if transport == "session" and "session" not in found.commands:
-        pytest.skip("the program has no session")
-    found = bkd.Program(found.words, found.locks)
-    if transport == "run":
-        found.commands = found.commands - {"session"}
+    """A program that talks by `session`, and one that is run for each call."""
+    if request.param == "session":
+        return request.getfixturevalue("staying")
+    monkeypatch.setenv("STAND_IN_COMMANDS", "run|load|explain|check|generate")
+    found = bkd.Program(REAL.words if REAL else STAND_IN)
+    found.commands = found.commands - {"session"}
     return found

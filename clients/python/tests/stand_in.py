@@ -3,9 +3,9 @@
 
 It keeps its documents in `model.json`, and writes a commit file that lists no segments, so that a client finds the
 dimensions; with STAND_IN_FILES there are segments too, which hold the documents. The environment tells how it differs:
-STAND_IN_COMMANDS is the list of its commands, STAND_IN_LOCKS says that it takes the folder's lock as the launcher does,
-and STAND_IN_AT, as `LINE:WHAT`, tells what it does in place of that line: `die` (by SIGKILL), `hang`, `damaged`,
-`garbage`, or a status.
+STAND_IN_COMMANDS is the list of its commands, STAND_IN_LOCKS says that it takes the folder's lock as the launcher does
+(but where BKD_HELD says that it is held), and STAND_IN_AT, as `LINE:WHAT`, tells what it does in place of that line:
+`die` (by SIGKILL), `hang`, `damaged`, `garbage`, or a status. STAND_IN_LAST is what a script says when all is done.
 """
 from __future__ import annotations
 
@@ -89,6 +89,7 @@ def script(folder: str, stays: bool) -> None:
         if stays:
             sys.stdout.flush()
     store(folder, model.state)
+    sys.stdout.write(os.environ.get("STAND_IN_LAST", ""))
     end(2 if model.count else 0, f"refused {model.count}" if model.count else "")
 
 
@@ -168,7 +169,7 @@ def main() -> None:
     if len(sys.argv) < 3 or sys.argv[2] not in commands or sys.argv[2] not in does:
         end(1, f"usage: bkd FOLDER {'|'.join(commands)} [options]")
     folder = sys.argv[1]
-    if os.environ.get("STAND_IN_LOCKS"):
+    if os.environ.get("STAND_IN_LOCKS") and not os.environ.get("BKD_HELD"):
         held = os.open(folder, os.O_RDONLY)
         try:
             fcntl.flock(held, fcntl.LOCK_EX | fcntl.LOCK_NB)

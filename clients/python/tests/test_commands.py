@@ -1,11 +1,12 @@
 """Commands that run once, and those that a program lacks."""
+import random
+
 import pytest
 
 import bkd
 from bkd import commands, requests
-from conftest import STAND_IN
-
-ALL = "run|load|explain|check|generate|session|ranges|count|batch"
+from bkd.formats import open_stored
+from conftest import STAND_IN, need
 
 
 def test_load(real, tmp_path):
@@ -66,24 +67,103 @@ def test_a_command_that_is_listed_and_does_not_work(tmp_path, monkeypatch, stand
         bkd.check(tmp_path, program=stand_in)
 
 
-def test_check_count_and_batch(tmp_path, monkeypatch):
-    monkeypatch.setenv("STAND_IN_COMMANDS", ALL)
-    program = bkd.find(STAND_IN)
+def drawn(index, seed, count=400):
+    """Documents of 1 to 3 points in segments, some deleted; answers the live ones by number, as sets of points."""
+    draw = random.Random(seed)
+    points = [[tuple(draw.randint(-50, 50) for _ in range(index.dims)) for _ in range(draw.choice((1, 1, 1, 3)))]
+              for _ in range(count)]
+    kept = {}
+    for at in range(0, count, 100):
+        kept |= {number: set(found) for number, found in zip(index.add_many(points[at:at + 100]), points[at:])}
+        index.flush()
+    gone = draw.sample(sorted(kept), count // 9)
+    index.delete_many(gone)
+    index.commit()
+    return {number: found for number, found in kept.items() if number not in gone}
+
+
+def test_check(has, tmp_path):
+    program = has("check")
     (tmp_path / "empty").mkdir()
     assert bkd.check(tmp_path / "empty", program=program) is None
-    with bkd.open(tmp_path, program=program) as index:
-        index.add_many([(0, 0), (5, 5), (5, 6), (-3, 7)])
-        index.commit()
-        assert index.check() == bkd.Checked(2, 333, 4, 4, 0)
-        assert index.count((0, 0), (9, 9)) == 3
-        assert index.grid(0, 5, 1, 5, (0, 0), (9, 9)) == [(0, 0, 1), (1, 1, 2)]
-        found = index.batch([requests.box((0, 0), (9, 9)), requests.nearest(1, (-3, 7)), requests.box((0,), (1,))])
-        assert found[:2] == [[0, 1, 2], [(3, 0)]] and isinstance(found[2], bkd.Refused)
+    with bkd.open(tmp_path / "a", leaf=9, program=program) as index:
+        live = drawn(index, 1)
+        assert index.check() == bkd.check(tmp_path / "a", program=program, held=index._transport.held)
+    found = bkd.check(tmp_path / "a", program=program)
+    assert (found.dims, found.leaf, found.next, found.live) == (2, 9, 400, len(live))
+    if program.words != STAND_IN:
+        assert found.segments == len(open_stored(tmp_path / "a").parts)
 
 
-def test_ranges(tmp_path, monkeypatch):
-    monkeypatch.setenv("STAND_IN_COMMANDS", ALL)
-    program = bkd.find(STAND_IN)
+def test_a_damaged_folder_is_told(real, tmp_path):
+    need(real, "check")
+    with bkd.open(tmp_path, program=real) as index:
+        index.add((1, 1))
+    name = next(path for path in tmp_path.iterdir() if path.name.startswith("seg-"))
+    data = bytearray(name.read_bytes())
+    data[4096 + 5] ^= 1
+    name.write_bytes(data)
+    with pytest.raises(bkd.Damaged) as told:
+        bkd.check(tmp_path, program=real)
+    assert (told.value.file, told.value.page, told.value.kind) == (name.name, 1, "page")
+    with pytest.raises(bkd.Damaged):
+        bkd.clean(tmp_path, program=real)
+
+
+@pytest.mark.parametrize("dims", [2, 3])
+def test_count_as_a_scan(has, tmp_path, dims):
+    program = has("count")
+    draw = random.Random(dims)
+    with bkd.open(tmp_path, dims, leaf=7, program=program) as index:
+        points = [point for found in drawn(index, dims).values() for point in found]
+        for _ in range(6):
+            ends = [sorted((draw.randint(-60, 60), draw.randint(-60, 60))) for _ in range(dims)]
+            low, high = zip(*ends)
+            inside = [p for p in points if all(a <= c <= b for a, c, b in zip(low, p, high))]
+            assert index.count(low, high) == len(inside)
+            (x, step_x), (y, step_y) = ((d, draw.randint(1, 40)) for d in draw.sample(range(dims), 2))
+            buckets = {}
+            for p in inside:
+                at = (p[x] - low[x]) // step_x, (p[y] - low[y]) // step_y
+                buckets[at] = buckets.get(at, 0) + 1
+            assert index.grid(x, step_x, y, step_y, low, high) == [(*at, n) for at, n in sorted(buckets.items())]
+        assert index.count(high, low) == (0 if low != high else len(inside))
+
+
+def test_lines_of_count_that_are_refused(real, tmp_path):
+    need(real, "count")
+    assert commands.count(tmp_path, [commands.points_in((0, 0), (1, 1))], program=real)[0].reason == "no index"
+    with bkd.open(tmp_path, program=real) as index:
+        for wrong, reason in [
+            (lambda: index.grid(0, 1, 0, 1, (0, 0), (9, 9)), "bad grid"),
+            (lambda: index.grid(0, 0, 1, 1, (0, 0), (9, 9)), "bad grid"),
+            (lambda: index.grid(0, 1, 2, 1, (0, 0), (9, 9)), "bad grid"),
+            (lambda: index.grid(0, 1, 1, 1, (0, 0), (1000, 1000)), "too many buckets"),
+            (lambda: index.count((0,), (9,)), "wrong words"),
+        ]:
+            with pytest.raises(bkd.Refused) as told:
+                wrong()
+            assert told.value.reason == reason
+        assert index.grid(0, 1, 1, 1, (5, 5), (0, 0)) == []
+
+
+def test_batch(has, tmp_path):
+    program = has("batch")
+    with bkd.open(tmp_path, leaf=7, program=program) as index:
+        drawn(index, 3)
+        asked = [requests.box((-9, -9), (9, i)) for i in range(9)] + [requests.nearest(4, (i, -i)) for i in range(9)]
+        asked += [requests.polygon([[(-30, -30), (30, -30), (0, 30), (-30, -30)]]), requests.box((0,), (1,))]
+        answers = index.ask(asked)
+        for forks in (0, 2):
+            found = index.batch(asked, forks)
+            assert found[:-1] == answers[:-1] and isinstance(found[-1], bkd.Refused)
+    assert bkd.batch(tmp_path, asked, merge=True, program=program)[:-1] == answers[:-1]
+    if program.words != STAND_IN:
+        assert len(open_stored(tmp_path).parts) == 1
+
+
+def test_ranges(has, tmp_path):
+    program = has("ranges")
     with bkd.open_ranges(tmp_path / "a", program=program) as index:
         assert [index.add((1, 5)), index.add((4, 9)), index.add((7, 7), (1, 2))] == [0, 1, 2]
         assert index.intersects(5, 6) == [0, 1]
@@ -91,11 +171,27 @@ def test_ranges(tmp_path, monkeypatch):
         assert index.contains(4, 5) == [0, 1]
         assert index.delete(0) and not index.delete(0)
         index.merge()
+        if program.words != STAND_IN:
+            with pytest.raises(bkd.Refused, match="not a range"):
+                index.add((5, 1))
     with bkd.open_ranges(tmp_path / "b", 2, program=program) as index:
         assert [index.add(((0, 0), (2, 2))), index.add(((3, 3), (4, 4)))] == [0, 1]
         assert index.intersects((2, 2), (3, 3)) == [0, 1] and index.within((0, 0), (4, 3)) == [0]
     with pytest.raises(ValueError, match="ranges of 2 need 4"):
         bkd.open_ranges(tmp_path / "a", 2, program=program)
+
+
+def test_a_command_that_hangs(tmp_path):
+    """A program that lists check and never ends."""
+    path = tmp_path / "stuck"
+    path.write_text("#!/bin/sh\n[ $# -eq 0 ] && echo 'usage: bkd FOLDER load|check|generate [options]' >&2 && exit 1\n"
+                    "exec sleep 3600\n")
+    path.chmod(0o755)
+    how = {"program": path, "timeout": 0.5}
+    for use in (lambda: bkd.check(tmp_path, **how), lambda: bkd.load(tmp_path, ["a"], "a\n1\n", **how),
+                lambda: bkd.generate(tmp_path, 1, 1, **how)):
+        with pytest.raises(bkd.Hung):
+            use()
 
 
 def test_programs_that_are_not_there(tmp_path, monkeypatch):

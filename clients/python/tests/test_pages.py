@@ -5,7 +5,7 @@ import subprocess
 
 import pytest
 
-from conftest import HERE, TOP, real_program
+from conftest import HERE, REAL, TOP
 
 PAGE = TOP / "docs" / "bkd.1"
 COMPLETION = TOP / "docs" / "completion" / "bkd.bash"
@@ -72,8 +72,7 @@ def test_the_readme(tmp_path, monkeypatch):
     code = "\n".join(line[4:] for line in text.split("    import bkd", 1)[1].splitlines() if line.startswith("    "))
     code = "import bkd\n" + code.split("clients/python/test", 1)[0]
     told = dict(re.findall(r"(index\.\w+)\(.*\)\s+# (\[.*\])", code))
-    found = real_program()
-    monkeypatch.setenv("BKD", found.words[0] if found else str(HERE / "stand_in.py"))
+    monkeypatch.setenv("BKD", REAL.words[0] if REAL else str(HERE / "stand_in.py"))
     monkeypatch.chdir(tmp_path)
     kept = {"squared distance": 0}
     lines = re.sub(r"(?m)^    (index\.\w+)(\(.*\))(\s+#.*)?$", r"    answers['\1'] = \1\2", code)

@@ -9,7 +9,7 @@ import pytest
 
 import bkd
 from bkd import requests
-from conftest import STAND_IN
+from conftest import BUILT, STAND_IN, TOP
 
 
 def alive(pid):
@@ -24,9 +24,9 @@ def pid_of(index):
     return index._transport._program._process.pid
 
 
-def test_full_pipes_block_nobody(stand_in, tmp_path):
+def test_full_pipes_block_nobody(staying, tmp_path):
     """Lines and answers are each much longer than the pipes together, and a single line is longer than one."""
-    with bkd.open(tmp_path, program=stand_in) as index:
+    with bkd.open(tmp_path, program=staying) as index:
         numbers = index.add_many((i, i) for i in range(3000))
         every = requests.box((0, 0), (3000, 3000))
         values = index.ask([every] * 150 + [requests.delete(1 << 24)] * 30_000 + [every] * 150)
@@ -36,8 +36,8 @@ def test_full_pipes_block_nobody(stand_in, tmp_path):
         assert index.ask([requests.polygon([ring])] * 3) == [numbers[2991:]] * 3
 
 
-def test_a_line_is_answered_before_the_next(stand_in, tmp_path):
-    with bkd.open(tmp_path, program=stand_in) as index:
+def test_a_line_is_answered_before_the_next(staying, tmp_path):
+    with bkd.open(tmp_path, program=staying) as index:
         pid = pid_of(index)
         for i in range(100):
             assert index.add((i, i)) == i
@@ -97,18 +97,41 @@ def test_a_program_that_hangs(tmp_path, monkeypatch, stand_in):
     index.close()
 
 
-def test_killed_between_two_calls(tmp_path, stand_in):
+def test_stopped(tmp_path, staying):
+    """A program that takes and gives nothing is killed, and the last line that was done is told."""
+    index = bkd.open(tmp_path, program=staying, timeout=2)
+    assert index.add((1, 1)) == 0
+    pid = pid_of(index)
+    os.kill(pid, signal.SIGSTOP)
+    with pytest.raises(bkd.Hung) as told:
+        index.add((2, 2))
+    assert (told.value.done, told.value.last) == (2, "add 1 1") and not alive(pid)
+    with pytest.raises(bkd.Closed):
+        index.add((2, 2))
+
+
+def test_what_is_said_at_the_end(tmp_path, stand_in, monkeypatch):
+    """A program that writes what nobody asked for when it is closed is told."""
+    monkeypatch.setenv("STAND_IN_LAST", "and another thing")
     index = bkd.open(tmp_path, program=stand_in)
+    pid = pid_of(index)
+    with pytest.raises(bkd.BadAnswer, match="and another thing"):
+        index.close()
+    assert not alive(pid)
+
+
+def test_killed_between_two_calls(tmp_path, staying):
+    index = bkd.open(tmp_path, program=staying)
     index.add((1, 1))
     os.kill(pid_of(index), signal.SIGKILL)
     with pytest.raises(bkd.Died, match="signal 9"):
         index.add((2, 2))
-    with bkd.open(tmp_path, program=stand_in) as index:
+    with bkd.open(tmp_path, program=staying) as index:
         assert index.add((1, 1)) == 0
 
 
-def test_killed_before_it_is_closed(tmp_path, stand_in):
-    index = bkd.open(tmp_path, program=stand_in)
+def test_killed_before_it_is_closed(tmp_path, staying):
+    index = bkd.open(tmp_path, program=staying)
     index.add((1, 1))
     os.kill(pid_of(index), signal.SIGKILL)
     with pytest.raises(bkd.Died):
@@ -116,13 +139,13 @@ def test_killed_before_it_is_closed(tmp_path, stand_in):
     index.close()
 
 
-def test_abandoned(tmp_path, stand_in):
-    with bkd.open(tmp_path, program=stand_in) as index:
+def test_abandoned(tmp_path, staying):
+    with bkd.open(tmp_path, program=staying) as index:
         index.add((1, 1))
         index.commit()
         index.add((2, 2))
         index.abandon()
-    with bkd.open(tmp_path, program=stand_in) as index:
+    with bkd.open(tmp_path, program=staying) as index:
         assert index.box((0, 0), (9, 9)) == [0]
 
 
@@ -146,15 +169,15 @@ os.kill(os.getpid(), 9)
 """
 
 
-def test_the_program_keeps_the_lock_of_a_client_that_dies(tmp_path, stand_in):
+def test_the_program_keeps_the_lock_of_a_client_that_dies(tmp_path, staying):
     """Its program still commits; a second client waits for that by the lock, and finds what was committed."""
     package = os.path.dirname(os.path.dirname(bkd.__file__))
-    code = CHILD.format(package=package, folder=str(tmp_path), words=STAND_IN)
+    code = CHILD.format(package=package, folder=str(tmp_path), words=tuple(staying.words))
     child = subprocess.run([sys.executable, "-c", code], capture_output=True, text=True)
     assert child.returncode == -signal.SIGKILL and child.stdout.startswith("ready")
     for _ in range(200):
         try:
-            with bkd.open(tmp_path, program=stand_in) as index:
+            with bkd.open(tmp_path, program=staying) as index:
                 assert index.box((0, 0), (9, 9)) == [0]
                 return
         except bkd.Locked:
@@ -164,7 +187,7 @@ def test_the_program_keeps_the_lock_of_a_client_that_dies(tmp_path, stand_in):
 
 @pytest.fixture
 def launcher(tmp_path, monkeypatch):
-    """A script that takes the lock itself, as the launcher does."""
+    """A script that takes the lock, as the launcher does, but where it is told that it is held."""
     monkeypatch.setenv("STAND_IN_LOCKS", "1")
     path = tmp_path / "launcher"
     path.write_text("#!/usr/bin/env bash\nexec " + " ".join(STAND_IN) + ' "$@"\n')
@@ -173,14 +196,29 @@ def launcher(tmp_path, monkeypatch):
 
 
 @pytest.mark.parametrize("commands", ["run|check", "run|check|session"])
-def test_the_launcher_locks_for_itself(tmp_path, monkeypatch, launcher, commands):
+def test_the_launcher_is_told_of_the_lock(tmp_path, monkeypatch, launcher, commands):
     monkeypatch.setenv("STAND_IN_COMMANDS", commands)
-    assert bkd.find(launcher).locks and not bkd.find(STAND_IN).locks
     with bkd.open(tmp_path / "x", program=launcher) as index:
         assert index.add((1, 1)) == 0
-        if index.stays:
-            with pytest.raises(bkd.Unsupported, match="close the index first"):
-                index.check()
-        else:
-            assert index.check().live == 1
+        index.commit()
+        assert index.check().live == 1
+        with pytest.raises(bkd.Locked):
+            bkd.check(tmp_path / "x", program=launcher)
+        beside = subprocess.run([launcher, tmp_path / "x", "check"], capture_output=True, text=True)
+        assert (beside.returncode, beside.stderr) == (4, "folder fault\n")
     assert bkd.check(tmp_path / "x", program=launcher).live == 1
+
+
+def test_the_launcher_itself(tmp_path):
+    """Where the checkout's launcher needn't build a program."""
+    released = TOP / "release" / "sources.sha256"
+    sums = [subprocess.run([TOP / "release" / "checksum"], capture_output=True, text=True).stdout]
+    sums += [path.read_text() for path in (released, BUILT.with_suffix(".sha256")) if path.exists()]
+    if sums[0] not in sums[1:]:
+        pytest.skip("the launcher would have to build the program first")
+    with bkd.open(tmp_path, program=TOP / "bkd") as index:
+        assert index.add((1, 1)) == 0
+        assert index.explain([requests.box((0, 0), (1, 1))])[0].found in (0, 1)
+        words = [TOP / "bkd", tmp_path, "explain"]
+        beside = subprocess.run(words, stdin=subprocess.DEVNULL, capture_output=True, text=True)
+        assert beside.returncode == 4 and "another run works" in beside.stderr

@@ -1,4 +1,5 @@
 """An index over several folders, with a local cluster: as one list of documents, whichever worker dies."""
+import contextlib
 import logging
 import os
 import random
@@ -6,40 +7,51 @@ import random
 import pytest
 
 numpy = pytest.importorskip("numpy")
+dask = pytest.importorskip("dask")
 distributed = pytest.importorskip("distributed")
 
 import bkd
 from bkd import shards
 from bkd.shards.layout import Layout, cut
-from conftest import HERE, STAND_IN, real_program
+from conftest import HERE, REAL, STAND_IN
 from model import in_polygon
 
 LOW, HIGH = -(1 << 31), (1 << 31) - 1
 
 
-@pytest.fixture(scope="module")
-def client():
+@contextlib.contextmanager
+def cluster_of_two():
     """Two workers, each a process of its own, which find this package."""
     kept = dict(os.environ)
     os.environ["PYTHONPATH"] = os.pathsep.join([str(HERE.parent), str(HERE)])
     os.environ.pop("STAND_IN_COMMANDS", None)
-    cluster = distributed.LocalCluster(n_workers=2, threads_per_worker=1, processes=True, dashboard_address=None,
-                                       silence_logs=logging.CRITICAL)
+    # (so that a task is given up at the second death of its worker)
+    with dask.config.set({"distributed.scheduler.allowed-failures": 1}):
+        cluster = distributed.LocalCluster(n_workers=2, threads_per_worker=1, processes=True, dashboard_address=None,
+                                           silence_logs=logging.CRITICAL)
     with cluster, distributed.Client(cluster) as made:
         yield made
     os.environ.clear()
     os.environ.update(kept)
 
 
-@pytest.fixture(params=["stand-in", "real"])
-def words(request):
+@pytest.fixture(scope="module")
+def client():
+    with cluster_of_two() as made:
+        yield made
+
+
+@pytest.fixture
+def doomed():
+    """A cluster of its own for a test that kills workers."""
+    with cluster_of_two() as made:
+        yield made
+
+
+@pytest.fixture
+def words():
     """The words of a program, as they go to workers."""
-    if request.param == "stand-in":
-        return STAND_IN
-    found = real_program()
-    if found is None:
-        pytest.skip("no program is built; set BKD")
-    return found.words
+    return REAL.words if REAL else STAND_IN
 
 
 def folders(tmp_path, count=3):
@@ -146,15 +158,19 @@ def test_what_is_refused(client, tmp_path):
 
 @pytest.fixture
 def deadly(tmp_path):
-    """A program that kills the worker that runs it, once for each file that it finds and removes."""
+    """A program that kills the worker that runs it, once for each file that it finds and removes.
+
+    It waits before: a worker that dies before it has told its nanny that it is there isn't started again.
+    """
     path, deaths = tmp_path / "deadly", tmp_path / "deaths"
     deaths.mkdir()
-    path.write_text(f"""import os, signal, sys
+    path.write_text(f"""import os, signal, sys, time
 for name in os.listdir({str(deaths)!r}) if len(sys.argv) > 2 else ():
     try:
         os.remove(os.path.join({str(deaths)!r}, name))
     except FileNotFoundError:
         continue
+    time.sleep(1)
     os.kill(os.getppid(), signal.SIGKILL)
     sys.exit(1)
 os.execv({STAND_IN[0]!r}, [*{STAND_IN!r}, *sys.argv[1:]])
@@ -169,10 +185,10 @@ os.execv({STAND_IN[0]!r}, [*{STAND_IN!r}, *sys.argv[1:]])
     return (STAND_IN[0], str(path)), set_deaths
 
 
-def test_a_worker_that_dies_in_a_query(client, tmp_path, deadly):
+def test_a_worker_that_dies_in_a_query(doomed, tmp_path, deadly):
     words, deaths = deadly
     shards.create(tmp_path / "layout.json", folders(tmp_path, 2))
-    with shards.open(tmp_path / "layout.json", client, program=words) as index:
+    with shards.open(tmp_path / "layout.json", doomed, program=words) as index:
         index.add_many([(i, i) for i in range(10)])
         deaths(1)
         assert index.box((0, 0), (5, 5)).tolist() == [0, 1, 2, 3, 4, 5]
@@ -180,34 +196,34 @@ def test_a_worker_that_dies_in_a_query(client, tmp_path, deadly):
         with pytest.raises(bkd.WorkerLost, match="again and again"):
             index.box((0, 0), (5, 5))
         deaths(0)
-        client.wait_for_workers(2, timeout=60)
+        doomed.wait_for_workers(2, timeout=60)
         assert index.nearest(1, (7, 7)) == [(7, 0)]
 
 
-def test_a_worker_that_dies_in_a_change(client, tmp_path, deadly):
+def test_a_worker_that_dies_in_a_change(doomed, tmp_path, deadly):
     """It is told, since nobody knows whether it was done; and it was done whole or not at all."""
     words, deaths = deadly
-    client.wait_for_workers(2, timeout=60)
+    doomed.wait_for_workers(2, timeout=60)
     shards.create(tmp_path / "layout.json", folders(tmp_path, 2))
-    with shards.open(tmp_path / "layout.json", client, program=words) as index:
+    with shards.open(tmp_path / "layout.json", doomed, program=words) as index:
         index.add_many([(i, i) for i in range(10)])
         deaths(1)
         with pytest.raises(bkd.WorkerLost, match="shard"):
             index.add_many([(i, i) for i in range(10, 20)])
         deaths(0)
-        client.wait_for_workers(2, timeout=60)
+        doomed.wait_for_workers(2, timeout=60)
         found = index.box((0, 0), (99, 99)).tolist()
         assert found[:10] == list(range(10)) and len(found) in (10, 15, 20)
         index.add_many([(50, 50)], [1000])
         assert index.nearest(1, (50, 50)) == [(1000, 0)]
 
 
-def test_folders_that_are_not_shared(client, tmp_path, deadly):
+def test_folders_that_are_not_shared(doomed, tmp_path, deadly):
     words, deaths = deadly
-    client.wait_for_workers(2, timeout=60)
+    doomed.wait_for_workers(2, timeout=60)
     layout = shards.create(tmp_path / "layout.json", folders(tmp_path, 2))
-    workers = dict(zip(layout.folders, sorted(client.scheduler_info()["workers"])))
-    with shards.open(tmp_path / "layout.json", client, program=words, workers=workers) as index:
+    workers = dict(zip(layout.folders, sorted(doomed.scheduler_info()["workers"])))
+    with shards.open(tmp_path / "layout.json", doomed, program=words, workers=workers) as index:
         index.add_many([(i, i) for i in range(10)])
         assert index.box((3, 3), (4, 4)).tolist() == [3, 4]
         deaths(1)

@@ -10,7 +10,7 @@ import bkd
 from bkd import requests
 from bkd.formats import open_stored, read_commit
 from bkd.formats.pages import PAGE, PAYLOAD
-from conftest import real_program
+from conftest import REAL
 from writer import write_index
 
 
@@ -49,7 +49,7 @@ def test_generated(real, tmp_path):
 @pytest.fixture(scope="module")
 def small(tmp_path_factory):
     """A folder with two segments, a deletion and a document of several points."""
-    program = real_program()
+    program = REAL
     if program is None:
         pytest.skip("no program is built; set BKD")
     folder = tmp_path_factory.mktemp("small")
@@ -200,7 +200,7 @@ def test_every_form_as_it_is_written(tmp_path, form, dims, leaf, count):
     wanted = {n: tuple(points) for n, points in documents.items() if n in live} | {n: tuple(p) for n, p in more.items()}
     assert dict(bkd.export(tmp_path)) == wanted
     assert [part.segment.head.form for part in stored.parts] == [form, 3]
-    if (program := real_program()) is not None:
+    if (program := REAL) is not None:
         low, high = (-(1 << 31),) * dims, ((1 << 31) - 1,) * dims
         with bkd.open(tmp_path, program=program) as index:
             assert index.box(low, high) == sorted(wanted)

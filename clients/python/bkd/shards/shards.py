@@ -20,7 +20,9 @@ from . import work
 from .documents import Array, Documents, Query, documents_of, keys_of
 from .layout import Layout
 
+# seconds between two looks at the workers, and for how long there may be none
 _LOOK = 1.0
+_ALONE = 60.0
 
 
 class Shards:
@@ -28,8 +30,9 @@ class Shards:
 
     What adds and deletes runs once, on one worker for each folder, and is committed there; where that worker dies
     `WorkerLost` tells the folder, whose last run was done whole or not at all. A query is asked again on another worker
-    where its worker dies, but for folders that `workers` binds to one: then `WorkerLost` is raised. Keys that stand
-    twice name all their documents. One client may write at a time; the layout is read when it is opened.
+    where its worker dies, but for folders that `workers` binds to one: then `WorkerLost` is raised, as it is where
+    there is no worker at all for a minute. Keys that stand twice name all their documents. One client may write at a
+    time; the layout is read when it is opened.
     """
 
     def __init__(self, path: Folder, client: Client, program: Any, workers: Mapping[str, str] | None, owns: bool) -> None:
@@ -149,10 +152,17 @@ class Shards:
 
     def _gathered(self, futures: dict[int, Future], bound: Mapping[int, str | None]) -> dict[int, Any]:
         """What tasks answer; a worker that a task is bound to and that isn't there any more is told."""
+        seen = time.monotonic()
         while not all(future.done() for future in futures.values()):
             with contextlib.suppress(NotYet, CancelledError):
                 wait(list(futures.values()), timeout=_LOOK)
-            self._look_for_lost(futures, bound)
+            there = self._client.scheduler_info()["workers"]
+            seen = time.monotonic() if there else seen
+            for place, worker in bound.items():
+                if worker is not None and worker not in there and not futures[place].done():
+                    self._give_up(futures, place, f"worker {worker} died")
+                if time.monotonic() > seen + _ALONE and not futures[place].done():
+                    self._give_up(futures, place, f"there was no worker for {_ALONE:.0f} seconds")
         return {place: self._result(place, future) for place, future in futures.items()}
 
     def _result(self, place: int, future: Future) -> Any:
@@ -163,12 +173,9 @@ class Shards:
         except CancelledError as error:  # what it was given went with its worker
             raise WorkerLost(self.layout.folders[place], "its worker died") from error
 
-    def _look_for_lost(self, futures: dict[int, Future], bound: Mapping[int, str | None]) -> None:
-        there = self._client.scheduler_info()["workers"]
-        for place, worker in bound.items():
-            if worker is not None and worker not in there and not futures[place].done():
-                self._client.cancel(list(futures.values()), force=True)
-                raise WorkerLost(self.layout.folders[place], f"worker {worker} died")
+    def _give_up(self, futures: dict[int, Future], place: int, why: str) -> None:
+        self._client.cancel(list(futures.values()), force=True)
+        raise WorkerLost(self.layout.folders[place], why)
 
 
 def box(lo: Point, hi: Point) -> Query:

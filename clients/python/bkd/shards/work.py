@@ -5,10 +5,10 @@ written before their documents are added, and what stands behind the index's nex
 """
 from __future__ import annotations
 
-import contextlib
 import heapq
 import os
-from collections.abc import Iterator, Sequence
+from collections.abc import Sequence
+from contextlib import AbstractContextManager
 from typing import Any
 
 import numpy
@@ -29,14 +29,9 @@ _MOST = 10_000
 _POINTS = 1 << 24
 
 
-@contextlib.contextmanager
-def _held(folder: str, program: Program, shared: bool = False) -> Iterator[int | None]:
+def _held(folder: str, shared: bool = False) -> AbstractContextManager[int]:
     """The folder's lock, which tasks on other workers may have for a while."""
-    if program.locks:
-        yield None
-    else:
-        with lock.locked(folder, shared, _WAIT) as held:
-            yield held
+    return lock.locked(folder, shared, _WAIT)
 
 
 def _next(folder: str) -> int:
@@ -59,7 +54,7 @@ def add(folder: str, words: Any, dims: int, leaf: int | None, documents: Documen
     """Adds documents with their keys in one run, which commits all of them, and answers how many. A full index adds none."""
     program = find(words)
     os.makedirs(folder, exist_ok=True)
-    with _held(folder, program) as held:
+    with _held(folder) as held:
         commit = read_commit(folder)
         if commit is None:
             _run(program, folder, [requests.create(dims, leaf)], held)
@@ -93,7 +88,7 @@ def delete(folder: str, words: Any, keys: Array) -> int:
     if read_commit(folder) is None:
         return 0
     program = find(words)
-    with _held(folder, program) as held:
+    with _held(folder) as held:
         numbers = numpy.flatnonzero(numpy.isin(_keys(folder), keys))
         talk = Many(spelling.deleted(numbers), DELETED)
         if len(numbers):
@@ -106,7 +101,7 @@ def change(folder: str, words: Any, request: Request) -> Any:
     if read_commit(folder) is None:
         return None
     program = find(words)
-    with _held(folder, program) as held:
+    with _held(folder) as held:
         return _run(program, folder, [request], held)[0]
 
 
@@ -121,7 +116,7 @@ def ask(folder: str, words: Any, queries: Sequence[Query]) -> list[Any]:
     if read_commit(folder) is None:
         return [[] if query.k else numpy.empty(0, dtype=numpy.int64) for query in queries]
     program = find(words)
-    with _held(folder, program, shared=True) as held:
+    with _held(folder, shared=True) as held:
         keys = _keys(folder)
         values = _run(program, folder, [query.request() for query in queries], held)
         is_ordered = bool((keys[1:] > keys[:-1]).all())
