@@ -22,7 +22,7 @@ def shown():
 
 
 @pytest.mark.parametrize("text", [
-    "run", "load", "explain", "generate", "check", "--cache", "--forks", "--columns", "--docs", "--seed",
+    "run", "load", "explain", "generate", "check", "session", "--cache", "--forks", "--columns", "--docs", "--seed",
     "create D", "add C1 .. CD", "delete N", "delete box LO HI", "box [@NAME] LO HI", "polygon [@NAME] JSON", "nearest [@NAME] K",
     "snapshot NAME", "release NAME", "flush", "merge begin", "merge end", "commit", "reopen",
     "too long", "not utf-8", "no index", "unknown command", "bad name", "not two dimensions", "wrong words",
@@ -52,9 +52,10 @@ def completed(*words):
 
 @pytest.mark.parametrize("words, wanted", [
     (("bkd", "doc"), ["docs"]),
-    (("bkd", ".", ""), ["run", "load", "explain", "check", "generate"]),
+    (("bkd", ".", ""), ["run", "load", "explain", "check", "generate", "session"]),
     (("bkd", ".", "ge"), ["generate"]),
     (("bkd", ".", "run", "--"), ["--cache", "--forks"]),
+    (("bkd", ".", "session", "--"), ["--cache", "--forks"]),
     (("bkd", ".", "run", "--cache", "5", "--"), ["--forks"]),
     (("bkd", ".", "run", "--forks", ""), ["0", "1", "2", "3", "4", "5", "6"]),
     (("bkd", ".", "generate", "--d"), ["--docs"]),
