@@ -114,7 +114,7 @@ fn a_line_that_is_too_long(rt: HostRuntime) -> Result<(), Fail> {
         alloc,
         "a line that is too long",
         (&status, &output),
-        b"ok\nline 2: line too long\nline 3: word 2 is not a number\ndoc 0\n",
+        b"ok\nline 2: too long\nline 3: bad number in word 2\ndoc 0\n",
         2,
     )
 }
