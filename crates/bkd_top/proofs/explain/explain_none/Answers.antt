@@ -2,9 +2,9 @@
 use Rattle.std.proofs.Common.{◌≡◌, Bool, ℕ, length, arith, refl}
 use Rattle.std.proofs.lemmas.Bool.Decides.{nat_tests}
 use Rattle.script_run.proofs.Ending.{cause_from}
-use Rattle.script_run.proofs.Going.{at_most_one, no_lines, refused_more}
+use Rattle.script_run.proofs.Going.{at_most_one, refused_more}
 use Rattle.script_run.proofs.Lined.{cause_to}
-use Rattle.bkd_top.proofs.Telling.{line_stops, stage_all, stage_here, stage_sent}
+use Rattle.bkd_top.proofs.Telling.{line_stops, no_lines, stage_all, stage_here, stage_sent}
 use Rattle.script_run.proofs.Shown.{same_stop}
 use Rattle.bkd_top.proofs.explain.explain_none.Goals as goal
 
