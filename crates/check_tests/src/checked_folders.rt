@@ -70,7 +70,7 @@ fn stored<R: Threads + Sync>(rt: &R, alloc: Global) -> Result<MemFolder, Fail> {
 }
 
 /// What a check answers: its line, or what is said of the damage.
-fn answer(alloc: Global, folder: &mut MemFolder) -> Result<String, Fail> {
+pub(crate) fn answer(alloc: Global, folder: &mut MemFolder) -> Result<String, Fail> {
     let mut text = Vec::new(alloc);
     let mut line = String::new(alloc);
     match check(alloc, folder, &mut text) {
@@ -97,7 +97,7 @@ fn payloads(alloc: Global, file: &[u8]) -> Result<Vec<u8>, AllocError> {
 }
 
 /// Changes some bytes of a file's payloads, from a place on, and seals its pages anew for the file of the name `to`.
-fn reseal(
+pub(crate) fn reseal(
     alloc: Global,
     folder: &mut MemFolder,
     from: &FileName,

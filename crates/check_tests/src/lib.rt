@@ -4,4 +4,6 @@
 #![tactic(auto)]
 
 #[cfg(test)]
+mod checked_entries;
+#[cfg(test)]
 mod checked_folders;
