@@ -5,7 +5,7 @@ use Rattle.index_model.specs.State.{State}
 use Rattle.stored_index.specs.Stored.{IsStored, IsUndefined}
 use Rattle.page_cache.specs.declared.faults.PageFault.{PageFault}
 use Rattle.page_cache.specs.declared.faults.PageFault.TheVariants as page
-use Rattle.page_cache.specs.Evidence.{OnDamage}
+use Rattle.page_cache.specs.Evidence.{FaultShows}
 use Rattle.folder_check.specs.Checked.{IsChecked}
 use Rattle.run_status.specs.Sent.{IsSent}
 use Rattle.run_status.specs.Ends.{IsDamaged}
@@ -28,14 +28,14 @@ module _ (told : Type 0) (files : Files) (old new : List ℕ) where
   sent_check text (Err stop.Memory) is sent count only = absurd cc
   sent_check text (Err (stop.Damaged d)) is sent count only = absurd cc
 
-  pub fault_check : (T : Type 0) (fault : PageFault) → OnDamage {T = T} (Err fault) (λ _. IsUndefined files) → (told → new ≡ old) → EndsCheck told files old new (status_of (Err (stop_of fault)))
-  fault_check T page.Failed undefined still = still
-  fault_check T page.Memory undefined still = still
-  fault_check T (page.Damaged d) undefined still = (undefined, still)
+  pub fault_check : (fault : PageFault) → FaultShows (λ _. IsUndefined files) fault → (told → new ≡ old) → EndsCheck told files old new (status_of (Err (stop_of fault)))
+  fault_check page.Failed undefined still = still
+  fault_check page.Memory undefined still = still
+  fault_check (page.Damaged d) undefined still = (undefined, still)
 
 -- a fault over files that store a state is no damage
-pub fault_whole : (T : Type 0) (files : Files) (state : State) (fault : PageFault) → IsStored files state → OnDamage {T = T} (Err fault) (λ _. IsUndefined files)
+pub fault_whole : (files : Files) (state : State) (fault : PageFault) → IsStored files state → FaultShows (λ _. IsUndefined files) fault
     → IsDamaged (status_of (Err (stop_of fault))) → ⊥
-fault_whole T files state page.Failed h undefined d = d
-fault_whole T files state page.Memory h undefined d = d
-fault_whole T files state (page.Damaged damage) h undefined d = undefined state h
+fault_whole files state page.Failed h undefined d = d
+fault_whole files state page.Memory h undefined d = d
+fault_whole files state (page.Damaged damage) h undefined d = undefined state h

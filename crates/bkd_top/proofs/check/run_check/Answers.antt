@@ -1,6 +1,7 @@
 -- What there is to tell was sent, or cut, or a fault came before.
 use Rattle.std.proofs.Common.{IsTrue, refl, sym, ap, subst, ◌∙◌}
-use Rattle.index_opening.specs.Evidence.{IsEvident}
+use Rattle.index_opening.specs.Evidence.{IsEvident, IsTwice}
+use Rattle.index_opening.proofs.Evident.{on_evident_at}
 use Rattle.run_status.specs.Ends.{DoesNothing, IsDamaged}
 use Rattle.run_status.specs.Stops.{status_of}
 use Rattle.script_run.proofs.Ending.{does_lines, folder_stopped, sink_stopped}
@@ -27,7 +28,7 @@ returns-in-Ok-clause-checks g c = λ told. record {
 pub returns-clause-checks : goal.returns-clause-checks
 returns-clause-checks g c = λ told. record {
   ends = rw c.status_of-in-Err.ensures (rw c.stopped.ensures (fault_check (IsTrue g.K.Sink.told) (g.F.Pages.files c.args.folder.now) (g.K.Sink.written c.args.out.now)
-      (g.K.Sink.written c.args.out.now) _ c.in-Err.fault (rw c.in-Err.is at (c.check.ensures.undefined told)) (λ sink. refl)));
+      (g.K.Sink.written c.args.out.now) c.in-Err.fault (rw c.in-Err.is at (c.check.ensures.undefined told)) (λ sink. refl)));
   files = c.check.ensures.files told;
   reads = c.check.ensures.reads told;
 }
@@ -41,10 +42,11 @@ returns-in-Ok-clause-damage g c = record {
 
 pub returns-clause-damage : goal.returns-clause-damage
 returns-clause-damage g c = record {
-  never = λ told state h d. fault_whole _ (g.F.Pages.files c.args.folder.now) state c.in-Err.fault h (rw c.in-Err.is at (c.check.ensures.undefined told))
+  never = λ told state h d. fault_whole (g.F.Pages.files c.args.folder.now) state c.in-Err.fault h (rw c.in-Err.is at (c.check.ensures.undefined told))
       (subst IsDamaged (c.status_of-in-Err.ensures ∙ ap status_of c.stopped.ensures) d);
   evident = rw c.status_of-in-Err.ensures (rw c.stopped.ensures (fault_status (IsEvident (IsTrue g.F.Pages.told) (g.F.Pages.files c.check.new.folder)) c.in-Err.fault
-      (rw c.in-Err.is at c.check.ensures.evident)));
+      (rw c.in-Err.is at (on_evident_at IsTwice (IsTrue g.F.Pages.told) (IsTrue g.F.Pages.told) (g.F.Pages.files c.args.folder.now) (g.F.Pages.files c.check.new.folder)
+      c.check.result (λ told. told) c.check.ensures.files c.check.ensures.evident))));
 }
 
 pub returns-in-Ok-clause-folder_fault : goal.returns-in-Ok-clause-folder_fault
