@@ -82,6 +82,17 @@ fn looked<R: Threads + Sync + Abort>(
     Ok(String::from_str(alloc, text)?)
 }
 
+/// Whether a folder may answer so where so many lines were answered.
+fn is_allowed(done: Option<usize>, look: &str) -> bool {
+    let Some(lines) = done else {
+        return false;
+    };
+    match STORED.get(lines) {
+        Some([kept, in_flight]) => look == *kept || look == *in_flight,
+        None => false,
+    }
+}
+
 /// Runs the script over a folder where these calls fail, and none from a number on is done. How many lines were answered; None
 /// where all was done.
 fn run_failing<R: Threads + Sync + Abort>(
@@ -100,9 +111,8 @@ fn run_failing<R: Threads + Sync + Abort>(
         return Ok(None);
     }
     assert_eq!(rt; code(&status), 4);
-    let allowed = done.and_then(|done| STORED.get(done)).unwrap_or(&["", ""]);
     assert!(rt;
-        allowed.contains(&look.as_str()),
+        is_allowed(done, look.as_str()),
         "{look} behind {done:?} lines"
     );
     Ok(done)
