@@ -41,7 +41,7 @@ pub record Breaks (told : Type 0) (p : Place) (files : Files) (new : List ℕ) :
   pub text : told → WritesPart (p.written ++ text_of p.line p.state done) new (answer (p.line + length done) (state_after p.line p.state done) at).text
   pub stored : IsStored files (stored_after p.line p.stored p.state (done ++ at ∷ []))
 
--- The source failed: the lines that had come whole were done, and nothing else. No commit was done that none of them asked for.
+-- The source failed: some first lines were done, each answered whole, and nothing else. No commit was done that none of them asked for.
 pub record Halts (told : Type 0) (p : Place) (files : Files) (new : List ℕ) : Type 0 where
   pub done : List (List ℕ)
   pub rest : List (List ℕ)
