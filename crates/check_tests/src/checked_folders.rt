@@ -4,17 +4,15 @@
 ghost use Rattle.std.specs.Prelude.{◌≡◌, vec_len, IfOk};
 ghost use Rattle.bkd_build.specs.Parts.{AreEntries};
 
+use crate::answers::assert_said;
 use bkd_build::OpenGate;
-use damage_text::put_damage;
-use folder_check::check;
 use outer_io::{FileName, MemFolder};
-use page_cache::{PageFault, pages_of};
+use page_cache::pages_of;
 use point_codec::{Entry, Point};
 use segment_build::build_segment;
 use segment_file::write_live;
 use std::alloc::{AllocError, Global};
 use std::marker::Sync;
-use std::process::Abort;
 use std::test::Fail;
 use std::thread::Threads;
 
@@ -69,22 +67,6 @@ fn stored<R: Threads + Sync>(rt: &R, alloc: Global) -> Result<MemFolder, Fail> {
     Ok(folder)
 }
 
-/// What a check answers: its line, or what is said of the damage.
-pub(crate) fn answer(alloc: Global, folder: &mut MemFolder) -> Result<String, Fail> {
-    let mut text = Vec::new(alloc);
-    let mut line = String::new(alloc);
-    match check(alloc, folder, &mut text) {
-        Ok(()) => {
-            let said = std::str::from_utf8(text.as_slice()).unwrap_or("no text");
-            line.push_str(said)?;
-        }
-        Err(PageFault::Damaged(damage)) => put_damage(&mut line, &damage)?,
-        Err(PageFault::Failed) => line.push_str("failed")?,
-        Err(PageFault::Memory) => line.push_str("memory")?,
-    }
-    Ok(line)
-}
-
 /// The joined payloads of a file's pages.
 fn payloads(alloc: Global, file: &[u8]) -> Result<Vec<u8>, AllocError> {
     let mut body = Vec::new(alloc);
@@ -122,30 +104,34 @@ pub(crate) fn reseal(
 /// Changes of a file's payloads: which file, and the bytes from a place on.
 type Change = (FileName, &'static [(usize, &'static [u8])]);
 
-/// What is changed, and what is answered.
-const RESEALED: [(&[Change], &str); 8] = [
-    (&[], OK),
+/// What is changed, what is answered, and whether opening shows it.
+const RESEALED: [(&[Change], &str, bool); 8] = [
+    (&[], OK, false),
     // its first byte
-    (&[(FileName::Commit, &[(0, b"b")])], "commit.bkd body"),
+    (&[(FileName::Commit, &[(0, b"b")])], "commit.bkd body", true),
     // 335 entries
     (
         &[(FileName::Commit, &[(45, &[0, 0, 1, 0x4f])])],
         "seg-0000000000000000.bkd says 335, found 334",
+        true,
     ),
     // document 5 cleared, 333 live
     (
         &[(LIVE, &[(32, &[0, 0, 1, 0x4d]), (36, &[0xdf])])],
         "live-0000000000000000-0000000000000001.bkd says 334, found 333",
+        true,
     ),
     // next 300
     (
         &[(FileName::Commit, &[(11, &[0, 0, 1, 0x2c])])],
         "document 300 beyond 300",
+        true,
     ),
     // a leaf's form
     (
         &[(SEGMENT, &[(8130, &[4])])],
         "seg-0000000000000000.bkd page 2 leaf at 0",
+        false,
     ),
     // next and given 335, and 334 live in place of 333
     (
@@ -154,6 +140,7 @@ const RESEALED: [(&[Change], &str); 8] = [
             (LIVE, &[(28, &[0, 0, 1, 0x4f]), (77, &[0x5f])]),
         ],
         "live-0000000000000000-0000000000000001.bkd says 334, found 333",
+        false,
     ),
     // no number live, and a leaf's form
     (
@@ -163,23 +150,28 @@ const RESEALED: [(&[Change], &str); 8] = [
             (SEGMENT, &[(8130, &[4])]),
         ],
         "seg-0000000000000000.bkd page 2 leaf at 0",
+        false,
     ),
 ];
 
-/// A row of the table: the folder with these changes.
-fn changed<R: Threads + Sync>(rt: &R, alloc: Global, changes: &[Change]) -> Result<String, Fail> {
+/// The folder with these changes.
+fn changed<R: Threads + Sync>(
+    rt: &R,
+    alloc: Global,
+    changes: &[Change],
+) -> Result<MemFolder, Fail> {
     let mut folder = stored(rt, alloc)?;
     for (name, bytes) in changes {
         reseal(alloc, &mut folder, name, *name, bytes)?;
     }
-    answer(alloc, &mut folder)
+    Ok(folder)
 }
 
 #[test]
 fn pages_that_are_sealed_anew(rt: HostRuntime) -> Result<(), Fail> {
-    for (changes, want) in RESEALED {
-        let said = changed(&rt, rt.alloc(), changes)?;
-        assert_eq!(rt; said.as_str(), want);
+    for (changes, want, is_shown) in RESEALED {
+        let mut folder = changed(&rt, rt.alloc(), changes)?;
+        assert_said(&rt, rt.alloc(), &mut folder, want, is_shown)?;
     }
     Ok(())
 }
@@ -201,74 +193,81 @@ fn reorder(
     Ok(folder.put(to, file)?)
 }
 
-/// Of which file pages are put in place of which file, in this order, and what is answered.
-const REORDERED: [(FileName, FileName, &[usize], &str); 5] = [
+/// Of which file pages are put in place of which file, in this order, what is answered, and whether opening shows it.
+const REORDERED: [(FileName, FileName, &[usize], &str, bool); 5] = [
     (
         FileName::Commit,
         FileName::Commit,
         &[],
         "commit.bkd has 0 bytes, needs 4096",
+        true,
     ),
     (
         SEGMENT,
         SEGMENT,
         &[0, 2, 1],
         "seg-0000000000000000.bkd page 1",
+        true,
     ),
     (
         FileName::Commit,
         SEGMENT,
         &[0],
         "seg-0000000000000000.bkd page 0",
+        true,
     ),
     (
         SEGMENT,
         SEGMENT,
         &[0, 1],
         "seg-0000000000000000.bkd has 8192 bytes, needs 12288",
+        true,
     ),
-    (SEGMENT, FileName::CommitNew, &[1], OK),
+    (SEGMENT, FileName::CommitNew, &[1], OK, false),
 ];
 
 #[test]
 fn pages_of_other_places(rt: HostRuntime) -> Result<(), Fail> {
-    for (from, to, order, want) in REORDERED {
+    for (from, to, order, want, is_shown) in REORDERED {
         let mut folder = stored(&rt, rt.alloc())?;
         reorder(rt.alloc(), &mut folder, &from, to, order)?;
-        let said = answer(rt.alloc(), &mut folder)?;
-        assert_eq!(rt; said.as_str(), want);
+        assert_said(&rt, rt.alloc(), &mut folder, want, is_shown)?;
     }
     Ok(())
 }
 
-/// A folder with the commit alone, and one with nothing.
-fn without<R: Threads + Sync>(rt: &R, alloc: Global, names: &[FileName]) -> Result<String, Fail> {
+/// The folder with these files alone.
+fn with<R: Threads + Sync>(rt: &R, alloc: Global, names: &[FileName]) -> Result<MemFolder, Fail> {
     let full = stored(rt, alloc)?;
     let mut folder = MemFolder::new(alloc, Vec::new(alloc));
     for name in names {
         let file = full.get(name).ok_or("no file")?.to_vec(alloc)?;
         folder.put(*name, file)?;
     }
-    answer(alloc, &mut folder)
+    Ok(folder)
 }
+
+/// Which files are there, what is answered, and whether opening shows it.
+const LEFT: [(&[FileName], &str, bool); 4] = [
+    (&[], "no index\n", false),
+    (&[SEGMENT, LIVE], "no index\n", false),
+    (
+        &[FileName::Commit, LIVE],
+        "seg-0000000000000000.bkd missing",
+        true,
+    ),
+    (
+        &[FileName::Commit, SEGMENT],
+        "live-0000000000000000-0000000000000001.bkd missing",
+        true,
+    ),
+];
 
 #[test]
 fn files_that_are_missing(rt: HostRuntime) -> Result<(), Fail> {
-    let rows: [(&[FileName], &str); 4] = [
-        (&[], "no index\n"),
-        (&[SEGMENT, LIVE], "no index\n"),
-        (
-            &[FileName::Commit, LIVE],
-            "seg-0000000000000000.bkd missing",
-        ),
-        (
-            &[FileName::Commit, SEGMENT],
-            "live-0000000000000000-0000000000000001.bkd missing",
-        ),
-    ];
-    for (names, want) in rows {
-        let said = without(&rt, rt.alloc(), names)?;
-        assert_eq!(rt; said.as_str(), want);
+    for (names, want, is_shown) in LEFT {
+        let mut folder = with(&rt, rt.alloc(), names)?;
+        assert_said(&rt, rt.alloc(), &mut folder, want, is_shown)?;
     }
     Ok(())
 }
@@ -288,7 +287,5 @@ fn a_second_segment_with_the_same_leaves(rt: HostRuntime) -> Result<(), Fail> {
     reseal(rt.alloc(), &mut folder, &LIVE, live, &[(15, &[1])])?;
     let file = pages_of(rt.alloc(), &FileName::Commit, TWO.as_slice())?;
     folder.put(FileName::Commit, file)?;
-    let said = answer(rt.alloc(), &mut folder)?;
-    assert_eq!(rt; said.as_str(), "document 0 twice");
-    Ok(())
+    assert_said(&rt, rt.alloc(), &mut folder, "document 0 twice", true)
 }

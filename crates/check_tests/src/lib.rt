@@ -4,6 +4,8 @@
 #![tactic(auto)]
 
 #[cfg(test)]
+mod answers;
+#[cfg(test)]
 mod checked_entries;
 #[cfg(test)]
 mod checked_folders;
