@@ -14,6 +14,10 @@ mod leaf_pages;
 #[cfg(test)]
 mod long_leaves;
 #[cfg(test)]
+mod near_leaf_pages;
+#[cfg(test)]
+mod nearest_entries;
+#[cfg(test)]
 mod nearest_ones;
 #[cfg(test)]
 mod number_rows;

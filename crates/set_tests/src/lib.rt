@@ -8,6 +8,8 @@ mod fixtures;
 #[cfg(test)]
 mod merged_segments;
 #[cfg(test)]
+mod refused_calls;
+#[cfg(test)]
 mod same_documents;
 #[cfg(test)]
 mod sessions;

@@ -6,9 +6,8 @@ use bkd_reader::Tally;
 use cell_relate::BoxShape;
 use commit_list::{Commit, write_commit};
 use outer_io::MemFolder;
-use page_cache::PageFault;
-use point_codec::{Name, Near, Point, Points, View};
-use segment_set::{AddFault, BeginFault, EndFault, SegmentSet, SnapFault};
+use point_codec::{Name, Near, Point, View};
+use segment_set::SegmentSet;
 use std::alloc::Global;
 use std::marker::Sync;
 use std::process::Abort;
@@ -50,10 +49,10 @@ const NEAREST_LEFT: [Near; 3] = [
     Near { dist2: 50, doc: 3 },
 ];
 
-const ORIGIN: Point<2> = Point { c: [0, 0] };
+pub(crate) const ORIGIN: Point<2> = Point { c: [0, 0] };
 
 /// A set with leaves of two entries, and the six documents in its buffer.
-fn six<R: Threads + Sync>(
+pub(crate) fn six<R: Threads + Sync>(
     rt: &R,
     alloc: Global,
     folder: &mut MemFolder,
@@ -103,7 +102,7 @@ fn three_nearest(
 }
 
 /// Looks at each row in the view of now. `left` says that 2 and 5 are gone.
-fn look(
+pub(crate) fn look(
     rt: &impl Abort,
     alloc: Global,
     set: &mut SegmentSet<2>,
@@ -255,102 +254,4 @@ fn what_queries_cost(rt: HostRuntime) -> Result<(), Fail> {
     assert_eq!(rt; set.survey(&View::Now, &mut shape), WHOLE);
     assert_eq!(rt; set.survey_near(&View::Now, &ORIGIN, None), 5);
     Ok(())
-}
-
-/// Sixteen snapshots, and those that are refused then.
-fn refused_snapshots(rt: &impl Abort, alloc: Global, set: &mut SegmentSet<2>) -> Result<(), Fail> {
-    for letter in b'a'..b'q' {
-        let name = Name::new(&[letter]).ok_or("a name")?;
-        set.snapshot(alloc, name)?;
-    }
-    for (letter, refused) in [(b'a', SnapFault::Taken), (b'z', SnapFault::TooMany)] {
-        let name = Name::new(&[letter]).ok_or("a name")?;
-        assert_eq!(rt; set.snapshot(alloc, name), Err(refused));
-    }
-    Ok(())
-}
-
-/// A merge is ended that isn't begun, and begun twice.
-fn refused_merges<R: Threads + Sync + Abort>(
-    rt: &R,
-    alloc: Global,
-    set: &mut SegmentSet<2>,
-    folder: &mut MemFolder,
-) -> Result<(), Fail> {
-    assert!(rt; matches!(set.merge_end(alloc, folder), Err(EndFault::NotBegun)));
-    set.merge_begin(rt, alloc, folder, &[], &OpenGate)?;
-    assert!(rt; set.is_merging());
-    let again = set.merge_begin(rt, alloc, folder, &[], &OpenGate);
-    assert!(rt; matches!(again, Err(BeginFault::Begun)));
-    Ok(())
-}
-
-/// Calls that are refused by name.
-#[test]
-fn refusals(rt: HostRuntime) -> Result<(), Fail> {
-    let mut folder = empty_folder(rt.alloc());
-    let mut set = six(&rt, rt.alloc(), &mut folder)?;
-    refused_snapshots(&rt, rt.alloc(), &mut set)?;
-    refused_merges(&rt, rt.alloc(), &mut set, &mut folder)?;
-    look(&rt, rt.alloc(), &mut set, &mut folder, false)
-}
-
-/// A set of one document, which has all points but one.
-fn nearly_full(alloc: Global, folder: &mut MemFolder) -> Result<SegmentSet<2>, Fail> {
-    let commit = Commit::new(2, 2, 1, (1 << 24) - 1, 0, Vec::new(alloc));
-    Ok(SegmentSet::attach(alloc, folder, &commit, SETTINGS)?)
-}
-
-/// The sixteen-millionth point and no more.
-#[test]
-fn a_set_is_full(rt: HostRuntime) -> Result<(), Fail> {
-    let mut folder = empty_folder(rt.alloc());
-    let mut set = nearly_full(rt.alloc(), &mut folder)?;
-    let two = Points::of(vec![in rt.alloc(); ORIGIN, Point { c: [1, 0] }]?);
-    let refused = set.add(&rt, rt.alloc(), &mut folder, &two, &OpenGate);
-    assert!(rt; matches!(refused, Err(AddFault::Full)));
-    assert_eq!(rt; add(&rt, rt.alloc(), &mut set, &mut folder, &[[0, 0]])?, 1);
-    assert_eq!(rt; set.given(), 1 << 24);
-    Ok(())
-}
-
-/// The first call of a flush fails: all is seen as before, and done when asked again.
-fn flush_twice<R: Threads + Sync + Abort>(
-    rt: &R,
-    alloc: Global,
-    set: &mut SegmentSet<2>,
-    folder: &mut MemFolder,
-) -> Result<(), Fail> {
-    folder.plan([0].to_vec(alloc)?, None);
-    let failed = set.flush(rt, alloc, folder, &OpenGate);
-    assert!(rt; matches!(failed, Err(PageFault::Failed)));
-    look(rt, alloc, set, folder, false)?;
-    set.flush(rt, alloc, folder, &OpenGate)?;
-    Ok(())
-}
-
-/// The second call of a merge fails: all is seen as before, and done when asked again.
-fn merge_twice<R: Threads + Sync + Abort>(
-    rt: &R,
-    alloc: Global,
-    set: &mut SegmentSet<2>,
-    folder: &mut MemFolder,
-) -> Result<(), Fail> {
-    folder.plan([1].to_vec(alloc)?, None);
-    let failed = set.merge_all(rt, alloc, folder, &OpenGate);
-    assert!(rt; matches!(failed, Err(PageFault::Failed)));
-    look(rt, alloc, set, folder, false)?;
-    set.merge_all(rt, alloc, folder, &OpenGate)?;
-    look(rt, alloc, set, folder, false)
-}
-
-/// A call of the folder fails in the midst of a flush and a merge.
-#[test]
-fn a_folder_that_fails(rt: HostRuntime) -> Result<(), Fail> {
-    let mut folder = empty_folder(rt.alloc());
-    let mut set = six(&rt, rt.alloc(), &mut folder)?;
-    flush_twice(&rt, rt.alloc(), &mut set, &mut folder)?;
-    add(&rt, rt.alloc(), &mut set, &mut folder, &[[100, 100]])?;
-    set.flush(&rt, rt.alloc(), &mut folder, &OpenGate)?;
-    merge_twice(&rt, rt.alloc(), &mut set, &mut folder)
 }
