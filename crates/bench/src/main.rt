@@ -89,8 +89,8 @@ fn leaf(rt: &HostRuntime, alloc: Global, words: &[String]) -> Option<String> {
     format!(in alloc; "leaves {found} sum {sum}").ok()
 }
 
-/// `build FORKS COUNT ROUNDS` draws so many entries and builds their tree so many times, the upper levels by two threads
-/// each, and sums up its bytes.
+/// `build FORKS COUNT ROUNDS` draws so many entries and builds their tree so many times, the upper levels by two
+/// threads each, and sums up its bytes.
 fn build<R: Threads + Sync>(rt: &R, alloc: Global, words: &[String]) -> Option<String> {
     let [forks, count, rounds] = words else {
         return None;

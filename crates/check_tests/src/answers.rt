@@ -12,7 +12,8 @@ use std::process::Abort;
 use std::test::Fail;
 use std::thread::Threads;
 
-/// A check answers this, and a run of an empty script ends as damaged by the same where opening shows it, and is done where not.
+/// A check answers this, and a run of an empty script ends as damaged by the same where opening shows it, and is done
+/// where not.
 pub(crate) fn assert_said<R: Threads + Sync + Abort>(
     rt: &R,
     alloc: Global,

@@ -1,5 +1,5 @@
-//! What a check answers of documents with several points: a segment of three leaves that is spelled here, whose last entry is
-//! put to another number. Numbers 0 to 3 are live.
+//! What a check answers of documents with several points: a segment of three leaves that is spelled here, whose last
+//! entry is put to another number. Numbers 0 to 3 are live.
 
 use crate::answers::assert_said;
 use crate::checked_folders::reseal;
@@ -30,7 +30,8 @@ const LEAVES: [u8; 30] = [
 /// Where the number of the last entry stands in the joined payloads.
 const LAST: usize = 8152;
 
-/// One dimension, leaves of 2, next 4, given 4, next segment 8, and the segment: 7 of generation 1, 5 entries, 4 live numbers.
+/// One dimension, leaves of 2, next 4, given 4, next segment 8, and the segment: 7 of generation 1, 5 entries, 4 live
+/// numbers.
 const COMMIT: [u8; 53] =
     *b"BKDPCOM2\x01\0\x02\0\0\0\x04\0\0\0\x04\0\0\0\0\0\0\0\x08\0\x01\0\0\0\0\0\0\0\x07\0\0\0\0\0\0\0\x01\0\0\0\x05\0\0\0\x04";
 

@@ -1,5 +1,5 @@
-//! What a check answers of folders that are damaged one by one: 334 documents (i, 0) in one segment of leaves of 333, whose
-//! two leaves stand on page 2. Each damage was reckoned by hand.
+//! What a check answers of folders that are damaged one by one: 334 documents (i, 0) in one segment of leaves of 333,
+//! whose two leaves stand on page 2. Each damage was reckoned by hand.
 
 ghost use Rattle.std.specs.Prelude.{◌≡◌, vec_len, IfOk};
 ghost use Rattle.bkd_build.specs.Parts.{AreEntries};
@@ -26,8 +26,8 @@ const LIVE: FileName = FileName::Live {
 /// How many documents.
 const COUNT: u32 = 334;
 
-/// Two dimensions, leaves of 333, next 334, given 334, next segment 1, and the segment: 0 of generation 1, 334 entries, all
-/// live.
+/// Two dimensions, leaves of 333, next 334, given 334, next segment 1, and the segment: 0 of generation 1, 334
+/// entries, all live.
 const COMMIT: [u8; 53] =
     *b"BKDPCOM2\x02\x01\x4d\0\0\x01\x4e\0\0\x01\x4e\0\0\0\0\0\0\0\x01\0\x01\0\0\0\0\0\0\0\0\0\0\0\0\0\0\0\x01\0\0\x01\x4e\0\0\x01\x4e";
 

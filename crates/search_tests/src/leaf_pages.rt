@@ -83,8 +83,8 @@ fn visited(
     )
 }
 
-/// The corners of a box; how many hits it has and the first of them; how many points it is asked for, how many leaves the walk touches
-/// and how many pages it reads.
+/// The corners of a box; how many hits it has and the first of them; how many points it is asked for, how many leaves
+/// the walk touches and how many pages it reads.
 type Row = ([i32; 2], [i32; 2], (usize, Option<u32>), (u64, u64, u64));
 
 /// Over 25 leaves, eleven on the first page, eleven on the second and three on the last.
@@ -100,7 +100,8 @@ fn file_of(alloc: Global, stored: &Stored) -> Result<Vec<u8>, Fail> {
     Ok(stored.folder.get(&SEGMENT).unwrap_or(&[]).to_vec(alloc)?)
 }
 
-/// A visit with the box of a row, where this call of the folder fails: the visit is done just where it doesn't come to that call.
+/// A visit with the box of a row, where this call of the folder fails: the visit is done just where it doesn't come
+/// to that call.
 fn check_visit(
     rt: &impl Abort,
     alloc: Global,

@@ -44,12 +44,12 @@ fn ten_of_entries(
     )
 }
 
-/// Where it is asked from, how many leaves may have one of the ten, and how many pages are read: at the first leaf; at the front of a
-/// leaf in the middle of the second page; where the second page begins; past the last one.
+/// Where it is asked from, how many leaves may have one of the ten, and how many pages are read: at the first leaf;
+/// at the front of a leaf in the middle of the second page; where the second page begins; past the last one.
 const PLACES: [(i32, u64, u64); 4] = [(0, 1, 1), (3_996, 2, 1), (3_663, 2, 2), (9_000, 2, 1)];
 
-/// A search over a cache without the segment's pages, where this call of the folder fails: it finds those that are wanted just where it
-/// doesn't come to that call.
+/// A search over a cache without the segment's pages, where this call of the folder fails: it finds those that are
+/// wanted just where it doesn't come to that call.
 fn check_search(
     rt: &impl Abort,
     alloc: Global,

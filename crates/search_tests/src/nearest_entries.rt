@@ -1,4 +1,5 @@
-//! Answers over a buffer alone that were reckoned by hand: ties, documents of several points, and the greatest distance.
+//! Answers over a buffer alone that were reckoned by hand: ties, documents of several points, and the greatest
+//! distance.
 
 ghost use Rattle.std.specs.Prelude.{◌≤◌};
 

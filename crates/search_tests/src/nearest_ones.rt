@@ -1,5 +1,5 @@
-//! Answers that were reckoned by hand: over a buffer, over stored segments and over both; how often a search reads; and what it says of
-//! a leaf that is damaged.
+//! Answers that were reckoned by hand: over a buffer, over stored segments and over both; how often a search reads;
+//! and what it says of a leaf that is damaged.
 
 ghost use Rattle.std.specs.Prelude.{◌≤◌};
 

@@ -1,5 +1,5 @@
-//! Six documents in two segments of a folder: what is saved of them, what a sweep takes away, and what attaching shows where a file is
-//! missing, damaged or another's.
+//! Six documents in two segments of a folder: what is saved of them, what a sweep takes away, and what attaching
+//! shows where a file is missing, damaged or another's.
 
 use crate::fixtures::{SETTINGS, add, committed, empty_folder};
 use bkd_build::OpenGate;
