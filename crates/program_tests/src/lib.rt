@@ -8,6 +8,8 @@ mod asked_calls;
 #[cfg(test)]
 mod draws;
 #[cfg(test)]
+mod embedded_sessions;
+#[cfg(test)]
 mod failing_calls;
 #[cfg(test)]
 mod faults;
@@ -18,10 +20,18 @@ mod gates;
 #[cfg(test)]
 mod lists;
 #[cfg(test)]
+mod merged_segments;
+#[cfg(test)]
 mod rows;
 #[cfg(test)]
 mod runs;
 #[cfg(test)]
+mod same_documents;
+#[cfg(test)]
 mod scripts;
 #[cfg(test)]
 mod sessions;
+#[cfg(test)]
+mod stored_files;
+#[cfg(test)]
+mod stories;
