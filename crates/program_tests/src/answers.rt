@@ -9,7 +9,8 @@ use std::process::Abort;
 use std::test::Fail;
 use std::thread::Threads;
 
-/// A check answers this, and a run of an empty script ends as damaged by the same where opening shows it, and is done where not.
+/// A check answers this, and a run of an empty script ends as damaged by the same where opening shows it, and is done
+/// where not.
 pub(crate) fn assert_said<R: Threads + Sync + Abort>(
     rt: &R,
     alloc: Global,
@@ -35,7 +36,10 @@ fn told<R: Threads + Sync>(
     let (status, output) = run_from(rt, alloc, words, &mut input, folder)?;
     let line = said(alloc, &status)?;
     let end = std::str::from_utf8(line.as_slice()).unwrap_or("no text");
-    let mut text = String::from_str(alloc, std::str::from_utf8(output.bytes()).unwrap_or("no text"))?;
+    let mut text = String::from_str(
+        alloc,
+        std::str::from_utf8(output.bytes()).unwrap_or("no text"),
+    )?;
     text.push_str(end.strip_prefix("damaged: ").unwrap_or(end).trim_end())?;
     Ok(text)
 }

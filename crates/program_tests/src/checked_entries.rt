@@ -32,8 +32,8 @@ const LAST: usize = 8152;
 
 /// One dimension, leaves of 2, next 4, given 4, next segment 8, and the segment: 7 of generation 1, 5 entries, 4 live
 /// numbers.
-const COMMIT: [u8; 53] =
-    *b"BKDPCOM2\x01\0\x02\0\0\0\x04\0\0\0\x04\0\0\0\0\0\0\0\x08\0\x01\0\0\0\0\0\0\0\x07\0\0\0\0\0\0\0\x01\0\0\0\x05\0\0\0\x04";
+const COMMIT: [u8; 53] = *b"BKDPCOM2\x01\0\x02\0\0\0\x04\0\0\0\x04\0\0\0\0\0\0\0\x08\0\x01\
+\0\0\0\0\0\0\0\x07\0\0\0\0\0\0\0\x01\0\0\0\x05\0\0\0\x04";
 
 /// What is told where nothing is wrong.
 const OK: &str = "ok dims 1 leaf 2 next 4 live 4 segments 1\n";

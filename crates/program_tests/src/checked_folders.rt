@@ -28,8 +28,8 @@ const COUNT: u32 = 334;
 
 /// Two dimensions, leaves of 333, next 334, given 334, next segment 1, and the segment: 0 of generation 1, 334
 /// entries, all live.
-const COMMIT: [u8; 53] =
-    *b"BKDPCOM2\x02\x01\x4d\0\0\x01\x4e\0\0\x01\x4e\0\0\0\0\0\0\0\x01\0\x01\0\0\0\0\0\0\0\0\0\0\0\0\0\0\0\x01\0\0\x01\x4e\0\0\x01\x4e";
+const COMMIT: [u8; 53] = *b"BKDPCOM2\x02\x01\x4d\0\0\x01\x4e\0\0\x01\x4e\0\0\0\0\0\0\0\x01\0\x01\
+\0\0\0\0\0\0\0\0\0\0\0\0\0\0\0\x01\0\0\x01\x4e\0\0\x01\x4e";
 
 /// What is told of the folder as it was written.
 const OK: &str = "ok dims 2 leaf 333 next 334 live 334 segments 1\n";
@@ -273,8 +273,9 @@ fn files_that_are_missing(rt: HostRuntime) -> Result<(), Fail> {
 }
 
 /// The commit with a second segment: 1 of generation 1, with as many.
-const TWO: [u8; 77] =
-    *b"BKDPCOM2\x02\x01\x4d\0\0\x01\x4e\0\0\x01\x4e\0\0\0\0\0\0\0\x02\0\x02\0\0\0\0\0\0\0\0\0\0\0\0\0\0\0\x01\0\0\x01\x4e\0\0\x01\x4e\0\0\0\0\0\0\0\x01\0\0\0\0\0\0\0\x01\0\0\x01\x4e\0\0\x01\x4e";
+const TWO: [u8; 77] = *b"BKDPCOM2\x02\x01\x4d\0\0\x01\x4e\0\0\x01\x4e\0\0\0\0\0\0\0\x02\0\x02\
+\0\0\0\0\0\0\0\0\0\0\0\0\0\0\0\x01\0\0\x01\x4e\0\0\x01\x4e\
+\0\0\0\0\0\0\0\x01\0\0\0\0\0\0\0\x01\0\0\x01\x4e\0\0\x01\x4e";
 
 #[test]
 fn a_second_segment_with_the_same_leaves(rt: HostRuntime) -> Result<(), Fail> {

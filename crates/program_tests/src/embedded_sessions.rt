@@ -1,5 +1,5 @@
-//! A session as a program that embeds it calls it, over a folder in memory: where a call on the folder fails all is seen as before,
-//! and the line is done when it is asked again.
+//! A session as a program that embeds it calls it, over a folder in memory: where a call on the folder fails all is
+//! seen as before, and the line is done when it is asked again.
 
 use crate::runs::empty_folder;
 use crate::stories::check_there;
@@ -103,8 +103,8 @@ fn each_line_has_its_answer(rt: HostRuntime) -> Result<(), Fail> {
     check_rows(&rt, rt.alloc(), &mut folder, LINES)
 }
 
-/// The second file of a commit fails, and no name is written again: the next one has live numbers of the next generation. Then the
-/// first call fails that takes a file away, and a snapshot needs the segments.
+/// The second file of a commit fails, and no name is written again: the next one has live numbers of the next
+/// generation. Then the first call fails that takes a file away, and a snapshot needs the segments.
 const SAVES: &[Row] = &[
     (&[], "add 0 0", "doc 0\n", DONE),
     (&[], "flush", "ok\n", DONE),

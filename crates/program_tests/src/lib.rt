@@ -1,6 +1,7 @@
 //! Tests of the program: scripts through the top call, over streams and a folder in memory.
 //!
-//! They stand above the crates that they test, as Rust's integration tests do: a change of a test is no change of those.
+//! They stand above the crates that they test, as Rust's integration tests do: a change of a test is no change of
+//! those.
 #![tactic(auto)]
 
 #[cfg(test)]

@@ -11,11 +11,13 @@ const NINE: Lines = (
     "ok\ndoc 0\nok\ndoc 1\nok\ndoc 2\nok\ndoc 3\nok\ndoc 4\nok\ndoc 5\nok\ndoc 6\nok\ndoc 7\nok\ndoc 8\nok\n",
 );
 
-/// One dimension, leaves of 2, next 10, given 10, next segment 11, and the segment: 10 of generation 1, nine entries, all live.
+/// One dimension, leaves of 2, next 10, given 10, next segment 11, and the segment: 10 of generation 1, nine entries,
+/// all live.
 const ONE_OF_NINE: &[u8] = b"BKDPCOM2\x01\0\x02\0\0\0\x0a\0\0\0\x0a\0\0\0\0\0\0\0\x0b\0\x01\
 \0\0\0\0\0\0\0\x0a\0\0\0\0\0\0\0\x01\0\0\0\x09\0\0\0\x09";
 
-/// A commit writes the tenth segment, and the next one settles first: what was deleted isn't in the one that ten become.
+/// A commit writes the tenth segment, and the next one settles first: what was deleted isn't in the one that ten
+/// become.
 const TEN_BECOME_ONE: &[Step] = &[
     Step::Call(RUN, &[], &[NINE, ("add 9\n", "doc 9\n")], ""),
     Step::Call(
@@ -40,8 +42,8 @@ const TEN_BECOME_ONE: &[Step] = &[
     ),
 ];
 
-/// One dimension, leaves of 2, next 11, given 11, next segment 12, and the segments: 10 and 11 of generation 1, of ten entries and of
-/// one, all live.
+/// One dimension, leaves of 2, next 11, given 11, next segment 12, and the segments: 10 and 11 of generation 1, of ten
+/// entries and of one, all live.
 const TEN_AND_ONE: &[u8] = b"BKDPCOM2\x01\0\x02\0\0\0\x0b\0\0\0\x0b\0\0\0\0\0\0\0\x0c\0\x02\
 \0\0\0\0\0\0\0\x0a\0\0\0\0\0\0\0\x01\0\0\0\x0a\0\0\0\x0a\
 \0\0\0\0\0\0\0\x0b\0\0\0\0\0\0\0\x01\0\0\0\x01\0\0\0\x01";
@@ -59,8 +61,8 @@ const TEN_OF_ELEVEN: &[Step] = &[
     Step::Begins(FileName::Commit, TEN_AND_ONE),
 ];
 
-/// Three segments of one entry each. A merge takes the first and the third of them once each, and the third document is deleted
-/// meanwhile.
+/// Three segments of one entry each. A merge takes the first and the third of them once each, and the third document is
+/// deleted meanwhile.
 const TWO_OF_THREE: &[Lines] = &[
     (
         "create 1 leaf 2\nadd 0\nflush\nadd 1\nflush\nadd 2\nflush\n",
@@ -85,8 +87,8 @@ const TWO: &[u8] = b"BKDPCOM2\x01\0\x02\0\0\0\x03\0\0\0\x03\0\0\0\0\0\0\0\x05\0\
 const ONE: &[u8] = b"BKDPCOM2\x01\0\x02\0\0\0\x03\0\0\0\x03\0\0\0\0\0\0\0\x06\0\x01\
 \0\0\0\0\0\0\0\x05\0\0\0\0\0\0\0\x01\0\0\0\x01\0\0\0\x01";
 
-/// Of the second merge nothing is live any more, so its segment goes. A merge of all then writes the segment anew that has a dead
-/// entry, and lets the one be that has none: behind the seven calls of the opening no call is made.
+/// Of the second merge nothing is live any more, so its segment goes. A merge of all then writes the segment anew that
+/// has a dead entry, and lets the one be that has none: behind the seven calls of the opening no call is made.
 const POSITIONS: &[Step] = &[
     Step::Call(RUN, &[], TWO_OF_THREE, ""),
     Step::Begins(FileName::Commit, ONE_AND_TWO),

@@ -10,8 +10,8 @@ pub const SIX: Lines = (
     "ok\ndoc 0\ndoc 1\ndoc 2\ndoc 3\ndoc 4\ndoc 5\n",
 );
 
-/// Boxes round all, round the points of two, of one and of four, in a gap, and one with its ends turned round; the three that are
-/// nearest to the origin.
+/// Boxes round all, round the points of two, of one and of four, in a gap, and one with its ends turned round; the
+/// three that are nearest to the origin.
 const LOOK: &str =
     "box -9 -9 30 30\nbox 5 5 5 5\nbox -3 4 -3 4\nbox 0 0 9 20\nbox 1 1 4 4\nbox 6 0 0 6\n\
 nearest 3 0 0\n";
@@ -143,8 +143,8 @@ const GIVEN: &[Step] = &[
     Step::Begins(FileName::Commit, FULL),
 ];
 
-/// The call of a flush fails, where nothing is stored and where the six are; then a read of a merge, and the call that writes what is
-/// merged. All is seen as before, and done when asked again.
+/// The call of a flush fails, where nothing is stored and where the six are; then a read of a merge, and the call that
+/// writes what is merged. All is seen as before, and done when asked again.
 const FAILING: &[Step] = &[
     Step::Call(
         RUN,

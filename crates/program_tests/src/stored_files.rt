@@ -1,5 +1,5 @@
-//! Six documents in two segments of a folder: what a run leaves of the files, and what is said where one is missing, damaged or
-//! another's.
+//! Six documents in two segments of a folder: what a run leaves of the files, and what is said where one is missing,
+//! damaged or another's.
 
 use crate::stories::{Lines, RUN, Step, tell};
 use outer_io::FileName;

@@ -20,8 +20,8 @@ pub type Lines = (&'static str, &'static str);
 
 /// A step over the folder of a story.
 pub enum Step {
-    /// The program is called with these words, and these calls on the folder fail: what it reads and answers, and what it says at
-    /// the end.
+    /// The program is called with these words, and these calls on the folder fail: what it reads and answers, and what
+    /// it says at the end.
     Call(&'static [&'static str], &'static [u64], &'static [Lines], &'static str),
     /// A file is put there, whose body on one page is this.
     Put(FileName, &'static [u8]),
