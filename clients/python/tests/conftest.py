@@ -60,28 +60,25 @@ def left():
     return max(1, min(EACH, BEGUN + ALL - time.monotonic()))
 
 
-@pytest.hookimpl(hookwrapper=True)
-def pytest_runtest_setup(item):
-    with limited(left()):
-        yield
+def hook_within(seconds):
+    """A hook of pytest's round a part of a test that ends when its time is over."""
+    @pytest.hookimpl(hookwrapper=True)
+    def hook():
+        with limited(seconds()):
+            yield
+
+    return hook
+
+
+pytest_runtest_setup = hook_within(left)
+pytest_pyfunc_call = hook_within(left)
+pytest_runtest_teardown = hook_within(lambda: END)
 
 
 @pytest.hookimpl(tryfirst=True)
 def pytest_runtest_call(item):
     if time.monotonic() > BEGUN + ALL:
         pytest.fail(f"not reached within {ALL:.0f} seconds for all tests", pytrace=False)
-
-
-@pytest.hookimpl(hookwrapper=True)
-def pytest_pyfunc_call(pyfuncitem):
-    with limited(left()):
-        yield
-
-
-@pytest.hookimpl(hookwrapper=True)
-def pytest_runtest_teardown(item):
-    with limited(END):
-        yield
 
 
 def real_program() -> bkd.Program | None:
