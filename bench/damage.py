@@ -35,7 +35,7 @@ from bkd.damage import Damage  # noqa: E402
 from bkd.formats import open_stored  # noqa: E402
 from bkd.formats.pages import COMMIT, LIVE, PAGE, PAYLOAD, SEGMENT, FileName, digest  # noqa: E402
 
-PROGRAM = os.environ.get("BKD", os.path.join(HERE, "..", "crates", "bkd", "out", "bkd"))
+PROGRAM = [os.environ.get("BKD", os.path.join(HERE, "..", "crates", "bkd", "out", "bkd"))]
 PLAIN, SEALED = "plainly", "sealed anew"
 SHOWN = 5
 SECONDS = 60
@@ -178,11 +178,11 @@ class Table:
         memory = "/dev/shm" if os.path.isdir("/dev/shm") else None
         self.room = tempfile.TemporaryDirectory(prefix="bkd-damage-", dir=memory)
         self.folder = self.room.name
-        status, _, said = run([program, self.folder, "run"], "".join(line + "\n" for line in lines()))
+        status, _, said = run([*program, self.folder, "run"], "".join(line + "\n" for line in lines()))
         if status != 0:
             raise RuntimeError(f"the folder wasn't made: {said}")
         self.files = bytes_of(self.folder)
-        self.whole = run([program, self.folder, "run"], self.queries.text)
+        self.whole = run([*program, self.folder, "run"], self.queries.text)
         self.wrong = []
         self.counts = collections.Counter()
 
@@ -193,7 +193,7 @@ class Table:
     def try_whole(self):
         """The folder as it was written."""
         said, documents = read(self.folder)
-        self._compare(said, run([self.program, self.folder, "check"]), "unchanged")
+        self._compare(said, run([*self.program, self.folder, "check"]), "unchanged")
         if self.whole != (0, self.queries.scan(documents), ""):
             self.wrong.append(f"unchanged: the run answers {self.whole}")
 
@@ -204,7 +204,7 @@ class Table:
             file.write(data)
         where = f"{change.file} byte {change.at} xor {change.bits} {change.how}"
         said, documents = read(self.folder)
-        self._compare(said, run([self.program, self.folder, "check"]), where)
+        self._compare(said, run([*self.program, self.folder, "check"]), where)
         self.counts[change.how, kind_of(said), self._answered(change, said, documents, where)] += 1
         if bytes_of(self.folder) != self.files | {change.file: data}:
             self.wrong.append(f"{where}: files were changed")
@@ -218,7 +218,7 @@ class Table:
 
     def _answered(self, change, said, documents, where):
         """How a run of the queries ended."""
-        status, text, last = answered = run([self.program, self.folder, "run"], self.queries.text)
+        status, text, last = answered = run([*self.program, self.folder, "run"], self.queries.text)
         if said.startswith("ok"):
             if answered != (0, self.queries.scan(documents), ""):
                 self.wrong.append(f"{where}: the folder is ok, and the run answers {answered}")
