@@ -94,7 +94,7 @@ def add_lucene(times, data):
         ("points", ["%d %d" % p for p in data.points]), ("none", ["0 0"])))
     for name, source in (("Lucene CheckIndex", points), ("Lucene CheckIndex, one point", none)):
         folder = data.empty(name.replace(" ", "-"))
-        java(data, "Lucene", "index", source, folder, "merge").done()
+        java(data, "Lucene", "index", source, folder, "apart").done()
         times.add(name, lambda folder=folder: checked(java(data, CHECK, folder, keep=True), "No problems were"))
 
 

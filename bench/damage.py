@@ -1,12 +1,12 @@
 #!/usr/bin/env python3
 """Changes each byte of small folders, one at a time, and compares what the program and a second reader make of it.
 
-usage: bench/damage.py [--workers N] [--sample N]
+usage: bench/damage.py [--folder flat|wide] [--sample N] [--workers N]
 
-Two folders with two segments, deletions and documents of several points: one of two dimensions in which each file is
-a few pages, and one of eight in which an index, leaves and live bits fill more than one page each. A byte of a page is
-changed in one drawn way, first plainly and then with the page sealed anew, so that its digest is right again; a byte
-that isn't in the zeros at a payload's end is sealed with each of its bits changed too. Over each changed folder
+Two folders with two segments, deletions and documents of several points: `flat` of two dimensions, whose files have
+three pages at most, and `wide` of eight, in which an index, leaves and live bits fill two pages each. A byte of a page
+is changed in one drawn way, first plainly and then with the page sealed anew, so that its digest is right again; a
+byte that isn't in the zeros at a payload's end is sealed with each of its bits changed too. Over each changed folder
 
 - `check` and bkd.formats, a reader in Python from docs/FORMATS.md and docs/DAMAGE.md alone, say the same line;
 - where it is `ok`, a run of queries answers as a scan over the documents that the reader finds;
@@ -259,13 +259,14 @@ def show(name, counts, wrong):
 
 def main():
     words = argparse.ArgumentParser(description="Changes each byte of small folders, one at a time.")
-    words.add_argument("--workers", type=int, default=os.cpu_count())
+    words.add_argument("--folder", choices=FOLDERS)
     words.add_argument("--sample", type=int)
+    words.add_argument("--workers", type=int, default=os.cpu_count())
     asked = words.parse_args()
     good = True
     with concurrent.futures.ProcessPoolExecutor(asked.workers) as pool:
         parts = 8 * asked.workers
-        for name in FOLDERS:
+        for name in [asked.folder] if asked.folder else FOLDERS:
             counts, wrong = collections.Counter(), []
             begun = [pool.submit(part, PROGRAM, name, asked.sample, place, parts) for place in range(parts)]
             for done in begun:
