@@ -75,7 +75,7 @@ const WHATEVER_STANDS_BETWEEN: &[Step] = &[
             LOOK_BACK,
             (
                 "release before\nrelease before\n",
-                "ok\nline 62: unknown snapshot\n",
+                "ok\nline 77: unknown snapshot\n",
             ),
         ],
         "refused 1\n",
@@ -172,15 +172,14 @@ const FAILING: &[Step] = &[
         "",
     ),
     Step::Call(RUN, &[12], &[("merge\n", "")], "folder fault\n"),
-    Step::Call(RUN, &[15], &[("merge\n", "")], "folder fault\n"),
+    Step::Call(RUN, &[14], &[("merge\n", "")], "folder fault\n"),
+    Step::Call(RUN, &[15], &[MERGE], "folder fault\n"),
     Step::Call(RUN, &[], &[SEE_ALL, MERGE, SEE_ALL], ""),
 ];
 
+const STORIES: &[&[Step]] = &[WHATEVER_STANDS_BETWEEN, COSTS, REFUSALS, GIVEN, FAILING];
+
 #[test]
 fn each_story(rt: HostRuntime) -> Result<(), Fail> {
-    tell(
-        &rt,
-        rt.alloc(),
-        &[WHATEVER_STANDS_BETWEEN, COSTS, REFUSALS, GIVEN, FAILING],
-    )
+    tell(&rt, rt.alloc(), STORIES)
 }
