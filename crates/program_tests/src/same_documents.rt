@@ -143,8 +143,8 @@ const GIVEN: &[Step] = &[
     Step::Begins(FileName::Commit, FULL),
 ];
 
-/// The call of a flush fails, where nothing is stored and where the six are; then a read of a merge, and the call that
-/// writes what is merged. All is seen as before, and done when asked again.
+/// The call of a flush fails, where nothing is stored and where the six are; then a read of a merge, the call that
+/// writes what is merged, and the first one of the commit behind it. All is seen as before, and done when asked again.
 const FAILING: &[Step] = &[
     Step::Call(
         RUN,
