@@ -103,8 +103,7 @@ fn each_line_has_its_answer(rt: HostRuntime) -> Result<(), Fail> {
     check_rows(&rt, rt.alloc(), &mut folder, LINES)
 }
 
-/// The second file of a commit fails, and no name is written again: the next one has live numbers of the next
-/// generation. Then the first call fails that takes a file away, and a snapshot needs the segments.
+/// The second file of a commit fails, and no name is written again: the next one has live numbers of the next generation.
 const SAVES: &[Row] = &[
     (&[], "add 0 0", "doc 0\n", DONE),
     (&[], "flush", "ok\n", DONE),
@@ -114,34 +113,33 @@ const SAVES: &[Row] = &[
     (&[], "commit", "ok\n", DONE),
 ];
 
+const SAVED: &[FileName] = &[
+    FileName::Segment(0),
+    FileName::Segment(1),
+    FileName::Live {
+        segment: 0,
+        generation: 2,
+    },
+    FileName::Live {
+        segment: 1,
+        generation: 2,
+    },
+];
+
+const NOT_SAVED: &[FileName] = &[
+    FileName::Live {
+        segment: 0,
+        generation: 1,
+    },
+    FileName::Live {
+        segment: 1,
+        generation: 1,
+    },
+];
+
 #[test]
 fn a_save_that_fails(rt: HostRuntime) -> Result<(), Fail> {
     let mut folder = empty_folder(rt.alloc());
     check_rows(&rt, rt.alloc(), &mut folder, SAVES)?;
-    check_there(
-        &rt,
-        &folder,
-        &[
-            FileName::Segment(0),
-            FileName::Segment(1),
-            FileName::Live {
-                segment: 0,
-                generation: 2,
-            },
-            FileName::Live {
-                segment: 1,
-                generation: 2,
-            },
-        ],
-        &[
-            FileName::Live {
-                segment: 0,
-                generation: 1,
-            },
-            FileName::Live {
-                segment: 1,
-                generation: 1,
-            },
-        ],
-    )
+    check_there(&rt, &folder, SAVED, NOT_SAVED)
 }

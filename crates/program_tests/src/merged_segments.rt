@@ -80,12 +80,12 @@ const ONE_AND_TWO: &[u8] = b"BKDPCOM2\x01\0\x02\0\0\0\x03\0\0\0\x03\0\0\0\0\0\0\
 \0\0\0\0\0\0\0\x03\0\0\0\0\0\0\0\x01\0\0\0\x02\0\0\0\x01";
 
 /// Segment 3 alone.
-const TWO: &[u8] = b"BKDPCOM2\x01\0\x02\0\0\0\x03\0\0\0\x03\0\0\0\0\0\0\0\x05\0\x01\
+const TWO: &[u8] = b"BKDPCOM2\x01\0\x02\0\0\0\x03\0\0\0\x03\0\0\0\0\0\0\0\x04\0\x01\
 \0\0\0\0\0\0\0\x03\0\0\0\0\0\0\0\x02\0\0\0\x02\0\0\0\x01";
 
-/// Its live entry in segment 5.
-const ONE: &[u8] = b"BKDPCOM2\x01\0\x02\0\0\0\x03\0\0\0\x03\0\0\0\0\0\0\0\x06\0\x01\
-\0\0\0\0\0\0\0\x05\0\0\0\0\0\0\0\x01\0\0\0\x01\0\0\0\x01";
+/// Its live entry in segment 4.
+const ONE: &[u8] = b"BKDPCOM2\x01\0\x02\0\0\0\x03\0\0\0\x03\0\0\0\0\0\0\0\x05\0\x01\
+\0\0\0\0\0\0\0\x04\0\0\0\0\0\0\0\x01\0\0\0\x01\0\0\0\x01";
 
 /// Of the second merge nothing is live any more, so its segment goes. A merge of all then writes the segment anew that
 /// has a dead entry, and lets the one be that has none: behind the seven calls of the opening no call is made.
@@ -108,7 +108,9 @@ const POSITIONS: &[Step] = &[
     Step::Call(RUN, &[6], &[], "folder fault\n"),
 ];
 
+const STORIES: &[&[Step]] = &[TEN_BECOME_ONE, TEN_OF_ELEVEN, POSITIONS];
+
 #[test]
 fn each_story(rt: HostRuntime) -> Result<(), Fail> {
-    tell(&rt, rt.alloc(), &[TEN_BECOME_ONE, TEN_OF_ELEVEN, POSITIONS])
+    tell(&rt, rt.alloc(), STORIES)
 }

@@ -75,7 +75,7 @@ const WHATEVER_STANDS_BETWEEN: &[Step] = &[
             LOOK_BACK,
             (
                 "release before\nrelease before\n",
-                "ok\nline 62: unknown snapshot\n",
+                "ok\nline 77: unknown snapshot\n",
             ),
         ],
         "refused 1\n",
@@ -143,8 +143,8 @@ const GIVEN: &[Step] = &[
     Step::Begins(FileName::Commit, FULL),
 ];
 
-/// The call of a flush fails, where nothing is stored and where the six are; then a read of a merge, and the call that
-/// writes what is merged. All is seen as before, and done when asked again.
+/// The call of a flush fails, where nothing is stored and where the six are; then a read of a merge, the call that
+/// writes what is merged, and the first one of the commit behind it. All is seen as before, and done when asked again.
 const FAILING: &[Step] = &[
     Step::Call(
         RUN,
@@ -172,15 +172,14 @@ const FAILING: &[Step] = &[
         "",
     ),
     Step::Call(RUN, &[12], &[("merge\n", "")], "folder fault\n"),
-    Step::Call(RUN, &[15], &[("merge\n", "")], "folder fault\n"),
+    Step::Call(RUN, &[14], &[("merge\n", "")], "folder fault\n"),
+    Step::Call(RUN, &[15], &[MERGE], "folder fault\n"),
     Step::Call(RUN, &[], &[SEE_ALL, MERGE, SEE_ALL], ""),
 ];
 
+const STORIES: &[&[Step]] = &[WHATEVER_STANDS_BETWEEN, COSTS, REFUSALS, GIVEN, FAILING];
+
 #[test]
 fn each_story(rt: HostRuntime) -> Result<(), Fail> {
-    tell(
-        &rt,
-        rt.alloc(),
-        &[WHATEVER_STANDS_BETWEEN, COSTS, REFUSALS, GIVEN, FAILING],
-    )
+    tell(&rt, rt.alloc(), STORIES)
 }

@@ -176,19 +176,17 @@ const OTHER_SEGMENTS: &[Step] = &[
     ),
 ];
 
+const STORIES: &[&[Step]] = &[
+    SNAPSHOT_AT_THE_END,
+    RELEASED_SNAPSHOT,
+    FAILING_SWEEP,
+    SEGMENT_LOST,
+    LIVE_LOST,
+    OTHER_LIVE_NUMBERS,
+    OTHER_SEGMENTS,
+];
+
 #[test]
 fn each_story(rt: HostRuntime) -> Result<(), Fail> {
-    tell(
-        &rt,
-        rt.alloc(),
-        &[
-            SNAPSHOT_AT_THE_END,
-            RELEASED_SNAPSHOT,
-            FAILING_SWEEP,
-            SEGMENT_LOST,
-            LIVE_LOST,
-            OTHER_LIVE_NUMBERS,
-            OTHER_SEGMENTS,
-        ],
-    )
+    tell(&rt, rt.alloc(), STORIES)
 }
