@@ -9,6 +9,8 @@ mod asked_calls;
 #[cfg(test)]
 mod checking;
 #[cfg(test)]
+mod closing;
+#[cfg(test)]
 mod command_faults;
 #[cfg(test)]
 mod commands;
