@@ -3,8 +3,10 @@ use Rattle.std.specs.Prelude.{ℕ, ◌+◌, ◌≡◌, ◌≤◌, ◌⊎◌, Lis
 use Rattle.outer_io.specs.Files.{Files}
 use Rattle.outer_io.specs.Parts.{WritesPart}
 use Rattle.stored_index.specs.Stored.{IsUndefined}
+use Rattle.index_opening.specs.Evidence.{IsFound}
 use Rattle.folder_check.specs.Checked.{IsChecked, IsChecking}
 use Rattle.run_status.specs.Causes.{Counts, NoneRose}
+use Rattle.run_status.specs.Ends.{OnStatusDamage}
 use Rattle.run_status.specs.declared.status.Status.{Status}
 use Rattle.run_status.specs.declared.status.Status.TheVariants as status
 
@@ -28,8 +30,10 @@ IsVerdict (status.Damaged damage) = Unit {0}
 IsVerdict status.Memory = Unit {0}
 IsVerdict _ = ⊥
 
--- checking tells what the files hold, changes none of them, and reads each page of what the commit lists at most once
+-- checking tells what the files hold, changes none of them, and reads each page of the Commit file and of those that it
+-- lists at most once; where it ends as damaged one of these files is named, and two numbers are a pair of them
 pub record Checks (told : Type 0) (old new : Files) (written written_now : List ℕ) (before now : ℕ) (s : Status) : Type 0 where
   pub ends : EndsCheck told old written written_now s
   pub files : new ≡ old
   pub reads : (pages : ℕ) → IsChecking old pages → now ≤ before + pages
+  pub named : OnStatusDamage s (IsFound old)

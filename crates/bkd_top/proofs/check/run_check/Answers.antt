@@ -1,6 +1,6 @@
 -- What there is to tell was sent, or cut, or a fault came before.
 use Rattle.std.proofs.Common.{IsTrue, refl, sym, ap, subst, ◌∙◌}
-use Rattle.index_opening.specs.Evidence.{IsEvident, IsTwice}
+use Rattle.index_opening.specs.Evidence.{IsEvident, IsFound, IsTwice}
 use Rattle.index_opening.proofs.Evident.{on_evident_at}
 use Rattle.run_status.specs.Ends.{DoesNothing, IsDamaged}
 use Rattle.run_status.specs.Stops.{status_of}
@@ -23,6 +23,8 @@ returns-in-Ok-clause-checks g c = λ told. record {
       c.send.ensures.text c.send.ensures.known c.send.ensures.cause);
   files = c.check.ensures.files told;
   reads = c.check.ensures.reads told;
+  named = let P = IsFound (g.F.Pages.files c.args.folder.now) in
+      rw c.status_of.ensures (status_shows P c.send.result (sink_shows P c.send.result c.send.ensures.cause));
 }
 
 pub returns-clause-checks : goal.returns-clause-checks
@@ -31,6 +33,8 @@ returns-clause-checks g c = λ told. record {
       (g.K.Sink.written c.args.out.now) c.in-Err.fault (rw c.in-Err.is at (c.check.ensures.undefined told)) (λ sink. refl)));
   files = c.check.ensures.files told;
   reads = c.check.ensures.reads told;
+  named = rw c.status_of-in-Err.ensures (rw c.stopped.ensures (fault_status (IsFound (g.F.Pages.files c.args.folder.now)) c.in-Err.fault
+      (rw c.in-Err.is at (c.check.ensures.named told))));
 }
 
 pub returns-in-Ok-clause-damage : goal.returns-in-Ok-clause-damage
