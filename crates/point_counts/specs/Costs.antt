@@ -26,12 +26,12 @@ has_two_buckets plan cell = not (column_of plan cell.lo == column_of plan cell.h
 abbrev pub is_parted : Plan → Region → Bool
 is_parted plan cell = crosses plan.bounds cell || (within cell plan.bounds && has_two_buckets plan cell)
 
--- of a clean segment the leaves whose own cell passes the test, of another those whose own cell isn't outside of the box
-abbrev pub opened : (box : Region) (test : Region → Bool) → Part → IndexTree → ℕ
-opened box test p t = if is_clean p then leaves_with test t else touched (in_box box) (crosses box) t
+-- below a node of a clean segment the leaves whose own cell passes the test, of another segment those whose own cell isn't outside of the box
+abbrev pub opened_below : (clean : Bool) (box : Region) (test : Region → Bool) → IndexTree → ℕ
+opened_below clean box test t = if clean then leaves_with test t else touched (in_box box) (crosses box) t
 
--- so many leaves together
+-- so many leaves of the segments together
 abbrev pub AreOpened : (D : ℕ) (box : Region) (test : Region → Bool) → List Part → ℕ → Type 0
 AreOpened D box test [] n = n ≡ 0
 AreOpened D box test (p ∷ ps) n =
-    (m : ℕ) × (rest : ℕ) × ((root : Region) (t : IndexTree) → HasTree D p.head.index root t → m ≡ opened box test p t) × AreOpened D box test ps rest × (n ≡ m + rest)
+    (m : ℕ) × (rest : ℕ) × ((root : Region) (t : IndexTree) → HasTree D p.head.index root t → m ≡ opened_below (is_clean p) box test t) × AreOpened D box test ps rest × (n ≡ m + rest)

@@ -6,8 +6,12 @@
 #![tactic(auto)]
 
 mod laws;
+mod leaf;
 mod plan;
 mod queries;
+mod sorting;
+mod tallies;
+mod walk;
 
 pub use laws::clean_segments_are_live;
 pub use plan::{Bucket, GridFault, GridPlan};

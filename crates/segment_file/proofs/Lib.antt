@@ -9,6 +9,7 @@ pub mod LiveReads
 pub mod Unique
 pub mod HeadReads
 pub mod Subtrees
+pub mod LeafPages
 pub mod Entries
 pub mod Paged
 pub mod Laid

@@ -9,12 +9,13 @@ ghost use Rattle.live_bits.specs.LiveSet.{is_live};
 ghost use Rattle.inner_pack.specs.Places.{Spot, front};
 ghost use Rattle.inner_pack.specs.Nodes.{IsAt};
 ghost use Rattle.inner_pack.specs.Trees.{IndexTree, leaf_count};
-ghost use Rattle.inner_pack.specs.Bodies.{HasTree};
-ghost use Rattle.page_cache.specs.Cache.{KeepsFile, Agrees};
+ghost use Rattle.inner_pack.specs.Bodies.{HasTree, pages_of};
+ghost use Rattle.page_cache.specs.Cache.{IsKept, KeepsFile, Agrees};
 ghost use Rattle.page_cache.specs.Causes.{HasPageCause};
 ghost use Rattle.page_cache.specs.Evidence.{OnDamage, NotDamaged};
+ghost use Rattle.segment_file.specs.Heads.{page_of};
 ghost use Rattle.segment_file.specs.Segments.{HoldsTree, IsHeadOf, IsSegment};
-ghost use Rattle.segment_file.specs.Gathers.{Gathers};
+ghost use Rattle.segment_file.specs.Gathers.{Gathers, ReadsEach, last_page};
 ghost use Rattle.segment_file.specs.Damages.{IsLeafDamage, IsLeafDamageOf};
 
 use crate::head::SegmentHead;
@@ -39,6 +40,9 @@ pub fn read_entries<const D: usize, F: Pages>(
 ) -> Result<Vec<Entry<D>>, PageFault>
     ensures files { IsTrue F.told → F.files folder.new ≡ F.files folder.old }
     ensures reads { (root : Region) (t : IndexTree) → HasTree D head.now.index root t → F.reads folder.new ≤ F.reads folder.old + head.now.index.leaves }
+    // each leaf page once at most, whatever the cache held
+    ensures pages { (root : Region) (t : IndexTree) → HasTree D head.now.index root t
+        → F.reads folder.new ≤ F.reads folder.old + pages_of t }
     ensures cause { HasPageCause (F.faults folder.old) (F.faults folder.new) result }
     ensures others { (i : ℕ) → KeepsFile cache.new i → KeepsFile cache.old i ⊎ (i ≡ head.now.id) }
     ensures agrees { IsTrue F.told → Agrees (F.files folder.old) cache.old → Agrees (F.files folder.old) cache.new }
@@ -72,6 +76,10 @@ fn gather<const D: usize, F: Pages>(
 ) -> Result<(), PageFault>
     ensures files { IsTrue F.told → F.files folder.new ≡ F.files folder.old }
     ensures reads { (first : ℕ) (s : Spot) (path : Region) (t : IndexTree) → IsAt node.now first s path t → F.reads folder.new ≤ F.reads folder.old + leaf_count t }
+    ensures pages { (first : ℕ) (s : Spot) (path : Region) (t : IndexTree) → IsAt node.now first s path t
+        → ReadsEach (F.reads folder.old) (F.reads folder.new) cache.old head.now s t }
+    ensures last { (first : ℕ) (s : Spot) (path : Region) (t : IndexTree) → IsAt node.now first s path t
+        → OnOk result (IsKept cache.new head.now.id (page_of head.now (last_page s t))) }
     ensures cause { HasPageCause (F.faults folder.old) (F.faults folder.new) result }
     ensures others { (i : ℕ) → KeepsFile cache.new i → KeepsFile cache.old i ⊎ (i ≡ head.now.id) }
     ensures agrees { IsTrue F.told → Agrees (F.files folder.old) cache.old → Agrees (F.files folder.old) cache.new }
@@ -105,6 +113,10 @@ fn gather_leaf<const D: usize, F: Pages>(
     requires { node.now.leaves ≡ 1 }
     ensures files { IsTrue F.told → F.files folder.new ≡ F.files folder.old }
     ensures reads { (first : ℕ) (s : Spot) (path : Region) (t : IndexTree) → IsAt node.now first s path t → F.reads folder.new ≤ F.reads folder.old + leaf_count t }
+    ensures pages { (first : ℕ) (s : Spot) (path : Region) (t : IndexTree) → IsAt node.now first s path t
+        → ReadsEach (F.reads folder.old) (F.reads folder.new) cache.old head.now s t }
+    ensures last { (first : ℕ) (s : Spot) (path : Region) (t : IndexTree) → IsAt node.now first s path t
+        → OnOk result (IsKept cache.new head.now.id (page_of head.now (last_page s t))) }
     ensures cause { HasPageCause (F.faults folder.old) (F.faults folder.new) result }
     ensures others { (i : ℕ) → KeepsFile cache.new i → KeepsFile cache.old i ⊎ (i ≡ head.now.id) }
     ensures agrees { IsTrue F.told → Agrees (F.files folder.old) cache.old → Agrees (F.files folder.old) cache.new }

@@ -1,4 +1,4 @@
-use Rattle.std.proofs.Common.{◌≡◌, ◌+◌, ap, sym, subst, arith}
+use Rattle.std.proofs.Common.{◌≡◌, ◌+◌, ◌∙◌, ℕ, ap, sym, subst, arith}
 use Rattle.std.proofs.lemmas.Result.{err_from_is_err_and}
 use Rattle.outer_io.specs.Files.{bytes_of}
 use Rattle.outer_io.specs.declared.file_name.FileName.TheVariants.{Segment}
@@ -6,12 +6,14 @@ use Rattle.point_codec.specs.Seen.{items_of}
 use Rattle.point_codec.specs.Cells.{left_of, right_of}
 use Rattle.inner_pack.specs.Trees.{IndexTree, leaf_count}
 use Rattle.inner_pack.specs.Bodies.{right_begin}
-use Rattle.page_cache.specs.Cache.{Agrees}
+use Rattle.page_cache.specs.Cache.{Agrees, IsKept}
 use Rattle.page_cache.proofs.Damages.{fault_weaker, on_damage_weaker}
 use Rattle.segment_file.specs.Segments.{HoldsTree}
 use Rattle.segment_file.specs.Damages.{IsLeafDamage}
-use Rattle.segment_file.specs.Gathers.{Gathers}
+use Rattle.segment_file.specs.Heads.{page_of}
+use Rattle.segment_file.specs.Gathers.{Gathers, ReadsEach, last_page}
 use Rattle.segment_file.proofs.Subtrees.{OnOk-weaker, left_damage, right_damage, gathers_join}
+use Rattle.segment_file.proofs.LeafPages.{left_reads, right_last, both_read}
 use Rattle.segment_file.proofs.read.+gather.Goals as goal
 
 pub returns-in_err-gather-in-Some-clause-reads : goal.returns-in_err-gather-in-Some-clause-reads
@@ -76,3 +78,32 @@ returns-in_ok-gather-in-Some-clause-gathers g t c = λ told agrees first s path 
 
 pub returns-in_ok-gather-in-Some-clause-live : goal.returns-in_ok-gather-in-Some-clause-live
 returns-in_ok-gather-in-Some-clause-live g t c = λ h. c.gather-in-Some.ensures.live (c.gather.ensures.live h)
+
+pub returns-in_err-gather-in-Some-clause-pages : goal.returns-in_err-gather-in-Some-clause-pages
+returns-in_err-gather-in-Some-clause-pages g t c = λ first s path u at.
+    let k = c.in-Some.ensures.some first s path u at in
+    let left = c.gather.ensures.pages first s (left_of path k.dimension k.value) k.l k.left_is in
+    let head = c.args.head.now in
+    subst (λ (v : IndexTree). ReadsEach (g.F.Pages.reads c.args.folder.now) (g.F.Pages.reads c.gather.new.folder) c.args.cache.now head s v)
+    (sym k.is)
+    (left_reads _ _ c.args.cache.now head s k.dimension k.value k.l k.r left)
+
+pub returns-in_ok-gather-in-Some-clause-pages : goal.returns-in_ok-gather-in-Some-clause-pages
+returns-in_ok-gather-in-Some-clause-pages g t c = λ first s path u at.
+    let k = c.in-Some.ensures.some first s path u at in
+    let left = c.gather.ensures.pages first s (left_of path k.dimension k.value) k.l k.left_is in
+    let kept = c.in_ok-gather-in-Some.ensures.last first s (left_of path k.dimension k.value) k.l k.left_is in
+    let right = c.gather-in-Some.ensures.pages (first + leaf_count k.l) (right_begin s k.l k.r) (right_of path k.dimension k.value) k.r k.right_is in
+    let head = c.args.head.now in
+    let read = g.F.Pages.reads c.gather-in-Some.new.folder in
+    subst (λ (v : IndexTree). ReadsEach (g.F.Pages.reads c.args.folder.now) read c.args.cache.now head s v) (sym k.is)
+    (both_read _ _ _ c.args.cache.now c.gather.new.cache head s k.dimension k.value k.l k.r k.right_is.is.lengths left right kept)
+
+pub returns-in_ok-gather-in-Some-clause-last : goal.returns-in_ok-gather-in-Some-clause-last
+returns-in_ok-gather-in-Some-clause-last g t c = λ first s path u at.
+    let k = c.in-Some.ensures.some first s path u at in
+    let right = c.gather-in-Some.ensures.last (first + leaf_count k.l) (right_begin s k.l k.r) (right_of path k.dimension k.value) k.r k.right_is in
+    let ends = right_last s k.dimension k.value k.l k.r k.right_is.is.lengths in
+    let whole : last_page (right_begin s k.l k.r) k.r ≡ last_page s u = ends ∙ ap (λ (v : IndexTree). last_page s v) (sym k.is) in
+    OnOk-weaker c.gather-in-Some.result _ _
+    (λ kept. subst (λ (page : ℕ). IsKept c.gather-in-Some.new.cache c.args.head.now.id (page_of c.args.head.now page)) whole kept) right

@@ -1,4 +1,4 @@
-use Rattle.std.proofs.Common.{◌++◌, List, ap, ◌∙◌}
+use Rattle.std.proofs.Common.{◌++◌, List, ap, ◌∙◌, arith}
 use Rattle.std.specs.Prelude.{filter}
 use Rattle.std.proofs.lemmas.Result.{err_from_is_err_and}
 use Rattle.outer_io.specs.Files.{bytes_of}
@@ -13,11 +13,23 @@ use Rattle.segment_file.proofs.Unique.{tree_once}
 use Rattle.segment_file.proofs.Subtrees.{count_shaped}
 use Rattle.segment_file.proofs.read.read_entries.Goals as goal
 
+pub returns-in_err-gather-clause-pages : goal.returns-in_err-gather-clause-pages
+returns-in_err-gather-clause-pages g c = λ root t has.
+    let here : HasTree g.row.D c.index.result.now root t = rw c.index.ensures.value has in
+    let each = (c.gather.ensures.pages 0 front root t (c.walk-root.ensures root t here)).all in
+    omega (arith, each)
+
 pub returns-in_err-gather-clause-reads : goal.returns-in_err-gather-clause-reads
 returns-in_err-gather-clause-reads g c = λ root t has.
     let here : HasTree g.row.D c.index.result.now root t = rw c.index.ensures.value has in
     let count = count_shaped c.args.head.now.index.leaves t has.tree.shaped in
     rw (← count) (c.gather.ensures.reads 0 front root t (c.walk-root.ensures root t here))
+
+pub returns-clause-pages : goal.returns-clause-pages
+returns-clause-pages g c = λ root t has.
+    let here : HasTree g.row.D c.index.result.now root t = rw c.index.ensures.value has in
+    let each = (c.gather.ensures.pages 0 front root t (c.walk-root.ensures root t here)).all in
+    omega (arith, each)
 
 pub returns-clause-reads : goal.returns-clause-reads
 returns-clause-reads g c = λ root t has.
