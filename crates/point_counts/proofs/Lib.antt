@@ -1,1 +1,5 @@
 pub mod Buckets
+pub mod Counts
+pub mod Subtrees
+pub mod Clean
+pub mod Segments

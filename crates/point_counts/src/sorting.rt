@@ -43,7 +43,7 @@ pub(crate) trait Sorting<const D: usize> {
 }
 
 /// A box, all points of which are counted at one place.
-#[derive(Debug)]
+#[derive(Clone, Copy, Debug)]
 pub(crate) struct WholeBox<const D: usize> {
     pub lo: Point<D>,
     pub hi: Point<D>,

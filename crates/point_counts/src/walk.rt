@@ -1,6 +1,7 @@
 //! The walk over a segment.
 
-ghost use Rattle.std.specs.Prelude.{◌≡◌, ◌≤◌, ◌+◌, ◌-◌, ◌*◌, ◌⊎◌, min, ℕ, List, All, true, false, IsTrue, OnOk, OnTrue, OnFalse, length};
+ghost use Rattle.std.specs.Prelude.{◌≡◌, ◌≤◌, ◌+◌, ◌-◌, ◌*◌, ◌⊎◌, min, ℕ, List, All, true, false, IsTrue, OnOk};
+ghost use Rattle.std.specs.Bool.{OnTrue, OnFalse};
 ghost use Rattle.outer_io.specs.Files.{bytes_of};
 ghost use Rattle.outer_io.specs.declared.file_name.FileName.TheVariants.{Segment};
 ghost use Rattle.point_codec.specs.Points.{Item, Region, in_box};
@@ -92,10 +93,11 @@ fn is_settled<const D: usize, S: Sorting<D>>(
     match sorting.lie_of(&node.cell()) {
         Lie::Outside => true,
         Lie::At(place) => {
-            if clean {
-                add(table, place, entries_below(head, node));
+            if !clean {
+                return false;
             }
-            clean
+            add(table, place, entries_below(head, node));
+            true
         }
         Lie::Parted => false,
     }
