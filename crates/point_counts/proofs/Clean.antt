@@ -12,8 +12,9 @@ use Rattle.live_bits.specs.LiveSet.{LiveSet, IsLiveSet, is_live}
 use Rattle.documents.specs.Entries.{has_entry}
 use Rattle.documents.proofs.Kept.{among_from, among_to}
 use Rattle.documents.proofs.Lists.{cons_head, cons_tail, pairs_head, pairs_tail}
+use Rattle.segment_file.specs.Heads.{Head}
 use Rattle.segment_file.proofs.Counted.{segment_counted}
-use Rattle.segment_view.specs.Parts.{Part, Contents, IsRead}
+use Rattle.segment_view.specs.Parts.{Part, part_of, Contents, IsRead}
 use Rattle.point_counts.specs.Costs.{is_clean}
 
 -- how many entries have the number, and how often an entry's number is among the numbers
@@ -27,7 +28,7 @@ times ns x = count_by (λ n. eqb x.doc n) ns
 
 sum_zero : {X : Type 0} (xs : List X) → sum_by (λ x. 0) xs ≡ 0
 sum_zero [] = refl
-sum_zero (x ∷ xs) = sum_by-cons (λ y. 0) x xs ∙ sum_zero xs
+sum_zero (x ∷ xs) = let a = sum_by-cons (λ y. 0) x xs in let rest = sum_zero xs in omega (arith, a, rest)
 
 sum_both : {X : Type 0} (f g : X → ℕ) (xs : List X) → sum_by (λ x. f x + g x) xs ≡ sum_by f xs + sum_by g xs
 sum_both f g [] = refl
@@ -74,23 +75,23 @@ once_at_most m (n ∷ ns) up =
 
 some_entry : (n : ℕ) (xs : List Item) → has_entry n xs ≡ true → 1 ≤ count_by (λ x. eqb x.doc n) xs
 some_entry n [] e = absurd (true≢false (sym e))
-some_entry n (x ∷ xs) e = subst (λ (k : ℕ). 1 ≤ k) (sym (sum_by-cons (λ y. cond (eqb y.doc n) 1 0) x xs)) (by (eqb x.doc n) e)
+some_entry n (x ∷ xs) e = subst (λ (k : ℕ). 1 ≤ k) (sym (sum_by-cons (λ y. cond (eqb y.doc n) 1 0) x xs)) (by (some_entry n xs) (eqb x.doc n) e)
   where
-    by : (b : Bool) → (b || has_entry n xs) ≡ true → 1 ≤ cond b 1 0 + count_by (λ y. eqb y.doc n) xs
-    by true k = omega arith
-    by false k = let rest = some_entry n xs k in omega (arith, rest)
+    by : (has_entry n xs ≡ true → 1 ≤ count_by (λ y. eqb y.doc n) xs) → (b : Bool) → (b || has_entry n xs) ≡ true → 1 ≤ cond b 1 0 + count_by (λ y. eqb y.doc n) xs
+    by rest true k = omega arith
+    by rest false k = let more = rest k in omega (arith, more)
 
 is_among_them : (m : ℕ) (ns : List ℕ) → 1 ≤ count_by (λ n. eqb m n) ns → list_any (λ d. eqb d m) ns ≡ true
 is_among_them m [] some = absurd (omega (arith, some))
-is_among_them m (n ∷ ns) some = by (eqb n m) refl (subst (λ (k : ℕ). 1 ≤ k) (sum_by-cons (λ k. cond (eqb m k) 1 0) n ns) some)
+is_among_them m (n ∷ ns) some = by (is_among_them m ns) (eqb n m) refl (subst (λ (k : ℕ). 1 ≤ k) (sum_by-cons (λ k. cond (eqb m k) 1 0) n ns) some)
   where
-    by : (b : Bool) → eqb n m ≡ b → 1 ≤ cond (eqb m n) 1 0 + count_by (λ k. eqb m k) ns → (b || list_any (λ d. eqb d m) ns) ≡ true
-    by true e k = refl
-    by false e k = is_among_them m ns (other (eqb m n) refl k)
-      where
-        other : (b : Bool) → eqb m n ≡ b → 1 ≤ cond b 1 0 + count_by (λ j. eqb m j) ns → 1 ≤ count_by (λ j. eqb m j) ns
-        other true f j = absurd (true≢false (sym (eq-eqb n m (sym (eqb-true m n f))) ∙ e))
-        other false f j = omega (arith, j)
+    other : eqb n m ≡ false → (b : Bool) → eqb m n ≡ b → 1 ≤ cond b 1 0 + count_by (λ j. eqb m j) ns → 1 ≤ count_by (λ j. eqb m j) ns
+    other e true f j = absurd (true≢false (sym (eq-eqb n m (sym (eqb-true m n f))) ∙ e))
+    other e false f j = omega (arith, j)
+
+    by : (1 ≤ count_by (λ j. eqb m j) ns → list_any (λ d. eqb d m) ns ≡ true) → (b : Bool) → eqb n m ≡ b → 1 ≤ cond (eqb m n) 1 0 + count_by (λ k. eqb m k) ns → (b || list_any (λ d. eqb d m) ns) ≡ true
+    by rest true e k = refl
+    by rest false e k = rest (other e (eqb m n) refl k)
 
 -- ---- sums of ones
 
@@ -157,3 +158,7 @@ module _ (D : ℕ) (files : Files) (c : Contents) (p : Part) (read : IsRead D fi
       let same = exchanged (c p.head.id) p.live.live in
       let each = all_ones_above (of_number (c p.head.id)) p.live.live at_least (omega (arith, most, same, as_many)) in
       λ k d lt. All-contains (λ n. of_number (c p.head.id) n ≡ 1) p.live.live (get_or (c p.head.id) k d).doc each (among_to p.live.live (get_or (c p.head.id) k d).doc (all_live k d lt))
+
+-- told by what is read of both
+pub clean_is : (live entries : ℕ) (head : Head) (set : LiveSet) → live ≡ length set.live → entries ≡ head.entries → is_clean (part_of head set) ≡ eqb live entries
+clean_is live entries head set a b = ap (λ (n : ℕ). eqb n head.entries) (sym a) ∙ ap (eqb live) (sym b)

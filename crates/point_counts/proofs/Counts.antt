@@ -1,11 +1,13 @@
 -- Tables of counts that rise, one entry or one leaf at a time.
-use Rattle.std.proofs.Common.{◌≡◌, ℕ, ◌+◌, ◌<◌, ◌≤◌, Bool, true, false, ◌&&◌, eqb, cond, min, List, [], ◌∷◌, ◌++◌, length, take, set, filter, get_or, ℤ, refl, sym, ap, subst, ◌∙◌, arith}
+use Rattle.std.proofs.Common.{◌≡◌, ℕ, zero, suc, ◌+◌, ◌<◌, ◌≤◌, Bool, true, false, ◌&&◌, eqb, cond, min, List, [], ◌∷◌, ◌++◌, length, take, set, filter, get_or, ℤ, refl, sym, ap, subst, ◌∙◌, arith}
 use Rattle.std.specs.List.{All, count_by}
 use Rattle.std.proofs.lemmas.Bool.{eqb-true, eq-eqb, true≢false}
 use Rattle.std.proofs.lemmas.List.{length-set, get_or-set_same, get_or-set_other}
 use Rattle.std.proofs.lemmas.List.Elements.{All-cons, All-head, All-nil, All-tail}
 use Rattle.std.proofs.lemmas.List.Sums.{sum_by-append, sum_by-cons, sum_by_more}
 use Rattle.point_codec.specs.Points.{Item, Region, in_box}
+use Rattle.point_codec.specs.Seen.{items_of}
+use Rattle.point_codec.specs.declared.entries.Entry.{Entry}
 use Rattle.live_bits.specs.LiveSet.{LiveSet, is_live}
 use Rattle.cell_relate.specs.Relations.{AllAnswer}
 use Rattle.bkd_reader.proofs.HitLemmas.{no_item}
@@ -79,15 +81,22 @@ module _ (box : Region) (place : List ℤ → ℕ) (live : LiveSet) (xs : List I
       more k ∙ ap (λ b. live_at box place live (take i xs) k + cond (b && is_at box place k next.at) 1 0) alive
       ∙ ap (λ b. live_at box place live (take i xs) k + cond (b && eqb (place next.at) k) 1 0) inside
 
-  -- the same of all entries
-  each : (k : ℕ) → all_at box place (take (i + 1) xs) k ≡ all_at box place (take i xs) k + cond (is_at box place k next.at) 1 0
+-- the same of all entries
+module _ (box : Region) (place : List ℤ → ℕ) (xs : List Item) (i : ℕ) (within : i < length xs) where
+  each : (k : ℕ) → all_at box place (take (i + 1) xs) k ≡ all_at box place (take i xs) k + cond (is_at box place k (get_or xs i no_item).at) 1 0
   each k = sum_by_more (λ e. cond (is_at box place k e.at) 1 0) xs i no_item within
 
-  pub outside_each : in_box box next.at ≡ false → (k : ℕ) → all_at box place (take i xs) k ≡ all_at box place (take (i + 1) xs) k
-  outside_each out k = sym (each k ∙ ap (λ b. all_at box place (take i xs) k + cond (b && eqb (place next.at) k) 1 0) out ∙ omega arith)
+  pub outside_each : in_box box (get_or xs i no_item).at ≡ false → (k : ℕ) → all_at box place (take i xs) k ≡ all_at box place (take (i + 1) xs) k
+  outside_each out k = sym (each k ∙ ap (λ b. all_at box place (take i xs) k + cond (b && eqb (place (get_or xs i no_item).at) k) 1 0) out ∙ omega arith)
 
-  pub one_each : in_box box next.at ≡ true → (k : ℕ) → all_at box place (take (i + 1) xs) k ≡ all_at box place (take i xs) k + cond (eqb (place next.at) k) 1 0
-  one_each inside k = each k ∙ ap (λ b. all_at box place (take i xs) k + cond (b && eqb (place next.at) k) 1 0) inside
+  pub one_each : in_box box (get_or xs i no_item).at ≡ true → (k : ℕ) → all_at box place (take (i + 1) xs) k ≡ all_at box place (take i xs) k + cond (eqb (place (get_or xs i no_item).at) k) 1 0
+  one_each inside k = each k ∙ ap (λ b. all_at box place (take i xs) k + cond (b && eqb (place (get_or xs i no_item).at) k) 1 0) inside
+
+-- the point of an entry of a buffer
+pub point_at : {D : ℕ} (buffer : List (Entry D)) (i : ℕ) (e : Entry D) → i < length buffer → e ≡ get_or buffer i e → (get_or (items_of buffer) i no_item).at ≡ e.point.c
+point_at [] i e within is = absurd (omega (arith, within))
+point_at (x ∷ xs) zero e within is = ap (λ y. y.point.c) (sym is)
+point_at (x ∷ xs) (suc i) e within is = point_at xs i e (omega (arith, within)) is
 
 -- ---- entries of two lists, and of a cell
 
@@ -142,7 +151,7 @@ pub all_there : (box : Region) (place : List ℤ → ℕ) (live : LiveSet) (cell
     → (k : ℕ) → cond (eqb at k) (length xs) 0 ≡ live_at box place live xs k
 all_there box place live cell at [] all one inside alive k = none (eqb at k)
   where
-    none : (b : Bool) → cond b (length []) 0 ≡ 0
+    none : (b : Bool) → ◌≡◌ {A = ℕ} (cond b 0 0) 0
     none true = refl
     none false = refl
 all_there box place live cell at (x ∷ xs) all one inside alive k =

@@ -1,7 +1,9 @@
 -- Subtrees: the entries of one leaf, those in a node's cell, how many there are below a node, and which leaves are read.
 use Rattle.std.proofs.Common.{◌≡◌, ℕ, ◌+◌, ◌-◌, ◌*◌, Bool, true, false, cond, min, List, ◌++◌, length, ℤ, refl, sym, ap, subst, ◌∙◌, arith, length-append}
 use Rattle.std.proofs.Math.Nat.{add-mul}
+use Rattle.std.specs.Bool.{OnTrue, OnFalse}
 use Rattle.std.specs.List.{All}
+use Rattle.std.proofs.lemmas.Bool.{true≢false}
 use Rattle.std.proofs.lemmas.List.Elements.{All-append, All-weaker}
 use Rattle.point_codec.specs.Points.{Item, Region, in_box}
 use Rattle.point_codec.specs.Cells.{left_of, right_of}
@@ -104,3 +106,13 @@ one_opened clean box test node first s path t one is parted touches =
     by : (b : Bool) (len : ℕ) (own : Region) → (b ≡ true → test own ≡ true) → is_outside (in_box box) (crosses box) own ≡ false → opened_below b box test (Leaf len own) ≡ 1
     by true len own p o = ap (λ c. cond c 1 0) (p refl)
     by false len own p o = ap (λ c. cond c 0 1) o
+
+-- ---- what holds by an answer
+
+pub on_true : (b : Bool) (P : Type 0) → b ≡ true → OnTrue b P → P
+on_true true P e h = h
+on_true false P e h = absurd (true≢false (sym e))
+
+pub on_false : (b : Bool) (P : Type 0) → b ≡ false → OnFalse b P → P
+on_false true P e h = absurd (true≢false e)
+on_false false P e h = h

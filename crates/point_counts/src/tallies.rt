@@ -1,6 +1,6 @@
 //! The counts of segments and of a buffer.
 
-ghost use Rattle.std.specs.Prelude.{◌≡◌, ◌≤◌, ◌+◌, ◌++◌, ℕ, [], ◌∷◌, IsTrue, OnOk};
+ghost use Rattle.std.specs.Prelude.{◌≡◌, ◌≤◌, ◌+◌, ℕ, [], ◌∷◌, length, IsTrue, OnOk};
 ghost use Rattle.point_codec.specs.Seen.{items_of};
 ghost use Rattle.page_cache.specs.Cache.{Agrees};
 ghost use Rattle.page_cache.specs.Causes.{HasPageCause};
@@ -34,6 +34,7 @@ pub(crate) fn count_segments<const D: usize, S: Sorting<D>, F: Pages>(
 ) -> Result<(), PageFault>
     ensures counts { IsTrue F.told → Agrees (F.files folder.old) cache.old → (c : Contents) → AreRead D (F.files folder.old) c segments.now
         → OnOk result (Adds (all_at (S.bounds sorting.now) (S.place sorting.now) (live_in_parts c segments.now)) table.old table.new) }
+    ensures few { length segments.now ≤ 16777216 }
     ensures reads { (n : ℕ) → AreOpened D (S.bounds sorting.now) (S.parts sorting.now) segments.now n → F.reads folder.new ≤ F.reads folder.old + n }
     ensures calm { IsCalm F.told (F.files folder.old) (F.files folder.new) cache.old cache.new (ids_of segments.now) }
     ensures cause { HasPageCause (F.faults folder.old) (F.faults folder.new) result }

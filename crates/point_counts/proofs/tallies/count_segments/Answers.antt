@@ -1,7 +1,7 @@
 use Rattle.std.proofs.Common.{ℕ, ◌+◌, List, [], ◌∷◌, Err, refl, sym, subst, ◌∙◌, arith, take}
 use Rattle.std.proofs.lemmas.List.Elements.{All-contains}
 use Rattle.std.proofs.lemmas.Result.{err_from_is_err_and}
-use Rattle.nearest_query.proofs.Parts.{on_damage}
+use Rattle.page_cache.proofs.Damages.{on_damage_weaker}
 use Rattle.segment_view.specs.Parts.{IsRead, part_of, ids_of, live_in_parts}
 use Rattle.segment_view.specs.Damages.{IsReadDamage, IsPartDamage}
 use Rattle.segment_view.proofs.Living.{part_in}
@@ -67,7 +67,7 @@ returns-in_err-count_one-clause-shown g c =
     let parts = c.args.segments.now in
     let p = part_of c.part.result.0.now c.part.result.1.now in
     rw (e.1, e.2)
-    (on_damage {T = Unit {0}} (IsReadDamage g.row.D p.head) (IsPartDamage g.row.D parts) (Err c.in_err-count_one.field-0.0) (λ d h. (p, part_in parts c.loop-i.i p c.part.ensures, h)) c.in_err-count_one.ensures.shown)
+    (on_damage_weaker {T = Unit {0}} (Err c.in_err-count_one.field-0.0) (IsReadDamage g.row.D p.head) (IsPartDamage g.row.D parts) (λ d h. (p, part_in parts c.loop-i.i p c.part.ensures, h)) c.in_err-count_one.ensures.shown)
 
 pub returns-in_err-count_one-clause-whole : goal.returns-in_err-count_one-clause-whole
 returns-in_err-count_one-clause-whole g c = λ told agrees es read.

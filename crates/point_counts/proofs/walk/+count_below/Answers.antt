@@ -1,6 +1,5 @@
-use Rattle.std.proofs.Common.{rules, ◌≡◌, ◌≤◌, ◌+◌, ◌∙◌, ℕ, List, Err, true, sym, subst, ap, arith}
+use Rattle.std.proofs.Common.{rules, ◌≡◌, ◌≤◌, ◌+◌, ◌++◌, ◌∙◌, ℕ, List, Err, true, sym, subst, ap, arith}
 use Rattle.std.specs.Prelude.{OnOk}
-use Rattle.std.specs.Bool.{OnTrue, OnFalse}
 use Rattle.std.specs.List.{All}
 use Rattle.outer_io.specs.Files.{bytes_of}
 use Rattle.outer_io.specs.declared.file_name.FileName.TheVariants.{Segment}
@@ -16,7 +15,7 @@ use Rattle.bkd_reader.proofs.Trees.{handed_on, on_ok, left_damage, right_damage,
 use Rattle.point_counts.specs.Tables.{Adds, live_at}
 use Rattle.point_counts.specs.Costs.{opened_below}
 use Rattle.point_counts.proofs.Counts.{adds_then, live_join, all_left, all_right}
-use Rattle.point_counts.proofs.Subtrees.{opened_split, one_opened}
+use Rattle.point_counts.proofs.Subtrees.{opened_split, one_opened, on_true, on_false}
 use Rattle.point_counts.proofs.walk.+count_below.Goals as goal
 
 -- ---- nothing is to be read
@@ -26,7 +25,7 @@ returns-then-is_settled-clause-counts g t c = λ told agrees first s path u item
     let box = g.S.Sorting.bounds c.args.sorting.now in
     let place = g.S.Sorting.place c.args.sorting.now in
     let bytes = bytes_of (g.F.Pages.files c.args.folder.now (Segment c.args.head.now.id)) in
-    subst (λ b. OnTrue b (Adds (live_at box place c.args.live.now items) c.args.table.now c.is_settled.new.table)) c.if-is_settled.true
+    on_true _ (Adds (live_at box place c.args.live.now items) c.args.table.now c.is_settled.new.table) c.if-is_settled.true
     (c.is_settled.ensures.counts first s path u bytes items root holds c.args.live.now live)
 
 -- ---- the left child is refused
@@ -63,14 +62,15 @@ returns-in_ok-count_below-in-Some-clause-counts g t c = λ told agrees first s p
     let same = c.count_below.ensures.files told in
     let agree = subst (λ f. Agrees f c.count_below.new.cache) (sym same) (c.count_below.ensures.agrees told agrees) in
     let j = held (bytes_of (g.F.Pages.files c.args.folder.now (Segment c.args.head.now.id))) c.args.head.now c.in-Some.left c.in-Some.right first s path u k items holds in
-    let whole = λ e. subst (All (λ x. is_live c.args.live.now x.doc ≡ true)) j.joined (live e) in
-    let stays = subst (λ b. OnFalse b (c.is_settled.new.table ≡ c.args.table.now)) c.if-is_settled.false c.is_settled.ensures.stays in
+    let whole : c.args.clean ≡ true → All (λ (x : Item). is_live c.args.live.now x.doc ≡ true) (j.front_items ++ j.back_items) =
+    λ e. subst (All (λ (x : Item). is_live c.args.live.now x.doc ≡ true)) j.joined (live e) in
+    let stays = on_false _ _ c.if-is_settled.false c.is_settled.ensures.stays in
     let front = subst (λ (z : List ℕ). Adds (live_at box place c.args.live.now j.front_items) z c.count_below.new.table) stays
     (c.in_ok-count_below-in-Some.ensures.counts told agrees first s _ k.l j.front_items (left_root c.in-Some.left c.in-Some.right first s path u k root.cells) j.front_holds
-    (λ e. all_left (λ x. is_live c.args.live.now x.doc ≡ true) j.front_items j.back_items (whole e))) in
+    (λ e. all_left (λ (x : Item). is_live c.args.live.now x.doc ≡ true) j.front_items j.back_items (whole e))) in
     let back = c.count_below-in-Some.ensures.counts told agree (first + leaf_count k.l) (right_begin s k.l k.r) _ k.r j.back_items (right_root c.in-Some.left c.in-Some.right first s path u k root.cells)
     (subst (λ f. HoldsTree g.row.D (bytes_of (f (Segment c.args.head.now.id))) c.args.head.now (first + leaf_count k.l) (right_begin s k.l k.r) k.r j.back_items) (sym same) j.back_holds)
-    (λ e. all_right (λ x. is_live c.args.live.now x.doc ≡ true) j.front_items j.back_items (whole e)) in
+    (λ e. all_right (λ (x : Item). is_live c.args.live.now x.doc ≡ true) j.front_items j.back_items (whole e)) in
     on_ok (Adds (live_at box place c.args.live.now j.back_items) c.count_below.new.table c.count_below-in-Some.new.table) (Adds (live_at box place c.args.live.now items) c.args.table.now c.count_below-in-Some.new.table)
     c.count_below-in-Some.result
     (λ b. adds_then (live_at box place c.args.live.now j.front_items) (live_at box place c.args.live.now j.back_items) (live_at box place c.args.live.now items) c.args.table.now c.count_below.new.table c.count_below-in-Some.new.table
@@ -107,15 +107,15 @@ pub returns-in-None-clause-counts : goal.returns-in-None-clause-counts
 returns-in-None-clause-counts g t c = λ told agrees first s path u items root holds live.
     let box = g.S.Sorting.bounds c.args.sorting.now in
     let place = g.S.Sorting.place c.args.sorting.now in
-    let stays = subst (λ b. OnFalse b (c.is_settled.new.table ≡ c.args.table.now)) c.if-is_settled.false c.is_settled.ensures.stays in
+    let stays = on_false _ _ c.if-is_settled.false c.is_settled.ensures.stays in
     subst (λ (z : List ℕ). OnOk c.count_leaf.result (Adds (live_at box place c.args.live.now items) z c.count_leaf.new.table)) stays
     (c.count_leaf.ensures.counts told agrees first s path u items root.is holds)
 
 pub returns-in-None-clause-reads : goal.returns-in-None-clause-reads
 returns-in-None-clause-reads g t c = λ first s path u root.
     let one : c.args.node.now.leaves ≡ 1 = search rules in
-    let parted = subst (λ b. OnFalse b _) c.if-is_settled.false c.is_settled.ensures.parted in
-    let touched = subst (λ b. OnFalse b _) c.if-is_settled.false c.is_settled.ensures.touched in
+    let parted = on_false _ _ c.if-is_settled.false c.is_settled.ensures.parted in
+    let touched = on_false _ _ c.if-is_settled.false c.is_settled.ensures.touched in
     let it = one_opened c.args.clean (g.S.Sorting.bounds c.args.sorting.now) (g.S.Sorting.parts c.args.sorting.now) c.args.node.now first s path u one root.is
     (λ e. parted e first s path u root.is) (touched first s path u root.is) in
     let most = c.count_leaf.ensures.reads in
