@@ -17,7 +17,7 @@ use Rattle.point_counts.specs.Tables.{place_in}
 
 -- ---- between the ends of a cell of the box
 
-div_rises : (step m n : ℕ) → 1 ≤ step → m ≤ n → m / step ≤ n / step
+pub div_rises : (step m n : ℕ) → 1 ≤ step → m ≤ n → m / step ≤ n / step
 div_rises step m n some le = le-div (m / step) n step (omega (arith, some)) (omega (arith, div-mul-le_self m step, le))
 
 apart_rises : (low a b : ℤ) → low ≤ℤ a → a ≤ℤ b → unsigned_abs (a -ℤ low) ≤ unsigned_abs (b -ℤ low)

@@ -4,13 +4,14 @@ use Rattle.std.specs.List.{All, count_by}
 use Rattle.std.proofs.lemmas.Bool.{eqb-true, eq-eqb, true≢false}
 use Rattle.std.proofs.lemmas.List.{length-set, get_or-set_same, get_or-set_other}
 use Rattle.std.proofs.lemmas.List.Elements.{All-cons, All-head, All-nil, All-tail}
-use Rattle.std.proofs.lemmas.List.Sums.{sum_by-append, sum_by-cons, sum_by_more}
+use Rattle.std.proofs.lemmas.List.Sums.{sum_by-append, sum_by-cons, sum_by_more, count_by-le-length}
 use Rattle.point_codec.specs.Points.{Item, Region, in_box}
 use Rattle.point_codec.specs.Seen.{items_of}
 use Rattle.point_codec.specs.declared.entries.Entry.{Entry}
 use Rattle.live_bits.specs.LiveSet.{LiveSet, is_live}
 use Rattle.cell_relate.specs.Relations.{AllAnswer}
 use Rattle.bkd_reader.proofs.HitLemmas.{no_item}
+use Rattle.point_counts.specs.Grids.{number_in}
 use Rattle.point_counts.specs.Tables.{is_at, all_at, live_at, HasCounts, Adds}
 
 -- ---- tables
@@ -55,6 +56,14 @@ add_past table place more past = record { counts = λ n was. record { each = λ 
     by n was k lt true e = let same = eqb-true place k e in absurd (omega (arith, same, past, lt))
     by n was k lt false e = let old = was.each k lt in omega (arith, old)
 
+-- a table of noughts
+pub no_counts : (table : List ℕ) → ((k : ℕ) → k < length table → get_or table k 0 ≡ 0) → HasCounts (λ k. 0) table
+no_counts table none = record { each = λ k lt. let z = none k lt in omega (arith, z) }
+
+-- what such a table tells of entries that are counted in it
+pub counted : (more : ℕ → ℕ) (old new : List ℕ) → HasCounts (λ k. 0) old → Adds more old new → HasCounts more new
+counted more old new none adds = counts_as (λ k. 0 + more k) more new (λ k. omega arith) (adds.counts (λ k. 0) none)
+
 -- ---- entries at places, one more entry at a time
 
 module _ (box : Region) (place : List ℤ → ℕ) (live : LiveSet) (xs : List Item) (i : ℕ) (within : i < length xs) where
@@ -91,6 +100,10 @@ module _ (box : Region) (place : List ℤ → ℕ) (xs : List Item) (i : ℕ) (w
 
   pub one_each : in_box box (get_or xs i no_item).at ≡ true → (k : ℕ) → all_at box place (take (i + 1) xs) k ≡ all_at box place (take i xs) k + cond (eqb (place (get_or xs i no_item).at) k) 1 0
   one_each inside k = each k ∙ ap (λ b. all_at box place (take i xs) k + cond (b && eqb (place (get_or xs i no_item).at) k) 1 0) inside
+
+pub items_long : {D : ℕ} (buffer : List (Entry D)) → length (items_of buffer) ≡ length buffer
+items_long [] = refl
+items_long (x ∷ xs) = ap suc (items_long xs)
 
 -- the point of an entry of a buffer
 pub point_at : {D : ℕ} (buffer : List (Entry D)) (i : ℕ) (e : Entry D) → i < length buffer → e ≡ get_or buffer i e → (get_or (items_of buffer) i no_item).at ≡ e.point.c
@@ -166,3 +179,19 @@ all_there box place live cell at (x ∷ xs) all one inside alive k =
     more : (b : Bool) → cond b (length xs) 0 ≡ live_at box place live xs k → cond b (length (x ∷ xs)) 0 ≡ cond b 1 0 + live_at box place live xs k
     more true e = omega (arith, e)
     more false e = omega (arith, e)
+
+-- where all points have one place it has the number of the box
+pub at_one_place : (box : Region) (xs : List Item) → all_at box (λ p. 0) xs 0 ≡ number_in box xs
+at_one_place box xs = λ i. count_by (λ e. and_true (in_box box e.at) i) xs
+  where
+    and_true : (b : Bool) → (b && true) ≡ b
+    and_true true = refl
+    and_true false = refl
+
+-- a count that is below the greatest number is right
+pub most_counted : (box : Region) (place : List ℤ → ℕ) (xs : List Item) (table : List ℕ) (k : ℕ) → k < length table → length xs < 18446744073709551616 → HasCounts (all_at box place xs) table
+    → get_or table k 0 ≡ all_at box place xs k
+most_counted box place xs table k lt few h =
+    let at = h.each k lt in
+    let most = count_by-le-length (λ (e : Item). is_at box place k e.at) xs in
+    omega (arith, at, most, few)

@@ -3,3 +3,4 @@ pub mod Counts
 pub mod Subtrees
 pub mod Clean
 pub mod Segments
+pub mod Told

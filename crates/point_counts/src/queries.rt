@@ -1,6 +1,6 @@
 //! How many live points a box has, and how many each bucket of a grid.
 
-ghost use Rattle.std.specs.Prelude.{◌≡◌, ◌≤◌, ◌<◌, ◌+◌, ◌^◌, ◌++◌, ℕ, List, length, IsTrue, IfOk, OnOk};
+ghost use Rattle.std.specs.Prelude.{◌≡◌, ◌≤◌, ◌<◌, ◌+◌, ◌/◌, ◌%◌, ◌^◌, ◌++◌, ℕ, List, length, IsTrue, IfOk, OnOk};
 ghost use Rattle.point_codec.specs.Points.{Item, Region};
 ghost use Rattle.point_codec.specs.Seen.{items_of};
 ghost use Rattle.cell_relate.specs.Boxes.{crosses};
@@ -140,11 +140,20 @@ fn filled<const D: usize>(
         if n == 0 {
             continue;
         }
-        buckets.push(Bucket {
-            x: (k / rows) as u32,
-            y: (k % rows) as u32,
-            n,
-        })?;
+        buckets.push(bucket_at(k, rows, n))?;
     }
     Ok(buckets)
+}
+
+/// The bucket of this place in a table of so many rows.
+fn bucket_at(k: usize, rows: usize, n: u64) -> Bucket
+    requires some { 1 ≤ rows }
+    requires few { k < 65536 }
+    ensures { result ≡ record { x = k / rows; y = k % rows; n = n } }
+{
+    Bucket {
+        x: (k / rows) as u32,
+        y: (k % rows) as u32,
+        n,
+    }
 }

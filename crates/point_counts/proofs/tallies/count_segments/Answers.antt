@@ -1,4 +1,5 @@
 use Rattle.std.proofs.Common.{ℕ, ◌+◌, List, [], ◌∷◌, Err, refl, sym, subst, ◌∙◌, arith, take}
+use Rattle.std.proofs.lemmas.List.{take_all}
 use Rattle.std.proofs.lemmas.List.Elements.{All-contains}
 use Rattle.std.proofs.lemmas.Result.{err_from_is_err_and}
 use Rattle.page_cache.proofs.Damages.{on_damage_weaker}
@@ -6,7 +7,7 @@ use Rattle.segment_view.specs.Parts.{IsRead, part_of, ids_of, live_in_parts}
 use Rattle.segment_view.specs.Damages.{IsReadDamage, IsPartDamage}
 use Rattle.segment_view.proofs.Living.{part_in}
 use Rattle.segment_view.proofs.Reading.{calm_none, calm_then, calm_more, agrees_after, id_in}
-use Rattle.point_counts.specs.Tables.{all_at}
+use Rattle.point_counts.specs.Tables.{Adds, all_at}
 use Rattle.point_counts.proofs.Counts.{adds_none, adds_then}
 use Rattle.point_counts.proofs.Segments.{opened_more, opened_upto, counted_more}
 use Rattle.point_counts.proofs.tallies.count_segments.Goals as goal
@@ -79,3 +80,9 @@ returns-in_err-count_one-clause-whole g c = λ told agrees es read.
     rw (e.1, e.2)
     (c.in_err-count_one.ensures.whole told (agrees_after g.F.Pages.told files (g.F.Pages.files c.loop-i.folder) c.args.cache.now c.loop-i.cache (ids_of parts) calm told agrees) es
     (subst (λ f. IsRead g.row.D f es p) (sym (calm.files told)) (All-contains (IsRead g.row.D files es) parts p read (part_in parts c.loop-i.i p c.part.ensures))))
+
+pub returns-clause-counts : goal.returns-clause-counts
+returns-clause-counts g c = λ told agrees es read.
+    let parts = c.args.segments.now in
+    subst (λ ps. Adds (all_at (g.S.Sorting.bounds c.args.sorting.now) (g.S.Sorting.place c.args.sorting.now) (live_in_parts es ps)) c.args.table.now c.loop-i.table)
+    (take_all c.loop-i.i parts (omega (arith, c.loop-i-test.false, c.len-i-end.ensures.value))) (c.loop-i.invariant.counts told agrees es read)

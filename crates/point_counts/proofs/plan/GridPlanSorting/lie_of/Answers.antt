@@ -49,8 +49,8 @@ returns-else-row-last_row g c =
     (subst (λ (p : Plan). c.self.inside.rows ≡ row_of p p.bounds.hi + 1) c.self.view_is c.self.invariant.1) in (
       inside,
       λ p there.
-      one_place g.row.D plan is cell c.lo.ensures.ordered inside
-      (sym column ∙ c.if-column-last_column.false ∙ c.bucket_of-last_column.ensures.column ∙ ap (column_of plan) c.hi.ensures.value)
-      (sym row ∙ c.if-row-last_row.false ∙ c.bucket_of-last_column.ensures.row ∙ ap (row_of plan) c.hi.ensures.value) p there
-      ∙ sym at,
+          one_place g.row.D plan is cell c.lo.ensures.ordered inside
+          (sym column ∙ c.if-column-last_column.false ∙ c.bucket_of-last_column.ensures.column ∙ ap (column_of plan) c.hi.ensures.value)
+          (sym row ∙ c.if-row-last_row.false ∙ c.bucket_of-last_column.ensures.row ∙ ap (row_of plan) c.hi.ensures.value) p there
+          ∙ sym at,
     )
