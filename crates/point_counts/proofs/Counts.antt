@@ -1,8 +1,8 @@
 -- Tables of counts that rise, one entry or one leaf at a time.
-use Rattle.std.proofs.Common.{◌≡◌, ℕ, zero, suc, ◌+◌, ◌<◌, ◌≤◌, Bool, true, false, ◌&&◌, eqb, cond, min, List, [], ◌∷◌, ◌++◌, length, take, set, filter, get_or, ℤ, refl, sym, ap, subst, ◌∙◌, arith}
+use Rattle.std.proofs.Common.{◌≡◌, ℕ, zero, suc, ◌+◌, ◌<◌, ◌≤◌, Bool, true, false, ◌&&◌, eqb, cond, min, List, [], ◌∷◌, ◌++◌, length, take, set, filter, get_or, replicate, ℤ, refl, sym, ap, subst, ◌∙◌, arith}
 use Rattle.std.specs.List.{All, count_by}
 use Rattle.std.proofs.lemmas.Bool.{eqb-true, eq-eqb, true≢false}
-use Rattle.std.proofs.lemmas.List.{length-set, get_or-set_same, get_or-set_other}
+use Rattle.std.proofs.lemmas.List.{get_or-replicate, get_or-set_other, get_or-set_same, length-replicate, length-set}
 use Rattle.std.proofs.lemmas.List.Elements.{All-cons, All-head, All-nil, All-tail}
 use Rattle.std.proofs.lemmas.List.Sums.{sum_by-append, sum_by-cons, sum_by_more, count_by-le-length}
 use Rattle.point_codec.specs.Points.{Item, Region, in_box}
@@ -195,3 +195,6 @@ most_counted box place xs table k lt few h =
     let at = h.each k lt in
     let most = count_by-le-length (λ (e : Item). is_at box place k e.at) xs in
     omega (arith, at, most, few)
+
+pub noughts : (table : List ℕ) (n : ℕ) → table ≡ replicate n 0 → HasCounts (λ k. 0) table
+noughts table n is = no_counts table (λ k lt. ap (λ (xs : List ℕ). get_or xs k 0) is ∙ get_or-replicate n k 0 0 (let long = ap length is in omega (arith, lt, long, length-replicate {A = ℕ} n 0)))
