@@ -1,7 +1,6 @@
 -- Clean segments: as many numbers as entries, each number that of an entry, so each entry has a number of its own.
 use Rattle.std.proofs.Common.{◌≡◌, ℕ, ◌+◌, ◌<◌, ◌≤◌, Bool, true, false, eqb, cond, List, [], ◌∷◌, length, get_or, refl, sym, ap, subst, ◌∙◌, ◌||◌, arith}
 use Rattle.std.specs.List.{All, AllPairs, Contains, count_by, list_any, sum_by}
-use Rattle.std.specs.List.Sorted.{IsStrictlyIncreasing}
 use Rattle.std.proofs.lemmas.Bool.{eqb-true, eq-eqb, true≢false}
 use Rattle.std.proofs.lemmas.List.Elements.{All-cons, All-head, All-nil, All-tail, All-contains, Contains-get_or}
 use Rattle.std.proofs.lemmas.List.Sums.{sum_by-cons}

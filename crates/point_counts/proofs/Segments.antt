@@ -1,6 +1,6 @@
 -- A loop over segments, one segment at a time: which leaves are read, and what is counted.
-use Rattle.std.proofs.Common.{◌≡◌, ℕ, ◌+◌, ◌*◌, ◌≤◌, Bool, List, [], ◌∷◌, ◌++◌, length, take, drop, filter, ℤ, refl, sym, ap, subst, ◌∙◌, arith, Some, length-append}
-use Rattle.std.specs.List.{All, slice_get}
+use Rattle.std.proofs.Common.{◌≡◌, ℕ, ◌+◌, ◌*◌, ◌≤◌, Bool, List, [], ◌∷◌, ◌++◌, length, take, drop, ℤ, refl, sym, ap, subst, ◌∙◌, arith, Some, length-append}
+use Rattle.std.specs.List.{slice_get}
 use Rattle.std.proofs.lemmas.List.Elements.{All-head, All-tail}
 use Rattle.std.proofs.lemmas.List.Sums.{length-filter, count_by-le-length}
 use Rattle.outer_io.specs.Files.{Files}
@@ -12,7 +12,7 @@ use Rattle.segment_file.proofs.Counted.{segment_counted, segment_ranges}
 use Rattle.segment_view.specs.Parts.{Part, Contents, IsRead, AreRead, live_in_parts}
 use Rattle.segment_view.proofs.Living.{live-append, live_of, parts_more}
 use Rattle.segment_view.proofs.Stepwise.{split_at}
-use Rattle.point_counts.specs.Tables.{all_at, Adds}
+use Rattle.point_counts.specs.Tables.{all_at}
 use Rattle.point_counts.specs.Costs.{is_clean, opened_below, AreOpened}
 use Rattle.point_counts.proofs.Counts.{all_join}
 

@@ -1,5 +1,5 @@
 -- Subtrees: the entries of one leaf, those in a node's cell, how many there are below a node, and which leaves are read.
-use Rattle.std.proofs.Common.{◌≡◌, ℕ, ◌+◌, ◌-◌, ◌*◌, Bool, true, false, cond, min, List, ◌++◌, length, ℤ, refl, sym, ap, subst, ◌∙◌, arith, length-append}
+use Rattle.std.proofs.Common.{◌≡◌, ℕ, ◌+◌, ◌-◌, ◌*◌, Bool, true, false, cond, min, List, length, ℤ, refl, sym, ap, subst, ◌∙◌, arith, length-append}
 use Rattle.std.proofs.Math.Nat.{add-mul}
 use Rattle.std.specs.Bool.{OnTrue, OnFalse}
 use Rattle.std.specs.List.{All}
@@ -18,10 +18,9 @@ use Rattle.inner_pack.specs.declared.node.NodeAt.{NodeAt}
 use Rattle.inner_pack.specs.declared.place.LeafPlace.{LeafPlace}
 use Rattle.segment_file.specs.Heads.{Head, count_of}
 use Rattle.segment_file.specs.Segments.{HoldsLeaf, HoldsTree}
-use Rattle.bkd_reader.specs.Counts.{touched}
 use Rattle.bkd_reader.proofs.Cells.{all_left, all_right, all_cell}
 use Rattle.bkd_reader.proofs.Trees.{count_at, only_leaf}
-use Rattle.point_counts.specs.Costs.{leaves_with, opened_below}
+use Rattle.point_counts.specs.Costs.{opened_below}
 
 -- ---- one leaf
 

@@ -1,5 +1,5 @@
-use Rattle.std.proofs.Common.{◌≡◌, ◌<◌, ◌++◌, ◌∙◌, ℕ, zero, suc, List, [], ◌∷◌, length, get_or, refl, arith}
-use Rattle.point_codec.specs.Points.{Item, Region}
+use Rattle.std.proofs.Common.{◌≡◌, ◌<◌, ◌++◌, ◌∙◌, ℕ, zero, suc, [], ◌∷◌, get_or, refl, arith}
+use Rattle.point_codec.specs.Points.{Region}
 use Rattle.point_codec.specs.Seen.{items_of}
 use Rattle.segment_view.specs.Parts.{live_in_parts}
 use Rattle.point_counts.specs.Tables.{all_at}

@@ -1,4 +1,4 @@
-use Rattle.std.proofs.Common.{◌≡◌, ◌+◌, ◌++◌, length, length-append, arith}
+use Rattle.std.proofs.Common.{◌++◌, length-append, arith}
 use Rattle.point_codec.specs.Seen.{items_of}
 use Rattle.segment_view.specs.Parts.{live_in_parts}
 use Rattle.point_counts.specs.Tables.{all_at}

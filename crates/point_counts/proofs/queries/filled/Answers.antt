@@ -1,4 +1,4 @@
-use Rattle.std.proofs.Common.{◌≡◌, ◌<◌, ◌≤◌, ◌+◌, ◌∙◌, ℕ, List, refl, sym, subst, ap, length, arith}
+use Rattle.std.proofs.Common.{◌≡◌, ◌+◌, ℕ, sym, subst, ap, length, arith}
 use Rattle.point_counts.specs.declared.plan.Bucket.{Bucket}
 use Rattle.point_counts.proofs.Told.{AreTold, told_none, told_zero, told_more, is_grid}
 use Rattle.point_counts.proofs.queries.filled.Goals as goal

@@ -1,10 +1,10 @@
 -- The table is written through a slice of the vector, whose items are then those of the slice (`seen`).
-use Rattle.std.proofs.Common.{◌≡◌, ◌<◌, ◌++◌, ◌∙◌, ℕ, List, length, get_or, sym, ap, subst, arith}
+use Rattle.std.proofs.Common.{◌≡◌, ◌++◌, ◌∙◌, length, sym, subst}
 use Rattle.std.proofs.lemmas.List.{with_items_is}
 use Rattle.point_codec.specs.Seen.{items_of}
 use Rattle.segment_view.specs.Parts.{live_in_parts}
 use Rattle.point_counts.specs.Tables.{HasCounts, all_at, place_in}
-use Rattle.point_counts.proofs.Counts.{no_counts, counted, noughts}
+use Rattle.point_counts.proofs.Counts.{counted, noughts}
 use Rattle.point_counts.proofs.queries.grid.Goals as goal
 
 pub returns-clause-exact : goal.returns-clause-exact

@@ -1,4 +1,4 @@
-use Rattle.std.proofs.Common.{ℕ, ◌+◌, List, [], ◌∷◌, Err, refl, sym, subst, ◌∙◌, arith, take}
+use Rattle.std.proofs.Common.{◌+◌, [], ◌∷◌, Err, refl, sym, subst, ◌∙◌, arith, take}
 use Rattle.std.proofs.lemmas.List.{take_all}
 use Rattle.std.proofs.lemmas.List.Elements.{All-contains}
 use Rattle.std.proofs.lemmas.Result.{err_from_is_err_and}

@@ -1,4 +1,4 @@
-use Rattle.std.proofs.Common.{◌≡◌, ◌∙◌, ℕ, List, ℤ, true, false, cond, eqb, length, sym, subst, ap}
+use Rattle.std.proofs.Common.{◌≡◌, ◌∙◌, ℕ, List, ℤ, true, false, cond, eqb, sym, subst, ap}
 use Rattle.point_codec.specs.Points.{Region, in_box}
 use Rattle.point_codec.specs.Seen.{region_of}
 use Rattle.cell_relate.specs.Boxes.{crosses}

@@ -1,4 +1,4 @@
-use Rattle.std.proofs.Common.{rules, ◌≡◌, ◌+◌, ℕ, ap, arith}
+use Rattle.std.proofs.Common.{rules, arith}
 use Rattle.point_counts.proofs.plan.GridPlan.new.Goals as goal
 
 pub invariant_of-result : goal.invariant_of-result
