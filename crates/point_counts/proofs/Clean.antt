@@ -1,5 +1,6 @@
 -- Clean segments: as many numbers as entries, each number that of an entry, so each entry has a number of its own.
-use Rattle.std.proofs.Common.{◌≡◌, ℕ, ◌+◌, ◌<◌, ◌≤◌, Bool, true, false, eqb, cond, List, [], ◌∷◌, length, get_or, refl, sym, ap, subst, ◌∙◌, ◌||◌, arith}
+use Rattle.std.proofs.Common.{◌≡◌, ℕ, ◌+◌, ◌<◌, ◌≤◌, Bool, true, false, eqb, cond, List, [], ◌∷◌, length, get_or, refl}
+use Rattle.std.proofs.Common.{sym, ap, subst, ◌∙◌, ◌||◌, arith}
 use Rattle.std.specs.List.{All, AllPairs, Contains, count_by, list_any, sum_by}
 use Rattle.std.proofs.lemmas.Bool.{eqb-true, eq-eqb, true≢false}
 use Rattle.std.proofs.lemmas.List.Elements.{All-cons, All-head, All-nil, All-tail, All-contains, Contains-get_or}
@@ -68,27 +69,33 @@ once_at_most m (n ∷ ns) up =
     by : (b : Bool) → eqb m n ≡ b → count_by (λ k. eqb m k) ns ≤ 1 → cond b 1 0 + count_by (λ k. eqb m k) ns ≤ 1
     by true e few =
         let same = eqb-true m n e in
-        let none = none_above m ns (λ k there. let less = pairs_head (λ a b. a < b) n ns up k there in omega (arith, same, less)) in
+        let none = none_above m ns (λ k there. let less = pairs_head (λ a b. a < b) n ns up k there in
+        omega (arith, same, less)) in
         omega (arith, none)
     by false e few = omega (arith, few)
 
 some_entry : (n : ℕ) (xs : List Item) → has_entry n xs ≡ true → 1 ≤ count_by (λ x. eqb x.doc n) xs
 some_entry n [] e = absurd (true≢false (sym e))
-some_entry n (x ∷ xs) e = subst (λ (k : ℕ). 1 ≤ k) (sym (sum_by-cons (λ y. cond (eqb y.doc n) 1 0) x xs)) (by (some_entry n xs) (eqb x.doc n) e)
+some_entry n (x ∷ xs) e = subst (λ (k : ℕ). 1 ≤ k) (sym (sum_by-cons (λ y. cond (eqb y.doc n) 1 0) x xs))
+    (by (some_entry n xs) (eqb x.doc n) e)
   where
-    by : (has_entry n xs ≡ true → 1 ≤ count_by (λ y. eqb y.doc n) xs) → (b : Bool) → (b || has_entry n xs) ≡ true → 1 ≤ cond b 1 0 + count_by (λ y. eqb y.doc n) xs
+    by : (has_entry n xs ≡ true → 1 ≤ count_by (λ y. eqb y.doc n) xs) → (b : Bool) → (b || has_entry n xs) ≡ true
+        → 1 ≤ cond b 1 0 + count_by (λ y. eqb y.doc n) xs
     by rest true k = omega arith
     by rest false k = let more = rest k in omega (arith, more)
 
 is_among_them : (m : ℕ) (ns : List ℕ) → 1 ≤ count_by (λ n. eqb m n) ns → list_any (λ d. eqb d m) ns ≡ true
 is_among_them m [] some = absurd (omega (arith, some))
-is_among_them m (n ∷ ns) some = by (is_among_them m ns) (eqb n m) refl (subst (λ (k : ℕ). 1 ≤ k) (sum_by-cons (λ k. cond (eqb m k) 1 0) n ns) some)
+is_among_them m (n ∷ ns) some = by (is_among_them m ns) (eqb n m) refl
+    (subst (λ (k : ℕ). 1 ≤ k) (sum_by-cons (λ k. cond (eqb m k) 1 0) n ns) some)
   where
-    other : eqb n m ≡ false → (b : Bool) → eqb m n ≡ b → 1 ≤ cond b 1 0 + count_by (λ j. eqb m j) ns → 1 ≤ count_by (λ j. eqb m j) ns
+    other : eqb n m ≡ false → (b : Bool) → eqb m n ≡ b → 1 ≤ cond b 1 0 + count_by (λ j. eqb m j) ns
+        → 1 ≤ count_by (λ j. eqb m j) ns
     other e true f j = absurd (true≢false (sym (eq-eqb n m (sym (eqb-true m n f))) ∙ e))
     other e false f j = omega (arith, j)
 
-    by : (1 ≤ count_by (λ j. eqb m j) ns → list_any (λ d. eqb d m) ns ≡ true) → (b : Bool) → eqb n m ≡ b → 1 ≤ cond (eqb m n) 1 0 + count_by (λ k. eqb m k) ns → (b || list_any (λ d. eqb d m) ns) ≡ true
+    by : (1 ≤ count_by (λ j. eqb m j) ns → list_any (λ d. eqb d m) ns ≡ true) → (b : Bool) → eqb n m ≡ b
+        → 1 ≤ cond (eqb m n) 1 0 + count_by (λ k. eqb m k) ns → (b || list_any (λ d. eqb d m) ns) ≡ true
     by rest true e k = refl
     by rest false e k = rest (other e (eqb m n) refl k)
 
@@ -110,37 +117,46 @@ least_of_ones f (x ∷ xs) all =
     let sum = sum_by-cons f x xs in
     omega (arith, one, rest, sum)
 
-all_ones_below : {X : Type 0} (f : X → ℕ) (xs : List X) → All (λ x. f x ≤ 1) xs → length xs ≤ sum_by f xs → All (λ x. 1 ≤ f x) xs
+all_ones_below : {X : Type 0} (f : X → ℕ) (xs : List X) → All (λ x. f x ≤ 1) xs → length xs ≤ sum_by f xs
+    → All (λ x. 1 ≤ f x) xs
 all_ones_below f [] all full = All-nil (λ x. 1 ≤ f x)
 all_ones_below f (x ∷ xs) all full =
     let one = All-head (λ y. f y ≤ 1) x xs all in
     let tail = All-tail (λ y. f y ≤ 1) x xs all in
     let most = most_of_ones f xs tail in
     let sum = sum_by-cons f x xs in
-    All-cons (λ y. 1 ≤ f y) x xs (omega (arith, most, sum, full)) (all_ones_below f xs tail (omega (arith, one, sum, full)))
+    All-cons (λ y. 1 ≤ f y) x xs (omega (arith, most, sum, full))
+    (all_ones_below f xs tail (omega (arith, one, sum, full)))
 
-all_ones_above : {X : Type 0} (f : X → ℕ) (xs : List X) → All (λ x. 1 ≤ f x) xs → sum_by f xs ≤ length xs → All (λ x. f x ≡ 1) xs
+all_ones_above : {X : Type 0} (f : X → ℕ) (xs : List X) → All (λ x. 1 ≤ f x) xs → sum_by f xs ≤ length xs
+    → All (λ x. f x ≡ 1) xs
 all_ones_above f [] all full = All-nil (λ x. f x ≡ 1)
 all_ones_above f (x ∷ xs) all full =
     let one = All-head (λ y. 1 ≤ f y) x xs all in
     let tail = All-tail (λ y. 1 ≤ f y) x xs all in
     let least = least_of_ones f xs tail in
     let sum = sum_by-cons f x xs in
-    All-cons (λ y. f y ≡ 1) x xs (omega (arith, one, least, sum, full)) (all_ones_above f xs tail (omega (arith, one, sum, full)))
+    All-cons (λ y. f y ≡ 1) x xs (omega (arith, one, least, sum, full))
+    (all_ones_above f xs tail (omega (arith, one, sum, full)))
 
 -- ---- of a segment
 
-module _ (D : ℕ) (files : Files) (c : Contents) (p : Part) (read : IsRead D files c p) (set : IsLiveSet p.live) (clean : is_clean p ≡ true) where
+module _ (D : ℕ) (files : Files) (c : Contents) (p : Part) (read : IsRead D files c p) (set : IsLiveSet p.live)
+    (clean : is_clean p ≡ true) where
   as_many : length p.live.live ≡ length (c p.head.id)
-  as_many = eqb-true (length p.live.live) p.head.entries clean ∙ sym (segment_counted D _ p.head (c p.head.id) read.held)
+  as_many = eqb-true (length p.live.live) p.head.entries clean
+      ∙ sym (segment_counted D _ p.head (c p.head.id) read.held)
 
   at_most : All (λ x. times p.live.live x ≤ 1) (c p.head.id)
   unfolding times
-  at_most = λ k d lt. once_at_most (get_or (c p.head.id) k d).doc p.live.live (AllPairs-from_increasing p.live.live set.ascending)
+  at_most = λ k d lt. once_at_most (get_or (c p.head.id) k d).doc p.live.live
+      (AllPairs-from_increasing p.live.live set.ascending)
 
   at_least : All (λ n. 1 ≤ of_number (c p.head.id) n) p.live.live
   unfolding is_live of_number
-  at_least = λ k d lt. some_entry (get_or p.live.live k d) (c p.head.id) (read.found (get_or p.live.live k d) (among_from p.live.live (get_or p.live.live k d) (Contains-get_or p.live.live k d lt)))
+  at_least = λ k d lt. some_entry (get_or p.live.live k d) (c p.head.id)
+      (read.found (get_or p.live.live k d) (among_from p.live.live (get_or p.live.live k d)
+      (Contains-get_or p.live.live k d lt)))
 
   pub all_live : All (λ e. is_live p.live e.doc ≡ true) (c p.head.id)
   unfolding is_live times
@@ -156,8 +172,10 @@ module _ (D : ℕ) (files : Files) (c : Contents) (p : Part) (read : IsRead D fi
       let most = most_of_ones (times p.live.live) (c p.head.id) at_most in
       let same = exchanged (c p.head.id) p.live.live in
       let each = all_ones_above (of_number (c p.head.id)) p.live.live at_least (omega (arith, most, same, as_many)) in
-      λ k d lt. All-contains (λ n. of_number (c p.head.id) n ≡ 1) p.live.live (get_or (c p.head.id) k d).doc each (among_to p.live.live (get_or (c p.head.id) k d).doc (all_live k d lt))
+      λ k d lt. All-contains (λ n. of_number (c p.head.id) n ≡ 1) p.live.live (get_or (c p.head.id) k d).doc each
+      (among_to p.live.live (get_or (c p.head.id) k d).doc (all_live k d lt))
 
 -- told by what is read of both
-pub clean_is : (live entries : ℕ) (head : Head) (set : LiveSet) → live ≡ length set.live → entries ≡ head.entries → is_clean (part_of head set) ≡ eqb live entries
+pub clean_is : (live entries : ℕ) (head : Head) (set : LiveSet) → live ≡ length set.live → entries ≡ head.entries
+    → is_clean (part_of head set) ≡ eqb live entries
 clean_is live entries head set a b = ap (λ (n : ℕ). eqb n head.entries) (sym a) ∙ ap (eqb live) (sym b)

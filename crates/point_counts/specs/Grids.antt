@@ -1,5 +1,6 @@
 -- What a count and a grid are, over a plain list of entries.
-use Rattle.std.specs.Prelude.{ℕ, ◌+◌, ◌*◌, ◌/◌, ◌<◌, ◌≤◌, ◌≡◌, ◌≢◌, ◌==◌, Bool, true, ◌&&◌, if◌then◌else◌, List, All, AllPairs, Contains, Result, Ok, Err, ℤ, pos, ◌-ℤ◌, unsigned_abs, slice_index_or}
+use Rattle.std.specs.Prelude.{ℕ, ◌+◌, ◌*◌, ◌/◌, ◌<◌, ◌≤◌, ◌≡◌, ◌≢◌, ◌==◌, Bool, true, ◌&&◌, if◌then◌else◌, List, All}
+use Rattle.std.specs.Prelude.{AllPairs, Contains, Result, Ok, Err, ℤ, pos, ◌-ℤ◌, unsigned_abs, slice_index_or}
 use Rattle.std.specs.List.{count_by}
 use Rattle.point_codec.specs.Points.{Item, Region, all_le, in_box}
 use Rattle.point_counts.specs.declared.plan.Bucket.{Bucket}
@@ -21,7 +22,14 @@ pub record Plan : Type 0 where
   pub step_y : ℕ
 
 abbrev pub plan_of : (lo hi : List ℤ) (x step_x y step_y : ℕ) → Plan
-plan_of lo hi x step_x y step_y = record { bounds = record { lo = lo; hi = hi }; x = x; step_x = step_x; y = y; step_y = step_y }
+plan_of lo hi x step_x y step_y = record {
+  bounds = record { lo = lo; hi = hi };
+  x = x;
+  step_x = step_x;
+  y = y;
+  step_y =
+      step_y;
+}
 
 -- how many whole steps a coordinate is above the other, which is no greater
 abbrev pub steps_between : (step : ℕ) (low high : ℤ) → ℕ
@@ -48,7 +56,8 @@ number_of plan column row entries = count_by (λ e. is_in_bucket plan column row
 
 -- how many buckets the box has, filled or not; none where it has no point
 abbrev pub bucket_count : Plan → ℕ
-bucket_count plan = if all_le plan.bounds.lo plan.bounds.hi then (column_of plan plan.bounds.hi + 1) * (row_of plan plan.bounds.hi + 1) else 0
+bucket_count plan = if all_le plan.bounds.lo plan.bounds.hi then
+    (column_of plan plan.bounds.hi + 1) * (row_of plan plan.bounds.hi + 1) else 0
 
 -- ---- which plans there are
 
@@ -81,7 +90,8 @@ pub record ComesBefore (a b : Bucket) : Type 0 where
 abbrev pub HasBucketOf : Plan → List Bucket → List ℤ → Type 0
 HasBucketOf plan buckets at = (b : Bucket) × Contains buckets b × (b.x ≡ column_of plan at) × (b.y ≡ row_of plan at)
 
--- Each bucket with at least one of the entries' points that the box has, with their number: ascending by x, then y. No other list is so.
+-- Each bucket with at least one of the entries' points that the box has, with their number: ascending by x, then y. No
+-- other list is so.
 pub record IsGrid (plan : Plan) (entries : List Item) (buckets : List Bucket) : Type 0 where
   pub rises : AllPairs ComesBefore buckets
   pub filled : All (λ b. 1 ≤ b.n) buckets

@@ -1,5 +1,6 @@
 -- Tables of counts: at which place the points of a box are counted, and what a table says.
-use Rattle.std.specs.Prelude.{ℕ, ◌+◌, ◌-◌, ◌*◌, ◌^◌, ◌<◌, ◌≡◌, ◌==◌, min, Bool, true, false, ◌&&◌, List, length, slice_index, ℤ}
+use Rattle.std.specs.Prelude.{ℕ, ◌+◌, ◌-◌, ◌*◌, ◌^◌, ◌<◌, ◌≡◌, ◌==◌, min, Bool, true, false, ◌&&◌, List, length}
+use Rattle.std.specs.Prelude.{slice_index, ℤ}
 use Rattle.std.specs.List.{count_by}
 use Rattle.point_codec.specs.Points.{Item, Region, in_box}
 use Rattle.live_bits.specs.LiveSet.{LiveSet, is_live}
@@ -9,10 +10,12 @@ use Rattle.point_counts.specs.Grids.{Plan, column_of, row_of}
 use Rattle.point_counts.specs.declared.sorting.Lie.{Lie}
 use Rattle.point_counts.specs.declared.sorting.Lie.TheVariants.{Outside, At, Parted}
 
--- what is answered of a cell: only a parted one can have points of two places, or some that the box has and some that it hasn't
+-- what is answered of a cell: only a parted one can have points of two places, or some that the box has and some that
+-- it hasn't
 abbrev pub LiesAs : (box : Region) (place : List ℤ → ℕ) (parts : Region → Bool) → Region → Lie → Type 0
 LiesAs box place parts cell Outside = IsUncrossed (in_box box) (crosses box) cell false
-LiesAs box place parts cell (At k) = IsUncrossed (in_box box) (crosses box) cell true × ((p : List ℤ) → in_box cell p ≡ true → place p ≡ k)
+LiesAs box place parts cell (At k) = IsUncrossed (in_box box) (crosses box) cell true
+    × ((p : List ℤ) → in_box cell p ≡ true → place p ≡ k)
 LiesAs box place parts cell Parted = (parts cell ≡ true) × (is_outside (in_box box) (crosses box) cell ≡ false)
 
 -- in a table of a grid's buckets, column by column: the place of a point

@@ -35,7 +35,8 @@ pub(crate) fn count_leaf<const D: usize, S: Sorting<D>, F: Pages>(
     table: &mut [u64],
 ) -> Result<(), PageFault>
     requires leaf { node.now.leaves ≡ 1 }
-    ensures counts { IsTrue F.told → Agrees (F.files folder.old) cache.old → (first : ℕ) (s : Spot) (path : Region) (t : IndexTree) (items : List Item) → IsAt node.now first s path t
+    ensures counts { IsTrue F.told → Agrees (F.files folder.old) cache.old
+        → (first : ℕ) (s : Spot) (path : Region) (t : IndexTree) (items : List Item) → IsAt node.now first s path t
         → HoldsTree D (bytes_of (F.files folder.old (Segment head.now.id))) head.now first s t items
         → OnOk result (Adds (live_at (S.bounds sorting.now) (S.place sorting.now) live.now items) table.old table.new) }
     ensures reads { F.reads folder.new ≤ F.reads folder.old + 1 }
@@ -43,10 +44,14 @@ pub(crate) fn count_leaf<const D: usize, S: Sorting<D>, F: Pages>(
     ensures others { (i : ℕ) → KeepsFile cache.new i → KeepsFile cache.old i ⊎ (i ≡ head.now.id) }
     ensures agrees { IsTrue F.told → Agrees (F.files folder.old) cache.old → Agrees (F.files folder.old) cache.new }
     ensures cause { HasPageCause (F.faults folder.old) (F.faults folder.new) result }
-    ensures shown { (first : ℕ) (s : Spot) (path : Region) (t : IndexTree) → IsAt node.now first s path t → OnDamage result (IsLeafDamage D head.now first s t) }
-    ensures damage { IsTrue F.told → Agrees (F.files folder.old) cache.old → OnDamage result (IsLeafDamageOf (F.files folder.old)) }
-    ensures whole { IsTrue F.told → Agrees (F.files folder.old) cache.old → (first : ℕ) (s : Spot) (path : Region) (t : IndexTree) (items : List Item) → IsAt node.now first s path t
-        → HoldsTree D (bytes_of (F.files folder.old (Segment head.now.id))) head.now first s t items → NotDamaged result }
+    ensures shown { (first : ℕ) (s : Spot) (path : Region) (t : IndexTree) → IsAt node.now first s path t
+        → OnDamage result (IsLeafDamage D head.now first s t) }
+    ensures damage { IsTrue F.told → Agrees (F.files folder.old) cache.old
+        → OnDamage result (IsLeafDamageOf (F.files folder.old)) }
+    ensures whole { IsTrue F.told → Agrees (F.files folder.old) cache.old
+        → (first : ℕ) (s : Spot) (path : Region) (t : IndexTree) (items : List Item) → IsAt node.now first s path t
+        → HoldsTree D (bytes_of (F.files folder.old (Segment head.now.id))) head.now first s t items
+        → NotDamaged result }
 {
     let place = load_leaf(alloc, folder, cache, head, node)?;
     let Some(leaf) = leaf_in(cache, head, node, place) else {

@@ -13,7 +13,8 @@ use std::marker::Model;
 /// The greatest number of buckets of a grid, filled or not.
 const MOST_BUCKETS: u128 = 65_536;
 
-/// A bucket of a grid: how many steps it is above the box's lower corner in both dimensions, and how many points it has.
+/// A bucket of a grid: how many steps it is above the box's lower corner in both dimensions, and how many points it
+/// has.
 #[derive(Clone, Copy, PartialEq, Eq, Debug)]
 pub struct Bucket {
     pub x: u32,
@@ -59,7 +60,8 @@ impl<const D: usize> GridPlan<D> {
     ghost use Rattle.std.specs.Prelude.{◌≡◌, ◌+◌};
     ghost use Rattle.point_counts.specs.Grids.{IsPlan, Judges, plan_of, column_of, row_of, bucket_count};
 
-    /// The plan of these. The faults come in the order in which `GridFault` has them; a box without points has no bucket.
+    /// The plan of these. The faults come in the order in which `GridFault` has them; a box without points has no
+    /// bucket.
     /// Takes no memory.
     pub fn new(
         lo: Point<D>,

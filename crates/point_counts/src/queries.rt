@@ -29,7 +29,8 @@ const MOST_BUFFERED: usize = 0xffff_ffff;
 
 /// How many live entries of the segments and of the buffer have their point in the box from `lo` to `hi`, both counted.
 ///
-/// Of a clean segment only leaves are read whose own cell the box's edge crosses, of another those whose own cell is not outside;
+/// Of a clean segment only leaves are read whose own cell the box's edge crosses, of another those whose own cell is
+/// not outside;
 /// a kept page is found without a read. The answer may be a damage of a leaf that had to be read, Failed and Memory.
 pub fn count<const D: usize, F: Pages>(
     alloc: Global,
@@ -40,16 +41,20 @@ pub fn count<const D: usize, F: Pages>(
     lo: &Point<D>,
     hi: &Point<D>,
 ) -> Result<u64, PageFault>
-    ensures exact { let bounds : Region = record { lo = lo.now.c; hi = hi.now.c } in IsTrue F.told → Agrees (F.files folder.old) cache.old
-        → (c : Contents) → AreRead D (F.files folder.old) c segments.now → IfOk result (λ n. n ≡ number_in bounds (live_in_parts c segments.now ++ items_of buffer.now)) }
+    ensures exact { let bounds : Region = record { lo = lo.now.c; hi = hi.now.c } in IsTrue F.told
+        → Agrees (F.files folder.old) cache.old
+        → (c : Contents) → AreRead D (F.files folder.old) c segments.now
+        → IfOk result (λ n. n ≡ number_in bounds (live_in_parts c segments.now ++ items_of buffer.now)) }
     ensures reads { let bounds : Region = record { lo = lo.now.c; hi = hi.now.c } in
         (n : ℕ) → AreOpened D bounds (crosses bounds) segments.now n → F.reads folder.new ≤ F.reads folder.old + n }
     ensures calm { IsCalm F.told (F.files folder.old) (F.files folder.new) cache.old cache.new (ids_of segments.now) }
     // What an error says.
     ensures cause { HasPageCause (F.faults folder.old) (F.faults folder.new) result }
     ensures shown { OnDamage result (IsPartDamage D segments.now) }
-    ensures damage { IsTrue F.told → Agrees (F.files folder.old) cache.old → OnDamage result (IsLeafDamageOf (F.files folder.old)) }
-    ensures whole { IsTrue F.told → Agrees (F.files folder.old) cache.old → (c : Contents) → AreRead D (F.files folder.old) c segments.now → NotDamaged result }
+    ensures damage { IsTrue F.told → Agrees (F.files folder.old) cache.old
+        → OnDamage result (IsLeafDamageOf (F.files folder.old)) }
+    ensures whole { IsTrue F.told → Agrees (F.files folder.old) cache.old → (c : Contents)
+        → AreRead D (F.files folder.old) c segments.now → NotDamaged result }
 {
     let mut table = [0];
     let sorting = WholeBox { lo: *lo, hi: *hi };
@@ -57,10 +62,12 @@ pub fn count<const D: usize, F: Pages>(
     Ok(table[0])
 }
 
-/// The buckets of the plan in which some live entry of the segments or of the buffer has its point, each with the number of these
+/// The buckets of the plan in which some live entry of the segments or of the buffer has its point, each with the
+/// number of these
 /// entries, ascending by x and then y.
 ///
-/// Of a clean segment only leaves are read whose own cell the box's edge or that of a bucket cuts, of another those whose own cell
+/// Of a clean segment only leaves are read whose own cell the box's edge or that of a bucket cuts, of another those
+/// whose own cell
 /// is not outside of the box. The answer may be a damage of a leaf that had to be read, Failed and Memory.
 pub fn grid<const D: usize, F: Pages>(
     alloc: Global,
@@ -70,15 +77,19 @@ pub fn grid<const D: usize, F: Pages>(
     folder: &mut F,
     plan: &GridPlan<D>,
 ) -> Result<Vec<Bucket>, PageFault>
-    ensures exact { IsTrue F.told → Agrees (F.files folder.old) cache.old → (c : Contents) → AreRead D (F.files folder.old) c segments.now
+    ensures exact { IsTrue F.told → Agrees (F.files folder.old) cache.old → (c : Contents)
+        → AreRead D (F.files folder.old) c segments.now
         → IfOk result (λ v. IsGrid plan.now (live_in_parts c segments.now ++ items_of buffer.now) v.items) }
-    ensures reads { (n : ℕ) → AreOpened D plan.now.bounds (is_parted plan.now) segments.now n → F.reads folder.new ≤ F.reads folder.old + n }
+    ensures reads { (n : ℕ) → AreOpened D plan.now.bounds (is_parted plan.now) segments.now n
+        → F.reads folder.new ≤ F.reads folder.old + n }
     ensures calm { IsCalm F.told (F.files folder.old) (F.files folder.new) cache.old cache.new (ids_of segments.now) }
     // What an error says.
     ensures cause { HasPageCause (F.faults folder.old) (F.faults folder.new) result }
     ensures shown { OnDamage result (IsPartDamage D segments.now) }
-    ensures damage { IsTrue F.told → Agrees (F.files folder.old) cache.old → OnDamage result (IsLeafDamageOf (F.files folder.old)) }
-    ensures whole { IsTrue F.told → Agrees (F.files folder.old) cache.old → (c : Contents) → AreRead D (F.files folder.old) c segments.now → NotDamaged result }
+    ensures damage { IsTrue F.told → Agrees (F.files folder.old) cache.old
+        → OnDamage result (IsLeafDamageOf (F.files folder.old)) }
+    ensures whole { IsTrue F.told → Agrees (F.files folder.old) cache.old → (c : Contents)
+        → AreRead D (F.files folder.old) c segments.now → NotDamaged result }
 {
     let mut table = vec![in alloc; 0u64; plan.bucket_count()]?;
     count_all(
@@ -93,7 +104,8 @@ pub fn grid<const D: usize, F: Pages>(
     Ok(filled(alloc, plan, table.as_slice())?)
 }
 
-/// Counts the live entries of the segments and the entries of the buffer, each at its place. A buffer of more entries than numbers of
+/// Counts the live entries of the segments and the entries of the buffer, each at its place. A buffer of more entries
+/// than numbers of
 /// 32 bits tell is answered by want of memory.
 fn count_all<const D: usize, S: Sorting<D>, F: Pages>(
     alloc: Global,
@@ -104,16 +116,21 @@ fn count_all<const D: usize, S: Sorting<D>, F: Pages>(
     sorting: &S,
     table: &mut [u64],
 ) -> Result<(), PageFault>
-    ensures counts { IsTrue F.told → Agrees (F.files folder.old) cache.old → (c : Contents) → AreRead D (F.files folder.old) c segments.now
-        → OnOk result (Adds (all_at (S.bounds sorting.now) (S.place sorting.now) (live_in_parts c segments.now ++ items_of buffer.now)) table.old table.new) }
+    ensures counts { IsTrue F.told → Agrees (F.files folder.old) cache.old → (c : Contents)
+        → AreRead D (F.files folder.old) c segments.now
+        → OnOk result (Adds (all_at (S.bounds sorting.now) (S.place sorting.now)
+        (live_in_parts c segments.now ++ items_of buffer.now)) table.old table.new) }
     ensures few { IsTrue F.told → (c : Contents) → AreRead D (F.files folder.old) c segments.now
         → OnOk result (length (live_in_parts c segments.now ++ items_of buffer.now) < 2 ^ 64) }
-    ensures reads { (n : ℕ) → AreOpened D (S.bounds sorting.now) (S.parts sorting.now) segments.now n → F.reads folder.new ≤ F.reads folder.old + n }
+    ensures reads { (n : ℕ) → AreOpened D (S.bounds sorting.now) (S.parts sorting.now) segments.now n
+        → F.reads folder.new ≤ F.reads folder.old + n }
     ensures calm { IsCalm F.told (F.files folder.old) (F.files folder.new) cache.old cache.new (ids_of segments.now) }
     ensures cause { HasPageCause (F.faults folder.old) (F.faults folder.new) result }
     ensures shown { OnDamage result (IsPartDamage D segments.now) }
-    ensures damage { IsTrue F.told → Agrees (F.files folder.old) cache.old → OnDamage result (IsLeafDamageOf (F.files folder.old)) }
-    ensures whole { IsTrue F.told → Agrees (F.files folder.old) cache.old → (c : Contents) → AreRead D (F.files folder.old) c segments.now → NotDamaged result }
+    ensures damage { IsTrue F.told → Agrees (F.files folder.old) cache.old
+        → OnDamage result (IsLeafDamageOf (F.files folder.old)) }
+    ensures whole { IsTrue F.told → Agrees (F.files folder.old) cache.old → (c : Contents)
+        → AreRead D (F.files folder.old) c segments.now → NotDamaged result }
 {
     if buffer.len() > MOST_BUFFERED {
         return Err(PageFault::Memory);
@@ -130,7 +147,8 @@ fn filled<const D: usize>(
     table: &[u64],
 ) -> Result<Vec<Bucket>, AllocError>
     requires whole { length table.now ≡ bucket_count plan.now }
-    ensures { (entries : List Item) → length entries < 2 ^ 64 → HasCounts (all_at plan.now.bounds (place_in plan.now) entries) table.now
+    ensures { (entries : List Item) → length entries < 2 ^ 64
+        → HasCounts (all_at plan.now.bounds (place_in plan.now) entries) table.now
         → IfOk result (λ v. IsGrid plan.now entries v.items) }
 {
     let rows = plan.rows();

@@ -32,15 +32,20 @@ pub(crate) fn count_segments<const D: usize, S: Sorting<D>, F: Pages>(
     sorting: &S,
     table: &mut [u64],
 ) -> Result<(), PageFault>
-    ensures counts { IsTrue F.told → Agrees (F.files folder.old) cache.old → (c : Contents) → AreRead D (F.files folder.old) c segments.now
-        → OnOk result (Adds (all_at (S.bounds sorting.now) (S.place sorting.now) (live_in_parts c segments.now)) table.old table.new) }
+    ensures counts { IsTrue F.told → Agrees (F.files folder.old) cache.old → (c : Contents)
+        → AreRead D (F.files folder.old) c segments.now
+        → OnOk result (Adds (all_at (S.bounds sorting.now) (S.place sorting.now) (live_in_parts c segments.now))
+        table.old table.new) }
     ensures few { length segments.now ≤ 16777216 }
-    ensures reads { (n : ℕ) → AreOpened D (S.bounds sorting.now) (S.parts sorting.now) segments.now n → F.reads folder.new ≤ F.reads folder.old + n }
+    ensures reads { (n : ℕ) → AreOpened D (S.bounds sorting.now) (S.parts sorting.now) segments.now n
+        → F.reads folder.new ≤ F.reads folder.old + n }
     ensures calm { IsCalm F.told (F.files folder.old) (F.files folder.new) cache.old cache.new (ids_of segments.now) }
     ensures cause { HasPageCause (F.faults folder.old) (F.faults folder.new) result }
     ensures shown { OnDamage result (IsPartDamage D segments.now) }
-    ensures damage { IsTrue F.told → Agrees (F.files folder.old) cache.old → OnDamage result (IsLeafDamageOf (F.files folder.old)) }
-    ensures whole { IsTrue F.told → Agrees (F.files folder.old) cache.old → (c : Contents) → AreRead D (F.files folder.old) c segments.now → NotDamaged result }
+    ensures damage { IsTrue F.told → Agrees (F.files folder.old) cache.old
+        → OnDamage result (IsLeafDamageOf (F.files folder.old)) }
+    ensures whole { IsTrue F.told → Agrees (F.files folder.old) cache.old → (c : Contents)
+        → AreRead D (F.files folder.old) c segments.now → NotDamaged result }
 {
     for i in 0..segments.len() {
         let (head, live) = segments.part(i);
@@ -59,14 +64,19 @@ fn count_one<const D: usize, S: Sorting<D>, F: Pages>(
     sorting: &S,
     table: &mut [u64],
 ) -> Result<(), PageFault>
-    ensures counts { IsTrue F.told → Agrees (F.files folder.old) cache.old → (c : Contents) → IsRead D (F.files folder.old) c (part_of head.now live.now)
-        → OnOk result (Adds (all_at (S.bounds sorting.now) (S.place sorting.now) (live_in_parts c (part_of head.now live.now ∷ []))) table.old table.new) }
-    ensures reads { (n : ℕ) → AreOpened D (S.bounds sorting.now) (S.parts sorting.now) (part_of head.now live.now ∷ []) n → F.reads folder.new ≤ F.reads folder.old + n }
+    ensures counts { IsTrue F.told → Agrees (F.files folder.old) cache.old → (c : Contents)
+        → IsRead D (F.files folder.old) c (part_of head.now live.now)
+        → OnOk result (Adds (all_at (S.bounds sorting.now) (S.place sorting.now)
+        (live_in_parts c (part_of head.now live.now ∷ []))) table.old table.new) }
+    ensures reads { (n : ℕ) → AreOpened D (S.bounds sorting.now) (S.parts sorting.now) (part_of head.now live.now ∷ [])
+        n → F.reads folder.new ≤ F.reads folder.old + n }
     ensures calm { IsCalm F.told (F.files folder.old) (F.files folder.new) cache.old cache.new (head.now.id ∷ []) }
     ensures cause { HasPageCause (F.faults folder.old) (F.faults folder.new) result }
     ensures shown { OnDamage result (IsReadDamage D head.now) }
-    ensures damage { IsTrue F.told → Agrees (F.files folder.old) cache.old → OnDamage result (IsLeafDamageOf (F.files folder.old)) }
-    ensures whole { IsTrue F.told → Agrees (F.files folder.old) cache.old → (c : Contents) → IsRead D (F.files folder.old) c (part_of head.now live.now) → NotDamaged result }
+    ensures damage { IsTrue F.told → Agrees (F.files folder.old) cache.old
+        → OnDamage result (IsLeafDamageOf (F.files folder.old)) }
+    ensures whole { IsTrue F.told → Agrees (F.files folder.old) cache.old → (c : Contents)
+        → IsRead D (F.files folder.old) c (part_of head.now live.now) → NotDamaged result }
 {
     let count = live.live_count();
     if count == 0 {

@@ -29,7 +29,8 @@ use page_cache::{PageCache, PageFault};
 use segment_file::SegmentHead;
 use std::alloc::Global;
 
-/// Counts the live entries at or below a node, each at its place. In a clean segment, each entry of which is live, only parted
+/// Counts the live entries at or below a node, each at its place. In a clean segment, each entry of which is live, only
+/// parted
 /// leaves are read.
 pub(crate) fn count_below<const D: usize, S: Sorting<D>, F: Pages>(
     alloc: Global,
@@ -42,7 +43,8 @@ pub(crate) fn count_below<const D: usize, S: Sorting<D>, F: Pages>(
     clean: bool,
     table: &mut [u64],
 ) -> Result<(), PageFault>
-    ensures counts { IsTrue F.told → Agrees (F.files folder.old) cache.old → (first : ℕ) (s : Spot) (path : Region) (t : IndexTree) (items : List Item) → IsRoot node.now first s path t
+    ensures counts { IsTrue F.told → Agrees (F.files folder.old) cache.old
+        → (first : ℕ) (s : Spot) (path : Region) (t : IndexTree) (items : List Item) → IsRoot node.now first s path t
         → HoldsTree D (bytes_of (F.files folder.old (Segment head.now.id))) head.now first s t items
         → (clean ≡ true → All (λ e. is_live live.now e.doc ≡ true) items)
         → OnOk result (Adds (live_at (S.bounds sorting.now) (S.place sorting.now) live.now items) table.old table.new) }
@@ -52,10 +54,14 @@ pub(crate) fn count_below<const D: usize, S: Sorting<D>, F: Pages>(
     ensures others { (i : ℕ) → KeepsFile cache.new i → KeepsFile cache.old i ⊎ (i ≡ head.now.id) }
     ensures agrees { IsTrue F.told → Agrees (F.files folder.old) cache.old → Agrees (F.files folder.old) cache.new }
     ensures cause { HasPageCause (F.faults folder.old) (F.faults folder.new) result }
-    ensures shown { (first : ℕ) (s : Spot) (path : Region) (t : IndexTree) → IsAt node.now first s path t → OnDamage result (IsLeafDamage D head.now first s t) }
-    ensures damage { IsTrue F.told → Agrees (F.files folder.old) cache.old → OnDamage result (IsLeafDamageOf (F.files folder.old)) }
-    ensures whole { IsTrue F.told → Agrees (F.files folder.old) cache.old → (first : ℕ) (s : Spot) (path : Region) (t : IndexTree) (items : List Item) → IsAt node.now first s path t
-        → HoldsTree D (bytes_of (F.files folder.old (Segment head.now.id))) head.now first s t items → NotDamaged result }
+    ensures shown { (first : ℕ) (s : Spot) (path : Region) (t : IndexTree) → IsAt node.now first s path t
+        → OnDamage result (IsLeafDamage D head.now first s t) }
+    ensures damage { IsTrue F.told → Agrees (F.files folder.old) cache.old
+        → OnDamage result (IsLeafDamageOf (F.files folder.old)) }
+    ensures whole { IsTrue F.told → Agrees (F.files folder.old) cache.old
+        → (first : ℕ) (s : Spot) (path : Region) (t : IndexTree) (items : List Item) → IsAt node.now first s path t
+        → HoldsTree D (bytes_of (F.files folder.old (Segment head.now.id))) head.now first s t items
+        → NotDamaged result }
 {
     if is_settled(head, node, sorting, clean, table) {
         return Ok(());
@@ -73,7 +79,8 @@ pub(crate) fn count_below<const D: usize, S: Sorting<D>, F: Pages>(
     }
 }
 
-/// Whether the entries at or below a node are counted without a look at them: none, or in a clean segment all at one place. They
+/// Whether the entries at or below a node are counted without a look at them: none, or in a clean segment all at one
+/// place. They
 /// are counted then.
 fn is_settled<const D: usize, S: Sorting<D>>(
     head: &SegmentHead<D>,
@@ -82,12 +89,16 @@ fn is_settled<const D: usize, S: Sorting<D>>(
     clean: bool,
     table: &mut [u64],
 ) -> bool
-    ensures counts { (first : ℕ) (s : Spot) (path : Region) (t : IndexTree) (bytes : List ℕ) (items : List Item) → IsRoot node.now first s path t
-        → HoldsTree D bytes head.now first s t items → (live : LiveSet) → (clean ≡ true → All (λ e. is_live live e.doc ≡ true) items)
+    ensures counts { (first : ℕ) (s : Spot) (path : Region) (t : IndexTree) (bytes : List ℕ) (items : List Item)
+        → IsRoot node.now first s path t
+        → HoldsTree D bytes head.now first s t items → (live : LiveSet)
+        → (clean ≡ true → All (λ e. is_live live e.doc ≡ true) items)
         → OnTrue result (Adds (live_at (S.bounds sorting.now) (S.place sorting.now) live items) table.old table.new) }
     ensures stays { OnFalse result (table.new ≡ table.old) }
-    ensures parted { OnFalse result (clean ≡ true → (first : ℕ) (s : Spot) (path : Region) (t : IndexTree) → IsAt node.now first s path t → S.parts sorting.now (cell_of path t) ≡ true) }
-    ensures touched { OnFalse result ((first : ℕ) (s : Spot) (path : Region) (t : IndexTree) → IsAt node.now first s path t
+    ensures parted { OnFalse result (clean ≡ true → (first : ℕ) (s : Spot) (path : Region) (t : IndexTree)
+        → IsAt node.now first s path t → S.parts sorting.now (cell_of path t) ≡ true) }
+    ensures touched { OnFalse result ((first : ℕ) (s : Spot) (path : Region) (t : IndexTree)
+        → IsAt node.now first s path t
         → is_outside (in_box (S.bounds sorting.now)) (crosses (S.bounds sorting.now)) (cell_of path t) ≡ false) }
 {
     match sorting.lie_of(&node.cell()) {

@@ -12,7 +12,8 @@ returns-clause-counts g c = λ told agrees es read.
     let place = g.S.Sorting.place c.args.sorting.now in
     let live = live_in_parts es c.args.segments.now in
     let items = items_of c.args.buffer.now in
-    adds_then (all_at box place live) (all_at box place items) (all_at box place (live ++ items)) c.args.table.now c.count_segments.new.table c.count_buffer.new.table (all_join box place live items)
+    adds_then (all_at box place live) (all_at box place items) (all_at box place (live ++ items)) c.args.table.now
+    c.count_segments.new.table c.count_buffer.new.table (all_join box place live items)
     (c.in_ok-count_segments.ensures.counts told agrees es read) c.count_buffer.ensures
 
 pub returns-clause-few : goal.returns-clause-few

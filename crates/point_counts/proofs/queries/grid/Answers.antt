@@ -16,6 +16,7 @@ returns-clause-exact g c = λ told agrees es read.
     let zeros = c.as_mut_slice.ensures.value ∙ c.in_ok-table.ensures.items_if_clones_equal (λ y e. e) in
     let long : length new ≡ c.in_ok-table.table.len = c.count_all.auto.table ∙ c.as_mut_slice.ensures.len in
     let seen = c.as_slice.ensures.value ∙ with_items_is c.in_ok-table.table new long in
-    let counts = counted (all_at plan.bounds (place_in plan) entries) table new (noughts table _ zeros) (c.in_ok-count_all.ensures.counts told agrees es read) in
+    let counts = counted (all_at plan.bounds (place_in plan) entries) table new (noughts table _ zeros)
+    (c.in_ok-count_all.ensures.counts told agrees es read) in
     c.in_ok-filled.ensures entries (c.in_ok-count_all.ensures.few told es read)
     (subst (HasCounts (all_at plan.bounds (place_in plan) entries)) (sym seen) counts)

@@ -4,4 +4,5 @@ use Rattle.point_counts.specs.Tables.{Adds, all_at}
 use Rattle.point_counts.proofs.tallies.count_buffer.Given as goal
 
 abbrev pub invariant-loop-entry : goal.invariant-loop-entry
-invariant-loop-entry g l = Adds (all_at (g.S.Sorting.bounds l.sorting) (g.S.Sorting.place l.sorting) (take l.entry-index (items_of l.buffer))) l.initial.table l.table
+invariant-loop-entry g l = Adds (all_at (g.S.Sorting.bounds l.sorting) (g.S.Sorting.place l.sorting)
+    (take l.entry-index (items_of l.buffer))) l.initial.table l.table
