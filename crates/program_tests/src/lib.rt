@@ -5,7 +5,13 @@
 #![tactic(auto)]
 
 #[cfg(test)]
+mod answers;
+#[cfg(test)]
 mod asked_calls;
+#[cfg(test)]
+mod checked_entries;
+#[cfg(test)]
+mod checked_folders;
 #[cfg(test)]
 mod checking;
 #[cfg(test)]
