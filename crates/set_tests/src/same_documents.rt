@@ -204,7 +204,7 @@ fn commit_and_sweep<R: Threads + Sync + Abort>(
     let commit = set.save(rt, alloc, folder, &OpenGate)?;
     write_commit(alloc, folder, &commit)?;
     assert_eq!(rt; set.differs(&commit), false);
-    set.sweep(folder)?;
+    set.sweep(folder, &commit)?;
     look(rt, alloc, set, folder, true)
 }
 

@@ -122,7 +122,7 @@ fn save<R: Threads + Sync>(
     folder: &mut MemFolder,
 ) -> Result<Commit, Fail> {
     let commit = set.save(rt, alloc, folder, &OpenGate)?;
-    set.sweep(folder)?;
+    set.sweep(folder, &commit)?;
     Ok(commit)
 }
 
@@ -138,9 +138,9 @@ fn merge_under_snapshot<R: Threads + Sync + Abort>(
     assert_eq!(rt; there(folder), [true, true, true, true, false, false]);
     set.snapshot(alloc, name)?;
     set.merge_all(rt, alloc, folder, &OpenGate)?;
-    set.save(rt, alloc, folder, &OpenGate)?;
+    let commit = set.save(rt, alloc, folder, &OpenGate)?;
     folder.plan([0].to_vec(alloc)?, None);
-    assert_eq!(rt; set.sweep(folder), Err(Failed));
+    assert_eq!(rt; set.sweep(folder, &commit), Err(Failed));
     Ok(())
 }
 
