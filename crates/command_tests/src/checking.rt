@@ -118,23 +118,3 @@ fn check_said<R: Threads + Sync + Abort>(
     assert!(rt; code(&status) == 6 && text.is_empty());
     Ok(())
 }
-
-/// Where a call on the folder fails nothing is told.
-#[test]
-fn each_call_fails(rt: HostRuntime) -> Result<(), Fail> {
-    for call in 0..64 {
-        let mut folder = MemFolder::new(rt.alloc(), Vec::new(rt.alloc()));
-        called(&rt, rt.alloc(), RUN, LEAVES, &mut folder)?;
-        folder.plan([call].to_vec(rt.alloc())?, None);
-        let (status, text) = called(&rt, rt.alloc(), CHECK, "", &mut folder)?;
-        if code(&status) == 0 {
-            assert_eq!(&rt;
-                text.as_str(),
-                "ok dims 1 leaf 2 next 5 live 5 segments 1\n"
-            );
-            return Ok(());
-        }
-        assert!(&rt; code(&status) == 4 && text.is_empty(), "call {call}");
-    }
-    Err("more calls than expected".into())
-}

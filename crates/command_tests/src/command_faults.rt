@@ -1,6 +1,6 @@
-//! Loading, explaining and generating where a call on the folder or a stream fails.
+//! Loading, explaining, generating and checking where a call on the folder or a stream fails: one table.
 
-use crate::fixtures::called;
+use crate::fixtures::{called, faulty};
 use bkd_build::OpenGate;
 use bkd_top::{Status, code, run};
 use outer_io::{MemFolder, MemSink, MemSource};
@@ -70,6 +70,17 @@ const EXPLAINED: Row = Row {
     after: "hits 1\n1\n",
 };
 
+const CHECKED: Row = Row {
+    script: "create 1\nadd 1\nadd 2\nflush\ndelete 0\n",
+    words: &[".", "check"],
+    input: "",
+    text: "ok dims 1 leaf 500 next 2 live 1 segments 1\n",
+    before: "hits 1\n1\n",
+    after: "hits 1\n1\n",
+};
+
+const ROWS: [&Row; 5] = [&FIRST_LOAD, &SECOND_LOAD, &GENERATED, &EXPLAINED, &CHECKED];
+
 /// Each call on the folder fails in turn, or the program stops before it. Nothing of a command that is done at once goes out then, and of
 /// queries what is told of the first ones.
 fn fails_in_turn<R: Threads + Sync + Abort>(rt: &R, alloc: Global, row: &Row) -> Result<(), Fail> {
@@ -114,6 +125,11 @@ fn generating_fails(rt: HostRuntime) -> Result<(), Fail> {
 #[test]
 fn explaining_fails(rt: HostRuntime) -> Result<(), Fail> {
     fails_in_turn(&rt, rt.alloc(), &EXPLAINED)
+}
+
+#[test]
+fn checking_fails(rt: HostRuntime) -> Result<(), Fail> {
+    fails_in_turn(&rt, rt.alloc(), &CHECKED)
 }
 
 /// Whether a text is nothing, or what is told of the first query.
@@ -171,32 +187,58 @@ fn cut<R: Threads + Sync + Abort>(
     Ok(status)
 }
 
-/// Where the input fails the folder isn't asked.
-#[test]
-fn an_input_that_fails(rt: HostRuntime) -> Result<(), Fail> {
-    let alloc = rt.alloc();
-    for words in [[".", "load", "--columns=a"].as_slice(), &[".", "explain"]] {
-        let mut list = Vec::new(alloc);
-        for word in words {
-            list.push(String::from_str(alloc, word)?)?;
+/// Each call on the output fails in turn. What went out is told before it, and what the command leaves is stored.
+fn output_fails<R: Threads + Sync + Abort>(rt: &R, alloc: Global, row: &Row) -> Result<(), Fail> {
+    for call in 0..8 {
+        let mut folder = MemFolder::new(alloc, Vec::new(alloc));
+        called(rt, alloc, &[".", "run"], row.script, &mut folder)?;
+        let command = (row.words, row.input);
+        let (status, text) = faulty(rt, alloc, command, &mut folder, &[], &[call])?;
+        let (_, look) = called(rt, alloc, &[".", "run"], "box 0 9\n", &mut folder)?;
+        assert_eq!(rt; look.as_str(), row.after);
+        if code(&status) == 0 {
+            assert_eq!(rt; text.as_str(), row.text);
+            assert!(rt; call > 0);
+            return Ok(());
         }
-        let mut fails = Vec::new(alloc);
-        fails.push(0)?;
-        let mut source = MemSource::new(b"a\n1\n".to_vec(alloc)?, fails);
-        let mut stopped = MemFolder::new(alloc, Vec::new(alloc));
-        stopped.plan(Vec::new(alloc), Some(0));
-        let mut sink = MemSink::new(alloc, 64, Vec::new(alloc))?;
-        let status = run(
-            &rt,
-            alloc,
-            list.as_slice(),
-            &mut source,
-            &mut stopped,
-            &mut sink,
-            &OpenGate,
-        );
-        assert_eq!(rt; code(&status), 3);
-        assert_eq!(rt; sink.bytes().len(), 0);
+        assert_eq!(rt; code(&status), 5);
+        assert!(rt; is_begun(row, text.as_str()), "call {call}");
+    }
+    Err("too many calls".into())
+}
+
+#[test]
+fn each_call_on_the_output_fails(rt: HostRuntime) -> Result<(), Fail> {
+    for row in ROWS {
+        output_fails(&rt, rt.alloc(), row)?;
+    }
+    Ok(())
+}
+
+/// One of the first calls on the input fails. Nothing is told then, and the folder isn't asked; a command that takes no
+/// input does all.
+#[test]
+fn the_first_calls_on_the_input_fail(rt: HostRuntime) -> Result<(), Fail> {
+    let alloc = rt.alloc();
+    for row in ROWS {
+        for call in 0..2 {
+            let mut folder = MemFolder::new(alloc, Vec::new(alloc));
+            called(&rt, alloc, &[".", "run"], row.script, &mut folder)?;
+            let takes_input = !row.input.is_empty();
+            if takes_input {
+                folder.plan(Vec::new(alloc), Some(0));
+            }
+            let command = (row.words, row.input);
+            let (status, text) = faulty(&rt, alloc, command, &mut folder, &[call], &[])?;
+            assert_eq!(&rt; code(&status), if takes_input { 3 } else { 0 });
+            assert_eq!(&rt; text.as_str(), if takes_input { "" } else { row.text });
+            folder.plan(Vec::new(alloc), None);
+            let (_, look) = called(&rt, alloc, &[".", "run"], "box 0 9\n", &mut folder)?;
+            assert_eq!(&rt;
+                look.as_str(),
+                if takes_input { row.before } else { row.after }
+            );
+        }
     }
     Ok(())
 }

@@ -16,12 +16,25 @@ pub(crate) fn called<R: Threads + Sync>(
     input: &str,
     folder: &mut MemFolder,
 ) -> Result<(Status, String), Fail> {
+    faulty(rt, alloc, (words, input), folder, &[], &[])
+}
+
+/// The same where these calls of the input fail, and these of the output.
+pub(crate) fn faulty<R: Threads + Sync>(
+    rt: &R,
+    alloc: Global,
+    command: (&[&str], &str),
+    folder: &mut MemFolder,
+    source_fails: &[u64],
+    sink_fails: &[u64],
+) -> Result<(Status, String), Fail> {
+    let (words, input) = command;
     let mut list = Vec::new(alloc);
     for word in words {
         list.push(String::from_str(alloc, word)?)?;
     }
-    let mut source = MemSource::new(input.as_bytes().to_vec(alloc)?, Vec::new(alloc));
-    let mut sink = MemSink::new(alloc, 1 << 16, Vec::new(alloc))?;
+    let mut source = MemSource::new(input.as_bytes().to_vec(alloc)?, source_fails.to_vec(alloc)?);
+    let mut sink = MemSink::new(alloc, 1 << 16, sink_fails.to_vec(alloc)?)?;
     let status = run(
         rt,
         alloc,

@@ -6,6 +6,8 @@
 #[cfg(test)]
 mod checking;
 #[cfg(test)]
+mod closing;
+#[cfg(test)]
 mod command_faults;
 #[cfg(test)]
 mod commands;
