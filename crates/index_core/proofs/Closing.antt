@@ -85,6 +85,12 @@ tracked_then f g h a b c m first second = ⊎_elim inl
     rest)
     second
 
+-- by a save, a commit and a sweep
+pub tracked_commit : (told : Type 0) (f saved written swept : Files) (a b c d : NameList) (m : FileName) → told → KeepsNamed told a b f saved → c ≡ b
+    → SameButTwo CommitNew Commit saved written → written CommitNew ≡ None → IsTracked written swept c d m → IsTracked f swept a d m
+tracked_commit told f saved written swept a b c d m is_told keeps names others gone last = tracked_then f written swept a c d m
+    (tracked_then f saved written a b c m (tracked_named told f saved a b m is_told keeps) (tracked_written saved written b c m names others gone)) last
+
 -- where nothing changed but the kept pages
 pub names_still : (told : Type 0) (f g : Files) (s t : SessionData) → IsStill told f g s t → NamesOnlyListed s → NamesOnlyListed t
 names_still told f g s t still listed m there =

@@ -1,5 +1,5 @@
 -- Where the segments of a session come from, through calls on its set, a commit, a sweep and attaching; and what a crowd in one of them shows.
-use Rattle.std.proofs.Common.{◌≡◌, ℕ, true, false, ◌↔◌, List, length, Option, None, Some, is_some, Result, Ok, Err, IfOk, refl, sym, ap, subst, ◌∙◌, ◌⊎◌, inl, inr, ⊎_elim}
+use Rattle.std.proofs.Common.{◌≡◌, ℕ, true, false, ◌↔◌, List, length, Some, Result, Ok, Err, IfOk, refl, sym, ap, subst, ◌∙◌, ◌⊎◌, inl, inr, ⊎_elim}
 use Rattle.std.proofs.lemmas.Bool.{both_ways}
 use Rattle.std.proofs.lemmas.Grind.{merely}
 use Rattle.std.specs.List.{All, AllZip, Contains}

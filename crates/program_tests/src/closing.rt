@@ -126,7 +126,8 @@ fn runs_do_not_grow_a_folder(rt: HostRuntime) -> Result<(), Fail> {
 fn a_removal_that_fails(rt: HostRuntime) -> Result<(), Fail> {
     let alloc = rt.alloc();
     let mut removals = 0;
-    for call in 0..64 {
+    // (the first calls open the index)
+    for call in 8..64 {
         let mut folder = MemFolder::new(alloc, Vec::new(alloc));
         called(
             &rt,

@@ -74,7 +74,7 @@ const CHECKED: Row = Row {
     script: "create 1\nadd 1\nadd 2\nflush\ndelete 0\n",
     words: &[".", "check"],
     input: "",
-    text: "ok dims 1 leaf 333 next 2 live 1 segments 1\n",
+    text: "ok dims 1 leaf 500 next 2 live 1 segments 1\n",
     before: "hits 1\n1\n",
     after: "hits 1\n1\n",
 };

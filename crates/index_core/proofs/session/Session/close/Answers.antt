@@ -17,7 +17,7 @@ use Rattle.index_core.specs.Steps.{SaysCommit}
 use Rattle.index_core.proofs.Answering.{cause_then, fault_cause}
 use Rattle.index_core.proofs.Bringing.{brings_still, brings_then}
 use Rattle.index_core.proofs.Closing.{at_ease, flight_then, guards_eased, keeps_either, levels_then, names_eased, on_ok_then, only_listed, tracked_then, unchanged_closed}
-use Rattle.index_core.proofs.Committing.{on_ok_any, on_ok_none, says_still, stores_any}
+use Rattle.index_core.proofs.Committing.{keeps_fault, on_ok_any, on_ok_none, says_still, stores_any, stores_fault}
 use Rattle.index_core.proofs.Sizes.{session_fits}
 use Rattle.index_core.proofs.Undone.{undone_written}
 use Rattle.index_core.proofs.session.Session.close.Given as given
@@ -73,9 +73,13 @@ returns-clause-closed g c = on_ok_then c.sweep.result (λ needed. record {
       c.in_ok-commit.ensures.unchanged c.sweep.ensures.written.1;
   listed = only_listed c.commit.new.self c.rest.new.self c.sweep.new.self (eased g c) c.sweep.ensures.alone (commit_same g c) c.in_ok-commit.ensures.unchanged
       (λ m there. let (d, is, need) = needed m there in (d, ap (λ (u : SessionData). u.commit) (sym c.self.view_is) ∙ is, need));
-  tracked = λ told m. tracked_then _ (g.F.Pages.files c.commit.new.folder) _ _ c.commit.new.self.set.names _ m (c.in_ok-commit.ensures.tracked told m)
-      (subst (λ (u : SetData). IsTracked (g.F.Pages.files c.commit.new.folder) (g.F.Pages.files c.sweep.new.folder) u.names c.sweep.new.self.set.names m)
-      (eased g c) (c.sweep.ensures.tracked told m));
+  tracked = λ told m.
+      let f = g.F.Pages.files c.args.folder.now in
+      let done = g.F.Pages.files c.commit.new.folder in
+      let swept = g.F.Pages.files c.sweep.new.folder in
+      let names = c.sweep.new.self.set.names in
+      tracked_then f done swept c.args.self.now.set.names c.commit.new.self.set.names names m (c.in_ok-commit.ensures.tracked told m)
+      (subst (λ (u : SetData). IsTracked done swept u.names names m) (eased g c) (c.sweep.ensures.tracked told m));
 }) c.sweep.ensures.needed
 
 pub returns-clause-stored : goal.returns-clause-stored
@@ -108,7 +112,8 @@ returns-clause-reads g c which = c.sweep.ensures.unread ∙ ⊎_elim (λ u. (c.c
 
 pub returns-clause-few : goal.returns-clause-few
 returns-clause-few g c told guards none = on_ok_any c.sweep.result
-    (levels_then _ (g.F.Pages.files c.commit.new.folder) _ (kept g c told guards) (c.in_ok-commit.ensures.few told guards none))
+    (levels_then (g.F.Pages.files c.args.folder.now) (g.F.Pages.files c.commit.new.folder) (g.F.Pages.files c.sweep.new.folder)
+    (kept g c told guards) (c.in_ok-commit.ensures.few told guards none))
 
 pub returns-clause-canon : goal.returns-clause-canon
 returns-clause-canon g c told =
@@ -137,12 +142,16 @@ returns-in_err-commit-clause-few g c told guards none = on_ok_none _ _ _ (err_fr
 pub returns-in_err-commit-clause-stored : goal.returns-in_err-commit-clause-stored
 returns-in_err-commit-clause-stored g c told i seen guards =
     let p = err_from_is_err_and c.from_residual.result c.from_residual.ensures.1 in
-    rw (p.1, p.2) (c.in_err-commit.ensures.stored told i seen guards)
+    stores_fault (g.F.Pages.files c.args.folder.now) (g.F.Pages.files c.commit.new.folder) i c.commit.new.self.set
+    c.from_residual.result _ (p.1 ∙ ap (λ (e : PageFault). Err e) p.2)
+    (c.in_err-commit.ensures.stored told i seen guards)
 
 pub returns-in_err-commit-clause-kept : goal.returns-in_err-commit-clause-kept
 returns-in_err-commit-clause-kept g c told guards =
     let p = err_from_is_err_and c.from_residual.result c.from_residual.ensures.1 in
-    rw (p.1, p.2) (c.in_err-commit.ensures.kept told guards)
+    keeps_fault (g.F.Pages.files c.args.folder.now) (g.F.Pages.files c.commit.new.folder) c.commit.new.self
+    c.from_residual.result _ (p.1 ∙ ap (λ (e : PageFault). Err e) p.2)
+    (c.in_err-commit.ensures.kept told guards)
 
 pub returns-in_err-commit-clause-undone : goal.returns-in_err-commit-clause-undone
 returns-in_err-commit-clause-undone g c told guards =
@@ -158,7 +167,7 @@ returns-in_err-commit-clause-reads g c which = ⊎_elim (λ u. (c.commit.ensures
 pub returns-in_err-commit-clause-cause : goal.returns-in_err-commit-clause-cause
 returns-in_err-commit-clause-cause g c =
     let p = err_from_is_err_and c.from_residual.result c.from_residual.ensures.1 in
-    fault_cause _ _ c.in_err-commit.field-0 _ (p.1 ∙ ap (λ (e : PageFault). Err e) p.2) c.in_err-commit.ensures.cause
+    fault_cause _ _ c.in_err-commit.field-0.0 _ (p.1 ∙ ap (λ (e : PageFault). Err e) p.2) c.in_err-commit.ensures.cause
 
 pub returns-in_err-commit-clause-whole : goal.returns-in_err-commit-clause-whole
 returns-in_err-commit-clause-whole g c told i seen =

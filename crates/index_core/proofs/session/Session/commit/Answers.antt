@@ -9,7 +9,7 @@ use Rattle.segment_set.specs.Seen.{Sees}
 use Rattle.index_core.specs.Sessions.{Guards, IsCommitAnew, SessionData, Trusts}
 use Rattle.index_core.specs.Effects.{BringsCanonical}
 use Rattle.index_core.specs.Closed.{IsTracked}
-use Rattle.index_core.proofs.Closing.{tracked_named, tracked_same, tracked_then, tracked_written}
+use Rattle.index_core.proofs.Closing.{tracked_commit, tracked_same}
 use Rattle.index_core.proofs.Bringing.{brings_same, brings_still, brings_then, brings_two, brings_written}
 use Rattle.index_core.proofs.Guarding.{guards_after, kept_after_calls, set_after}
 use Rattle.index_core.proofs.Committing.{as_committed, keeps_any, keeps_fault, kept_on, on_ok_any, on_ok_none, says_still, stores_any, stores_fault, unchanged_is_stored, unchanged_says}
@@ -327,7 +327,8 @@ returns-clause-undone g c told guards = undone_written (g.F.Pages.files c.args.f
     (says_still (g.F.Pages.files c.write.new.folder) (g.F.Pages.files c.sweep.new.folder) c.write.new.self.commit c.sweep.new.self.commit (c.sweep.ensures.kept told (c.write.ensures.guards told (set_after _ _ _ _ _ _ told c.save.ensures.kept c.save.ensures.stays.leaf (subst (Guards g.row.D (g.F.Pages.files c.args.folder.now)) (sym c.self.view_is) guards).set) (c.in_ok-commit.ensures.live told))) c.sweep.ensures.written.0 (c.in_ok-write.ensures.kept told))
 
 pub returns-then-not-is_changed-clause-tracked : goal.returns-then-not-is_changed-clause-tracked
-returns-then-not-is_changed-clause-tracked g c told m = tracked_same _ _ _ _ m refl refl
+returns-then-not-is_changed-clause-tracked g c told m =
+    tracked_same (g.F.Pages.files c.args.folder.now) (g.F.Pages.files c.args.folder.now) c.args.self.now.set.names c.args.self.now.set.names m refl refl
 
 pub returns-in_err-commit-clause-tracked : goal.returns-in_err-commit-clause-tracked
 returns-in_err-commit-clause-tracked g c told = on_ok_none _ _ _ (err_from_is_err_and c.from_residual.result c.from_residual.ensures.1).1
@@ -338,10 +339,9 @@ returns-in_err-write-clause-tracked g c told = on_ok_none _ _ _
 
 pub returns-clause-tracked : goal.returns-clause-tracked
 returns-clause-tracked g c told = on_ok_any c.sweep.result (λ m.
-    subst (λ (u : SessionData). IsTracked (g.F.Pages.files c.args.folder.now) (g.F.Pages.files c.sweep.new.folder) u.set.names c.sweep.new.self.set.names m)
-    c.self.view_is
-    (tracked_then _ (g.F.Pages.files c.write.new.folder) _ _ c.write.new.self.set.names _ m
-    (tracked_then _ (g.F.Pages.files c.save.new.folder) _ _ c.save.new.self.names _ m
-    (tracked_named _ _ _ _ _ m told c.save.ensures.kept)
-    (tracked_written _ _ _ _ m (ap (λ (u : SetData). u.names) c.write.ensures.set) (c.write.ensures.others told) (c.in_ok-write.ensures.gone told)))
-    (c.sweep.ensures.tracked told m)))
+    let old = g.F.Pages.files c.args.folder.now in
+    let swept = g.F.Pages.files c.sweep.new.folder in
+    subst (λ (u : SessionData). IsTracked old swept u.set.names c.sweep.new.self.set.names m) c.self.view_is
+    (tracked_commit _ old (g.F.Pages.files c.save.new.folder) (g.F.Pages.files c.write.new.folder) swept c.self.inside.set.names c.save.new.self.names
+    c.write.new.self.set.names c.sweep.new.self.set.names m told c.save.ensures.kept (ap (λ (u : SetData). u.names) c.write.ensures.set)
+    (c.write.ensures.others told) (c.in_ok-write.ensures.gone told) (c.sweep.ensures.tracked told m)))

@@ -103,6 +103,9 @@ returns-in_err-put_ok-clause-applies g c =
 kept : (g : given.Over) (c : goal.After-renew g) → c.renew.new.self ≡ renamed c.commit.new.self.set c.in_ok-set.set
 kept g c = c.renew.ensures.kept ∙ ap (λ (u : SessionData). renamed u.set c.in_ok-set.set) c.self.view_is
 
+pub leaf-leaf-requires : goal.leaf-leaf-requires
+leaf-leaf-requires g c = set_fits g.row.D c.self.invariant.few
+
 pub renew-requires : goal.renew-requires
 renew-requires g c = (
   set_fits g.row.D c.self.invariant.few,

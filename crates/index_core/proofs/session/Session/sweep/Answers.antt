@@ -1,10 +1,13 @@
 -- What the commit needs stays.
-use Rattle.std.proofs.Common.{◌≡◌, false, IsTrue, Some, refl, sym, ap, subst, ◌∙◌, inl, inr}
+use Rattle.std.proofs.Common.{◌≡◌, false, true, IsTrue, OnOk, Some, refl, sym, ap, subst, ◌∙◌, inl, inr}
 use Rattle.std.specs.List.{Contains}
+use Rattle.outer_io.specs.declared.file_name.FileName.{FileName}
 use Rattle.outer_io.specs.declared.file_name.FileName.TheVariants.{Segment}
+use Rattle.commit_list.specs.Commits.{CommitData}
+use Rattle.file_names.specs.Names.{is_named}
 use Rattle.segment_set.specs.Sets.{SetData}
 use Rattle.segment_set.specs.Seen.{Sees}
-use Rattle.segment_set.specs.Kept.{StaysButFiles}
+use Rattle.segment_set.specs.Kept.{IsNeeded, StaysButFiles}
 use Rattle.index_core.specs.Closed.{IsTracked, NamesOnlyListed}
 use Rattle.index_core.specs.Sessions.{AreTraced, Guards, SessionData}
 use Rattle.index_core.proofs.Closing.{idle_sweep, tracked_swept}
@@ -14,12 +17,13 @@ use Rattle.segment_set.proofs.Sizes.{set_fits}
 use Rattle.segment_set.specs.Faithful.{IsFaithful}
 use Rattle.index_core.proofs.session.Session.sweep.Given as given
 use Rattle.index_core.proofs.session.Session.sweep.Goals as goal
+use Rattle.index_core.proofs.session.Session.sweep.Goals.{in-Ok, in-Err}
 
 -- the session as it was, by its fields
-abbrev old : (g : given.Over) (c : goal.After-sweep g) → SessionData
+abbrev old : (g : given.Over) (c : goal.Joined-sweep g) → SessionData
 old g c = record { set = c.self.inside.set; commit = c.self.inside.commit; refused = c.self.inside.refused }
 
-swept : (g : given.Over) (c : goal.After-sweep g) → IsTrue g.F.Pages.told
+swept : (g : given.Over) (c : goal.Joined-sweep g) → IsTrue g.F.Pages.told
     → IsSwept (g.F.Pages.files c.args.folder.now) (g.F.Pages.files c.sweep.new.folder) c.self.inside.set c.sweep.new.self c.in-Some.commit
 swept g c told = record {
   commit = c.sweep.ensures.commit told;
@@ -29,7 +33,7 @@ swept g c told = record {
   leaf = ap (λ (u : SetData). u.leaf) c.sweep.ensures.alone.is;
 }
 
-done : (g : given.Over) (c : goal.After-sweep g) → c.self.inside.refused ≡ false
+done : (g : given.Over) (c : goal.Joined-sweep g) → c.self.inside.refused ≡ false
 done g c = ap (λ (u : SessionData). u.refused) c.self.view_is ∙ c.requires.written
 
 pub returns-clause-seen : goal.returns-clause-seen
@@ -69,13 +73,27 @@ returns-clause-traced g c told guards traced = session_traced _ _ _ (old g c) c.
     (subst (λ (u : SessionData). AreTraced g.row.D (g.F.Pages.files c.args.folder.now) u.set.parts) (sym c.self.view_is) traced)
 
 pub returns-clause-tracked : goal.returns-clause-tracked
-returns-clause-tracked g c told m = subst (λ (u : SessionData). IsTracked (g.F.Pages.files c.args.folder.now) (g.F.Pages.files c.sweep.new.folder) u.set.names
-    c.sweep.new.self.names m) c.self.view_is
-    (tracked_swept _ _ _ _ m (c.sweep.ensures.others told m) (c.sweep.ensures.left told m))
+returns-clause-tracked g c told m =
+    let before = g.F.Pages.files c.args.folder.now in
+    let after = g.F.Pages.files c.sweep.new.folder in
+    subst (λ (u : SessionData). IsTracked before after u.set.names c.sweep.new.self.names m) c.self.view_is
+    (tracked_swept before after c.self.inside.set.names c.sweep.new.self.names m (c.sweep.ensures.others told m) (c.sweep.ensures.left told m))
 
 pub returns-clause-idle : goal.returns-clause-idle
 returns-clause-idle g c told listed = idle_sweep _ _ (old g c) c.in-Some.commit c.in-Some.is (c.sweep.ensures.needed told) (c.sweep.ensures.others told)
     (subst NamesOnlyListed (sym c.self.view_is) listed)
 
+-- each name that is left is needed by the session as it was
+abbrev Needed : (g : given.Over) (c : goal.Joined-sweep g) → Type 0
+Needed g c = (m : FileName) → is_named c.sweep.new.self.names.names m ≡ true
+    → (d : CommitData) × (c.args.self.now.commit ≡ Some d) × IsNeeded c.args.self.now.set d m
+
 pub returns-clause-needed : goal.returns-clause-needed
-returns-clause-needed g c = ?
+returns-clause-needed g c = elim c.match-sweep.branch [
+  | in-Ok w ↦ subst (λ r. OnOk r (Needed g c)) (sym w.result-is) (λ m there. (
+    c.in-Some.commit,
+    ap (λ (u : SessionData). u.commit) (sym c.self.view_is) ∙ c.in-Some.is,
+    subst (λ (u : SessionData). IsNeeded u.set c.in-Some.commit m) c.self.view_is (w.in-Ok.ensures.swept m there),
+  ))
+  | in-Err w ↦ subst (λ r. OnOk r (Needed g c)) (sym w.result-is) tt
+]
