@@ -1,0 +1,3 @@
+pub mod Grids
+pub mod Costs
+pub mod Tables

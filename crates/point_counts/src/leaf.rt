@@ -1,0 +1,86 @@
+//! The counts of one leaf.
+
+ghost use Rattle.std.specs.Prelude.{◌≡◌, ◌≤◌, ◌+◌, ◌==◌, ◌⊎◌, if◌then◌else◌, ℕ, List, IsTrue, OnOk};
+ghost use Rattle.outer_io.specs.Files.{bytes_of};
+ghost use Rattle.outer_io.specs.declared.file_name.FileName.TheVariants.{Segment};
+ghost use Rattle.point_codec.specs.Points.{Item, Region};
+ghost use Rattle.inner_pack.specs.Places.{Spot};
+ghost use Rattle.inner_pack.specs.Trees.{IndexTree};
+ghost use Rattle.inner_pack.specs.Nodes.{IsAt};
+ghost use Rattle.page_cache.specs.Cache.{KeepsFile, Agrees};
+ghost use Rattle.page_cache.specs.Causes.{HasPageCause};
+ghost use Rattle.page_cache.specs.Evidence.{OnDamage, NotDamaged};
+ghost use Rattle.segment_file.specs.Segments.{HoldsTree};
+ghost use Rattle.segment_file.specs.Damages.{IsLeafDamage, IsLeafDamageOf};
+ghost use Rattle.point_counts.specs.Tables.{Adds, live_at};
+
+use crate::sorting::Sorting;
+use inner_pack::NodeAt;
+use leaf_codec::LeafView;
+use live_bits::LiveBits;
+use outer_io::Pages;
+use page_cache::{PageCache, PageFault};
+use segment_file::{SegmentHead, bad_leaf, leaf_in, load_leaf};
+use std::alloc::Global;
+
+/// Counts the live entries of a leaf, each at its place.
+pub(crate) fn count_leaf<const D: usize, S: Sorting<D>, F: Pages>(
+    alloc: Global,
+    head: &SegmentHead<D>,
+    node: &NodeAt<'_, D>,
+    cache: &mut PageCache,
+    folder: &mut F,
+    sorting: &S,
+    live: &LiveBits,
+    table: &mut [u64],
+) -> Result<(), PageFault>
+    requires leaf { node.now.leaves ≡ 1 }
+    ensures counts { IsTrue F.told → Agrees (F.files folder.old) cache.old → (first : ℕ) (s : Spot) (path : Region) (t : IndexTree) (items : List Item) → IsAt node.now first s path t
+        → HoldsTree D (bytes_of (F.files folder.old (Segment head.now.id))) head.now first s t items
+        → OnOk result (Adds (live_at (S.bounds sorting.now) (S.place sorting.now) live.now items) table.old table.new) }
+    ensures reads { F.reads folder.new ≤ F.reads folder.old + 1 }
+    ensures files { IsTrue F.told → F.files folder.new ≡ F.files folder.old }
+    ensures others { (i : ℕ) → KeepsFile cache.new i → KeepsFile cache.old i ⊎ (i ≡ head.now.id) }
+    ensures agrees { IsTrue F.told → Agrees (F.files folder.old) cache.old → Agrees (F.files folder.old) cache.new }
+    ensures cause { HasPageCause (F.faults folder.old) (F.faults folder.new) result }
+    ensures shown { (first : ℕ) (s : Spot) (path : Region) (t : IndexTree) → IsAt node.now first s path t → OnDamage result (IsLeafDamage D head.now first s t) }
+    ensures damage { IsTrue F.told → Agrees (F.files folder.old) cache.old → OnDamage result (IsLeafDamageOf (F.files folder.old)) }
+    ensures whole { IsTrue F.told → Agrees (F.files folder.old) cache.old → (first : ℕ) (s : Spot) (path : Region) (t : IndexTree) (items : List Item) → IsAt node.now first s path t
+        → HoldsTree D (bytes_of (F.files folder.old (Segment head.now.id))) head.now first s t items → NotDamaged result }
+{
+    let place = load_leaf(alloc, folder, cache, head, node)?;
+    let Some(leaf) = leaf_in(cache, head, node, place) else {
+        return Err(bad_leaf(cache, head, node, place));
+    };
+    count_live(&leaf, sorting, live, table);
+    Ok(())
+}
+
+/// Counts the leaf's live entries, each at its place.
+fn count_live<const D: usize, S: Sorting<D>>(
+    leaf: &LeafView<'_, D>,
+    sorting: &S,
+    live: &LiveBits,
+    table: &mut [u64],
+)
+    ensures { Adds (live_at (S.bounds sorting.now) (S.place sorting.now) live.now leaf.now) table.old table.new }
+{
+    for i in 0..leaf.count() {
+        if !live.is_live(leaf.doc(i)) {
+            continue;
+        }
+        let Some(place) = sorting.place_of(&leaf.point(i)) else {
+            continue;
+        };
+        add(table, place, 1);
+    }
+}
+
+/// Adds to the count at a place, where the table has it.
+pub(crate) fn add(table: &mut [u64], place: usize, more: u64)
+    ensures { Adds (λ k. if place == k then more else 0) table.old table.new }
+{
+    if place < table.len() {
+        table[place] = table[place].saturating_add(more);
+    }
+}

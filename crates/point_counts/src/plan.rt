@@ -1,0 +1,188 @@
+//! Plans of grids.
+
+ghost use Rattle.std.specs.Prelude.{◌≡◌, ◌≤◌, ◌<◌, ◌+◌, ◌*◌};
+ghost use Rattle.point_counts.specs.Grids.{IsMadeFor, plan_of, bucket_count, steps_between};
+ghost use Rattle.point_counts.specs.Tables.{place_in};
+ghost use Rattle.point_counts.specs.Costs.{is_parted};
+
+use crate::sorting::{Lie, Sorting, has, relation};
+use cell_relate::Relation;
+use point_codec::{Cell, Point, all_le};
+use std::marker::Model;
+
+/// The greatest number of buckets of a grid, filled or not.
+const MOST_BUCKETS: u128 = 65_536;
+
+/// A bucket of a grid: how many steps it is above the box's lower corner in both dimensions, and how many points it has.
+#[derive(Clone, Copy, PartialEq, Eq, Debug)]
+pub struct Bucket {
+    pub x: u32,
+    pub y: u32,
+    pub n: u64,
+}
+
+/// Why there is no such grid.
+#[derive(Clone, Copy, PartialEq, Eq, Debug)]
+pub enum GridFault {
+    /// A dimension is none of the index, or both are one, or a step is 0.
+    BadGrid,
+    /// The box has more than 65,536 buckets.
+    TooMany { buckets: u128 },
+}
+
+/// A box, and two of its dimensions in which it is cut into buckets, each with its step. Contracts see these.
+#[derive(Debug, Drop)]
+pub struct GridPlan<const D: usize> {
+    lo: Point<D>,
+    hi: Point<D>,
+    x: usize,
+    step_x: u32,
+    y: usize,
+    step_y: u32,
+    /// How many buckets there are above each other.
+    rows: usize,
+}
+
+impl<const D: usize> Model for GridPlan<D> {
+    ghost use Rattle.std.specs.Prelude.{◌≡◌, ◌+◌};
+    ghost use Rattle.point_counts.specs.Grids.{Plan, IsPlan, plan_of, row_of};
+
+    ghost Value = { Plan };
+
+    ghost view = { λ p. plan_of p.lo.c p.hi.c p.x p.step_x p.y p.step_y };
+
+    ghost invariant = { λ p. IsPlan D (plan_of p.lo.c p.hi.c p.x p.step_x p.y p.step_y)
+        × (p.rows ≡ row_of (plan_of p.lo.c p.hi.c p.x p.step_x p.y p.step_y) p.hi.c + 1) };
+}
+
+impl<const D: usize> GridPlan<D> {
+    ghost use Rattle.std.specs.Prelude.{◌≡◌, ◌+◌};
+    ghost use Rattle.point_counts.specs.Grids.{IsPlan, Judges, plan_of, column_of, row_of, bucket_count};
+
+    /// The plan of these. The faults come in the order in which `GridFault` has them; a box without points has no bucket.
+    /// Takes no memory.
+    pub fn new(
+        lo: Point<D>,
+        hi: Point<D>,
+        x: u32,
+        step_x: u32,
+        y: u32,
+        step_y: u32,
+    ) -> Result<GridPlan<D>, GridFault>
+        ensures { Judges D (plan_of lo.entry.c hi.entry.c x step_x y step_y) result }
+    {
+        let (column, row) = (x as usize, y as usize);
+        if column >= D || row >= D || column == row || step_x == 0 || step_y == 0 {
+            return Err(GridFault::BadGrid);
+        }
+        let buckets = buckets_of(&lo, &hi, column, step_x, row, step_y);
+        if buckets > MOST_BUCKETS {
+            return Err(GridFault::TooMany { buckets });
+        }
+        let rows = steps_between(lo.c[row], hi.c[row], step_y) as usize + 1;
+        Ok(GridPlan {
+            lo,
+            hi,
+            x: column,
+            step_x,
+            y: row,
+            step_y,
+            rows,
+        })
+    }
+
+    /// How many buckets there are, filled or not.
+    pub(crate) fn bucket_count(&self) -> usize
+        ensures { result ≡ bucket_count self.now }
+    {
+        buckets_of(&self.lo, &self.hi, self.x, self.step_x, self.y, self.step_y) as usize
+    }
+
+    /// How many buckets there are above each other.
+    pub(crate) fn rows(&self) -> usize
+        ensures rows { result ≡ row_of self.now self.now.bounds.hi + 1 }
+        ensures plan { IsPlan D self.now }
+    {
+        self.rows
+    }
+
+    /// The bucket of a point of the box.
+    fn bucket_of(&self, p: &Point<D>) -> (u32, u32)
+        ensures column { result.0 ≡ column_of self.now p.now.c }
+        ensures row { result.1 ≡ row_of self.now p.now.c }
+    {
+        let column = steps_between(self.lo.c[self.x], p.c[self.x], self.step_x);
+        let row = steps_between(self.lo.c[self.y], p.c[self.y], self.step_y);
+        (column, row)
+    }
+}
+
+impl<const D: usize> Sorting<D> for GridPlan<D> {
+    ghost bounds = { λ s. s.bounds };
+
+    ghost place = { place_in };
+
+    ghost parts = { is_parted };
+
+    fn place_of(&self, p: &Point<D>) -> Option<usize> {
+        if !has(&self.lo, &self.hi, p) {
+            return None;
+        }
+        let (column, row) = self.bucket_of(p);
+        Some(place_at(column, row, self.rows))
+    }
+
+    fn lie_of(&self, c: &Cell<D>) -> Lie {
+        match relation(&self.lo, &self.hi, c) {
+            Relation::Outside => Lie::Outside,
+            Relation::Crosses => Lie::Parted,
+            Relation::Inside => {
+                let (column, row) = self.bucket_of(c.lo());
+                let (last_column, last_row) = self.bucket_of(c.hi());
+                if column != last_column {
+                    return Lie::Parted;
+                }
+                if row != last_row {
+                    return Lie::Parted;
+                }
+                Lie::At(place_at(column, row, self.rows))
+            }
+        }
+    }
+}
+
+/// How many buckets the box has. None where it has no point.
+fn buckets_of<const D: usize>(
+    lo: &Point<D>,
+    hi: &Point<D>,
+    x: usize,
+    step_x: u32,
+    y: usize,
+    step_y: u32,
+) -> u128
+    requires made { IsMadeFor D (plan_of lo.now.c hi.now.c x step_x y step_y) }
+    ensures { result ≡ bucket_count (plan_of lo.now.c hi.now.c x step_x y step_y) }
+{
+    if !all_le(&lo.c, &hi.c) {
+        return 0;
+    }
+    let columns = u128::from(steps_between(lo.c[x], hi.c[x], step_x)) + 1;
+    let rows = u128::from(steps_between(lo.c[y], hi.c[y], step_y)) + 1;
+    columns * rows
+}
+
+/// How many whole steps the second coordinate is above the first, which is no greater.
+pub(crate) fn steps_between(low: i32, high: i32, step: u32) -> u32
+    requires { 1 ≤ step }
+    ensures { result ≡ steps_between step low high }
+{
+    high.abs_diff(low) / step
+}
+
+/// Where the points of a bucket are counted.
+fn place_at(column: u32, row: u32, rows: usize) -> usize
+    requires { column * rows + row < 65536 }
+    ensures { result ≡ column * rows + row }
+{
+    column as usize * rows + row as usize
+}

@@ -1,0 +1,89 @@
+//! A box whose points are counted, each at a place of a table.
+
+ghost use Rattle.std.specs.Prelude.{◌≡◌, ℕ, List, ℤ, Bool, true, false, MatchOption};
+ghost use Rattle.point_codec.specs.Points.{Region, in_box};
+ghost use Rattle.point_codec.specs.Seen.{region_of};
+ghost use Rattle.cell_relate.specs.Boxes.{crosses};
+ghost use Rattle.cell_relate.specs.Relations.{RelatesTo};
+ghost use Rattle.point_counts.specs.Tables.{LiesAs};
+
+use cell_relate::{BoxShape, Relation, Shape};
+use point_codec::{Cell, Point, all_le};
+
+/// How a cell lies to the box and to the places at which its points are counted.
+#[derive(Clone, Copy, PartialEq, Eq, Debug)]
+pub(crate) enum Lie {
+    /// The box has no point of the cell.
+    Outside,
+    /// The box has all points of the cell, and they are counted at one place.
+    At(usize),
+    /// Neither may be so.
+    Parted,
+}
+
+/// A box whose points are counted, each at a place.
+///
+/// `bounds` is the box, `place` says where a point of it is counted, and `parts` which cells are cut by the box's edge or have
+/// points of two places.
+pub(crate) trait Sorting<const D: usize> {
+    ghost bounds: { Self → Region };
+
+    ghost place: { Self → List ℤ → ℕ };
+
+    ghost parts: { Self → Region → Bool };
+
+    /// Where the point is counted. None where the box doesn't have it.
+    fn place_of(&self, p: &Point<D>) -> Option<usize>
+        ensures { MatchOption result (in_box (bounds self.now) p.now.c ≡ false)
+            (λ k. (in_box (bounds self.now) p.now.c ≡ true) × (k ≡ place self.now p.now.c)) };
+
+    /// How the cell lies.
+    fn lie_of(&self, c: &Cell<D>) -> Lie
+        ensures { LiesAs (bounds self.now) (place self.now) (parts self.now) (region_of c.now) result };
+}
+
+/// A box, all points of which are counted at one place.
+#[derive(Clone, Copy, Debug)]
+pub(crate) struct WholeBox<const D: usize> {
+    pub lo: Point<D>,
+    pub hi: Point<D>,
+}
+
+impl<const D: usize> Sorting<D> for WholeBox<D> {
+    ghost bounds = { λ s. record { lo = s.lo.c; hi = s.hi.c } };
+
+    ghost place = { λ s p. 0 };
+
+    ghost parts = { λ s cell. crosses (record { lo = s.lo.c; hi = s.hi.c }) cell };
+
+    fn place_of(&self, p: &Point<D>) -> Option<usize> {
+        if has(&self.lo, &self.hi, p) {
+            Some(0)
+        } else {
+            None
+        }
+    }
+
+    fn lie_of(&self, c: &Cell<D>) -> Lie {
+        match relation(&self.lo, &self.hi, c) {
+            Relation::Outside => Lie::Outside,
+            Relation::Inside => Lie::At(0),
+            Relation::Crosses => Lie::Parted,
+        }
+    }
+}
+
+/// Whether the box from `lo` to `hi` has the point.
+pub(crate) fn has<const D: usize>(lo: &Point<D>, hi: &Point<D>, p: &Point<D>) -> bool
+    ensures { result ≡ in_box (record { lo = lo.now.c; hi = hi.now.c }) p.now.c }
+{
+    all_le(&lo.c, &p.c) && all_le(&p.c, &hi.c)
+}
+
+/// How the cell lies to the box from `lo` to `hi`.
+pub(crate) fn relation<const D: usize>(lo: &Point<D>, hi: &Point<D>, c: &Cell<D>) -> Relation
+    ensures { let bounds : Region = record { lo = lo.now.c; hi = hi.now.c } in
+        RelatesTo (in_box bounds) (crosses bounds) (region_of c.now) result }
+{
+    BoxShape::new(*lo, *hi).compare(c)
+}
