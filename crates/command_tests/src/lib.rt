@@ -1,4 +1,4 @@
-//! Tests of the commands that are no scripts: loading, explaining, checking, generating, and all of them through the program.
+//! Tests of the commands that are no scripts: loading, explaining, checking, generating, counting, and all of them through the program.
 //!
 //! They stand above the crates that they test, as Rust's integration tests do: a change of a test is no change of those.
 #![tactic(auto)]
@@ -9,6 +9,8 @@ mod checking;
 mod command_faults;
 #[cfg(test)]
 mod commands;
+#[cfg(test)]
+mod counting;
 #[cfg(test)]
 mod explaining;
 #[cfg(test)]
