@@ -44,6 +44,8 @@ def works():
     yield Work("generate", words, "", whole, lambda _: [None, list(range(1, 9))])
     yield Work("explain", ["explain"], QUESTION, "tested 0 touched 2 hits 3\n", lambda _: [AT_END], made=True)
     yield Work("a query", ["run", *alone], QUESTION, answer(AT_END), lambda _: [AT_END], made=True)
+    yield Work("a deletion", ["run", *alone], "delete 1\n", "deleted 1\n", lambda _: [AT_END, [2, 3]], made=True)
+    yield Work("a merge", ["run", *alone], "merge\n", "ok\n", lambda _: [AT_END], made=True)
 
 
 def started(words, source, folder, before=(), **how):
@@ -58,6 +60,23 @@ def made(work, room):
     if work.made and started(["run"], LINES, folder).returncode != 0:
         raise SystemExit("the script doesn't run where nothing fails")
     return folder
+
+
+def own_files(work, room):
+    """How many KB the files have that a run writes where nothing fails, the new commit among them, in blocks of 4."""
+    folder = made(work, room)
+    before = files_of(folder)
+    started(work.words, work.source, folder)
+    written = [data for name, data in files_of(folder).items() if before.get(name) != data]
+    return sum(4 * -(-len(data) // 4096) for data in written)
+
+
+def files_of(folder):
+    found = {}
+    for name in os.listdir(folder):
+        with open(os.path.join(folder, name), "rb") as file:
+            found[name] = file.read()
+    return found
 
 
 def answer(numbers):

@@ -3,7 +3,8 @@
 
 usage: bench/failures.py full | denied | calls | memory | all
 
-full     file systems (tmpfs, and ext4 in a file) with little room, more each time, until all goes well
+full     file systems (tmpfs, and ext4 in a file) with little room, more each time, until all goes well; of a run over
+         an index that is there, how much it needs beside that, and how much the files have that it writes
 denied   folders that may not be written, read or entered, that are none, and a file system that is only read
 calls    each call on the folder's files failing alone, and with all calls behind it (by Debian's strace)
 memory   each request for memory refused alone, and with all requests behind it
@@ -21,7 +22,7 @@ import subprocess
 import sys
 import tempfile
 
-from failing import Seen, answer, asked, made, started, works
+from failing import Seen, answer, asked, made, own_files, started, works
 
 NOBODY = 65534
 # what a call fails with
@@ -45,16 +46,17 @@ def ext4(room, place):
     return ["mount", "-o", "loop", image, place]
 
 
-def is_mounted(mount, room, place, size):
-    """Mounts an empty file system, and fills it until so many KB are free."""
+def is_mounted(mount, room, place, size, work):
+    """Mounts a file system with the folder of a run, and fills it until so many KB are free."""
     try:
         os.makedirs(place, exist_ok=True)
         subprocess.run(mount(room, place), capture_output=True, check=True)
     except (OSError, subprocess.CalledProcessError):
         return False
-    os.mkdir(os.path.join(place, "index"))
+    os.rename(made(work, place), os.path.join(place, "index"))
     there = os.statvfs(place)
-    with open(os.path.join(place, "ballast"), "wb") as file:
+    # (as much of it as goes: on ext4 a file needs some room for the list of its blocks)
+    with open(os.path.join(place, "ballast"), "wb", buffering=0) as file:
         file.write(bytes(there.f_bavail * there.f_frsize - (size << 10)))
     return True
 
@@ -62,7 +64,7 @@ def is_mounted(mount, room, place, size):
 def on_disk(room, mount, size, work):
     """The run on a disk with so many KB, and a copy of the folder elsewhere; None where the disk can't be had."""
     place = os.path.join(room, "disk")
-    if not is_mounted(mount, room, place, size):
+    if not is_mounted(mount, room, place, size, work):
         return None, None
     try:
         folder = os.path.join(place, "index")
@@ -80,7 +82,8 @@ def on_disk(room, mount, size, work):
 
 def full(room):
     for mount in (tmpfs, ext4):
-        for work in (it for it in works() if not it.made):
+        for work in (it for it in works() if not it.made or it.name in ("a deletion", "a merge")):
+            own = " (its files have %d KB)" % own_files(work, room) if work.made else ""
             seen, size, status = Seen(""), 0, 4
             while status == 4 and size <= 400:
                 run, kept = on_disk(room, mount, size, work)
@@ -91,7 +94,7 @@ def full(room):
                 seen.look(work, "%s with %d KB" % (mount.__name__, size), run, kept)
                 size += 2
             if seen.runs:
-                seen.name = "%s: %s with 0, 2, .. %d KB" % (work.name, mount.__name__, size - 2)
+                seen.name = "%s%s: %s with 0, 2, .. %d KB" % (work.name, own, mount.__name__, size - 2)
                 seen.tell()
 
 

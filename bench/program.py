@@ -252,17 +252,16 @@ def compare(ours, theirs):
         sys.exit("the answers differ at %s" % at)
 
 
-def sqlite(data):
+def rtree(data):
+    """The run that makes SQLite's R*Tree of the points, in the file `base/points`."""
     rows = write(data.path("rows"), ["%d,%d,%d,%d,%d" % (i, x, x, y, y) for i, (x, y) in enumerate(data.points)])
-    base = data.path("base")
     made = write(data.path("make.sql"), [
         "create virtual table points using rtree_i32(id, x0, x1, y0, y1);", ".import --csv %s points" % rows])
+    return Run(["sqlite3", "-batch", os.path.join(data.empty("base"), "points")], made)
 
-    def make():
-        subprocess.run(["rm", "-f", base], check=True)
-        return Run(["sqlite3", "-batch", base], made)
 
-    theirs = best(make, 2)
+def sqlite(data):
+    theirs, base = best(lambda: rtree(data), 2), data.path("base/points")
     ours = best(lambda: bkd(data.empty("loaded"), "load", "--columns", "x,y", source=data.csv()), 3)
     print("sqlite: %d points, %d boxes; SQLite %s" % (data.count, QUERIES, Run(["sqlite3", "-version"], keep=True).text.split()[0]))
     print("  loading: bkd load %s, R*Tree by .import %s, ratio %5.1f" % (
@@ -291,26 +290,27 @@ def jars():
     return ":".join(sorted(one)[-1] for one in found)
 
 
+def java(data, *words, keep=False):
+    """A run of a class of Lucene's, or of bench/Lucene.java, which is compiled once."""
+    classes, paths, source = data.path("classes"), jars(), os.path.join(HERE, "Lucene.java")
+    if not os.path.exists(classes):
+        subprocess.run(["javac", "-cp", paths, "-d", data.empty("classes"), source], check=True)
+    return Run(["java", "-Xmx2g", "-cp", paths + ":" + classes, *words], keep=keep)
+
+
 def lucene(data):
-    classes = data.empty("classes")
-    paths = jars()
-    subprocess.run(["javac", "-cp", paths, "-d", classes, os.path.join(HERE, "Lucene.java")], check=True)
-
-    def java(*words, keep=False):
-        return Run(["java", "-Xmx2g", "-cp", paths + ":" + classes, "Lucene", *words], keep=keep)
-
-    points = write(data.path("points"), ["%d %d" % p for p in data.points])
-    theirs = best(lambda: java("index", points, data.empty("apart"), "apart"), 2)
+    paths, points = jars(), write(data.path("points"), ["%d %d" % p for p in data.points])
+    theirs = best(lambda: java(data, "Lucene", "index", points, data.empty("apart"), "apart"), 2)
     ours = best(lambda: bkd(data.empty("loaded"), "load", "--columns", "x,y", source=data.csv()), 3)
     print("lucene: %d points; %s" % (data.count, os.path.basename(paths.split(":")[0])))
     print("  loading, the virtual machine's start counted in: bkd load %s, Lucene %s, ratio %5.1f" % (
         milliseconds(ours.wall), milliseconds(theirs.wall), theirs.wall / ours.wall))
-    java("index", points, data.empty("together"), "merge").done()
+    java(data, "Lucene", "index", points, data.empty("together"), "merge").done()
     boxes = write(data.path("box_queries"), ["%d %d %d %d" % b for b in data.boxes(COMPARED)])
     near = write(data.path("near_queries"), ["%d %d" % p for p in data.centres[:COMPARED]])
     # in the program's own time, after rounds that warm the virtual machine
-    boxed = java("boxes", data.path("together"), boxes, "20", keep=True).done()
-    nearest = java("near", data.path("together"), near, "20", str(NEAREST), points, keep=True).done()
+    boxed = java(data, "Lucene", "boxes", data.path("together"), boxes, "20", keep=True).done()
+    nearest = java(data, "Lucene", "near", data.path("together"), near, "20", str(NEAREST), points, keep=True).done()
     compare(in_order(bkd(data.merged(), "run", source=data.box_lines(COMPARED), keep=True).done().text), in_order(boxed.text))
     compare(distances(bkd(data.merged(), "run", source=data.near_lines(COMPARED), keep=True).done().text), distances(nearest.text))
     for name, run, write_lines in (("a box      ", boxed, data.box_lines), ("the nearest", nearest, data.near_lines)):

@@ -3,64 +3,87 @@
 
 usage: bench/session.py [LINES]
 
-Each line is sent only when the whole answer to the one before it has come. Status 1 where a session's answers are
-others than those of the run, or where it takes more than 1.5 times as long and more than 5 microseconds a line longer.
+Each line is sent only when the whole answer to the one before it has come. The other side of the pipes is bench/talk.c,
+so that no interpreter is timed. Beside both stands a program in C that answers each line with `ok` and does no more:
+what the pipes and the change from one process to the other cost. They take turns, and the least times are told. Status
+1 where a session's answers are others than those of the run, or where by the clock it takes more than 1.5 times as
+long as the run and 5 microseconds a line. BKD names the program where it is not crates/bkd/out/bkd.
 """
 import os
 import subprocess
 import sys
 import tempfile
-import time
 
-HERE = os.path.dirname(os.path.dirname(os.path.abspath(__file__)))
-PROGRAM = os.path.join(HERE, "bkd")
+HERE = os.path.dirname(os.path.abspath(__file__))
+PROGRAM = os.path.abspath(os.environ.get("BKD", os.path.join(HERE, "..", "crates", "bkd", "out", "bkd")))
+TURNS = 5
 
 
 def lines_of(count):
     """So many lines, of which each has an answer of one line."""
-    yield b"create 2\n"
+    yield "create 2\n"
     for i in range(count - 1):
         if i % 10 == 9:
-            yield b"delete %d\n" % (i // 2)
+            yield f"delete {i // 2}\n"
         else:
-            yield b"add %d %d\n" % (i * 7919 % 1000003 - 500000, i * 104729 % 1000003 - 500000)
+            yield f"add {i * 7919 % 1000003 - 500000} {i * 104729 % 1000003 - 500000}\n"
 
 
-def run(folder, lines):
-    """The answers of `run`, and its seconds."""
-    start = time.perf_counter()
-    done = subprocess.run([PROGRAM, folder, "run"], input=b"".join(lines), stdout=subprocess.PIPE, check=True)
-    return done.stdout, time.perf_counter() - start
+class Talk:
+    """The program in C that talks, and the files that it reads and writes."""
+
+    def __init__(self, room, count):
+        self.room = room
+        self.program = os.path.join(room, "talk")
+        subprocess.run(["cc", "-O2", "-o", self.program, os.path.join(HERE, "talk.c")], check=True)
+        self.input = os.path.join(room, "lines")
+        with open(self.input, "w") as file:
+            file.writelines(lines_of(count))
+
+    def time(self, how, words):
+        """Wall time, and the processor times of the program and of who talks with it."""
+        answers = os.path.join(self.room, "answers")
+        talking = [self.program, how, self.input, answers, *words]
+        *times, status = subprocess.run(talking, stdout=subprocess.PIPE, check=True).stdout.split()
+        if status != b"0":
+            sys.exit(f"{' '.join(words)}: status {status.decode()}")
+        with open(answers, "rb") as file:
+            return tuple(map(float, times)), file.read()
+
+    def over(self, how, command):
+        """The same over an empty folder."""
+        with tempfile.TemporaryDirectory(dir=self.room) as folder:
+            return self.time(how, [PROGRAM, folder, command])
 
 
-def session(folder, lines):
-    """The answers of `session`, sent a line at a time, and its seconds."""
-    start = time.perf_counter()
-    answers = []
-    words = [PROGRAM, folder, "session"]
-    with subprocess.Popen(words, stdin=subprocess.PIPE, stdout=subprocess.PIPE, bufsize=0) as program:
-        output = os.fdopen(os.dup(program.stdout.fileno()), "rb")
-        for line in lines:
-            program.stdin.write(line)
-            answers.append(output.readline())
-        program.stdin.close()
-        answers.append(output.read())
-        output.close()
-        if program.wait() != 0:
-            sys.exit(f"session: status {program.returncode}")
-    return b"".join(answers), time.perf_counter() - start
+def told(name, times, count):
+    """A row: the least of each time."""
+    wall, processor, talking = (min(column) for column in zip(*times))
+    each = " ".join(f"{seconds * 1e6 / count:9.2f}" for seconds in (wall, processor, talking))
+    print(f"  {name:22} {wall:7.3f} s; a line, in µs: wall, processor, its talker's: {each}")
+    return wall
 
 
 def main():
-    lines = list(lines_of(int(sys.argv[1]) if len(sys.argv) > 1 else 100000))
-    with tempfile.TemporaryDirectory() as one, tempfile.TemporaryDirectory() as other:
-        whole, run_seconds = run(one, lines)
-        answers, session_seconds = session(other, lines)
-    more = (session_seconds - run_seconds) / len(lines) * 1e6
-    print(f"{len(lines)} lines: run {run_seconds:.2f} s, session {session_seconds:.2f} s, {more:.1f} µs a line more")
-    if answers != whole:
-        sys.exit("the answers differ")
-    return 1 if session_seconds > 1.5 * run_seconds and more > 5 else 0
+    count = int(sys.argv[1]) if len(sys.argv) > 1 else 100_000
+    whole, by_line, echoed = [], [], []
+    with tempfile.TemporaryDirectory(prefix="bkd-session-") as room:
+        talk = Talk(room, count)
+        for _ in range(TURNS):
+            times, wanted = talk.over("whole", "run")
+            whole.append(times)
+            times, answers = talk.over("lines", "session")
+            by_line.append(times)
+            if answers != wanted:
+                sys.exit("the answers differ")
+            echoed.append(talk.time("lines", [talk.program, "echo"])[0])
+    print(f"{count} lines, the least of {TURNS} turns")
+    run = told("run", whole, count)
+    session = told("session, line by line", by_line, count)
+    told("a program that says ok", echoed, count)
+    most = 1.5 * run + 5e-6 * count
+    print(f"  the session takes {session:.3f} s, 1.5 times the run and 5 µs a line are {most:.3f} s")
+    return int(session > most)
 
 
 if __name__ == "__main__":

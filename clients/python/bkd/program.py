@@ -6,6 +6,7 @@ import os
 import re
 import shutil
 import subprocess
+import sys
 from collections.abc import Iterator, Sequence
 from functools import cached_property
 from pathlib import Path
@@ -31,12 +32,22 @@ class Program:
 
     @cached_property
     def commands(self) -> frozenset[str]:
-        """The commands of the list that the program prints where its words are wrong."""
+        """The commands of the list that the program prints where its words are wrong.
+
+        What a launcher says meanwhile of building the program, which may take an hour, goes to standard error.
+        """
+        said = ""
+        none = subprocess.DEVNULL
         try:
-            run = subprocess.run(self.words, stdin=subprocess.DEVNULL, capture_output=True, check=False)
+            with subprocess.Popen(self.words, stdin=none, stdout=none, stderr=subprocess.PIPE) as run:
+                assert run.stderr
+                for line in run.stderr:
+                    said += line.decode(errors="replace")
+                    if line.startswith(b"bkd: "):
+                        print(line.decode(errors="replace"), end="", file=sys.stderr, flush=True)
         except OSError as error:
             raise NotFound(f"{self.words[0]}: {error.strerror}") from error
-        found = _USAGE.search(run.stderr.decode(errors="replace"))
+        found = _USAGE.search(said)
         if found is None:
             raise NotFound(f"{' '.join(self.words)} is not bkd: it prints no list of commands")
         return frozenset(found[1].split("|"))

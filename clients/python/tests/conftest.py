@@ -17,6 +17,7 @@ from hypothesis import settings
 HERE = Path(__file__).resolve().parent
 TOP = HERE.parents[2]
 sys.path[:0] = [str(HERE), str(HERE.parent)]
+sys.path.append(str(TOP / "bench"))
 
 import bkd  # noqa: E402
 
@@ -60,28 +61,25 @@ def left():
     return max(1, min(EACH, BEGUN + ALL - time.monotonic()))
 
 
-@pytest.hookimpl(hookwrapper=True)
-def pytest_runtest_setup(item):
-    with limited(left()):
-        yield
+def hook_within(seconds):
+    """A hook of pytest's round a part of a test that ends when its time is over."""
+    @pytest.hookimpl(hookwrapper=True)
+    def hook():
+        with limited(seconds()):
+            yield
+
+    return hook
+
+
+pytest_runtest_setup = hook_within(left)
+pytest_pyfunc_call = hook_within(left)
+pytest_runtest_teardown = hook_within(lambda: END)
 
 
 @pytest.hookimpl(tryfirst=True)
 def pytest_runtest_call(item):
     if time.monotonic() > BEGUN + ALL:
         pytest.fail(f"not reached within {ALL:.0f} seconds for all tests", pytrace=False)
-
-
-@pytest.hookimpl(hookwrapper=True)
-def pytest_pyfunc_call(pyfuncitem):
-    with limited(left()):
-        yield
-
-
-@pytest.hookimpl(hookwrapper=True)
-def pytest_runtest_teardown(item):
-    with limited(END):
-        yield
 
 
 def real_program() -> bkd.Program | None:
@@ -105,8 +103,9 @@ def works(command: str) -> bool:
     return run.returncode != 1
 
 
-def pytest_report_header() -> str:
-    return f"program: {REAL} with {sorted(REAL.commands)}" if REAL else "program: none is built; set BKD"
+def pytest_terminal_summary(terminalreporter) -> None:
+    told = f"{REAL} with {', '.join(sorted(REAL.commands))}" if REAL else "none is built; set BKD"
+    terminalreporter.write_line(f"program: {told}")
 
 
 def need(program: bkd.Program, command: str) -> None:
@@ -145,11 +144,18 @@ def staying(stand_in) -> bkd.Program:
     return REAL if works("session") else stand_in
 
 
-@pytest.fixture
-def has(monkeypatch):
-    """Gives a program that has a command."""
+@pytest.fixture(params=["program", "stand-in"])
+def has(request, monkeypatch):
+    """Gives the program where it has a command, without which the test is skipped; and the stand-in, which has all."""
     monkeypatch.setenv("STAND_IN_COMMANDS", EVERY)
-    return lambda command: REAL if works(command) else bkd.find(STAND_IN)
+
+    def found(command):
+        if request.param == "stand-in":
+            return bkd.find(STAND_IN)
+        need(request.getfixturevalue("real"), command)
+        return REAL
+
+    return found
 
 
 @pytest.fixture(params=["session", "run"])

@@ -194,6 +194,16 @@ def test_a_command_that_hangs(tmp_path):
             use()
 
 
+def test_a_launcher_that_builds_first(tmp_path, capfd):
+    """What it says of that is passed on."""
+    launcher = tmp_path / "launcher"
+    launcher.write_text("#!/bin/sh\necho 'bkd: building the program: 1 of 2 crates' >&2\n"
+                        "echo 'usage: bkd FOLDER run|check [options]' >&2\nexit 1\n")
+    launcher.chmod(0o755)
+    assert bkd.find(launcher).commands == {"run", "check"}
+    assert capfd.readouterr().err == "bkd: building the program: 1 of 2 crates\n"
+
+
 def test_programs_that_are_not_there(tmp_path, monkeypatch):
     with pytest.raises(bkd.NotFound):
         bkd.find(tmp_path / "none")

@@ -82,6 +82,7 @@ def test_nothing_is_cleaned_in_a_damaged_folder(filed, tmp_path):
     assert told.value.file == segment and (folder / "commit.new").exists()
 
 
+@pytest.mark.slow
 def test_pictures(filed, tmp_path):
     plot = pytest.importorskip("bkd.plot")
     from matplotlib.figure import Figure

@@ -17,6 +17,7 @@ from conftest import HERE, REAL, STAND_IN
 from model import in_polygon
 
 LOW, HIGH = -(1 << 31), (1 << 31) - 1
+pytestmark = pytest.mark.slow
 
 
 @contextlib.contextmanager

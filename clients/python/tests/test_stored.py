@@ -1,5 +1,4 @@
 """The second reader beside the program: both find the same documents, and the same damage."""
-import hashlib
 import os
 import random
 import shutil
@@ -9,8 +8,7 @@ import pytest
 import bkd
 from bkd import requests
 from bkd.formats import open_stored, read_commit
-from bkd.formats.pages import PAGE, PAYLOAD
-from conftest import REAL
+from conftest import REAL, works
 from writer import write_index
 
 
@@ -59,42 +57,30 @@ def small(tmp_path_factory):
     return program, folder
 
 
-def sealed(name, page, payload):
-    """The page of this payload, whose digest is right for its place."""
-    kind = {"seg": 1, "liv": 2, "com": 3}[name[:3]]
-    number = 0 if kind == 3 else int(name.split("-")[1][:16], 16)
-    place = bytes([kind]) + number.to_bytes(8, "big") + page.to_bytes(4, "big")
-    return payload + hashlib.sha256(place + payload).digest()
-
-
-def told_by_reader(folder):
+def damage_of(reading):
+    """The text of the damage that a reading tells, None where it tells none."""
     try:
-        stored = open_stored(folder)
-        stored.check()
+        reading()
         return None
     except bkd.Damaged as error:
         return str(error.damage)
 
 
-def told_by_program(program, folder):
-    """What a run that looks at everything says: it opens all files, and its boxes and its nearest read all leaves."""
-    every = requests.box((-(1 << 31),) * 2, ((1 << 31) - 1,) * 2)
-    inner = requests.nearest(10_000, (0, 0))
-    try:
+def told(folder):
+    """What the second reader says of a folder; the program's `check`, where it has that command, says the same."""
+    said = damage_of(lambda: open_stored(folder).check())
+    if works("check"):
+        assert damage_of(lambda: bkd.check(folder, program=REAL)) == said
+    return said
+
+
+def told_by_run(program, folder):
+    """What a run says that opens all files, and whose box and nearest read all leaves."""
+    def reading():
         with bkd.open(folder, program=program) as index:
-            index.ask([every, inner])
-        return None
-    except bkd.Damaged as error:
-        return str(error.damage)
+            index.ask([requests.box((-(1 << 31),) * 2, ((1 << 31) - 1,) * 2), requests.nearest(10_000, (0, 0))])
 
-
-def places(folder):
-    """Each file with some of its bytes: all of a payload's first 48, some further ones, and some of its digest."""
-    for name in sorted(os.listdir(folder)):
-        size = (folder / name).stat().st_size
-        for page in range(size // PAGE):
-            for at in [*range(48), *range(50, 200, 7), 1000, PAYLOAD - 1, PAYLOAD, PAGE - 1]:
-                yield name, page, at
+    return damage_of(reading)
 
 
 def changed(small, tmp_path, name, change):
@@ -104,32 +90,6 @@ def changed(small, tmp_path, name, change):
     path = folder / name
     path.write_bytes(change(bytearray(path.read_bytes())))
     return folder
-
-
-def flip(page, at, seal, name, bit):
-    def change(data):
-        data[page * PAGE + at] ^= bit
-        if seal:
-            data[page * PAGE:(page + 1) * PAGE] = sealed(name, page, bytes(data[page * PAGE:page * PAGE + PAYLOAD]))
-        return bytes(data)
-    return change
-
-
-@pytest.mark.parametrize("seal", [False, True])
-def test_a_byte_changed(small, tmp_path, seal):
-    """Sealed anew and not: where the program calls a file damaged so does the reader, in the same words."""
-    program, whole = small
-    for name, page, at in places(whole):
-        if seal and at >= PAYLOAD:
-            continue
-        folder = changed(whole, tmp_path, name, flip(page, at, seal, name, 1))
-        ours, theirs = told_by_reader(folder), told_by_program(program, folder)
-        where = f"{name} page {page} byte {at}: the reader says {ours}, the program {theirs}"
-        if theirs is not None:
-            # a run may meet a damage that comes later in the order of `check`
-            assert ours is not None and (ours == theirs or seal), where
-        if ours is not None and not seal:
-            assert theirs == ours, where
 
 
 @pytest.mark.parametrize("change, wanted", [
@@ -144,7 +104,7 @@ def test_sizes(small, tmp_path, change, wanted):
         size = (whole / name).stat().st_size
         folder = changed(whole, tmp_path, name, change)
         text = f"{name} " + wanted.format(size=size, less=size - 1, more=size + 1)
-        assert told_by_reader(folder) == told_by_program(program, folder) == text
+        assert told(folder) == told_by_run(program, folder) == text
 
 
 def test_missing_files(small, tmp_path):
@@ -153,28 +113,7 @@ def test_missing_files(small, tmp_path):
         if name != "commit.bkd":
             folder = changed(whole, tmp_path, name, bytes)
             (folder / name).unlink()
-            assert told_by_reader(folder) == told_by_program(program, folder) == f"{name} missing"
-
-
-def test_the_program_checks_alike(small, tmp_path):
-    """Where the program has `check`, it says of every changed byte what the reader says."""
-    program, whole = small
-    try:
-        bkd.check(whole, program=program)
-    except bkd.Unsupported:
-        pytest.skip("the program has no check")
-    for name, page, at in places(whole):
-        for seal in (False, True):
-            if seal and at >= PAYLOAD:
-                continue
-            folder = changed(whole, tmp_path, name, flip(page, at, seal, name, 4))
-            ours = told_by_reader(folder)
-            try:
-                bkd.check(folder, program=program)
-                theirs = None
-            except bkd.Damaged as error:
-                theirs = str(error.damage)
-            assert ours == theirs, f"{name} page {page} byte {at} sealed {seal}"
+            assert told(folder) == told_by_run(program, folder) == f"{name} missing"
 
 
 def drawn(count, dims, seed, most=3):
@@ -227,14 +166,14 @@ MANY = {0: [(i, i) for i in range(17)]}
 ])
 def test_what_a_folder_holds(tmp_path, segments, following, given, wanted):
     write_index(tmp_path, 2, 20, segments, following, given)
-    assert told_by_reader(tmp_path) == wanted
+    assert told(tmp_path) == wanted
 
 
 def test_a_point_twice(tmp_path):
     """A leaf can't spell an entry twice, so the two stand in two leaves."""
     documents = {n: [(5, 5)] for n in range(3)}
     write_index(tmp_path, 2, 2, [(0, 1, 3, documents, [0, 1, 2])], 3, 3)
-    assert told_by_reader(tmp_path) is None
+    assert told(tmp_path) is None
     import writer
     leaves = [[(0, (5, 5)), (1, (5, 5))], [(1, (5, 5))]]
     kept, writer.tree_of = writer.tree_of, lambda entries, leaf: (0, 5, *leaves)
@@ -242,4 +181,4 @@ def test_a_point_twice(tmp_path):
         write_index(tmp_path, 2, 2, [(0, 1, 3, {0: [(5, 5)], 1: [(5, 5), (5, 5)]}, [0, 1])], 3, 3)
     finally:
         writer.tree_of = kept
-    assert told_by_reader(tmp_path) == "document 1 twice"
+    assert told(tmp_path) == "document 1 twice"

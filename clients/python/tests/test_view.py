@@ -141,6 +141,7 @@ def towns(count=9000):
         yield int(draw.gauss(x, wide)), int(draw.gauss(y, wide))
 
 
+@pytest.mark.slow
 @pytest.mark.skipif(shutil.which("chromium") is None, reason="no chromium")
 def test_in_a_browser(filed, tmp_path, shown):
     from chromium import Chromium

@@ -34,8 +34,8 @@ pub fn drawn(alloc: Global, count: u32) -> Result<Vec<Entry<2>>, AllocError>
     Ok(entries)
 }
 
-/// A sum over the bytes of what is built of so many drawn entries, the upper `forks` levels by two threads each; built so many
-/// times.
+/// A sum over the bytes of what is built of so many drawn entries, the upper `forks` levels by two threads each;
+/// built so many times.
 pub fn built<R: Threads + Sync>(
     rt: &R,
     alloc: Global,

@@ -3,7 +3,8 @@
 use leaf_codec::LeafView;
 use point_codec::{Cell, Point};
 
-/// How many of the reads of a leaf of two dimensions found one, and the sum of all numbers and coordinates that they gave.
+/// How many of the reads of a leaf of two dimensions found one, and the sum of all numbers and coordinates that they
+/// gave.
 pub fn read_over(leaf: &[u8], count: u16, times: u32) -> (u32, u64) {
     let mut found = 0u32;
     let mut sum = 0u64;

@@ -1,4 +1,5 @@
-//! What the scripts in `bench/` time: a part of the index and the plain form of it on the same work, with a printed answer.
+//! What the scripts in `bench/` time: a part of the index and the plain form of it on the same work, with a printed
+//! answer.
 #![tactic(auto)]
 
 mod builds;
@@ -17,101 +18,136 @@ use outer_io::{StdSource, read_all};
 use queries::Walk;
 use std::alloc::Global;
 use std::io::Lock;
+use std::marker::Sync;
+use std::thread::Threads;
 use std::{env, io};
 
-/// The words of a run, and what it prints:
-/// `csv A B` reads CSV from the standard input, and says how many points these two columns give;
-/// `rings plain|tree POSITIONS QUERIES` asks points and small cells of a star-shaped ring by the plain list of edges or by
-/// the edge tree, and says how many are in and how many are met;
-/// `leaves COUNT TIMES` reads the leaf of that many entries that the standard input holds, over and over, and says how often it
-/// was one and what the numbers sum up to;
-/// `build FORKS COUNT ROUNDS` draws so many entries and builds their tree so many times, the upper levels by two threads each, and
-/// sums up its bytes;
-/// `partition draw|tree COUNT ROUNDS` draws so many entries and parts them into leaves so many times, and sums up their order;
-/// `walk inside|tested|boxes COUNT TIMES` writes a segment of so many drawn entries and walks over it so many times, with a box that
-/// has all cells, with a shape that tests each entry or with small drawn boxes, and sums up the numbers that it finds;
-/// `near COUNT TIMES` does the same with queries for the ten nearest to a drawn point.
+/// What there is to do.
+const COMMANDS: &str = "csv, rings, leaves, build, partition, walk or near, with their words";
+
 fn main(rt: HostRuntime) -> io::Result<()> {
-    let alloc = rt.alloc();
-    let mut words = Vec::new(alloc);
+    let mut words = Vec::new(rt.alloc());
     for word in env::args(&rt)?.skip(1) {
         words.push(word)?;
     }
-    match words.as_slice() {
-        [command, first, second] if command.as_str() == "csv" => {
-            let mut source = StdSource::new(rt.stdin().lock());
-            let Ok(input) = read_all(alloc, &mut source, 1 << 30) else {
-                return println!(rt; "no input");
-            };
-            let points = loaded(alloc, input.as_slice(), first.as_str(), second.as_str());
-            println!(rt; "points {points}")
-        }
-        [command, kind, positions, queries] if command.as_str() == "rings" => {
-            let positions = number(positions.as_bytes()).unwrap_or(1000).min(65_535);
-            let queries = number(queries.as_bytes()).unwrap_or(1000);
-            match rings::asked(alloc, kind.as_str() == "tree", positions, queries) {
-                Some((inside, met)) => println!(rt; "inside {inside} met {met}"),
-                None => println!(rt; "no ring"),
-            }
-        }
-        [command, count, times] if command.as_str() == "leaves" => {
-            let mut source = StdSource::new(rt.stdin().lock());
-            let Ok(leaf) = read_all(alloc, &mut source, 4096) else {
-                return println!(rt; "no input");
-            };
-            let count = number(count.as_bytes()).unwrap_or(0).min(500) as u16;
-            let times = number(times.as_bytes()).unwrap_or(0);
-            let (found, sum) = leaves::read_over(leaf.as_slice(), count, times);
-            println!(rt; "leaves {found} sum {sum}")
-        }
-        [command, forks, count, rounds] if command.as_str() == "build" => {
-            let forks = number(forks.as_bytes()).unwrap_or(0).min(6) as u8;
-            let count = number(count.as_bytes())
-                .unwrap_or(1000)
-                .clamp(1, 16_777_216);
-            let rounds = number(rounds.as_bytes()).unwrap_or(1);
-            match builds::built(&rt, alloc, count, forks, rounds) {
-                Ok(sum) => println!(rt; "bytes {sum}"),
-                Err(_) => println!(rt; "no memory"),
-            }
-        }
-        [command, kind, count, rounds] if command.as_str() == "partition" => {
-            let count = number(count.as_bytes()).unwrap_or(1000).min(16_777_215);
-            let rounds = number(rounds.as_bytes()).unwrap_or(1);
-            match partition::parted(alloc, kind.as_str() == "tree", count, rounds) {
-                Ok(sum) => println!(rt; "order {sum}"),
-                Err(_) => println!(rt; "no memory"),
-            }
-        }
-        [command, kind, count, times] if command.as_str() == "walk" => {
-            let kind = match kind.as_str() {
-                "inside" => Walk::Inside,
-                "tested" => Walk::Tested,
-                _ => Walk::Boxes,
-            };
-            let count = number(count.as_bytes())
-                .unwrap_or(1000)
-                .clamp(1, 16_777_216);
-            let times = number(times.as_bytes()).unwrap_or(1);
-            match queries::walked(&rt, alloc, kind, count, times) {
-                Some(sum) => println!(rt; "hits {sum}"),
-                None => println!(rt; "no memory"),
-            }
-        }
-        [command, count, times] if command.as_str() == "near" => {
-            let count = number(count.as_bytes())
-                .unwrap_or(1000)
-                .clamp(1, 16_777_216);
-            let times = number(times.as_bytes()).unwrap_or(1);
-            match queries::near(&rt, alloc, count, times) {
-                Some(sum) => println!(rt; "near {sum}"),
-                None => println!(rt; "no memory"),
-            }
-        }
-        _ => println!(rt;
-            "csv A B | rings plain|tree POSITIONS QUERIES | leaves COUNT TIMES | build FORKS COUNT ROUNDS | partition draw|tree COUNT ROUNDS | walk inside|tested|boxes COUNT TIMES | near COUNT TIMES"
-        ),
+    match answer(&rt, &rt, rt.alloc(), words.as_slice()) {
+        Some(text) => println!(rt; "{text}"),
+        None => println!(rt; "nothing done: {COMMANDS}"),
     }
+}
+
+/// What is printed of the work that the words ask for. None where they ask for none, or it couldn't be done.
+fn answer<R: Threads + Sync>(
+    rt: &HostRuntime,
+    threads: &R,
+    alloc: Global,
+    words: &[String],
+) -> Option<String> {
+    let (command, words) = words.split_first()?;
+    match command.as_str() {
+        "csv" => csv(rt, alloc, words),
+        "rings" => edges(alloc, words),
+        "leaves" => leaf(rt, alloc, words),
+        "build" => build(threads, alloc, words),
+        "partition" => parts(alloc, words),
+        "walk" => walk(threads, alloc, words),
+        "near" => near(threads, alloc, words),
+        _ => None,
+    }
+}
+
+/// `csv A B` reads CSV from the standard input, and says how many points these two columns give.
+fn csv(rt: &HostRuntime, alloc: Global, words: &[String]) -> Option<String> {
+    let [first, second] = words else {
+        return None;
+    };
+    let input = input_of(rt, alloc, 1 << 30)?;
+    let points = loaded(alloc, input.as_slice(), first.as_str(), second.as_str());
+    format!(in alloc; "points {points}").ok()
+}
+
+/// `rings plain|tree POSITIONS QUERIES` asks points and small cells of a star-shaped ring by the plain list of edges or
+/// by the edge tree, and says how many are in and how many are met.
+fn edges(alloc: Global, words: &[String]) -> Option<String> {
+    let [kind, positions, queries] = words else {
+        return None;
+    };
+    let positions = count_of(positions).min(65_535);
+    let (inside, met) = rings::asked(alloc, kind.as_str() == "tree", positions, count_of(queries))?;
+    format!(in alloc; "inside {inside} met {met}").ok()
+}
+
+/// `leaves COUNT TIMES` reads the leaf of that many entries that the standard input holds, over and over, and says how
+/// often it was one and what the numbers sum up to.
+fn leaf(rt: &HostRuntime, alloc: Global, words: &[String]) -> Option<String> {
+    let [count, times] = words else {
+        return None;
+    };
+    let leaf = input_of(rt, alloc, 4096)?;
+    let count = count_of(count).min(500) as u16;
+    let (found, sum) = leaves::read_over(leaf.as_slice(), count, count_of(times));
+    format!(in alloc; "leaves {found} sum {sum}").ok()
+}
+
+/// `build FORKS COUNT ROUNDS` draws so many entries and builds their tree so many times, the upper levels by two
+/// threads each, and sums up its bytes.
+fn build<R: Threads + Sync>(rt: &R, alloc: Global, words: &[String]) -> Option<String> {
+    let [forks, count, rounds] = words else {
+        return None;
+    };
+    let forks = count_of(forks).min(6) as u8;
+    let count = count_of(count).clamp(1, 16_777_216);
+    let sum = builds::built(rt, alloc, count, forks, count_of(rounds)).ok()?;
+    format!(in alloc; "bytes {sum}").ok()
+}
+
+/// `partition draw|tree COUNT ROUNDS` draws so many entries and parts them into leaves so many times, and sums up their
+/// order.
+fn parts(alloc: Global, words: &[String]) -> Option<String> {
+    let [kind, count, rounds] = words else {
+        return None;
+    };
+    let count = count_of(count).min(16_777_215);
+    let sum = partition::parted(alloc, kind.as_str() == "tree", count, count_of(rounds)).ok()?;
+    format!(in alloc; "order {sum}").ok()
+}
+
+/// `walk inside|tested|boxes COUNT TIMES` writes a segment of so many drawn entries and walks over it so many times,
+/// with a box that has all cells, with a shape that tests each entry or with small drawn boxes, and sums up the numbers
+/// that it finds.
+fn walk<R: Threads + Sync>(rt: &R, alloc: Global, words: &[String]) -> Option<String> {
+    let [kind, count, times] = words else {
+        return None;
+    };
+    let kind = match kind.as_str() {
+        "inside" => Walk::Inside,
+        "tested" => Walk::Tested,
+        _ => Walk::Boxes,
+    };
+    let count = count_of(count).clamp(1, 16_777_216);
+    let sum = queries::walked(rt, alloc, kind, count, count_of(times))?;
+    format!(in alloc; "hits {sum}").ok()
+}
+
+/// `near COUNT TIMES` does the same with queries for the ten nearest to a drawn point.
+fn near<R: Threads + Sync>(rt: &R, alloc: Global, words: &[String]) -> Option<String> {
+    let [count, times] = words else {
+        return None;
+    };
+    let count = count_of(count).clamp(1, 16_777_216);
+    let sum = queries::near(rt, alloc, count, count_of(times))?;
+    format!(in alloc; "near {sum}").ok()
+}
+
+/// The number that a word spells, or 1.
+fn count_of(word: &String) -> u32 {
+    number(word.as_bytes()).unwrap_or(1)
+}
+
+/// The standard input, where it is no longer than this.
+fn input_of(rt: &HostRuntime, alloc: Global, limit: u64) -> Option<Vec<u8>> {
+    let mut source = StdSource::new(rt.stdin().lock());
+    read_all(alloc, &mut source, limit).ok()
 }
 
 /// How many points the two columns of a CSV file give, or 0 where there is a fault.

@@ -9,4 +9,5 @@ pub mod Found
 pub mod Lines
 pub mod Leaves
 pub mod Crowded
+pub mod Pages
 pub mod Whole

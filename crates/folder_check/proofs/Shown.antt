@@ -3,7 +3,7 @@ use Rattle.std.proofs.Common.{◌≢◌, ℕ, List, Result, refl, sym, subst, �
 use Rattle.std.specs.Prelude.{IfSome}
 use Rattle.std.specs.List.{AllZip}
 use Rattle.std.proofs.lemmas.Grind.{merely}
-use Rattle.outer_io.specs.declared.file_name.FileName.TheVariants.{Segment}
+use Rattle.outer_io.specs.declared.file_name.FileName.TheVariants.{Commit, Live, Segment}
 use Rattle.outer_io.specs.Files.{Files, bytes_of}
 use Rattle.page_cache.specs.declared.faults.Damage.{Damage}
 use Rattle.page_cache.specs.declared.faults.PageFault.{PageFault}
@@ -17,7 +17,8 @@ use Rattle.stored_index.specs.Segments.{SegmentData, live_entries}
 use Rattle.stored_index.proofs.Pairwise.{partner_of}
 use Rattle.segment_view.specs.Parts.{part_of}
 use Rattle.number_checks.specs.Crowded.{IsLeastCrowded}
-use Rattle.index_opening.specs.Evidence.{HasNoBody, InCommit, InLive, InSegment, IsEvident, IsHeadIn, IsTrueOf, IsTwice, LacksLeaf}
+use Rattle.index_opening.specs.Evidence.{HasNoBody, HoldsEntries, InSegment, IsEvident, IsHeadIn, IsTrueOf, IsTwice, LacksLeaf}
+use Rattle.index_opening.specs.Evidence.{InCommit, InLive, IsFilePair, IsFound, NamesLooked, OfFiles}
 use Rattle.folder_check.specs.declared.findings.Finding.{Finding}
 use Rattle.folder_check.specs.Found.{Beyond, Crowding, HasAll, IsBeyondGiven, IsCrowding, IsLacking, IsWrong, Lacking}
 use Rattle.folder_check.proofs.Gathered.{HoldsBut, IsFoundIn, all_held, entries_found}
@@ -31,11 +32,12 @@ wrong_shows P listed given findings d (Beyond all none b) =
     subst (IsShown (LacksLeaf P) HasNoBody) (sym b.tells) (let more = b.more in let apart : given ≢ b.found = omega arith in apart)
 
 module _ (files : Files) (c : CommitData) (held : List SegmentData) (findings : List Finding) (g : AreGathered files c held findings) where
-  lacking_carried : (d : Damage) → IsLacking c.listed findings d → IsTrueOf (IsTwice files) files d
-  lacking_carried d l =
+  lacking_pair : (d : Damage) (l : IsLacking c.listed findings d)
+      → IsFilePair files (Live l.segment.segment l.segment.generation) l.segment.live l.finding.found
+  lacking_pair d l =
       let at = zip_at (λ s f. (e : SegmentData) × HoldsBut files c s e × IsFoundIn e f) c.listed findings l.place l.segment l.finding (zip_over (HoldsBut files c) IsFoundIn c.listed held findings g.but g.found) l.listed_there l.found_there in
-      subst (IsTrueOf (IsTwice files) files) (sym l.tells)
-      (InLive c g.says l.segment (get_in c.listed l.place l.segment l.listed_there) at.0 (record { id = at.1.id; segment = at.1.segment; live = at.1.live }) refl (sym at.1.live_count) at.2.found)
+      let by : HoldsEntries files c l.segment at.0 = record { id = at.1.id; segment = at.1.segment; live = at.1.live } in
+      InLive c g.says l.segment (get_in c.listed l.place l.segment l.listed_there) at.0 by refl (sym at.1.live_count) at.2.found
 
   crowding_carried : (d : Damage) → IsCrowding findings d → IsTrueOf (IsTwice files) files d
   crowding_carried d (number, tells, least) =
@@ -51,15 +53,20 @@ module _ (files : Files) (c : CommitData) (held : List SegmentData) (findings : 
         crowded = crowded.crowded;
       }))
 
-  beyond_carried : AllZip HasAll c.listed findings → (d : Damage) → IsBeyondGiven c.given findings d → IsTrueOf (IsTwice files) files d
-  beyond_carried all d b =
-      subst (IsTrueOf (IsTwice files) files) (sym b.tells)
-      (InCommit c g.says held (all_held files c c.listed held findings g.but g.found all) refl refl (b.is (entries_fit files c held findings g) ∙ entries_found held findings g.found))
+  given_pair : AllZip HasAll c.listed findings → (d : Damage) (b : IsBeyondGiven c.given findings d) → IsFilePair files Commit c.given b.found
+  given_pair all d b =
+      InCommit c g.says held (all_held files c c.listed held findings g.but g.found all) refl refl
+      (b.is (entries_fit files c held findings g) ∙ entries_found held findings g.found)
 
   wrong_carried : (d : Damage) → IsWrong c.listed c.given findings d → IsTrueOf (IsTwice files) files d
-  wrong_carried d (Lacking l) = lacking_carried d l
+  wrong_carried d (Lacking l) = subst (IsTrueOf (IsTwice files) files) (sym l.tells) (OfFiles (lacking_pair d l))
   wrong_carried d (Crowding all crowd) = crowding_carried d crowd
-  wrong_carried d (Beyond all none b) = beyond_carried all d b
+  wrong_carried d (Beyond all none b) = subst (IsTrueOf (IsTwice files) files) (sym b.tells) (OfFiles (given_pair all d b))
+
+  wrong_named : (d : Damage) → IsWrong c.listed c.given findings d → NamesLooked files d
+  wrong_named d (Lacking l) = subst (NamesLooked files) (sym l.tells) (lacking_pair d l)
+  wrong_named d (Crowding all (number, tells, least)) = subst (NamesLooked files) (sym tells) tt
+  wrong_named d (Beyond all none b) = subst (NamesLooked files) (sym b.tells) (given_pair all d b)
 
 wrong_evident : (T : Type 0) (files : Files) (c : CommitData) (findings : List Finding) (d : Damage) → (T → (held : List SegmentData) × AreGathered files c held findings) → IsWrong c.listed c.given findings d → IsEvident T files d
 wrong_evident T files c findings d know wrong = record {
@@ -73,3 +80,9 @@ wrong_evident T files c findings d know wrong = record {
 pub on_wrong_evident : {X : Type 0} (T : Type 0) (files : Files) (c : CommitData) (findings : List Finding) (r : Result X PageFault) → (T → (held : List SegmentData) × AreGathered files c held findings)
     → OnDamage r (IsWrong c.listed c.given findings) → OnDamage r (IsEvident T files)
 on_wrong_evident T files c findings r know = on_damage_weaker r (IsWrong c.listed c.given findings) (IsEvident T files) (λ d h. wrong_evident T files c findings d know h)
+
+pub on_wrong_found : {X : Type 0} (files : Files) (c : CommitData) (findings : List Finding) (r : Result X PageFault)
+    → (held : List SegmentData) × AreGathered files c held findings
+    → OnDamage r (IsWrong c.listed c.given findings) → OnDamage r (IsFound files)
+on_wrong_found files c findings r (held, g) =
+    on_damage_weaker r (IsWrong c.listed c.given findings) (IsFound files) (λ d wrong. merely (wrong_named files c held findings g d wrong))

@@ -19,23 +19,23 @@ use Rattle.commit_list.proofs.CommitPages.{file_there, one_file}
 use Rattle.segment_file.specs.Heads.{Head}
 use Rattle.segment_file.specs.Segments.{IsHeadOf, IsSegment}
 use Rattle.index_model.specs.State.{State}
-use Rattle.stored_index.specs.Opening.{segments_pages}
 use Rattle.stored_index.specs.Segments.{SegmentData}
 use Rattle.stored_index.specs.Stored.{HaveHeads, HaveLive, HoldsFiles, HoldsIndex, IsStored, IsUndefined}
 use Rattle.stored_index.proofs.Pairwise.{partner_of}
-use Rattle.stored_index.proofs.Parts.{EntriesOnce, heads_once}
+use Rattle.stored_index.proofs.Parts.{EntriesOnce}
 use Rattle.stored_index.proofs.Whole.{held_for}
-use Rattle.segment_view.specs.Parts.{Part, heads_of, lives_of}
+use Rattle.segment_view.specs.Parts.{Part, lives_of}
 use Rattle.segment_view.specs.Held.{HasOwnHead}
-use Rattle.segment_view.specs.Costs.{leaves_in}
 use Rattle.number_checks.specs.Placed.{IsPlaced}
 use Rattle.index_opening.specs.Opened.{IsOpened}
 use Rattle.index_opening.specs.Evidence.{IsHeadIn}
+use Rattle.index_opening.specs.Evidence.{IsListed as IsListedFile}
+use Rattle.index_opening.proofs.Evident.{segment_listed}
 use Rattle.index_opening.proofs.Listed.{as_part, opened_heads, opened_lives, parts_held}
 use Rattle.index_opening.proofs.Ordered.{zip_right}
 use Rattle.folder_check.specs.declared.findings.Finding.{Finding}
 use Rattle.folder_check.specs.Found.{AreFine, HasSegment, IsFinding, IsWrong}
-use Rattle.folder_check.specs.Checked.{IsChecking, checked_pages}
+use Rattle.folder_check.specs.Checked.{IsChecking, both_pages, checked_pages}
 use Rattle.folder_check.proofs.Gathered.{gathered}
 use Rattle.folder_check.proofs.Judged.{AreGathered, entries_fit, fine_holds, gather_all, wrong_undefined}
 
@@ -71,10 +71,14 @@ all_segments T D files c parts t dims says opened state stored =
           (subst (λ id. IsSegment c.dims (bytes_of (files (Segment id))) d.head d.entries) (sym h.id) h.segment),
     )
 
--- as many leaves are read as the heads of the files have
-pub leaves_read : (T : Type 0) (files : Files) (c : CommitData) (parts : List Part) (heads : List Head) → T → AllZip (IsOpened T files c) c.listed parts → HaveHeads files c heads
-    → leaves_in (heads_of parts) ≡ leaves_in heads
-leaves_read T files c parts heads t opened have = ap leaves_in (heads_once files c (heads_of parts) heads (opened_heads T files c parts t opened) have)
+pub all_listed : (T : Type 0) (files : Files) (c : CommitData) (parts : List Part) → IsCommitFile (bytes_of (files Commit)) c
+    → AllZip (IsOpened T files c) c.listed parts → All (λ (p : Part). IsListedFile files (Segment p.head.id)) parts
+all_listed T files c parts says =
+    let P = λ (p : Part). IsListedFile files (Segment p.head.id) in
+    zip_right (IsOpened T files c) (Contains c.listed) P c.listed parts one (All-contains_itself c.listed)
+  where
+    one : (s : Listed) (p : Part) → Contains c.listed s → IsOpened T files c s p → IsListedFile files (Segment p.head.id)
+    one s p there o = segment_listed files c s (Segment p.head.id) says there (ap (λ (id : ℕ). Segment id) o.listed.id)
 
 -- ---- what was found, as it is handed on
 
@@ -134,18 +138,18 @@ none_some e = absurd cc
 
 -- where the commit was read and what it lists was looked at
 pub pages_all : (files : Files) (c : CommitData) (pages from mid now : ℕ) → IsCommitFile (bytes_of (files Commit)) c → ((d : CommitData) → IsCommitFile (bytes_of (files Commit)) d → mid ≤ from + length (bytes_of (files Commit)) / 4096)
-    → ((heads : List Head) (sets : List LiveSet) → HaveHeads files c heads → HaveLive files c sets → now ≤ mid + segments_pages files c.listed heads + leaves_in heads) → IsChecking files pages → now ≤ from + pages
+    → ((heads : List Head) (sets : List LiveSet) → HaveHeads files c heads → HaveLive files c sets → now ≤ mid + sum_by (both_pages files) c.listed) → IsChecking files pages → now ≤ from + pages
 pages_all files c pages from mid now says most more (inl (absent, zero)) = none_some (sym absent ∙ (file_there (files Commit) c says).0)
 pages_all files c pages from mid now says most more (inr k) =
     let same : k.commit ≡ c = one_file (bytes_of (files Commit)) k.commit c k.says says in
     let here = most c says in
     let rest = more k.heads k.sets (subst (λ (d : CommitData). HaveHeads files d k.heads) same k.have) (subst (λ (d : CommitData). HaveLive files d k.sets) same k.live) in
-    let is : pages ≡ checked_pages files c k.heads = k.is ∙ ap (λ (d : CommitData). checked_pages files d k.heads) same in
+    let is : pages ≡ checked_pages files c = k.is ∙ ap (checked_pages files) same in
     omega (arith, here, rest, is)
 
 -- what is read of the same files
 pub read_at : (files mid : Files) (c : CommitData) (from now : ℕ) → mid ≡ files
-    → ((heads : List Head) (sets : List LiveSet) → HaveHeads mid c heads → HaveLive mid c sets → now ≤ from + segments_pages mid c.listed heads + leaves_in heads)
-    → (heads : List Head) (sets : List LiveSet) → HaveHeads files c heads → HaveLive files c sets → now ≤ from + segments_pages files c.listed heads + leaves_in heads
+    → ((heads : List Head) (sets : List LiveSet) → HaveHeads mid c heads → HaveLive mid c sets → now ≤ from + sum_by (both_pages mid) c.listed)
+    → (heads : List Head) (sets : List LiveSet) → HaveHeads files c heads → HaveLive files c sets → now ≤ from + sum_by (both_pages files) c.listed
 read_at files mid c from now same more =
-    subst (λ (f : Files). (heads : List Head) (sets : List LiveSet) → HaveHeads f c heads → HaveLive f c sets → now ≤ from + segments_pages f c.listed heads + leaves_in heads) same more
+    subst (λ (f : Files). (heads : List Head) (sets : List LiveSet) → HaveHeads f c heads → HaveLive f c sets → now ≤ from + sum_by (both_pages f) c.listed) same more

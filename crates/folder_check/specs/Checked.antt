@@ -1,15 +1,15 @@
 -- What checking a folder tells of it, and how many pages it reads.
-use Rattle.std.specs.Prelude.{ℕ, ◌+◌, ◌≡◌, ◌⊎◌, List, ◌++◌, length, None, codes, decimal}
-use Rattle.outer_io.specs.declared.file_name.FileName.TheVariants.{Commit}
+use Rattle.std.specs.Prelude.{ℕ, ◌+◌, ◌-◌, ◌/◌, ◌≡◌, ◌⊎◌, List, ◌++◌, length, sum_by, None, codes, decimal}
+use Rattle.outer_io.specs.declared.file_name.FileName.{FileName}
+use Rattle.outer_io.specs.declared.file_name.FileName.TheVariants.{Commit, Segment, Live}
 use Rattle.outer_io.specs.Files.{Files, bytes_of}
 use Rattle.documents.specs.Documents.{Document}
 use Rattle.live_bits.specs.LiveSet.{LiveSet}
+use Rattle.commit_list.specs.declared.listed.Listed.{Listed}
 use Rattle.commit_list.specs.Commits.{CommitData}
 use Rattle.commit_list.specs.CommitFiles.{IsCommitFile}
-use Rattle.segment_file.specs.Heads.{Head}
-use Rattle.stored_index.specs.Opening.{opening_pages}
+use Rattle.segment_file.specs.Heads.{Head, index_pages}
 use Rattle.stored_index.specs.Stored.{HaveHeads, HaveLive, HoldsIndex}
-use Rattle.segment_view.specs.Costs.{leaves_in}
 
 -- ---- what is told
 
@@ -35,9 +35,21 @@ IsChecked files text = ((files Commit ≡ None) × (text ≡ none_text)) ⊎ IsO
 
 -- ---- what is read
 
--- the pages of the Commit file, of the head, the index and the live bits of each segment, and one for each leaf
-abbrev pub checked_pages : Files → CommitData → List Head → ℕ
-checked_pages files c heads = opening_pages files c heads + leaves_in heads
+-- how many pages a file has
+abbrev pub pages_in : Files → FileName → ℕ
+pages_in files name = length (bytes_of (files name)) / 4096
+
+-- how many the two files of a listed segment have
+abbrev pub both_pages : Files → Listed → ℕ
+both_pages files s = pages_in files (Segment s.segment) + pages_in files (Live s.segment s.generation)
+
+-- how many of a segment's file are leaf pages: those behind the head's page and the pages of the index
+abbrev pub leaf_pages : Files → Head → ℕ
+leaf_pages files head = pages_in files (Segment head.id) - (1 + index_pages head)
+
+-- each page of the Commit file, and of both files of each segment that it lists, once
+abbrev pub checked_pages : Files → CommitData → ℕ
+checked_pages files c = pages_in files Commit + sum_by (both_pages files) c.listed
 
 -- so many pages are read where the Commit file says a commit and each segment that it lists has a head and live bits
 pub record ChecksIndex (files : Files) (pages : ℕ) : Type 0 where
@@ -47,7 +59,7 @@ pub record ChecksIndex (files : Files) (pages : ℕ) : Type 0 where
   pub have : HaveHeads files commit heads
   pub sets : List LiveSet
   pub live : HaveLive files commit sets
-  pub is : pages ≡ checked_pages files commit heads
+  pub is : pages ≡ checked_pages files commit
 
 -- and none where there is no Commit file
 abbrev pub IsChecking : Files → ℕ → Type 0

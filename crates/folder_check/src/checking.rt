@@ -10,11 +10,9 @@ ghost use Rattle.page_cache.specs.Evidence.{OnDamage, NotDamaged};
 ghost use Rattle.commit_list.specs.CommitFiles.{IsCommitFile};
 ghost use Rattle.segment_file.specs.Heads.{Head};
 ghost use Rattle.index_model.specs.State.{State};
-ghost use Rattle.stored_index.specs.Opening.{segments_pages};
 ghost use Rattle.stored_index.specs.Stored.{HaveHeads, HaveLive, HoldsIndex, IsStored, IsUndefined};
-ghost use Rattle.segment_view.specs.Costs.{leaves_in};
-ghost use Rattle.index_opening.specs.Evidence.{IsEvident};
-ghost use Rattle.folder_check.specs.Checked.{IsChecked, IsChecking};
+ghost use Rattle.index_opening.specs.Evidence.{IsEvident, IsFound};
+ghost use Rattle.folder_check.specs.Checked.{IsChecked, IsChecking, both_pages};
 
 use crate::findings::judge;
 use crate::reading::read_leaves;
@@ -48,6 +46,8 @@ pub fn check<F: Folder>(alloc: Global, folder: &mut F, text: &mut Vec<u8>) -> Re
     // a damage is answered where no state is stored, and there alone
     ensures undefined { IsTrue F.told → OnDamage result (λ _. IsUndefined (F.files folder.old)) }
     ensures whole { IsTrue F.told → (state : State) → IsStored (F.files folder.old) state → NotDamaged result }
+    // it names the Commit file or one that it lists, and two numbers are a pair of these files
+    ensures named { IsTrue F.told → OnDamage result (IsFound (F.files folder.old)) }
     ensures evident { OnDamage result (IsEvident (IsTrue F.told) (F.files folder.old)) }
 {
     let line = checked(alloc, folder)?;
@@ -62,6 +62,7 @@ fn checked<F: Folder>(alloc: Global, folder: &mut F) -> Result<Vec<u8>, PageFaul
     ensures reads { IsTrue F.told → (pages : ℕ) → IsChecking (F.files folder.old) pages → F.reads folder.new ≤ F.reads folder.old + pages }
     ensures cause { HasPageCause (F.faults folder.old) (F.faults folder.new) result }
     ensures undefined { IsTrue F.told → OnDamage result (λ _. IsUndefined (F.files folder.old)) }
+    ensures named { IsTrue F.told → OnDamage result (IsFound (F.files folder.old)) }
     ensures evident { OnDamage result (IsEvident (IsTrue F.told) (F.files folder.old)) }
 {
     let Some(commit) = read_commit(alloc, folder)? else {
@@ -76,9 +77,11 @@ fn check_commit<F: Folder>(alloc: Global, folder: &mut F, c: &Commit) -> Result<
     ensures holds { IsTrue F.told → IsCommitFile (bytes_of (F.files folder.old CommitName)) c.now → OnOk result ((docs : List Document) × HoldsIndex (F.files folder.old) c.now docs) }
     ensures files { IsTrue F.told → F.files folder.new ≡ F.files folder.old }
     ensures reads { IsTrue F.told → (heads : List Head) (sets : List LiveSet) → HaveHeads (F.files folder.old) c.now heads → HaveLive (F.files folder.old) c.now sets
-        → F.reads folder.new ≤ F.reads folder.old + segments_pages (F.files folder.old) c.now.listed heads + leaves_in heads }
+        → F.reads folder.new ≤ F.reads folder.old + sum_by (both_pages (F.files folder.old)) c.now.listed }
     ensures cause { HasPageCause (F.faults folder.old) (F.faults folder.new) result }
     ensures undefined { IsTrue F.told → IsCommitFile (bytes_of (F.files folder.old CommitName)) c.now → OnDamage result (λ _. IsUndefined (F.files folder.old)) }
+    ensures named { IsTrue F.told → IsCommitFile (bytes_of (F.files folder.old CommitName)) c.now
+        → OnDamage result (IsFound (F.files folder.old)) }
     ensures evident { OnDamage result (IsEvident (IsTrue F.told × IsCommitFile (bytes_of (F.files folder.old CommitName)) c.now) (F.files folder.old)) }
 {
     match c.dims() {
@@ -104,9 +107,11 @@ fn check_index<const D: usize, F: Folder>(
     ensures holds { IsTrue F.told → IsCommitFile (bytes_of (F.files folder.old CommitName)) c.now → OnOk result ((docs : List Document) × HoldsIndex (F.files folder.old) c.now docs) }
     ensures files { IsTrue F.told → F.files folder.new ≡ F.files folder.old }
     ensures reads { IsTrue F.told → (heads : List Head) (sets : List LiveSet) → HaveHeads (F.files folder.old) c.now heads → HaveLive (F.files folder.old) c.now sets
-        → F.reads folder.new ≤ F.reads folder.old + segments_pages (F.files folder.old) c.now.listed heads + leaves_in heads }
+        → F.reads folder.new ≤ F.reads folder.old + sum_by (both_pages (F.files folder.old)) c.now.listed }
     ensures cause { HasPageCause (F.faults folder.old) (F.faults folder.new) result }
     ensures undefined { IsTrue F.told → IsCommitFile (bytes_of (F.files folder.old CommitName)) c.now → OnDamage result (λ _. IsUndefined (F.files folder.old)) }
+    ensures named { IsTrue F.told → IsCommitFile (bytes_of (F.files folder.old CommitName)) c.now
+        → OnDamage result (IsFound (F.files folder.old)) }
     ensures evident { OnDamage result (IsEvident (IsTrue F.told × IsCommitFile (bytes_of (F.files folder.old CommitName)) c.now) (F.files folder.old)) }
 {
     let segments = open_index::<D, F>(alloc, folder, c)?;

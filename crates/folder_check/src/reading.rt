@@ -1,6 +1,6 @@
 //! The leaves of all segments, read one segment after the other.
 
-ghost use Rattle.std.specs.Prelude.{◌≡◌, ◌≤◌, ◌+◌, length, IsTrue, IfOk, All};
+ghost use Rattle.std.specs.Prelude.{◌≡◌, ◌≤◌, ◌+◌, length, sum_by, IsTrue, IfOk, All};
 ghost use Rattle.std.specs.List.{AllZip};
 ghost use Rattle.point_codec.specs.Seen.{items_of};
 ghost use Rattle.page_cache.specs.Cache.{Agrees};
@@ -9,8 +9,8 @@ ghost use Rattle.page_cache.specs.Evidence.{OnDamage, NotDamaged};
 ghost use Rattle.segment_file.specs.Damages.{IsLeafDamageOf};
 ghost use Rattle.segment_view.specs.Parts.{heads_of, part_of};
 ghost use Rattle.segment_view.specs.Held.{HasOwnHead};
-ghost use Rattle.segment_view.specs.Costs.{leaves_in};
 ghost use Rattle.segment_view.specs.Damages.{IsPartDamage, IsReadDamage};
+ghost use Rattle.folder_check.specs.Checked.{leaf_pages};
 ghost use Rattle.folder_check.specs.Found.{HasSegment, IsFinding};
 
 use crate::findings::Finding;
@@ -22,8 +22,9 @@ use segment_file::{SegmentHead, read_entries};
 use segment_view::Segments;
 use std::alloc::Global;
 
-/// What the leaves of each segment have. All leaves are read, those of segments without a live number too. Of one segment at a time
-/// the live entries are in memory.
+/// What the leaves of each segment have. All leaves are read, those of segments without a live number too, and each of
+/// their pages once: leaves of one page follow each other, and the page that was read last is kept. Of one segment at a
+/// time the live entries are in memory.
 pub(crate) fn read_leaves<const D: usize, F: Pages>(
     alloc: Global,
     folder: &mut F,
@@ -33,7 +34,8 @@ pub(crate) fn read_leaves<const D: usize, F: Pages>(
         → IfOk result (λ v. AllZip (IsFinding D (F.files folder.old)) segments.now v.items) }
     ensures each { IfOk result (λ v. length v.items ≡ length segments.now) }
     ensures files { IsTrue F.told → F.files folder.new ≡ F.files folder.old }
-    ensures reads { F.reads folder.new ≤ F.reads folder.old + leaves_in (heads_of segments.now) }
+    ensures reads { IsTrue F.told → All (HasOwnHead D (F.files folder.old)) segments.now
+        → F.reads folder.new ≤ F.reads folder.old + sum_by (leaf_pages (F.files folder.old)) (heads_of segments.now) }
     ensures cause { HasPageCause (F.faults folder.old) (F.faults folder.new) result }
     ensures shown { OnDamage result (IsPartDamage D segments.now) }
     ensures damage { IsTrue F.told → OnDamage result (IsLeafDamageOf (F.files folder.old)) }
@@ -61,7 +63,8 @@ fn read_segment<const D: usize, F: Pages>(
         → IfOk result (IsFinding D (F.files folder.old) (part_of head.now live.now)) }
     ensures files { IsTrue F.told → F.files folder.new ≡ F.files folder.old }
     ensures agrees { IsTrue F.told → Agrees (F.files folder.old) cache.old → Agrees (F.files folder.old) cache.new }
-    ensures reads { F.reads folder.new ≤ F.reads folder.old + head.now.index.leaves }
+    ensures reads { IsTrue F.told → HasOwnHead D (F.files folder.old) (part_of head.now live.now)
+        → F.reads folder.new ≤ F.reads folder.old + leaf_pages (F.files folder.old) head.now }
     ensures cause { HasPageCause (F.faults folder.old) (F.faults folder.new) result }
     ensures shown { OnDamage result (IsReadDamage D head.now) }
     ensures damage { IsTrue F.told → Agrees (F.files folder.old) cache.old → OnDamage result (IsLeafDamageOf (F.files folder.old)) }

@@ -1,5 +1,5 @@
 -- What a session guards stays so, through calls on its set, a commit and a sweep.
-use Rattle.std.proofs.Common.{◌≡◌, ◌<◌, ◌↔◌, ℕ, true, false, List, [], ◌∷◌, length, map, Option, None, Some, is_some, Result, Ok, Err, IfOk, refl, sym, ap, subst, ◌∙◌, ◌⊎◌, inl, inr, ⊎_elim, arith}
+use Rattle.std.proofs.Common.{◌≡◌, ◌<◌, ◌↔◌, ℕ, true, false, List, [], ◌∷◌, length, map, Option, None, Some, Result, Ok, Err, IfOk, refl, sym, ap, subst, ◌∙◌, ◌⊎◌, inl, inr, ⊎_elim, arith}
 use Rattle.std.specs.List.{AllPairs, AllZip, Contains}
 use Rattle.std.proofs.lemmas.Bool.{both_ways}
 use Rattle.std.proofs.lemmas.List.Kept.{AllPairs-from_increasing}
@@ -244,18 +244,15 @@ kept_swept f g s t c swept says = record {
   listed = λ d other m lists. swept.files m (inl (subst (λ (e : CommitData). ListsFile e m) (one_file (bytes_of (f Commit)) d c other says) lists));
 }
 
--- what was saved, where it is the last commit
-pub saved_is : (saved commit : Option CommitData) → is_some commit ≡ true → saved ≡ commit → (c : CommitData) × (saved ≡ Some c)
-saved_is saved None some same = absurd cc
-saved_is saved (Some c) some same = (c, same)
-
-pub saved_some : (saved commit : Option CommitData) → is_some commit ≡ true → saved ≡ commit → saved ≡ None → ⊥
-saved_some saved commit some same none = let no : is_some {T = CommitData} None ≡ true = ap is_some (sym none ∙ same) ∙ some in absurd cc
-
--- a session whose set was swept, of the commit that its set saved
-swept_as : (D : ℕ) (f g : Files) (s t : SessionData) (c : CommitData) → s.commit ≡ Some c → s.refused ≡ false → t.commit ≡ s.commit → t.refused ≡ false → IsSwept f g s.set t.set c
+-- a session whose set was swept, of its commit
+pub session_swept : (D : ℕ) (f g : Files) (s t : SessionData) (c : CommitData) → s.commit ≡ Some c → s.refused ≡ false → t.commit ≡ s.commit
+    → t.refused ≡ false → IsSwept f g s.set t.set c
     → Guards D f s → Guards D g t × SameKept f g
-swept_as D f g s t c is done same still swept guards = (subst (Guards D g) (sym after) (guards_swept D f g s.set t.set c swept now), kept_swept f g s.set t.set c swept ((now.last refl).says))
+session_swept D f g s t c is done same still swept guards = (
+  subst (Guards D g) (sym after)
+      (guards_swept D f g s.set t.set c swept now),
+  kept_swept f g s.set t.set c swept ((now.last refl).says),
+)
   where
     before : s ≡ record { set = s.set; commit = Some c; refused = false }
     before = λ j. record { set = s.set; commit = is j; refused = done j }
@@ -265,14 +262,6 @@ swept_as D f g s t c is done same still swept guards = (subst (Guards D g) (sym 
 
     now : Guards D f (record { set = s.set; commit = Some c; refused = false })
     now = subst (Guards D f) before guards
-
-pub session_swept : (D : ℕ) (f g : Files) (s t : SessionData) → is_some s.commit ≡ true → s.set.saved ≡ s.commit → s.refused ≡ false → t.commit ≡ s.commit → t.refused ≡ false
-    → ((c : CommitData) → s.set.saved ≡ Some c → IsSwept f g s.set t.set c) → Guards D f s → Guards D g t × SameKept f g
-session_swept D f g s t some saved done same still swept guards = by s.commit refl some
-  where
-    by : (o : Option CommitData) → s.commit ≡ o → is_some o ≡ true → Guards D g t × SameKept f g
-    by None is e = absurd cc
-    by (Some c) is e = swept_as D f g s t c is done same still (swept c (saved ∙ is)) guards
 
 -- ---- a set anew
 

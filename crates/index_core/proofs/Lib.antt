@@ -14,3 +14,4 @@ pub mod Listed
 pub mod Wholes
 pub mod Lightly
 pub mod Undone
+pub mod Closing

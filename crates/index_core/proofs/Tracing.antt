@@ -173,13 +173,9 @@ traced_swept D f g s t c swept last traced = subst (AreTraced D g) (sym swept.pa
     listed h = (h.listed, subst (λ (d : CommitData). Contains d.listed h.listed) (sym (one_file (bytes_of (f Commit)) c h.commit last.says h.says)) h.there, refl, refl)
 
 -- of a session whose set was swept
-pub session_traced : (D : ℕ) (f g : Files) (s t : SessionData) → is_some s.commit ≡ true → s.set.saved ≡ s.commit → s.refused ≡ false
-    → ((c : CommitData) → s.set.saved ≡ Some c → IsSwept f g s.set t.set c) → Guards D f s → AreTraced D f s.set.parts → AreTraced D g t.set.parts
-session_traced D f g s t some saved done swept guards traced = by s.commit refl some
-  where
-    by : (o : Option CommitData) → s.commit ≡ o → is_some o ≡ true → AreTraced D g t.set.parts
-    by None is e = absurd cc
-    by (Some c) is e = traced_swept D f g s.set t.set c (swept c (saved ∙ is)) (subst (IsLast f s.set) is (guards.last done)) traced
+pub session_traced : (D : ℕ) (f g : Files) (s : SessionData) (t : SetData) (c : CommitData) → s.commit ≡ Some c → s.refused ≡ false → IsSwept f g s.set t c
+    → Guards D f s → AreTraced D f s.set.parts → AreTraced D g t.parts
+session_traced D f g s t c is done swept guards traced = traced_swept D f g s.set t c swept (subst (IsLast f s.set) is (guards.last done)) traced
 
 -- ---- a set anew
 

@@ -6,3 +6,4 @@ pub mod Whole
 pub mod Costs
 pub mod Damages
 pub mod Light
+pub mod Closed

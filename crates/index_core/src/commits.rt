@@ -21,8 +21,10 @@ ghost use Rattle.segment_set.specs.Faithful.{IsFaithful};
 ghost use Rattle.segment_view.specs.Parts.{Part};
 ghost use Rattle.index_opening.specs.Damages.{IsAttachDamage, IsAttachDamageOf};
 ghost use Rattle.segment_set.specs.Sets.{IsNamed, IsSettled};
-ghost use Rattle.segment_set.specs.Kept.{IsAsCommitted, IsCommitOf, StaysButFiles};
+ghost use Rattle.file_names.specs.Names.{is_named};
+ghost use Rattle.segment_set.specs.Kept.{IsAsCommitted, IsCommitOf, IsNeeded, StaysButFiles};
 ghost use Rattle.index_core.specs.Sessions.{AreTraced, Guards, GuardsSet, IsCommitAnew, IsSound, IsUnchanged, Trusts};
+ghost use Rattle.index_core.specs.Closed.{IsClosed, IsIdle, IsTracked, NamesOnlyListed};
 ghost use Rattle.index_core.specs.Costs.{ReadsAtMost};
 ghost use Rattle.index_core.specs.Damages.{ShowsDamage, ShowsMerge};
 ghost use Rattle.index_core.specs.Effects.{BringsCanonical, OnRefused};
@@ -83,12 +85,49 @@ impl<const D: usize> Session<D> {
         ensures faithful { IsTrue F.told → IsFaithful D (F.files folder.old) self.old.set → IsFaithful D (F.files folder.new) self.new.set }
         ensures traced { IsTrue F.told → Trusts D (F.files folder.old) self.old → AreTraced D (F.files folder.new) self.new.set.parts }
         ensures evident { OnDamage result (IsEvident (IsTrue F.told × Trusts D (F.files folder.old) self.old) (F.files folder.new)) }
+        // no file is there that the list of names doesn't have, but those that were
+        ensures tracked { IsTrue F.told → OnOk result ((m : FileName)
+            → IsTracked (F.files folder.old) (F.files folder.new) self.old.set.names self.new.set.names m) }
     {
         if !self.is_changed() {
             return Ok(());
         }
         let commit = self.set.save(rt, alloc, folder, gate)?;
         self.write(alloc, folder, commit)?;
+        self.sweep(folder)
+    }
+
+    /// Commits, lets snapshots and the begun merge go, and removes the files that only they needed. Where this removal
+    /// fails the commit is done.
+    pub fn close<R: Threads + Sync, F: Folder, G: Gate>(
+        &mut self,
+        rt: &R,
+        alloc: Global,
+        folder: &mut F,
+        gate: &G,
+    ) -> Result<(), PageFault>
+        ensures closed { OnOk result
+            (IsClosed D (IsTrue F.told) (F.files folder.old) (F.files folder.new) self.old self.new) }
+        ensures stored { IsTrue F.told → (i : Index) → Sees D (F.files folder.old) self.old.set i
+            → Guards D (F.files folder.old) self.old → Stores (F.files folder.old) (F.files folder.new) i self.new.set result }
+        ensures kept { IsTrue F.told → Guards D (F.files folder.old) self.old
+            → KeepsOver true (F.files folder.old) (F.files folder.new) self.new result }
+        ensures undone { IsTrue F.told → Guards D (F.files folder.old) self.old
+            → KeepsUndone (F.files folder.old) (F.files folder.new) result }
+        // where nothing changed and nothing is to be removed no file is changed
+        ensures idle { IsTrue F.told → IsIdle self.old → F.files folder.new ≡ F.files folder.old }
+        ensures reads { IsUnchanged self.old ⊎ IsSettled self.old.set → F.reads folder.new ≡ F.reads folder.old }
+        ensures few { IsTrue F.told → Guards D (F.files folder.old) self.old → self.old.set.begun ≡ None
+            → OnOk result (KeepsLevels (F.files folder.old) (F.files folder.new)) }
+        ensures canon { IsTrue F.told
+            → BringsCanonical D (F.files folder.old) (F.files folder.new) self.old.set.parts self.new.set.parts }
+        ensures cause { HasPageCause (F.faults folder.old) (F.faults folder.new) result }
+        ensures whole { IsTrue F.told → (i : Index) → Sees D (F.files folder.old) self.old.set i → NotDamaged result }
+        ensures evident { OnDamage result
+            (IsEvident (IsTrue F.told × Trusts D (F.files folder.old) self.old) (F.files folder.new)) }
+    {
+        self.commit(rt, alloc, folder, gate)?;
+        self.set.rest();
         self.sweep(folder)
     }
 
@@ -121,6 +160,7 @@ impl<const D: usize> Session<D> {
         ensures set { self.new.set ≡ self.old.set }
         ensures others { IsTrue F.told → SameButTwo CommitNew CommitName (F.files folder.old) (F.files folder.new) }
         ensures faithful { IsTrue F.told → IsFaithful D (F.files folder.old) self.old.set → IsFaithful D (F.files folder.new) self.new.set }
+        ensures gone { IsTrue F.told → OnOk result (F.files folder.new CommitNew ≡ None) }
         ensures written { OnOk result ((self.new.commit ≡ Some commit) × (self.new.refused ≡ false)) }
         ensures seen { IsTrue F.told → (i : Index) → Sees D (F.files folder.old) self.old.set i → Sees D (F.files folder.new) self.new.set i }
         ensures guards { IsTrue F.told → GuardsSet D (F.files folder.old) self.old.set
@@ -151,9 +191,9 @@ impl<const D: usize> Session<D> {
         }
     }
 
-    /// Removes the files that neither the last commit nor a view needs.
+    /// Removes the files that neither the commit nor a view needs.
     fn sweep<F: Folder>(&mut self, folder: &mut F) -> Result<(), PageFault>
-        requires saved { IsSome self.old.commit × (self.old.set.saved ≡ self.old.commit) }
+        requires there { IsSome self.old.commit }
         requires written { self.old.refused ≡ false }
         ensures alone { StaysButFiles self.old.set self.new.set }
         ensures segments { IsTrue F.told → (p : Part) → Contains self.old.set.parts p → F.files folder.new (Segment p.head.id) ≡ F.files folder.old (Segment p.head.id) }
@@ -166,8 +206,16 @@ impl<const D: usize> Session<D> {
         ensures cause { HasPageCause (F.faults folder.old) (F.faults folder.new) result }
         ensures whole { NotDamaged result }
         ensures unread { F.reads folder.new ≡ F.reads folder.old }
+        ensures tracked { IsTrue F.told → (m : FileName)
+            → IsTracked (F.files folder.old) (F.files folder.new) self.old.set.names self.new.set.names m }
+        ensures needed { OnOk result ((m : FileName) → is_named self.new.set.names.names m ≡ true
+            → (c : CommitData) × (self.old.commit ≡ Some c) × IsNeeded self.old.set c m) }
+        ensures idle { IsTrue F.told → NamesOnlyListed self.old → F.files folder.new ≡ F.files folder.old }
     {
-        match self.set.sweep(folder) {
+        let Some(commit) = &self.commit else {
+            unreachable!()
+        };
+        match self.set.sweep(folder, commit) {
             Ok(()) => Ok(()),
             Err(Failed) => Err(PageFault::Failed),
         }
@@ -194,7 +242,8 @@ impl<const D: usize> Session<D> {
         Ok(Applied::Done)
     }
 
-    /// Commits and attaches anew, which lets snapshots and a begun merge go. The set of before stays until all that can fail is done.
+    /// Commits and attaches anew, which lets snapshots and a begun merge go. The set of before stays until all that can
+    /// fail is done, and its list of names stays: the next sweep removes the files that only they needed.
     pub(crate) fn reopen<R: Threads + Sync, F: Folder, G: Gate>(
         &mut self,
         rt: &R,
@@ -212,7 +261,9 @@ impl<const D: usize> Session<D> {
         self.commit(rt, alloc, folder, gate)?;
         let set = self.attach_anew(alloc, folder)?;
         put_ok(out)?;
-        self.set = set;
+        // the files of its segments are in the list
+        let _leaf = self.set.leaf();
+        self.set.renew(set);
         Ok(Applied::Done)
     }
 
@@ -229,6 +280,8 @@ impl<const D: usize> Session<D> {
         ensures faithful { IsTrue F.told → IfOk result (IsFaithful D (F.files folder.old)) }
         ensures traced { IsTrue F.told → self.now.refused ≡ false → Guards D (F.files folder.old) self.now → IfOk result (λ s. AreTraced D (F.files folder.old) s.parts) }
         ensures emptied { IfOk result (λ s. s.buffer ≡ []) }
+        ensures names { (c : CommitData) → self.now.commit ≡ Some c
+            → IfOk result (λ s. (m : FileName) → is_named s.names.names m ≡ true → ListsFile c m) }
         ensures unchanged { (c : CommitData) → self.now.commit ≡ Some c → IfOk result (λ s. IsAsCommitted s c) }
         ensures files { IsTrue F.told → F.files folder.new ≡ F.files folder.old }
         ensures cause { HasPageCause (F.faults folder.old) (F.faults folder.new) result }

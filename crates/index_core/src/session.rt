@@ -54,6 +54,7 @@ impl<const D: usize> Model for Session<D> {
 
 impl<const D: usize> Session<D> {
     ghost use Rattle.index_core.specs.Sessions.{AreTraced, Guards, IsCommitAnew, IsUnchanged, Trusts};
+    ghost use Rattle.index_core.specs.Closed.{NamesOnlyListed};
     ghost use Rattle.index_core.specs.Steps.{Applies, DoesOver, KeepsOver, Stores, is_committing};
     ghost use Rattle.index_core.specs.Costs.{ReadsAtMost};
     ghost use Rattle.index_core.specs.Damages.{ShowsDamage};
@@ -97,6 +98,7 @@ impl<const D: usize> Session<D> {
         ensures files { IsTrue F.told → F.files folder.new ≡ F.files folder.old }
         ensures cause { HasPageCause (F.faults folder.old) (F.faults folder.new) result }
         ensures unchanged { IfOk result IsUnchanged }
+        ensures listed { IfOk result NamesOnlyListed }
         ensures whole { IsTrue F.told → IsCommitFile (bytes_of (F.files folder.old CommitName)) commit → (state : State) → IsStored (F.files folder.old) state → NotDamaged result }
         // it reads what opening the segments reads
         ensures reads { IsTrue F.told → (heads : List Head) (sets : List LiveSet) → HaveHeads (F.files folder.old) commit heads → HaveLive (F.files folder.old) commit sets

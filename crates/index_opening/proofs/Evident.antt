@@ -29,7 +29,8 @@ use Rattle.stored_index.specs.Stored.{HaveLive}
 use Rattle.segment_view.specs.Parts.{Part}
 use Rattle.segment_view.specs.Damages.{IsPartDamage}
 use Rattle.index_opening.specs.Damages.{IsAttachDamage, IsAttachDamageOf, IsMisplaced, IsUnequal, IsUnequalOf}
-use Rattle.index_opening.specs.Evidence.{AsksPages, HasNoBody, InHead, InList, InSets, IsEvident, IsEvidentWith, IsHeadIn, IsListed, IsTrueDamage, IsTrueOf, IsTwice, LacksLeaf}
+use Rattle.index_opening.specs.Evidence.{AsksPages, HasNoBody, InHead, InList, InSets, IsEvident, IsEvidentWith, IsHeadIn, IsListed}
+use Rattle.index_opening.specs.Evidence.{IsTrueDamage, IsTrueOf, IsTwice, LacksLeaf, OfFiles}
 
 -- ---- of the same files, where more is told
 
@@ -179,12 +180,13 @@ attach_shows P c d (inl (s, there, inr (inl h))) = live_shows P s.segment s.gene
 attach_shows P c d (inl (s, there, inr (inr h))) = unequal_shows P s d h
 attach_shows P c d (inr h) = misplaced_shows P (λ doc. Unit {0}) (λ doc. Unit {0}) c.next d h
 
--- a file that isn't there is one that the commit lists
-missing_listed : (files : Files) (c : CommitData) → IsCommitFile (bytes_of (files Commit)) c → (file : FileName) → IsAttachDamage c (Missing file) → IsListed files file
-missing_listed files c says file (inl (s, there, inl h)) = record { commit = c; says = says; listed = s; there = there; is = inl h }
-missing_listed files c says file (inl (s, there, inr (inl h))) = record { commit = c; says = says; listed = s; there = there; is = inr h }
-missing_listed files c says file (inl (s, there, inr (inr h))) = absurd h
-missing_listed files c says file (inr h) = absurd h
+pub segment_listed : (files : Files) (c : CommitData) (s : Listed) (file : FileName) → IsCommitFile (bytes_of (files Commit)) c
+    → Contains c.listed s → file ≡ Segment s.segment → IsListed files file
+segment_listed files c s file says there is = record { commit = c; says = says; listed = s; there = there; is = inl is }
+
+pub live_listed : (files : Files) (c : CommitData) (s : Listed) (file : FileName) → IsCommitFile (bytes_of (files Commit)) c
+    → Contains c.listed s → file ≡ Live s.segment s.generation → IsListed files file
+live_listed files c s file says there is = record { commit = c; says = says; listed = s; there = there; is = inr is }
 
 -- the pages that a file of a segment asks for
 pages_asked : (files : Files) (file : FileName) (size needed : ℕ) → IsSizeOf (AsksFor file) files file size needed → IsSizeOf (AsksPages file) files file size needed
@@ -195,28 +197,32 @@ pages_asked files Commit size needed (inr h) = absurd h.asked
 pages_asked files CommitNew size needed (inl h) = inl h
 pages_asked files CommitNew size needed (inr h) = absurd h.asked
 
-head_carried : (files : Files) (c : CommitData) → IsCommitFile (bytes_of (files Commit)) c → (d : Damage) → IsAttachDamage c d → IsHeadDamageOf c.dims files d → IsTrueOf (IsTwice files) files d
-head_carried files c says (Page file number bytes) named h = h
-head_carried files c says (Missing file) named h = (h, missing_listed files c says file named)
-head_carried files c says (Size file size needed) named h = pages_asked files file size needed h
-head_carried files c says (Body file bytes) named h = h
-head_carried files c says (Unequal file said found) named h = InHead c says h
-head_carried files c says (Leaf file number offset len bytes) named h = absurd h
-head_carried files c says (Beyond doc next) named h = absurd h
-head_carried files c says (Doubled doc) named h = absurd h
+head_carried : (files : Files) (c : CommitData) → IsCommitFile (bytes_of (files Commit)) c → (s : Listed) → Contains c.listed s
+    → (d : Damage) → IsHeadDamage s.segment d → IsHeadDamageOf c.dims files d
+    → IsTrueOf (IsTwice files) files d
+head_carried files c says s there (Page file number bytes) named h = h
+head_carried files c says s there (Missing file) named h = (h, segment_listed files c s file says there named)
+head_carried files c says s there (Size file size needed) named h = pages_asked files file size needed h
+head_carried files c says s there (Body file bytes) named h = h
+head_carried files c says s there (Unequal file said found) named h = OfFiles (InHead c says s there named.0 h)
+head_carried files c says s there (Leaf file number offset len bytes) named h = absurd h
+head_carried files c says s there (Beyond doc next) named h = absurd h
+head_carried files c says s there (Doubled doc) named h = absurd h
 
-live_carried : (files : Files) (c : CommitData) → IsCommitFile (bytes_of (files Commit)) c → (d : Damage) → IsAttachDamage c d → IsLiveDamageOf files d → IsTrueOf (IsTwice files) files d
-live_carried files c says (Page file number bytes) named h = h
-live_carried files c says (Missing file) named h = (h, missing_listed files c says file named)
-live_carried files c says (Size file size needed) named h = pages_asked files file size needed h
-live_carried files c says (Body file bytes) named h = h
-live_carried files c says (Unequal file said found) named h = absurd h
-live_carried files c says (Leaf file number offset len bytes) named h = absurd h
-live_carried files c says (Beyond doc next) named h = absurd h
-live_carried files c says (Doubled doc) named h = absurd h
+live_carried : (files : Files) (c : CommitData) → IsCommitFile (bytes_of (files Commit)) c → (s : Listed) → Contains c.listed s
+    → (d : Damage) → IsLiveDamage s.segment s.generation d → IsLiveDamageOf files d
+    → IsTrueOf (IsTwice files) files d
+live_carried files c says s there (Page file number bytes) named h = h
+live_carried files c says s there (Missing file) named h = (h, live_listed files c s file says there named)
+live_carried files c says s there (Size file size needed) named h = pages_asked files file size needed h
+live_carried files c says s there (Body file bytes) named h = h
+live_carried files c says s there (Unequal file said found) named h = absurd h
+live_carried files c says s there (Leaf file number offset len bytes) named h = absurd h
+live_carried files c says s there (Beyond doc next) named h = absurd h
+live_carried files c says s there (Doubled doc) named h = absurd h
 
 unequal_carried : (files : Files) (c : CommitData) → IsCommitFile (bytes_of (files Commit)) c → (s : Listed) → Contains c.listed s → (d : Damage) → IsUnequalOf files c s d → IsTrueOf (IsTwice files) files d
-unequal_carried files c says s there (Unequal file said found) h = InList c says s there h
+unequal_carried files c says s there (Unequal file said found) h = OfFiles (InList c says s there h)
 unequal_carried files c says s there (Page file number bytes) h = absurd h
 unequal_carried files c says s there (Leaf file number offset len bytes) h = absurd h
 unequal_carried files c says s there (Body file bytes) h = absurd h
@@ -236,16 +242,17 @@ misplaced_carried files c says sets live (Missing file) h = absurd h
 misplaced_carried files c says sets live (Size file size needed) h = absurd h
 misplaced_carried files c says sets live (Unequal file said found) h = absurd h
 
-attach_carried : (files : Files) (c : CommitData) → IsCommitFile (bytes_of (files Commit)) c → (d : Damage) → IsAttachDamage c d → IsAttachDamageOf files c d → IsTrueOf (IsTwice files) files d
-attach_carried files c says d named (inl (s, there, inl h)) = head_carried files c says d named h
-attach_carried files c says d named (inl (s, there, inr (inl h))) = live_carried files c says d named h
-attach_carried files c says d named (inl (s, there, inr (inr h))) = unequal_carried files c says s there d h
-attach_carried files c says d named (inr (sets, live, h)) = misplaced_carried files c says sets live d h
+attach_carried : (files : Files) (c : CommitData) → IsCommitFile (bytes_of (files Commit)) c → (d : Damage)
+    → IsAttachDamageOf files c d → IsTrueOf (IsTwice files) files d
+attach_carried files c says d (inl (s, there, inl h)) = head_carried files c says s there d h.0 h.1
+attach_carried files c says d (inl (s, there, inr (inl h))) = live_carried files c says s there d h.0 h.1
+attach_carried files c says d (inl (s, there, inr (inr h))) = unequal_carried files c says s there d h
+attach_carried files c says d (inr (sets, live, h)) = misplaced_carried files c says sets live d h
 
 pub attach_evident : (T : Type 0) (files : Files) (c : CommitData) (d : Damage) → (T → IsCommitFile (bytes_of (files Commit)) c) → (T → IsAttachDamageOf files c d) → IsAttachDamage c d → IsEvident T files d
 attach_evident T files c d says truth h = record {
   shows = merely (attach_shows HasRanges c d h);
-  of_files = λ t. record { shows = merely (attach_shows (IsHeadIn files) c d h); carries = merely (attach_carried files c (says t) d h (truth t)) };
+  of_files = λ t. record { shows = merely (attach_shows (IsHeadIn files) c d h); carries = merely (attach_carried files c (says t) d (truth t)) };
 }
 
 pub on_attach_evident : {X : Type 0} (T : Type 0) (files : Files) (c : CommitData) (r : Result X PageFault) → (T → IsCommitFile (bytes_of (files Commit)) c) → (T → OnDamage r (IsAttachDamageOf files c))

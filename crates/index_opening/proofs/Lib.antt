@@ -1,3 +1,4 @@
 pub mod Ordered
 pub mod Listed
 pub mod Evident
+pub mod Named

@@ -11,13 +11,13 @@ use Rattle.page_cache.specs.declared.faults.Damage.TheVariants.{Page, Leaf, Body
 use Rattle.page_cache.specs.declared.faults.PageFault.{PageFault}
 use Rattle.page_cache.specs.declared.faults.PageFault.TheVariants as page
 use Rattle.page_cache.specs.Evidence.{FaultShows}
-use Rattle.page_cache.proofs.Damages.{fault_weaker}
+use Rattle.page_cache.proofs.Damages.{fault_both, fault_weaker}
 use Rattle.commit_list.specs.declared.listed.Listed.{Listed}
 use Rattle.commit_list.specs.Commits.{CommitData}
 use Rattle.commit_list.specs.CommitFiles.{IsCommitFile}
 use Rattle.segment_file.specs.Heads.{Head}
 use Rattle.segment_file.specs.Segments.{IsHeadOf}
-use Rattle.segment_file.specs.Damages.{IsPairDamage}
+use Rattle.segment_file.specs.Damages.{IsHeadDamage, IsHeadDamageOf, IsLiveDamage, IsLiveDamageOf, IsPairDamage}
 use Rattle.segment_file.proofs.Unique.{head_of_segment, one_head}
 use Rattle.segment_file.proofs.LiveLemmas.{one_live_set}
 use Rattle.stored_index.specs.Segments.{SegmentData, live_sets, places}
@@ -28,8 +28,8 @@ use Rattle.stored_index.proofs.Places.{none_from_next}
 use Rattle.stored_index.proofs.Whole.{held_for}
 use Rattle.index_model.specs.State.{State}
 use Rattle.segment_view.specs.Parts.{Part, lives_of, part_of}
-use Rattle.index_opening.specs.Damages.{Entries, IsAttachDamage, IsAttachDamageOf, IsMisplaced, IsPair, LeafSize, LiveCount}
-use Rattle.index_opening.specs.Opened.{IsListedDamage, IsListedDamageOf, IsOpened}
+use Rattle.index_opening.specs.Damages.{Entries, IsAttachDamage, IsAttachDamageOf, IsListedDamage, IsListedDamageOf, IsMisplaced, IsPair, LeafSize, LiveCount}
+use Rattle.index_opening.specs.Opened.{IsOpened}
 
 -- ---- what shows that a file isn't as the commit says
 
@@ -71,6 +71,19 @@ live_pair files c s live m n has said found =
 pub pair_fault : (files : Files) (c : CommitData) (s : Listed) (name : FileName) (m n : ℕ) (f : PageFault) → IsPair files c s name m n → FaultShows (λ d. IsPairDamage name m n d × (m ≢ n)) f
     → FaultShows (IsListedDamageOf files c s) f
 pair_fault files c s name m n f is = fault_weaker f (λ d. IsPairDamage name m n d × (m ≢ n)) (IsListedDamageOf files c s) (unequal_of files c s name m n is)
+
+pub head_fault : (D : ℕ) (files : Files) (c : CommitData) (s : Listed) (f : PageFault) → c.dims ≡ D
+    → FaultShows (IsHeadDamage s.segment) f → FaultShows (IsHeadDamageOf D files) f
+    → FaultShows (IsListedDamageOf files c s) f
+head_fault D files c s f dims =
+    fault_both f (IsHeadDamage s.segment) (IsHeadDamageOf D files) (IsListedDamageOf files c s)
+    (λ d shown h. inl (shown, subst (λ (n : ℕ). IsHeadDamageOf n files d) (sym dims) h))
+
+pub live_fault : (files : Files) (c : CommitData) (s : Listed) (f : PageFault)
+    → FaultShows (IsLiveDamage s.segment s.generation) f → FaultShows (IsLiveDamageOf files) f
+    → FaultShows (IsListedDamageOf files c s) f
+live_fault files c s f =
+    fault_both f (IsLiveDamage s.segment s.generation) (IsLiveDamageOf files) (IsListedDamageOf files c s) (λ d shown h. inr (inl (shown, h)))
 
 pub equal_fault : (name : FileName) (m n : ℕ) (f : PageFault) → m ≡ n → FaultShows (λ d. IsPairDamage name m n d × (m ≢ n)) f → FaultShows (λ _. ⊥) f
 equal_fault name m n f same = fault_weaker f (λ d. IsPairDamage name m n d × (m ≢ n)) (λ _. ⊥) (λ d h. h.1 same)
@@ -182,6 +195,14 @@ whole_placed files c parts f heads lives shown says state stored =
     let found = held_for files c state stored says in
     fault_weaker f (IsMisplaced (λ doc. 1 ≤ places doc (lives_of parts)) (λ doc. 2 ≤ places doc (lives_of parts)) c.next) (λ _. ⊥)
     (lives_placed files c found.0 parts found.1 (parts_held files c parts found.1.parts heads lives found.1.segments)) shown
+
+-- the numbers and the sets as they are handed on
+pub misplaced_at : (m n : ℕ) (lives sets : List LiveSet) (f : PageFault) → m ≡ n → lives ≡ sets
+    → FaultShows (IsMisplaced (λ doc. 1 ≤ places doc lives) (λ doc. 2 ≤ places doc lives) m) f
+    → FaultShows (IsMisplaced (λ doc. 1 ≤ places doc sets) (λ doc. 2 ≤ places doc sets) n) f
+misplaced_at m n lives sets f next same shown =
+    subst (λ (k : ℕ). FaultShows (IsMisplaced (λ doc. 1 ≤ places doc sets) (λ doc. 2 ≤ places doc sets) k) f) next
+    (subst (λ (ss : List LiveSet). FaultShows (IsMisplaced (λ doc. 1 ≤ places doc ss) (λ doc. 2 ≤ places doc ss) m) f) same shown)
 
 pub misplaced_of : (files : Files) (c : CommitData) (sets : List LiveSet) (f : PageFault) → HaveLive files c sets → FaultShows (IsMisplaced (λ doc. 1 ≤ places doc sets) (λ doc. 2 ≤ places doc sets) c.next) f
     → FaultShows (IsAttachDamageOf files c) f

@@ -35,10 +35,15 @@ IsMisplaced beyond doubled n (Missing file) = ⊥
 IsMisplaced beyond doubled n (Size file size needed) = ⊥
 IsMisplaced beyond doubled n (Unequal file said found) = ⊥
 
+-- reading a listed segment's head or its live bits shows one of their files to be damaged, or two numbers that must agree
+-- to differ
+abbrev pub IsListedDamage : Listed → Damage → Type 0
+IsListedDamage s d = IsHeadDamage s.segment d ⊎ IsLiveDamage s.segment s.generation d ⊎ IsUnequal s d
+
 -- attaching the segments that a commit lists shows one of their files to be damaged, or live numbers that are misplaced
 abbrev pub IsAttachDamage : CommitData → Damage → Type 0
 IsAttachDamage c d =
-    ((s : Listed) × Contains c.listed s × (IsHeadDamage s.segment d ⊎ IsLiveDamage s.segment s.generation d ⊎ IsUnequal s d))
+    ((s : Listed) × Contains c.listed s × IsListedDamage s d)
     ⊎ IsMisplaced (λ _. Unit {0}) (λ _. Unit {0}) c.next d
 
 -- the two numbers are a pair of the files that must agree: the leaf size, or a segment's entries or live numbers
@@ -57,8 +62,14 @@ IsUnequalOf files c s (Size file size needed) = ⊥
 IsUnequalOf files c s (Beyond doc next) = ⊥
 IsUnequalOf files c s (Doubled doc) = ⊥
 
--- and it is true of the files
+-- the damage of the segment's head or of its live bits is true of the files, or the two numbers are a pair of theirs
+abbrev pub IsListedDamageOf : Files → CommitData → Listed → Damage → Type 0
+IsListedDamageOf files c s d =
+    (IsHeadDamage s.segment d × IsHeadDamageOf c.dims files d)
+    ⊎ (IsLiveDamage s.segment s.generation d × IsLiveDamageOf files d) ⊎ IsUnequalOf files c s d
+
+-- so is what attaching shows
 abbrev pub IsAttachDamageOf : Files → CommitData → Damage → Type 0
 IsAttachDamageOf files c d =
-    ((s : Listed) × Contains c.listed s × (IsHeadDamageOf c.dims files d ⊎ IsLiveDamageOf files d ⊎ IsUnequalOf files c s d))
+    ((s : Listed) × Contains c.listed s × IsListedDamageOf files c s d)
     ⊎ ((sets : List LiveSet) × HaveLive files c sets × IsMisplaced (λ doc. 1 ≤ places doc sets) (λ doc. 2 ≤ places doc sets) c.next d)

@@ -62,6 +62,10 @@ pub record IsListed (files : Files) (file : FileName) : Type 0 where
   pub there : Contains commit.listed listed
   pub is : (file ≡ Segment listed.segment) ⊎ (file ≡ Live listed.segment listed.generation)
 
+-- it is the Commit file, or one that it lists
+abbrev pub IsLookedAt : Files → FileName → Type 0
+IsLookedAt files file = (file ≡ Commit) ⊎ IsListed files file
+
 -- the first page of the file has this payload and asks for so many pages, by the layout of its kind
 abbrev pub AsksPages : FileName → (payload : List ℕ) → (pages : ℕ) → Type 0
 AsksPages (Segment id) payload pages = AsksFor (Segment id) payload pages
@@ -75,17 +79,41 @@ pub record HoldsEntries (files : Files) (c : CommitData) (s : Listed) (d : Segme
   pub segment : IsSegment c.dims (bytes_of (files (Segment s.segment))) d.head d.entries
   pub live : HasLive files s d.live
 
--- Two numbers that must agree: of a segment's file and the dimensions of the commit, of that file alone, or of the commit and a file that it lists; the
--- live numbers of a segment and those of them that have an entry; the points given and the live entries of all segments. Where entries are about to be
--- merged that are more than the points given, the Commit file is named too, and the numbers need be none of files.
-pub data ArePair (files : Files) (file : FileName) (said found : ℕ) : Type 0 where
-  InHead : (c : CommitData) → IsCommitFile (bytes_of (files Commit)) c → AreHeadPair c.dims (bytes_of (files file)) said found → ArePair files file said found
-  InList : (c : CommitData) → IsCommitFile (bytes_of (files Commit)) c → (s : Listed) → Contains c.listed s → IsPair files c s file said found → ArePair files file said found
-  InLive : (c : CommitData) → IsCommitFile (bytes_of (files Commit)) c → (s : Listed) → Contains c.listed s → (d : SegmentData) → HoldsEntries files c s d
-      → file ≡ Live s.segment s.generation → said ≡ length d.live.live → found ≡ count_by (λ number. has_entry number d.entries) d.live.live → ArePair files file said found
+-- Two numbers of the files that must agree: of a listed segment's file and the dimensions of the commit, of that file
+-- alone, or of the commit and a file that it lists; the live numbers of a segment and those of them that have an entry;
+-- the points given and the live entries of all segments.
+pub data IsFilePair (files : Files) (file : FileName) (said found : ℕ) : Type 0 where
+  InHead : (c : CommitData) → IsCommitFile (bytes_of (files Commit)) c → (s : Listed) → Contains c.listed s
+      → file ≡ Segment s.segment → AreHeadPair c.dims (bytes_of (files file)) said found
+      → IsFilePair files file said found
+  InList : (c : CommitData) → IsCommitFile (bytes_of (files Commit)) c → (s : Listed) → Contains c.listed s
+      → IsPair files c s file said found → IsFilePair files file said found
+  InLive : (c : CommitData) → IsCommitFile (bytes_of (files Commit)) c → (s : Listed) → Contains c.listed s
+      → (d : SegmentData) → HoldsEntries files c s d → file ≡ Live s.segment s.generation → said ≡ length d.live.live
+      → found ≡ count_by (λ number. has_entry number d.entries) d.live.live → IsFilePair files file said found
   InCommit : (c : CommitData) → IsCommitFile (bytes_of (files Commit)) c → (parts : List SegmentData) → HoldAll files c parts
-      → file ≡ Commit → said ≡ c.given → found ≡ length (all_live_entries parts) → ArePair files file said found
+      → file ≡ Commit → said ≡ c.given → found ≡ length (all_live_entries parts) → IsFilePair files file said found
+
+-- Where entries are about to be merged that are more than the points given, the Commit file is named too, and the
+-- numbers need be none of files.
+pub data ArePair (files : Files) (file : FileName) (said found : ℕ) : Type 0 where
+  OfFiles : IsFilePair files file said found → ArePair files file said found
   OfGiven : file ≡ Commit → said < found → ArePair files file said found
+
+-- the damage names a file that was looked at, if any, and two numbers that differ are a pair of the files
+abbrev pub NamesLooked : Files → Damage → Type 0
+NamesLooked files (Page file number bytes) = IsLookedAt files file
+NamesLooked files (Leaf file number offset len bytes) = IsListed files file
+NamesLooked files (Body file bytes) = IsLookedAt files file
+NamesLooked files (Missing file) = IsListed files file
+NamesLooked files (Size file size needed) = IsLookedAt files file
+NamesLooked files (Unequal file said found) = IsFilePair files file said found
+NamesLooked files (Beyond doc next) = Unit {0}
+NamesLooked files (Doubled doc) = Unit {0}
+
+-- so it is with each damage that looking at the files finds
+abbrev pub IsFound : Files → Damage → Type 0
+IsFound files d = ∥ NamesLooked files d ∥₁
 
 -- the number is live in a listed segment, and this is the commit's next one
 pub record IsLiveBeyond (files : Files) (doc next : ℕ) : Type 0 where

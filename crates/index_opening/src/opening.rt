@@ -16,8 +16,8 @@ ghost use Rattle.stored_index.specs.Segments.{SegmentData, places};
 ghost use Rattle.stored_index.specs.Opening.{listed_pages, segments_pages};
 ghost use Rattle.stored_index.specs.Stored.{HasHead, HasLive, HaveHeads, HaveLive, HoldAll, HoldsFiles};
 ghost use Rattle.segment_view.specs.Parts.{part_of};
-ghost use Rattle.index_opening.specs.Damages.{IsMisplaced};
-ghost use Rattle.index_opening.specs.Opened.{IsOpened, IsListedDamage, IsListedDamageOf};
+ghost use Rattle.index_opening.specs.Damages.{IsMisplaced, IsListedDamage, IsListedDamageOf};
+ghost use Rattle.index_opening.specs.Opened.{IsOpened};
 
 use commit_list::{Commit, Listed};
 use live_bits::LiveBits;

@@ -14,7 +14,7 @@ ghost use Rattle.stored_index.specs.Stored.{HaveHeads, HaveLive, IsUndefined};
 ghost use Rattle.segment_view.specs.Parts.{lives_of};
 ghost use Rattle.number_checks.specs.Placed.{IsPlaced};
 ghost use Rattle.index_opening.specs.Opened.{IsOpened};
-ghost use Rattle.index_opening.specs.Evidence.{IsEvident};
+ghost use Rattle.index_opening.specs.Evidence.{IsEvident, IsFound};
 
 use crate::opening::{check_numbers, open_all};
 use commit_list::Commit;
@@ -38,6 +38,8 @@ pub fn open_index<const D: usize, F: Folder>(
         → F.reads folder.new ≤ F.reads folder.old + segments_pages (F.files folder.old) c.now.listed heads }
     ensures cause { HasPageCause (F.faults folder.old) (F.faults folder.new) result }
     ensures undefined { IsTrue F.told → IsCommitFile (bytes_of (F.files folder.old CommitName)) c.now → OnDamage result (λ _. IsUndefined (F.files folder.old)) }
+    ensures named { IsTrue F.told → IsCommitFile (bytes_of (F.files folder.old CommitName)) c.now
+        → OnDamage result (IsFound (F.files folder.old)) }
     ensures evident { OnDamage result (IsEvident (IsTrue F.told × IsCommitFile (bytes_of (F.files folder.old CommitName)) c.now) (F.files folder.old)) }
 {
     let segments = open_all::<D, F>(alloc, folder, c)?;

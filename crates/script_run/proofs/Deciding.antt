@@ -1,4 +1,4 @@
--- A session is unchanged since its last commit, or not.
+-- A session is unchanged since its last commit, or not; and it stays so where nothing but the kept pages changes.
 use Rattle.std.proofs.Common.{◌≡◌, ℕ, Bool, true, false, List, [], ◌∷◌, length, map, Option, None, Some, refl, sym, subst, ◌∙◌, ◌⊎◌, inl, inr, ⊎_elim}
 use Rattle.std.proofs.lemmas.Bool.Decides.{eqb_tells}
 use Rattle.std.proofs.lemmas.Slice.Eq.{bytes_eq-Decides}
@@ -7,8 +7,11 @@ use Rattle.commit_list.specs.declared.listed.Listed.{Listed}
 use Rattle.commit_list.specs.Commits.{CommitData}
 use Rattle.segment_view.specs.Parts.{Part, ids_of}
 use Rattle.segment_set.specs.Sets.{SetData}
-use Rattle.segment_set.specs.Kept.{IsAsCommitted}
-use Rattle.index_core.specs.Sessions.{IsUnchanged, SessionData}
+use Rattle.outer_io.specs.Files.{Files}
+use Rattle.segment_set.specs.Kept.{IsAsCommitted, StaysButCache}
+use Rattle.index_core.specs.Closed.{IsIdle}
+use Rattle.index_core.specs.Sessions.{IsStill, IsUnchanged, SessionData}
+use Rattle.index_core.proofs.Closing.{names_still}
 
 abbrev OrNot : Type 0 → Type 0
 OrNot P = P ⊎ (P → ⊥)
@@ -64,3 +67,23 @@ unchanged_or_not s = by s.commit s.refused refl refl
         (λ (a : IsAsCommitted s.set c). record { commit = c; is = is; done = done; same = a })
         (λ (u : IsUnchanged s). subst (IsAsCommitted s.set) (some_inj u.commit c (sym u.is ∙ is)) u.same)
         (as_committed s.set c)
+
+-- ---- what stays where all but the kept pages does
+
+committed_still : (s t : SetData) (c : CommitData) → StaysButCache s t → IsAsCommitted s c → IsAsCommitted t c
+committed_still s t c stays same = subst (λ (u : SetData). IsAsCommitted u c) (sym stays.is)
+    (record { next = same.next; given = same.given; ids = same.ids; counts = same.counts; empty = same.empty })
+
+pub unchanged_still : (told : Type 0) (f g : Files) (s t : SessionData) → IsStill told f g s t → IsUnchanged s → IsUnchanged t
+unchanged_still told f g s t still u = record {
+  commit = u.commit;
+  is = still.commit ∙ u.is;
+  done = still.refused ∙ u.done;
+  same = committed_still s.set t.set u.commit still.set u.same;
+}
+
+pub idle_still : (told : Type 0) (f g : Files) (s t : SessionData) → IsStill told f g s t → IsIdle s → IsIdle t
+idle_still told f g s t still idle = record {
+  unchanged = unchanged_still told f g s t still idle.unchanged;
+  listed = names_still told f g s t still idle.listed;
+}

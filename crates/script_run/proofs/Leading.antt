@@ -7,23 +7,22 @@ use Rattle.outer_io.specs.Files.{Files, bytes_of}
 use Rattle.merge_policy.specs.Choice.{free_count, is_of_level}
 use Rattle.commit_list.specs.CommitFiles.{IsCommitFile}
 use Rattle.segment_file.specs.Heads.{Head}
-use Rattle.index_model.specs.State.{Index, State}
+use Rattle.index_model.specs.State.{Index, State, at_rest}
 use Rattle.index_model.specs.Script.{answer, state_after}
 use Rattle.segment_view.specs.Parts.{Part, heads_of}
 use Rattle.segment_set.specs.Sets.{BegunMerge, IsSettled, SetData, pins_of, sizes_of}
 use Rattle.segment_set.specs.Seen.{Sees}
 use Rattle.index_core.specs.Effects.{BringsCanonical}
-use Rattle.index_core.specs.Light.{CommitsFewOfLevels, KeepsLevels, LooksAt, is_light}
+use Rattle.index_core.specs.Light.{KeepsLevels, LooksAt, is_light}
+use Rattle.index_core.specs.Closed.{IsClosed, IsIdle}
 use Rattle.index_core.specs.Sessions.{Guards, IsUnchanged}
-use Rattle.index_core.specs.Steps.{SaysCommit}
 use Rattle.index_core.specs.Whole.{HasNewCanonical}
 use Rattle.index_core.proofs.Bringing.{brings_same, brings_then}
 use Rattle.index_core.proofs.Listed.{new_canonical}
 use Rattle.script_run.specs.Costs.{AllAsk, AreLight, HasRoomInLevels, TouchesLines, begins_no_merge, given_of, is_query}
 use Rattle.script_run.specs.Leads.{AreListed, Closes, HasRoom, Leads, Passes, Spot}
 use Rattle.script_run.proofs.Asking.{Rested, all_first, all_rest, all_weaker, light_begins, line_rests, lines_give, queries_stay, query_light, state_rest, touches_parts}
-use Rattle.script_run.proofs.Deciding.{unchanged_or_not}
-use Rattle.index_core.proofs.Undone.{begins_none, few_listed}
+use Rattle.index_core.proofs.Undone.{begins_none}
 
 -- ---- levels
 
@@ -60,41 +59,37 @@ settled s heads none looks room = settled_by s s.begun heads none looks.now room
 
 -- ---- the commit at the end
 
--- what a session's commit says
-pub record IsClosed {T E : Type 0} (D : ℕ) (i : Index) (old new : Spot) (result : Result T E) : Type 0 where
-  pub seen : Sees D new.files new.session.set i
-  pub guards : Guards D new.files new.session
-  pub says : OnOk result (SaysCommit new.files new.session.commit)
-  pub unchanged : OnOk result (IsUnchanged new.session)
+-- what closing a session says
+pub record Ends {T E : Type 0} (D : ℕ) (told : Type 0) (old new : Spot) (result : Result T E) : Type 0 where
+  pub is_told : told
+  pub closed : OnOk result (IsClosed D told old.files new.files old.session new.session)
+  pub guards : Guards D old.files old.session
   pub canon : BringsCanonical D old.files new.files old.session.set.parts new.session.set.parts
-  pub files : IsUnchanged old.session → new.files ≡ old.files
-  pub unread : IsUnchanged old.session → new.reads ≡ old.reads
-  pub rested : IsSettled old.session.set → new.reads ≡ old.reads
-  pub levels : (IsUnchanged old.session → ⊥) → old.session.set.begun ≡ None → OnOk result (CommitsFewOfLevels new.session.commit)
+  pub idle : IsIdle old.session → new.files ≡ old.files
+  pub reads : IsUnchanged old.session ⊎ IsSettled old.session.set → new.reads ≡ old.reads
+  pub few : old.session.set.begun ≡ None → OnOk result (KeepsLevels old.files new.files)
 
-closes_levels : {T E : Type 0} (D : ℕ) (i : Index) (old new : Spot) (r : Result T E) → Sees D old.files old.session.set i → IsClosed D i old new r → i.begun ≡ false → OnOk r (KeepsLevels old.files new.files)
-closes_levels D i old new (Err e) seen c rested = tt
-closes_levels D i old new (Ok x) seen c rested = ⊎_elim
-    (λ u. levels_still old.files new.files (c.files u))
-    (λ n. few_listed old.files new.files new.session.commit c.says (c.levels n (begins_none D old.files old.session.set i seen rested)))
-    (unchanged_or_not old.session)
-
-closes_canon : {T E : Type 0} (D : ℕ) (i : Index) (old new : Spot) (r : Result T E) → IsClosed D i old new r → (first : Files) (s : SetData) → AreListed first s
+closes_canon : {T E told : Type 0} (D : ℕ) (i : Index) (old new : Spot) (r : Result T E) → Sees D old.files old.session.set i → Ends D told old new r
+    → (first : Files) (s : SetData) → AreListed first s
     → BringsCanonical D first old.files s.parts old.session.set.parts → OnOk r (HasNewCanonical first new.files)
-closes_canon D i old new (Err e) c first s listed brings = tt
-closes_canon D i old new (Ok x) c first s listed brings =
-    new_canonical D first new.files s new.session i listed (brings_then D first old.files new.files s.parts old.session.set.parts new.session.set.parts brings c.canon) c.seen c.guards c.says c.unchanged
+closes_canon D i old new (Err e) seen c first s listed brings = tt
+closes_canon D i old new (Ok x) seen c first s listed brings =
+    new_canonical D first new.files s new.session (at_rest i) listed
+    (brings_then D first old.files new.files s.parts old.session.set.parts new.session.set.parts brings c.canon)
+    (c.closed.seen c.is_told i seen) (c.closed.guards c.is_told c.guards) (c.closed.says c.is_told c.guards) c.closed.unchanged
 
-pub closes_by : {T E : Type 0} (D : ℕ) (i : Index) (old new : Spot) (r : Result T E) → Sees D old.files old.session.set i → IsClosed D i old new r → Closes D i old new r
+pub closes_by : {T E told : Type 0} (D : ℕ) (i : Index) (old new : Spot) (r : Result T E) → Sees D old.files old.session.set i → Ends D told old new r
+    → Closes D i old new r
 closes_by D i old new r seen c = record {
-  canon = λ first s listed brings. closes_canon D i old new r c first s listed brings;
-  levels = λ rested. closes_levels D i old new r seen c rested;
-  still = c.files;
-  reads = λ which. ⊎_elim c.unread c.rested which;
+  canon = λ first s listed brings. closes_canon D i old new r seen c first s listed brings;
+  levels = λ rested. c.few (begins_none D old.files old.session.set i seen rested);
+  still = c.idle;
+  reads = c.reads;
 }
 
 -- where it failed
-pub closes_fails : {T E : Type 0} (D : ℕ) (i : Index) (old new : Spot) (r : Result T E) (e : E) → r ≡ Err e → Sees D old.files old.session.set i → IsClosed {T = T} D i old new (Err e) → Closes D i old new r
+pub closes_fails : {T E told : Type 0} (D : ℕ) (i : Index) (old new : Spot) (r : Result T E) (e : E) → r ≡ Err e → Sees D old.files old.session.set i
+    → Ends {T = T} D told old new (Err e) → Closes D i old new r
 closes_fails {T} D i old new r e is seen c = subst (Closes D i old new) (sym is) (closes_by {T = T} D i old new (Err e) seen c)
 
 -- ---- the lines so far
@@ -113,8 +108,8 @@ pub record LedLight (heads : List Head) (i0 : Index) (line : ℕ) (i : Index) (r
 pub record Led (D line0 : ℕ) (i0 : Index) (lines : List (List ℕ)) (start : Spot) (line : ℕ) (i : Index) (rest : List (List ℕ)) (now : Spot) : Type 0 where
   pub canon : BringsCanonical D start.files now.files start.session.set.parts now.session.set.parts
   pub levels : i0.begun ≡ false → AllAsk begins_no_merge line0 (Some i0) lines → (i.begun ≡ false) × AllAsk begins_no_merge line (Some i) rest × KeepsLevels start.files now.files
-  pub still : i0.begun ≡ false → IsUnchanged start.session → AllAsk is_query line0 (Some i0) lines
-      → (i.begun ≡ false) × AllAsk is_query line (Some i) rest × (now.files ≡ start.files) × IsUnchanged now.session
+  pub still : i0.begun ≡ false → IsIdle start.session → AllAsk is_query line0 (Some i0) lines
+      → (i.begun ≡ false) × AllAsk is_query line (Some i) rest × (now.files ≡ start.files) × IsIdle now.session
   pub light : (heads : List Head) → LooksAt heads start.session.set → start.session.set.buffer ≡ [] → i0.begun ≡ false → AllAsk is_light line0 (Some i0) lines
       → given_of (state_after line0 (Some i0) lines) ≤ i0.given + 16384 → (n : ℕ) → TouchesLines heads line0 (Some i0) lines n → LedLight heads i0 line i rest now start.reads n
 
@@ -184,14 +179,14 @@ module _ (D line0 : ℕ) (i0 : Index) (lines : List (List ℕ)) (start : Spot) (
             rests_on (answer line (Some i) x).state j leads
                 (line_rests line i x (all_first line (Some i) (Some j) rest x more is leads begins_no_merge (all_weaker is_query begins_no_merge (λ r e. light_begins r (query_light r e)) line (Some i) rest l.1)) l.0),
             all_rest line (Some i) (Some j) rest x more is leads is_query l.1,
-            p.still l.0 l.3 ask ∙ l.2,
-            p.unchanged l.0 l.3 ask,
+            p.still l.0 l.3.unchanged ask ∙ l.2,
+            p.idle l.0 l.3 ask,
           );
       light = λ heads looks empty rested asks points n touches. light_on heads start.reads n (led.light heads looks empty rested asks points n touches);
     }
 
   -- queries are light lines
-  either_light : (heads : List Head) → (IsUnchanged start.session × AllAsk is_query line0 (Some i0) lines) ⊎ AreLight heads line0 (Some i0) lines
+  either_light : (heads : List Head) → (IsIdle start.session × AllAsk is_query line0 (Some i0) lines) ⊎ AreLight heads line0 (Some i0) lines
       → AllAsk is_light line0 (Some i0) lines × (given_of (state_after line0 (Some i0) lines) ≤ i0.given + 16384)
   either_light heads (inr l) = (l.asks, l.points)
   either_light heads (inl (u, asks)) =
@@ -203,7 +198,8 @@ module _ (D line0 : ℕ) (i0 : Index) (lines : List (List ℕ)) (start : Spot) (
   led_stops e d p = record {
     canon = λ listed. tt;
     levels = λ rested asks. tt;
-    still = λ rested u asks. let l = led.still rested u asks in p.still l.0 l.3 (all_first line (Some i) (answer line (Some i) x).state rest x more is refl is_query l.1) ∙ l.2;
+    still = λ rested u asks. let l = led.still rested u asks in p.still l.0 l.3.unchanged
+        (all_first line (Some i) (answer line (Some i) x).state rest x more is refl is_query l.1) ∙ l.2;
     reads = λ heads looks empty rested which n touches.
         let light = either_light heads which in
         let l = led.light heads looks empty rested light.0 light.1 n touches in
@@ -227,11 +223,11 @@ led_ends D line0 i0 lines start line i rest now led seen new r c = record {
     then_levels (Err e) first second = tt
 
     by_which : (heads : List Head) → LooksAt heads start.session.set → start.session.set.buffer ≡ [] → i0.begun ≡ false → (n : ℕ) → TouchesLines heads line0 (Some i0) lines n
-        → (IsUnchanged start.session × AllAsk is_query line0 (Some i0) lines) ⊎ AreLight heads line0 (Some i0) lines → new.reads ≤ start.reads + n
+        → (IsIdle start.session × AllAsk is_query line0 (Some i0) lines) ⊎ AreLight heads line0 (Some i0) lines → new.reads ≤ start.reads + n
     by_which heads looks empty rested n touches (inl (u, asks)) =
         let given = ap given_of (queries_stay line0 (Some i0) lines asks) in
         let l = led.light heads looks empty rested (all_weaker is_query is_light query_light line0 (Some i0) lines asks) (omega (arith, given)) n touches in
-        let same = c.reads (inl (led.still rested u asks).3) in
+        let same = c.reads (inl (led.still rested u asks).3.unchanged) in
         omega (arith, same, l.fits)
     by_which heads looks empty rested n touches (inr light) =
         let l = led.light heads looks empty rested light.asks light.points n touches in
@@ -249,7 +245,7 @@ led_breaks D line0 i0 lines start line i rest now led e = record {
 }
   where
     by_which : (heads : List Head) → LooksAt heads start.session.set → start.session.set.buffer ≡ [] → i0.begun ≡ false → (n : ℕ) → TouchesLines heads line0 (Some i0) lines n
-        → (IsUnchanged start.session × AllAsk is_query line0 (Some i0) lines) ⊎ AreLight heads line0 (Some i0) lines → now.reads ≤ start.reads + n
+        → (IsIdle start.session × AllAsk is_query line0 (Some i0) lines) ⊎ AreLight heads line0 (Some i0) lines → now.reads ≤ start.reads + n
     by_which heads looks empty rested n touches (inl (u, asks)) =
         let given = ap given_of (queries_stay line0 (Some i0) lines asks) in
         let l = led.light heads looks empty rested (all_weaker is_query is_light query_light line0 (Some i0) lines asks) (omega (arith, given)) n touches in

@@ -35,10 +35,11 @@ use Rattle.segment_view.specs.Costs.{AreTouched}
 use Rattle.segment_view.specs.Parts.{Contents, Part, heads_of}
 use Rattle.segment_set.specs.Sets.{NamedView, SetData, buffer_in, parts_in, view_of, viewed_parts}
 use Rattle.segment_set.specs.Seen.{Sees, ShowsSnapshot, entries_seen}
-use Rattle.segment_set.specs.Kept.{IsAsCommitted, StaysButCache}
+use Rattle.segment_set.specs.Kept.{StaysButCache}
 use Rattle.index_core.specs.Costs.{ReadsAtMost, ReadsNear, ReadsTouched}
 use Rattle.index_core.specs.Effects.{BringsCanonical, KeepsStill, OnDone, OnRefused}
 use Rattle.index_core.specs.Light.{CommitsFewOfLevels, IsBarred, KeepsLevels, LooksAt, StaysLight, is_light, points_in}
+use Rattle.index_core.specs.Closed.{IsIdle}
 use Rattle.index_core.specs.Sessions.{IsStill, IsUnchanged, SessionData}
 use Rattle.index_core.specs.Steps.{DoesOver, KeepsOver, is_committing}
 use Rattle.index_core.proofs.Bringing.{brings_same}
@@ -49,7 +50,7 @@ use Rattle.index_core.proofs.Undone.{begins_none}
 use Rattle.script_run.specs.Costs.{TouchesOn, TouchesReading, TouchesView, given_of, is_query}
 use Rattle.script_run.specs.Leads.{HasRoom, Passes, Spot, StaysFew}
 use Rattle.script_run.proofs.Asking.{Asks, IsRefusal, asked, begin_refused, full_of, full_or_given, light_gives, read_state, refusal_state, unread_state}
-use Rattle.script_run.proofs.Deciding.{unchanged_or_not}
+use Rattle.script_run.proofs.Deciding.{idle_still, unchanged_or_not}
 
 no : {P : Type 0} → false ≡ true → P
 no e = cc
@@ -107,17 +108,6 @@ query_still told r f g s t result q still = no q
 
 -- ---- what stays where all but the kept pages does
 
-committed_still : (s t : SetData) (c : CommitData) → StaysButCache s t → IsAsCommitted s c → IsAsCommitted t c
-committed_still s t c stays same = subst (λ (u : SetData). IsAsCommitted u c) (sym stays.is) (record { next = same.next; given = same.given; ids = same.ids; counts = same.counts; empty = same.empty })
-
-unchanged_still : (told : Type 0) (f g : Files) (s t : SessionData) → IsStill told f g s t → IsUnchanged s → IsUnchanged t
-unchanged_still told f g s t still u = record {
-  commit = u.commit;
-  is = still.commit ∙ u.is;
-  done = still.refused ∙ u.done;
-  same = committed_still s.set t.set u.commit still.set u.same;
-}
-
 looks_still : (heads : List Head) (s t : SetData) → StaysButCache s t → LooksAt heads s → LooksAt heads t
 looks_still heads s t stays looks = subst (LooksAt heads) (sym stays.is) (record { now = looks.now; snapshots = looks.snapshots })
 
@@ -172,12 +162,14 @@ module _ (D : ℕ) (told : Type 0) (is_told : told) (i : Index) (old new : Spot)
   still_files r (Ok (applied.Refused why)) (inl h) room a = (refused_still told i r old.files new.files old.session new.session why h a.still).files is_told
   still_files r (Err fault) (inl h) room a = fault_files r fault h room a
 
-  still_session : (r : Request) (result : Result Applied PageFault) → Asks is_query i r → IsUnchanged old.session → IsApplied D told i r old new before after result → OnOk result (IsUnchanged new.session)
+  still_session : (r : Request) (result : Result Applied PageFault) → Asks is_query i r → IsIdle old.session
+      → IsApplied D told i r old new before after result → OnOk result (IsIdle new.session)
   still_session r (Err fault) ask u a = tt
-  still_session r (Ok x) (inr q) u a = unchanged_still told old.files new.files old.session new.session (query_still told r old.files new.files old.session new.session (Ok x) q a.still) u
+  still_session r (Ok x) (inr q) u a = idle_still told old.files new.files old.session new.session
+      (query_still told r old.files new.files old.session new.session (Ok x) q a.still) u
   still_session r (Ok applied.Done) (inl h) u a = absurd (not_done D new.files i new.session.set before after (step_on i r) h a.does)
   still_session r (Ok (applied.Refused why)) (inl h) u a =
-      unchanged_still told old.files new.files old.session new.session (refused_still told i r old.files new.files old.session new.session why h a.still) u
+      idle_still told old.files new.files old.session new.session (refused_still told i r old.files new.files old.session new.session why h a.still) u
 
 -- ---- what a query looks at
 
@@ -331,7 +323,8 @@ passes_applied D told is_told line i bytes r old new before after result seen sa
   canon = a.canon;
   levels = λ rested. levels_after D told i r old new before after result a (begins_none D old.files old.session.set i seen rested);
   still = λ rested u ask. still_files D told is_told i old new before after rested (begins_none D old.files old.session.set i seen rested) seen.given r result (asked is_query line i bytes r is ask) (unchanged_room old.session u) a;
-  unchanged = λ rested u ask. still_session D told is_told i old new before after rested (begins_none D old.files old.session.set i seen rested) seen.given r result (asked is_query line i bytes r is ask) u a;
+  idle = λ rested u ask. still_session D told is_told i old new before after rested
+      (begins_none D old.files old.session.set i seen rested) seen.given r result (asked is_query line i bytes r is ask) u a;
   reads = λ heads looks rested ask room n touches. reads_few D told is_told i old new before after seen rested heads looks line r result (asked is_light line i bytes r is ask)
       (subst (λ (w : Answer). HasRoom old.session.set i w.state) answers room) a n (subst (λ (x : Reading). TouchesReading (Some i) heads x n) is touches);
   looks = λ heads looks rested ask room. subst (λ (w : Answer). OnOk result (StaysFew heads i w.state old.session.set new.session.set)) (sym answers)
@@ -355,7 +348,7 @@ passes_to D line i bytes old new r q fine p = record {
   canon = p.canon;
   levels = λ rested. fine_as _ r q fine (p.levels rested);
   still = p.still;
-  unchanged = λ rested u ask. fine_as _ r q fine (p.unchanged rested u ask);
+  idle = λ rested u ask. fine_as _ r q fine (p.idle rested u ask);
   reads = p.reads;
   looks = λ heads looks rested ask room. fine_as _ r q fine (p.looks heads looks rested ask room);
 }
@@ -370,7 +363,7 @@ passes_unread D line i bytes f old r dims fails = record {
   canon = brings_same D old.files old.files old.session.set.parts old.session.set.parts refl refl;
   levels = λ rested. on_ok r (inl refl);
   still = λ rested u ask. refl;
-  unchanged = λ rested u ask. on_ok r u;
+  idle = λ rested u ask. on_ok r u;
   reads = λ heads looks rested ask room n touches. omega arith;
   looks = λ heads looks rested ask room. on_ok r (record { looks = looks; waits = let same = ap given_of (unread_state line i bytes f (ap (λ d. read (Some d) bytes) dims ∙ fails)) in omega (arith, same) });
 }
@@ -381,7 +374,7 @@ passes_none D line i bytes old e = record {
   canon = brings_same D old.files old.files old.session.set.parts old.session.set.parts refl refl;
   levels = λ rested. tt;
   still = λ rested u ask. refl;
-  unchanged = λ rested u ask. tt;
+  idle = λ rested u ask. tt;
   reads = λ heads looks rested ask room n touches. omega arith;
   looks = λ heads looks rested ask room. tt;
 }

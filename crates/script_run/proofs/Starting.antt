@@ -22,6 +22,7 @@ use Rattle.segment_view.specs.Parts.{Contents, Part, heads_of, live_in_parts}
 use Rattle.segment_set.specs.Sets.{NamedView, SetData}
 use Rattle.segment_set.specs.Seen.{Sees, ShowsSnapshot}
 use Rattle.index_core.specs.Light.{KeepsLevels, LooksAt, is_light}
+use Rattle.index_core.specs.Closed.{IsIdle, NamesOnlyListed}
 use Rattle.index_core.specs.Sessions.{Guards, IsLast, IsUnchanged, SessionData}
 use Rattle.index_core.specs.Whole.{HasNewCanonical}
 use Rattle.index_core.proofs.Listed.{attached_listed}
@@ -70,7 +71,7 @@ pub opens_new : (D dims leaf : ℕ) (files : Files) (reads : ℕ) (s : SessionDa
 opens_new D dims leaf files reads s i stored d seen bare from = record {
   rested = ap (λ (j : Index). j.begun) from.1;
   fresh = record { empty = no_entries (seen files); listed = λ p there apart. none_there p (subst (λ (ps : List Part). Contains ps p) bare there) };
-  unchanged = λ is. let e : None ≡ Some i = sym from.2 ∙ is in absurd cc;
+  idle = λ is. let e : None ≡ Some i = sym from.2 ∙ is in absurd cc;
   looks = λ scope is. looks_now D files s.set (new_index D leaf) scope.heads (seen files) refl (ap heads_of bare ∙ ap (λ (q : Scope). q.heads) (sym (none_scope files scope from.0 is)));
   reads = λ scope is. omega arith;
 }
@@ -106,12 +107,13 @@ module _ (D : ℕ) (old new : Files) (before now : ℕ) (commit : CommitData) (i
 
   -- one that was attached, or wasn't
   pub opens_stored : (result : Result SessionData PageFault) → IfOk result (λ s. Sees D old s.set i) → IfOk result (Guards D old) → IfOk result IsUnchanged
+      → IfOk result NamesOnlyListed
       → Opens (origin.Stored commit) i stored old before now result
-  opens_stored (Err fault) seen guards unchanged = record { rested = rested_begun; fresh = tt; unchanged = λ is. tt; looks = λ s is. tt; reads = few_reads }
-  opens_stored (Ok s) seen guards unchanged = record {
+  opens_stored (Err fault) seen guards unchanged listed = record { rested = rested_begun; fresh = tt; idle = λ is. tt; looks = λ s is. tt; reads = few_reads }
+  opens_stored (Ok s) seen guards unchanged listed = record {
     rested = rested_begun;
     fresh = record { empty = unchanged.same.empty; listed = attached_listed D old s guards unchanged };
-    unchanged = λ is. unchanged;
+    idle = λ is. record { unchanged = unchanged; listed = listed };
     looks = λ scope is. looks_now D old s.set i scope.heads seen rested_snapshots (own_heads s seen guards unchanged scope is);
     reads = few_reads;
   }
@@ -120,7 +122,7 @@ module _ (D : ℕ) (old new : Files) (before now : ℕ) (commit : CommitData) (i
 pub opens_none : (dims leaf : ℕ) (files : Files) (reads : ℕ) (i : Index) (stored : State) (fault : PageFault) → IsFrom files (origin.New dims leaf) i stored
     → Opens (origin.New dims leaf) i stored files reads reads (Err fault)
 opens_none dims leaf files reads i stored fault from =
-    record { rested = ap (λ (j : Index). j.begun) from.1; fresh = tt; unchanged = λ is. tt; looks = λ s is. tt; reads = λ s is. omega arith }
+    record { rested = ap (λ (j : Index). j.begun) from.1; fresh = tt; idle = λ is. tt; looks = λ s is. tt; reads = λ s is. omega arith }
 
 module _ {T : Type 0} {E : Type 0} (o : Origin) (i : Index) (stored : State) (line : ℕ) (lines : List (List ℕ)) (old middle : Files) (before between : ℕ) (same : middle ≡ old) where
   pub open_fails : (fault : PageFault) → Opens o i stored old before between (Err fault) → (result : Result T E) (e : E) → result ≡ Err e → LeadsFrom o i stored line lines old middle before between result
@@ -137,7 +139,7 @@ module _ {T : Type 0} {E : Type 0} (o : Origin) (i : Index) (stored : State) (li
   open_leads s new result opens leads = record {
     canon = subst (λ (f : Files). OnOk result (HasNewCanonical f new.files)) same (leads.canon (subst (λ (f : Files). AreListed f s.set) (sym same) opens.fresh.listed));
     levels = λ asks. subst (λ (f : Files). OnOk result (KeepsLevels f new.files)) same (leads.levels opens.rested asks);
-    still = λ there asks. leads.still opens.rested (opens.unchanged there) asks ∙ same;
+    still = λ there asks. leads.still opens.rested (opens.idle there) asks ∙ same;
     reads = λ scope is which n touches.
         let few = opens.reads scope is in
         let more = leads.reads scope.heads (opens.looks scope is) opens.fresh.empty opens.rested (by_which scope which) n touches in
@@ -145,8 +147,8 @@ module _ {T : Type 0} {E : Type 0} (o : Origin) (i : Index) (stored : State) (li
   }
     where
       by_which : (scope : Scope) → ((stored ≡ Some i) × AllAsk is_query line (Some i) lines) ⊎ AreLight scope.heads line (Some i) lines
-          → (IsUnchanged s × AllAsk is_query line (Some i) lines) ⊎ AreLight scope.heads line (Some i) lines
-      by_which scope (inl (there, asks)) = inl (opens.unchanged there, asks)
+          → (IsIdle s × AllAsk is_query line (Some i) lines) ⊎ AreLight scope.heads line (Some i) lines
+      by_which scope (inl (there, asks)) = inl (opens.idle there, asks)
       by_which scope (inr light) = inr light
 
 -- ---- lines where no index is there

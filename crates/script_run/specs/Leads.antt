@@ -10,6 +10,7 @@ use Rattle.segment_view.specs.Parts.{Part}
 use Rattle.segment_set.specs.Sets.{IsSettled, SetData}
 use Rattle.index_core.specs.Effects.{BringsCanonical}
 use Rattle.index_core.specs.Light.{KeepsLevels, LooksAt, is_light}
+use Rattle.index_core.specs.Closed.{IsIdle}
 use Rattle.index_core.specs.Sessions.{IsUnchanged, SessionData}
 use Rattle.index_core.specs.Whole.{HasNewCanonical, IsNewSegment}
 use Rattle.explain_queries.specs.Explained.{Scope, IsScope}
@@ -40,7 +41,8 @@ pub record Passes {T E : Type 0} (D line : ℕ) (i : Index) (bytes : List ℕ) (
   pub canon : BringsCanonical D old.files new.files old.session.set.parts new.session.set.parts
   pub levels : i.begun ≡ false → OnOk result (KeepsLevels old.files new.files)
   pub still : i.begun ≡ false → IsUnchanged old.session → AsksOnly is_query line (Some i) bytes → new.files ≡ old.files
-  pub unchanged : i.begun ≡ false → IsUnchanged old.session → AsksOnly is_query line (Some i) bytes → OnOk result (IsUnchanged new.session)
+  pub idle : i.begun ≡ false → IsIdle old.session → AsksOnly is_query line (Some i) bytes
+      → OnOk result (IsIdle new.session)
   pub reads : (heads : List Head) → LooksAt heads old.session.set → i.begun ≡ false → AsksOnly is_light line (Some i) bytes
       → HasRoom old.session.set i (answer line (Some i) bytes).state → (n : ℕ) → TouchesLine heads (Some i) bytes n → new.reads ≤ old.reads + n
   pub looks : (heads : List Head) → LooksAt heads old.session.set → i.begun ≡ false → AsksOnly is_light line (Some i) bytes
@@ -52,20 +54,20 @@ pub record Passes {T E : Type 0} (D line : ℕ) (i : Index) (bytes : List ℕ) (
 abbrev pub AreListed : Files → SetData → Type 0
 AreListed files s = (p : Part) → Contains s.parts p → IsNewSegment files p.head.id → ⊥
 
--- what lines left is committed, or that fails
+-- what lines left is committed, and no file is left that the commit doesn't list, or that fails
 pub record Closes {T E : Type 0} (D : ℕ) (i : Index) (old new : Spot) (result : Result T E) : Type 0 where
   pub canon : (first : Files) (s : SetData) → AreListed first s → BringsCanonical D first old.files s.parts old.session.set.parts → OnOk result (HasNewCanonical first new.files)
   pub levels : i.begun ≡ false → OnOk result (KeepsLevels old.files new.files)
-  pub still : IsUnchanged old.session → new.files ≡ old.files
+  pub still : IsIdle old.session → new.files ≡ old.files
   pub reads : IsUnchanged old.session ⊎ IsSettled old.session.set → new.reads ≡ old.reads
 
 -- lines are done in a session and what they leave is committed, or it stops
 pub record Leads {T E : Type 0} (line : ℕ) (i : Index) (lines : List (List ℕ)) (old new : Spot) (result : Result T E) : Type 0 where
   pub canon : AreListed old.files old.session.set → OnOk result (HasNewCanonical old.files new.files)
   pub levels : i.begun ≡ false → AllAsk begins_no_merge line (Some i) lines → OnOk result (KeepsLevels old.files new.files)
-  pub still : i.begun ≡ false → IsUnchanged old.session → AllAsk is_query line (Some i) lines → new.files ≡ old.files
+  pub still : i.begun ≡ false → IsIdle old.session → AllAsk is_query line (Some i) lines → new.files ≡ old.files
   pub reads : (heads : List Head) → LooksAt heads old.session.set → old.session.set.buffer ≡ [] → i.begun ≡ false
-      → (IsUnchanged old.session × AllAsk is_query line (Some i) lines) ⊎ AreLight heads line (Some i) lines
+      → (IsIdle old.session × AllAsk is_query line (Some i) lines) ⊎ AreLight heads line (Some i) lines
       → (n : ℕ) → TouchesLines heads line (Some i) lines n → new.reads ≤ old.reads + n
 
 -- ---- with the opening
@@ -84,7 +86,7 @@ pub record IsFresh (files : Files) (s : SessionData) : Type 0 where
 pub record Opens (o : Origin) (i : Index) (stored : State) (files : Files) (before now : ℕ) (result : Result SessionData PageFault) : Type 0 where
   pub rested : i.begun ≡ false
   pub fresh : IfOk result (IsFresh files)
-  pub unchanged : stored ≡ Some i → IfOk result IsUnchanged
+  pub idle : stored ≡ Some i → IfOk result IsIdle
   pub looks : (s : Scope) → IsScope files s → IfOk result (λ t. LooksAt s.heads t.set)
   pub reads : (s : Scope) → IsScope files s → now ≤ before + origin_pages files o s.heads
 

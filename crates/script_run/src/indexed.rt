@@ -1,4 +1,4 @@
-//! The lines of a source on an index that is there, and the commit at their end.
+//! The lines of a source on an index that is there, and the end of their session.
 
 ghost use Rattle.std.specs.Prelude.{◌≡◌, ◌≤◌, Some, [], IsTrue, OnOk, ℕ};
 ghost use Rattle.index_opening.specs.Evidence.{IsEvident};
@@ -123,7 +123,7 @@ fn run_made<const D: usize, S: Source, R: Threads + Sync, F: Folder, K: Sink, G:
     Err(Halt::Stopped(Stop::Memory))
 }
 
-/// Commits what the lines left, of which so many were refused.
+/// Commits what the lines left, of which so many were refused, and leaves no file that the commit doesn't list.
 fn finish<const D: usize, R: Threads + Sync, F: Folder, G: Gate>(
     work: &Work<'_, R, G>,
     session: &mut Session<D>,
@@ -139,7 +139,7 @@ fn finish<const D: usize, R: Threads + Sync, F: Folder, G: Gate>(
     ensures undone { IsTrue F.told → Trusts D (F.files folder.old) session.old → StopKeeps (F.files folder.old) (F.files folder.new) result }
     ensures evident { OnStopDamage result (IsEvident (IsTrue F.told × Trusts D (F.files folder.old) session.old) (F.files folder.new)) }
 {
-    match session.commit(work.rt, work.alloc, folder, work.gate) {
+    match session.close(work.rt, work.alloc, folder, work.gate) {
         Ok(()) => Ok(refused),
         Err(fault) => stopped(fault),
     }

@@ -1,4 +1,5 @@
-//! Two leaves with a gap between them, over an index of each form: in the two older forms the cell of a leaf reaches over the gap.
+//! Two leaves with a gap between them, over an index of each form: in the two older forms the cell of a leaf reaches
+//! over the gap.
 
 use crate::stored::{Stored, open_alone};
 use crate::walks::{line, reads, walked};
@@ -22,8 +23,8 @@ const PACKED_HEAD: [u8; 28] = *b"BKDPSEG1\x01\x02\0\x02\0\0\0\x03\0\0\0\x02\0\0\
 
 const OWN_HEAD: [u8; 28] = *b"BKDPSEG2\x01\x03\0\x02\0\0\0\x03\0\0\0\x02\0\0\0\x1f\0\0\0\x01";
 
-/// The index over leaves of 12 and 9 bytes in the cell from 1 to 9, split at 9, in each form. Only the last one says that the left leaf
-/// ends at 2.
+/// The index over leaves of 12 and 9 bytes in the cell from 1 to 9, split at 9, in each form. Only the last one says
+/// that the left leaf ends at 2.
 const TABLE: [u8; 29] = [
     0x80, 0, 0, 1, 0x80, 0, 0, 9, 0, 0x80, 0, 0, 9, 0, 0, 0, 0, 0, 0, 0, 12, 0, 0, 0, 0, 0, 12, 0,
     9,
@@ -36,7 +37,8 @@ const OWN: [u8; 31] = [
     9, 0x80, 0, 0, 9,
 ];
 
-/// The ends of a box and its hits; over a cell that reaches over the gap the tests and the touched leaves, and over the leaf's own.
+/// The ends of a box and its hits; over a cell that reaches over the gap the tests and the touched leaves, and over
+/// the leaf's own.
 type Row = ((i32, i32), &'static [u32], (u64, u64), (u64, u64));
 
 const ROWS: [Row; 4] = [

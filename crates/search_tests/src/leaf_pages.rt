@@ -7,9 +7,9 @@ use bkd_build::OpenGate;
 use cell_relate::BoxShape;
 use outer_io::{FileName, MemFolder};
 use page_cache::{Damage, PageCache, PageFault};
-use point_codec::{Entry, Near, Point};
+use point_codec::{Entry, Point};
 use segment_build::build_segment;
-use segment_view::{Segments, nearest, survey, survey_near, visit};
+use segment_view::{Segments, survey, visit};
 use std::alloc::{AllocError, Global};
 use std::marker::Sync;
 use std::process::Abort;
@@ -39,14 +39,14 @@ fn row(alloc: Global) -> Result<Vec<Entry<2>>, AllocError>
 
 /// The segment of the row in a folder, and the entries that it was built of.
 #[derive(Drop)]
-struct Stored {
-    folder: MemFolder,
-    segments: Segments<2>,
-    entries: Vec<Entry<2>>,
+pub(crate) struct Stored {
+    pub(crate) folder: MemFolder,
+    pub(crate) segments: Segments<2>,
+    pub(crate) entries: Vec<Entry<2>>,
 }
 
 /// The segment of the row, in leaves of 333.
-fn make_stored<R: Threads + Sync>(rt: &R, alloc: Global) -> Result<Stored, Fail> {
+pub(crate) fn make_stored<R: Threads + Sync>(rt: &R, alloc: Global) -> Result<Stored, Fail> {
     let mut folder = MemFolder::new(alloc, Vec::new(alloc));
     let mut segments = Segments::new(alloc);
     let mut entries = row(alloc)?;
@@ -83,44 +83,8 @@ fn visited(
     )
 }
 
-/// The ten nearest of the segment.
-fn ten_nearest(
-    alloc: Global,
-    stored: &mut Stored,
-    cache: &mut PageCache,
-    at: &Point<2>,
-) -> Result<Vec<Near>, PageFault> {
-    nearest(
-        alloc,
-        &stored.segments,
-        &[],
-        cache,
-        &mut stored.folder,
-        at,
-        10,
-    )
-}
-
-/// The ten nearest among the entries themselves, all of them in the buffer.
-fn ten_of_entries(
-    alloc: Global,
-    stored: &mut Stored,
-    at: &Point<2>,
-) -> Result<Vec<Near>, PageFault> {
-    let mut cache = PageCache::new(alloc, 1)?;
-    nearest(
-        alloc,
-        &Segments::new(alloc),
-        stored.entries.as_slice(),
-        &mut cache,
-        &mut stored.folder,
-        at,
-        10,
-    )
-}
-
-/// The corners of a box; how many hits it has and the first of them; how many points it is asked for, how many leaves the walk touches
-/// and how many pages it reads.
+/// The corners of a box; how many hits it has and the first of them; how many points it is asked for, how many leaves
+/// the walk touches and how many pages it reads.
 type Row = ([i32; 2], [i32; 2], (usize, Option<u32>), (u64, u64, u64));
 
 /// Over 25 leaves, eleven on the first page, eleven on the second and three on the last.
@@ -136,7 +100,8 @@ fn file_of(alloc: Global, stored: &Stored) -> Result<Vec<u8>, Fail> {
     Ok(stored.folder.get(&SEGMENT).unwrap_or(&[]).to_vec(alloc)?)
 }
 
-/// A visit with the box of a row, where this call of the folder fails: the visit is done just where it doesn't come to that call.
+/// A visit with the box of a row, where this call of the folder fails: the visit is done just where it doesn't come
+/// to that call.
 fn check_visit(
     rt: &impl Abort,
     alloc: Global,
@@ -251,79 +216,6 @@ fn a_damaged_page_is_met_where_its_leaves_are(rt: HostRuntime) -> Result<(), Fai
     let page = &file[3 * 4096..4 * 4096];
     for row in BOXES {
         check_damaged(&rt, rt.alloc(), &mut stored, page, row)?;
-    }
-    Ok(())
-}
-
-/// Where it is asked from, how many leaves may have one of the ten, and how many pages are read: at the first leaf; at the front of a
-/// leaf in the middle of the second page; where the second page begins; past the last one.
-const PLACES: [(i32, u64, u64); 4] = [(0, 1, 1), (3_996, 2, 1), (3_663, 2, 2), (9_000, 2, 1)];
-
-/// A search over a cache without the segment's pages, where this call of the folder fails: it finds those that are wanted just where it
-/// doesn't come to that call.
-fn check_search(
-    rt: &impl Abort,
-    alloc: Global,
-    stored: &mut Stored,
-    cache: &mut PageCache,
-    wanted: &[Near],
-    place: (i32, u64),
-    call: u64,
-) -> Result<(), Fail> {
-    let (x, pages) = place;
-    cache.forget(3);
-    stored.folder.plan([call].to_vec(alloc)?, None);
-    match ten_nearest(alloc, stored, cache, &Point { c: [x, 0] }) {
-        Ok(found) => assert_eq!(rt; (found.as_slice(), call), (wanted, pages), "at {x}"),
-        Err(fault) => {
-            assert!(rt;
-                matches!(fault, PageFault::Failed) && call < pages,
-                "at {x}"
-            );
-        }
-    }
-    Ok(())
-}
-
-/// The search from a place, where each of its reads fails in turn and then none, and then over the pages that are kept.
-fn check_place(
-    rt: &impl Abort,
-    alloc: Global,
-    stored: &mut Stored,
-    place: (i32, u64, u64),
-) -> Result<(), Fail> {
-    let (x, near_leaves, pages) = place;
-    let at = Point { c: [x, 0] };
-    let wanted = ten_of_entries(alloc, stored, &at)?;
-    let greatest = wanted.last().map(|near| near.dist2);
-    assert_eq!(rt;
-        survey_near(&stored.segments, &at, greatest),
-        near_leaves,
-        "at {x}"
-    );
-    let mut cache = PageCache::new(alloc, 4)?;
-    for call in 0..=pages {
-        check_search(
-            rt,
-            alloc,
-            stored,
-            &mut cache,
-            wanted.as_slice(),
-            (x, pages),
-            call,
-        )?;
-    }
-    stored.folder.plan(Vec::new(alloc), Some(0));
-    let found = ten_nearest(alloc, stored, &mut cache, &at)?;
-    assert_eq!(rt; found.as_slice(), wanted.as_slice(), "at {x}");
-    Ok(())
-}
-
-#[test]
-fn the_nearest_read_the_pages_of_near_leaves(rt: HostRuntime) -> Result<(), Fail> {
-    let mut stored = make_stored(&rt, rt.alloc())?;
-    for place in PLACES {
-        check_place(&rt, rt.alloc(), &mut stored, place)?;
     }
     Ok(())
 }

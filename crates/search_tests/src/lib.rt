@@ -1,6 +1,7 @@
 //! Tests of search: walks over a segment, the nearest of segments and a buffer, and views of several segments.
 //!
-//! They stand above the crates that they test, as Rust's integration tests do: a change of a test is no change of those.
+//! They stand above the crates that they test, as Rust's integration tests do: a change of a test is no change of
+//! those.
 #![tactic(auto)]
 
 #[cfg(test)]
@@ -13,6 +14,10 @@ mod index_forms;
 mod leaf_pages;
 #[cfg(test)]
 mod long_leaves;
+#[cfg(test)]
+mod near_leaf_pages;
+#[cfg(test)]
+mod nearest_entries;
 #[cfg(test)]
 mod nearest_ones;
 #[cfg(test)]

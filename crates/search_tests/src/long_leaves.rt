@@ -14,18 +14,20 @@ use std::alloc::{AllocError, Global};
 use std::process::Abort;
 use std::test::Fail;
 
-/// The head's fields: two dimensions, form 3, 333 entries a leaf, 334 entries, 2 leaves, 58 bytes of index, one leaf page.
+/// The head's fields: two dimensions, form 3, 333 entries a leaf, 334 entries, 2 leaves, 58 bytes of index, one leaf
+/// page.
 const FIELDS: [u8; 28] = *b"BKDPSEG2\x02\x03\x01\x4d\0\0\x01\x4e\0\0\0\x02\0\0\0\x3a\0\0\0\x01";
 
-/// The index: the cell from (0, 0) to (333, 0), split at 333 in the first dimension; leaves of 352 and 15 bytes with their cells.
+/// The index: the cell from (0, 0) to (333, 0), split at 333 in the first dimension; leaves of 352 and 15 bytes with
+/// their cells.
 const INDEX: [u8; 58] = [
     0x80, 0, 0, 0, 0x80, 0, 0, 0, 0x80, 0, 1, 0x4d, 0x80, 0, 0, 0, 2, 1, 0x4d, 0, 0xe0, 2, 18,
     0xe0, 2, 0x80, 0, 0, 0, 0x80, 0, 0, 0, 0x80, 0, 1, 0x4c, 0x80, 0, 0, 0, 15, 0x80, 0, 1, 0x4d,
     0x80, 0, 0, 0, 0x80, 0, 1, 0x4d, 0x80, 0, 0, 0,
 ];
 
-/// The first leaf as far as the last bytes of its keys: 333 numbers from 0 on; of the keys two bytes are the same in the first dimension
-/// and all in the second; the third byte of the first is 0 in 256 of them and 1 in 77.
+/// The first leaf as far as the last bytes of its keys: 333 numbers from 0 on; of the keys two bytes are the same in
+/// the first dimension and all in the second; the third byte of the first is 0 in 256 of them and 1 in 77.
 const FRONT: [u8; 19] = [
     1, 0x4d, 0, 0, 2, 4, 0x80, 0, 0x80, 0, 0, 0, 0, 1, 2, 0, 255, 1, 76,
 ];
@@ -54,8 +56,8 @@ fn numbers(alloc: Global) -> Result<Vec<u32>, AllocError>
     Ok(docs)
 }
 
-/// The corners of a box; how many hits it has and the first of them; how many points it is asked for, how many leaves the walk touches
-/// and how many pages it reads.
+/// The corners of a box; how many hits it has and the first of them; how many points it is asked for, how many leaves
+/// the walk touches and how many pages it reads.
 type Row = ([i32; 2], [i32; 2], (usize, Option<u32>), (u64, u64, u64));
 
 /// A leaf's own cell tells that a box round it has all its points, so no point is asked for.

@@ -17,7 +17,8 @@ pub struct Stored<'a> {
     pub leaves: &'a [u8],
 }
 
-/// The fields of five entries: one dimension, form 3, 2 entries a leaf, 5 entries, 3 leaves, 44 bytes of index, 1 leaf page.
+/// The fields of five entries: one dimension, form 3, 2 entries a leaf, 5 entries, 3 leaves, 44 bytes of index, 1
+/// leaf page.
 const FIVE_FIELDS: [u8; 28] = [
     0x42, 0x4b, 0x44, 0x50, 0x53, 0x45, 0x47, 0x32, 1, 3, 0, 2, 0, 0, 0, 5, 0, 0, 0, 3, 0, 0, 0,
     44, 0, 0, 0, 1,

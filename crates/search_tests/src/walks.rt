@@ -12,8 +12,8 @@ use std::alloc::Global;
 use std::process::Abort;
 use std::test::Fail;
 
-/// The end of a box, its other end, the live numbers; then the hits, the tests, the compares; of the survey the tested entries and the
-/// touched leaves.
+/// The end of a box, its other end, the live numbers; then the hits, the tests, the compares; of the survey the
+/// tested entries and the touched leaves.
 type Row = (
     (i32, i32),
     &'static [u32],
@@ -119,8 +119,8 @@ pub fn walked<const D: usize>(
     })
 }
 
-/// How many pages a walk with the box reads, over a cache that keeps none: its first read is made to fail, then its second and so on
-/// until the walk is done. Each that fails is answered, and leaves the file.
+/// How many pages a walk with the box reads, over a cache that keeps none: its first read is made to fail, then its
+/// second and so on until the walk is done. Each that fails is answered, and leaves the file.
 pub fn reads<const D: usize>(
     alloc: Global,
     folder: &mut MemFolder,

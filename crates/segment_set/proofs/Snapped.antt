@@ -1,15 +1,17 @@
 -- Snapshots that are taken and let go.
-use Rattle.std.proofs.Common.{◌≡◌, ℕ, ◌≤◌, ◌<◌, Bool, true, false, not, cond, List, [], ◌∷◌, ◌++◌, length, refl, ap, ◌∙◌, arith}
+use Rattle.std.proofs.Common.{◌≡◌, ℕ, ◌≤◌, ◌<◌, Bool, true, false, not, cond, List, [], ◌∷◌, ◌++◌, length, None, refl, ap, ◌∙◌, arith}
 use Rattle.std.specs.List.{All, AllZip, filter}
 use Rattle.std.specs.Str.{bytes_eq}
 use Rattle.std.proofs.lemmas.List.{length_push}
-use Rattle.std.proofs.lemmas.List.Elements.{All-filter, All-push}
+use Rattle.std.proofs.lemmas.List.Elements.{All-filter, All-nil, All-push}
 use Rattle.std.proofs.lemmas.List.Sums.{count_by-le-length, length-filter}
 use Rattle.outer_io.specs.Files.{Files}
-use Rattle.index_model.specs.State.{Index, Snapshot}
+use Rattle.index_model.specs.State.{Index, Snapshot, at_rest}
+use Rattle.documents.specs.Entries.{is_among}
 use Rattle.point_codec.specs.Points.{Item}
-use Rattle.segment_view.specs.Parts.{AreRead, Contents, Part}
+use Rattle.segment_view.specs.Parts.{AreRead, Contents, Part, ids_of}
 use Rattle.segment_set.specs.Sets.{IsNamed, IsWell, NamedView, SetData}
+use Rattle.segment_set.specs.Faithful.{HasFileHead, IsFaithful}
 use Rattle.segment_set.specs.Seen.{Sees, ShowsSnapshot}
 
 -- a pair more at the end of two lists
@@ -144,6 +146,60 @@ well_released D s name well = record {
   cached = well.cached;
 }
 
+-- ---- all go, and the begun merge
+
+abbrev pub set_rested : SetData → SetData
+set_rested s = record s { snapshots = []; begun = None }
+
+pub sees_rested : (D : ℕ) (files : Files) (s : SetData) (i : Index) → Sees D files s i → Sees D files (set_rested s) (at_rest i)
+sees_rested D files s i seen = record {
+  contents = seen.contents;
+  stands = record {
+    now = seen.stands.now;
+    kept = All-nil (λ (v : NamedView). AreRead D files seen.contents v.parts);
+    begun = tt;
+    agrees = seen.stands.agrees;
+  };
+  dims = seen.dims;
+  leaf = seen.leaf;
+  next = seen.next;
+  given = seen.given;
+  begun = refl;
+  docs = seen.docs;
+  few = seen.few;
+  snapshots = tt;
+}
+
+pub faithful_rested : (D : ℕ) (files : Files) (s : SetData) → IsFaithful D files s → IsFaithful D files (set_rested s)
+faithful_rested D files s keeps = record { pages = keeps.pages; heads = keeps.heads; kept = All-nil (λ (v : NamedView). All (HasFileHead D files) v.parts) }
+
+pub well_rested : (D : ℕ) (s : SetData) → IsWell D s → IsWell D (set_rested s)
+well_rested D s well = record {
+  some_dims = well.some_dims;
+  few_dims = well.few_dims;
+  least_leaf = well.least_leaf;
+  greatest_leaf = well.greatest_leaf;
+  numbered = well.numbered;
+  most_given = well.most_given;
+  spread = well.spread;
+  room = well.room;
+  ordered = well.ordered;
+  once = well.once;
+  sixteen = well.sixteen;
+  few = well.few;
+  leaf_size = well.leaf_size;
+  live_fits = well.live_fits;
+  named = well.named;
+  kept = All-nil (λ (v : NamedView). All (IsNamed s.names) v.parts);
+  own = well.own;
+  few_snapshots = omega arith;
+  rooms = All-nil (λ (v : NamedView). length v.buffer ≤ 16384);
+  inputs = All-nil (λ (id : ℕ). is_among (ids_of s.parts) id ≡ true);
+  few_inputs = omega arith;
+  built = λ n is. cc;
+  cached = well.cached;
+}
+
 -- ---- the set from its fields
 
 pub snapped_is : (s : SetData) (name : List ℕ) (before now : List NamedView) (parts : List Part) (buffer : List Item) → before ≡ s.snapshots → parts ≡ s.parts → buffer ≡ s.buffer
@@ -155,3 +211,6 @@ snapped_is s name before now parts buffer b p x is = λ i. record s { snapshots 
 
 pub released_is : (s : SetData) (name : List ℕ) (now : List NamedView) → now ≡ filter (λ (v : NamedView). not (bytes_eq v.name name)) s.snapshots → record s { snapshots = now } ≡ set_released name s
 released_is s name now is = λ i. record s { snapshots = is i }
+
+pub rested_is : (s : SetData) (now : List NamedView) → now ≡ [] → record s { snapshots = now; begun = None } ≡ set_rested s
+rested_is s now is = λ i. record s { snapshots = is i; begun = None }

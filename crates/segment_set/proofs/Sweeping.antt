@@ -96,23 +96,16 @@ file_not_shown s (Live segment generation) e shown = shown_segment s (Live segme
 file_not_shown s Commit e shown = shown_segment s Commit shown (λ id is. cc)
 file_not_shown s CommitNew e shown = shown_segment s CommitNew shown (λ id is. cc)
 
--- the last save lists the file, or doesn't
-pub need_listed : (s : SetData) (k : CommitData) (name : FileName) (r : Bool) → s.saved ≡ Some k → (r ≡ true) ↔ ListsFile k name → r ≡ true → (c : CommitData) → s.saved ≡ Some c → IsNeeded s c name
-need_listed s k name r saved lists e c is =
-    let same : k ≡ c = cc in
-    inl (subst (λ (d : CommitData). ListsFile d name) same (lists.0 e))
-
-pub unneeded_listed : (s : SetData) (k : CommitData) (name : FileName) (r : Bool) → s.saved ≡ Some k → (r ≡ true) ↔ ListsFile k name → shows_file s name ≡ false → r ≡ false → IsUnneeded s name
-unneeded_listed s k name r saved lists hidden e = record {
+-- the commit lists the file, or doesn't
+pub unneeded_unlisted : (s : SetData) (c : CommitData) (name : FileName) (r : Bool) → (r ≡ true) ↔ ListsFile c name → shows_file s name ≡ false
+    → r ≡ false → IsUnneeded s c name
+unneeded_unlisted s c name r lists hidden e = record {
   shown = file_not_shown s name hidden;
-  listed = λ c is listed. let same : c ≡ k = cc in both_ways r e (lists.1 (subst (λ (d : CommitData). ListsFile d name) same listed));
+  listed = λ listed. both_ways r e (lists.1 listed);
 }
 
-pub unneeded_unsaved : (s : SetData) (name : FileName) → s.saved ≡ None → shows_file s name ≡ false → IsUnneeded s name
-unneeded_unsaved s name none hidden = record { shown = file_not_shown s name hidden; listed = λ c is listed. cc }
-
-pub not_needed : (s : SetData) (name : FileName) → IsUnneeded s name → (c : CommitData) → s.saved ≡ Some c → IsNeeded s c name → ⊥
-not_needed s name un c saved need = ⊎_elim (λ listed. un.listed c saved listed) (λ shown. un.shown shown) need
+pub not_needed : (s : SetData) (c : CommitData) (name : FileName) → IsUnneeded s c name → IsNeeded s c name → ⊥
+not_needed s c name un need = ⊎_elim (λ listed. un.listed listed) (λ shown. un.shown shown) need
 
 -- ---- sets that differ in names and cache alone need the same
 
@@ -122,31 +115,28 @@ needed_still s t c m alone need = subst (λ (u : SetData). IsNeeded u c m) (sym 
 pub needed_before : (s t : SetData) (c : CommitData) (m : FileName) → StaysButFiles s t → IsNeeded t c m → IsNeeded s c m
 needed_before s t c m alone need = subst (λ (u : SetData). IsNeeded u c m) alone.is need
 
-pub saved_still : (s t : SetData) → StaysButFiles s t → t.saved ≡ s.saved
-saved_still s t alone = ap (λ (u : SetData). u.saved) alone.is
-
 -- ---- sweeps, one after another
 
-pub swept_none : (told : Type 0) (s : SetData) (files : Files) → IsSwept told s s files files
-swept_none told s files = record {
+pub swept_none : (told : Type 0) (k : CommitData) (s : SetData) (files : Files) → IsSwept told k s s files files
+swept_none told k s files = record {
   alone = record { is = refl; next_segment = refl };
   fewer = λ m h. h;
-  named = λ c saved m need h. h;
-  needed = λ t c saved m need. refl;
+  named = λ m need h. h;
+  needed = λ t m need. refl;
   others = λ t m none. refl;
   commit = λ t. refl;
   gone = λ t m there none. absurd (both_ways (is_named s.names.names m) none there);
 }
 
-pub swept_then : (told : Type 0) (a b c : SetData) (f g h : Files) → IsSwept told a b f g → IsSwept told b c g h → IsSwept told a c f h
-swept_then told a b c f g h first second = record {
+pub swept_then : (told : Type 0) (k : CommitData) (a b c : SetData) (f g h : Files) → IsSwept told k a b f g → IsSwept told k b c g h → IsSwept told k a c f h
+swept_then told k a b c f g h first second = record {
   alone = record {
     is = second.alone.is ∙ ap (λ (s : SetData). record s { names = c.names; cache = c.cache }) first.alone.is;
     next_segment = second.alone.next_segment ∙ first.alone.next_segment;
   };
   fewer = λ m there. first.fewer m (second.fewer m there);
-  named = λ d saved m need there. second.named d (saved_still a b first.alone ∙ saved) m (needed_still a b d m first.alone need) (first.named d saved m need there);
-  needed = λ t d saved m need. second.needed t d (saved_still a b first.alone ∙ saved) m (needed_still a b d m first.alone need) ∙ first.needed t d saved m need;
+  named = λ m need there. second.named m (needed_still a b k m first.alone need) (first.named m need there);
+  needed = λ t m need. second.needed t m (needed_still a b k m first.alone need) ∙ first.needed t m need;
   others = λ t m none. second.others t m (unnamed m none) ∙ first.others t m none;
   commit = λ t. second.commit t ∙ first.commit t;
   gone = λ t m there none. by t m there none (is_named b.names.names m) refl;
@@ -164,13 +154,14 @@ swept_then told a b c f g h first second = record {
     by t m there none false e = second.others t m e ∙ first.gone t m there e
 
 -- a file was taken away, or maybe so, and its name is there still
-pub swept_torn : (told : Type 0) (s t : SetData) (before after : Files) (name : FileName) → is_named s.names.names name ≡ true → is_named s.names.names Commit ≡ false → IsUnneeded s name
-    → t ≡ record s { cache = t.cache } → (told → SameBut name before after) → IsSwept told s t before after
-swept_torn told s t before after name named own un is same = record {
+pub swept_torn : (told : Type 0) (k : CommitData) (s t : SetData) (before after : Files) (name : FileName) → is_named s.names.names name ≡ true
+    → is_named s.names.names Commit ≡ false → IsUnneeded s k name
+    → t ≡ record s { cache = t.cache } → (told → SameBut name before after) → IsSwept told k s t before after
+swept_torn told k s t before after name named own un is same = record {
   alone = record { is = is ∙ ap (λ (n : NameList). record s { names = n; cache = t.cache }) (sym names); next_segment = ap (λ (n : NameList). n.next_segment) names };
   fewer = λ m there. ap (λ (n : NameList). is_named n.names m) (sym names) ∙ there;
-  named = λ c saved m need there. ap (λ (n : NameList). is_named n.names m) names ∙ there;
-  needed = λ to c saved m need. same to m (λ e. not_needed s name un c saved (subst (IsNeeded s c) e need));
+  named = λ m need there. ap (λ (n : NameList). is_named n.names m) names ∙ there;
+  needed = λ to m need. same to m (λ e. not_needed s k name un (subst (IsNeeded s k) e need));
   others = λ to m none. same to m (λ e. both_ways (is_named s.names.names m) none (ap (is_named s.names.names) e ∙ named));
   commit = λ to. same to Commit (λ e. both_ways (is_named s.names.names Commit) own (ap (is_named s.names.names) e ∙ named));
   gone = λ to m there none. absurd (both_ways (is_named s.names.names m) (ap (λ (n : NameList). is_named n.names m) (sym names) ∙ none) there);
@@ -183,13 +174,15 @@ swept_torn told s t before after name named own un is same = record {
 abbrev pub names_but : FileName → NameList → NameList
 names_but name n = record n { names = filter (λ m. not (same_name m name)) n.names }
 
-pub swept_removed : (told : Type 0) (s t : SetData) (before after : Files) (name : FileName) → is_named s.names.names name ≡ true → is_named s.names.names Commit ≡ false → IsUnneeded s name
-    → t ≡ record s { names = names_but name s.names; cache = t.cache } → (told → SameBut name before after) → (told → after name ≡ None) → IsSwept told s t before after
-swept_removed told s t before after name named own un is same none_there = record {
+pub swept_removed : (told : Type 0) (k : CommitData) (s t : SetData) (before after : Files) (name : FileName) → is_named s.names.names name ≡ true
+    → is_named s.names.names Commit ≡ false → IsUnneeded s k name
+    → t ≡ record s { names = names_but name s.names; cache = t.cache } → (told → SameBut name before after) → (told → after name ≡ None)
+    → IsSwept told k s t before after
+swept_removed told k s t before after name named own un is same none_there = record {
   alone = record { is = is ∙ ap (λ (n : NameList). record s { names = n; cache = t.cache }) (sym names); next_segment = ap (λ (n : NameList). n.next_segment) names };
   fewer = λ m there. fewer m (ap (λ (n : NameList). is_named n.names m) (sym names) ∙ there);
-  named = λ c saved m need there. ap (λ (n : NameList). is_named n.names m) names ∙ others_kept s.names.names name m (λ e. not_needed s name un c saved (subst (IsNeeded s c) e need)) ∙ there;
-  needed = λ to c saved m need. same to m (λ e. not_needed s name un c saved (subst (IsNeeded s c) e need));
+  named = λ m need there. ap (λ (n : NameList). is_named n.names m) names ∙ others_kept s.names.names name m (λ e. not_needed s k name un (subst (IsNeeded s k) e need)) ∙ there;
+  needed = λ to m need. same to m (λ e. not_needed s k name un (subst (IsNeeded s k) e need));
   others = λ to m none. same to m (λ e. both_ways (is_named s.names.names m) none (ap (is_named s.names.names) e ∙ named));
   commit = λ to. same to Commit (λ e. both_ways (is_named s.names.names Commit) own (ap (is_named s.names.names) e ∙ named));
   gone = λ to m there none. ap after (is_name m there (ap (λ (n : NameList). is_named n.names m) (sym names) ∙ none)) ∙ none_there to;
@@ -214,7 +207,8 @@ swept_removed told s t before after name named own un is same none_there = recor
 
 -- ---- the set after a file is taken away
 
-module _ (D : ℕ) (s : SetData) (name : FileName) (cache : PageCache) (well : IsWell D s) (named : is_named s.names.names name ≡ true) (un : IsUnneeded s name)
+module _ (D : ℕ) (s : SetData) (k : CommitData) (name : FileName) (cache : PageCache) (well : IsWell D s)
+    (named : is_named s.names.names name ≡ true) (un : IsUnneeded s k name)
     (fewer : (id : ℕ) → KeepsFile cache id → KeepsFile s.cache id) (none : (id : ℕ) → name ≡ Segment id → KeepsFile cache id → ⊥) where
   still_named : (parts : List Part) → All (IsNamed s.names) parts → ((p : Part) → Contains parts p → Segment p.head.id ≢ name) → All (IsNamed (names_but name s.names)) parts
   still_named parts named apart k p lt =
@@ -298,7 +292,7 @@ pub all_needed : (s : SetData) (c : CommitData) (names : List FileName) (i : ℕ
 all_needed s c names i le all m named =
     All-contains (IsNeeded s c) names m (subst (All (IsNeeded s c)) (take_whole names i le) all) (is_named-contains names m named)
 
-pub gone_all : (told : Type 0) (s t : SetData) (f g : Files) (c : CommitData) → IsSwept told s t f g → told → ((m : FileName) → is_named t.names.names m ≡ true → IsNeeded s c m)
+pub gone_all : (told : Type 0) (s t : SetData) (f g : Files) (c : CommitData) → IsSwept told c s t f g → told → ((m : FileName) → is_named t.names.names m ≡ true → IsNeeded s c m)
     → (m : FileName) → is_named s.names.names m ≡ true → (IsNeeded s c m → ⊥) → g m ≡ None
 gone_all told s t f g c swept to needed m there not_so = by (is_named t.names.names m) refl
   where

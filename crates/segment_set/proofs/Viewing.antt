@@ -99,9 +99,9 @@ heads_still D before after name parts same apart all k p lt =
     subst (λ (file : Option (List ℕ)). ∥ IsHeadOf D (bytes_of file) (get_or parts k p).head ∥₁)
     (sym (same (Segment (get_or parts k p).head.id) (apart (get_or parts k p) (All-contains_itself parts k p lt)))) (all k p lt)
 
-pub faithful_swept : (D : ℕ) (s t : SetData) (name : FileName) (before after : Files) → IsUnneeded s name → ((id : ℕ) → name ≡ Segment id → KeepsFile t.cache id → ⊥) → SameBut name before after
+pub faithful_swept : (D : ℕ) (s t : SetData) (k : CommitData) (name : FileName) (before after : Files) → IsUnneeded s k name → ((id : ℕ) → name ≡ Segment id → KeepsFile t.cache id → ⊥) → SameBut name before after
     → Agrees before t.cache → t.parts ≡ s.parts → t.snapshots ≡ s.snapshots → IsFaithful D before s → IsFaithful D after t
-faithful_swept D s t name before after un none same agrees parts snapshots keeps = record {
+faithful_swept D s t k name before after un none same agrees parts snapshots keeps = record {
   pages = agrees_other before after t.cache (λ id kept. same (Segment id) (λ e. none id (sym e) kept)) agrees;
   heads = subst (All (HasFileHead D after)) (sym parts) (heads_still D before after name s.parts same (λ p there e. un.shown (inl (p, there, sym e))) keeps.heads);
   kept = subst (All (λ (v : NamedView). All (HasFileHead D after) v.parts)) (sym snapshots)

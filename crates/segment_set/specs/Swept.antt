@@ -1,5 +1,5 @@
 -- What a sweep takes away.
-use Rattle.std.specs.Prelude.{◌≡◌, ◌⊎◌, ◌||◌, Bool, true, false, Contains, Some, None}
+use Rattle.std.specs.Prelude.{◌≡◌, ◌⊎◌, ◌||◌, Bool, true, false, Contains, None}
 use Rattle.std.specs.List.{list_any}
 use Rattle.outer_io.specs.declared.file_name.FileName.{FileName}
 use Rattle.outer_io.specs.declared.file_name.FileName.TheVariants.{Commit, CommitNew, Segment, Live}
@@ -23,17 +23,17 @@ shows_file s (Live segment generation) = false
 shows_file s Commit = false
 shows_file s CommitNew = false
 
--- neither a view needs the file nor the last save lists it
-pub record IsUnneeded (s : SetData) (name : FileName) : Type 0 where
+-- neither a view needs the file nor the commit lists it
+pub record IsUnneeded (s : SetData) (c : CommitData) (name : FileName) : Type 0 where
   pub shown : IsShown s name → ⊥
-  pub listed : (c : CommitData) → s.saved ≡ Some c → ListsFile c name → ⊥
+  pub listed : ListsFile c name → ⊥
 
 -- Files of the list that aren't needed were taken away, and their names out of the list.
-pub record IsSwept (told : Type 0) (old new : SetData) (before after : Files) : Type 0 where
+pub record IsSwept (told : Type 0) (c : CommitData) (old new : SetData) (before after : Files) : Type 0 where
   pub alone : StaysButFiles old new
   pub fewer : (m : FileName) → is_named new.names.names m ≡ true → is_named old.names.names m ≡ true
-  pub named : (c : CommitData) → old.saved ≡ Some c → (m : FileName) → IsNeeded old c m → is_named old.names.names m ≡ true → is_named new.names.names m ≡ true
-  pub needed : told → (c : CommitData) → old.saved ≡ Some c → (m : FileName) → IsNeeded old c m → after m ≡ before m
+  pub named : (m : FileName) → IsNeeded old c m → is_named old.names.names m ≡ true → is_named new.names.names m ≡ true
+  pub needed : told → (m : FileName) → IsNeeded old c m → after m ≡ before m
   pub others : told → (m : FileName) → is_named old.names.names m ≡ false → after m ≡ before m
   pub commit : told → after Commit ≡ before Commit
   pub gone : told → (m : FileName) → is_named old.names.names m ≡ true → is_named new.names.names m ≡ false → after m ≡ None

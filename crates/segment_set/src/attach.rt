@@ -2,9 +2,9 @@
 
 ghost use Rattle.std.specs.Prelude.{◌≡◌, ◌≤◌, ◌+◌, ◌↔◌, ℕ, List, true, [], None, Some, length, IsTrue, IfOk};
 ghost use Rattle.std.specs.List.{AllZip};
-ghost use Rattle.outer_io.specs.Files.{bytes_of};
+ghost use Rattle.outer_io.specs.Files.{Files, bytes_of};
 ghost use Rattle.outer_io.specs.declared.file_name.FileName.{FileName};
-ghost use Rattle.outer_io.specs.declared.file_name.FileName.TheVariants.{Commit as CommitName};
+ghost use Rattle.outer_io.specs.declared.file_name.FileName.TheVariants.{Commit as CommitName, Segment};
 ghost use Rattle.live_bits.specs.LiveSet.{LiveSet};
 ghost use Rattle.page_cache.specs.Cache.{room_of};
 ghost use Rattle.page_cache.specs.Causes.{HasPageCause};
@@ -80,6 +80,26 @@ impl<const D: usize> SegmentSet<D> {
             cache,
             saved: None,
         })
+    }
+
+    /// Takes over all that another set has but its list of names: so a sweep finds the files that only this one needed.
+    pub fn renew(&mut self, set: SegmentSet<D>)
+        requires { (id : ℕ) → is_named set.names.names (Segment id) ≡ true
+            → is_named self.old.names.names (Segment id) ≡ true }
+        ensures seen { (files : Files) (i : Index) → Sees D files set.entry i → Sees D files self.new i }
+        ensures faithful { (files : Files) → IsFaithful D files set.entry → IsFaithful D files self.new }
+        ensures kept { self.new ≡ record set.entry { names = self.old.names } }
+    {
+        self.leaf = set.leaf;
+        self.forks = set.forks;
+        self.next = set.next;
+        self.given = set.given;
+        self.segments = set.segments;
+        self.buffer = set.buffer;
+        self.snapshots = set.snapshots;
+        self.begun = set.begun;
+        self.cache = set.cache;
+        self.saved = set.saved;
     }
 }
 

@@ -1,9 +1,9 @@
 //! Snapshots.
 
-ghost use Rattle.std.specs.Prelude.{◌≡◌, ◌≤◌, ◌<◌, ◌++◌, ◌∷◌, ◌↔◌, ℕ, [], Some, false, true, not, length, filter, OnOk, OnErr, IsErrOf};
+ghost use Rattle.std.specs.Prelude.{◌≡◌, ◌≤◌, ◌<◌, ◌++◌, ◌∷◌, ◌↔◌, ℕ, [], None, Some, false, true, not, length, filter, OnOk, OnErr, IsErrOf};
 ghost use Rattle.std.specs.Str.{bytes_eq};
 ghost use Rattle.outer_io.specs.Files.{Files};
-ghost use Rattle.index_model.specs.State.{Index};
+ghost use Rattle.index_model.specs.State.{Index, at_rest};
 
 use crate::faults::SnapFault;
 use crate::set::SegmentSet;
@@ -90,6 +90,16 @@ impl<const D: usize> SegmentSet<D> {
         let found = has_name(self.snapshots.as_slice(), name);
         let_go(&mut self.snapshots, name);
         found
+    }
+
+    /// Lets all snapshots go, and the begun merge.
+    pub fn rest(&mut self)
+        ensures seen { (files : Files) (i : Index) → Sees D files self.old i → Sees D files self.new (at_rest i) }
+        ensures faithful { (files : Files) → IsFaithful D files self.old → IsFaithful D files self.new }
+        ensures kept { self.new ≡ record self.old { snapshots = []; begun = None } }
+    {
+        self.snapshots.clear();
+        self.begun = None;
     }
 }
 

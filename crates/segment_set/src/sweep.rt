@@ -26,20 +26,21 @@ impl<const D: usize> SegmentSet<D> {
     ghost use Rattle.segment_set.specs.Faithful.{IsFaithful};
     ghost use Rattle.segment_set.specs.Swept.{IsSwept, IsUnneeded, shows_file};
 
-    /// Removes every file of the list of names but those that the last save lists and those that a view needs. After Ok only these are in the
-    /// list, and the others aren't there.
-    pub fn sweep<F: Folder>(&mut self, folder: &mut F) -> Result<(), Failed>
-        requires { self.old.saved ≢ None }
+    /// Removes every file of the list of names but those that the commit lists and those that a view needs. After Ok
+    /// only these are in the list, and the others aren't there.
+    pub fn sweep<F: Folder>(&mut self, folder: &mut F, c: &Commit) -> Result<(), Failed>
         ensures seen { IsTrue F.told → (i : Index) → Sees D (F.files folder.old) self.old i → Sees D (F.files folder.new) self.new i }
-        ensures needed { IsTrue F.told → (c : CommitData) → self.old.saved ≡ Some c → (m : FileName) → IsNeeded self.old c m → F.files folder.new m ≡ F.files folder.old m }
+        ensures needed { IsTrue F.told → (m : FileName) → IsNeeded self.old c.now m
+            → F.files folder.new m ≡ F.files folder.old m }
         ensures others { IsTrue F.told → (m : FileName) → is_named self.old.names.names m ≡ false → F.files folder.new m ≡ F.files folder.old m }
         ensures commit { IsTrue F.told → F.files folder.new CommitName ≡ F.files folder.old CommitName }
         ensures fewer { (m : FileName) → is_named self.new.names.names m ≡ true → is_named self.old.names.names m ≡ true }
-        ensures named { (c : CommitData) → self.old.saved ≡ Some c → (m : FileName) → IsNeeded self.old c m
-            → is_named self.old.names.names m ≡ true → is_named self.new.names.names m ≡ true }
-        ensures swept { OnOk result ((c : CommitData) → self.old.saved ≡ Some c → (m : FileName) → is_named self.new.names.names m ≡ true → IsNeeded self.old c m) }
-        ensures gone { IsTrue F.told → OnOk result ((c : CommitData) → self.old.saved ≡ Some c → (m : FileName) → is_named self.old.names.names m ≡ true
-            → (IsNeeded self.old c m → ⊥) → F.files folder.new m ≡ None) }
+        ensures named { (m : FileName) → IsNeeded self.old c.now m → is_named self.old.names.names m ≡ true
+            → is_named self.new.names.names m ≡ true }
+        ensures swept { OnOk result ((m : FileName) → is_named self.new.names.names m ≡ true
+            → IsNeeded self.old c.now m) }
+        ensures gone { IsTrue F.told → OnOk result ((m : FileName) → is_named self.old.names.names m ≡ true
+            → (IsNeeded self.old c.now m → ⊥) → F.files folder.new m ≡ None) }
         // whatever is answered: what left the list is gone
         ensures left { IsTrue F.told → (m : FileName) → is_named self.old.names.names m ≡ true → is_named self.new.names.names m ≡ false → F.files folder.new m ≡ None }
         ensures alone { StaysButFiles self.old self.new }
@@ -49,28 +50,33 @@ impl<const D: usize> SegmentSet<D> {
     {
         let mut place = 0;
         'names: while place < self.names.as_slice().len() {
-            place = self.sweep_at(folder, place)?;
+            place = self.sweep_at(folder, c, place)?;
         }
         Ok(())
     }
 
     /// Removes the file at a place of the list of names unless it is needed, and answers the place of the next one.
-    fn sweep_at<F: Folder>(&mut self, folder: &mut F, place: usize) -> Result<usize, Failed>
+    fn sweep_at<F: Folder>(
+        &mut self,
+        folder: &mut F,
+        c: &Commit,
+        place: usize,
+    ) -> Result<usize, Failed>
         requires { place < length self.old.names.names }
         ensures seen { IsTrue F.told → (i : Index) → Sees D (F.files folder.old) self.old i → Sees D (F.files folder.new) self.new i }
-        ensures swept { IsSwept (IsTrue F.told) self.old self.new (F.files folder.old) (F.files folder.new) }
+        ensures swept { IsSwept (IsTrue F.told) c.now self.old self.new (F.files folder.old) (F.files folder.new) }
         ensures faithful { IsTrue F.told → IsFaithful D (F.files folder.old) self.old → IsFaithful D (F.files folder.new) self.new }
-        ensures front { (c : CommitData) → self.old.saved ≡ Some c → All (IsNeeded self.old c) (take place self.old.names.names)
-            → IfOk result (λ n. All (IsNeeded self.old c) (take n self.new.names.names)) }
+        ensures front { All (IsNeeded self.old c.now) (take place self.old.names.names)
+            → IfOk result (λ n. All (IsNeeded self.old c.now) (take n self.new.names.names)) }
         ensures next { IfOk result (λ n. length self.new.names.names - n < length self.old.names.names - place) }
         ensures unread { F.reads folder.new ≡ F.reads folder.old }
         ensures cause { HasCause (F.faults folder.old) (F.faults folder.new) result }
     {
         let name = self.name_at(place);
-        if self.needs(&name) {
+        if self.needs(c, &name) {
             return Ok(place + 1);
         }
-        self.remove_file(folder, &name)?;
+        self.remove_file(folder, c, &name)?;
         Ok(place)
     }
 
@@ -84,11 +90,16 @@ impl<const D: usize> SegmentSet<D> {
     }
 
     /// Removes a file, its name and what is kept of it.
-    fn remove_file<F: Folder>(&mut self, folder: &mut F, name: &FileName) -> Result<(), Failed>
+    fn remove_file<F: Folder>(
+        &mut self,
+        folder: &mut F,
+        c: &Commit,
+        name: &FileName,
+    ) -> Result<(), Failed>
         requires named { is_named self.old.names.names name.now ≡ true }
-        requires unneeded { IsUnneeded self.old name.now }
+        requires unneeded { IsUnneeded self.old c.now name.now }
         ensures seen { IsTrue F.told → (i : Index) → Sees D (F.files folder.old) self.old i → Sees D (F.files folder.new) self.new i }
-        ensures swept { IsSwept (IsTrue F.told) self.old self.new (F.files folder.old) (F.files folder.new) }
+        ensures swept { IsSwept (IsTrue F.told) c.now self.old self.new (F.files folder.old) (F.files folder.new) }
         ensures faithful { IsTrue F.told → IsFaithful D (F.files folder.old) self.old → IsFaithful D (F.files folder.new) self.new }
         ensures names { OnOk result (self.new.names.names ≡ filter (λ n. not (same_name n name.now)) self.old.names.names) }
         ensures unread { F.reads folder.new ≡ F.reads folder.old }
@@ -100,18 +111,15 @@ impl<const D: usize> SegmentSet<D> {
         Ok(())
     }
 
-    /// Whether the last save lists the file, or a view needs it.
-    fn needs(&self, name: &FileName) -> bool
-        ensures yes { result ≡ true → (c : CommitData) → self.now.saved ≡ Some c → IsNeeded self.now c name.now }
-        ensures no { result ≡ false → IsUnneeded self.now name.now }
+    /// Whether the commit lists the file, or a view needs it.
+    fn needs(&self, c: &Commit, name: &FileName) -> bool
+        ensures yes { result ≡ true → IsNeeded self.now c.now name.now }
+        ensures no { result ≡ false → IsUnneeded self.now c.now name.now }
     {
         if self.shows(name) {
             return true;
         }
-        match &self.saved {
-            Some(c) => lists_file(c, name),
-            None => false,
-        }
+        lists_file(c, name)
     }
 
     /// Whether a view needs the file.

@@ -146,9 +146,10 @@ class Shards:
 
     def _submit(self, task: Callable[..., Any], place: int, words: tuple[Any, ...], worker: str | None) -> Future:
         only: dict[str, Any] = {} if worker is None else {"workers": [worker], "allow_other_workers": False}
-        large = [self._client.scatter(word, workers=only.get("workers"), hash=False) if isinstance(word, Documents) else word
-                 for word in words]
-        return self._client.submit(task, self.layout.folders[place], *large, pure=False, **only)
+        # what may be large goes to its worker straight, and not through the scheduler
+        given = [self._client.scatter(word, workers=only.get("workers"), hash=False)
+                 if isinstance(word, (Documents, numpy.ndarray)) else word for word in words]
+        return self._client.submit(task, self.layout.folders[place], *given, pure=False, **only)
 
     def _gathered(self, futures: dict[int, Future], bound: Mapping[int, str | None]) -> dict[int, Any]:
         """What tasks answer; a worker that a task is bound to and that isn't there any more is told."""

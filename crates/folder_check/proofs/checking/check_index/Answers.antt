@@ -11,21 +11,33 @@ use Rattle.index_opening.specs.Evidence.{IsTwice}
 use Rattle.index_opening.specs.Opened.{IsOpened}
 use Rattle.index_opening.proofs.Evident.{on_part_evident}
 use Rattle.index_opening.proofs.Listed.{undefined_fault}
+use Rattle.index_opening.proofs.Named.{part_found}
 use Rattle.folder_check.specs.Found.{AreFine, HasSegment, IsWrong}
 use Rattle.folder_check.proofs.Pairs.{zip_long}
-use Rattle.folder_check.proofs.Shown.{on_wrong_evident}
-use Rattle.folder_check.proofs.Whole.{all_segments, file_heads, handed, known_of, leaves_read, on_fine_holds, on_wrong_undefined}
+use Rattle.folder_check.proofs.Shown.{on_wrong_evident, on_wrong_found}
+use Rattle.folder_check.proofs.Pages.{pages_opened, pages_whole, read_of}
+use Rattle.folder_check.proofs.Whole.{all_listed, all_segments, file_heads, handed, known_of, on_fine_holds, on_wrong_undefined, own_heads}
 use Rattle.folder_check.proofs.checking.check_index.Goals as goal
+
+pub returns-in_err-segments-clause-reads : goal.returns-in_err-segments-clause-reads
+returns-in_err-segments-clause-reads g c = λ told heads sets have lives.
+    let opened = c.in_err-segments.ensures.reads told heads sets have lives in
+    let most = pages_opened (g.F.Pages.files c.args.folder.now) c.args.c.now heads have in
+    omega (arith, opened, most)
 
 pub returns-in_err-findings-clause-files : goal.returns-in_err-findings-clause-files
 returns-in_err-findings-clause-files g c = λ told. c.in_err-findings.ensures.files told ∙ c.in_ok-segments.ensures.files told
 
 pub returns-in_err-findings-clause-reads : goal.returns-in_err-findings-clause-reads
 returns-in_err-findings-clause-reads g c = λ told heads sets have lives.
+    let files = g.F.Pages.files c.args.folder.now in
+    let parts = c.in_ok-segments.segments in
     let opened = c.in_ok-segments.ensures.reads told heads sets have lives in
-    let read = c.in_err-findings.ensures.reads in
-    let same = leaves_read (IsTrue g.F.Pages.told) (g.F.Pages.files c.args.folder.now) c.args.c.now c.in_ok-segments.segments heads told c.in_ok-segments.ensures.opened have in
-    omega (arith, opened, read, same)
+    let own = own_heads (IsTrue g.F.Pages.told) g.row.D files c.args.c.now parts told c.requires c.in_ok-segments.ensures.opened in
+    let same = c.in_ok-segments.ensures.files told in
+    let read = read_of g.row.D files (g.F.Pages.files c.open_index.new.folder) parts _ _ same own (c.in_err-findings.ensures.reads told) in
+    let whole = pages_whole (IsTrue g.F.Pages.told) files c.args.c.now parts heads told c.in_ok-segments.ensures.opened have in
+    omega (arith, opened, read, whole)
 
 pub returns-in_err-findings-clause-undefined : goal.returns-in_err-findings-clause-undefined
 returns-in_err-findings-clause-undefined g c = λ told says.
@@ -70,10 +82,14 @@ returns-clause-files g c = λ told. c.in_ok-findings.ensures.files told ∙ c.in
 
 pub returns-clause-reads : goal.returns-clause-reads
 returns-clause-reads g c = λ told heads sets have lives.
+    let files = g.F.Pages.files c.args.folder.now in
+    let parts = c.in_ok-segments.segments in
     let opened = c.in_ok-segments.ensures.reads told heads sets have lives in
-    let read = c.in_ok-findings.ensures.reads in
-    let same = leaves_read (IsTrue g.F.Pages.told) (g.F.Pages.files c.args.folder.now) c.args.c.now c.in_ok-segments.segments heads told c.in_ok-segments.ensures.opened have in
-    omega (arith, opened, read, same)
+    let own = own_heads (IsTrue g.F.Pages.told) g.row.D files c.args.c.now parts told c.requires c.in_ok-segments.ensures.opened in
+    let same = c.in_ok-segments.ensures.files told in
+    let read = read_of g.row.D files (g.F.Pages.files c.open_index.new.folder) parts _ _ same own (c.in_ok-findings.ensures.reads told) in
+    let whole = pages_whole (IsTrue g.F.Pages.told) files c.args.c.now parts heads told c.in_ok-segments.ensures.opened have in
+    omega (arith, opened, read, whole)
 
 pub returns-clause-undefined : goal.returns-clause-undefined
 returns-clause-undefined g c = λ told says.
@@ -89,3 +105,22 @@ returns-clause-evident g c =
     (λ t. known_of (IsTrue g.F.Pages.told) g.row.D (g.F.Pages.files c.args.folder.now) (g.F.Pages.files c.open_index.new.folder) c.args.c.now c.in_ok-segments.segments c.in_ok-findings.findings.items t.0 (c.in_ok-segments.ensures.files t.0) c.requires t.1
     c.in_ok-segments.ensures.opened c.in_ok-segments.ensures.placed (c.in_ok-findings.ensures.found t.0))
     (handed (λ ls n fs. OnDamage c.judge.result (IsWrong ls n fs)) _ _ _ _ _ _ c.listed.ensures.value c.given.ensures.value c.as_slice.ensures.value c.judge.ensures.wrong)
+
+pub returns-in_err-findings-clause-named : goal.returns-in_err-findings-clause-named
+returns-in_err-findings-clause-named g c = λ told says.
+    let files = g.F.Pages.files c.args.folder.now in
+    let parts = c.in_ok-segments.segments in
+    let e = err_from_is_err_and c.from_residual-in_err-findings.result c.from_residual-in_err-findings.ensures.1 in
+    rw (e.1, e.2)
+    (part_found g.row.D files parts c.in_err-findings.field-0.0
+    (all_listed (IsTrue g.F.Pages.told) files c.args.c.now parts says c.in_ok-segments.ensures.opened) c.in_err-findings.ensures.shown)
+
+pub returns-clause-named : goal.returns-clause-named
+returns-clause-named g c = λ told says.
+    let files = g.F.Pages.files c.args.folder.now in
+    on_wrong_found files c.args.c.now c.in_ok-findings.findings.items c.judge.result
+    (known_of (IsTrue g.F.Pages.told) g.row.D files (g.F.Pages.files c.open_index.new.folder) c.args.c.now c.in_ok-segments.segments
+    c.in_ok-findings.findings.items told (c.in_ok-segments.ensures.files told) c.requires says
+    c.in_ok-segments.ensures.opened c.in_ok-segments.ensures.placed (c.in_ok-findings.ensures.found told))
+    (handed (λ ls n fs. OnDamage c.judge.result (IsWrong ls n fs)) _ _ _ _ _ _
+    c.listed.ensures.value c.given.ensures.value c.as_slice.ensures.value c.judge.ensures.wrong)

@@ -8,6 +8,7 @@ use Rattle.commit_list.specs.declared.listed.Listed.{Listed}
 use Rattle.commit_list.specs.CommitFiles.{IsCommitFile}
 use Rattle.stored_index.specs.Stored.{HoldsIndex}
 use Rattle.index_opening.proofs.Listed.{undefined_fault}
+use Rattle.index_opening.proofs.Named.{commit_found}
 use Rattle.folder_check.specs.Checked.{ok_text}
 use Rattle.folder_check.proofs.Counted.{documents_counted}
 use Rattle.folder_check.proofs.Whole.{commit_undefined, live_fits, pages_all, pages_read, read_at}
@@ -64,3 +65,9 @@ returns-clause-tells g c = λ told.
       told = c.in_ok-ok_line.ensures
           ∙ ap (ok_text commit) (c.live_documents.ensures ∙ ap (λ (ss : List Listed). sum_by (λ (s : Listed). s.live) ss) c.listed.ensures.value ∙ sym (documents_counted files commit held.0 holds));
     })
+
+pub returns-in_err-commit-clause-named : goal.returns-in_err-commit-clause-named
+returns-in_err-commit-clause-named g c = λ told.
+    let e = err_from_is_err_and c.from_residual.result c.from_residual.ensures.1 in
+    let files = g.F.Pages.files c.args.folder.now in
+    rw (e.1, e.2) (commit_found files c.in_err-commit.field-0.0 c.in_err-commit.ensures.shown (c.in_err-commit.ensures.damage told))

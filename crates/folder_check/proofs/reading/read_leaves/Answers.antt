@@ -9,9 +9,9 @@ use Rattle.page_cache.specs.Evidence.{FaultShows}
 use Rattle.segment_view.specs.Held.{HasOwnHead}
 use Rattle.segment_view.specs.Parts.{part_of}
 use Rattle.segment_view.proofs.Living.{part_in}
-use Rattle.segment_view.proofs.Stepwise.{leaves_more, leaves_upto}
 use Rattle.folder_check.specs.Found.{HasSegment, IsFinding}
 use Rattle.folder_check.proofs.Leaves.{fault_of_part, found_more}
+use Rattle.folder_check.proofs.Pages.{one_read, pages_more, pages_upto}
 use Rattle.folder_check.proofs.reading.read_leaves.Goals as goal
 
 pub loop-i-preserved : goal.loop-i-preserved
@@ -25,10 +25,11 @@ loop-i-preserved g c =
       files = λ told. one.files told ∙ was.files told;
       agrees = λ told. subst (λ (f : Files). Agrees f c.read_segment.new.cache) (was.files told) (one.agrees told (subst (λ (f : Files). Agrees f c.loop-i.cache) (sym (was.files told)) (was.agrees told)));
       faults = one.cause.fine ∙ was.faults;
-      reads =
-          let step = leaves_more parts c.loop-i.i p c.part.ensures in
-          let before = was.reads in
-          let here = one.reads in
+      reads = λ told own.
+          let step = pages_more files parts c.loop-i.i p c.part.ensures in
+          let before = was.reads told own in
+          let there = part_in parts c.loop-i.i p c.part.ensures in
+          let here = one_read g.row.D files (g.F.Pages.files c.loop-i.folder) parts p _ _ (was.files told) own there (one.reads told) in
           omega (arith, step, before, here);
       each = let is = ap length c.in_ok-extend_from_slice.ensures.items in let more = length_push c.loop-i.findings.items c.in_ok-finding.finding in let was_long = was.each in omega (arith, is, more, was_long);
       found = λ told own.
@@ -43,10 +44,15 @@ pub returns-in_err-finding-clause-files : goal.returns-in_err-finding-clause-fil
 returns-in_err-finding-clause-files g c = λ told. c.in_err-finding.ensures.files told ∙ c.loop-i.invariant.files told
 
 pub returns-in_err-finding-clause-reads : goal.returns-in_err-finding-clause-reads
-returns-in_err-finding-clause-reads g c =
-    let most = leaves_upto c.args.segments.now c.loop-i.i (part_of c.part.result.0.now c.part.result.1.now) c.part.ensures in
-    let before = c.loop-i.invariant.reads in
-    let here = c.in_err-finding.ensures.reads in
+returns-in_err-finding-clause-reads g c = λ told own.
+    let files = g.F.Pages.files c.args.folder.now in
+    let parts = c.args.segments.now in
+    let p = part_of c.part.result.0.now c.part.result.1.now in
+    let most = pages_upto files parts c.loop-i.i p c.part.ensures in
+    let before = c.loop-i.invariant.reads told own in
+    let same = c.loop-i.invariant.files told in
+    let there = part_in parts c.loop-i.i p c.part.ensures in
+    let here = one_read g.row.D files (g.F.Pages.files c.loop-i.folder) parts p _ _ same own there (c.in_err-finding.ensures.reads told) in
     omega (arith, most, before, here)
 
 pub returns-in_err-finding-clause-shown : goal.returns-in_err-finding-clause-shown
@@ -74,8 +80,13 @@ returns-in_err-finding-clause-whole g c = λ told have.
     (All-contains (HasSegment g.row.D (g.F.Pages.files c.args.folder.now)) c.args.segments.now p have (part_in c.args.segments.now c.loop-i.i p c.part.ensures))))
 
 pub returns-in_err-extend_from_slice-clause-reads : goal.returns-in_err-extend_from_slice-clause-reads
-returns-in_err-extend_from_slice-clause-reads g c =
-    let most = leaves_upto c.args.segments.now c.loop-i.i (part_of c.part.result.0.now c.part.result.1.now) c.part.ensures in
-    let before = c.loop-i.invariant.reads in
-    let here = c.in_ok-finding.ensures.reads in
+returns-in_err-extend_from_slice-clause-reads g c = λ told own.
+    let files = g.F.Pages.files c.args.folder.now in
+    let parts = c.args.segments.now in
+    let p = part_of c.part.result.0.now c.part.result.1.now in
+    let most = pages_upto files parts c.loop-i.i p c.part.ensures in
+    let before = c.loop-i.invariant.reads told own in
+    let same = c.loop-i.invariant.files told in
+    let there = part_in parts c.loop-i.i p c.part.ensures in
+    let here = one_read g.row.D files (g.F.Pages.files c.loop-i.folder) parts p _ _ same own there (c.in_ok-finding.ensures.reads told) in
     omega (arith, most, before, here)

@@ -1,10 +1,10 @@
 use Rattle.std.proofs.Common.{◌≡◌, ◌≤◌, ◌+◌, length, take}
 use Rattle.std.specs.Prelude.{IsTrue, All}
-use Rattle.std.specs.List.{AllZip}
+use Rattle.std.specs.List.{AllZip, sum_by}
 use Rattle.page_cache.specs.Cache.{Agrees}
 use Rattle.segment_view.specs.Parts.{heads_of}
 use Rattle.segment_view.specs.Held.{HasOwnHead}
-use Rattle.segment_view.specs.Costs.{leaves_in}
+use Rattle.folder_check.specs.Checked.{leaf_pages}
 use Rattle.folder_check.specs.Found.{IsFinding}
 use Rattle.folder_check.proofs.reading.read_leaves.Given as goal
 
@@ -13,7 +13,8 @@ invariant-loop-i g l = record {
   files : IsTrue g.F.Pages.told → g.F.Pages.files l.folder ≡ g.F.Pages.files l.initial.folder;
   agrees : IsTrue g.F.Pages.told → Agrees (g.F.Pages.files l.initial.folder) l.cache;
   faults : g.F.Pages.faults l.folder ≡ g.F.Pages.faults l.initial.folder;
-  reads : g.F.Pages.reads l.folder ≤ g.F.Pages.reads l.initial.folder + leaves_in (heads_of (take l.i l.segments));
+  reads : IsTrue g.F.Pages.told → All (HasOwnHead g.row.D (g.F.Pages.files l.initial.folder)) l.segments
+      → g.F.Pages.reads l.folder ≤ g.F.Pages.reads l.initial.folder + sum_by (leaf_pages (g.F.Pages.files l.initial.folder)) (heads_of (take l.i l.segments));
   each : length l.findings.items ≡ l.i;
   found : IsTrue g.F.Pages.told → All (HasOwnHead g.row.D (g.F.Pages.files l.initial.folder)) l.segments
       → AllZip (IsFinding g.row.D (g.F.Pages.files l.initial.folder)) (take l.i l.segments) l.findings.items;

@@ -6,9 +6,9 @@ use Rattle.point_codec.specs.Seen.{items_of}
 use Rattle.leaf_codec.specs.LeafOrder.{NoneTwice}
 use Rattle.documents.specs.Entries.{has_entry}
 use Rattle.number_checks.specs.Crowded.{AreFew, IsLeastCrowded}
-use Rattle.segment_view.proofs.Counting.{le_by_tree}
 use Rattle.segment_view.proofs.Shown.{read_shown}
 use Rattle.folder_check.proofs.Found.{found_of}
+use Rattle.folder_check.proofs.Pages.{leaves_read}
 use Rattle.folder_check.proofs.reading.read_segment.Goals as goal
 
 pub returns-in_err-entries-clause-shown : goal.returns-in_err-entries-clause-shown
@@ -18,20 +18,20 @@ returns-in_err-entries-clause-shown g c =
     (read_shown {T = Unit {0}} g.row.D c.args.head.now c.index.result.now (Err c.in_err-entries.field-0.0) c.index.ensures.ranges c.index.ensures.value c.is_spelled.ensures c.in_err-entries.ensures.shown)
 
 pub returns-in_err-entries-clause-reads : goal.returns-in_err-entries-clause-reads
-returns-in_err-entries-clause-reads g c =
-    le_by_tree g.row.D c.args.head.now.index c.index.result.now c.index.ensures.value c.is_spelled.ensures _ _ c.in_err-entries.ensures.reads
+returns-in_err-entries-clause-reads g c = λ told own.
+    leaves_read g.row.D (g.F.Pages.files c.args.folder.now) c.args.head.now _ _ own c.in_err-entries.ensures.pages
 
 pub returns-in_err-found-clause-reads : goal.returns-in_err-found-clause-reads
-returns-in_err-found-clause-reads g c =
-    le_by_tree g.row.D c.args.head.now.index c.index.result.now c.index.ensures.value c.is_spelled.ensures _ _ c.in_ok-entries.ensures.reads
+returns-in_err-found-clause-reads g c = λ told own.
+    leaves_read g.row.D (g.F.Pages.files c.args.folder.now) c.args.head.now _ _ own c.in_ok-entries.ensures.pages
 
 pub returns-in_err-crowded-clause-reads : goal.returns-in_err-crowded-clause-reads
-returns-in_err-crowded-clause-reads g c =
-    le_by_tree g.row.D c.args.head.now.index c.index.result.now c.index.ensures.value c.is_spelled.ensures _ _ c.in_ok-entries.ensures.reads
+returns-in_err-crowded-clause-reads g c = λ told own.
+    leaves_read g.row.D (g.F.Pages.files c.args.folder.now) c.args.head.now _ _ own c.in_ok-entries.ensures.pages
 
 pub returns-clause-reads : goal.returns-clause-reads
-returns-clause-reads g c =
-    le_by_tree g.row.D c.args.head.now.index c.index.result.now c.index.ensures.value c.is_spelled.ensures _ _ c.in_ok-entries.ensures.reads
+returns-clause-reads g c = λ told own.
+    leaves_read g.row.D (g.F.Pages.files c.args.folder.now) c.args.head.now _ _ own c.in_ok-entries.ensures.pages
 
 pub returns-clause-found : goal.returns-clause-found
 returns-clause-found g c = λ told agrees own.

@@ -2,7 +2,7 @@ use Rattle.std.proofs.Common.{◌∙◌, sym, ap}
 use Rattle.std.proofs.lemmas.Result.{err_from_is_err_and}
 use Rattle.outer_io.specs.declared.file_name.FileName.TheVariants.{Segment}
 use Rattle.segment_file.specs.Heads.{Head}
-use Rattle.index_opening.proofs.Listed.{entries_pair, equal_fault, head_held, is_held, leaf_pair, listed_head, pair_fault}
+use Rattle.index_opening.proofs.Listed.{entries_pair, equal_fault, head_fault, head_held, is_held, leaf_pair, listed_head, pair_fault}
 use Rattle.index_opening.proofs.opening.open_head.Goals as goal
 
 pub returns-in_err-head-clause-whole : goal.returns-in_err-head-clause-whole
@@ -49,3 +49,10 @@ returns-in_err-agree-2-clause-whole g c = λ told d held.
     rw (e.1, e.2)
     (equal_fault (Segment c.args.s.segment) c.from-3.result c.from-4.result c.in_err-agree-2.field-0.0
     (c.from-3.ensures ∙ sym held.count ∙ sym (c.from-4.ensures ∙ c.entries.ensures ∙ ap (λ (h : Head). h.entries) same)) c.in_err-agree-2.ensures.pair)
+
+pub returns-in_err-head-clause-damage : goal.returns-in_err-head-clause-damage
+returns-in_err-head-clause-damage g c = λ told.
+    let e = err_from_is_err_and c.from_residual.result c.from_residual.ensures.1 in
+    rw (e.1, e.2)
+    (head_fault g.row.D (g.F.Pages.files c.args.folder.now) c.args.c.now c.args.s c.in_err-head.field-0.0 c.requires
+    c.in_err-head.ensures.shown (c.in_err-head.ensures.damage told))

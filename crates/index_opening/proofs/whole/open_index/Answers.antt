@@ -6,17 +6,16 @@ use Rattle.outer_io.specs.declared.file_name.FileName.TheVariants.{Commit}
 use Rattle.outer_io.specs.Files.{bytes_of}
 use Rattle.live_bits.specs.LiveSet.{LiveSet}
 use Rattle.page_cache.specs.declared.faults.Damage.{Damage}
-use Rattle.page_cache.specs.Evidence.{FaultShows}
 use Rattle.page_cache.proofs.Damages.{fault_weaker}
 use Rattle.commit_list.specs.declared.listed.Listed.{Listed}
 use Rattle.commit_list.specs.CommitFiles.{IsCommitFile}
 use Rattle.stored_index.specs.Segments.{places}
 use Rattle.segment_view.specs.Parts.{lives_of}
 use Rattle.number_checks.specs.Placed.{IsPlaced}
-use Rattle.index_opening.specs.Damages.{IsAttachDamage, IsAttachDamageOf, IsMisplaced}
-use Rattle.index_opening.specs.Opened.{IsListedDamage, IsListedDamageOf}
-use Rattle.index_opening.proofs.Listed.{listed_of, listed_shown, misplaced_of, misplaced_shown, opened_heads, opened_lives, undefined_fault, whole_listed, whole_placed}
+use Rattle.index_opening.specs.Damages.{IsAttachDamage, IsAttachDamageOf, IsListedDamage, IsListedDamageOf, IsMisplaced}
+use Rattle.index_opening.proofs.Listed.{listed_of, listed_shown, misplaced_at, misplaced_of, misplaced_shown, opened_heads, opened_lives, undefined_fault, whole_listed, whole_placed}
 use Rattle.index_opening.proofs.Evident.{on_attach_evident}
+use Rattle.index_opening.proofs.Named.{attach_found}
 use Rattle.index_opening.proofs.whole.open_index.Goals as goal
 
 pub returns-in_err-segments-clause-undefined : goal.returns-in_err-segments-clause-undefined
@@ -42,8 +41,7 @@ returns-in_err-check_numbers-clause-undefined g c = λ told says.
     let parts = c.in_ok-segments.segments in
     let sets = lives_of parts in
     let e = err_from_is_err_and c.from_residual-in_err-check_numbers.result c.from_residual-in_err-check_numbers.ensures.1 in
-    let shown = subst (λ (n : ℕ). FaultShows (IsMisplaced (λ doc. 1 ≤ places doc sets) (λ doc. 2 ≤ places doc sets) n) c.in_err-check_numbers.field-0.0) c.next.ensures.value
-    (subst (λ (ss : List LiveSet). FaultShows (IsMisplaced (λ doc. 1 ≤ places doc ss) (λ doc. 2 ≤ places doc ss) c.next.result) c.in_err-check_numbers.field-0.0) c.lives.ensures c.in_err-check_numbers.ensures.shown) in
+    let shown = misplaced_at _ _ _ sets c.in_err-check_numbers.field-0.0 c.next.ensures.value c.lives.ensures c.in_err-check_numbers.ensures.shown in
     rw (e.1, e.2)
     (undefined_fault files c.in_err-check_numbers.field-0.0
     (whole_placed files c.args.c.now parts c.in_err-check_numbers.field-0.0 (opened_heads (IsTrue g.F.Pages.told) files c.args.c.now parts told c.in_ok-segments.ensures.opened)
@@ -55,8 +53,7 @@ returns-in_err-check_numbers-clause-evident g c =
     let fault = c.in_err-check_numbers.field-0.0 in
     let sets = lives_of c.in_ok-segments.segments in
     let e = err_from_is_err_and c.from_residual-in_err-check_numbers.result c.from_residual-in_err-check_numbers.ensures.1 in
-    let shown = subst (λ (n : ℕ). FaultShows (IsMisplaced (λ doc. 1 ≤ places doc sets) (λ doc. 2 ≤ places doc sets) n) fault) c.next.ensures.value
-    (subst (λ (ss : List LiveSet). FaultShows (IsMisplaced (λ doc. 1 ≤ places doc ss) (λ doc. 2 ≤ places doc ss) c.next.result) fault) c.lives.ensures c.in_err-check_numbers.ensures.shown) in
+    let shown = misplaced_at _ _ _ sets fault c.next.ensures.value c.lives.ensures c.in_err-check_numbers.ensures.shown in
     rw (e.1, e.2)
     (on_attach_evident {X = Unit {0}} (IsTrue g.F.Pages.told × IsCommitFile (bytes_of (files Commit)) c.args.c.now) files c.args.c.now (Err fault) (λ h. h.1)
     (λ h. misplaced_of files c.args.c.now sets fault (opened_lives (IsTrue g.F.Pages.told) files c.args.c.now c.in_ok-segments.segments h.0 c.in_ok-segments.ensures.opened) shown)
@@ -67,3 +64,25 @@ pub returns-clause-placed : goal.returns-clause-placed
 returns-clause-placed g c = λ number.
     subst (λ (n : ℕ). IsPlaced n (lives_of c.in_ok-segments.segments) number) c.next.ensures.value
     (subst (λ (ss : List LiveSet). IsPlaced c.next.result ss number) c.lives.ensures (c.in_ok-check_numbers.ensures.alone number))
+
+pub returns-in_err-segments-clause-named : goal.returns-in_err-segments-clause-named
+returns-in_err-segments-clause-named g c = λ told says.
+    let files = g.F.Pages.files c.args.folder.now in
+    let fault = c.in_err-segments.field-0.0 in
+    let e = err_from_is_err_and c.from_residual.result c.from_residual.ensures.1 in
+    rw (e.1, e.2)
+    (attach_found files c.args.c.now fault says
+    (fault_weaker fault (λ (d : Damage). (s : Listed) × Contains c.args.c.now.listed s × IsListedDamageOf files c.args.c.now s d)
+    (IsAttachDamageOf files c.args.c.now) (listed_of files c.args.c.now) (c.in_err-segments.ensures.damage told)))
+
+pub returns-in_err-check_numbers-clause-named : goal.returns-in_err-check_numbers-clause-named
+returns-in_err-check_numbers-clause-named g c = λ told says.
+    let files = g.F.Pages.files c.args.folder.now in
+    let fault = c.in_err-check_numbers.field-0.0 in
+    let sets = lives_of c.in_ok-segments.segments in
+    let e = err_from_is_err_and c.from_residual-in_err-check_numbers.result c.from_residual-in_err-check_numbers.ensures.1 in
+    let shown = misplaced_at _ _ _ sets fault c.next.ensures.value c.lives.ensures c.in_err-check_numbers.ensures.shown in
+    rw (e.1, e.2)
+    (attach_found files c.args.c.now fault says
+    (misplaced_of files c.args.c.now sets fault
+    (opened_lives (IsTrue g.F.Pages.told) files c.args.c.now c.in_ok-segments.segments told c.in_ok-segments.ensures.opened) shown))

@@ -1,4 +1,4 @@
--- What the lines left is committed, or the run stops.
+-- What the lines left is committed and the session closed, or the run stops.
 use Rattle.std.proofs.Common.{ℕ, refl}
 use Rattle.script_run.proofs.Calling.{fault_stops}
 use Rattle.script_run.proofs.Lined.{stops_end, ok_cause, fault_cause}
@@ -22,29 +22,25 @@ returns-in-Err-clause-cause g c = λ sink. fault_cause _ _ sink c.in-Err.fault c
 pub returns-in-Ok-clause-closes : goal.returns-in-Ok-clause-closes
 returns-in-Ok-clause-closes g c = λ told i stored h.
     closes_by g.row.D i _ _ _ h.seen (record {
-      seen = c.in-Ok.ensures.seen told i h.seen;
-      guards = c.in-Ok.ensures.guards told h.guards;
-      says = c.in-Ok.ensures.kept told h.guards;
-      unchanged = c.in-Ok.ensures.unchanged;
+      is_told = told;
+      closed = c.in-Ok.ensures.closed;
+      guards = h.guards;
       canon = c.in-Ok.ensures.canon told;
-      files = λ u. (c.in-Ok.ensures.idle u).2;
-      unread = λ u. (c.in-Ok.ensures.idle u).3;
-      rested = c.in-Ok.ensures.rested;
-      levels = c.in-Ok.ensures.levels;
+      idle = c.in-Ok.ensures.idle told;
+      reads = c.in-Ok.ensures.reads;
+      few = c.in-Ok.ensures.few told h.guards;
     })
 
 pub returns-in-Err-clause-closes : goal.returns-in-Err-clause-closes
 returns-in-Err-clause-closes g c = λ told i stored h.
     closes_fails g.row.D i _ _ c.stopped.result _ c.stopped.ensures h.seen (record {
-      seen = c.in-Err.ensures.seen told i h.seen;
-      guards = c.in-Err.ensures.guards told h.guards;
-      says = tt;
-      unchanged = tt;
+      is_told = told;
+      closed = tt;
+      guards = h.guards;
       canon = c.in-Err.ensures.canon told;
-      files = λ u. (c.in-Err.ensures.idle u).2;
-      unread = λ u. (c.in-Err.ensures.idle u).3;
-      rested = c.in-Err.ensures.rested;
-      levels = λ n none. tt;
+      idle = c.in-Err.ensures.idle told;
+      reads = c.in-Err.ensures.reads;
+      few = λ none. tt;
     })
 
 pub returns-in-Err-clause-evident : goal.returns-in-Err-clause-evident
@@ -55,4 +51,5 @@ pub returns-in-Ok-clause-undone : goal.returns-in-Ok-clause-undone
 returns-in-Ok-clause-undone g c = λ told h. tt
 
 pub returns-in-Err-clause-undone : goal.returns-in-Err-clause-undone
-returns-in-Err-clause-undone g c = λ told h. rw c.stopped.ensures (fault_stops ℕ (g.F.Pages.files c.args.folder.now) (g.F.Pages.files c.commit.new.folder) c.in-Err.fault (c.in-Err.ensures.undone told h.guards))
+returns-in-Err-clause-undone g c = λ told h. rw c.stopped.ensures
+    (fault_stops ℕ (g.F.Pages.files c.args.folder.now) (g.F.Pages.files c.close.new.folder) c.in-Err.fault (c.in-Err.ensures.undone told h.guards))

@@ -60,7 +60,7 @@ returns-in-Stored-clause-opens g c = λ told i stored h.
     let from = rw c.in-Stored.is at h in
     rw c.in-Stored.is
     (opens_stored g.row.D _ _ _ _ c.in-Stored.commit i stored (rw c.in-Stored.is at c.requires.dims) (c.attach.ensures.files told) from (c.attach.ensures.reads told) c.attach.result
-    (c.attach.ensures.seen told from.0 i from.1) (c.attach.ensures.guards told from.0) c.attach.ensures.unchanged)
+    (c.attach.ensures.seen told from.0 i from.1) (c.attach.ensures.guards told from.0) c.attach.ensures.unchanged c.attach.ensures.listed)
 
 pub returns-in_ok-create-in-New-clause-trusts : goal.returns-in_ok-create-in-New-clause-trusts
 returns-in_ok-create-in-New-clause-trusts g c = λ told there.

@@ -15,6 +15,9 @@ returns-clause-guards g c told says =
 pub returns-clause-unchanged : goal.returns-clause-unchanged
 returns-clause-unchanged g c = record { commit = c.args.commit; is = refl; done = refl; same = c.in_ok-attach.ensures.commit.as_committed }
 
+pub returns-clause-listed : goal.returns-clause-listed
+returns-clause-listed g c m named = (c.args.commit, refl, (c.in_ok-attach.ensures.names m).0 named)
+
 pub attach-requires : goal.attach-requires
 attach-requires g c = (set_fits g.row.D (subst (λ n. n ≤ 8) c.requires c.dims-dims.ensures.commit.ranges.most_dims), c.requires)
 

@@ -1,5 +1,6 @@
 -- The set is attached over the commit that the file says.
 use Rattle.std.proofs.Common.{subst, sym, ap, ◌∙◌}
+use Rattle.stored_index.specs.Kept.{ListsFile}
 use Rattle.segment_set.specs.Kept.{IsAsCommitted}
 use Rattle.index_core.specs.Sessions.{HasDims, SessionData}
 use Rattle.index_core.proofs.Guarding.{guards_anew, says_last}
@@ -27,6 +28,11 @@ returns-clause-emptied g c = on_ok_each (λ s rest. rest.as_committed.empty) c.a
 pub returns-clause-unchanged : goal.returns-clause-unchanged
 returns-clause-unchanged g c last is =
     on_ok_each (λ s rest. subst (IsAsCommitted s) (some_same _ _ (sym c.in-Some.is ∙ ap (λ (u : SessionData). u.commit) c.self.view_is ∙ is)) rest.as_committed) c.attach.result c.attach.ensures.commit
+
+pub returns-clause-names : goal.returns-clause-names
+returns-clause-names g c last is = on_ok_each (λ s names m named.
+    subst (λ d. ListsFile d m) (some_same _ _ (sym c.in-Some.is ∙ ap (λ (u : SessionData). u.commit) c.self.view_is ∙ is)) ((names m).0 named))
+    c.attach.result c.attach.ensures.names
 
 pub returns-clause-whole : goal.returns-clause-whole
 returns-clause-whole g c told done guards state stored = c.attach.ensures.whole told (says_last _ _ _ _ c.self.view_is c.in-Some.is done guards) state stored

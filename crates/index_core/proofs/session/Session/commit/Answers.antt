@@ -1,23 +1,23 @@
 -- Nothing changed, or the commit was saved, written and swept up after.
-use Rattle.std.proofs.Common.{Err, Some, is_some, refl, sym, ap, subst, ◌∙◌, inl, inr}
+use Rattle.std.proofs.Common.{All, IsTrue, Err, Some, is_some, refl, sym, ap, subst, ◌∙◌, inl, inr}
 use Rattle.std.proofs.lemmas.Bool.{both_ways}
 use Rattle.std.proofs.lemmas.Result.{err_from_is_err_and}
 use Rattle.page_cache.specs.declared.faults.PageFault.{PageFault}
 use Rattle.stored_index.proofs.KeptFiles.{kept_itself, stored_still}
-use Rattle.segment_set.specs.Sets.{SetData}
+use Rattle.segment_set.specs.Sets.{IsNamed, IsSettled, SetData}
 use Rattle.segment_set.specs.Seen.{Sees}
 use Rattle.index_core.specs.Sessions.{Guards, IsCommitAnew, SessionData, Trusts}
 use Rattle.index_core.specs.Effects.{BringsCanonical}
+use Rattle.index_core.specs.Closed.{IsTracked}
+use Rattle.index_core.proofs.Closing.{tracked_named, tracked_same, tracked_then, tracked_written}
 use Rattle.index_core.proofs.Bringing.{brings_same, brings_still, brings_then, brings_two, brings_written}
 use Rattle.index_core.proofs.Guarding.{guards_after, kept_after_calls, set_after}
 use Rattle.index_core.proofs.Committing.{as_committed, keeps_any, keeps_fault, kept_on, on_ok_any, on_ok_none, says_still, stores_any, stores_fault, unchanged_is_stored, unchanged_says}
 use Rattle.segment_set.proofs.Sizes.{set_fits}
 use Rattle.index_core.proofs.Sizes.{session_fits}
 use Rattle.index_model.specs.State.{at_rest}
-use Rattle.std.proofs.Common.{All, IsTrue}
 use Rattle.index_core.specs.Damages.{ShowsMerge}
 use Rattle.index_core.proofs.Showing.{damage_to, merge_none, merge_to}
-use Rattle.segment_set.specs.Sets.{IsNamed, IsSettled}
 use Rattle.index_core.proofs.Answering.{fault_cause}
 use Rattle.index_core.proofs.Lightly.{commits_few}
 use Rattle.index_core.proofs.Tracing.{traced_by, traced_shows}
@@ -66,14 +66,10 @@ returns-in_err-commit-clause-stored g c told i seen guards =
     stores_fault (g.F.Pages.files c.args.folder.now) (g.F.Pages.files c.save.new.folder) i c.save.new.self _ _ (p.1 ∙ ap (λ (e : PageFault). Err e) p.2) (inl (kept_after_calls _ _ _ _ _ _ told c.save.ensures.kept (subst (Guards g.row.D (g.F.Pages.files c.args.folder.now)) (sym c.self.view_is) guards).set))
 
 pub returns-in_err-commit-clause-emptied : goal.returns-in_err-commit-clause-emptied
-returns-in_err-commit-clause-emptied g c =
-    let p = err_from_is_err_and c.from_residual.result c.from_residual.ensures.1 in
-    on_ok_none _ _ _ p.1
+returns-in_err-commit-clause-emptied g c = on_ok_none _ _ _ (err_from_is_err_and c.from_residual.result c.from_residual.ensures.1).1
 
 pub returns-in_err-commit-clause-committed : goal.returns-in_err-commit-clause-committed
-returns-in_err-commit-clause-committed g c =
-    let p = err_from_is_err_and c.from_residual.result c.from_residual.ensures.1 in
-    on_ok_none _ _ _ p.1
+returns-in_err-commit-clause-committed g c = on_ok_none _ _ _ (err_from_is_err_and c.from_residual.result c.from_residual.ensures.1).1
 
 pub returns-in_err-write-clause-seen : goal.returns-in_err-write-clause-seen
 returns-in_err-write-clause-seen g c told i seen = c.write.ensures.seen told i (c.save.ensures.seen told i (subst (λ (u : SessionData). Sees g.row.D (g.F.Pages.files c.args.folder.now) u.set i) (sym c.self.view_is) seen))
@@ -95,17 +91,13 @@ returns-in_err-write-clause-stored g c told i seen guards =
     stores_fault (g.F.Pages.files c.args.folder.now) (g.F.Pages.files c.write.new.folder) i c.write.new.self.set _ _ (p.1 ∙ ap (λ (e : PageFault). Err e) p.2) (kept_on (g.F.Pages.files c.args.folder.now) (g.F.Pages.files c.save.new.folder) (g.F.Pages.files c.write.new.folder) (kept_after_calls _ _ _ _ _ _ told c.save.ensures.kept (subst (Guards g.row.D (g.F.Pages.files c.args.folder.now)) (sym c.self.view_is) guards).set) (c.in_err-write.ensures.stored told i (c.in_ok-commit.ensures.stored told i (subst (λ (u : SessionData). Sees g.row.D (g.F.Pages.files c.args.folder.now) u.set i) (sym c.self.view_is) seen))))
 
 pub returns-in_err-write-clause-emptied : goal.returns-in_err-write-clause-emptied
-returns-in_err-write-clause-emptied g c =
-    let p = err_from_is_err_and c.from_residual-in_err-write.result c.from_residual-in_err-write.ensures.1 in
-    on_ok_none _ _ _ p.1
+returns-in_err-write-clause-emptied g c = on_ok_none _ _ _ (err_from_is_err_and c.from_residual-in_err-write.result c.from_residual-in_err-write.ensures.1).1
 
 pub returns-in_err-write-clause-committed : goal.returns-in_err-write-clause-committed
-returns-in_err-write-clause-committed g c =
-    let p = err_from_is_err_and c.from_residual-in_err-write.result c.from_residual-in_err-write.ensures.1 in
-    on_ok_none _ _ _ p.1
+returns-in_err-write-clause-committed g c = on_ok_none _ _ _ (err_from_is_err_and c.from_residual-in_err-write.result c.from_residual-in_err-write.ensures.1).1
 
 pub sweep-requires : goal.sweep-requires
-sweep-requires g c = (session_fits g.row.D c.self.invariant.few, ((ap is_some c.in_ok-write.ensures.written.0, ap (λ (u : SetData). u.saved) c.write.ensures.set ∙ c.in_ok-commit.ensures.saved ∙ sym c.in_ok-write.ensures.written.0), c.in_ok-write.ensures.written.1))
+sweep-requires g c = (session_fits g.row.D c.self.invariant.few, (ap is_some c.in_ok-write.ensures.written.0, c.in_ok-write.ensures.written.1))
 
 pub returns-clause-seen : goal.returns-clause-seen
 returns-clause-seen g c told i seen = c.sweep.ensures.seen told i (c.write.ensures.seen told i (c.save.ensures.seen told i (subst (λ (u : SessionData). Sees g.row.D (g.F.Pages.files c.args.folder.now) u.set i) (sym c.self.view_is) seen)))
@@ -157,27 +149,20 @@ pub returns-in_err-commit-clause-idle : goal.returns-in_err-commit-clause-idle
 returns-in_err-commit-clause-idle g c unchanged = absurd (both_ways c.is_changed.result (c.is_changed.ensures.unchanged.1 unchanged) c.if-not-is_changed.false)
 
 pub returns-in_err-commit-clause-anew : goal.returns-in_err-commit-clause-anew
-returns-in_err-commit-clause-anew g c changed =
-    let p = err_from_is_err_and c.from_residual.result c.from_residual.ensures.1 in
-    on_ok_none _ _ _ p.1
+returns-in_err-commit-clause-anew g c changed = on_ok_none _ _ _ (err_from_is_err_and c.from_residual.result c.from_residual.ensures.1).1
 
 pub returns-in_err-commit-clause-unchanged : goal.returns-in_err-commit-clause-unchanged
-returns-in_err-commit-clause-unchanged g c =
-    let p = err_from_is_err_and c.from_residual.result c.from_residual.ensures.1 in
-    on_ok_none _ _ _ p.1
+returns-in_err-commit-clause-unchanged g c = on_ok_none _ _ _ (err_from_is_err_and c.from_residual.result c.from_residual.ensures.1).1
 
 pub returns-in_err-write-clause-idle : goal.returns-in_err-write-clause-idle
 returns-in_err-write-clause-idle g c unchanged = absurd (both_ways c.is_changed.result (c.is_changed.ensures.unchanged.1 unchanged) c.if-not-is_changed.false)
 
 pub returns-in_err-write-clause-anew : goal.returns-in_err-write-clause-anew
-returns-in_err-write-clause-anew g c changed =
-    let p = err_from_is_err_and c.from_residual-in_err-write.result c.from_residual-in_err-write.ensures.1 in
-    on_ok_none _ _ _ p.1
+returns-in_err-write-clause-anew g c changed = on_ok_none _ _ _
+    (err_from_is_err_and c.from_residual-in_err-write.result c.from_residual-in_err-write.ensures.1).1
 
 pub returns-in_err-write-clause-unchanged : goal.returns-in_err-write-clause-unchanged
-returns-in_err-write-clause-unchanged g c =
-    let p = err_from_is_err_and c.from_residual-in_err-write.result c.from_residual-in_err-write.ensures.1 in
-    on_ok_none _ _ _ p.1
+returns-in_err-write-clause-unchanged g c = on_ok_none _ _ _ (err_from_is_err_and c.from_residual-in_err-write.result c.from_residual-in_err-write.ensures.1).1
 
 pub returns-clause-idle : goal.returns-clause-idle
 returns-clause-idle g c unchanged = absurd (both_ways c.is_changed.result (c.is_changed.ensures.unchanged.1 unchanged) c.if-not-is_changed.false)
@@ -235,17 +220,14 @@ pub returns-then-not-is_changed-clause-rested : goal.returns-then-not-is_changed
 returns-then-not-is_changed-clause-rested g c settled = refl
 
 pub returns-in_err-commit-clause-levels : goal.returns-in_err-commit-clause-levels
-returns-in_err-commit-clause-levels g c changed none =
-    let p = err_from_is_err_and c.from_residual.result c.from_residual.ensures.1 in
-    on_ok_none _ _ _ p.1
+returns-in_err-commit-clause-levels g c changed none = on_ok_none _ _ _ (err_from_is_err_and c.from_residual.result c.from_residual.ensures.1).1
 
 pub returns-in_err-commit-clause-rested : goal.returns-in_err-commit-clause-rested
 returns-in_err-commit-clause-rested g c settled = c.save.ensures.rested (subst (λ (u : SessionData). IsSettled u.set) (sym c.self.view_is) settled)
 
 pub returns-in_err-write-clause-levels : goal.returns-in_err-write-clause-levels
-returns-in_err-write-clause-levels g c changed none =
-    let p = err_from_is_err_and c.from_residual-in_err-write.result c.from_residual-in_err-write.ensures.1 in
-    on_ok_none _ _ _ p.1
+returns-in_err-write-clause-levels g c changed none = on_ok_none _ _ _
+    (err_from_is_err_and c.from_residual-in_err-write.result c.from_residual-in_err-write.ensures.1).1
 
 pub returns-in_err-write-clause-rested : goal.returns-in_err-write-clause-rested
 returns-in_err-write-clause-rested g c settled = c.write.ensures.unread ∙ c.save.ensures.rested (subst (λ (u : SessionData). IsSettled u.set) (sym c.self.view_is) settled)
@@ -315,9 +297,7 @@ pub returns-then-not-is_changed-clause-undone : goal.returns-then-not-is_changed
 returns-then-not-is_changed-clause-undone g c told guards = tt
 
 pub returns-in_err-commit-clause-few : goal.returns-in_err-commit-clause-few
-returns-in_err-commit-clause-few g c told guards none =
-    let p = err_from_is_err_and c.from_residual.result c.from_residual.ensures.1 in
-    on_ok_none _ _ _ p.1
+returns-in_err-commit-clause-few g c told guards none = on_ok_none _ _ _ (err_from_is_err_and c.from_residual.result c.from_residual.ensures.1).1
 
 pub returns-in_err-commit-clause-undone : goal.returns-in_err-commit-clause-undone
 returns-in_err-commit-clause-undone g c told guards =
@@ -326,9 +306,8 @@ returns-in_err-commit-clause-undone g c told guards =
     (kept_after_calls _ _ _ _ _ _ told c.save.ensures.kept (subst (Guards g.row.D (g.F.Pages.files c.args.folder.now)) (sym c.self.view_is) guards).set)
 
 pub returns-in_err-write-clause-few : goal.returns-in_err-write-clause-few
-returns-in_err-write-clause-few g c told guards none =
-    let p = err_from_is_err_and c.from_residual-in_err-write.result c.from_residual-in_err-write.ensures.1 in
-    on_ok_none _ _ _ p.1
+returns-in_err-write-clause-few g c told guards none = on_ok_none _ _ _
+    (err_from_is_err_and c.from_residual-in_err-write.result c.from_residual-in_err-write.ensures.1).1
 
 pub returns-in_err-write-clause-undone : goal.returns-in_err-write-clause-undone
 returns-in_err-write-clause-undone g c told guards =
@@ -346,3 +325,23 @@ returns-clause-few g c told guards none =
 pub returns-clause-undone : goal.returns-clause-undone
 returns-clause-undone g c told guards = undone_written (g.F.Pages.files c.args.folder.now) (g.F.Pages.files c.sweep.new.folder) c.sweep.new.self.commit c.sweep.result c.sweep.ensures.whole
     (says_still (g.F.Pages.files c.write.new.folder) (g.F.Pages.files c.sweep.new.folder) c.write.new.self.commit c.sweep.new.self.commit (c.sweep.ensures.kept told (c.write.ensures.guards told (set_after _ _ _ _ _ _ told c.save.ensures.kept c.save.ensures.stays.leaf (subst (Guards g.row.D (g.F.Pages.files c.args.folder.now)) (sym c.self.view_is) guards).set) (c.in_ok-commit.ensures.live told))) c.sweep.ensures.written.0 (c.in_ok-write.ensures.kept told))
+
+pub returns-then-not-is_changed-clause-tracked : goal.returns-then-not-is_changed-clause-tracked
+returns-then-not-is_changed-clause-tracked g c told m = tracked_same _ _ _ _ m refl refl
+
+pub returns-in_err-commit-clause-tracked : goal.returns-in_err-commit-clause-tracked
+returns-in_err-commit-clause-tracked g c told = on_ok_none _ _ _ (err_from_is_err_and c.from_residual.result c.from_residual.ensures.1).1
+
+pub returns-in_err-write-clause-tracked : goal.returns-in_err-write-clause-tracked
+returns-in_err-write-clause-tracked g c told = on_ok_none _ _ _
+    (err_from_is_err_and c.from_residual-in_err-write.result c.from_residual-in_err-write.ensures.1).1
+
+pub returns-clause-tracked : goal.returns-clause-tracked
+returns-clause-tracked g c told = on_ok_any c.sweep.result (λ m.
+    subst (λ (u : SessionData). IsTracked (g.F.Pages.files c.args.folder.now) (g.F.Pages.files c.sweep.new.folder) u.set.names c.sweep.new.self.set.names m)
+    c.self.view_is
+    (tracked_then _ (g.F.Pages.files c.write.new.folder) _ _ c.write.new.self.set.names _ m
+    (tracked_then _ (g.F.Pages.files c.save.new.folder) _ _ c.save.new.self.names _ m
+    (tracked_named _ _ _ _ _ m told c.save.ensures.kept)
+    (tracked_written _ _ _ _ m (ap (λ (u : SetData). u.names) c.write.ensures.set) (c.write.ensures.others told) (c.in_ok-write.ensures.gone told)))
+    (c.sweep.ensures.tracked told m)))

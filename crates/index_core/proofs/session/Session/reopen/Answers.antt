@@ -1,5 +1,5 @@
 -- What is stored is attached anew.
-use Rattle.std.proofs.Common.{Err, Some, sym, ap, subst, ◌∙◌, ◌⊎◌, inr}
+use Rattle.std.proofs.Common.{◌≡◌, Err, Some, sym, ap, subst, ◌∙◌, ◌⊎◌, inr}
 use Rattle.std.proofs.lemmas.Result.{err_from_is_err_and}
 use Rattle.page_cache.specs.declared.faults.PageFault.{PageFault}
 use Rattle.outer_io.specs.Files.{Files}
@@ -26,6 +26,10 @@ use Rattle.index_opening.specs.Damages.{IsAttachDamageOf}
 use Rattle.index_core.proofs.Showing.{anew_attached, anew_none, anew_saved, damage_to}
 use Rattle.index_core.specs.Light.{CommitsFewOfLevels}
 use Rattle.index_core.proofs.Keeping.{fault_keeps}
+use Rattle.index_core.proofs.Closing.{as_same, guards_renamed, renamed, renew_named}
+use Rattle.segment_set.specs.Kept.{IsAsCommitted}
+use Rattle.segment_set.specs.Sets.{SetData}
+use Rattle.index_core.proofs.session.Session.reopen.Given as given
 use Rattle.index_core.proofs.session.Session.reopen.Goals as goal
 
 pub attach_anew-requires : goal.attach_anew-requires
@@ -95,38 +99,72 @@ returns-in_err-put_ok-clause-applies g c =
       canon = λ told i seen guards. subst (λ (f : Files). BringsCanonical g.row.D (g.F.Pages.files c.args.folder.now) f c.args.self.now.set.parts c.commit.new.self.set.parts) (sym (c.attach_anew.ensures.files told)) (c.commit.ensures.canon told);
     })
 
+-- the set that took the place of the one of before
+kept : (g : given.Over) (c : goal.After-renew g) → c.renew.new.self ≡ renamed c.commit.new.self.set c.in_ok-set.set
+kept g c = c.renew.ensures.kept ∙ ap (λ (u : SessionData). renamed u.set c.in_ok-set.set) c.self.view_is
+
+pub renew-requires : goal.renew-requires
+renew-requires g c = (
+  set_fits g.row.D c.self.invariant.few,
+  (let last = c.in_ok-commit.ensures.unchanged in
+      renew_named _ c.in_ok-set.set last.commit c.leaf-leaf.ensures.well.named
+      (subst (λ (u : SessionData). IsAsCommitted u.set last.commit) (sym c.self.view_is) last.same) (c.in_ok-set.ensures.names last.commit last.is)),
+)
+
 pub returns-clause-applies : goal.returns-clause-applies
 unfolding step_on
 returns-clause-applies g c = record {
   does = λ told i seen guards. does_done _ _ i (at_rest i) _ ok_text _ _
-      (subst (λ (f : Files). Sees g.row.D f c.in_ok-set.set (at_rest i)) (sym (c.attach_anew.ensures.files told))
-      (c.in_ok-set.ensures.seen told c.in_ok-commit.ensures.committed.1 (c.commit.ensures.guards told guards) (at_rest i) (c.in_ok-commit.ensures.stored told i seen guards).0))
+      (subst (λ (f : Files). Sees g.row.D f c.renew.new.self (at_rest i)) (sym (c.attach_anew.ensures.files told))
+      (c.renew.ensures.seen _ _ (c.in_ok-set.ensures.seen told c.in_ok-commit.ensures.committed.1 (c.commit.ensures.guards told guards) (at_rest i)
+      (c.in_ok-commit.ensures.stored told i seen guards).0)))
       c.in_ok-put_ok.ensures.ok;
   begins = begins_with _ _ _ c.in_ok-put_ok.ensures.ok;
-  guards = λ told guards. subst (λ (u : SessionData). Guards g.row.D (g.F.Pages.files c.attach_anew.new.folder) (record u { set = c.in_ok-set.set })) (sym c.self.view_is)
-      (subst (λ (f : Files). Guards g.row.D f (record c.commit.new.self { set = c.in_ok-set.set })) (sym (c.attach_anew.ensures.files told)) (c.in_ok-set.ensures.guards told c.in_ok-commit.ensures.committed.1 (c.commit.ensures.guards told guards)));
+  guards = λ told guards. subst (λ (f : Files). Guards g.row.D f
+      (record { set = c.renew.new.self; commit = c.self.inside.commit; refused = c.self.inside.refused })) (sym (c.attach_anew.ensures.files told))
+      (subst (λ (u : SessionData). Guards g.row.D (g.F.Pages.files c.commit.new.folder) (record u { set = c.renew.new.self })) (sym c.self.view_is)
+      (subst (λ (t : SetData). Guards g.row.D (g.F.Pages.files c.commit.new.folder) (record c.commit.new.self { set = t })) (sym (kept g c))
+      (guards_renamed _ _ c.commit.new.self c.in_ok-set.set (c.commit.ensures.guards told guards)
+      (c.in_ok-set.ensures.guards told c.in_ok-commit.ensures.committed.1 (c.commit.ensures.guards told guards)))));
   kept = λ told guards. subst (λ (u : SessionData). SaysCommit (g.F.Pages.files c.attach_anew.new.folder) u.commit) (sym c.self.view_is)
       (subst (λ (f : Files). SaysCommit f c.commit.new.self.commit) (sym (c.attach_anew.ensures.files told)) (c.in_ok-commit.ensures.kept told guards));
-  stored = λ told i seen guards e. (subst (λ (f : Files). IsStored f (Some (at_rest i))) (sym (c.attach_anew.ensures.files told)) (c.in_ok-commit.ensures.stored told i seen guards).0, c.in_ok-set.ensures.emptied);
+  stored = λ told i seen guards e. (
+    subst (λ (f : Files). IsStored f (Some (at_rest i))) (sym (c.attach_anew.ensures.files told))
+        (c.in_ok-commit.ensures.stored told i seen guards).0,
+    ap (λ (u : SetData). u.buffer) (kept g c) ∙ c.in_ok-set.ensures.emptied,
+  );
   cause = done_cause _ _ c.in_ok-set.set applied.Done (cause_then _ _ _ _ c.in_ok-commit.ensures.cause.fine c.in_ok-set.ensures.cause);
   whole = λ told i seen guards. tt;
-  faithful = λ told faithful. subst (λ (f : Files). IsFaithful g.row.D f c.in_ok-set.set) (sym (c.attach_anew.ensures.files told)) (c.in_ok-set.ensures.faithful told);
-  traced = λ told trusts. subst (λ (f : Files). AreTraced g.row.D f c.in_ok-set.set.parts) (sym (c.attach_anew.ensures.files told))
-      (c.in_ok-set.ensures.traced told c.in_ok-commit.ensures.committed.1 (c.commit.ensures.guards told trusts.guards));
+  faithful = λ told faithful. subst (λ (f : Files). IsFaithful g.row.D f c.renew.new.self) (sym (c.attach_anew.ensures.files told))
+      (c.renew.ensures.faithful _ (c.in_ok-set.ensures.faithful told));
+  traced = λ told trusts. subst (λ (f : Files). AreTraced g.row.D f c.renew.new.self.parts) (sym (c.attach_anew.ensures.files told))
+      (subst (λ (u : SetData). AreTraced g.row.D (g.F.Pages.files c.commit.new.folder) u.parts) (sym (kept g c))
+      (c.in_ok-set.ensures.traced told c.in_ok-commit.ensures.committed.1 (c.commit.ensures.guards told trusts.guards)));
   evident = tt;
   idle = λ told e unchanged. c.attach_anew.ensures.files told ∙ (c.commit.ensures.idle unchanged).2;
-  unchanged = λ e. let last = c.in_ok-commit.ensures.unchanged in
-      subst (λ (u : SessionData). IsUnchanged (record u { set = c.in_ok-set.set })) (sym c.self.view_is)
-      (record { commit = last.commit; is = last.is; done = last.done; same = c.in_ok-set.ensures.unchanged last.commit last.is });
+  unchanged = λ e. let last = c.in_ok-commit.ensures.unchanged in let same = kept g c in
+      subst (λ (u : SessionData). IsUnchanged (record u { set = c.renew.new.self })) (sym c.self.view_is)
+      (record {
+        commit = last.commit;
+        is = last.is;
+        done = last.done;
+        same = as_same c.in_ok-set.set c.renew.new.self last.commit (ap (λ (u : SetData). u.next) same) (ap (λ (u : SetData). u.given) same)
+            (ap (λ (u : SetData). u.parts) same)
+            (ap (λ (u : SetData). u.buffer) same) (c.in_ok-set.ensures.unchanged last.commit last.is);
+      });
   anew = λ e changed. let written = c.in_ok-commit.ensures.anew changed in
-      subst (λ (u : SessionData). IsCommitAnew c.args.self.now.set.names (record u { set = c.in_ok-set.set })) (sym c.self.view_is) (record { commit = written.commit; is = written.is; fresh = written.fresh });
+      subst (λ (u : SessionData). IsCommitAnew c.args.self.now.set.names (record u { set = c.renew.new.self })) (sym c.self.view_is)
+      (record { commit = written.commit; is = written.is; fresh = written.fresh });
   levels = λ e changed none. subst (λ (u : SessionData). CommitsFewOfLevels u.commit) (sym c.self.view_is) (c.in_ok-commit.ensures.levels changed none);
   canon = λ told i seen guards. let last = c.in_ok-commit.ensures.unchanged in
-      subst (λ (f : Files). BringsCanonical g.row.D (g.F.Pages.files c.args.folder.now) f c.args.self.now.set.parts c.in_ok-set.set.parts) (sym (c.attach_anew.ensures.files told))
+      subst (λ (f : Files). BringsCanonical g.row.D (g.F.Pages.files c.args.folder.now) f c.args.self.now.set.parts c.renew.new.self.parts)
+      (sym (c.attach_anew.ensures.files told))
+      (subst (λ (u : SetData). BringsCanonical g.row.D (g.F.Pages.files c.args.folder.now) (g.F.Pages.files c.commit.new.folder)
+      c.args.self.now.set.parts u.parts) (sym (kept g c))
       (brings_then _ _ _ _ _ c.commit.new.self.set.parts _ (c.commit.ensures.canon told)
       (brings_anew _ _ c.commit.new.self.set c.in_ok-set.set i (at_rest i) (c.commit.ensures.seen told i seen)
       (c.in_ok-set.ensures.seen told c.in_ok-commit.ensures.committed.1 (c.commit.ensures.guards told guards) (at_rest i) (c.in_ok-commit.ensures.stored told i seen guards).0)
-      ((c.in_ok-set.ensures.unchanged last.commit last.is).ids ∙ sym last.same.ids)));
+      ((c.in_ok-set.ensures.unchanged last.commit last.is).ids ∙ sym last.same.ids))));
 }
 
 pub returns-in_err-commit-clause-damage : goal.returns-in_err-commit-clause-damage

@@ -1,16 +1,36 @@
--- What the last commit needs stays.
-use Rattle.std.proofs.Common.{is_some, refl, sym, ap, subst, ◌∙◌, inl, inr}
+-- What the commit needs stays.
+use Rattle.std.proofs.Common.{◌≡◌, false, IsTrue, Some, refl, sym, ap, subst, ◌∙◌, inl, inr}
 use Rattle.std.specs.List.{Contains}
 use Rattle.outer_io.specs.declared.file_name.FileName.TheVariants.{Segment}
 use Rattle.segment_set.specs.Sets.{SetData}
 use Rattle.segment_set.specs.Seen.{Sees}
 use Rattle.segment_set.specs.Kept.{StaysButFiles}
+use Rattle.index_core.specs.Closed.{IsTracked, NamesOnlyListed}
 use Rattle.index_core.specs.Sessions.{AreTraced, Guards, SessionData}
-use Rattle.index_core.proofs.Guarding.{saved_is, saved_some, session_swept}
+use Rattle.index_core.proofs.Closing.{idle_sweep, tracked_swept}
+use Rattle.index_core.proofs.Guarding.{IsSwept, session_swept}
 use Rattle.index_core.proofs.Tracing.{session_traced}
 use Rattle.segment_set.proofs.Sizes.{set_fits}
 use Rattle.segment_set.specs.Faithful.{IsFaithful}
+use Rattle.index_core.proofs.session.Session.sweep.Given as given
 use Rattle.index_core.proofs.session.Session.sweep.Goals as goal
+
+-- the session as it was, by its fields
+abbrev old : (g : given.Over) (c : goal.After-sweep g) → SessionData
+old g c = record { set = c.self.inside.set; commit = c.self.inside.commit; refused = c.self.inside.refused }
+
+swept : (g : given.Over) (c : goal.After-sweep g) → IsTrue g.F.Pages.told
+    → IsSwept (g.F.Pages.files c.args.folder.now) (g.F.Pages.files c.sweep.new.folder) c.self.inside.set c.sweep.new.self c.in-Some.commit
+swept g c told = record {
+  commit = c.sweep.ensures.commit told;
+  files = c.sweep.ensures.needed told;
+  named = c.sweep.ensures.named;
+  parts = ap (λ (u : SetData). u.parts) c.sweep.ensures.alone.is;
+  leaf = ap (λ (u : SetData). u.leaf) c.sweep.ensures.alone.is;
+}
+
+done : (g : given.Over) (c : goal.After-sweep g) → c.self.inside.refused ≡ false
+done g c = ap (λ (u : SessionData). u.refused) c.self.view_is ∙ c.requires.written
 
 pub returns-clause-seen : goal.returns-clause-seen
 returns-clause-seen g c told i seen = c.sweep.ensures.seen told i (subst (λ (u : SessionData). Sees g.row.D (g.F.Pages.files c.args.folder.now) u.set i) (sym c.self.view_is) seen)
@@ -19,50 +39,23 @@ pub returns-clause-alone : goal.returns-clause-alone
 returns-clause-alone g c = subst (λ (u : SessionData). StaysButFiles u.set c.sweep.new.self) c.self.view_is c.sweep.ensures.alone
 
 pub returns-clause-written : goal.returns-clause-written
-returns-clause-written g c = (ap (λ (u : SessionData). u.commit) c.self.view_is, ap (λ (u : SessionData). u.refused) c.self.view_is ∙ c.requires.written)
+returns-clause-written g c = (ap (λ (u : SessionData). u.commit) c.self.view_is, done g c)
 
 pub returns-clause-guards : goal.returns-clause-guards
-returns-clause-guards g c told guards = (session_swept _ _ _ _ _
-    (ap (λ (u : SessionData). is_some u.commit) c.self.view_is ∙ c.requires.saved.0)
-    (ap (λ (u : SessionData). u.set.saved) c.self.view_is ∙ c.requires.saved.1 ∙ ap (λ (u : SessionData). u.commit) (sym c.self.view_is))
-    (ap (λ (u : SessionData). u.refused) c.self.view_is ∙ c.requires.written) refl (ap (λ (u : SessionData). u.refused) c.self.view_is ∙ c.requires.written)
-    (λ d saved. record {
-      commit = c.sweep.ensures.commit told;
-      files = c.sweep.ensures.needed told d saved;
-      named = c.sweep.ensures.named d saved;
-      parts = ap (λ (u : SetData). u.parts) c.sweep.ensures.alone.is;
-      leaf = ap (λ (u : SetData). u.leaf) c.sweep.ensures.alone.is;
-    })
+returns-clause-guards g c told guards = (session_swept _ _ _ (old g c) _ c.in-Some.commit c.in-Some.is (done g c) refl (done g c) (swept g c told)
     (subst (Guards g.row.D (g.F.Pages.files c.args.folder.now)) (sym c.self.view_is) guards)).0
 
 pub returns-clause-kept : goal.returns-clause-kept
-returns-clause-kept g c told guards = (session_swept _ _ _ _
-    (record { set = c.sweep.new.self; commit = c.self.inside.commit; refused = c.self.inside.refused })
-    (ap (λ (u : SessionData). is_some u.commit) c.self.view_is ∙ c.requires.saved.0)
-    (ap (λ (u : SessionData). u.set.saved) c.self.view_is ∙ c.requires.saved.1 ∙ ap (λ (u : SessionData). u.commit) (sym c.self.view_is))
-    (ap (λ (u : SessionData). u.refused) c.self.view_is ∙ c.requires.written) refl (ap (λ (u : SessionData). u.refused) c.self.view_is ∙ c.requires.written)
-    (λ d saved. record {
-      commit = c.sweep.ensures.commit told;
-      files = c.sweep.ensures.needed told d saved;
-      named = c.sweep.ensures.named d saved;
-      parts = ap (λ (u : SetData). u.parts) c.sweep.ensures.alone.is;
-      leaf = ap (λ (u : SetData). u.leaf) c.sweep.ensures.alone.is;
-    })
+returns-clause-kept g c told guards = (session_swept _ _ _ (old g c) (record (old g c) { set = c.sweep.new.self }) c.in-Some.commit c.in-Some.is
+    (done g c) refl (done g c) (swept g c told)
     (subst (Guards g.row.D (g.F.Pages.files c.args.folder.now)) (sym c.self.view_is) guards)).1
 
 pub returns-clause-segments : goal.returns-clause-segments
 returns-clause-segments g c told p there =
-    let saved = saved_is _ _
-    (ap (λ (u : SessionData). is_some u.commit) c.self.view_is ∙ c.requires.saved.0)
-    (ap (λ (u : SessionData). u.set.saved) c.self.view_is ∙ c.requires.saved.1 ∙ ap (λ (u : SessionData). u.commit) (sym c.self.view_is)) in
-    c.sweep.ensures.needed told saved.0 saved.1 (Segment p.head.id) (inr (inl (p, subst (λ (u : SessionData). Contains u.set.parts p) (sym c.self.view_is) there, refl)))
+    c.sweep.ensures.needed told (Segment p.head.id) (inr (inl (p, subst (λ (u : SessionData). Contains u.set.parts p) (sym c.self.view_is) there, refl)))
 
 pub sweep-requires : goal.sweep-requires
-sweep-requires g c = (
-  set_fits g.row.D c.self.invariant.few,
-  λ e. saved_some _ _ (c.requires.saved.0)
-      (ap (λ (u : SessionData). u.set.saved) c.self.view_is ∙ c.requires.saved.1) e,
-)
+sweep-requires g c = set_fits g.row.D c.self.invariant.few
 
 pub returns-clause-unread : goal.returns-clause-unread
 returns-clause-unread g c = c.sweep.ensures.unread
@@ -71,17 +64,18 @@ pub returns-clause-faithful : goal.returns-clause-faithful
 returns-clause-faithful g c told faithful = c.sweep.ensures.faithful told (subst (λ (u : SessionData). IsFaithful g.row.D (g.F.Pages.files c.args.folder.now) u.set) (sym c.self.view_is) faithful)
 
 pub returns-clause-traced : goal.returns-clause-traced
-returns-clause-traced g c told guards traced = session_traced _ _ _ _
-    (record { set = c.sweep.new.self; commit = c.self.inside.commit; refused = c.self.inside.refused })
-    (ap (λ (u : SessionData). is_some u.commit) c.self.view_is ∙ c.requires.saved.0)
-    (ap (λ (u : SessionData). u.set.saved) c.self.view_is ∙ c.requires.saved.1 ∙ ap (λ (u : SessionData). u.commit) (sym c.self.view_is))
-    (ap (λ (u : SessionData). u.refused) c.self.view_is ∙ c.requires.written)
-    (λ d saved. record {
-      commit = c.sweep.ensures.commit told;
-      files = c.sweep.ensures.needed told d saved;
-      named = c.sweep.ensures.named d saved;
-      parts = ap (λ (u : SetData). u.parts) c.sweep.ensures.alone.is;
-      leaf = ap (λ (u : SetData). u.leaf) c.sweep.ensures.alone.is;
-    })
+returns-clause-traced g c told guards traced = session_traced _ _ _ (old g c) c.sweep.new.self c.in-Some.commit c.in-Some.is (done g c) (swept g c told)
     (subst (Guards g.row.D (g.F.Pages.files c.args.folder.now)) (sym c.self.view_is) guards)
     (subst (λ (u : SessionData). AreTraced g.row.D (g.F.Pages.files c.args.folder.now) u.set.parts) (sym c.self.view_is) traced)
+
+pub returns-clause-tracked : goal.returns-clause-tracked
+returns-clause-tracked g c told m = subst (λ (u : SessionData). IsTracked (g.F.Pages.files c.args.folder.now) (g.F.Pages.files c.sweep.new.folder) u.set.names
+    c.sweep.new.self.names m) c.self.view_is
+    (tracked_swept _ _ _ _ m (c.sweep.ensures.others told m) (c.sweep.ensures.left told m))
+
+pub returns-clause-idle : goal.returns-clause-idle
+returns-clause-idle g c told listed = idle_sweep _ _ (old g c) c.in-Some.commit c.in-Some.is (c.sweep.ensures.needed told) (c.sweep.ensures.others told)
+    (subst NamesOnlyListed (sym c.self.view_is) listed)
+
+pub returns-clause-needed : goal.returns-clause-needed
+returns-clause-needed g c = ?

@@ -16,8 +16,7 @@ use Rattle.segment_view.specs.Parts.{lives_of}
 use Rattle.segment_set.specs.Sets.{IsWell, SetData}
 use Rattle.segment_set.specs.Seen.{Sees}
 use Rattle.segment_set.specs.Kept.{IsAtRest}
-use Rattle.index_opening.specs.Damages.{IsAttachDamage, IsAttachDamageOf, IsMisplaced}
-use Rattle.index_opening.specs.Opened.{IsListedDamage, IsListedDamageOf}
+use Rattle.index_opening.specs.Damages.{IsAttachDamage, IsAttachDamageOf, IsListedDamage, IsListedDamageOf, IsMisplaced}
 use Rattle.segment_set.specs.Faithful.{IsFaithful}
 use Rattle.index_opening.proofs.Listed.{listed_of, listed_shown, misplaced_of, misplaced_shown, opened_heads, opened_lives, undefined_fault, whole_listed, whole_placed}
 use Rattle.segment_set.proofs.Attaching.{at_rest_attached, attached_is, sees_attached, well_attached}

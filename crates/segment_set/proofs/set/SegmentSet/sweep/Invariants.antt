@@ -1,6 +1,5 @@
-use Rattle.std.proofs.Common.{◌≡◌, ◌-◌, Some, length, take}
+use Rattle.std.proofs.Common.{◌≡◌, ◌-◌, length, take}
 use Rattle.std.specs.Prelude.{IsTrue, All}
-use Rattle.commit_list.specs.Commits.{CommitData}
 use Rattle.index_model.specs.State.{Index}
 use Rattle.segment_set.specs.Seen.{Sees}
 use Rattle.segment_set.specs.Kept.{IsNeeded}
@@ -12,8 +11,8 @@ abbrev pub invariant-names : goal.invariant-names
 invariant-names g l = record {
   seen : IsTrue g.F.Pages.told → (i : Index) → Sees g.row.D (g.F.Pages.files l.initial.folder) l.initial.self i → Sees g.row.D (g.F.Pages.files l.folder) l.self i;
   faithful : IsTrue g.F.Pages.told → IsFaithful g.row.D (g.F.Pages.files l.initial.folder) l.initial.self → IsFaithful g.row.D (g.F.Pages.files l.folder) l.self;
-  swept : IsSwept (IsTrue g.F.Pages.told) l.initial.self l.self (g.F.Pages.files l.initial.folder) (g.F.Pages.files l.folder);
-  front : (c : CommitData) → l.initial.self.saved ≡ Some c → All (IsNeeded l.initial.self c) (take l.place l.self.names.names);
+  swept : IsSwept (IsTrue g.F.Pages.told) l.c l.initial.self l.self (g.F.Pages.files l.initial.folder) (g.F.Pages.files l.folder);
+  front : All (IsNeeded l.initial.self l.c) (take l.place l.self.names.names);
   reads : g.F.Pages.reads l.folder ≡ g.F.Pages.reads l.initial.folder;
   faults : g.F.Pages.faults l.folder ≡ g.F.Pages.faults l.initial.folder;
 }

@@ -1,0 +1,45 @@
+//! What is answered of a folder: by a check, and by a run of an empty script, which opens the index and reads no leaf.
+
+use crate::runs::{run_from, said};
+use crate::stories::{CHECK, RUN};
+use outer_io::{MemFolder, MemSource};
+use std::alloc::Global;
+use std::marker::Sync;
+use std::process::Abort;
+use std::test::Fail;
+use std::thread::Threads;
+
+/// A check answers this, and a run of an empty script ends as damaged by the same where opening shows it, and is done
+/// where not.
+pub(crate) fn assert_said<R: Threads + Sync + Abort>(
+    rt: &R,
+    alloc: Global,
+    folder: &mut MemFolder,
+    want: &str,
+    is_shown: bool,
+) -> Result<(), Fail> {
+    let checked = told(rt, alloc, CHECK, folder)?;
+    let ran = told(rt, alloc, RUN, folder)?;
+    let ends = if is_shown { want } else { "" };
+    assert_eq!(rt; (checked.as_str(), ran.as_str()), (want, ends));
+    Ok(())
+}
+
+/// What the program with these words, and no input, tells of a folder: its line, or what is said of the damage.
+fn told<R: Threads + Sync>(
+    rt: &R,
+    alloc: Global,
+    words: &[&str],
+    folder: &mut MemFolder,
+) -> Result<String, Fail> {
+    let mut input = MemSource::new(Vec::new(alloc), Vec::new(alloc));
+    let (status, output) = run_from(rt, alloc, words, &mut input, folder)?;
+    let line = said(alloc, &status)?;
+    let end = std::str::from_utf8(line.as_slice()).unwrap_or("no text");
+    let mut text = String::from_str(
+        alloc,
+        std::str::from_utf8(output.bytes()).unwrap_or("no text"),
+    )?;
+    text.push_str(end.strip_prefix("damaged: ").unwrap_or(end).trim_end())?;
+    Ok(text)
+}

@@ -1,0 +1,4 @@
+pub mod Ends
+pub mod Boxes
+pub mod ReadEnds
+pub mod Sound

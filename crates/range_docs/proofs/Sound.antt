@@ -1,0 +1,258 @@
+-- What a line asks is within the limits, what it names are ranges, and no line fails for want of memory.
+use Rattle.std.proofs.Common.{◌≡◌, ℕ, ◌+◌, ◌*◌, ◌/◌, Bool, true, false, cond, List, [], ◌∷◌, Option, Some, None, Result, Ok, Err, arith, refl, sym, subst, ℤ}
+use Rattle.std.specs.Prelude.{◌≢◌, not, ok_or, IfOk, All}
+use Rattle.std.specs.List.{list_all}
+use Rattle.std.proofs.lemmas.Bool.Decides.{nat_tests}
+use Rattle.std.proofs.lemmas.List.Sums.{AllPass-from_list_all}
+use Rattle.number_text.specs.Number.{number}
+use Rattle.point_codec.specs.Points.{Region, ordered}
+use Rattle.script_lang.specs.Requests.{Request, Viewed}
+use Rattle.script_lang.specs.Requests as asks
+use Rattle.script_lang.specs.Reading.{Reading, Says, Fails, greatest_leaf, is_from_to, given, value_of, values_of, onto_values, name_of, alone, created}
+use Rattle.script_lang.specs.Reading.{read_add, read_merge, query_of, box_of, text_of, read}
+use Rattle.script_lang.specs.Lines.{words_of}
+use Rattle.script_lang.specs.Seen.{IsWithinLimits, first_request_of}
+use Rattle.script_lang.specs.declared.commands.First.{First}
+use Rattle.script_lang.specs.declared.faults.LineFault.{LineFault}
+use Rattle.script_lang.specs.declared.faults.LineFault.TheVariants as line
+use Rattle.range_docs.specs.Ranges.{range_of, is_range}
+use Rattle.range_docs.specs.Refusals.{fault_of}
+use Rattle.range_docs.specs.Reading.{RangeRequest, Asks, Finds, RangeReading, as_points, from_part, read_create_ranges, if_ranges, read_delete_number}
+use Rattle.range_docs.specs.Reading.{read_question, read_without_ranges, read_range_command, read_range_words, if_blank, range_read}
+use Rattle.range_docs.specs.Seen.{of_points, asked, AgreesOnRanges, AddsRanges, NamesRanges}
+use Rattle.range_docs.specs.declared.ranges.Question.{Question}
+use Rattle.range_docs.specs.declared.ranges.Question.TheVariants.{Intersects, Within, Contains}
+use Rattle.range_docs.specs.declared.faults.RangeFault.{RangeFault}
+use Rattle.range_docs.specs.declared.faults.RangeFault.TheVariants as fault
+
+-- ---- lines that name no range
+
+abbrev Fine : Reading → Type 0
+Fine (Says request) = IsWithinLimits request × ((r : ℕ) → AddsRanges r request)
+Fine (Fails f) = f ≢ line.Memory
+
+record IsFine (reading : Reading) : Type 0 where
+  fine : Fine reading
+
+says : (request : Request) → IsWithinLimits request → ((r : ℕ) → AddsRanges r request) → IsFine (Says request)
+says request limits ranges = record { fine = (limits, ranges) }
+
+fails : (f : LineFault) → f ≢ line.Memory → IsFine (Fails f)
+fails f h = record { fine = h }
+
+wrong : IsFine (Fails line.Words)
+wrong = fails line.Words (λ e. cc)
+
+if_fine : (b : Bool) {x y : Reading} → IsFine x → IsFine y → IsFine (cond b x y)
+if_fine true held other = held
+if_fine false held other = other
+
+abbrev Remembers : {X : Type 0} → Result X LineFault → Type 0
+Remembers (Ok x) = Unit {0}
+Remembers (Err f) = f ≢ line.Memory
+
+record IsPart {X : Type 0} (part : Result X LineFault) : Type 0 where
+  remembers : Remembers part
+
+there : {X : Type 0} (x : X) → IsPart (Ok x)
+there x = record { remembers = tt }
+
+not_there : {X : Type 0} (f : LineFault) → f ≢ line.Memory → IsPart {X = X} (Err f)
+not_there f h = record { remembers = h }
+
+given_fine : {X : Type 0} {part : Result X LineFault} {next : X → Reading} → IsPart part → ((x : X) → IsFine (next x)) → IsFine (given part next)
+given_fine {X} {part = Ok x} {next} p fine = fine x
+given_fine {X} {part = Err f} {next} p fine = fails f p.remembers
+
+value_part : {X : Type 0} (value : List ℕ → Option X) (place : ℕ) (word : List ℕ) → IsPart (value_of value place word)
+value_part value place word =
+    elim (value word) as (λ v. IsPart (ok_or v (line.Number place))) [
+      | Some x ↦ there x
+      | None ↦ not_there (line.Number place) (λ e. cc)
+    ]
+
+onto_part : {X : Type 0} (one : Result X LineFault) (others : Result (List X) LineFault) → IsPart one → IsPart others → IsPart (onto_values one others)
+onto_part (Err f) others first rest = not_there f first.remembers
+onto_part (Ok x) (Err f) first rest = not_there f rest.remembers
+onto_part (Ok x) (Ok xs) first rest = there (x ∷ xs)
+
+values_part : {X : Type 0} (value : List ℕ → Option X) (place : ℕ) (words : List (List ℕ)) → IsPart (values_of value place words)
+values_part value place [] = there []
+values_part value place (w ∷ ws) =
+    onto_part (value_of value place w) (values_of value (place + 1) ws) (value_part value place w) (values_part value (place + 1) ws)
+
+if_part : {X : Type 0} (b : Bool) {x y : Result X LineFault} → IsPart x → IsPart y → IsPart (cond b x y)
+if_part true held other = held
+if_part false held other = other
+
+name_part : (words : List (List ℕ)) → IsPart (name_of words)
+unfolding name_of
+name_part [] = not_there line.Words (λ e. cc)
+name_part (w ∷ ws) = if_part _ (if_part _ (there _) (not_there line.Words (λ e. cc))) (not_there line.BadName (λ e. cc))
+
+alone_fine : (words : List (List ℕ)) (request : Request) → IsFine (Says request) → IsFine (alone words request)
+alone_fine [] request fine = fine
+alone_fine (w ∷ ws) request fine = wrong
+
+abbrev created_if : Bool → Bool → ℕ → ℕ → Reading
+created_if d l dims leaf = cond (not d) (Fails line.Dims) (cond (not l) (Fails line.LeafSize) (Says (asks.Create dims leaf)))
+
+created_fine : (dims leaf : ℕ) → IsFine (created dims leaf)
+created_fine dims leaf =
+    elim (is_from_to 1 8 dims) as (λ t. is_from_to 1 8 dims ≡ t → IsFine (created_if t (is_from_to 2 (greatest_leaf dims) leaf) dims leaf)) [
+      | true ↦ λ d. elim (is_from_to 2 (greatest_leaf dims) leaf) as (λ t. is_from_to 2 (greatest_leaf dims) leaf ≡ t → IsFine (created_if true t dims leaf)) [
+        | true ↦ λ l.
+            says (asks.Create dims leaf) (grind (arith, nat_tests), grind (arith, nat_tests), grind (arith, nat_tests), grind (arith, nat_tests)) (λ r. tt)
+        | false ↦ λ l. fails line.LeafSize (λ e. cc)
+      ] refl
+      | false ↦ λ d. fails line.Dims (λ e. cc)
+    ] refl
+
+create_fine : (words : List (List ℕ)) → IsFine (read_create_ranges words)
+unfolding read_create_ranges
+create_fine [] = wrong
+create_fine (d ∷ []) = given_fine (value_part number 2 d) (λ r. created_fine (2 * r) (greatest_leaf (2 * r)))
+create_fine (d ∷ word ∷ []) = wrong
+create_fine (d ∷ word ∷ s ∷ []) =
+    if_fine _ (given_fine (value_part number 2 d) (λ r. given_fine (value_part number 4 s) (λ leaf. created_fine (2 * r) leaf))) wrong
+create_fine (d ∷ word ∷ s ∷ w ∷ ws) = wrong
+
+delete_fine : (words : List (List ℕ)) → IsFine (read_delete_number words)
+unfolding read_delete_number
+delete_fine [] = wrong
+delete_fine (w ∷ []) = if_fine _ wrong (given_fine (value_part number 2 w) (λ n. says (asks.Delete n) tt (λ r. tt)))
+delete_fine (w ∷ v ∷ ws) = wrong
+
+merge_fine : (words : List (List ℕ)) → IsFine (read_merge words)
+unfolding read_merge
+merge_fine [] = says asks.Merge tt (λ r. tt)
+merge_fine (w ∷ ws) =
+    if_fine _ (given_fine (values_part number 3 ws) (λ ps. says (asks.MergeBegin ps) tt (λ r. tt)))
+    (if_fine _ (alone_fine ws asks.MergeEnd (says asks.MergeEnd tt (λ r. tt))) wrong)
+
+without_ranges_fine : (verb : List ℕ) (words : List (List ℕ)) → IsFine (read_without_ranges verb words)
+unfolding read_without_ranges
+without_ranges_fine verb words =
+    if_fine _ (create_fine words) (if_fine _ (delete_fine words) (if_fine _ (alone_fine words asks.Flush (says asks.Flush tt (λ r. tt)))
+    (if_fine _ (merge_fine words) (if_fine _ (given_fine (name_part words) (λ n. says (asks.Snapshot n) tt (λ r. tt)))
+    (if_fine _ (given_fine (name_part words) (λ n. says (asks.Release n) tt (λ r. tt)))
+    (if_fine _ (alone_fine words asks.Commit (says asks.Commit tt (λ r. tt))) (if_fine _ (alone_fine words asks.Reopen (says asks.Reopen tt (λ r. tt)))
+    (fails line.Unknown (λ e. cc)))))))))
+
+pub create_within : (first : First) (words : List (List ℕ)) → Says (first_request_of first) ≡ read_create_ranges words
+    → IsWithinLimits (first_request_of first)
+create_within first words e = (subst IsFine (sym e) (create_fine words)).fine.0
+
+pub create_remembers : (f : LineFault) (words : List (List ℕ)) → Fails f ≡ read_create_ranges words → f ≢ line.Memory
+create_remembers f words e = (subst IsFine (sym e) (create_fine words)).fine
+
+pub not_memory : (f : LineFault) → f ≢ line.Memory → fault_of f ≢ fault.Memory
+not_memory line.Memory h e = h refl
+not_memory f h e = cc
+
+-- ---- all lines
+
+abbrev Sound : ℕ → RangeReading → Type 0
+Sound r (Ok request) = IsWithinLimits (of_points request) × NamesRanges r request
+Sound r (Err f) = Unit {0}
+
+record IsSound (r : ℕ) (reading : RangeReading) : Type 0 where
+  sound : Sound r reading
+
+refused : (r : ℕ) (f : RangeFault) → IsSound r (Err f)
+refused r f = record { sound = tt }
+
+if_sound : (r : ℕ) (b : Bool) {x y : RangeReading} → IsSound r x → IsSound r y → IsSound r (cond b x y)
+if_sound r true held other = held
+if_sound r false held other = other
+
+from_part_sound : {X : Type 0} (r : ℕ) (part : Result X LineFault) {next : X → RangeReading} → ((x : X) → IsSound r (next x)) → IsSound r (from_part part next)
+from_part_sound r (Ok x) sound = sound x
+from_part_sound r (Err f) sound = refused r (fault.Line f)
+
+points_sound : (r : ℕ) (reading : Reading) → IsFine reading → IsSound r (as_points reading)
+points_sound r (Says request) f = record { sound = (f.fine.0, f.fine.1 r) }
+points_sound r (Fails f) h = refused r (fault.Line f)
+
+all_ranges : (r : ℕ) (points : List (List ℤ)) → list_all (λ p. is_range (range_of r p)) points ≡ true
+    → All (λ p. is_range (range_of r p) ≡ true) points
+all_ranges r points e = AllPass-from_list_all (λ p. is_range (range_of r p)) points e
+
+ranges_sound : (r : ℕ) (points : List (List ℤ)) → IsSound r (if_ranges r (Says (asks.Add points)))
+ranges_sound r points =
+    elim (list_all (λ p. is_range (range_of r p)) points) as (λ t. list_all (λ p. is_range (range_of r p)) points ≡ t
+    → IsSound r (cond t (Ok (Asks (asks.Add points))) (Err fault.NotRange))) [
+      | true ↦ λ e. record { sound = (tt, all_ranges r points e) }
+      | false ↦ λ e. refused r fault.NotRange
+    ] refl
+
+added_sound : (r : ℕ) (read : Result (List (List ℤ)) LineFault) → IsSound r (if_ranges r (given read (λ points. Says (asks.Add (ordered points)))))
+added_sound r (Ok points) = ranges_sound r (ordered points)
+added_sound r (Err f) = refused r (fault.Line f)
+
+add_if : (r : ℕ) (b : Bool) (read : Result (List (List ℤ)) LineFault)
+    → IsSound r (if_ranges r (cond b (given read (λ points. Says (asks.Add (ordered points)))) (Fails line.Words)))
+add_if r true read = added_sound r read
+add_if r false read = refused r (fault.Line line.Words)
+
+add_sound : (r dims : ℕ) (words : List (List ℕ)) → IsSound r (if_ranges r (read_add dims words))
+unfolding read_add
+add_sound r dims words = add_if r _ _
+
+asked_sound : (r : ℕ) (question : Question) (view : Viewed) (query : Region)
+    → IsSound r (cond (is_range query) (Ok (Finds question view query)) (Err fault.NotRange))
+asked_sound r question view query =
+    elim (is_range query) as (λ t. is_range query ≡ t → IsSound r (cond t (Ok (Finds question view query)) (Err fault.NotRange))) [
+      | true ↦ λ e. record { sound = (tt, e) }
+      | false ↦ λ e. refused r fault.NotRange
+    ] refl
+
+question_sound : (r n : ℕ) (question : Question) (words : List (List ℕ)) → IsSound r (read_question question n words)
+unfolding read_question
+question_sound r n question words =
+    from_part_sound r (query_of words) (λ q. from_part_sound r (box_of n q.place q.words) (λ ends.
+    asked_sound r question q.view (record { lo = ends.0; hi = ends.1 })))
+
+command_sound : (dims : ℕ) (verb : List ℕ) (words : List (List ℕ)) → IsSound (dims / 2) (read_range_command dims verb words)
+unfolding read_range_command
+command_sound dims verb words =
+    if_sound (dims / 2) _ (add_sound (dims / 2) dims words) (if_sound (dims / 2) _ (question_sound (dims / 2) (dims / 2) Intersects words)
+    (if_sound (dims / 2) _ (question_sound (dims / 2) (dims / 2) Within words) (if_sound (dims / 2) _ (question_sound (dims / 2) (dims / 2) Contains words)
+    (points_sound (dims / 2) (read_without_ranges verb words) (without_ranges_fine verb words)))))
+
+nothing_asked : (r : ℕ) → IsSound r (Ok (Asks asks.Blank))
+nothing_asked r = record { sound = (tt, tt) }
+
+words_sound : (dims : ℕ) (words : List (List ℕ)) → IsSound (dims / 2) (read_range_words (Some dims) words)
+words_sound dims [] = nothing_asked (dims / 2)
+words_sound dims (verb ∷ words) = if_sound (dims / 2) _ (nothing_asked (dims / 2)) (command_sound dims verb words)
+
+blank_sound : (r : ℕ) (reading : Reading) → IsSound r (if_blank reading)
+blank_sound r (Says asks.Blank) = nothing_asked r
+blank_sound r reading = refused r fault.NotRanges
+
+line_sound : (dims : ℕ) (bytes : List ℕ) → IsSound (dims / 2) (range_read (Some dims) bytes)
+unfolding range_read
+line_sound dims bytes =
+    if_sound (dims / 2) _ (from_part_sound (dims / 2) (text_of bytes) (λ text. words_sound dims (words_of text))) (blank_sound (dims / 2) (read None bytes))
+
+-- what a line adds are ranges, and what it looks for is on a range
+pub names_ranges : (dims : ℕ) (bytes : List ℕ) (request : RangeRequest) → range_read (Some dims) bytes ≡ Ok request → NamesRanges (dims / 2) request
+names_ranges dims bytes request e = (subst (IsSound (dims / 2)) e (line_sound dims bytes)).sound.1
+
+asked_within : (r : ℕ) (reading : RangeReading) (request : Request) → IsSound r reading → asked reading ≡ Ok request
+    → IsWithinLimits request × AddsRanges r request
+asked_within r (Err f) request s e = cc
+asked_within r (Ok (Asks asks)) request s e = let same : asks ≡ request = cc in rw (← same) (s.sound.0, s.sound.1)
+asked_within r (Ok (Finds question view query)) request s e =
+    let same : of_points (Finds question view query) ≡ request = cc in rw (← same) (tt, tt)
+
+-- what a command that was read asks is within the limits, and what it adds are ranges
+pub command_within : {C : Type 0} (request : C → Request) (result : Result C RangeFault) (dims : ℕ) (verb : List ℕ) (words : List (List ℕ))
+    → AgreesOnRanges request result (read_range_command dims verb words) → IfOk result (λ c. IsWithinLimits (request c) × AddsRanges (dims / 2) (request c))
+command_within request (Ok c) dims verb words e = asked_within (dims / 2) (read_range_command dims verb words) (request c) (command_sound dims verb words) e
+command_within request (Err f) dims verb words e = tt
+
+pub if_both : {C E : Type 0} (P Q : C → Type 0) (result : Result C E) → IfOk result (λ c. P c × Q c) → IfOk result P × IfOk result Q
+if_both P Q (Ok c) h = h
+if_both P Q (Err e) h = (tt, tt)

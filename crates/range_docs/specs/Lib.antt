@@ -1,0 +1,5 @@
+pub mod Ranges
+pub mod Refusals
+pub mod Reading
+pub mod Seen
+pub mod Replies

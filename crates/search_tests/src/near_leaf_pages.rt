@@ -1,0 +1,118 @@
+//! What a search for the nearest reads of a segment of several leaf pages, and where a read fails.
+
+use crate::leaf_pages::{Stored, make_stored};
+use page_cache::{PageCache, PageFault};
+use point_codec::{Near, Point};
+use segment_view::{Segments, nearest, survey_near};
+use std::alloc::Global;
+use std::process::Abort;
+use std::test::Fail;
+
+/// The ten nearest of the segment.
+fn ten_nearest(
+    alloc: Global,
+    stored: &mut Stored,
+    cache: &mut PageCache,
+    at: &Point<2>,
+) -> Result<Vec<Near>, PageFault> {
+    nearest(
+        alloc,
+        &stored.segments,
+        &[],
+        cache,
+        &mut stored.folder,
+        at,
+        10,
+    )
+}
+
+/// The ten nearest among the entries themselves, all of them in the buffer.
+fn ten_of_entries(
+    alloc: Global,
+    stored: &mut Stored,
+    at: &Point<2>,
+) -> Result<Vec<Near>, PageFault> {
+    let mut cache = PageCache::new(alloc, 1)?;
+    nearest(
+        alloc,
+        &Segments::new(alloc),
+        stored.entries.as_slice(),
+        &mut cache,
+        &mut stored.folder,
+        at,
+        10,
+    )
+}
+
+/// Where it is asked from, how many leaves may have one of the ten, and how many pages are read: at the first leaf;
+/// at the front of a leaf in the middle of the second page; where the second page begins; past the last one.
+const PLACES: [(i32, u64, u64); 4] = [(0, 1, 1), (3_996, 2, 1), (3_663, 2, 2), (9_000, 2, 1)];
+
+/// A search over a cache without the segment's pages, where this call of the folder fails: it finds those that are
+/// wanted just where it doesn't come to that call.
+fn check_search(
+    rt: &impl Abort,
+    alloc: Global,
+    stored: &mut Stored,
+    cache: &mut PageCache,
+    wanted: &[Near],
+    place: (i32, u64),
+    call: u64,
+) -> Result<(), Fail> {
+    let (x, pages) = place;
+    cache.forget(3);
+    stored.folder.plan([call].to_vec(alloc)?, None);
+    match ten_nearest(alloc, stored, cache, &Point { c: [x, 0] }) {
+        Ok(found) => assert_eq!(rt; (found.as_slice(), call), (wanted, pages), "at {x}"),
+        Err(fault) => {
+            assert!(rt;
+                matches!(fault, PageFault::Failed) && call < pages,
+                "at {x}"
+            );
+        }
+    }
+    Ok(())
+}
+
+/// The search from a place, where each of its reads fails in turn and then none, and then over the pages that are kept.
+fn check_place(
+    rt: &impl Abort,
+    alloc: Global,
+    stored: &mut Stored,
+    place: (i32, u64, u64),
+) -> Result<(), Fail> {
+    let (x, near_leaves, pages) = place;
+    let at = Point { c: [x, 0] };
+    let wanted = ten_of_entries(alloc, stored, &at)?;
+    let greatest = wanted.last().map(|near| near.dist2);
+    assert_eq!(rt;
+        survey_near(&stored.segments, &at, greatest),
+        near_leaves,
+        "at {x}"
+    );
+    let mut cache = PageCache::new(alloc, 4)?;
+    for call in 0..=pages {
+        check_search(
+            rt,
+            alloc,
+            stored,
+            &mut cache,
+            wanted.as_slice(),
+            (x, pages),
+            call,
+        )?;
+    }
+    stored.folder.plan(Vec::new(alloc), Some(0));
+    let found = ten_nearest(alloc, stored, &mut cache, &at)?;
+    assert_eq!(rt; found.as_slice(), wanted.as_slice(), "at {x}");
+    Ok(())
+}
+
+#[test]
+fn the_nearest_read_the_pages_of_near_leaves(rt: HostRuntime) -> Result<(), Fail> {
+    let mut stored = make_stored(&rt, rt.alloc())?;
+    for place in PLACES {
+        check_place(&rt, rt.alloc(), &mut stored, place)?;
+    }
+    Ok(())
+}
