@@ -9,7 +9,7 @@ _bkd() {
         return
     fi
     if [ "$COMP_CWORD" -eq 2 ]; then
-        mapfile -t COMPREPLY < <(compgen -W 'run load explain check generate session' -- "$word")
+        mapfile -t COMPREPLY < <(compgen -W 'run load explain check generate session count' -- "$word")
         return
     fi
     case $before in
@@ -19,7 +19,7 @@ _bkd() {
     case ${COMP_WORDS[2]} in
         run | session) options='--cache --forks' ;;
         load) options='--columns --forks' ;;
-        explain) options='--cache' ;;
+        explain | count) options='--cache' ;;
         generate) options='--docs --seed --forks' ;;
     esac
     # each option stands at most once

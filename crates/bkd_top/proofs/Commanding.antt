@@ -4,11 +4,14 @@ use Rattle.std.proofs.lemmas.Bool.{false≢true}
 use Rattle.outer_io.specs.Files.{Files}
 use Rattle.script_lang.specs.Lines.{lines_of}
 use Rattle.stored_index.specs.Stored.{IsStored}
-use Rattle.command_words.specs.Commands.{Asked, Run, Load, Explain, Check, Generate, Session, said}
+use Rattle.command_words.specs.Commands.{Asked, Run, Load, Explain, Check, Generate, Session, Count, said}
 use Rattle.command_words.specs.declared.Words.{Words}
 use Rattle.drawn_points.specs.Generated.{generated}
 use Rattle.explain_queries.specs.Explained.{IsScope, Scope, silence}
 use Rattle.load_points.specs.Loaded.{loaded}
+use Rattle.run_status.specs.Told.{EndsTold}
+use Rattle.run_status.proofs.Telling.{none_told}
+use Rattle.count_queries.specs.Counted as counts
 use Rattle.bkd_top.specs.Calls.{Call, LeavesAsked, OnAsked, TakesInput, WholeLeaves}
 use Rattle.bkd_top.specs.Checking.{EndsCheck}
 use Rattle.bkd_top.specs.Commands.{Before, EndsAsked, EndsExplain, EndsWhole, reads_input, reads_whole}
@@ -51,6 +54,7 @@ no_memory_ends told (Explain cache) b files new keeps same still =
 no_memory_ends told Check b files new keeps same still = (same, still)
 no_memory_ends told (Generate docs seed forks) b files new keeps same still = record { text = still; stored = inl keeps }
 no_memory_ends told (Session cache forks) b files new keeps same still = stops_here {told = told} (start b.state (lines_of b.input) b.written) files new still (inl keeps)
+no_memory_ends told (Count cache) b files new keeps same still = λ scope is. none_told told (counts.TellsCount scope) 1 (lines_of b.input) b.written new still
 
 -- what passes a test of what is asked does not fail it
 pub is_so : {P : Type 0} (test : Asked → Bool) (w : Words) (a : Asked) → said w ≡ a → test a ≡ true → test (said w) ≡ false → P
@@ -67,6 +71,7 @@ whole_reads (Explain cache) e = refl
 whole_reads Check e = e
 whole_reads (Generate docs seed forks) e = e
 whole_reads (Session cache forks) e = refl
+whole_reads (Count cache) e = refl
 
 -- each command ends as its own definition says
 module _ (told : Type 0) (w : Words) (b : Before) (files : Files) (new : List ℕ) (s : Status) where
@@ -87,6 +92,11 @@ module _ (told : Type 0) (w : Words) (b : Before) (files : Files) (new : List �
 
   pub session_asked : (cache forks : ℕ) → said w ≡ Session cache forks → EndsSession told (start b.state (lines_of b.input) b.written) files new s → EndsAsked told (said w) b files new s
   session_asked cache forks is ends = subst (λ (a : Asked). EndsAsked told a b files new s) (sym is) ends
+
+  pub count_ends : (cache : ℕ) → said w ≡ Count cache
+      → ((scope : counts.Scope) → counts.IsScope b.files scope → EndsTold told (counts.TellsCount scope) (lines_of b.input) b.written new s)
+      → EndsAsked told (said w) b files new s
+  count_ends cache is ends = subst (λ (a : Asked). EndsAsked told a b files new s) (sym is) ends
 
 -- what is asked isn't nothing
 pub is_none_and : {P : Type 0} (a : Asked) (o : Option Asked) → o ≡ None → o ≡ Some a → P
@@ -109,6 +119,7 @@ taken_whole (Explain cache) left now s e takes = takes
 taken_whole Check left now s e takes = absurd (false≢true e)
 taken_whole (Generate docs seed forks) left now s e takes = absurd (false≢true e)
 taken_whole (Session cache forks) left now s e takes = absurd (false≢true e)
+taken_whole (Count cache) left now s e takes = takes
 
 -- for want of memory nothing was read
 no_input : (left now : List ℕ) → ReadsInput left now status.Memory
@@ -122,8 +133,23 @@ none_taken (Some (Explain cache)) left now = no_input left now
 none_taken (Some Check) left now = tt
 none_taken (Some (Generate docs seed forks)) left now = tt
 none_taken (Some (Session cache forks)) left now = λ answer. absurd answer
+none_taken (Some (Count cache)) left now = no_input left now
 
 -- ---- what is left
+
+-- a call, by what it was made on and what it left
+abbrev pub called : (source sink : Bool) (input : List ℕ) (old new : Files) (written written_now : List ℕ) (before now : ℕ) → Call
+called source sink input old new written written_now before now = record {
+  source = source;
+  sink = sink;
+  input = input;
+  old = old;
+  new = new;
+  written = written;
+  written_now = written_now;
+  before = before;
+  now = now;
+}
 
 -- the words ask for this command, which leaves so much
 pub left_by : (w : Words) (a : Asked) (c : Call) (s : Status) → said w ≡ a → LeavesAsked a c s → LeavesAsked (said w) c s
@@ -139,6 +165,7 @@ none_left_of : (a : Asked) (source sink : Bool) (input written : List ℕ) (file
 none_left_of (Run cache forks) source sink input written files reads = λ told. nothing_costs (lines_of input) files reads status.Memory (λ a. a)
 none_left_of (Session cache forks) source sink input written files reads = λ told. nothing_costs (lines_of input) files reads status.Memory (λ a. a)
 none_left_of (Explain cache) source sink input written files reads = record { files = refl; reads = λ told pages opening scope is t tells. omega arith }
+none_left_of (Count cache) source sink input written files reads = record { files = refl; reads = λ told pages opening scope is t tells. omega arith }
 none_left_of (Load columns forks) source sink input written files reads = no_whole files
 none_left_of (Generate docs seed forks) source sink input written files reads = no_whole files
 none_left_of Check source sink input written files reads = record { ends = λ told. refl; files = refl; reads = λ pages is. omega arith }

@@ -2,7 +2,7 @@
 use Rattle.std.specs.Prelude.{ℕ, ◌≡◌, ◌⊎◌, Bool, IsTrue, List, [], Option, None, Some}
 use Rattle.outer_io.specs.Files.{Files}
 use Rattle.script_lang.specs.Lines.{lines_of}
-use Rattle.command_words.specs.Commands.{Asked, Run, Load, Explain, Check, Generate, Session}
+use Rattle.command_words.specs.Commands.{Asked, Run, Load, Explain, Check, Generate, Session, Count}
 use Rattle.index_model.specs.State.{State}
 use Rattle.stored_index.specs.Stored.{IsStored}
 use Rattle.index_opening.specs.Evidence.{IsEvident}
@@ -12,6 +12,7 @@ use Rattle.run_status.specs.declared.status.Status.{Status}
 use Rattle.run_status.specs.declared.status.Status.TheVariants as status
 use Rattle.script_run.specs.Kept.{RunCosts, StatusKeeps}
 use Rattle.run_status.specs.Causes.{ReadsInput}
+use Rattle.count_queries.specs.Counts as counts
 use Rattle.bkd_top.specs.Checking.{Checks}
 use Rattle.bkd_top.specs.Commands.{ReadsFew}
 
@@ -34,6 +35,7 @@ TakesInput (Run cache forks) left now s = ReadsInput left now s
 TakesInput (Load columns forks) left now s = ReadsInput left now s
 TakesInput (Explain cache) left now s = ReadsInput left now s
 TakesInput (Session cache forks) left now s = IsAnswer s → now ≡ []
+TakesInput (Count cache) left now s = ReadsInput left now s
 TakesInput Check left now s = Unit {0}
 TakesInput (Generate docs seed forks) left now s = Unit {0}
 
@@ -48,6 +50,11 @@ pub record TellsDamage (told : Type 0) (old new : Files) (s : Status) : Type 0 w
 pub record ExplainCosts (source : Type 0) (lines : List (List ℕ)) (old new : Files) (before now : ℕ) : Type 0 where
   pub files : new ≡ old
   pub reads : source → ReadsFew old lines before now
+
+-- nor does counting
+pub record CountCosts (source : Type 0) (lines : List (List ℕ)) (old new : Files) (before now : ℕ) : Type 0 where
+  pub files : new ≡ old
+  pub reads : source → counts.ReadsFew old lines before now
 
 -- a command that is done as a whole leaves few segments of each level, and where it isn't done it loses nothing that is kept, whatever the folder holds
 pub record WholeLeaves (old new : Files) (s : Status) : Type 0 where
@@ -75,4 +82,5 @@ LeavesAsked (Session cache forks) c s = IsTrue c.source → RunCosts (lines_of c
 LeavesAsked (Explain cache) c s = ExplainCosts (IsTrue c.source) (lines_of c.input) c.old c.new c.before c.now
 LeavesAsked (Load columns forks) c s = WholeLeaves c.old c.new s
 LeavesAsked (Generate docs seed forks) c s = WholeLeaves c.old c.new s
+LeavesAsked (Count cache) c s = CountCosts (IsTrue c.source) (lines_of c.input) c.old c.new c.before c.now
 LeavesAsked Check c s = Checks (IsTrue c.sink) c.old c.new c.written c.written_now c.before c.now s

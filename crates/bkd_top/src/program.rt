@@ -21,6 +21,7 @@ use crate::explain::run_explain;
 use crate::whole::{run_generate, run_load};
 use bkd_build::Gate;
 use command_words::{Words, WordsFault, read_words};
+use count_queries::run_count;
 use index_core::Settings;
 use line_source::HeldBytes;
 use outer_io::{Folder, ReadAll, Sink, Source, read_all};
@@ -40,6 +41,7 @@ use std::thread::Threads;
 /// | `check` | reads every page of the files that the commit lists, and says how large the index is that they hold, or ends with the first damage |
 /// | `generate` | makes an index of drawn documents, commits, and says what drawn queries find in it |
 /// | `session` | does the lines of a script as `run` does, each as soon as it has come, before the input is asked for more |
+/// | `count` | reads lines, and says of each how many live points lie in a box, or in each bucket of a grid |
 ///
 /// **The headline.** On a folder that stores an index, or none, what `run` writes is, line for line, what a scan of the live documents
 /// answers to the script's adds, deletes and queries, whatever flushes, merges, snapshots and reopenings stand between, and the folder
@@ -156,6 +158,7 @@ fn run_command<S: Source, F: Folder, K: Sink, R: Threads + Sync, G: Gate>(
             let settings = Settings { cache_pages, forks };
             run_session(rt, alloc, settings, input, folder, out, gate)
         }
+        Words::Count { cache_pages } => run_count(alloc, cache_pages, input, folder, out),
     }
 }
 

@@ -16,6 +16,7 @@ pub data Asked : Type 0 where
   Check : Asked
   Generate : (docs seed forks : ℕ) → Asked
   Session : (cache forks : ℕ) → Asked
+  Count : (cache : ℕ) → Asked
 
 -- ---- the options
 
@@ -125,8 +126,15 @@ session = record {
   asks = λ found. Some (Session (cache_by found) (forks_by found));
 }
 
+abbrev pub count : Form
+count = record {
+  name = codes "count";
+  options = cache ∷ [];
+  asks = λ found. Some (Count (cache_by found));
+}
+
 abbrev pub forms : List Form
-forms = run ∷ load ∷ explain ∷ check ∷ generate ∷ session ∷ []
+forms = run ∷ load ∷ explain ∷ check ∷ generate ∷ session ∷ count ∷ []
 
 -- ---- the words
 
@@ -162,6 +170,7 @@ said (words.Explain cache_pages) = Explain cache_pages
 said words.Check = Check
 said (words.Generate docs seed forks) = Generate docs seed forks
 said (words.Session cache_pages forks) = Session cache_pages forks
+said (words.Count cache_pages) = Count cache_pages
 
 -- ---- the ranges
 
@@ -176,3 +185,4 @@ IsWithin (words.Explain cache_pages) = (1 ≤ cache_pages) × (cache_pages ≤ 6
 IsWithin words.Check = Unit {0}
 IsWithin (words.Generate docs seed forks) = (1 ≤ docs) × (docs ≤ 1000000) × (1 ≤ seed) × (seed ≤ 2147483646) × (forks ≤ 6)
 IsWithin (words.Session cache_pages forks) = (1 ≤ cache_pages) × (cache_pages ≤ 65536) × (forks ≤ 6)
+IsWithin (words.Count cache_pages) = (1 ≤ cache_pages) × (cache_pages ≤ 65536)

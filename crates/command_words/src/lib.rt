@@ -9,7 +9,9 @@ ghost use Rattle.std.specs.Prelude.{◌≡◌, Some, None, IfOk, Err, map, strin
 ghost use Rattle.command_words.specs.Commands.{IsWithin, asked, said};
 
 use byte_cursor::Bytes;
-use reading::{read_check, read_explain, read_generate, read_load, read_run, read_session};
+use reading::{
+    read_check, read_count, read_explain, read_generate, read_load, read_run, read_session,
+};
 use std::alloc::{AllocError, AllocFailed, Global};
 
 /// A command with what its options say. Every number and list is within the range of its option.
@@ -27,6 +29,8 @@ pub enum Words {
     Generate { docs: u32, seed: u32, forks: u8 },
     /// Does the lines of a script as they come, with the options of `Run`.
     Session { cache_pages: u32, forks: u8 },
+    /// Counts live points in boxes and in the buckets of grids.
+    Count { cache_pages: u32 },
 }
 
 /// Why words are no command.
@@ -68,6 +72,7 @@ impl<T: Drop> From<AllocFailed<T>> for WordsFault {
 /// | `FOLDER check` | |
 /// | `FOLDER generate --docs N --seed N [--forks N]` | forks 1 |
 /// | `FOLDER session [--cache N] [--forks N]` | cache 1,024; forks 1 |
+/// | `FOLDER count [--cache N]` | cache 1,024 |
 pub fn read_words(alloc: Global, words: &[String]) -> Result<Words, WordsFault>
     ensures words { IfOk result (λ w. asked (map string_bytes words.now) ≡ Some (said w)) }
     ensures usage { result ≡ Err WordsFault.Usage → asked (map string_bytes words.now) ≡ None }
@@ -84,6 +89,7 @@ pub fn read_words(alloc: Global, words: &[String]) -> Result<Words, WordsFault>
         "check" => read_check(alloc, command),
         "generate" => read_generate(alloc, command),
         "session" => read_session(alloc, command),
+        "count" => read_count(alloc, command),
         _ => Err(WordsFault::Usage),
     }
 }

@@ -2,7 +2,7 @@
 
 ghost use Rattle.std.specs.Prelude.{◌≡◌, ◌≢◌, Some, None, true, IfOk, Err, map, string_bytes};
 ghost use Rattle.clap.specs.Words.{app_of, found_of, kind_of, rows_of};
-ghost use Rattle.command_words.specs.Commands.{IsWithin, asked_by, command_of, said, found_by, run, load, explain, check, generate, session};
+ghost use Rattle.command_words.specs.Commands.{IsWithin, asked_by, command_of, said, found_by, run, load, explain, check, generate, session, count};
 ghost use Rattle.command_words.specs.Found.{AreFound, is_plain};
 
 use crate::options::{CACHE, COLUMNS, DOCS, FORKS, SEED, columns_by, text_option};
@@ -96,6 +96,19 @@ pub(crate) fn read_session(alloc: Global, words: &[String]) -> Result<Words, Wor
     })
 }
 
+/// `count [--cache N]`
+pub(crate) fn read_count(alloc: Global, words: &[String]) -> Result<Words, WordsFault>
+    ensures words { IfOk result (λ w. asked_by count (map string_bytes words.now) ≡ Some (said w)) }
+    ensures usage { result ≡ Err WordsFault.Usage → asked_by count (map string_bytes words.now) ≡ None }
+    ensures ranges { IfOk result IsWithin }
+{
+    let command = count_command(alloc)?;
+    let matches = parse(command, words)?;
+    Ok(Words::Count {
+        cache_pages: CACHE.read(&matches).unwrap_or(CACHE_PAGES),
+    })
+}
+
 fn run_command<'a>(alloc: Global) -> Result<Command<'a>, AllocError>
     ensures { IfOk result (λ c. app_of c ≡ command_of run) }
 {
@@ -133,6 +146,12 @@ fn session_command<'a>(alloc: Global) -> Result<Command<'a>, AllocError>
     Command::new(alloc, "session")
         .arg(CACHE.arg(alloc))?
         .arg(FORKS.arg(alloc))
+}
+
+fn count_command<'a>(alloc: Global) -> Result<Command<'a>, AllocError>
+    ensures { IfOk result (λ c. app_of c ≡ command_of count) }
+{
+    Command::new(alloc, "count").arg(CACHE.arg(alloc))
 }
 
 /// What the command finds in the words.

@@ -21,6 +21,8 @@ mod command_faults;
 #[cfg(test)]
 mod commands;
 #[cfg(test)]
+mod counting;
+#[cfg(test)]
 mod draws;
 #[cfg(test)]
 mod embedded_sessions;

@@ -3,3 +3,4 @@ pub mod Sent
 pub mod Causes
 pub mod Stops
 pub mod Texts
+pub mod Told

@@ -3,7 +3,7 @@ use Rattle.std.proofs.Common.{IsTrue, refl, sym, ap, subst, inl, inr}
 use Rattle.command_words.specs.Commands.{Asked, said}
 use Rattle.bkd_top.specs.Commands.{is_session, reads_input, reads_whole}
 use Rattle.run_status.specs.Ends.{DoesNothing}
-use Rattle.bkd_top.proofs.Commanding.{check_ends, explain_ends, generate_ends, is_so, left_by, load_ends, run_ends, session_asked, taken_by}
+use Rattle.bkd_top.proofs.Commanding.{called, check_ends, count_ends, explain_ends, generate_ends, is_so, left_by, load_ends, run_ends, session_asked, taken_by}
 use Rattle.script_run.proofs.Starting.{canonical_still}
 use Rattle.bkd_top.proofs.program.run_command.Goals as goal
 
@@ -231,17 +231,8 @@ returns-in-Generate-clause-leaves g c = λ told.
 pub returns-in-Check-clause-leaves : goal.returns-in-Check-clause-leaves
 returns-in-Check-clause-leaves g c = λ told.
     left_by c.args.words _
-    (record {
-      source = g.S.Source.told;
-      sink = g.K.Sink.told;
-      input = g.S.Source.left c.args.input.now;
-      old = g.F.Pages.files c.args.folder.now;
-      new = g.F.Pages.files c.run_check.new.folder;
-      written = g.K.Sink.written c.args.out.now;
-      written_now = g.K.Sink.written c.run_check.new.out;
-      before = g.F.Pages.reads c.args.folder.now;
-      now = g.F.Pages.reads c.run_check.new.folder;
-    })
+    (called g.S.Source.told g.K.Sink.told (g.S.Source.left c.args.input.now) (g.F.Pages.files c.args.folder.now) (g.F.Pages.files c.run_check.new.folder)
+    (g.K.Sink.written c.args.out.now) (g.K.Sink.written c.run_check.new.out) (g.F.Pages.reads c.args.folder.now) (g.F.Pages.reads c.run_check.new.folder))
     c.run_check.result (ap said c.in-Check.is) (c.run_check.ensures.checks told)
 
 pub returns-in-Check-clause-ends : goal.returns-in-Check-clause-ends
@@ -266,3 +257,40 @@ returns-in-Check-clause-causes g c = record {
   folder = c.run_check.ensures.folder_fault;
   sink = c.run_check.ensures.sink_fault;
 }
+
+pub returns-in-Count-clause-ends : goal.returns-in-Count-clause-ends
+returns-in-Count-clause-ends g c = λ told state h source.
+    count_ends (IsTrue g.K.Sink.told) c.args.words
+    (record { state = state; files = g.F.Pages.files c.args.folder.now; input = g.S.Source.left c.args.input.now; written = g.K.Sink.written c.args.out.now })
+    (g.F.Pages.files c.run_count.new.folder) (g.K.Sink.written c.run_count.new.out) c.run_count.result
+    _ (ap said c.in-Count.is) (c.run_count.ensures.ends (source (ap (λ (a : Asked). reads_input a) (ap said c.in-Count.is))) told)
+
+pub returns-in-Count-clause-canon : goal.returns-in-Count-clause-canon
+returns-in-Count-clause-canon g c = λ told state h a. canonical_still _ _ (c.run_count.ensures.files told)
+
+pub returns-in-Count-clause-unread : goal.returns-in-Count-clause-unread
+returns-in-Count-clause-unread g c = is_so (λ a. reads_input a) c.args.words _ (ap said c.in-Count.is) refl
+
+pub returns-in-Count-clause-large : goal.returns-in-Count-clause-large
+returns-in-Count-clause-large g c = λ e. ap (λ (a : Asked). reads_whole a) (ap said c.in-Count.is)
+
+pub returns-in-Count-clause-untouched : goal.returns-in-Count-clause-untouched
+returns-in-Count-clause-untouched g c = λ other. c.run_count.ensures.untouched
+
+pub returns-in-Count-clause-never_usage : goal.returns-in-Count-clause-never_usage
+returns-in-Count-clause-never_usage g c = λ e. c.run_count.ensures.never_usage e
+
+pub returns-in-Count-clause-input : goal.returns-in-Count-clause-input
+returns-in-Count-clause-input g c = λ told.
+    taken_by c.args.words _ (g.S.Source.left c.args.input.now) (g.S.Source.left c.run_count.new.input) c.run_count.result
+    (ap said c.in-Count.is) (c.run_count.ensures.input told)
+
+pub returns-in-Count-clause-damage : goal.returns-in-Count-clause-damage
+returns-in-Count-clause-damage g c = record { never = c.run_count.ensures.whole; evident = c.run_count.ensures.evident }
+
+pub returns-in-Count-clause-leaves : goal.returns-in-Count-clause-leaves
+returns-in-Count-clause-leaves g c = λ told.
+    left_by c.args.words _
+    (called g.S.Source.told g.K.Sink.told (g.S.Source.left c.args.input.now) (g.F.Pages.files c.args.folder.now) (g.F.Pages.files c.run_count.new.folder)
+    (g.K.Sink.written c.args.out.now) (g.K.Sink.written c.run_count.new.out) (g.F.Pages.reads c.args.folder.now) (g.F.Pages.reads c.run_count.new.folder))
+    c.run_count.result (ap said c.in-Count.is) (record { files = c.run_count.ensures.files told; reads = λ source. c.run_count.ensures.reads source told })

@@ -1,0 +1,6 @@
+mod Asking
+mod Counted
+mod Scoped
+mod Answering
+mod Telling
+mod Stopping

@@ -1,0 +1,26 @@
+-- What is told of a line is sent.
+use Rattle.std.proofs.Common.{Bool, IsTrue, refl}
+use Rattle.page_cache.specs.declared.faults.PageFault.TheVariants as page
+use Rattle.run_status.proofs.Ending.{fault_cause, page_memory, page_none, send_cause, sent_as, sink_shows}
+use Rattle.run_status.proofs.Telling.{sent_line}
+use Rattle.count_queries.specs.Counted.{TellsCount, bare}
+use Rattle.count_queries.proofs.run.send_bare.Goals as goal
+
+pub returns-in-Ok-clause-ends : goal.returns-in-Ok-clause-ends
+returns-in-Ok-clause-ends g c =
+    sent_line (IsTrue g.K.Sink.told) (TellsCount bare) c.args.number c.args.line.now _ _ _ _ c.in-Ok.refused c.clear.ensures.items c.in-Ok.ensures c.send.result
+    c.send.ensures.known c.send.ensures.cause
+    (λ sink. sent_as _ _ _ _ c.send.result c.as_slice.ensures.value (c.send.ensures.text sink))
+
+pub returns-in-Ok-clause-cause : goal.returns-in-Ok-clause-cause
+returns-in-Ok-clause-cause g c faults =
+    send_cause faults faults _ _ c.in-Ok.refused (page_none faults c.in-Ok.refused) c.send.result c.send.ensures.cause c.send.ensures.later c.send.ensures.sink
+
+pub returns-in-Err-clause-ends : goal.returns-in-Err-clause-ends
+returns-in-Err-clause-ends g c = λ sink. refl
+
+pub returns-in-Err-clause-cause : goal.returns-in-Err-clause-cause
+returns-in-Err-clause-cause g c faults = fault_cause {S = Bool} faults faults _ page.Memory (page_memory faults) _ refl
+
+pub returns-in-Ok-clause-undamaged : goal.returns-in-Ok-clause-undamaged
+returns-in-Ok-clause-undamaged g c = sink_shows _ c.send.result c.send.ensures.cause

@@ -1,0 +1,72 @@
+-- How lines are counted over the segments of a stored index, and what counting reads.
+use Rattle.std.specs.Prelude.{ℕ, ◌+◌, ◌≡◌, ◌≤◌, Bool, List, All, Some, Result, IfOk}
+use Rattle.outer_io.specs.Files.{Files}
+use Rattle.page_cache.specs.declared.cache.PageCache.{PageCache}
+use Rattle.page_cache.specs.declared.faults.PageFault.{PageFault}
+use Rattle.page_cache.specs.Cache.{Agrees}
+use Rattle.page_cache.specs.Causes.{HasPageCause}
+use Rattle.page_cache.specs.Evidence.{NotDamaged, OnDamage}
+use Rattle.commit_list.specs.Commits.{CommitData}
+use Rattle.documents.specs.Entries.{AreDocs}
+use Rattle.index_model.specs.State.{Index}
+use Rattle.stored_index.specs.Opening.{IsOpening, segments_pages}
+use Rattle.segment_view.specs.Parts.{AreRead, Contents, Part, heads_of, live_in_parts}
+use Rattle.segment_view.specs.Held.{HasOwnHead}
+use Rattle.index_opening.specs.Evidence.{IsEvident}
+use Rattle.run_status.specs.Told.{IsTold, Told, TellsLines}
+use Rattle.count_queries.specs.Counted.{IsScope, Scope, TellsCount}
+
+-- these segments with these files hold the documents of the index that is looked at
+pub record IsCounting (D : ℕ) (files : Files) (parts : List Part) (s : Scope) : Type 0 where
+  pub index : Index
+  pub state : s.state ≡ Some index
+  pub dims : index.dims ≡ D
+  pub parts_are : s.parts ≡ parts
+  pub contents : Contents
+  pub read : AreRead D files contents parts
+  pub next : ℕ
+  pub docs : AreDocs next (live_in_parts contents parts) index.docs
+
+-- this is told of the index that is looked at
+abbrev pub InScope : Scope → (Index → Told → Type 0) → Told → Type 0
+InScope s tells t = (i : Index) × (s.state ≡ Some i) × tells i t
+
+-- the kept pages agree with the files, and the heads are theirs
+abbrev pub AreTrue : ℕ → Files → List Part → PageCache → Type 0
+AreTrue D files parts cache = Agrees files cache × All (HasOwnHead D files) parts
+
+-- between two lines: the files, the kept pages, the folder's reads and faults, and the text
+pub record Place : Type 0 where
+  pub files : Files
+  pub cache : PageCache
+  pub reads : ℕ
+  pub faults : ℕ
+  pub text : List ℕ
+
+-- from the one place to the other it is told what there is to tell, no file changes, and no more is read than leaves
+-- that are touched
+pub record Answers (D : ℕ) (told : Type 0) (parts : List Part) (tells : Scope → Told → Type 0) (old new : Place)
+    (result : Result Bool PageFault) : Type 0 where
+  pub does : told → Agrees old.files old.cache → (s : Scope) → IsCounting D old.files parts s
+      → IfOk result (IsTold (tells s) old.text new.text)
+  pub files : told → new.files ≡ old.files
+  pub agrees : told → Agrees old.files old.cache → Agrees old.files new.cache
+  pub reads : (s : Scope) → IsCounting D old.files parts s → (t : Told) → tells s t → new.reads ≤ old.reads + t.touched
+  pub cause : HasPageCause old.faults new.faults result
+  pub whole : told → Agrees old.files old.cache → (s : Scope) → IsCounting D old.files parts s → NotDamaged result
+  pub evident : OnDamage result (IsEvident (told × AreTrue D old.files parts old.cache) old.files)
+
+-- ---- what is read
+
+-- after the commit is read: the pages of its segments' heads, indexes and live bits, and a page for each leaf that the
+-- lines touch
+abbrev pub OpensFew : Files → CommitData → List (List ℕ) → (old new : ℕ) → Type 0
+OpensFew files c lines old new =
+    (s : Scope) → IsScope files s → (t : Told) → TellsLines (TellsCount s) 1 lines t
+    → new ≤ old + segments_pages files c.listed (heads_of s.parts) + t.touched
+
+-- it reads at most the pages of opening, and a page for each leaf that the lines touch
+abbrev pub ReadsFew : Files → List (List ℕ) → (old new : ℕ) → Type 0
+ReadsFew files lines old new =
+    (pages : ℕ) → IsOpening files pages → (s : Scope) → IsScope files s → (t : Told)
+    → TellsLines (TellsCount s) 1 lines t → new ≤ old + pages + t.touched

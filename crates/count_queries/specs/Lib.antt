@@ -1,0 +1,5 @@
+pub mod Asks
+pub mod Seen
+pub mod Texts
+pub mod Counted
+pub mod Counts
