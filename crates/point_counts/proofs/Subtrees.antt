@@ -1,5 +1,4 @@
--- Subtrees: the entries of one leaf, those in a node's cell, how many there are below a node, and which leaves are
--- read.
+-- Subtrees: the entries of one leaf, those in a node's cell, how many there are below a node, and which leaves are read.
 use Rattle.std.proofs.Common.{◌≡◌, ℕ, ◌+◌, ◌-◌, ◌*◌, Bool, true, false, cond, min, List, length, ℤ, refl, sym, ap}
 use Rattle.std.proofs.Common.{subst, ◌∙◌, arith, length-append}
 use Rattle.std.proofs.Math.Nat.{add-mul}

@@ -8,8 +8,7 @@ ghost use Rattle.segment_view.specs.Parts.{Part, Contents, IsRead};
 ghost use Rattle.point_counts.specs.Costs.{is_clean};
 
 /// Each entry of a clean segment is live, and no number is that of two: the live numbers are as many as the entries,
-/// and
-/// each is that of one.
+/// and each is that of one.
 pub fn clean_segments_are_live()
     ensures live { (D : ℕ) (files : Files) (c : Contents) (p : Part) → IsRead D files c p → IsLiveSet p.live
         → is_clean p ≡ true

@@ -61,8 +61,7 @@ impl<const D: usize> GridPlan<D> {
     ghost use Rattle.point_counts.specs.Grids.{IsPlan, Judges, plan_of, column_of, row_of, bucket_count};
 
     /// The plan of these. The faults come in the order in which `GridFault` has them; a box without points has no
-    /// bucket.
-    /// Takes no memory.
+    /// bucket. Takes no memory.
     pub fn new(
         lo: Point<D>,
         hi: Point<D>,

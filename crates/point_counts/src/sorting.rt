@@ -24,8 +24,7 @@ pub(crate) enum Lie {
 /// A box whose points are counted, each at a place.
 ///
 /// `bounds` is the box, `place` says where a point of it is counted, and `parts` which cells are cut by the box's edge
-/// or have
-/// points of two places.
+/// or have points of two places.
 pub(crate) trait Sorting<const D: usize> {
     ghost bounds: { Self → Region };
 

@@ -30,8 +30,7 @@ use segment_file::SegmentHead;
 use std::alloc::Global;
 
 /// Counts the live entries at or below a node, each at its place. In a clean segment, each entry of which is live, only
-/// parted
-/// leaves are read.
+/// parted leaves are read.
 pub(crate) fn count_below<const D: usize, S: Sorting<D>, F: Pages>(
     alloc: Global,
     head: &SegmentHead<D>,
@@ -80,8 +79,7 @@ pub(crate) fn count_below<const D: usize, S: Sorting<D>, F: Pages>(
 }
 
 /// Whether the entries at or below a node are counted without a look at them: none, or in a clean segment all at one
-/// place. They
-/// are counted then.
+/// place. They are counted then.
 fn is_settled<const D: usize, S: Sorting<D>>(
     head: &SegmentHead<D>,
     node: &NodeAt<'_, D>,

@@ -16,7 +16,6 @@ use Rattle.documents.specs.Nearest.{nearest}
 use Rattle.documents.specs.NearestEntries.{ComesBefore, IsNearest, nears_of}
 use Rattle.documents.proofs.Lists.{nil_none, pairs_none}
 use Rattle.nearest_query.specs.Segments.{AreNearLeaves, bound_of}
-use Rattle.commit_list.specs.Commits.{CommitData}
 use Rattle.segment_file.specs.Heads.{Head}
 use Rattle.script_lang.specs.Reading.{Reading, Says, Fails, read}
 use Rattle.script_lang.specs.Requests.{Request, Viewed}
