@@ -9,8 +9,7 @@ use Rattle.command_words.specs.declared.Words.{Words}
 use Rattle.drawn_points.specs.Generated.{generated}
 use Rattle.explain_queries.specs.Explained.{IsScope, Scope, silence}
 use Rattle.load_points.specs.Loaded.{loaded}
-use Rattle.run_status.specs.Told.{EndsTold}
-use Rattle.run_status.proofs.Telling.{none_told}
+use Rattle.run_status.specs.Told as telling
 use Rattle.count_queries.specs.Counted as counts
 use Rattle.bkd_top.specs.Calls.{Call, LeavesAsked, OnAsked, TakesInput, WholeLeaves}
 use Rattle.bkd_top.specs.Checking.{EndsCheck}
@@ -54,7 +53,15 @@ no_memory_ends told (Explain cache) b files new keeps same still =
 no_memory_ends told Check b files new keeps same still = (same, still)
 no_memory_ends told (Generate docs seed forks) b files new keeps same still = record { text = still; stored = inl keeps }
 no_memory_ends told (Session cache forks) b files new keeps same still = stops_here {told = told} (start b.state (lines_of b.input) b.written) files new still (inl keeps)
-no_memory_ends told (Count cache) b files new keeps same still = λ scope is. none_told told (counts.TellsCount scope) 1 (lines_of b.input) b.written new still
+no_memory_ends told (Count cache) b files new keeps same still =
+    λ scope is. record {
+      done = [];
+      rest = lines_of b.input;
+      whole = refl;
+      of_done = telling.silence;
+      all = refl;
+      text = λ t. still t ∙ sym (append-nil b.written);
+    }
 
 -- what passes a test of what is asked does not fail it
 pub is_so : {P : Type 0} (test : Asked → Bool) (w : Words) (a : Asked) → said w ≡ a → test a ≡ true → test (said w) ≡ false → P
@@ -94,7 +101,7 @@ module _ (told : Type 0) (w : Words) (b : Before) (files : Files) (new : List �
   session_asked cache forks is ends = subst (λ (a : Asked). EndsAsked told a b files new s) (sym is) ends
 
   pub count_ends : (cache : ℕ) → said w ≡ Count cache
-      → ((scope : counts.Scope) → counts.IsScope b.files scope → EndsTold told (counts.TellsCount scope) (lines_of b.input) b.written new s)
+      → ((scope : counts.Scope) → counts.IsScope b.files scope → telling.EndsTold told (counts.TellsCount scope) (lines_of b.input) b.written new s)
       → EndsAsked told (said w) b files new s
   count_ends cache is ends = subst (λ (a : Asked). EndsAsked told a b files new s) (sym is) ends
 
