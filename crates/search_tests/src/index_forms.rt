@@ -49,7 +49,7 @@ const ROWS: [Row; 4] = [
 ];
 
 /// The segment in each form, and whether its leaves have cells of their own.
-const FORMS: [(Stored, bool); 3] = [
+pub const FORMS: [(Stored, bool); 3] = [
     (
         Stored {
             id: 7,

@@ -7,6 +7,8 @@
 #[cfg(test)]
 mod box_relations;
 #[cfg(test)]
+mod counts;
+#[cfg(test)]
 mod drawn_edges;
 #[cfg(test)]
 mod index_forms;

@@ -95,17 +95,27 @@ fn check_row(
     Ok(())
 }
 
-#[test]
-fn a_leaf_of_333_and_one_of_one(rt: HostRuntime) -> Result<(), Fail> {
-    let leaves = leaves(rt.alloc())?;
+/// A folder with the two leaves, and their segment's head.
+pub fn open_row(alloc: Global) -> Result<(MemFolder, SegmentHead<2>), Fail> {
+    let leaves = leaves(alloc)?;
     let segment = Stored {
         id: 7,
         fields: &FIELDS,
         index: &INDEX,
         leaves: leaves.as_slice(),
     };
-    let (mut folder, head) = open_alone::<2>(rt.alloc(), &segment)?;
-    let live = LiveBits::of_docs(rt.alloc(), numbers(rt.alloc())?.as_slice())?;
+    open_alone::<2>(alloc, &segment)
+}
+
+/// All numbers are live.
+pub fn live_row(alloc: Global) -> Result<LiveBits, Fail> {
+    Ok(LiveBits::of_docs(alloc, numbers(alloc)?.as_slice())?)
+}
+
+#[test]
+fn a_leaf_of_333_and_one_of_one(rt: HostRuntime) -> Result<(), Fail> {
+    let (mut folder, head) = open_row(rt.alloc())?;
+    let live = live_row(rt.alloc())?;
     for row in ROWS {
         check_row(&rt, rt.alloc(), &mut folder, &head, &live, row)?;
     }

@@ -28,7 +28,7 @@ const TWICE: Stored = Stored {
 };
 
 /// 7 at 6, and 8 at 20.
-const BUFFER: [Entry<1>; 2] = [
+pub const BUFFER: [Entry<1>; 2] = [
     Entry {
         doc: 7,
         point: Point { c: [6] },
@@ -91,7 +91,7 @@ fn insert(
 }
 
 /// The three segments and the folder that holds them.
-fn three(alloc: Global) -> Result<(MemFolder, Segments<1>), Fail> {
+pub fn three(alloc: Global) -> Result<(MemFolder, Segments<1>), Fail> {
     let mut folder = MemFolder::new(alloc, Vec::new(alloc));
     let mut segments = Segments::new(alloc);
     let live = LiveBits::of_docs(alloc, &[5])?;
