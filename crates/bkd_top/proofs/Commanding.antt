@@ -175,7 +175,7 @@ none_left_of (Explain cache) source sink input written files reads = record { fi
 none_left_of (Count cache) source sink input written files reads = record { files = refl; reads = λ told pages opening scope is t tells. omega arith }
 none_left_of (Load columns forks) source sink input written files reads = no_whole files
 none_left_of (Generate docs seed forks) source sink input written files reads = no_whole files
-none_left_of Check source sink input written files reads = record { ends = λ told. refl; files = refl; reads = λ pages is. omega arith }
+none_left_of Check source sink input written files reads = record { ends = λ told. refl; files = refl; reads = λ pages is. omega arith; named = tt }
 
 pub none_left : (o : Option Asked) (source sink : Bool) (input written : List ℕ) (files : Files) (reads : ℕ)
     → OnAsked (λ a. LeavesAsked a
