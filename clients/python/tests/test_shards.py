@@ -197,7 +197,8 @@ def test_a_worker_that_dies_in_a_query(doomed, tmp_path, deadly):
         with pytest.raises(bkd.WorkerLost, match="again and again"):
             index.box((0, 0), (5, 5))
         deaths(0)
-        doomed.wait_for_workers(2, timeout=60)
+        # (one that died before its nanny knew of it stays away)
+        doomed.wait_for_workers(1, timeout=60)
         assert index.nearest(1, (7, 7)) == [(7, 0)]
 
 
