@@ -116,7 +116,7 @@ fn runs_do_not_grow_a_folder(rt: HostRuntime) -> Result<(), Fail> {
     let (first, _) = left(&rt, alloc, "create 1\nadd 1\n", &mut folder)?;
     for _run in 0..6 {
         let (files, _) = left(&rt, alloc, AGAIN, &mut folder)?;
-        assert!(&rt; files <= first + 2);
+        assert!(&rt; files <= first.saturating_add(2));
     }
     Ok(())
 }
@@ -125,7 +125,7 @@ fn runs_do_not_grow_a_folder(rt: HostRuntime) -> Result<(), Fail> {
 #[test]
 fn a_removal_that_fails(rt: HostRuntime) -> Result<(), Fail> {
     let alloc = rt.alloc();
-    let mut removals = 0;
+    let mut removals = 0u32;
     // (the first calls open the index)
     for call in 8..64 {
         let mut folder = MemFolder::new(alloc, Vec::new(alloc));
@@ -146,7 +146,7 @@ fn a_removal_that_fails(rt: HostRuntime) -> Result<(), Fail> {
         }
         assert_eq!(&rt; code(&status), 4);
         if look.as_str() == "hits 3\n0\n1\n2\n" {
-            removals += 1;
+            removals = removals.saturating_add(1);
         }
     }
     Err("too many calls".into())
