@@ -134,6 +134,7 @@ def test_lines_of_count_that_are_refused(real, tmp_path):
     need(real, "count")
     assert commands.count(tmp_path, [commands.points_in((0, 0), (1, 1))], program=real)[0].reason == "no index"
     with bkd.open(tmp_path, program=real) as index:
+        index.commit()
         for wrong, reason in [
             (lambda: index.grid(0, 1, 0, 1, (0, 0), (9, 9)), "bad grid"),
             (lambda: index.grid(0, 0, 1, 1, (0, 0), (9, 9)), "bad grid"),

@@ -171,7 +171,7 @@ for name in os.listdir({str(deaths)!r}) if len(sys.argv) > 2 else ():
         os.remove(os.path.join({str(deaths)!r}, name))
     except FileNotFoundError:
         continue
-    time.sleep(1)
+    time.sleep(3)
     os.kill(os.getppid(), signal.SIGKILL)
     sys.exit(1)
 os.execv({STAND_IN[0]!r}, [*{STAND_IN!r}, *sys.argv[1:]])
