@@ -44,7 +44,7 @@ const FILES: &[FileName] = &[
     SECOND_LIVE,
 ];
 
-/// A snapshot needs the segments behind a merge, up to the end of its run; nothing needs their live numbers.
+/// A snapshot needs the segments behind a merge, up to the end of its run, which leaves none of their files.
 const SNAPSHOT_AT_THE_END: &[Step] = &[
     Step::Call(RUN, &[], TWO, ""),
     Step::There(FILES, &[MERGED, MERGED_LIVE]),
@@ -54,15 +54,7 @@ const SNAPSHOT_AT_THE_END: &[Step] = &[
         &[("snapshot before\nmerge\n", "ok\nok\n"), ALL],
         "",
     ),
-    Step::There(
-        &[
-            FileName::Segment(0),
-            FileName::Segment(1),
-            MERGED,
-            MERGED_LIVE,
-        ],
-        &[FIRST_LIVE, SECOND_LIVE],
-    ),
+    Step::There(&[MERGED, MERGED_LIVE], FILES),
     Step::Call(RUN, &[], &[ALL], ""),
 ];
 
