@@ -38,14 +38,13 @@ from bkd.formats.pages import COMMIT, LIVE, PAGE, PAYLOAD, SEGMENT, FileName, di
 PROGRAM = [os.environ.get("BKD", os.path.join(HERE, "..", "crates", "bkd", "out", "bkd"))]
 PLAIN, SEALED = "plainly", "sealed anew"
 SHOWN = 5
-SECONDS = 60
 
 Change = collections.namedtuple("Change", "file at bits how")
 
 
 def run(words, text=""):
     """Status, answers and the last line of standard error."""
-    done = subprocess.run(words, input=text.encode(), capture_output=True, timeout=SECONDS, check=False)
+    done = subprocess.run(words, input=text.encode(), capture_output=True, check=False)
     said = done.stderr.decode().strip().splitlines()
     return done.returncode, done.stdout.decode(), said[-1] if said else ""
 
