@@ -14,7 +14,7 @@ from .program import Program, find
 def clean(folder: Folder, *, program: Which = None) -> list[str]:
     """Removes the files of an index's own names that its commit doesn't list, and answers their names, sorted.
 
-    A snapshot, a begun merge or a call that failed leaves such files. First every page that the commit needs is read,
+    A run that was stopped or failed leaves such files. First every page that the commit needs is read,
     by `bkd.formats`, and by the program's `check` where it has that command, and `Damaged` is raised where one isn't
     whole; so is `NoIndex` where there is no commit. Then nothing was removed. Files of other names stay. The folder's
     lock is held alone; who has it raises `Locked`.
