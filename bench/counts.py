@@ -53,7 +53,7 @@ class Peers:
             rtree(data).done()
 
     def scanned(self, kind, size, times, wanted):
-        """The seconds that the scan takes for one question; `size` is half a square's side, or the buckets of a side."""
+        """The seconds that the scan takes for one question: `size` is half a square's side, or the buckets of one."""
         if not self.scan:
             return None
         once, more = (self.run_scan(kind, size, n, wanted) for n in (1, 1 + times))
