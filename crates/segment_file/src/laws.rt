@@ -1,15 +1,11 @@
 //! Laws of the files of segments. Each function has an empty body: its contract is the law.
 
-ghost use Rattle.std.specs.Prelude.{◌≡◌, ℕ, List, [], length, filter};
-ghost use Rattle.point_codec.specs.Points.{Item, Region};
-ghost use Rattle.live_bits.specs.LiveSet.{LiveSet, is_live};
-ghost use Rattle.inner_pack.specs.Places.{front};
-ghost use Rattle.inner_pack.specs.Trees.{IndexTree};
-ghost use Rattle.inner_pack.specs.Bodies.{HasTree};
+ghost use Rattle.std.specs.Prelude.{◌≡◌, ℕ, List, length};
+ghost use Rattle.point_codec.specs.Points.{Item};
+ghost use Rattle.live_bits.specs.LiveSet.{LiveSet};
 ghost use Rattle.segment_file.specs.Heads.{Head, HasRanges};
 ghost use Rattle.segment_file.specs.Segments.{IsHeadOf, IsSegment};
 ghost use Rattle.segment_file.specs.LiveFiles.{IsLiveFile};
-ghost use Rattle.segment_file.specs.Gathers.{Gathers};
 
 use inner_pack::one_tree;
 
@@ -35,11 +31,4 @@ pub fn one_live_set()
 pub fn segments_are_counted()
     ensures entries { (D : ℕ) (bytes : List ℕ) (h : Head) (items : List Item) → IsSegment D bytes h items → length items ≡ h.entries }
     ensures ranges { (D : ℕ) (bytes : List ℕ) (h : Head) (items : List Item) → IsSegment D bytes h items → HasRanges D h }
-{}
-
-/// What the leaves of a head have, where the file has this head, are the entries of its segment.
-pub fn gathered_from_segment()
-    ensures { (D : ℕ) (bytes : List ℕ) (h : Head) (live : LiveSet) (new : List Item) → IsHeadOf D bytes h
-        → ((root : Region) (t : IndexTree) → HasTree D h.index root t → Gathers D bytes h 0 front t live [] new)
-        → (items : List Item) × IsSegment D bytes h items × (new ≡ filter (λ x. is_live live x.doc) items) }
 {}

@@ -19,7 +19,7 @@ mod read;
 mod write;
 
 pub use head::SegmentHead;
-pub use laws::{gathered_from_segment, one_head, one_live_set, one_segment, segments_are_counted};
+pub use laws::{one_head, one_live_set, one_segment, segments_are_counted};
 pub use leaf::{bad_leaf, leaf_in, load_leaf};
 pub use live::{read_live, write_live};
 pub use open::open_segment;

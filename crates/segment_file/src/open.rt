@@ -38,6 +38,9 @@ pub fn open_segment<const D: usize, F: Pages>(
     requires { (1 ≤ D) × (D ≤ 8) }
     ensures files { IsTrue F.told → F.files folder.new ≡ F.files folder.old }
     ensures reads { IfOk result (λ h. F.reads folder.new ≤ F.reads folder.old + 1 + index_pages h) }
+    // and where the file has a head, whatever is answered
+    ensures most { IsTrue F.told → (h : Head) → h.id ≡ id → IsHeadOf D (bytes_of (F.files folder.old (Segment id))) h
+        → F.reads folder.new ≤ F.reads folder.old + 1 + index_pages h }
     // no leaf page is read, whatever is answered
     ensures no_leaf { IsTrue F.told → (n : ℕ) × (F.reads folder.new ≤ F.reads folder.old + n) × AreBeforeLeaves (bytes_of (F.files folder.old (Segment id))) n }
     ensures cause { HasPageCause (F.faults folder.old) (F.faults folder.new) result }

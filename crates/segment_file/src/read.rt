@@ -14,7 +14,7 @@ ghost use Rattle.page_cache.specs.Cache.{IsKept, KeepsFile, Agrees};
 ghost use Rattle.page_cache.specs.Causes.{HasPageCause};
 ghost use Rattle.page_cache.specs.Evidence.{OnDamage, NotDamaged};
 ghost use Rattle.segment_file.specs.Heads.{page_of};
-ghost use Rattle.segment_file.specs.Segments.{HoldsTree, IsSegment};
+ghost use Rattle.segment_file.specs.Segments.{HoldsTree, IsHeadOf, IsSegment};
 ghost use Rattle.segment_file.specs.Gathers.{Gathers, ReadsEach, last_page};
 ghost use Rattle.segment_file.specs.Damages.{IsLeafDamage, IsLeafDamageOf};
 
@@ -46,9 +46,12 @@ pub fn read_entries<const D: usize, F: Pages>(
     ensures cause { HasPageCause (F.faults folder.old) (F.faults folder.new) result }
     ensures others { (i : ℕ) → KeepsFile cache.new i → KeepsFile cache.old i ⊎ (i ≡ head.now.id) }
     ensures agrees { IsTrue F.told → Agrees (F.files folder.old) cache.old → Agrees (F.files folder.old) cache.new }
-    // whatever else the file has: its head page may say another head
-    ensures spelled { IsTrue F.told → Agrees (F.files folder.old) cache.old → (root : Region) (t : IndexTree) → HasTree D head.now.index root t
+    // the leaves are those of this head, also where the file has another one
+    ensures gathers { IsTrue F.told → Agrees (F.files folder.old) cache.old → (root : Region) (t : IndexTree) → HasTree D head.now.index root t
         → IfOk result (λ v. Gathers D (bytes_of (F.files folder.old (Segment head.now.id))) head.now 0 front t live.now [] (items_of v.items)) }
+    ensures spelled { IsTrue F.told → Agrees (F.files folder.old) cache.old → IsHeadOf D (bytes_of (F.files folder.old (Segment head.now.id))) head.now
+        → IfOk result (λ v. (items : List Item) × IsSegment D (bytes_of (F.files folder.old (Segment head.now.id))) head.now items
+        × (items_of v.items ≡ filter (λ x. is_live live.now x.doc) items)) }
     ensures entries { IsTrue F.told → Agrees (F.files folder.old) cache.old → (items : List Item) → IsSegment D (bytes_of (F.files folder.old (Segment head.now.id))) head.now items
         → IfOk result (λ v. items_of v.items ≡ filter (λ x. is_live live.now x.doc) items) }
     // whatever the folder gives

@@ -113,3 +113,30 @@ returns-clause-no_leaf g c = λ told.
 
 pub returns-in_err-first-clause-no_leaf : goal.returns-in_err-first-clause-no_leaf
 returns-in_err-first-clause-no_leaf g c = λ told. (1, c.read_head.ensures.reads, OnePage (omega arith))
+
+pub returns-in_err-index-clause-most : goal.returns-in_err-index-clause-most
+returns-in_err-index-clause-most g c = λ told h ids file.
+    let name = Segment c.args.id in
+    let files = g.F.Pages.files c.args.folder.now in
+    let p = head_parts g.row.D (bytes_of (files name)) c.args.id h ids file in
+    let payload : first_payload c.in_ok-first.first ≡ payload_of (page_at (bytes_of (files name)) 0) = first_payload_is files c.in_ok-first.first name c.in_ok-first.ensures.name (c.in_ok-first.ensures.first told) in
+    let said = head_said g.row.D (bytes_of (files name)) c.args.id h p (first_payload c.in_ok-first.first) c.in_ok-first.fields payload c.in_ok-first.ensures.fields in
+    omega (arith, ap (λ (x : Fields). pages_for x.index_length) said, c.read_head.ensures.reads, c.read_index.ensures.reads)
+
+pub returns-in_err-agree-clause-most : goal.returns-in_err-agree-clause-most
+returns-in_err-agree-clause-most g c = λ told h ids file.
+    let name = Segment c.args.id in
+    let files = g.F.Pages.files c.args.folder.now in
+    let p = head_parts g.row.D (bytes_of (files name)) c.args.id h ids file in
+    let payload : first_payload c.in_ok-first.first ≡ payload_of (page_at (bytes_of (files name)) 0) = first_payload_is files c.in_ok-first.first name c.in_ok-first.ensures.name (c.in_ok-first.ensures.first told) in
+    let said = head_said g.row.D (bytes_of (files name)) c.args.id h p (first_payload c.in_ok-first.first) c.in_ok-first.fields payload c.in_ok-first.ensures.fields in
+    omega (arith, ap (λ (x : Fields). pages_for x.index_length) said, c.read_head.ensures.reads, c.read_index.ensures.reads)
+
+pub returns-clause-most : goal.returns-clause-most
+returns-clause-most g c = λ told h ids file.
+    let name = Segment c.args.id in
+    let files = g.F.Pages.files c.args.folder.now in
+    let p = head_parts g.row.D (bytes_of (files name)) c.args.id h ids file in
+    let payload : first_payload c.in_ok-first.first ≡ payload_of (page_at (bytes_of (files name)) 0) = first_payload_is files c.in_ok-first.first name c.in_ok-first.ensures.name (c.in_ok-first.ensures.first told) in
+    let said = head_said g.row.D (bytes_of (files name)) c.args.id h p (first_payload c.in_ok-first.first) c.in_ok-first.fields payload c.in_ok-first.ensures.fields in
+    omega (arith, ap (λ (x : Fields). pages_for x.index_length) said, c.read_head.ensures.reads, c.read_index.ensures.reads)

@@ -8,7 +8,7 @@ use Rattle.point_codec.specs.Seen.{items_of}
 use Rattle.live_bits.specs.LiveSet.{is_live}
 use Rattle.inner_pack.specs.Places.{front}
 use Rattle.inner_pack.specs.Bodies.{HasTree}
-use Rattle.segment_file.specs.Segments.{IsSegment}
+use Rattle.segment_file.specs.Segments.{IsHeadOf, IsSegment}
 use Rattle.segment_file.proofs.Unique.{tree_once}
 use Rattle.segment_file.proofs.Subtrees.{count_shaped}
 use Rattle.segment_file.proofs.read.read_entries.Goals as goal
@@ -50,11 +50,22 @@ returns-in_err-gather-clause-whole g c = λ told agrees items p.
     let e = err_from_is_err_and c.from_residual.result c.from_residual.ensures.1 in
     rw (e.1, e.2) (c.in_err-gather.ensures.whole told agrees 0 front p.root p.tree (c.walk-root.ensures p.root p.tree here) items p.holds)
 
-pub returns-clause-spelled : goal.returns-clause-spelled
-returns-clause-spelled g c = λ told agrees root t has.
+pub returns-clause-gathers : goal.returns-clause-gathers
+returns-clause-gathers g c = λ told agrees root t has.
     let here : HasTree g.row.D c.index.result.now root t = rw c.index.ensures.value has in
     let got = c.in_ok-gather.ensures.gathers told agrees 0 front root t (c.walk-root.ensures root t here) in
     record { items = got.items; holds = got.holds; grew = got.grew ∙ ap (λ (l : List Item). l ++ filter (λ (x : Item). is_live c.args.live.now x.doc) got.items) (ap (λ l. items_of l) c.new-entries.ensures.items) }
+
+pub returns-clause-spelled : goal.returns-clause-spelled
+unfolding IsSegment IsHeadOf
+returns-clause-spelled g c = λ told agrees p.
+    let has = p.spells.has in
+    let here : HasTree g.row.D c.index.result.now p.root p.tree = rw c.index.ensures.value has in
+    let got = c.in_ok-gather.ensures.gathers told agrees 0 front p.root p.tree (c.walk-root.ensures p.root p.tree here) in (
+      got.items,
+      record { head_is = p; root = p.root; tree = p.tree; has = has; holds = got.holds },
+      got.grew ∙ ap (λ (l : List Item). l ++ filter (λ (x : Item). is_live c.args.live.now x.doc) got.items) (ap (λ l. items_of l) c.new-entries.ensures.items),
+    )
 
 pub returns-clause-entries : goal.returns-clause-entries
 unfolding IsSegment
