@@ -32,11 +32,16 @@ pub data IsFirstListed (told : Type 0) (files : Files) (c : CommitData) (d : Dam
   -- by segment its head, then its live bits; then the numbers of all live bits
   InOpening : IsFirstOpened told files c d → IsFirstListed told files c d
   -- then the leaves by segment
-  InLeaves : (parts : List Part) → AreOpened told files c parts → IsFirstLeaf c.dims files parts d → IsFirstListed told files c d
-  -- then what was found in the leaves: by segment live numbers without an entry, the least crowded number, the points given
-  InFound : (parts : List Part) (findings : List Finding) → AreOpened told files c parts → AllZip (IsFinding c.dims files) parts findings → IsWrong c.listed c.given findings d → IsFirstListed told files c d
+  InLeaves : (parts : List Part) → AreOpened told files c parts → IsFirstLeaf c.dims files parts d
+      → IsFirstListed told files c d
+  -- then what was found in the leaves: by segment live numbers without an entry, the least crowded number, the points
+  -- given
+  InFound : (parts : List Part) (findings : List Finding) → AreOpened told files c parts
+      → AllZip (IsFinding c.dims files) parts findings → IsWrong c.listed c.given findings d
+      → IsFirstListed told files c d
 
 -- The Commit file comes before all.
 pub data IsFirst (told : Type 0) (files : Files) (d : Damage) : Type 0 where
   OfCommit : IsOfFile Commit d → IsFirst told files d
-  OfListed : (c : CommitData) → IsCommitFile (bytes_of (files Commit)) c → IsFirstListed told files c d → IsFirst told files d
+  OfListed : (c : CommitData) → IsCommitFile (bytes_of (files Commit)) c → IsFirstListed told files c d
+      → IsFirst told files d

@@ -59,10 +59,12 @@ pair_of name m n f = fault_weaker f (λ d. IsPairDamage name m n d × (m ≢ n))
 
 first_from : (T : Type 0) (mid files : Files) (c : CommitData) (s : Listed) (d : Damage) → (T → mid ≡ files) → IsFirstIn T mid c s d → IsFirstIn T files c s d
 first_from T mid files c s d same (OfHead h) = OfHead h
-first_from T mid files c s d same (OfLive head has leaf entries h) = OfLive head (λ t. subst (λ (f : Files). HasHead c.dims f s head) (same t) (has t)) leaf entries h
+first_from T mid files c s d same (OfLive head has leaf entries h) = OfLive head (λ t. subst (λ (f : Files). HasHead c.dims f s head) (same t) (has t)) leaf
+    entries h
 
 -- one segment more, as the loop over the list has it
-pub first_next : (T : Type 0) (mid files : Files) (c : CommitData) (xs : List Listed) (i : ℕ) (s : Listed) (parts : List Part) (f : PageFault) → xs ≡ c.listed → (T → mid ≡ files) → i < length xs
+pub first_next : (T : Type 0) (mid files : Files) (c : CommitData) (xs : List Listed) (i : ℕ) (s : Listed) (parts : List Part) (f : PageFault) → xs ≡ c.listed
+    → (T → mid ≡ files) → i < length xs
     → AllZip (IsOpened T files c) (take i c.listed) parts → FaultShows (IsFirstIn T mid c (get_or xs i s)) f → FaultShows (IsFirstListed T files c) f
 first_next T mid files c xs i s parts f is same lt opened =
     fault_weaker f (IsFirstIn T mid c (get_or xs i s)) (IsFirstListed T files c)

@@ -1,4 +1,5 @@
--- Which damage opening an index tells: the first one, by segment the head before the live bits, and then the numbers of all.
+-- Which damage opening an index tells: the first one, by segment the head before the live bits, and then the numbers
+-- of all.
 use Rattle.std.specs.Prelude.{ℕ, ◌≡◌, List, take, slice_get, Some}
 use Rattle.std.specs.List.{AllZip}
 use Rattle.outer_io.specs.declared.file_name.FileName.{FileName}
@@ -6,7 +7,8 @@ use Rattle.outer_io.specs.declared.file_name.FileName.TheVariants.{Segment, Live
 use Rattle.outer_io.specs.Files.{Files}
 use Rattle.live_bits.specs.LiveSet.{LiveSet}
 use Rattle.page_cache.specs.declared.faults.Damage.{Damage}
-use Rattle.page_cache.specs.declared.faults.Damage.TheVariants.{Page, Leaf, Body, Missing, Size, Unequal, Beyond, Doubled}
+use Rattle.page_cache.specs.declared.faults.Damage.TheVariants.{Page, Leaf, Body, Missing}
+use Rattle.page_cache.specs.declared.faults.Damage.TheVariants.{Size, Unequal, Beyond, Doubled}
 use Rattle.commit_list.specs.declared.listed.Listed.{Listed}
 use Rattle.commit_list.specs.Commits.{CommitData}
 use Rattle.segment_file.specs.Heads.{Head}
@@ -41,7 +43,8 @@ IsOfLeast n sets (Unequal file said found) = ⊥
 -- the damage is one of the segment's head, or of its live bits where its head is as the commit lists it
 pub data IsFirstIn (told : Type 0) (files : Files) (c : CommitData) (s : Listed) (d : Damage) : Type 0 where
   OfHead : IsOfFile (Segment s.segment) d → IsFirstIn told files c s d
-  OfLive : (head : Head) → (told → HasHead c.dims files s head) → head.leaf ≡ c.leaf → head.entries ≡ s.entries → IsOfFile (Live s.segment s.generation) d → IsFirstIn told files c s d
+  OfLive : (head : Head) → (told → HasHead c.dims files s head) → head.leaf ≡ c.leaf → head.entries ≡ s.entries
+      → IsOfFile (Live s.segment s.generation) d → IsFirstIn told files c s d
 
 -- so it is of the first listed segment that can't be opened
 pub record IsFirstListed (told : Type 0) (files : Files) (c : CommitData) (d : Damage) : Type 0 where
@@ -55,4 +58,5 @@ pub record IsFirstListed (told : Type 0) (files : Files) (c : CommitData) (d : D
 -- or, where all can, of the numbers
 pub data IsFirstOpened (told : Type 0) (files : Files) (c : CommitData) (d : Damage) : Type 0 where
   InSegment : IsFirstListed told files c d → IsFirstOpened told files c d
-  InNumbers : (parts : List Part) → AllZip (IsOpened told files c) c.listed parts → IsOfLeast c.next (lives_of parts) d → IsFirstOpened told files c d
+  InNumbers : (parts : List Part) → AllZip (IsOpened told files c) c.listed parts
+      → IsOfLeast c.next (lives_of parts) d → IsFirstOpened told files c d

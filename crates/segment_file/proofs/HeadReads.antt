@@ -160,7 +160,8 @@ pub head_said : (D : ℕ) (bytes : List ℕ) (id : ℕ) (h : Head) (p : HeadOf D
 head_said D bytes id h p payload f same has = fields_same payload f (fields_of D h (pages_of p.tree)) has p.are (same ∙ p.payload)
 
 -- the first page and those of the index that its fields say are no leaf pages
-pub before_leaves : (bytes payload : List ℕ) (f : HeadFields) → payload ≡ payload_of (page_at bytes 0) → HasFields payload f → AreBeforeLeaves bytes (1 + pages_for f.index_length)
+pub before_leaves : (bytes payload : List ℕ) (f : HeadFields) → payload ≡ payload_of (page_at bytes 0) → HasFields payload f
+    → AreBeforeLeaves bytes (1 + pages_for f.index_length)
 before_leaves bytes payload f same has = WithIndex (fields_said f) has.are (sym same ∙ has.is) (omega arith)
 
 pub before_leaves_of : (D : ℕ) (bytes : List ℕ) (h : Head) (n : ℕ) → IsHeadOf D bytes h → AreBeforeLeaves bytes n → n ≤ 1 + index_pages h
@@ -168,7 +169,8 @@ unfolding IsHeadOf
 before_leaves_of D bytes h n p (OnePage one) = omega (arith, one)
 before_leaves_of D bytes h n p (WithIndex f are is few) =
     let g = fields_of D h (pages_of p.tree) in
-    let same = fields_unique f g (zeros f) (zeros g) (narrow_fields f are) (narrow_fields g (head_fields D h (pages_of p.tree) p.spells.ranges p.spells.said_fits)) (sym is ∙ p.spells.first) in
+    let same = fields_unique f g (zeros f) (zeros g) (narrow_fields f are)
+    (narrow_fields g (head_fields D h (pages_of p.tree) p.spells.ranges p.spells.said_fits)) (sym is ∙ p.spells.first) in
     omega (arith, few, ap (λ (l : ℕ). pages_for l) same.index_length)
 
 -- all payloads before the leaf pages

@@ -9,7 +9,8 @@ use Rattle.inner_pack.specs.Bodies.{HasTree, pages_of, right_begin}
 use Rattle.page_file.specs.Page.{payload_of}
 use Rattle.page_cache.specs.FilePages.{page_at, IsFilePage, ArePages, payloads_of}
 use Rattle.page_cache.specs.Bodies.{filled, pages_for}
-use Rattle.segment_file.specs.Heads.{Head, Fields, AreFields, HasRanges, fields_of, fields_bytes, index_pages, page_of, count_of}
+use Rattle.segment_file.specs.Heads.{Head, Fields, AreFields, HasRanges}
+use Rattle.segment_file.specs.Heads.{fields_of, fields_bytes, index_pages, page_of, count_of}
 
 -- ---- the head and the index
 
@@ -34,10 +35,12 @@ pub record HeadParts (D : ℕ) (bytes : List ℕ) (head : Head) : Type 0 where
 unfoldable pub IsHeadOf : ℕ → List ℕ → Head → Type 0
 IsHeadOf D bytes head = HeadParts D bytes head
 
--- no more pages than stand before the leaves of the file: its first page, and those of the index where that page says fields
+-- no more pages than stand before the leaves of the file: its first page, and those of the index where that page says
+-- fields
 pub data AreBeforeLeaves (bytes : List ℕ) (pages : ℕ) : Type 0 where
   OnePage : pages ≤ 1 → AreBeforeLeaves bytes pages
-  WithIndex : (f : Fields) → AreFields f → payload_of (page_at bytes 0) ≡ filled (fields_bytes f) → pages ≤ 1 + pages_for f.index_length → AreBeforeLeaves bytes pages
+  WithIndex : (f : Fields) → AreFields f → payload_of (page_at bytes 0) ≡ filled (fields_bytes f)
+      → pages ≤ 1 + pages_for f.index_length → AreBeforeLeaves bytes pages
 
 -- ---- the leaves
 

@@ -70,7 +70,8 @@ pub fn read_live<F: Pages>(
     ensures reads { IsTrue F.told → (live : LiveSet) → IsLiveFile id generation (bytes_of (F.files folder.old (Live id generation))) live
         → F.reads folder.new ≤ F.reads folder.old + length (bytes_of (F.files folder.old (Live id generation))) / 4096 }
     // and so is any other
-    ensures once { IsTrue F.told → F.reads folder.new ≤ F.reads folder.old + pages_once (bytes_of (F.files folder.old (Live id generation))) }
+    ensures once { IsTrue F.told
+        → F.reads folder.new ≤ F.reads folder.old + pages_once (bytes_of (F.files folder.old (Live id generation))) }
     ensures cause { HasPageCause (F.faults folder.old) (F.faults folder.new) result }
     ensures shown { OnDamage result (IsLiveDamage id generation) }
     ensures damage { IsTrue F.told → OnDamage result (IsLiveDamageOf (F.files folder.old)) }

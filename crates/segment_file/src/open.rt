@@ -42,7 +42,8 @@ pub fn open_segment<const D: usize, F: Pages>(
     ensures most { IsTrue F.told → (h : Head) → h.id ≡ id → IsHeadOf D (bytes_of (F.files folder.old (Segment id))) h
         → F.reads folder.new ≤ F.reads folder.old + 1 + index_pages h }
     // no leaf page is read, whatever is answered
-    ensures no_leaf { IsTrue F.told → (n : ℕ) × (F.reads folder.new ≤ F.reads folder.old + n) × AreBeforeLeaves (bytes_of (F.files folder.old (Segment id))) n }
+    ensures no_leaf { IsTrue F.told → (n : ℕ) × (F.reads folder.new ≤ F.reads folder.old + n)
+        × AreBeforeLeaves (bytes_of (F.files folder.old (Segment id))) n }
     ensures cause { HasPageCause (F.faults folder.old) (F.faults folder.new) result }
     ensures id { IfOk result (λ h. h.id ≡ id) }
     ensures spelled { IfOk result (λ h. IsSpelled D h.index) }

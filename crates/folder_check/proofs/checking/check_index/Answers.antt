@@ -135,19 +135,22 @@ returns-in_err-segments-clause-first g c = λ told.
     let T = IsTrue g.F.Pages.told in
     let e = err_from_is_err_and c.from_residual.result c.from_residual.ensures.1 in
     rw (e.1, e.2)
-    (fault_weaker c.in_err-segments.field-0.0 (IsFirstOpened T files c.args.c.now) (IsFirstListed T files c.args.c.now) (λ d here. InOpening here) c.in_err-segments.ensures.first)
+    (fault_weaker c.in_err-segments.field-0.0 (IsFirstOpened T files c.args.c.now) (IsFirstListed T files c.args.c.now) (λ d here. InOpening here)
+    c.in_err-segments.ensures.first)
 
 pub returns-in_err-findings-clause-first : goal.returns-in_err-findings-clause-first
 returns-in_err-findings-clause-first g c = λ told.
     let e = err_from_is_err_and c.from_residual-in_err-findings.result c.from_residual-in_err-findings.ensures.1 in
     rw (e.1, e.2)
-    (leaf_is_first (IsTrue g.F.Pages.told) g.row.D (g.F.Pages.files c.args.folder.now) (g.F.Pages.files c.open_index.new.folder) c.args.c.now c.in_ok-segments.segments
+    (leaf_is_first (IsTrue g.F.Pages.told) g.row.D (g.F.Pages.files c.args.folder.now) (g.F.Pages.files c.open_index.new.folder) c.args.c.now
+    c.in_ok-segments.segments
     told (c.in_ok-segments.ensures.files told) c.requires c.in_ok-segments.ensures.opened c.in_ok-segments.ensures.placed
     c.in_err-findings.field-0.0 (c.in_err-findings.ensures.first told))
 
 pub returns-clause-first : goal.returns-clause-first
 returns-clause-first g c = λ told.
-    found_is_first (IsTrue g.F.Pages.told) g.row.D (g.F.Pages.files c.args.folder.now) (g.F.Pages.files c.open_index.new.folder) c.args.c.now c.in_ok-segments.segments
+    found_is_first (IsTrue g.F.Pages.told) g.row.D (g.F.Pages.files c.args.folder.now) (g.F.Pages.files c.open_index.new.folder) c.args.c.now
+    c.in_ok-segments.segments
     told (c.in_ok-segments.ensures.files told) c.requires c.in_ok-segments.ensures.opened c.in_ok-segments.ensures.placed
     c.in_ok-findings.findings.items c.judge.result (c.in_ok-findings.ensures.found told)
     (handed (λ ls n fs. OnDamage c.judge.result (IsWrong ls n fs)) _ _ _ _ _ _

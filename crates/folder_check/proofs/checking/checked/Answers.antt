@@ -85,5 +85,6 @@ returns-in_err-check_commit-clause-first g c = λ told.
     let files = g.F.Pages.files c.args.folder.now in
     let e = err_from_is_err_and c.from_residual-in_err-check_commit.result c.from_residual-in_err-check_commit.ensures.1 in
     rw (e.1, e.2)
-    (listed_is_first (IsTrue g.F.Pages.told) files (g.F.Pages.files c.read_commit.new.folder) c.in-Some.commit c.in_err-check_commit.field-0.0 (c.in_ok-commit.ensures.files told)
+    (listed_is_first (IsTrue g.F.Pages.told) files (g.F.Pages.files c.read_commit.new.folder) c.in-Some.commit c.in_err-check_commit.field-0.0
+    (c.in_ok-commit.ensures.files told)
     (rw c.in-Some.is at (c.in_ok-commit.ensures.found told)) (c.in_err-check_commit.ensures.first told))

@@ -59,5 +59,6 @@ pub returns-in_err-head-clause-first : goal.returns-in_err-head-clause-first
 returns-in_err-head-clause-first g c =
     let e = err_from_is_err_and c.from_residual.result c.from_residual.ensures.1 in
     rw (e.1, e.2)
-    (first_next (IsTrue g.F.Pages.told) (g.F.Pages.files c.loop-s.folder) (g.F.Pages.files c.args.folder.now) c.args.c.now c.listed-listed.result.now c.loop-s.s-index _ c.loop-s.segments c.in_err-head.field-0.0
+    (first_next (IsTrue g.F.Pages.told) (g.F.Pages.files c.loop-s.folder) (g.F.Pages.files c.args.folder.now) c.args.c.now c.listed-listed.result.now
+    c.loop-s.s-index _ c.loop-s.segments c.in_err-head.field-0.0
     c.listed-listed.ensures.value c.loop-s.invariant.files c.loop-s-test.true c.loop-s.invariant.opened c.in_err-head.ensures.first)

@@ -11,7 +11,8 @@ returns-in_err-head-clause-first g c =
     let s = c.args.s in
     let e = err_from_is_err_and c.from_residual.result c.from_residual.ensures.1 in
     rw (e.1, e.2)
-    (fault_weaker c.in_err-head.field-0.0 (IsOfFile (Segment s.segment)) (IsFirstIn (IsTrue g.F.Pages.told) files c.args.c.now s) (λ d h. OfHead h) c.in_err-head.ensures.of)
+    (fault_weaker c.in_err-head.field-0.0 (IsOfFile (Segment s.segment)) (IsFirstIn (IsTrue g.F.Pages.told) files c.args.c.now s) (λ d h. OfHead h)
+    c.in_err-head.ensures.of)
 
 pub returns-in_err-live-clause-first : goal.returns-in_err-live-clause-first
 returns-in_err-live-clause-first g c =

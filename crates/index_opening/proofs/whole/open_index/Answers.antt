@@ -94,7 +94,8 @@ returns-in_err-segments-clause-first g c =
     let files = g.F.Pages.files c.args.folder.now in
     let e = err_from_is_err_and c.from_residual.result c.from_residual.ensures.1 in
     rw (e.1, e.2)
-    (fault_weaker c.in_err-segments.field-0.0 (IsFirstListed (IsTrue g.F.Pages.told) files c.args.c.now) (IsFirstOpened (IsTrue g.F.Pages.told) files c.args.c.now) (λ d h. InSegment h) c.in_err-segments.ensures.first)
+    (fault_weaker c.in_err-segments.field-0.0 (IsFirstListed (IsTrue g.F.Pages.told) files c.args.c.now)
+    (IsFirstOpened (IsTrue g.F.Pages.told) files c.args.c.now) (λ d h. InSegment h) c.in_err-segments.ensures.first)
 
 pub returns-in_err-check_numbers-clause-first : goal.returns-in_err-check_numbers-clause-first
 returns-in_err-check_numbers-clause-first g c =
@@ -105,4 +106,5 @@ returns-in_err-check_numbers-clause-first g c =
     (subst (λ (ss : List LiveSet). FaultShows (IsOfLeast c.next.result ss) fault) c.lives.ensures c.in_err-check_numbers.ensures.least) in
     let e = err_from_is_err_and c.from_residual-in_err-check_numbers.result c.from_residual-in_err-check_numbers.ensures.1 in
     rw (e.1, e.2)
-    (fault_weaker fault (IsOfLeast c.args.c.now.next (lives_of parts)) (IsFirstOpened (IsTrue g.F.Pages.told) files c.args.c.now) (λ d h. InNumbers parts c.in_ok-segments.ensures.opened h) least)
+    (fault_weaker fault (IsOfLeast c.args.c.now.next (lives_of parts)) (IsFirstOpened (IsTrue g.F.Pages.told) files c.args.c.now)
+    (λ d h. InNumbers parts c.in_ok-segments.ensures.opened h) least)

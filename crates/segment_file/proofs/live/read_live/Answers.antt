@@ -177,12 +177,14 @@ pub returns-in_err-joined-clause-once : goal.returns-in_err-joined-clause-once
 returns-in_err-joined-clause-once g c = λ told.
     let name = Live c.args.id c.args.generation in
     let files = g.F.Pages.files c.args.folder.now in
-    let size = sym (first_size_is files c.in_ok-first.first name c.in_ok-first.ensures.name (c.in_ok-first.ensures.first told)) ∙ c.in_ok-check_size.ensures.ok.0 refl in
+    let size = sym (first_size_is files c.in_ok-first.first name c.in_ok-first.ensures.name (c.in_ok-first.ensures.first told)) ∙
+    c.in_ok-check_size.ensures.ok.0 refl in
     omega (arith, size, c.read.ensures.reads, c.all_payloads.ensures.reads)
 
 pub returns-clause-once : goal.returns-clause-once
 returns-clause-once g c = λ told.
     let name = Live c.args.id c.args.generation in
     let files = g.F.Pages.files c.args.folder.now in
-    let size = sym (first_size_is files c.in_ok-first.first name c.in_ok-first.ensures.name (c.in_ok-first.ensures.first told)) ∙ c.in_ok-check_size.ensures.ok.0 refl in
+    let size = sym (first_size_is files c.in_ok-first.first name c.in_ok-first.ensures.name (c.in_ok-first.ensures.first told)) ∙
+    c.in_ok-check_size.ensures.ok.0 refl in
     omega (arith, size, c.read.ensures.reads, c.all_payloads.ensures.reads)

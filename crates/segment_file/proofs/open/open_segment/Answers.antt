@@ -94,22 +94,37 @@ pub returns-in_err-index-clause-no_leaf : goal.returns-in_err-index-clause-no_le
 returns-in_err-index-clause-no_leaf g c = λ told.
     let bytes = bytes_of (g.F.Pages.files c.args.folder.now (Segment c.args.id)) in
     let f = c.in_ok-first.fields in
-    let payload = first_payload_is (g.F.Pages.files c.args.folder.now) c.in_ok-first.first (Segment c.args.id) c.in_ok-first.ensures.name (c.in_ok-first.ensures.first told) in
-    (1 + pages_for f.index_length, omega (arith, c.read_head.ensures.reads, c.read_index.ensures.reads), before_leaves bytes (first_payload c.in_ok-first.first) f payload c.in_ok-first.ensures.fields)
+    let payload = first_payload_is (g.F.Pages.files c.args.folder.now) c.in_ok-first.first (Segment c.args.id) c.in_ok-first.ensures.name
+    (c.in_ok-first.ensures.first told) in (
+      1 + pages_for f.index_length,
+      omega (arith, c.read_head.ensures.reads, c.read_index.ensures.reads),
+      before_leaves bytes
+          (first_payload c.in_ok-first.first) f payload c.in_ok-first.ensures.fields,
+    )
 
 pub returns-in_err-agree-clause-no_leaf : goal.returns-in_err-agree-clause-no_leaf
 returns-in_err-agree-clause-no_leaf g c = λ told.
     let bytes = bytes_of (g.F.Pages.files c.args.folder.now (Segment c.args.id)) in
     let f = c.in_ok-first.fields in
-    let payload = first_payload_is (g.F.Pages.files c.args.folder.now) c.in_ok-first.first (Segment c.args.id) c.in_ok-first.ensures.name (c.in_ok-first.ensures.first told) in
-    (1 + pages_for f.index_length, omega (arith, c.read_head.ensures.reads, c.read_index.ensures.reads), before_leaves bytes (first_payload c.in_ok-first.first) f payload c.in_ok-first.ensures.fields)
+    let payload = first_payload_is (g.F.Pages.files c.args.folder.now) c.in_ok-first.first (Segment c.args.id) c.in_ok-first.ensures.name
+    (c.in_ok-first.ensures.first told) in (
+      1 + pages_for f.index_length,
+      omega (arith, c.read_head.ensures.reads, c.read_index.ensures.reads),
+      before_leaves bytes
+          (first_payload c.in_ok-first.first) f payload c.in_ok-first.ensures.fields,
+    )
 
 pub returns-clause-no_leaf : goal.returns-clause-no_leaf
 returns-clause-no_leaf g c = λ told.
     let bytes = bytes_of (g.F.Pages.files c.args.folder.now (Segment c.args.id)) in
     let f = c.in_ok-first.fields in
-    let payload = first_payload_is (g.F.Pages.files c.args.folder.now) c.in_ok-first.first (Segment c.args.id) c.in_ok-first.ensures.name (c.in_ok-first.ensures.first told) in
-    (1 + pages_for f.index_length, omega (arith, c.read_head.ensures.reads, c.read_index.ensures.reads), before_leaves bytes (first_payload c.in_ok-first.first) f payload c.in_ok-first.ensures.fields)
+    let payload = first_payload_is (g.F.Pages.files c.args.folder.now) c.in_ok-first.first (Segment c.args.id) c.in_ok-first.ensures.name
+    (c.in_ok-first.ensures.first told) in (
+      1 + pages_for f.index_length,
+      omega (arith, c.read_head.ensures.reads, c.read_index.ensures.reads),
+      before_leaves bytes
+          (first_payload c.in_ok-first.first) f payload c.in_ok-first.ensures.fields,
+    )
 
 pub returns-in_err-first-clause-no_leaf : goal.returns-in_err-first-clause-no_leaf
 returns-in_err-first-clause-no_leaf g c = λ told. (1, c.read_head.ensures.reads, OnePage (omega arith))

@@ -54,7 +54,12 @@ pub returns-clause-gathers : goal.returns-clause-gathers
 returns-clause-gathers g c = λ told agrees root t has.
     let here : HasTree g.row.D c.index.result.now root t = rw c.index.ensures.value has in
     let got = c.in_ok-gather.ensures.gathers told agrees 0 front root t (c.walk-root.ensures root t here) in
-    record { items = got.items; holds = got.holds; grew = got.grew ∙ ap (λ (l : List Item). l ++ filter (λ (x : Item). is_live c.args.live.now x.doc) got.items) (ap (λ l. items_of l) c.new-entries.ensures.items) }
+    record {
+      items = got.items;
+      holds = got.holds;
+      grew = got.grew ∙ ap (λ (l : List Item). l ++ filter (λ (x : Item). is_live c.args.live.now x.doc)
+          got.items) (ap (λ l. items_of l) c.new-entries.ensures.items);
+    }
 
 pub returns-clause-spelled : goal.returns-clause-spelled
 unfolding IsSegment IsHeadOf
