@@ -48,8 +48,9 @@ pub fn read_entries<const D: usize, F: Pages>(
     ensures agrees { IsTrue F.told → Agrees (F.files folder.old) cache.old → Agrees (F.files folder.old) cache.new }
     // the leaves are those of this head, also where the file has another one
     ensures gathers { IsTrue F.told → Agrees (F.files folder.old) cache.old
-        → (root : Region) (t : IndexTree) → HasTree D head.now.index root t → IfOk result (λ v.
-        Gathers D (bytes_of (F.files folder.old (Segment head.now.id))) head.now 0 front t live.now [] (items_of v.items)) }
+        → (root : Region) (t : IndexTree) → HasTree D head.now.index root t
+        → IfOk result (λ v. Gathers D (bytes_of (F.files folder.old (Segment head.now.id))) head.now 0 front t
+        live.now [] (items_of v.items)) }
     ensures spelled { IsTrue F.told → Agrees (F.files folder.old) cache.old → IsHeadOf D (bytes_of (F.files folder.old (Segment head.now.id))) head.now
         → IfOk result (λ v. (items : List Item) × IsSegment D (bytes_of (F.files folder.old (Segment head.now.id))) head.now items
         × (items_of v.items ≡ filter (λ x. is_live live.now x.doc) items)) }
