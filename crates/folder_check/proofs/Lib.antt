@@ -6,6 +6,7 @@ pub mod Gathered
 pub mod Judged
 pub mod Shown
 pub mod Found
+pub mod First
 pub mod Lines
 pub mod Leaves
 pub mod Crowded

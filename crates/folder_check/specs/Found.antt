@@ -1,5 +1,6 @@
 -- What was found in the leaves of segments, and what of it shows a damage.
-use Rattle.std.specs.Prelude.{ℕ, ◌≡◌, ◌≢◌, ◌≤◌, ◌<◌, ◌^◌, List, length, filter, count_by, sum_by, slice_get, All, Contains, Option, None, Some, IfNone, IfSome, min}
+use Rattle.std.specs.Prelude.{ℕ, ◌≡◌, ◌≢◌, ◌≤◌, ◌<◌, ◌^◌, List, length, filter, take}
+use Rattle.std.specs.Prelude.{count_by, sum_by, slice_get, All, Contains, Option, None, Some, IfNone, IfSome, min}
 use Rattle.std.specs.List.{AllZip}
 use Rattle.outer_io.specs.declared.file_name.FileName.TheVariants.{Commit, Live, Segment}
 use Rattle.outer_io.specs.Files.{Files, bytes_of}
@@ -42,13 +43,15 @@ HasSegment D files p = (items : List Item) × IsSegment D (bytes_of (files (Segm
 abbrev pub HasAll : Listed → Finding → Type 0
 HasAll s f = s.live ≡ f.found
 
--- the damage names the live bits of a listed segment of which not each live number has an entry, with both numbers
+-- the damage names the live bits of the first listed segment of which not each live number has an entry, with both
+-- numbers
 pub record IsLacking (listed : List Listed) (findings : List Finding) (d : Damage) : Type 0 where
   pub place : ℕ
   pub segment : Listed
   pub finding : Finding
   pub listed_there : slice_get listed place ≡ Some segment
   pub found_there : slice_get findings place ≡ Some finding
+  pub before : AllZip HasAll (take place listed) (take place findings)
   pub apart : segment.live ≢ finding.found
   pub tells : d ≡ Unequal (Live segment.segment segment.generation) segment.live finding.found
 

@@ -13,6 +13,7 @@ ghost use Rattle.index_model.specs.State.{State};
 ghost use Rattle.stored_index.specs.Stored.{HaveHeads, HaveLive, HoldsIndex, IsStored, IsUndefined};
 ghost use Rattle.index_opening.specs.Evidence.{IsEvident, IsFound};
 ghost use Rattle.folder_check.specs.Checked.{IsChecked, IsChecking, both_pages};
+ghost use Rattle.folder_check.specs.First.{IsFirst, IsFirstListed};
 
 use crate::findings::judge;
 use crate::reading::read_leaves;
@@ -48,6 +49,8 @@ pub fn check<F: Folder>(alloc: Global, folder: &mut F, text: &mut Vec<u8>) -> Re
     ensures whole { IsTrue F.told → (state : State) → IsStored (F.files folder.old) state → NotDamaged result }
     // it names the Commit file or one that it lists, and two numbers are a pair of these files
     ensures named { IsTrue F.told → OnDamage result (IsFound (F.files folder.old)) }
+    // and it is the first of the order
+    ensures first { IsTrue F.told → OnDamage result (IsFirst (IsTrue F.told) (F.files folder.old)) }
     ensures evident { OnDamage result (IsEvident (IsTrue F.told) (F.files folder.old)) }
 {
     let line = checked(alloc, folder)?;
@@ -63,6 +66,7 @@ fn checked<F: Folder>(alloc: Global, folder: &mut F) -> Result<Vec<u8>, PageFaul
     ensures cause { HasPageCause (F.faults folder.old) (F.faults folder.new) result }
     ensures undefined { IsTrue F.told → OnDamage result (λ _. IsUndefined (F.files folder.old)) }
     ensures named { IsTrue F.told → OnDamage result (IsFound (F.files folder.old)) }
+    ensures first { IsTrue F.told → OnDamage result (IsFirst (IsTrue F.told) (F.files folder.old)) }
     ensures evident { OnDamage result (IsEvident (IsTrue F.told) (F.files folder.old)) }
 {
     let Some(commit) = read_commit(alloc, folder)? else {
@@ -82,6 +86,7 @@ fn check_commit<F: Folder>(alloc: Global, folder: &mut F, c: &Commit) -> Result<
     ensures undefined { IsTrue F.told → IsCommitFile (bytes_of (F.files folder.old CommitName)) c.now → OnDamage result (λ _. IsUndefined (F.files folder.old)) }
     ensures named { IsTrue F.told → IsCommitFile (bytes_of (F.files folder.old CommitName)) c.now
         → OnDamage result (IsFound (F.files folder.old)) }
+    ensures first { IsTrue F.told → OnDamage result (IsFirstListed (IsTrue F.told) (F.files folder.old) c.now) }
     ensures evident { OnDamage result (IsEvident (IsTrue F.told × IsCommitFile (bytes_of (F.files folder.old CommitName)) c.now) (F.files folder.old)) }
 {
     match c.dims() {
@@ -112,6 +117,7 @@ fn check_index<const D: usize, F: Folder>(
     ensures undefined { IsTrue F.told → IsCommitFile (bytes_of (F.files folder.old CommitName)) c.now → OnDamage result (λ _. IsUndefined (F.files folder.old)) }
     ensures named { IsTrue F.told → IsCommitFile (bytes_of (F.files folder.old CommitName)) c.now
         → OnDamage result (IsFound (F.files folder.old)) }
+    ensures first { IsTrue F.told → OnDamage result (IsFirstListed (IsTrue F.told) (F.files folder.old) c.now) }
     ensures evident { OnDamage result (IsEvident (IsTrue F.told × IsCommitFile (bytes_of (F.files folder.old CommitName)) c.now) (F.files folder.old)) }
 {
     let segments = open_index::<D, F>(alloc, folder, c)?;

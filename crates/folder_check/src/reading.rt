@@ -11,6 +11,7 @@ ghost use Rattle.segment_view.specs.Parts.{heads_of, part_of};
 ghost use Rattle.segment_view.specs.Held.{HasOwnHead};
 ghost use Rattle.segment_view.specs.Damages.{IsPartDamage, IsReadDamage};
 ghost use Rattle.folder_check.specs.Checked.{leaf_pages};
+ghost use Rattle.folder_check.specs.First.{IsFirstLeaf};
 ghost use Rattle.folder_check.specs.Found.{HasSegment, IsFinding};
 
 use crate::findings::Finding;
@@ -38,6 +39,9 @@ pub(crate) fn read_leaves<const D: usize, F: Pages>(
         → F.reads folder.new ≤ F.reads folder.old + sum_by (leaf_pages (F.files folder.old)) (heads_of segments.now) }
     ensures cause { HasPageCause (F.faults folder.old) (F.faults folder.new) result }
     ensures shown { OnDamage result (IsPartDamage D segments.now) }
+    // of the first segment that has one
+    ensures first { IsTrue F.told → All (HasOwnHead D (F.files folder.old)) segments.now
+        → OnDamage result (IsFirstLeaf D (F.files folder.old) segments.now) }
     ensures damage { IsTrue F.told → OnDamage result (IsLeafDamageOf (F.files folder.old)) }
     ensures whole { IsTrue F.told → All (HasSegment D (F.files folder.old)) segments.now → NotDamaged result }
 {

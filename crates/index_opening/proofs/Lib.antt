@@ -1,4 +1,5 @@
 pub mod Ordered
+pub mod First
 pub mod Listed
 pub mod Evident
 pub mod Named

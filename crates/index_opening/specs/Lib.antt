@@ -1,3 +1,4 @@
 pub mod Damages
 pub mod Opened
+pub mod First
 pub mod Evidence

@@ -3,7 +3,7 @@
 ghost use Rattle.std.specs.Prelude.{◌≡◌, ◌≢◌, ◌≤◌, ◌+◌, ◌/◌, ◌^◌, ◌↔◌, ℕ, List, length, Contains, IsTrue, IsOk, IsErrOf, IfOk, OnOk};
 ghost use Rattle.std.specs.List.{AllZip};
 ghost use Rattle.outer_io.specs.Files.{bytes_of};
-ghost use Rattle.outer_io.specs.declared.file_name.FileName.TheVariants.{Live};
+ghost use Rattle.outer_io.specs.declared.file_name.FileName.TheVariants.{Live, Segment};
 ghost use Rattle.live_bits.specs.LiveSet.{LiveSet};
 ghost use Rattle.page_cache.specs.declared.faults.PageFault.TheVariants as page;
 ghost use Rattle.page_cache.specs.Causes.{HasPageCause};
@@ -17,6 +17,7 @@ ghost use Rattle.stored_index.specs.Opening.{listed_pages, segments_pages};
 ghost use Rattle.stored_index.specs.Stored.{HasHead, HasLive, HaveHeads, HaveLive, HoldAll, HoldsFiles};
 ghost use Rattle.segment_view.specs.Parts.{part_of};
 ghost use Rattle.index_opening.specs.Damages.{IsMisplaced, IsListedDamage, IsListedDamageOf};
+ghost use Rattle.index_opening.specs.First.{IsFirstIn, IsFirstListed, IsOfFile, IsOfLeast};
 ghost use Rattle.index_opening.specs.Opened.{IsOpened};
 
 use commit_list::{Commit, Listed};
@@ -42,6 +43,8 @@ pub fn open_all<const D: usize, F: Folder>(
     ensures cause { HasPageCause (F.faults folder.old) (F.faults folder.new) result }
     ensures shown { OnDamage result (λ d. (s : Listed) × Contains c.now.listed s × IsListedDamage s d) }
     ensures damage { IsTrue F.told → OnDamage result (λ d. (s : Listed) × Contains c.now.listed s × IsListedDamageOf (F.files folder.old) c.now s d) }
+    // the first in the order in which they are read
+    ensures first { OnDamage result (IsFirstListed (IsTrue F.told) (F.files folder.old) c.now) }
     ensures whole { IsTrue F.told → (parts : List SegmentData) → HoldAll (F.files folder.old) c.now parts → NotDamaged result }
 {
     let listed = c.listed();
@@ -68,6 +71,7 @@ fn open_one<const D: usize, F: Folder>(
     ensures cause { HasPageCause (F.faults folder.old) (F.faults folder.new) result }
     ensures shown { OnDamage result (IsListedDamage s) }
     ensures damage { IsTrue F.told → OnDamage result (IsListedDamageOf (F.files folder.old) c.now s) }
+    ensures first { OnDamage result (IsFirstIn (IsTrue F.told) (F.files folder.old) c.now s) }
     ensures whole { IsTrue F.told → (d : SegmentData) → HoldsFiles (F.files folder.old) c.now s d → NotDamaged result }
 {
     let head = open_head::<D, F>(alloc, folder, c, s)?;
@@ -90,6 +94,7 @@ fn open_head<const D: usize, F: Folder>(
     ensures cause { HasPageCause (F.faults folder.old) (F.faults folder.new) result }
     ensures shown { OnDamage result (IsListedDamage s) }
     ensures damage { IsTrue F.told → OnDamage result (IsListedDamageOf (F.files folder.old) c.now s) }
+    ensures of { OnDamage result (IsOfFile (Segment s.segment)) }
     ensures whole { IsTrue F.told → (d : SegmentData) → HoldsFiles (F.files folder.old) c.now s d → NotDamaged result }
 {
     let leaf = c.leaf();
@@ -110,6 +115,7 @@ fn open_live<F: Folder>(alloc: Global, folder: &mut F, s: Listed) -> Result<Live
     ensures cause { HasPageCause (F.faults folder.old) (F.faults folder.new) result }
     ensures shown { OnDamage result (IsListedDamage s) }
     ensures damage { IsTrue F.told → (c : CommitData) → OnDamage result (IsListedDamageOf (F.files folder.old) c s) }
+    ensures of { OnDamage result (IsOfFile (Live s.segment s.generation)) }
     ensures whole { IsTrue F.told → (c : CommitData) (d : SegmentData) → HoldsFiles (F.files folder.old) c s d → NotDamaged result }
 {
     let live = read_live(alloc, folder, s.segment, s.generation)?;
@@ -138,6 +144,7 @@ pub fn check_numbers(alloc: Global, lives: &[LiveBits], next: u32) -> Result<(),
     requires { next ≤ 2 ^ 24 }
     ensures alone { OnOk result ((number : ℕ) → (places number lives.now ≤ 1) × (next ≤ number → places number lives.now ≡ 0)) }
     ensures shown { OnDamage result (IsMisplaced (λ doc. 1 ≤ places doc lives.now) (λ doc. 2 ≤ places doc lives.now) next) }
+    ensures least { OnDamage result (IsOfLeast next lives.now) }
     ensures no_fault { IsErrOf result page.Failed → ⊥ }
 {
     match misplaced(alloc, lives, next)? {

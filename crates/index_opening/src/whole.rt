@@ -13,6 +13,7 @@ ghost use Rattle.stored_index.specs.Opening.{segments_pages};
 ghost use Rattle.stored_index.specs.Stored.{HaveHeads, HaveLive, IsUndefined};
 ghost use Rattle.segment_view.specs.Parts.{lives_of};
 ghost use Rattle.number_checks.specs.Placed.{IsPlaced};
+ghost use Rattle.index_opening.specs.First.{IsFirstOpened};
 ghost use Rattle.index_opening.specs.Opened.{IsOpened};
 ghost use Rattle.index_opening.specs.Evidence.{IsEvident, IsFound};
 
@@ -38,6 +39,8 @@ pub fn open_index<const D: usize, F: Folder>(
         → F.reads folder.new ≤ F.reads folder.old + segments_pages (F.files folder.old) c.now.listed heads }
     ensures cause { HasPageCause (F.faults folder.old) (F.faults folder.new) result }
     ensures undefined { IsTrue F.told → IsCommitFile (bytes_of (F.files folder.old CommitName)) c.now → OnDamage result (λ _. IsUndefined (F.files folder.old)) }
+    // the first in the order in which they are looked for
+    ensures first { OnDamage result (IsFirstOpened (IsTrue F.told) (F.files folder.old) c.now) }
     ensures named { IsTrue F.told → IsCommitFile (bytes_of (F.files folder.old CommitName)) c.now
         → OnDamage result (IsFound (F.files folder.old)) }
     ensures evident { OnDamage result (IsEvident (IsTrue F.told × IsCommitFile (bytes_of (F.files folder.old CommitName)) c.now) (F.files folder.old)) }

@@ -1,5 +1,5 @@
 -- A file of live bits.
-use Rattle.std.specs.Prelude.{◌≡◌, ℕ, List}
+use Rattle.std.specs.Prelude.{◌≡◌, ◌/◌, ℕ, List, length, max}
 use Rattle.outer_io.specs.declared.file_name.FileName.TheVariants.{Live}
 use Rattle.live_bits.specs.LiveSet.{LiveSet}
 use Rattle.live_bits.specs.LiveBody.{IsLiveBody}
@@ -20,3 +20,7 @@ pub record IsSetOf (segment generation : ℕ) (payloads : List ℕ) (live : Live
   pub body : List ℕ
   pub set : IsLiveBody segment generation live body
   pub payloads_are : payloads ≡ filled body
+
+-- how many pages of a file of these bytes are read at most where each is read once: all, and one where there is none
+abbrev pub pages_once : List ℕ → ℕ
+pages_once bytes = max 1 (length bytes / 4096)

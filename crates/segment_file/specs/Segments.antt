@@ -1,5 +1,5 @@
 -- What the file of a segment holds. Each word speaks of the bytes of that one file.
-use Rattle.std.specs.Prelude.{ℕ, ◌+◌, ◌*◌, ◌^◌, ◌<◌, ◌≡◌, ◌⊎◌, List, ◌++◌, length, take, drop}
+use Rattle.std.specs.Prelude.{ℕ, ◌+◌, ◌*◌, ◌^◌, ◌<◌, ◌≤◌, ◌≡◌, ◌⊎◌, List, ◌++◌, length, take, drop}
 use Rattle.outer_io.specs.declared.file_name.FileName.TheVariants.{Segment}
 use Rattle.point_codec.specs.Points.{Item, Region}
 use Rattle.leaf_codec.specs.Leaves.{SpellsLeafIn}
@@ -8,8 +8,9 @@ use Rattle.inner_pack.specs.Trees.{IndexTree, Leaf, Split, leaf_count}
 use Rattle.inner_pack.specs.Bodies.{HasTree, pages_of, right_begin}
 use Rattle.page_file.specs.Page.{payload_of}
 use Rattle.page_cache.specs.FilePages.{page_at, IsFilePage, ArePages, payloads_of}
-use Rattle.page_cache.specs.Bodies.{filled}
-use Rattle.segment_file.specs.Heads.{Head, HasRanges, fields_of, fields_bytes, index_pages, page_of, count_of}
+use Rattle.page_cache.specs.Bodies.{filled, pages_for}
+use Rattle.segment_file.specs.Heads.{Head, Fields, AreFields, HasRanges}
+use Rattle.segment_file.specs.Heads.{fields_of, fields_bytes, index_pages, page_of, count_of}
 
 -- ---- the head and the index
 
@@ -33,6 +34,13 @@ pub record HeadParts (D : ℕ) (bytes : List ℕ) (head : Head) : Type 0 where
 -- the head is the one that the file of its segment has
 unfoldable pub IsHeadOf : ℕ → List ℕ → Head → Type 0
 IsHeadOf D bytes head = HeadParts D bytes head
+
+-- no more pages than stand before the leaves of the file: its first page, and those of the index where that page says
+-- fields
+pub data AreBeforeLeaves (bytes : List ℕ) (pages : ℕ) : Type 0 where
+  OnePage : pages ≤ 1 → AreBeforeLeaves bytes pages
+  WithIndex : (f : Fields) → AreFields f → payload_of (page_at bytes 0) ≡ filled (fields_bytes f)
+      → pages ≤ 1 + pages_for f.index_length → AreBeforeLeaves bytes pages
 
 -- ---- the leaves
 

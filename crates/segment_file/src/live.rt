@@ -9,7 +9,7 @@ ghost use Rattle.page_cache.specs.declared.faults.PageFault.TheVariants as page;
 ghost use Rattle.page_cache.specs.Bodies.{pages_for as pages_for_body};
 ghost use Rattle.page_cache.specs.Causes.{HasPageCause, HasSegCause};
 ghost use Rattle.page_cache.specs.Evidence.{OnDamage, NotDamaged};
-ghost use Rattle.segment_file.specs.LiveFiles.{IsLiveFile, IsSetOf};
+ghost use Rattle.segment_file.specs.LiveFiles.{pages_once, IsLiveFile, IsSetOf};
 ghost use Rattle.segment_file.specs.Kept.{OnFault};
 ghost use Rattle.segment_file.specs.Damages.{BeginsNoSet, IsBodyDamage, IsLiveDamage, IsLiveDamageOf};
 
@@ -69,6 +69,9 @@ pub fn read_live<F: Pages>(
     // a file that has a set is read page by page once, whatever is answered
     ensures reads { IsTrue F.told → (live : LiveSet) → IsLiveFile id generation (bytes_of (F.files folder.old (Live id generation))) live
         → F.reads folder.new ≤ F.reads folder.old + length (bytes_of (F.files folder.old (Live id generation))) / 4096 }
+    // and so is any other
+    ensures once { IsTrue F.told
+        → F.reads folder.new ≤ F.reads folder.old + pages_once (bytes_of (F.files folder.old (Live id generation))) }
     ensures cause { HasPageCause (F.faults folder.old) (F.faults folder.new) result }
     ensures shown { OnDamage result (IsLiveDamage id generation) }
     ensures damage { IsTrue F.told → OnDamage result (IsLiveDamageOf (F.files folder.old)) }

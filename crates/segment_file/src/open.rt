@@ -12,7 +12,7 @@ ghost use Rattle.page_cache.specs.declared.faults.PageFault.TheVariants as page;
 ghost use Rattle.page_cache.specs.Causes.{HasPageCause};
 ghost use Rattle.page_cache.specs.Evidence.{OnDamage, NotDamaged};
 ghost use Rattle.segment_file.specs.Heads.{Head, index_pages};
-ghost use Rattle.segment_file.specs.Segments.{IsHeadOf};
+ghost use Rattle.segment_file.specs.Segments.{IsHeadOf, AreBeforeLeaves};
 ghost use Rattle.segment_file.specs.Damages.{BeginsNoHead, IsBodyDamage, IsPairDamage, IsHeadDamage, IsHeadDamageOf};
 ghost use Rattle.segment_file.specs.Kept.{OnFault};
 ghost use Rattle.segment_file.specs.FieldsSeen.{HasFields, IsIndexOf};
@@ -41,6 +41,9 @@ pub fn open_segment<const D: usize, F: Pages>(
     // and where the file has a head, whatever is answered
     ensures most { IsTrue F.told → (h : Head) → h.id ≡ id → IsHeadOf D (bytes_of (F.files folder.old (Segment id))) h
         → F.reads folder.new ≤ F.reads folder.old + 1 + index_pages h }
+    // no leaf page is read, whatever is answered
+    ensures no_leaf { IsTrue F.told → (n : ℕ) × (F.reads folder.new ≤ F.reads folder.old + n)
+        × AreBeforeLeaves (bytes_of (F.files folder.old (Segment id))) n }
     ensures cause { HasPageCause (F.faults folder.old) (F.faults folder.new) result }
     ensures id { IfOk result (λ h. h.id ≡ id) }
     ensures spelled { IfOk result (λ h. IsSpelled D h.index) }

@@ -30,7 +30,7 @@ use point_codec::Entry;
 use std::alloc::Global;
 
 /// The entries of a segment whose numbers are live, in the order of the leaves. Each leaf page is read once at
-/// most. Ok only where each leaf is spelled in its page.
+/// most. Ok only where each leaf of this head is spelled in its page, whether or not the file has this head.
 pub fn read_entries<const D: usize, F: Pages>(
     alloc: Global,
     folder: &mut F,
@@ -46,6 +46,11 @@ pub fn read_entries<const D: usize, F: Pages>(
     ensures cause { HasPageCause (F.faults folder.old) (F.faults folder.new) result }
     ensures others { (i : ℕ) → KeepsFile cache.new i → KeepsFile cache.old i ⊎ (i ≡ head.now.id) }
     ensures agrees { IsTrue F.told → Agrees (F.files folder.old) cache.old → Agrees (F.files folder.old) cache.new }
+    // the leaves are those of this head, also where the file has another one
+    ensures gathers { IsTrue F.told → Agrees (F.files folder.old) cache.old
+        → (root : Region) (t : IndexTree) → HasTree D head.now.index root t
+        → IfOk result (λ v. Gathers D (bytes_of (F.files folder.old (Segment head.now.id))) head.now 0 front t
+        live.now [] (items_of v.items)) }
     ensures spelled { IsTrue F.told → Agrees (F.files folder.old) cache.old → IsHeadOf D (bytes_of (F.files folder.old (Segment head.now.id))) head.now
         → IfOk result (λ v. (items : List Item) × IsSegment D (bytes_of (F.files folder.old (Segment head.now.id))) head.now items
         × (items_of v.items ≡ filter (λ x. is_live live.now x.doc) items)) }

@@ -17,6 +17,10 @@ use Rattle.folder_check.proofs.Pairs.{zip_long}
 use Rattle.folder_check.proofs.Shown.{on_wrong_evident, on_wrong_found}
 use Rattle.folder_check.proofs.Pages.{pages_opened, pages_whole, read_of}
 use Rattle.folder_check.proofs.Whole.{all_listed, all_segments, file_heads, handed, known_of, on_fine_holds, on_wrong_undefined, own_heads}
+use Rattle.page_cache.proofs.Damages.{fault_weaker}
+use Rattle.index_opening.specs.First.{IsFirstOpened}
+use Rattle.folder_check.specs.First.{InOpening, IsFirstListed}
+use Rattle.folder_check.proofs.First.{found_is_first, leaf_is_first}
 use Rattle.folder_check.proofs.checking.check_index.Goals as goal
 
 pub returns-in_err-segments-clause-reads : goal.returns-in_err-segments-clause-reads
@@ -122,5 +126,32 @@ returns-clause-named g c = λ told says.
     (known_of (IsTrue g.F.Pages.told) g.row.D files (g.F.Pages.files c.open_index.new.folder) c.args.c.now c.in_ok-segments.segments
     c.in_ok-findings.findings.items told (c.in_ok-segments.ensures.files told) c.requires says
     c.in_ok-segments.ensures.opened c.in_ok-segments.ensures.placed (c.in_ok-findings.ensures.found told))
+    (handed (λ ls n fs. OnDamage c.judge.result (IsWrong ls n fs)) _ _ _ _ _ _
+    c.listed.ensures.value c.given.ensures.value c.as_slice.ensures.value c.judge.ensures.wrong)
+
+pub returns-in_err-segments-clause-first : goal.returns-in_err-segments-clause-first
+returns-in_err-segments-clause-first g c = λ told.
+    let files = g.F.Pages.files c.args.folder.now in
+    let T = IsTrue g.F.Pages.told in
+    let e = err_from_is_err_and c.from_residual.result c.from_residual.ensures.1 in
+    rw (e.1, e.2)
+    (fault_weaker c.in_err-segments.field-0.0 (IsFirstOpened T files c.args.c.now) (IsFirstListed T files c.args.c.now) (λ d here. InOpening here)
+    c.in_err-segments.ensures.first)
+
+pub returns-in_err-findings-clause-first : goal.returns-in_err-findings-clause-first
+returns-in_err-findings-clause-first g c = λ told.
+    let e = err_from_is_err_and c.from_residual-in_err-findings.result c.from_residual-in_err-findings.ensures.1 in
+    rw (e.1, e.2)
+    (leaf_is_first (IsTrue g.F.Pages.told) g.row.D (g.F.Pages.files c.args.folder.now) (g.F.Pages.files c.open_index.new.folder) c.args.c.now
+    c.in_ok-segments.segments
+    told (c.in_ok-segments.ensures.files told) c.requires c.in_ok-segments.ensures.opened c.in_ok-segments.ensures.placed
+    c.in_err-findings.field-0.0 (c.in_err-findings.ensures.first told))
+
+pub returns-clause-first : goal.returns-clause-first
+returns-clause-first g c = λ told.
+    found_is_first (IsTrue g.F.Pages.told) g.row.D (g.F.Pages.files c.args.folder.now) (g.F.Pages.files c.open_index.new.folder) c.args.c.now
+    c.in_ok-segments.segments
+    told (c.in_ok-segments.ensures.files told) c.requires c.in_ok-segments.ensures.opened c.in_ok-segments.ensures.placed
+    c.in_ok-findings.findings.items c.judge.result (c.in_ok-findings.ensures.found told)
     (handed (λ ls n fs. OnDamage c.judge.result (IsWrong ls n fs)) _ _ _ _ _ _
     c.listed.ensures.value c.given.ensures.value c.as_slice.ensures.value c.judge.ensures.wrong)

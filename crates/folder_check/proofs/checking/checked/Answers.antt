@@ -12,6 +12,8 @@ use Rattle.index_opening.proofs.Named.{commit_found}
 use Rattle.folder_check.specs.Checked.{ok_text}
 use Rattle.folder_check.proofs.Counted.{documents_counted}
 use Rattle.folder_check.proofs.Whole.{commit_undefined, live_fits, pages_all, pages_read, read_at}
+use Rattle.std.specs.Prelude.{IsTrue}
+use Rattle.folder_check.proofs.First.{commit_is_first, listed_is_first}
 use Rattle.folder_check.proofs.checking.checked.Goals as goal
 
 pub returns-in_err-commit-clause-reads : goal.returns-in_err-commit-clause-reads
@@ -71,3 +73,18 @@ returns-in_err-commit-clause-named g c = λ told.
     let e = err_from_is_err_and c.from_residual.result c.from_residual.ensures.1 in
     let files = g.F.Pages.files c.args.folder.now in
     rw (e.1, e.2) (commit_found files c.in_err-commit.field-0.0 c.in_err-commit.ensures.shown (c.in_err-commit.ensures.damage told))
+
+pub returns-in_err-commit-clause-first : goal.returns-in_err-commit-clause-first
+returns-in_err-commit-clause-first g c = λ told.
+    let files = g.F.Pages.files c.args.folder.now in
+    let e = err_from_is_err_and c.from_residual.result c.from_residual.ensures.1 in
+    rw (e.1, e.2) (commit_is_first (IsTrue g.F.Pages.told) files c.in_err-commit.field-0.0 c.in_err-commit.ensures.shown)
+
+pub returns-in_err-check_commit-clause-first : goal.returns-in_err-check_commit-clause-first
+returns-in_err-check_commit-clause-first g c = λ told.
+    let files = g.F.Pages.files c.args.folder.now in
+    let e = err_from_is_err_and c.from_residual-in_err-check_commit.result c.from_residual-in_err-check_commit.ensures.1 in
+    rw (e.1, e.2)
+    (listed_is_first (IsTrue g.F.Pages.told) files (g.F.Pages.files c.read_commit.new.folder) c.in-Some.commit c.in_err-check_commit.field-0.0
+    (c.in_ok-commit.ensures.files told)
+    (rw c.in-Some.is at (c.in_ok-commit.ensures.found told)) (c.in_err-check_commit.ensures.first told))

@@ -12,6 +12,7 @@ use Rattle.segment_view.proofs.Living.{part_in}
 use Rattle.folder_check.specs.Found.{HasSegment, IsFinding}
 use Rattle.folder_check.proofs.Leaves.{fault_of_part, found_more}
 use Rattle.folder_check.proofs.Pages.{one_read, pages_more, pages_upto}
+use Rattle.folder_check.proofs.First.{first_leaf}
 use Rattle.folder_check.proofs.reading.read_leaves.Goals as goal
 
 pub loop-i-preserved : goal.loop-i-preserved
@@ -90,3 +91,11 @@ returns-in_err-extend_from_slice-clause-reads g c = λ told own.
     let there = part_in parts c.loop-i.i p c.part.ensures in
     let here = one_read g.row.D files (g.F.Pages.files c.loop-i.folder) parts p _ _ same own there (c.in_ok-finding.ensures.reads told) in
     omega (arith, most, before, here)
+
+pub returns-in_err-finding-clause-first : goal.returns-in_err-finding-clause-first
+returns-in_err-finding-clause-first g c = λ told own.
+    let e = err_from_is_err_and c.from_residual-in_err-finding.result c.from_residual-in_err-finding.ensures.1 in
+    let p = part_of c.part.result.0.now c.part.result.1.now in
+    rw (e.1, e.2)
+    (first_leaf g.row.D (g.F.Pages.files c.args.folder.now) c.args.segments.now c.loop-i.i p c.loop-i.findings.items c.in_err-finding.field-0.0 c.part.ensures
+    (c.loop-i.invariant.found told own) c.in_err-finding.ensures.shown)

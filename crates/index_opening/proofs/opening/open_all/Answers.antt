@@ -3,6 +3,7 @@ use Rattle.std.specs.Prelude.{IsTrue}
 use Rattle.std.proofs.lemmas.Result.{err_from_is_err_and}
 use Rattle.segment_view.specs.Parts.{part_of}
 use Rattle.index_opening.proofs.Ordered.{fresh_next, opened_next, reads_next, whole_next}
+use Rattle.index_opening.proofs.First.{first_next}
 use Rattle.index_opening.proofs.opening.open_all.Goals as goal
 
 pub returns-in_err-head-clause-reads : goal.returns-in_err-head-clause-reads
@@ -53,3 +54,11 @@ loop-s-preserved g c = record {
 
 pub returns-clause-reads : goal.returns-clause-reads
 returns-clause-reads g c = λ told heads sets have lives. let before = c.loop-s.invariant.reads told heads sets have lives in omega (arith, before)
+
+pub returns-in_err-head-clause-first : goal.returns-in_err-head-clause-first
+returns-in_err-head-clause-first g c =
+    let e = err_from_is_err_and c.from_residual.result c.from_residual.ensures.1 in
+    rw (e.1, e.2)
+    (first_next (IsTrue g.F.Pages.told) (g.F.Pages.files c.loop-s.folder) (g.F.Pages.files c.args.folder.now) c.args.c.now c.listed-listed.result.now
+    c.loop-s.s-index _ c.loop-s.segments c.in_err-head.field-0.0
+    c.listed-listed.ensures.value c.loop-s.invariant.files c.loop-s-test.true c.loop-s.invariant.opened c.in_err-head.ensures.first)

@@ -3,6 +3,7 @@ use Rattle.std.proofs.lemmas.Result.{err_from_is_err_and}
 use Rattle.outer_io.specs.declared.file_name.FileName.TheVariants.{Segment}
 use Rattle.segment_file.specs.Heads.{Head}
 use Rattle.index_opening.proofs.Listed.{entries_pair, equal_fault, head_fault, head_held, is_held, leaf_pair, listed_head, pair_fault}
+use Rattle.index_opening.proofs.First.{head_of, pair_of}
 use Rattle.index_opening.proofs.opening.open_head.Goals as goal
 
 pub returns-in_err-head-clause-whole : goal.returns-in_err-head-clause-whole
@@ -56,3 +57,18 @@ returns-in_err-head-clause-damage g c = λ told.
     rw (e.1, e.2)
     (head_fault g.row.D (g.F.Pages.files c.args.folder.now) c.args.c.now c.args.s c.in_err-head.field-0.0 c.requires
     c.in_err-head.ensures.shown (c.in_err-head.ensures.damage told))
+
+pub returns-in_err-head-clause-of : goal.returns-in_err-head-clause-of
+returns-in_err-head-clause-of g c =
+    let e = err_from_is_err_and c.from_residual.result c.from_residual.ensures.1 in
+    rw (e.1, e.2) (head_of c.args.s.segment c.in_err-head.field-0.0 c.in_err-head.ensures.shown)
+
+pub returns-in_err-agree-clause-of : goal.returns-in_err-agree-clause-of
+returns-in_err-agree-clause-of g c =
+    let e = err_from_is_err_and c.from_residual-in_err-agree.result c.from_residual-in_err-agree.ensures.1 in
+    rw (e.1, e.2) (pair_of (Segment c.args.s.segment) c.from.result c.from-2.result c.in_err-agree.field-0.0 c.in_err-agree.ensures.pair)
+
+pub returns-in_err-agree-2-clause-of : goal.returns-in_err-agree-2-clause-of
+returns-in_err-agree-2-clause-of g c =
+    let e = err_from_is_err_and c.from_residual-in_err-agree-2.result c.from_residual-in_err-agree-2.ensures.1 in
+    rw (e.1, e.2) (pair_of (Segment c.args.s.segment) c.from-3.result c.from-4.result c.in_err-agree-2.field-0.0 c.in_err-agree-2.ensures.pair)

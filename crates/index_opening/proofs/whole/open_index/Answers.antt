@@ -16,6 +16,8 @@ use Rattle.index_opening.specs.Damages.{IsAttachDamage, IsAttachDamageOf, IsList
 use Rattle.index_opening.proofs.Listed.{listed_of, listed_shown, misplaced_at, misplaced_of, misplaced_shown, opened_heads, opened_lives, undefined_fault, whole_listed, whole_placed}
 use Rattle.index_opening.proofs.Evident.{on_attach_evident}
 use Rattle.index_opening.proofs.Named.{attach_found}
+use Rattle.page_cache.specs.Evidence.{FaultShows}
+use Rattle.index_opening.specs.First.{IsFirstListed, IsFirstOpened, IsOfLeast, InNumbers, InSegment}
 use Rattle.index_opening.proofs.whole.open_index.Goals as goal
 
 pub returns-in_err-segments-clause-undefined : goal.returns-in_err-segments-clause-undefined
@@ -86,3 +88,23 @@ returns-in_err-check_numbers-clause-named g c = λ told says.
     (attach_found files c.args.c.now fault says
     (misplaced_of files c.args.c.now sets fault
     (opened_lives (IsTrue g.F.Pages.told) files c.args.c.now c.in_ok-segments.segments told c.in_ok-segments.ensures.opened) shown))
+
+pub returns-in_err-segments-clause-first : goal.returns-in_err-segments-clause-first
+returns-in_err-segments-clause-first g c =
+    let files = g.F.Pages.files c.args.folder.now in
+    let e = err_from_is_err_and c.from_residual.result c.from_residual.ensures.1 in
+    rw (e.1, e.2)
+    (fault_weaker c.in_err-segments.field-0.0 (IsFirstListed (IsTrue g.F.Pages.told) files c.args.c.now)
+    (IsFirstOpened (IsTrue g.F.Pages.told) files c.args.c.now) (λ d h. InSegment h) c.in_err-segments.ensures.first)
+
+pub returns-in_err-check_numbers-clause-first : goal.returns-in_err-check_numbers-clause-first
+returns-in_err-check_numbers-clause-first g c =
+    let files = g.F.Pages.files c.args.folder.now in
+    let parts = c.in_ok-segments.segments in
+    let fault = c.in_err-check_numbers.field-0.0 in
+    let least = subst (λ (n : ℕ). FaultShows (IsOfLeast n (lives_of parts)) fault) c.next.ensures.value
+    (subst (λ (ss : List LiveSet). FaultShows (IsOfLeast c.next.result ss) fault) c.lives.ensures c.in_err-check_numbers.ensures.least) in
+    let e = err_from_is_err_and c.from_residual-in_err-check_numbers.result c.from_residual-in_err-check_numbers.ensures.1 in
+    rw (e.1, e.2)
+    (fault_weaker fault (IsOfLeast c.args.c.now.next (lives_of parts)) (IsFirstOpened (IsTrue g.F.Pages.told) files c.args.c.now)
+    (λ d h. InNumbers parts c.in_ok-segments.ensures.opened h) least)

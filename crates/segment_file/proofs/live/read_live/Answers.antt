@@ -172,3 +172,19 @@ returns-clause-reads g c = λ told live file.
     let same = said_right c.args.id c.args.generation (bytes_of (files name)) c.payload.result.now live c.in_ok-len.len f payload c.in_ok-len.ensures.len in
     let pages_are : pages_for (length f.body) ≡ c.pages_for-pages.result = ap (λ (n : ℕ). pages_for n) same ∙ sym c.pages_for-pages.ensures in
     omega (arith, f.size, pages_are, c.read.ensures.reads, c.all_payloads.ensures.reads)
+
+pub returns-in_err-joined-clause-once : goal.returns-in_err-joined-clause-once
+returns-in_err-joined-clause-once g c = λ told.
+    let name = Live c.args.id c.args.generation in
+    let files = g.F.Pages.files c.args.folder.now in
+    let size = sym (first_size_is files c.in_ok-first.first name c.in_ok-first.ensures.name (c.in_ok-first.ensures.first told)) ∙
+    c.in_ok-check_size.ensures.ok.0 refl in
+    omega (arith, size, c.read.ensures.reads, c.all_payloads.ensures.reads)
+
+pub returns-clause-once : goal.returns-clause-once
+returns-clause-once g c = λ told.
+    let name = Live c.args.id c.args.generation in
+    let files = g.F.Pages.files c.args.folder.now in
+    let size = sym (first_size_is files c.in_ok-first.first name c.in_ok-first.ensures.name (c.in_ok-first.ensures.first told)) ∙
+    c.in_ok-check_size.ensures.ok.0 refl in
+    omega (arith, size, c.read.ensures.reads, c.all_payloads.ensures.reads)

@@ -9,11 +9,11 @@ use Rattle.page_cache.specs.Bodies.{pages_for}
 use Rattle.page_cache.specs.FirstPages.{first_payload}
 use Rattle.page_cache.proofs.Damages.{fault_weaker}
 use Rattle.segment_file.specs.Heads.{Fields}
-use Rattle.segment_file.specs.Segments.{SpellsHead, IsHeadOf}
+use Rattle.segment_file.specs.Segments.{SpellsHead, IsHeadOf, OnePage}
 use Rattle.segment_file.specs.Written.{head_of}
 use Rattle.segment_file.specs.Damages.{IsPairDamage, IsHeadDamageOf}
 use Rattle.segment_file.proofs.FirstPayloads.{first_payload_is, first_size_is}
-use Rattle.segment_file.proofs.HeadReads.{head_pair_of, head_parts, head_said, spells_head, index_same}
+use Rattle.segment_file.proofs.HeadReads.{before_leaves, head_pair_of, head_parts, head_said, spells_head, index_same}
 use Rattle.segment_file.proofs.open.open_segment.Goals as goal
 
 pub returns-in_err-index-clause-damage : goal.returns-in_err-index-clause-damage
@@ -89,6 +89,45 @@ returns-clause-head g c = λ told.
     }
 
 -- ---- how much is read
+
+pub returns-in_err-index-clause-no_leaf : goal.returns-in_err-index-clause-no_leaf
+returns-in_err-index-clause-no_leaf g c = λ told.
+    let bytes = bytes_of (g.F.Pages.files c.args.folder.now (Segment c.args.id)) in
+    let f = c.in_ok-first.fields in
+    let payload = first_payload_is (g.F.Pages.files c.args.folder.now) c.in_ok-first.first (Segment c.args.id) c.in_ok-first.ensures.name
+    (c.in_ok-first.ensures.first told) in (
+      1 + pages_for f.index_length,
+      omega (arith, c.read_head.ensures.reads, c.read_index.ensures.reads),
+      before_leaves bytes
+          (first_payload c.in_ok-first.first) f payload c.in_ok-first.ensures.fields,
+    )
+
+pub returns-in_err-agree-clause-no_leaf : goal.returns-in_err-agree-clause-no_leaf
+returns-in_err-agree-clause-no_leaf g c = λ told.
+    let bytes = bytes_of (g.F.Pages.files c.args.folder.now (Segment c.args.id)) in
+    let f = c.in_ok-first.fields in
+    let payload = first_payload_is (g.F.Pages.files c.args.folder.now) c.in_ok-first.first (Segment c.args.id) c.in_ok-first.ensures.name
+    (c.in_ok-first.ensures.first told) in (
+      1 + pages_for f.index_length,
+      omega (arith, c.read_head.ensures.reads, c.read_index.ensures.reads),
+      before_leaves bytes
+          (first_payload c.in_ok-first.first) f payload c.in_ok-first.ensures.fields,
+    )
+
+pub returns-clause-no_leaf : goal.returns-clause-no_leaf
+returns-clause-no_leaf g c = λ told.
+    let bytes = bytes_of (g.F.Pages.files c.args.folder.now (Segment c.args.id)) in
+    let f = c.in_ok-first.fields in
+    let payload = first_payload_is (g.F.Pages.files c.args.folder.now) c.in_ok-first.first (Segment c.args.id) c.in_ok-first.ensures.name
+    (c.in_ok-first.ensures.first told) in (
+      1 + pages_for f.index_length,
+      omega (arith, c.read_head.ensures.reads, c.read_index.ensures.reads),
+      before_leaves bytes
+          (first_payload c.in_ok-first.first) f payload c.in_ok-first.ensures.fields,
+    )
+
+pub returns-in_err-first-clause-no_leaf : goal.returns-in_err-first-clause-no_leaf
+returns-in_err-first-clause-no_leaf g c = λ told. (1, c.read_head.ensures.reads, OnePage (omega arith))
 
 pub returns-in_err-index-clause-most : goal.returns-in_err-index-clause-most
 returns-in_err-index-clause-most g c = λ told h ids file.

@@ -50,6 +50,17 @@ returns-in_err-gather-clause-whole g c = λ told agrees items p.
     let e = err_from_is_err_and c.from_residual.result c.from_residual.ensures.1 in
     rw (e.1, e.2) (c.in_err-gather.ensures.whole told agrees 0 front p.root p.tree (c.walk-root.ensures p.root p.tree here) items p.holds)
 
+pub returns-clause-gathers : goal.returns-clause-gathers
+returns-clause-gathers g c = λ told agrees root t has.
+    let here : HasTree g.row.D c.index.result.now root t = rw c.index.ensures.value has in
+    let got = c.in_ok-gather.ensures.gathers told agrees 0 front root t (c.walk-root.ensures root t here) in
+    record {
+      items = got.items;
+      holds = got.holds;
+      grew = got.grew ∙ ap (λ (l : List Item). l ++ filter (λ (x : Item). is_live c.args.live.now x.doc)
+          got.items) (ap (λ l. items_of l) c.new-entries.ensures.items);
+    }
+
 pub returns-clause-spelled : goal.returns-clause-spelled
 unfolding IsSegment IsHeadOf
 returns-clause-spelled g c = λ told agrees p.
