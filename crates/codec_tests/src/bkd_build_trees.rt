@@ -6,6 +6,7 @@ ghost use Rattle.leaf_codec.specs.LeafOrder.{NoneTwice};
 ghost use Rattle.leaf_codec.specs.Leaves.{leaf_limit};
 ghost use Rattle.bkd_build.specs.Parts.{AreEntries};
 
+use crate::asserts::{holds, same, same_at};
 use crate::samples::{FIRST, OWN, SECOND, THIRD, entry};
 use bkd_build::{Built, Gate, OpenGate, build};
 use byte_cursor::Memory;
@@ -57,10 +58,10 @@ fn five(rt: HostRuntime) -> Result<(), Fail> {
         entry(0, [5]),
     ];
     let built = alone(&rt, rt.alloc(), &mut entries)?;
-    assert_eq!(rt; built.index().body(), OWN.as_slice());
-    assert_eq!(rt; built.leaves().len(), 3);
+    same(&rt, built.index().body(), OWN.as_slice());
+    same(&rt, built.leaves().len(), 3);
     for (bytes, expected) in built.leaves().iter().zip(LEAVES.as_slice()) {
-        assert_eq!(rt; bytes.as_slice(), *expected);
+        same(&rt, bytes.as_slice(), *expected);
     }
     Ok(())
 }
@@ -68,8 +69,8 @@ fn five(rt: HostRuntime) -> Result<(), Fail> {
 #[test]
 fn one(rt: HostRuntime) -> Result<(), Fail> {
     let built = alone(&rt, rt.alloc(), &mut [entry(0, [5])])?;
-    assert_eq!(rt; built.index().body(), ONE_BODY.as_slice());
-    assert_eq!(rt; built.leaves().len(), 1);
+    same(&rt, built.index().body(), ONE_BODY.as_slice());
+    same(&rt, built.leaves().len(), 1);
     Ok(())
 }
 
@@ -79,7 +80,7 @@ fn equal_extents(rt: HostRuntime) -> Result<(), Fail> {
     let built = alone(&rt, rt.alloc(), &mut entries)?;
     let (index, _leaves) = built.into_parts();
     assert!(rt; index.body().len() > 18);
-    assert_eq!(rt; &index.body()[..18], SQUARE_HEAD.as_slice());
+    same(&rt, &index.body()[..18], SQUARE_HEAD.as_slice());
     Ok(())
 }
 
@@ -122,7 +123,7 @@ fn built<R: Threads + Sync>(rt: &R, alloc: Global, leaf: u16, forks: u8) -> Resu
 }
 
 /// Whether the bytes are the same.
-fn same(a: &Built<2>, b: &Built<2>) -> bool {
+fn are_same(a: &Built<2>, b: &Built<2>) -> bool {
     if a.index().body() != b.index().body() || a.leaves().len() != b.leaves().len() {
         return false;
     }
@@ -139,8 +140,8 @@ fn forks_make_no_difference(rt: HostRuntime) -> Result<(), Fail> {
     let small = built(&rt, rt.alloc(), 2, 0)?;
     let large = built(&rt, rt.alloc(), 333, 0)?;
     for forks in 1..7 {
-        assert!(rt; same(&small, &built(&rt, rt.alloc(), 2, forks)?));
-        assert!(rt; same(&large, &built(&rt, rt.alloc(), 333, forks)?));
+        holds(&rt, are_same(&small, &built(&rt, rt.alloc(), 2, forks)?));
+        holds(&rt, are_same(&large, &built(&rt, rt.alloc(), 333, forks)?));
     }
     Ok(())
 }
@@ -180,7 +181,7 @@ fn halves_run_beside_each_other(rt: HostRuntime) -> Result<(), Fail> {
         came: [AtomicU64::new(0), AtomicU64::new(0)],
         met: [AtomicU64::new(0), AtomicU64::new(0)],
     };
-    assert!(rt; meet(&rt, rt.alloc(), &gate)?);
+    holds(&rt, meet(&rt, rt.alloc(), &gate)?);
     Ok(())
 }
 
@@ -238,10 +239,11 @@ fn passes<R: Threads + Sync>(
 #[test]
 fn both_halves_fork_deeper(rt: HostRuntime) -> Result<(), Fail> {
     for (count, forks, nodes) in FORKED {
-        assert_eq!(rt;
+        same_at(
+            &rt,
             passes(&rt, rt.alloc(), count, forks)?,
             (nodes, nodes),
-            "{count} entries, {forks} levels"
+            &(count, forks),
         );
     }
     Ok(())
