@@ -6,13 +6,14 @@ ghost use Rattle.leaf_codec.specs.LeafOrder.{NoneTwice};
 ghost use Rattle.leaf_codec.specs.Leaves.{leaf_limit};
 ghost use Rattle.bkd_build.specs.Parts.{AreEntries};
 
-use crate::asserts::{holds, same, same_at};
+use crate::asserts::{holds, holds_at, same, same_at};
 use crate::samples::{FIRST, OWN, SECOND, THIRD, entry};
 use bkd_build::{Built, Gate, OpenGate, build};
 use byte_cursor::Memory;
 use point_codec::Entry;
 use std::alloc::Global;
 use std::marker::Sync;
+use std::process::Abort;
 use std::sync::atomic::{AtomicU64, Ordering};
 use std::test::Fail;
 use std::thread::Threads;
@@ -86,7 +87,7 @@ fn equal_extents(rt: HostRuntime) -> Result<(), Fail> {
 
 /// The next draw of the minimal standard generator of Park and Miller.
 fn next(draw: u64) -> u64 {
-    draw % 2_147_483_647 * 48_271 % 2_147_483_647
+    (draw % 2_147_483_647).wrapping_mul(48_271) % 2_147_483_647
 }
 
 /// A coordinate from -100,000 to 100,000.
@@ -135,15 +136,36 @@ fn are_same(a: &Built<2>, b: &Built<2>) -> bool {
     true
 }
 
-#[test]
-fn forks_make_no_difference(rt: HostRuntime) -> Result<(), Fail> {
-    let small = built(&rt, rt.alloc(), 2, 0)?;
-    let large = built(&rt, rt.alloc(), 333, 0)?;
+/// Whether the same is built with so many forks.
+fn is_built_again<R: Threads + Sync>(
+    rt: &R,
+    alloc: Global,
+    leaf: u16,
+    forks: u8,
+    whole: &Built<2>,
+) -> Result<bool, Memory>
+    requires { (2 ≤ leaf) × (leaf ≤ 333) }
+{
+    let again = built(rt, alloc, leaf, forks)?;
+    Ok(are_same(whole, &again))
+}
+
+/// What is built in leaves of this size is built with each number of forks.
+fn forks_leave<R: Threads + Sync + Abort>(rt: &R, alloc: Global, leaf: u16) -> Result<(), Fail>
+    requires { (2 ≤ leaf) × (leaf ≤ 333) }
+{
+    let whole = built(rt, alloc, leaf, 0)?;
     for forks in 1..7 {
-        holds(&rt, are_same(&small, &built(&rt, rt.alloc(), 2, forks)?));
-        holds(&rt, are_same(&large, &built(&rt, rt.alloc(), 333, forks)?));
+        let again = is_built_again(rt, alloc, leaf, forks, &whole)?;
+        holds_at(rt, again, &forks);
     }
     Ok(())
+}
+
+#[test]
+fn forks_make_no_difference(rt: HostRuntime) -> Result<(), Fail> {
+    forks_leave(&rt, rt.alloc(), 2)?;
+    forks_leave(&rt, rt.alloc(), 333)
 }
 
 /// A gate that waits a while for the other half.

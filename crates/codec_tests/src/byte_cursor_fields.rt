@@ -4,6 +4,7 @@ use crate::asserts::{same, same_at};
 use byte_cursor::{
     Bytes, Cursor, Short, VintFault, put_slice, put_u8, put_u16, put_u32, put_u64, put_vint,
 };
+use std::alloc::Global;
 use std::test::Fail;
 
 /// Vints with their numbers, and bytes that are none.
@@ -53,14 +54,28 @@ fn vints_are_taken(rt: HostRuntime) {
     }
 }
 
+/// The number as a vint, between two bytes.
+fn put(alloc: Global, n: u32) -> Result<Vec<u8>, Fail> {
+    let mut out = vec![in alloc; 9]?;
+    put_vint(&mut out, n)?;
+    put_u8(&mut out, 0xff)?;
+    Ok(out)
+}
+
+/// The bytes between the same two.
+fn framed(alloc: Global, bytes: &[u8]) -> Result<Vec<u8>, Fail> {
+    let mut out = vec![in alloc; 9]?;
+    out.extend_from_slice(bytes)?;
+    out.push(0xff)?;
+    Ok(out)
+}
+
 #[test]
 fn vints_are_put(rt: HostRuntime) -> Result<(), Fail> {
     for (bytes, want) in VINTS {
         if let Ok(n) = want {
-            let mut out = vec![in rt.alloc(); 9]?;
-            put_vint(&mut out, n)?;
-            put_u8(&mut out, 0xff)?;
-            same_at(&rt, &out[1..out.len() - 1], bytes, &n);
+            let expected = framed(rt.alloc(), bytes)?;
+            same_at(&rt, put(rt.alloc(), n)?.as_slice(), expected.as_slice(), &n);
         }
     }
     Ok(())

@@ -70,7 +70,11 @@ const HIGH: Point<2> = Point { c: [2, -7] };
 
 /// What the list of these points is made into.
 fn in_order(alloc: Global, points: &[Point<2>]) -> Result<Points<2>, Fail> {
-    Ok(Points::of(points.to_vec(alloc)?))
+    let list = points.to_vec(alloc)?;
+    if list.is_empty() || list.len() > 16 {
+        return Err("not 1 to 16 points".into());
+    }
+    Ok(Points::of(list))
 }
 
 #[test]
