@@ -1,5 +1,6 @@
 //! Values reckoned by hand.
 
+use crate::asserts::same;
 use crate::samples::entry;
 use bkd_build::{cut, widest};
 
@@ -7,15 +8,16 @@ use bkd_build::{cut, widest};
 fn finds_the_widest_dimension(rt: HostRuntime) {
     let (a, b, c) = (entry(4, [5, 3]), entry(1, [-7, 9]), entry(2, [12, 4]));
     // 19 and 6
-    assert_eq!(rt; widest(&[a, b, c]), 0);
+    same(&rt, widest(&[a, b, c]), 0);
     // 19 and 19: the first one
-    assert_eq!(rt; widest(&[a, b, c, entry(5, [0, -10])]), 0);
+    same(&rt, widest(&[a, b, c, entry(5, [0, -10])]), 0);
     // 19 and 20
-    assert_eq!(rt; widest(&[a, b, c, entry(6, [0, -11])]), 1);
+    same(&rt, widest(&[a, b, c, entry(6, [0, -11])]), 1);
     // the whole range of a coordinate
-    assert_eq!(rt;
+    same(
+        &rt,
         widest(&[entry(6, [0, i32::MIN]), b, entry(6, [i32::MAX, i32::MAX])]),
-        1
+        1,
     );
 }
 
@@ -29,10 +31,10 @@ fn cuts_by_a_dimension(rt: HostRuntime) {
         entry(0, [5, 2]),
         entry(2, [12, 4]),
     ];
-    assert_eq!(rt; cut(&mut few, 0, 2), 5);
-    assert_eq!(rt; few[0].doc ^ few[1].doc, 1);
-    assert_eq!(rt; cut(&mut few, 0, 4), 12);
-    assert_eq!(rt; few[4].doc, 2);
-    assert_eq!(rt; cut(&mut few, 1, 3), 4);
-    assert_eq!(rt; few[3].doc ^ few[4].doc, 3);
+    same(&rt, cut(&mut few, 0, 2), 5);
+    same(&rt, few[0].doc ^ few[1].doc, 1);
+    same(&rt, cut(&mut few, 0, 4), 12);
+    same(&rt, few[4].doc, 2);
+    same(&rt, cut(&mut few, 1, 3), 4);
+    same(&rt, few[3].doc ^ few[4].doc, 3);
 }

@@ -6,12 +6,14 @@ ghost use Rattle.leaf_codec.specs.LeafOrder.{NoneTwice};
 ghost use Rattle.leaf_codec.specs.Leaves.{leaf_limit};
 ghost use Rattle.bkd_build.specs.Parts.{AreEntries};
 
+use crate::asserts::{holds, holds_at, same, same_at};
 use crate::samples::{FIRST, OWN, SECOND, THIRD, entry};
 use bkd_build::{Built, Gate, OpenGate, build};
 use byte_cursor::Memory;
 use point_codec::Entry;
 use std::alloc::Global;
 use std::marker::Sync;
+use std::process::Abort;
 use std::sync::atomic::{AtomicU64, Ordering};
 use std::test::Fail;
 use std::thread::Threads;
@@ -57,10 +59,10 @@ fn five(rt: HostRuntime) -> Result<(), Fail> {
         entry(0, [5]),
     ];
     let built = alone(&rt, rt.alloc(), &mut entries)?;
-    assert_eq!(rt; built.index().body(), OWN.as_slice());
-    assert_eq!(rt; built.leaves().len(), 3);
+    same(&rt, built.index().body(), OWN.as_slice());
+    same(&rt, built.leaves().len(), 3);
     for (bytes, expected) in built.leaves().iter().zip(LEAVES.as_slice()) {
-        assert_eq!(rt; bytes.as_slice(), *expected);
+        same(&rt, bytes.as_slice(), *expected);
     }
     Ok(())
 }
@@ -68,8 +70,8 @@ fn five(rt: HostRuntime) -> Result<(), Fail> {
 #[test]
 fn one(rt: HostRuntime) -> Result<(), Fail> {
     let built = alone(&rt, rt.alloc(), &mut [entry(0, [5])])?;
-    assert_eq!(rt; built.index().body(), ONE_BODY.as_slice());
-    assert_eq!(rt; built.leaves().len(), 1);
+    same(&rt, built.index().body(), ONE_BODY.as_slice());
+    same(&rt, built.leaves().len(), 1);
     Ok(())
 }
 
@@ -79,13 +81,13 @@ fn equal_extents(rt: HostRuntime) -> Result<(), Fail> {
     let built = alone(&rt, rt.alloc(), &mut entries)?;
     let (index, _leaves) = built.into_parts();
     assert!(rt; index.body().len() > 18);
-    assert_eq!(rt; &index.body()[..18], SQUARE_HEAD.as_slice());
+    same(&rt, &index.body()[..18], SQUARE_HEAD.as_slice());
     Ok(())
 }
 
 /// The next draw of the minimal standard generator of Park and Miller.
 fn next(draw: u64) -> u64 {
-    draw % 2_147_483_647 * 48_271 % 2_147_483_647
+    (draw % 2_147_483_647).wrapping_mul(48_271) % 2_147_483_647
 }
 
 /// A coordinate from -100,000 to 100,000.
@@ -122,7 +124,7 @@ fn built<R: Threads + Sync>(rt: &R, alloc: Global, leaf: u16, forks: u8) -> Resu
 }
 
 /// Whether the bytes are the same.
-fn same(a: &Built<2>, b: &Built<2>) -> bool {
+fn are_same(a: &Built<2>, b: &Built<2>) -> bool {
     if a.index().body() != b.index().body() || a.leaves().len() != b.leaves().len() {
         return false;
     }
@@ -134,15 +136,36 @@ fn same(a: &Built<2>, b: &Built<2>) -> bool {
     true
 }
 
-#[test]
-fn forks_make_no_difference(rt: HostRuntime) -> Result<(), Fail> {
-    let small = built(&rt, rt.alloc(), 2, 0)?;
-    let large = built(&rt, rt.alloc(), 333, 0)?;
+/// Whether the same is built with so many forks.
+fn is_built_again<R: Threads + Sync>(
+    rt: &R,
+    alloc: Global,
+    leaf: u16,
+    forks: u8,
+    whole: &Built<2>,
+) -> Result<bool, Memory>
+    requires { (2 ≤ leaf) × (leaf ≤ 333) }
+{
+    let again = built(rt, alloc, leaf, forks)?;
+    Ok(are_same(whole, &again))
+}
+
+/// What is built in leaves of this size is built with each number of forks.
+fn forks_leave<R: Threads + Sync + Abort>(rt: &R, alloc: Global, leaf: u16) -> Result<(), Fail>
+    requires { (2 ≤ leaf) × (leaf ≤ 333) }
+{
+    let whole = built(rt, alloc, leaf, 0)?;
     for forks in 1..7 {
-        assert!(rt; same(&small, &built(&rt, rt.alloc(), 2, forks)?));
-        assert!(rt; same(&large, &built(&rt, rt.alloc(), 333, forks)?));
+        let again = is_built_again(rt, alloc, leaf, forks, &whole)?;
+        holds_at(rt, again, &forks);
     }
     Ok(())
+}
+
+#[test]
+fn forks_make_no_difference(rt: HostRuntime) -> Result<(), Fail> {
+    forks_leave(&rt, rt.alloc(), 2)?;
+    forks_leave(&rt, rt.alloc(), 333)
 }
 
 /// A gate that waits a while for the other half.
@@ -180,7 +203,7 @@ fn halves_run_beside_each_other(rt: HostRuntime) -> Result<(), Fail> {
         came: [AtomicU64::new(0), AtomicU64::new(0)],
         met: [AtomicU64::new(0), AtomicU64::new(0)],
     };
-    assert!(rt; meet(&rt, rt.alloc(), &gate)?);
+    holds(&rt, meet(&rt, rt.alloc(), &gate)?);
     Ok(())
 }
 
@@ -238,10 +261,11 @@ fn passes<R: Threads + Sync>(
 #[test]
 fn both_halves_fork_deeper(rt: HostRuntime) -> Result<(), Fail> {
     for (count, forks, nodes) in FORKED {
-        assert_eq!(rt;
+        same_at(
+            &rt,
             passes(&rt, rt.alloc(), count, forks)?,
             (nodes, nodes),
-            "{count} entries, {forks} levels"
+            &(count, forks),
         );
     }
     Ok(())

@@ -1,8 +1,10 @@
 //! Outside vectors, bad bytes, and each call that takes memory once.
 
+use crate::asserts::{same, same_at};
 use byte_cursor::{
     Bytes, Cursor, Short, VintFault, put_slice, put_u8, put_u16, put_u32, put_u64, put_vint,
 };
+use std::alloc::Global;
 use std::test::Fail;
 
 /// Vints with their numbers, and bytes that are none.
@@ -45,21 +47,35 @@ const VINTS: [(&[u8], Result<u32, VintFault>); 20] = [
 fn vints_are_taken(rt: HostRuntime) {
     for (bytes, want) in VINTS {
         let mut cursor = Cursor::new(bytes);
-        assert_eq!(rt; cursor.take_vint(), want, "at {bytes:?}");
+        same_at(&rt, cursor.take_vint(), want, &bytes);
         // what is refused is still there
         let left = if want.is_ok() { [].as_slice() } else { bytes };
-        assert_eq!(rt; cursor.rest(), left, "at {bytes:?}");
+        same_at(&rt, cursor.rest(), left, &bytes);
     }
+}
+
+/// The number as a vint, between two bytes.
+fn put(alloc: Global, n: u32) -> Result<Vec<u8>, Fail> {
+    let mut out = vec![in alloc; 9]?;
+    put_vint(&mut out, n)?;
+    put_u8(&mut out, 0xff)?;
+    Ok(out)
+}
+
+/// The bytes between the same two.
+fn framed(alloc: Global, bytes: &[u8]) -> Result<Vec<u8>, Fail> {
+    let mut out = vec![in alloc; 9]?;
+    out.extend_from_slice(bytes)?;
+    out.push(0xff)?;
+    Ok(out)
 }
 
 #[test]
 fn vints_are_put(rt: HostRuntime) -> Result<(), Fail> {
     for (bytes, want) in VINTS {
         if let Ok(n) = want {
-            let mut out = vec![in rt.alloc(); 9]?;
-            put_vint(&mut out, n)?;
-            put_u8(&mut out, 0xff)?;
-            assert_eq!(rt; &out[1..out.len() - 1], bytes, "at {n}");
+            let expected = framed(rt.alloc(), bytes)?;
+            same_at(&rt, put(rt.alloc(), n)?.as_slice(), expected.as_slice(), &n);
         }
     }
     Ok(())
@@ -78,18 +94,18 @@ fn fields_are_put(rt: HostRuntime) -> Result<(), Fail> {
     put_u32(&mut out, 0x0405_0607)?;
     put_u64(&mut out, 0x0809_0a0b_0c0d_0e0f)?;
     put_slice(&mut out, b"ab")?;
-    assert_eq!(rt; out.as_slice(), FIELDS.as_slice());
+    same(&rt, out.as_slice(), FIELDS.as_slice());
     Ok(())
 }
 
 #[test]
 fn fields_are_taken(rt: HostRuntime) {
     let mut cursor = Cursor::new(&FIELDS);
-    assert_eq!(rt; cursor.take_u8(), Ok(0x01));
-    assert_eq!(rt; cursor.take_u16(), Ok(0x0203));
-    assert_eq!(rt; cursor.take_u32(), Ok(0x0405_0607));
-    assert_eq!(rt; cursor.take_u64(), Ok(0x0809_0a0b_0c0d_0e0f));
-    assert_eq!(rt; cursor.rest(), b"ab".as_slice());
+    same(&rt, cursor.take_u8(), Ok(0x01));
+    same(&rt, cursor.take_u16(), Ok(0x0203));
+    same(&rt, cursor.take_u32(), Ok(0x0405_0607));
+    same(&rt, cursor.take_u64(), Ok(0x0809_0a0b_0c0d_0e0f));
+    same(&rt, cursor.rest(), b"ab".as_slice());
 }
 
 /// So many bytes of the last two, one after the other, and what is taken.
@@ -104,16 +120,16 @@ const SLICES: [(usize, Result<&[u8], Short>); 4] = [
 fn slices_are_taken(rt: HostRuntime) {
     let mut cursor = Cursor::new(&FIELDS[15..]);
     for (n, want) in SLICES {
-        assert_eq!(rt; cursor.take_slice(n), want, "{n} bytes");
+        same_at(&rt, cursor.take_slice(n), want, &n);
     }
-    assert_eq!(rt; cursor.take_u8(), Err(Short));
+    same(&rt, cursor.take_u8(), Err(Short));
 }
 
 #[test]
 fn bytes_are_kept(rt: HostRuntime) -> Result<(), Fail> {
     let kept = Bytes::new(FIELDS.to_vec(rt.alloc())?);
-    assert_eq!(rt; kept.as_slice(), FIELDS.as_slice());
-    assert_eq!(rt; kept.into_vec().as_slice(), FIELDS.as_slice());
+    same(&rt, kept.as_slice(), FIELDS.as_slice());
+    same(&rt, kept.into_vec().as_slice(), FIELDS.as_slice());
     Ok(())
 }
 
@@ -125,12 +141,12 @@ fn short(rt: HostRuntime) {
         let front = &bytes[..len];
         let mut cursor = Cursor::new(front);
         if len < 2 {
-            assert_eq!(rt; cursor.take_u16(), Err(Short));
+            same(&rt, cursor.take_u16(), Err(Short));
         }
         if len < 4 {
-            assert_eq!(rt; cursor.take_u32(), Err(Short));
+            same(&rt, cursor.take_u32(), Err(Short));
         }
-        assert_eq!(rt; cursor.take_u64(), Err(Short));
-        assert_eq!(rt; cursor.rest(), front);
+        same(&rt, cursor.take_u64(), Err(Short));
+        same(&rt, cursor.rest(), front);
     }
 }

@@ -2,6 +2,7 @@
 
 ghost use Rattle.std.specs.Prelude.{◌≤◌};
 
+use crate::asserts::{same, same_at};
 use crate::samples::{OWN, PACKED, TABLE};
 use byte_cursor::Bytes;
 use inner_pack::{Index, NotIndex};
@@ -120,7 +121,7 @@ fn each_byte_changed(rt: HostRuntime) -> Result<(), Fail> {
     let all = every_change(alloc)?;
     for (form, body, expected) in BYTES_CHANGED {
         let found = one_byte_off::<1>(alloc, form, 3, body, all.as_slice())?;
-        assert_eq!(rt; found, expected, "form {form}");
+        same_at(&rt, found, expected, &form);
     }
     Ok(())
 }
@@ -140,7 +141,7 @@ fn each_bit_changed(rt: HostRuntime) -> Result<(), Fail> {
     let alloc = rt.alloc();
     for (form, body, expected) in BITS_CHANGED {
         let found = one_byte_off::<2>(alloc, form, 5, body, &BITS)?;
-        assert_eq!(rt; found, expected, "form {form}");
+        same_at(&rt, found, expected, &form);
     }
     Ok(())
 }
@@ -148,28 +149,28 @@ fn each_bit_changed(rt: HostRuntime) -> Result<(), Fail> {
 #[test]
 fn each_bit_of_eight_dimensions_changed(rt: HostRuntime) -> Result<(), Fail> {
     let found = one_byte_off::<8>(rt.alloc(), 3, 1, &ONE_LEAF, &BITS)?;
-    assert_eq!(rt; found, 398);
+    same(&rt, found, 398);
     Ok(())
 }
 
 #[test]
 fn no_front_of_three_leaves_is_an_index(rt: HostRuntime) -> Result<(), Fail> {
     let alloc = rt.alloc();
-    assert_eq!(rt; fronts::<1>(alloc, 1, 3, &TABLE)?, 0);
-    assert_eq!(rt; fronts::<1>(alloc, 2, 3, &PACKED)?, 0);
+    same(&rt, fronts::<1>(alloc, 1, 3, &TABLE)?, 0);
+    same(&rt, fronts::<1>(alloc, 2, 3, &PACKED)?, 0);
     Ok(())
 }
 
 #[test]
 fn no_front_of_five_leaves_is_an_index(rt: HostRuntime) -> Result<(), Fail> {
     let alloc = rt.alloc();
-    assert_eq!(rt; fronts::<2>(alloc, 1, 5, &TABLE_OF_FIVE)?, 0);
-    assert_eq!(rt; fronts::<2>(alloc, 3, 5, &OWN_FIVE)?, 0);
+    same(&rt, fronts::<2>(alloc, 1, 5, &TABLE_OF_FIVE)?, 0);
+    same(&rt, fronts::<2>(alloc, 3, 5, &OWN_FIVE)?, 0);
     Ok(())
 }
 
 #[test]
 fn no_front_of_eight_dimensions_is_an_index(rt: HostRuntime) -> Result<(), Fail> {
-    assert_eq!(rt; fronts::<8>(rt.alloc(), 3, 1, &ONE_LEAF)?, 0);
+    same(&rt, fronts::<8>(rt.alloc(), 3, 1, &ONE_LEAF)?, 0);
     Ok(())
 }

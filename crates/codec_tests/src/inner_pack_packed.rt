@@ -3,6 +3,7 @@
 ghost use Rattle.std.specs.Prelude.{◌≡◌, ◌≤ℤ◌, ◌∷◌, []};
 ghost use Rattle.point_codec.specs.Seen.{region_of};
 
+use crate::asserts::same;
 use crate::samples::OWN;
 use inner_pack::Index;
 use point_codec::{Cell, Point};
@@ -43,8 +44,8 @@ fn three_leaves(rt: HostRuntime) -> Result<(), Fail> {
         &[12, 9, 9],
         &cells,
     )?;
-    assert_eq!(rt; index.body(), OWN.as_slice());
-    assert_eq!(rt; index.leaf_pages(), 1);
+    same(&rt, index.body(), OWN.as_slice());
+    same(&rt, index.leaf_pages(), 1);
     Ok(())
 }
 
@@ -55,7 +56,7 @@ fn one_leaf(rt: HostRuntime) -> Result<(), Fail> {
         hi: Point { c: [0, 0] },
     };
     let index = Index::pack(rt.alloc(), cell, &[], &[300], &[cell])?;
-    assert_eq!(rt; index.body(), ONE.as_slice());
+    same(&rt, index.body(), ONE.as_slice());
     Ok(())
 }
 
@@ -69,8 +70,8 @@ fn pages_end(rt: HostRuntime) -> Result<(), Fail> {
         &[4064, 1, 4063, 2],
         &cells,
     )?;
-    assert_eq!(rt; index.body(), PAGES.as_slice());
-    assert_eq!(rt; index.leaf_pages(), 3);
+    same(&rt, index.body(), PAGES.as_slice());
+    same(&rt, index.leaf_pages(), 3);
     Ok(())
 }
 
@@ -82,7 +83,11 @@ fn eight_dimensions(rt: HostRuntime) -> Result<(), Fail> {
     };
     let index = Index::pack(rt.alloc(), cell, &[(7, 0)], &[1, 1], &[cell, cell])?;
     // The code of dimension 7 with all four bytes shared, the place, and a left child of 65 bytes.
-    assert_eq!(rt; index.body().get(64..68), Some([39u8, 0, 1, 65].as_slice()));
-    assert_eq!(rt; index.body().len(), 64 + 4 + 2 * 65);
+    same(
+        &rt,
+        index.body().get(64..68),
+        Some([39u8, 0, 1, 65].as_slice()),
+    );
+    same(&rt, index.body().len(), 64 + 4 + 2 * 65);
     Ok(())
 }

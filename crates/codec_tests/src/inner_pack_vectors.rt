@@ -1,5 +1,6 @@
 //! Outside vectors.
 
+use crate::asserts::{holds_at, same};
 use crate::samples::{OWN, PACKED, TABLE};
 use byte_cursor::Bytes;
 use inner_pack::{Index, LeafPlace, NodeAt};
@@ -77,21 +78,21 @@ fn vectors_are_read(rt: HostRuntime) -> Result<(), Fail> {
 #[test]
 fn pages_are_counted(rt: HostRuntime) -> Result<(), Fail> {
     let table = read(&rt, 1, 3, &TABLE)?;
-    assert_eq!(rt; table.leaf_pages(), 1);
+    same(&rt, table.leaf_pages(), 1);
     Ok(())
 }
 
 #[test]
 fn a_copy_has_the_body(rt: HostRuntime) -> Result<(), Fail> {
     let packed = read(&rt, 2, 3, &PACKED)?;
-    assert_eq!(rt; packed.copy(rt.alloc())?.body(), PACKED.as_slice());
+    same(&rt, packed.copy(rt.alloc())?.body(), PACKED.as_slice());
     Ok(())
 }
 
 #[test]
 fn others_are_refused(rt: HostRuntime) -> Result<(), Fail> {
     for (form, leaves, b) in REFUSED {
-        assert!(rt; !is_read(&rt, form, leaves, b)?, "{b:?}");
+        holds_at(&rt, !is_read(&rt, form, leaves, b)?, &b);
     }
     Ok(())
 }
@@ -99,7 +100,7 @@ fn others_are_refused(rt: HostRuntime) -> Result<(), Fail> {
 #[test]
 fn fronts_are_refused(rt: HostRuntime) -> Result<(), Fail> {
     for n in 0..OWN.len() {
-        assert!(rt; !is_read(&rt, 3, 3, &OWN[..n])?, "{n} bytes");
+        holds_at(&rt, !is_read(&rt, 3, 3, &OWN[..n])?, &n);
     }
     Ok(())
 }
@@ -116,24 +117,24 @@ fn is_read(rt: &HostRuntime, form: u8, leaves: u32, b: &[u8]) -> Result<bool, Fa
 
 /// The last leaf of the three stands at 21, and its cell begins at 7.
 fn shows(rt: &impl Abort, root: &NodeAt<'_, 1>) {
-    assert_eq!(rt; root.leaf_count(), 3);
+    same(rt, root.leaf_count(), 3);
     let Some((left, last)) = root.children() else {
-        return assert!(rt; false, "no children");
+        return holds_at(rt, false, &"no children");
     };
-    assert_eq!(rt; last.first_leaf(), 2);
-    assert_eq!(rt; last.cell().lo.c, [7]);
+    same(rt, last.first_leaf(), 2);
+    same(rt, last.cell().lo.c, [7]);
     stands(rt, &last, 21);
     shows_left(rt, &left);
 }
 
 /// The leaf before the last one stands at 12, and its cell is one value alone.
 fn shows_left(rt: &impl Abort, left: &NodeAt<'_, 1>) {
-    assert_eq!(rt; left.cell().lo.c, [5]);
+    same(rt, left.cell().lo.c, [5]);
     let Some((_, middle)) = left.children() else {
-        return assert!(rt; false, "no children");
+        return holds_at(rt, false, &"no children");
     };
-    assert_eq!(rt; middle.cell().lo.c, [7]);
-    assert_eq!(rt; middle.cell().hi.c, [7]);
+    same(rt, middle.cell().lo.c, [7]);
+    same(rt, middle.cell().hi.c, [7]);
     stands(rt, &middle, 12);
 }
 
@@ -143,5 +144,5 @@ fn stands(rt: &impl Abort, leaf: &NodeAt<'_, 1>, offset: u16) {
         offset,
         length: 9,
     };
-    assert_eq!(rt; leaf.leaf_place(), Some(place));
+    same(rt, leaf.leaf_place(), Some(place));
 }

@@ -5,6 +5,7 @@ ghost use Rattle.point_codec.specs.Seen.{items_of};
 ghost use Rattle.leaf_codec.specs.LeafOrder.{NoneTwice};
 ghost use Rattle.leaf_codec.specs.Leaves.{leaf_limit};
 
+use crate::asserts::same;
 use crate::samples::{FIRST, SECOND, THIRD, entry};
 use byte_cursor::Bytes;
 use leaf_codec::{LeafView, arrange, encode_leaf, greatest_leaf};
@@ -33,7 +34,7 @@ fn leaf<const D: usize>(rt: HostRuntime, entries: &mut [Entry<D>]) -> Result<Byt
 #[tactic(auto, using(leaf_codec::proofs::Apart::none_twice))]
 fn spelled_in_order(rt: HostRuntime) -> Result<(), Fail> {
     let bytes = leaf(rt, &mut [entry(1, [7]), entry(0, [5])])?;
-    assert_eq!(rt; bytes.as_slice(), FIRST.as_slice());
+    same(&rt, bytes.as_slice(), FIRST.as_slice());
     Ok(())
 }
 
@@ -41,7 +42,7 @@ fn spelled_in_order(rt: HostRuntime) -> Result<(), Fail> {
 #[tactic(auto, using(leaf_codec::proofs::Apart::none_twice))]
 fn spelled_at_one_point(rt: HostRuntime) -> Result<(), Fail> {
     let bytes = leaf(rt, &mut [entry(2, [7]), entry(3, [7])])?;
-    assert_eq!(rt; bytes.as_slice(), SECOND.as_slice());
+    same(&rt, bytes.as_slice(), SECOND.as_slice());
     Ok(())
 }
 
@@ -49,7 +50,7 @@ fn spelled_at_one_point(rt: HostRuntime) -> Result<(), Fail> {
 #[tactic(auto, using(leaf_codec::proofs::Apart::none_twice))]
 fn spelled_alone(rt: HostRuntime) -> Result<(), Fail> {
     let bytes = leaf(rt, &mut [entry(4, [7])])?;
-    assert_eq!(rt; bytes.as_slice(), THIRD.as_slice());
+    same(&rt, bytes.as_slice(), THIRD.as_slice());
     Ok(())
 }
 
@@ -66,7 +67,7 @@ fn spelled_in_pieces(rt: HostRuntime) -> Result<(), Fail> {
             entry(5, [2, 50]),
         ],
     )?;
-    assert_eq!(rt; bytes.as_slice(), PIECES.as_slice());
+    same(&rt, bytes.as_slice(), PIECES.as_slice());
     Ok(())
 }
 
@@ -82,7 +83,7 @@ fn limits(rt: HostRuntime) -> Result<(), Fail> {
         (7, 125),
         (8, 111),
     ] {
-        assert_eq!(rt; greatest_leaf(dims), limit);
+        same(&rt, greatest_leaf(dims), limit);
     }
     Ok(())
 }
@@ -121,7 +122,7 @@ const CELLS: [(i32, i32, u16, (u16, u64)); 5] = [
 #[test]
 fn read_in_cells(rt: HostRuntime) -> Result<(), Fail> {
     for (lo, hi, count, expected) in CELLS {
-        assert_eq!(rt; shown(&FIRST, [lo], [hi], count), expected);
+        same(&rt, shown(&FIRST, [lo], [hi], count), expected);
     }
     Ok(())
 }
@@ -129,7 +130,7 @@ fn read_in_cells(rt: HostRuntime) -> Result<(), Fail> {
 #[test]
 fn no_front_is_read(rt: HostRuntime) -> Result<(), Fail> {
     for n in 0..FIRST.len() {
-        assert_eq!(rt; shown(&FIRST[..n], [0], [9], 2), (0, 0));
+        same(&rt, shown(&FIRST[..n], [0], [9], 2), (0, 0));
     }
     Ok(())
 }
@@ -148,7 +149,7 @@ const REFUSED: [&[u8]; 7] = [
 #[test]
 fn others_are_refused(rt: HostRuntime) -> Result<(), Fail> {
     for bytes in REFUSED {
-        assert_eq!(rt; shown(bytes, [0], [9], 2), (0, 0));
+        same(&rt, shown(bytes, [0], [9], 2), (0, 0));
     }
     Ok(())
 }
@@ -161,8 +162,8 @@ const OTHER_PIECES: [u8; 29] = [
 
 #[test]
 fn pieces_are_read(rt: HostRuntime) -> Result<(), Fail> {
-    assert_eq!(rt; shown(&PIECES, [0, 0], [9, 90], 5).0, 5);
-    assert_eq!(rt; shown(&OTHER_PIECES, [0, 0], [9, 90], 5), (0, 0));
+    same(&rt, shown(&PIECES, [0, 0], [9, 90], 5).0, 5);
+    same(&rt, shown(&OTHER_PIECES, [0, 0], [9, 90], 5), (0, 0));
     Ok(())
 }
 
@@ -190,7 +191,7 @@ fn leaves_one_byte_off<const D: usize>(
 /// The counts come from a reader and a writer of leaves in another language.
 #[test]
 fn one_byte_changed(rt: HostRuntime) -> Result<(), Fail> {
-    assert_eq!(rt; leaves_one_byte_off::<1>(rt, &FIRST, 2)?, 1147);
-    assert_eq!(rt; leaves_one_byte_off::<2>(rt, &PIECES, 5)?, 3701);
+    same(&rt, leaves_one_byte_off::<1>(rt, &FIRST, 2)?, 1147);
+    same(&rt, leaves_one_byte_off::<2>(rt, &PIECES, 5)?, 3701);
     Ok(())
 }

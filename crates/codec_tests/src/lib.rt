@@ -3,6 +3,8 @@
 #![tactic(auto)]
 
 #[cfg(test)]
+mod asserts;
+#[cfg(test)]
 mod bkd_build_cuts;
 #[cfg(test)]
 mod bkd_build_trees;

@@ -1,7 +1,9 @@
 //! Outside vectors, bad bytes, and each call that takes memory once.
 
+use crate::asserts::{same, same_at};
 use byte_cursor::Bytes;
 use live_bits::{BitsFault, LiveBits};
+use std::alloc::Global;
 use std::process::Abort;
 use std::test::Fail;
 
@@ -16,64 +18,124 @@ const BODY: [u8; 37] = [
     0x43,
 ];
 
+/// The base, the span and how many are live.
+fn sizes(set: &LiveBits) -> (u32, u32, u32) {
+    (set.base(), set.span(), set.live_count())
+}
+
+/// Writes the set as that of segment 2, generation 1: these are the bytes of the body.
+fn spells(rt: &(impl Abort + AllocGlobal), set: &LiveBits) -> Result<(), Fail> {
+    same(rt, set.write(rt.alloc(), 2, 1)?.as_slice(), BODY.as_slice());
+    Ok(())
+}
+
+/// The set of the body's numbers.
+fn made(rt: &impl AllocGlobal) -> Result<LiveBits, Fail> {
+    Ok(LiveBits::of_docs(rt.alloc(), &[9, 3, 4, 9, 3])?)
+}
+
+/// What the body is read as.
+fn read(rt: &impl AllocGlobal) -> Result<LiveBits, Fail> {
+    let given = Bytes::new(BODY.to_vec(rt.alloc())?);
+    Ok(LiveBits::read(rt.alloc(), 2, 1, given)?)
+}
+
 #[test]
 fn one_set(rt: HostRuntime) -> Result<(), Fail> {
-    let mut set = LiveBits::of_docs(rt.alloc(), &[9, 3, 4, 9, 3])?;
-    assert_eq!(rt; (set.base(), set.span(), set.live_count()), (3, 7, 3));
-    assert_eq!(rt; set.write(rt.alloc(), 2, 1)?.as_slice(), BODY.as_slice());
+    let set = made(&rt)?;
+    same(&rt, sizes(&set), (3, 7, 3));
+    spells(&rt, &set)?;
+    spells(&rt, &read(&rt)?)
+}
 
-    let given = Bytes::new(BODY.to_vec(rt.alloc())?);
-    let read = LiveBits::read(rt.alloc(), 2, 1, given)?;
-    assert_eq!(rt; read.write(rt.alloc(), 2, 1)?.as_slice(), BODY.as_slice());
-    for (doc, live) in [
-        (0, false),
-        (3, true),
-        (4, true),
-        (5, false),
-        (9, true),
-        (10, false),
-        (u32::MAX, false),
-    ] {
-        assert_eq!(rt; read.is_live(doc), live, "at {doc}");
-    }
-    for (first, word) in [(0, 0x218), (3, 0x43), (4, 0x21), (10, 0), (u32::MAX, 0)] {
-        assert_eq!(rt; read.word(first), word, "from {first}");
-    }
+/// Numbers, and whether they are live.
+const LIVE: [(u32, bool); 7] = [
+    (0, false),
+    (3, true),
+    (4, true),
+    (5, false),
+    (9, true),
+    (10, false),
+    (u32::MAX, false),
+];
 
+#[test]
+fn live_numbers(rt: HostRuntime) -> Result<(), Fail> {
+    let set = read(&rt)?;
+    for (doc, live) in LIVE {
+        same_at(&rt, set.is_live(doc), live, &doc);
+    }
+    Ok(())
+}
+
+/// Numbers, and the word from each on.
+const WORDS: [(u32, u64); 5] = [(0, 0x218), (3, 0x43), (4, 0x21), (10, 0), (u32::MAX, 0)];
+
+#[test]
+fn words(rt: HostRuntime) -> Result<(), Fail> {
+    let set = read(&rt)?;
+    for (first, word) in WORDS {
+        same_at(&rt, set.word(first), word, &first);
+    }
+    Ok(())
+}
+
+/// Numbers that are cleared in turn, and whether they were live.
+const CLEARED: [(u32, bool); 6] = [
+    (4, true),
+    (4, false),
+    (8, false),
+    (2, false),
+    (11, false),
+    (3, true),
+];
+
+/// Which of the body's numbers are live.
+fn three(set: &LiveBits) -> (bool, bool, bool) {
+    (set.is_live(3), set.is_live(4), set.is_live(9))
+}
+
+#[test]
+fn cleared_numbers(rt: HostRuntime) -> Result<(), Fail> {
+    let mut set = made(&rt)?;
     let before = set.copy(rt.alloc())?;
-    for (doc, was) in [
-        (4, true),
-        (4, false),
-        (8, false),
-        (2, false),
-        (11, false),
-        (3, true),
-    ] {
-        assert_eq!(rt; set.clear(doc), was, "at {doc}");
+    for (doc, was) in CLEARED {
+        same_at(&rt, set.clear(doc), was, &doc);
     }
-    assert_eq!(rt; (set.base(), set.span(), set.live_count()), (3, 7, 1));
-    assert_eq!(rt;
-        (set.is_live(3), set.is_live(4), set.is_live(9)),
-        (false, false, true)
-    );
-    assert_eq!(rt; before.write(rt.alloc(), 2, 1)?.as_slice(), BODY.as_slice());
+    same(&rt, sizes(&set), (3, 7, 1));
+    same(&rt, three(&set), (false, false, true));
+    spells(&rt, &before)
+}
+
+#[test]
+fn no_numbers(rt: HostRuntime) -> Result<(), Fail> {
+    let none = LiveBits::of_docs(rt.alloc(), &[])?;
+    same(&rt, sizes(&none), (0, 0, 0));
+    same(&rt, none.write(rt.alloc(), 0, 0)?.as_slice().len(), 36);
+    Ok(())
+}
+
+/// The least number and the greatest one.
+fn ends(alloc: Global) -> Result<LiveBits, Fail> {
+    Ok(LiveBits::of_docs(alloc, &[16_777_215, 0])?)
+}
+
+#[test]
+fn the_widest_span(rt: HostRuntime) -> Result<(), Fail> {
+    same(&rt, sizes(&ends(rt.alloc())?), (0, 16_777_216, 2));
     Ok(())
 }
 
 #[test]
-fn ends(rt: HostRuntime) -> Result<(), Fail> {
-    let none = LiveBits::of_docs(rt.alloc(), &[])?;
-    assert_eq!(rt; (none.base(), none.span(), none.live_count()), (0, 0, 0));
-    assert_eq!(rt; none.write(rt.alloc(), 0, 0)?.as_slice().len(), 36);
-    let all = LiveBits::of_docs(rt.alloc(), &[16_777_215, 0])?;
-    assert_eq!(rt;
-        (all.base(), all.span(), all.live_count()),
-        (0, 16_777_216, 2)
-    );
-    let body = all.write(rt.alloc(), u64::MAX, u64::MAX)?;
-    assert_eq!(rt; body.as_slice().len(), 36 + 2_097_152);
+fn the_longest_body(rt: HostRuntime) -> Result<(), Fail> {
+    let body = ends(rt.alloc())?.write(rt.alloc(), u64::MAX, u64::MAX)?;
+    same(&rt, body.as_slice().len(), 36 + 2_097_152);
     let read = LiveBits::read(rt.alloc(), u64::MAX, u64::MAX, body)?;
-    assert_eq!(rt; (read.live_count(), read.is_live(16_777_215)), (2, true));
+    same(
+        &rt,
+        (read.live_count(), read.is_live(16_777_215)),
+        (2, true),
+    );
     Ok(())
 }
 
@@ -83,7 +145,7 @@ fn live_in(rt: &(impl Abort + AllocGlobal), bytes: &[u8]) -> Result<Option<u32>,
     match LiveBits::read(rt.alloc(), 2, 1, given) {
         Ok(set) => Ok(Some(set.live_count())),
         Err(BitsFault::NotBits { b }) => {
-            assert_eq!(rt; b.as_slice(), bytes);
+            same(rt, b.as_slice(), bytes);
             Ok(None)
         }
         Err(BitsFault::Memory) => Err("memory is wanting")?,
@@ -91,34 +153,43 @@ fn live_in(rt: &(impl Abort + AllocGlobal), bytes: &[u8]) -> Result<Option<u32>,
 }
 
 #[test]
-fn no_body(rt: HostRuntime) -> Result<(), Fail> {
+fn no_front_is_a_body(rt: HostRuntime) -> Result<(), Fail> {
     for len in 0..BODY.len() {
-        assert_eq!(rt; live_in(&rt, &BODY[..len])?, None, "the first {len} bytes");
+        same_at(&rt, live_in(&rt, &BODY[..len])?, None, &len);
     }
-    // one byte more; and single bytes changed: magic, segment, generation, span, count, a bit, a bit past the span
-    for (at, byte) in [
-        (37, 0),
-        (0, 0x43),
-        (15, 3),
-        (23, 0),
-        (28, 1),
-        (31, 6),
-        (31, 9),
-        (35, 2),
-        (36, 0x42),
-        (36, 0xc3),
-    ] {
-        let mut bytes = BODY.to_vec(rt.alloc())?;
-        if at < bytes.len() {
-            bytes[at] = byte;
-        } else {
-            bytes.push(byte)?;
-        }
-        assert_eq!(rt;
-            live_in(&rt, bytes.as_slice())?,
-            None,
-            "byte {at} as {byte}"
-        );
+    Ok(())
+}
+
+/// One byte more; and single bytes changed: magic, segment, generation, span, count, a bit, a bit past the span.
+const CHANGES: [(usize, u8); 10] = [
+    (37, 0),
+    (0, 0x43),
+    (15, 3),
+    (23, 0),
+    (28, 1),
+    (31, 6),
+    (31, 9),
+    (35, 2),
+    (36, 0x42),
+    (36, 0xc3),
+];
+
+/// The body with one byte changed, or put behind it.
+fn changed(alloc: Global, at: usize, byte: u8) -> Result<Vec<u8>, Fail> {
+    let mut bytes = BODY.to_vec(alloc)?;
+    if at < bytes.len() {
+        bytes[at] = byte;
+    } else {
+        bytes.push(byte)?;
+    }
+    Ok(bytes)
+}
+
+#[test]
+fn no_body(rt: HostRuntime) -> Result<(), Fail> {
+    for (at, byte) in CHANGES {
+        let bytes = changed(rt.alloc(), at, byte)?;
+        same_at(&rt, live_in(&rt, bytes.as_slice())?, None, &(at, byte));
     }
     Ok(())
 }
@@ -134,7 +205,7 @@ fn greatest_base(rt: HostRuntime) -> Result<(), Fail> {
         bytes[27] = base;
         bytes[31] = 0;
         bytes[35] = 0;
-        assert_eq!(rt; live_in(&rt, bytes.as_slice())?, answer);
+        same(&rt, live_in(&rt, bytes.as_slice())?, answer);
     }
     Ok(())
 }
@@ -151,6 +222,6 @@ fn one_byte_changed(rt: HostRuntime) -> Result<(), Fail> {
             found = found.saturating_add(u32::from(live == Some(3) && bytes != BODY));
         }
     }
-    assert_eq!(rt; found, 800);
+    same(&rt, found, 800);
     Ok(())
 }

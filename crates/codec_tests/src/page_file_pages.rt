@@ -1,6 +1,7 @@
 //! Digests from outside, and bytes that are no page for their place.
 
-use page_file::{PAGE_LEN, PAYLOAD_LEN, PageView, seal};
+use crate::asserts::{holds, holds_at, same};
+use page_file::{PAGE_LEN, PAYLOAD_LEN, PageBytes, PageView, seal};
 
 /// The digest of the payload `abc` in page 0x090a0b0c of file 0x0102030405060708 of kind 1.
 const ABC: [u8; 32] = [
@@ -20,28 +21,55 @@ const FULL: [u8; 32] = [
     0x5b, 0x3e, 0xb3, 0x4d, 0xc8, 0xb7, 0x7a, 0xff, 0xc9, 0xe2, 0x51, 0x4d, 0x9e, 0x04, 0xa2, 0xbe,
 ];
 
+/// The payload of a full page.
+const WHOLE: [u8; PAYLOAD_LEN] = [0xff; PAYLOAD_LEN];
+
+/// Kinds, files, page numbers and payloads, with their digests.
+const PAGES: [(u8, u64, u32, &[u8], &[u8; 32]); 3] = [
+    (1, 0x0102_0304_0506_0708, 0x090a_0b0c, b"abc", &ABC),
+    (3, 0, 0, b"", &EMPTY),
+    (2, 7, 1, &WHOLE, &FULL),
+];
+
+/// The page of a payload, of which as much is taken as fits.
+fn page_of(kind: u8, file: u64, number: u32, payload: &[u8]) -> PageBytes {
+    seal(
+        kind,
+        file,
+        number,
+        payload.split_at(payload.len().min(PAYLOAD_LEN)).0,
+    )
+}
+
 #[test]
 fn pages(rt: HostRuntime) {
-    let full = [0xffu8; PAYLOAD_LEN];
-    let table: [(u8, u64, u32, &[u8], &[u8; 32]); 3] = [
-        (1, 0x0102_0304_0506_0708, 0x090a_0b0c, b"abc", &ABC),
-        (3, 0, 0, b"", &EMPTY),
-        (2, 7, 1, &full, &FULL),
-    ];
-    for (kind, file, number, payload, digest) in table {
-        assert!(rt; payload.len() <= PAYLOAD_LEN);
-        let page = seal(kind, file, number, payload);
-        assert_eq!(rt; &page.b[PAYLOAD_LEN..], digest.as_slice());
-        assert!(rt; page.b[..PAYLOAD_LEN].starts_with(payload));
-        assert!(rt; page.b[payload.len()..PAYLOAD_LEN].iter().all(|b| *b == 0));
+    for (kind, file, number, payload, digest) in PAGES {
+        let page = page_of(kind, file, number, payload);
+        same(&rt, &page.b[PAYLOAD_LEN..], digest.as_slice());
+        let (front, _) = page.b.split_at(payload.len().min(PAYLOAD_LEN));
+        same(&rt, front, payload);
+        let mut filling = page.b[..PAYLOAD_LEN].iter().skip(payload.len());
+        holds(&rt, filling.all(|b| *b == 0));
+    }
+}
 
-        assert_eq!(rt;
+/// Whether these bytes are a page of this place.
+fn is_page(kind: u8, file: u64, number: u32, page: &PageBytes) -> bool {
+    PageView::check(kind, file, number, page).is_some()
+}
+
+#[test]
+fn pages_of_places(rt: HostRuntime) {
+    for (kind, file, number, payload, _) in PAGES {
+        let page = page_of(kind, file, number, payload);
+        same(
+            &rt,
             PageView::check(kind, file, number, &page).map(|v| v.payload()),
-            Some(&page.b[..PAYLOAD_LEN])
+            Some(&page.b[..PAYLOAD_LEN]),
         );
-        assert!(rt; PageView::check(kind ^ 1, file, number, &page).is_none());
-        assert!(rt; PageView::check(kind, file ^ 1 << 63, number, &page).is_none());
-        assert!(rt; PageView::check(kind, file, number ^ 1, &page).is_none());
+        holds(&rt, !is_page(kind ^ 1, file, number, &page));
+        holds(&rt, !is_page(kind, file ^ 1 << 63, number, &page));
+        holds(&rt, !is_page(kind, file, number ^ 1, &page));
     }
 }
 
@@ -50,11 +78,8 @@ fn changed(rt: HostRuntime) {
     let mut page = seal(1, 2, 3, b"some payload");
     for at in 0..PAGE_LEN {
         page.b[at] ^= 0x10;
-        assert!(rt;
-            PageView::check(1, 2, 3, &page).is_none(),
-            "byte {at} changed"
-        );
+        holds_at(&rt, !is_page(1, 2, 3, &page), &at);
         page.b[at] ^= 0x10;
     }
-    assert!(rt; PageView::check(1, 2, 3, &page).is_some());
+    holds(&rt, is_page(1, 2, 3, &page));
 }
