@@ -22,8 +22,9 @@ use Rattle.point_codec.specs.Order.{in_order}
 use Rattle.point_codec.specs.Points.{ordered}
 use Rattle.point_codec.proofs.Corners.{both_true}
 use Rattle.point_codec.proofs.Ordered.{points_exact, points_total}
-use Rattle.script_lang.specs.Reading.{onto_values, pieces, value_of, values_of}
+use Rattle.script_lang.specs.Reading.{box_of, corners_of, onto_values, pieces, values_of}
 use Rattle.script_lang.specs.declared.faults.LineFault.{LineFault}
+use Rattle.script_lang.specs.declared.faults.LineFault.TheVariants as fault
 
 -- ---- a coordinate is a number of 32 bits
 
@@ -92,6 +93,23 @@ pub are_values : (place : ℕ) (words : List (List ℕ)) (xs : List ℤ) → val
 are_values place [] xs e = let is : [] ≡ xs = cc in subst (AreValues []) is (record { long = refl; fits = All-nil Fits })
 are_values place (w ∷ ws) xs e =
     values_by place w ws (coordinate w) (values_of coordinate (place + 1) ws) (coordinate_fits w) (are_values (place + 1) ws) _ xs e
+
+-- the ends of a box have as many coordinates as are asked for
+pub box_long : (r place : ℕ) (words : List (List ℕ)) (ends : List ℤ × List ℤ) → box_of r place words ≡ Ok ends → (length ends.0 ≡ r) × (length ends.1 ≡ r)
+unfolding box_of
+box_long r place words ends e = by (length words == 2 * r) (values_of coordinate place words) refl refl e
+  where
+    by : (b : Bool) (read : Result (List ℤ) LineFault) → (length words == 2 * r) ≡ b → values_of coordinate place words ≡ read
+        → cond b (corners_of r read) (Err fault.Words) ≡ Ok ends → (length ends.0 ≡ r) × (length ends.1 ≡ r)
+    by false read t is same = cc
+    by true (Err f) t is same = cc
+    by true (Ok xs) t is same =
+        let two : length words ≡ 2 * r = grind (arith, nat_tests) in
+        let values = are_values place words xs is in
+        let pair : (take r xs, drop r xs) ≡ ends = cc in
+        let short : r ≤ length xs = omega (arith, two, values.long) in
+        let less = length-drop r xs in
+        subst (λ (p : List ℤ × List ℤ). (length p.0 ≡ r) × (length p.1 ≡ r)) pair (length-take-le r xs short, omega (arith, less, two, values.long))
 
 -- ---- points
 

@@ -1,7 +1,7 @@
 -- What a line asks is within the limits, what it names are ranges, and no line fails for want of memory.
 use Rattle.std.proofs.Common.{◌≡◌, ℕ, ◌+◌, ◌*◌, ◌/◌, ◌%◌, ◌==◌, ◌≤◌, ◌&&◌, Bool, true, false, cond, List, [], ◌∷◌, Option, Some, None, Result, Ok, Err, arith, refl, sym, subst, ℤ}
 use Rattle.std.specs.Prelude.{◌≢◌, not, ok_or, IfOk, All, FitsSigned}
-use Rattle.std.proofs.Common.{length, take, drop, length-take-le, length-drop, ◌∙◌}
+use Rattle.std.proofs.Common.{length, ◌∙◌}
 use Rattle.std.specs.List.{list_all, Contains as HasElement}
 use Rattle.std.proofs.lemmas.List.Elements.{All-contains, All-contains_itself, All-weaker}
 use mir.Syntax.{w32}
@@ -13,7 +13,7 @@ use Rattle.point_codec.specs.Points.{Region, ordered}
 use Rattle.script_lang.specs.Requests.{Request, Viewed}
 use Rattle.script_lang.specs.Requests as asks
 use Rattle.script_lang.specs.Reading.{Reading, Says, Fails, greatest_leaf, is_from_to, given, value_of, values_of, onto_values, name_of, alone, created}
-use Rattle.script_lang.specs.Reading.{read_add, read_merge, query_of, box_of, corners_of, pieces, points_of, text_of, read}
+use Rattle.script_lang.specs.Reading.{read_add, read_merge, query_of, box_of, pieces, points_of, text_of, read}
 use Rattle.script_lang.specs.Lines.{words_of}
 use Rattle.script_lang.specs.Seen.{IsWithinLimits, first_request_of}
 use Rattle.script_lang.specs.declared.commands.First.{First}
@@ -23,7 +23,7 @@ use Rattle.range_docs.specs.Ranges.{AreEnds, IsQuery, range_of, is_range}
 use Rattle.range_docs.specs.Refusals.{fault_of}
 use Rattle.range_docs.specs.Reading.{RangeRequest, Asks, Finds, RangeReading, as_points, from_part, read_create_ranges, if_ranges, read_delete_number}
 use Rattle.range_docs.specs.Reading.{read_question, read_without_ranges, read_range_command, read_range_words, if_blank, range_read, read_range_text}
-use Rattle.range_docs.proofs.Added.{IsPoint, all_ordered, are_values, pieces_are}
+use Rattle.range_docs.proofs.Added.{IsPoint, all_ordered, are_values, box_long, pieces_are}
 use Rattle.range_docs.specs.Seen.{of_points, asked, AgreesOnRanges, AddsRanges, NamesRanges}
 use Rattle.range_docs.specs.declared.ranges.Question.{Question}
 use Rattle.range_docs.specs.declared.ranges.Question.TheVariants.{Intersects, Within, Contains}
@@ -225,22 +225,6 @@ add_sound r dims words two =
         (values.long ∙ omega (arith, none, less, within), values.fits))
     by true false e = refused r (fault.Line line.Words)
     by false few e = refused r (fault.Line line.Words)
-
-box_long : (r place : ℕ) (words : List (List ℕ)) (ends : List ℤ × List ℤ) → box_of r place words ≡ Ok ends → (length ends.0 ≡ r) × (length ends.1 ≡ r)
-unfolding box_of
-box_long r place words ends e = by (length words == 2 * r) (values_of coordinate place words) refl refl e
-  where
-    by : (b : Bool) (read : Result (List ℤ) LineFault) → (length words == 2 * r) ≡ b → values_of coordinate place words ≡ read
-        → cond b (corners_of r read) (Err line.Words) ≡ Ok ends → (length ends.0 ≡ r) × (length ends.1 ≡ r)
-    by false read t is same = cc
-    by true (Err f) t is same = cc
-    by true (Ok xs) t is same =
-        let two : length words ≡ 2 * r = grind (arith, nat_tests) in
-        let values = are_values place words xs is in
-        let pair : (take r xs, drop r xs) ≡ ends = cc in
-        let short : r ≤ length xs = omega (arith, two, values.long) in
-        let less = length-drop r xs in
-        subst (λ (p : List ℤ × List ℤ). (length p.0 ≡ r) × (length p.1 ≡ r)) pair (length-take-le r xs short, omega (arith, less, two, values.long))
 
 asked_sound : (r : ℕ) (question : Question) (view : Viewed) (query : Region) → length query.lo ≡ r → length query.hi ≡ r
     → IsSound r (cond (is_range query) (Ok (Finds question view query)) (Err fault.NotRange))
