@@ -4,7 +4,7 @@ use Rattle.std.proofs.lemmas.Bool.{false≢true}
 use Rattle.outer_io.specs.Files.{Files}
 use Rattle.script_lang.specs.Lines.{lines_of}
 use Rattle.stored_index.specs.Stored.{IsStored}
-use Rattle.command_words.specs.Commands.{Asked, Run, Load, Explain, Check, Generate, Session, Count, said}
+use Rattle.command_words.specs.Commands.{Asked, Run, Load, Explain, Check, Generate, Session, Count, Ranges, said}
 use Rattle.command_words.specs.declared.Words.{Words}
 use Rattle.drawn_points.specs.Generated.{generated}
 use Rattle.explain_queries.specs.Explained.{IsScope, Scope, silence}
@@ -17,13 +17,17 @@ use Rattle.bkd_top.specs.Commands.{Before, EndsAsked, EndsExplain, EndsWhole, re
 use Rattle.run_status.specs.Causes.{ReadsInput}
 use Rattle.script_run.proofs.Calling.{nothing_costs}
 use Rattle.stored_index.proofs.KeptFiles.{kept_itself}
+use Rattle.script_run.specs.Languages.{meaning}
 use Rattle.script_run.specs.Progress.{start}
+use Rattle.script_run.specs.RangeScript.{AreRanges, EndsRanges}
 use Rattle.script_run.specs.Runs.{Ends, EndsSession}
+use Rattle.script_run.specs.declared.language.Language.TheVariants as language
 use Rattle.run_status.specs.Causes.{Counts, HasCauses, NoneRose}
 use Rattle.run_status.specs.Ends.{IsAnswer, IsDamaged}
 use Rattle.run_status.specs.declared.status.Status.{Status}
 use Rattle.run_status.specs.declared.status.Status.TheVariants as status
 use Rattle.script_run.proofs.Going.{stops_here}
+use Rattle.script_run.proofs.RangeScripts.{ends_ranges}
 
 pub asked_is : (x y : Asked) (o : Option Asked) → o ≡ Some x → o ≡ Some y → x ≡ y
 asked_is x y o is also = some_inj (sym is ∙ also)
@@ -46,13 +50,16 @@ completes (status.Damaged d) before now usage large none damage causes = absurd 
 
 -- memory was wanting before anything was done
 pub no_memory_ends : (told : Type 0) (a : Asked) (b : Before) (files : Files) (new : List ℕ) → IsStored files b.state → files ≡ b.files → (told → new ≡ b.written) → EndsAsked told a b files new status.Memory
-no_memory_ends told (Run cache forks) b files new keeps same still = stops_here {told = told} (start b.state (lines_of b.input) b.written) files new still (inl keeps)
+no_memory_ends told (Run cache forks) b files new keeps same still = stops_here {told = told} (meaning language.Points) (start b.state (lines_of b.input) b.written) files new still (inl keeps)
 no_memory_ends told (Load columns forks) b files new keeps same still = record { text = still; stored = inl keeps }
 no_memory_ends told (Explain cache) b files new keeps same still =
     λ scope is. record { done = []; rest = lines_of b.input; whole = refl; of_done = silence; tells = refl; text = λ t. still t ∙ sym (append-nil b.written) }
 no_memory_ends told Check b files new keeps same still = (same, still)
 no_memory_ends told (Generate docs seed forks) b files new keeps same still = record { text = still; stored = inl keeps }
-no_memory_ends told (Session cache forks) b files new keeps same still = stops_here {told = told} (start b.state (lines_of b.input) b.written) files new still (inl keeps)
+no_memory_ends told (Session cache forks) b files new keeps same still = stops_here {told = told} (meaning language.Points) (start b.state (lines_of b.input) b.written) files new still (inl keeps)
+no_memory_ends told (Ranges cache forks) b files new keeps same still = λ ranges.
+    ends_ranges told b.state (lines_of b.input) b.written files new status.Memory ranges
+    (stops_here {told = told} (meaning language.Ranges) (start b.state (lines_of b.input) b.written) files new still (inl keeps))
 no_memory_ends told (Count cache) b files new keeps same still =
     λ scope is. record {
       done = [];
@@ -79,10 +86,11 @@ whole_reads Check e = e
 whole_reads (Generate docs seed forks) e = e
 whole_reads (Session cache forks) e = refl
 whole_reads (Count cache) e = refl
+whole_reads (Ranges cache forks) e = refl
 
 -- each command ends as its own definition says
 module _ (told : Type 0) (w : Words) (b : Before) (files : Files) (new : List ℕ) (s : Status) where
-  pub run_ends : (cache forks : ℕ) → said w ≡ Run cache forks → Ends told (start b.state (lines_of b.input) b.written) files new s → EndsAsked told (said w) b files new s
+  pub run_ends : (cache forks : ℕ) → said w ≡ Run cache forks → Ends (meaning language.Points) told (start b.state (lines_of b.input) b.written) files new s → EndsAsked told (said w) b files new s
   run_ends cache forks is ends = subst (λ (a : Asked). EndsAsked told a b files new s) (sym is) ends
 
   pub load_ends : (columns : List (List ℕ)) (forks : ℕ) → said w ≡ Load columns forks → EndsWhole told b (loaded b.state b.input columns) files new s → EndsAsked told (said w) b files new s
@@ -97,8 +105,12 @@ module _ (told : Type 0) (w : Words) (b : Before) (files : Files) (new : List �
   pub generate_ends : (docs seed forks : ℕ) → said w ≡ Generate docs seed forks → EndsWhole told b (generated b.state docs seed) files new s → EndsAsked told (said w) b files new s
   generate_ends docs seed forks is ends = subst (λ (a : Asked). EndsAsked told a b files new s) (sym is) ends
 
-  pub session_asked : (cache forks : ℕ) → said w ≡ Session cache forks → EndsSession told (start b.state (lines_of b.input) b.written) files new s → EndsAsked told (said w) b files new s
+  pub session_asked : (cache forks : ℕ) → said w ≡ Session cache forks → EndsSession (meaning language.Points) told (start b.state (lines_of b.input) b.written) files new s → EndsAsked told (said w) b files new s
   session_asked cache forks is ends = subst (λ (a : Asked). EndsAsked told a b files new s) (sym is) ends
+
+  pub ranges_ends : (cache forks : ℕ) → said w ≡ Ranges cache forks
+      → (AreRanges b.state → EndsRanges told (start b.state (lines_of b.input) b.written) files new s) → EndsAsked told (said w) b files new s
+  ranges_ends cache forks is ends = subst (λ (a : Asked). EndsAsked told a b files new s) (sym is) ends
 
   pub count_ends : (cache : ℕ) → said w ≡ Count cache
       → ((scope : counts.Scope) → counts.IsScope b.files scope → telling.EndsTold told (counts.TellsCount scope) (lines_of b.input) b.written new s)
@@ -127,6 +139,7 @@ taken_whole Check left now s e takes = absurd (false≢true e)
 taken_whole (Generate docs seed forks) left now s e takes = absurd (false≢true e)
 taken_whole (Session cache forks) left now s e takes = absurd (false≢true e)
 taken_whole (Count cache) left now s e takes = takes
+taken_whole (Ranges cache forks) left now s e takes = takes
 
 -- for want of memory nothing was read
 no_input : (left now : List ℕ) → ReadsInput left now status.Memory
@@ -141,6 +154,7 @@ none_taken (Some Check) left now = tt
 none_taken (Some (Generate docs seed forks)) left now = tt
 none_taken (Some (Session cache forks)) left now = λ answer. absurd answer
 none_taken (Some (Count cache)) left now = no_input left now
+none_taken (Some (Ranges cache forks)) left now = no_input left now
 
 -- ---- what is left
 
@@ -169,8 +183,9 @@ no_whole files = record { levels = λ state h a. absurd a; undone = inl (kept_it
 none_left_of : (a : Asked) (source sink : Bool) (input written : List ℕ) (files : Files) (reads : ℕ)
     → LeavesAsked a (record { source = source; sink = sink; input = input; old = files; new = files; written = written; written_now = written; before = reads; now = reads })
     status.Memory
-none_left_of (Run cache forks) source sink input written files reads = λ told. nothing_costs (lines_of input) files reads status.Memory (λ a. a)
-none_left_of (Session cache forks) source sink input written files reads = λ told. nothing_costs (lines_of input) files reads status.Memory (λ a. a)
+none_left_of (Run cache forks) source sink input written files reads = λ told. nothing_costs language.Points (lines_of input) files reads status.Memory (λ a. a)
+none_left_of (Session cache forks) source sink input written files reads = λ told. nothing_costs language.Points (lines_of input) files reads status.Memory (λ a. a)
+none_left_of (Ranges cache forks) source sink input written files reads = λ told. nothing_costs language.Ranges (lines_of input) files reads status.Memory (λ a. a)
 none_left_of (Explain cache) source sink input written files reads = record { files = refl; reads = λ told pages opening scope is t tells. omega arith }
 none_left_of (Count cache) source sink input written files reads = record { files = refl; reads = λ told pages opening scope is t tells. omega arith }
 none_left_of (Load columns forks) source sink input written files reads = no_whole files

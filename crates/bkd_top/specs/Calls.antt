@@ -2,7 +2,7 @@
 use Rattle.std.specs.Prelude.{ℕ, ◌≡◌, ◌⊎◌, Bool, IsTrue, List, [], Option, None, Some}
 use Rattle.outer_io.specs.Files.{Files}
 use Rattle.script_lang.specs.Lines.{lines_of}
-use Rattle.command_words.specs.Commands.{Asked, Run, Load, Explain, Check, Generate, Session, Count}
+use Rattle.command_words.specs.Commands.{Asked, Run, Load, Explain, Check, Generate, Session, Count, Ranges}
 use Rattle.index_model.specs.State.{State}
 use Rattle.stored_index.specs.Stored.{IsStored}
 use Rattle.index_opening.specs.Evidence.{IsEvident}
@@ -11,6 +11,7 @@ use Rattle.run_status.specs.Ends.{IsAnswer, IsDamaged, OnStatusDamage}
 use Rattle.run_status.specs.declared.status.Status.{Status}
 use Rattle.run_status.specs.declared.status.Status.TheVariants as status
 use Rattle.script_run.specs.Kept.{RunCosts, StatusKeeps}
+use Rattle.script_run.specs.declared.language.Language.TheVariants as language
 use Rattle.run_status.specs.Causes.{ReadsInput}
 use Rattle.count_queries.specs.Counts as counts
 use Rattle.bkd_top.specs.Checking.{Checks}
@@ -36,6 +37,7 @@ TakesInput (Load columns forks) left now s = ReadsInput left now s
 TakesInput (Explain cache) left now s = ReadsInput left now s
 TakesInput (Session cache forks) left now s = IsAnswer s → now ≡ []
 TakesInput (Count cache) left now s = ReadsInput left now s
+TakesInput (Ranges cache forks) left now s = ReadsInput left now s
 TakesInput Check left now s = Unit {0}
 TakesInput (Generate docs seed forks) left now s = Unit {0}
 
@@ -77,8 +79,9 @@ pub record Call : Type 0 where
   pub now : ℕ
 
 abbrev pub LeavesAsked : Asked → Call → Status → Type 0
-LeavesAsked (Run cache forks) c s = IsTrue c.source → RunCosts (lines_of c.input) c.old c.new c.before c.now s
-LeavesAsked (Session cache forks) c s = IsTrue c.source → RunCosts (lines_of c.input) c.old c.new c.before c.now s
+LeavesAsked (Run cache forks) c s = IsTrue c.source → RunCosts language.Points (lines_of c.input) c.old c.new c.before c.now s
+LeavesAsked (Session cache forks) c s = IsTrue c.source → RunCosts language.Points (lines_of c.input) c.old c.new c.before c.now s
+LeavesAsked (Ranges cache forks) c s = IsTrue c.source → RunCosts language.Ranges (lines_of c.input) c.old c.new c.before c.now s
 LeavesAsked (Explain cache) c s = ExplainCosts (IsTrue c.source) (lines_of c.input) c.old c.new c.before c.now
 LeavesAsked (Load columns forks) c s = WholeLeaves c.old c.new s
 LeavesAsked (Generate docs seed forks) c s = WholeLeaves c.old c.new s

@@ -8,13 +8,16 @@ use Rattle.index_model.specs.State.{State}
 use Rattle.index_model.specs.Script.{Answer}
 use Rattle.stored_index.specs.Stored.{IsStored}
 use Rattle.stored_index.specs.Opening.{IsOpening, segments_pages}
-use Rattle.command_words.specs.Commands.{Asked, Run, Load, Explain, Check, Generate, Session, Count}
+use Rattle.command_words.specs.Commands.{Asked, Run, Load, Explain, Check, Generate, Session, Count, Ranges}
 use Rattle.load_points.specs.Loaded.{loaded}
 use Rattle.drawn_points.specs.Generated.{generated}
 use Rattle.explain_queries.specs.Explained.{Scope, IsScope, Told, TellsLine, TellsLines}
 use Rattle.count_queries.specs.Counted as counts
+use Rattle.script_run.specs.Languages.{meaning}
 use Rattle.script_run.specs.Progress.{start}
+use Rattle.script_run.specs.RangeScript.{AreRanges, EndsRanges}
 use Rattle.script_run.specs.Runs.{Ends, EndsSession}
+use Rattle.script_run.specs.declared.language.Language.TheVariants as language
 use Rattle.bkd_top.specs.Checking.{EndsCheck}
 use Rattle.run_status.specs.Told as telling
 use Rattle.run_status.specs.declared.status.Status.{Status}
@@ -33,6 +36,7 @@ reads_input Check = false
 reads_input (Generate docs seed forks) = false
 reads_input (Session cache forks) = true
 reads_input (Count cache) = true
+reads_input (Ranges cache forks) = true
 
 -- its lines are done as they come, and no input is too large
 abbrev pub is_session : Asked → Bool
@@ -179,14 +183,16 @@ ReadsFew files lines old new =
 
 -- ---- the program
 
--- Explaining, checking and counting leave what is stored.
+-- Explaining, checking and counting leave what is stored. Of a script of ranges it is said over points that are ranges.
 abbrev pub EndsAsked : (told : Type 0) → Asked → Before → Files → List ℕ → Status → Type 0
-EndsAsked told (Run cache forks) b files new s = Ends told (start b.state (lines_of b.input) b.written) files new s
+EndsAsked told (Run cache forks) b files new s = Ends (meaning language.Points) told (start b.state (lines_of b.input) b.written) files new s
 EndsAsked told (Load columns forks) b files new s = EndsWhole told b (loaded b.state b.input columns) files new s
 EndsAsked told (Explain cache) b files new s = (scope : Scope) → IsScope b.files scope → EndsExplain told scope (lines_of b.input) b.written new s
 EndsAsked told Check b files new s = (files ≡ b.files) × EndsCheck told b.files b.written new s
 EndsAsked told (Generate docs seed forks) b files new s = EndsWhole told b (generated b.state docs seed) files new s
-EndsAsked told (Session cache forks) b files new s = EndsSession told (start b.state (lines_of b.input) b.written) files new s
+EndsAsked told (Session cache forks) b files new s = EndsSession (meaning language.Points) told (start b.state (lines_of b.input) b.written) files new s
 EndsAsked told (Count cache) b files new s =
     (scope : counts.Scope) → counts.IsScope b.files scope
     → telling.EndsTold told (counts.TellsCount scope) (lines_of b.input) b.written new s
+EndsAsked told (Ranges cache forks) b files new s =
+    AreRanges b.state → EndsRanges told (start b.state (lines_of b.input) b.written) files new s

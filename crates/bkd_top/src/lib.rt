@@ -4,10 +4,12 @@
 mod check;
 mod explain;
 mod program;
+mod scripts;
 mod whole;
 
 pub use check::run_check;
 pub use explain::run_explain;
-pub use program::{run, run_script, run_session};
+pub use program::run;
 pub use run_status::{MAX_INPUT, Memory, Status, code, status_line};
+pub use scripts::{run_ranges, run_script, run_session};
 pub use whole::{run_generate, run_load};

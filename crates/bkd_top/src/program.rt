@@ -1,32 +1,26 @@
 //! The top call.
 
 ghost use Rattle.std.specs.Prelude.{◌≡◌, ◌≤◌, ◌^◌, ◌⊎◌, [], length, map, Some, true, false, IsTrue, string_bytes};
-ghost use Rattle.outer_io.specs.Faults.{Rose};
-ghost use Rattle.script_lang.specs.Lines.{lines_of};
 ghost use Rattle.index_model.specs.State.{State};
 ghost use Rattle.stored_index.specs.Stored.{IsStored};
-ghost use Rattle.script_run.specs.Progress.{start};
 ghost use Rattle.run_status.specs.Ends.{DoesNothing};
-ghost use Rattle.script_run.specs.Runs.{Ends, EndsSession};
 ghost use Rattle.command_words.specs.Commands.{Asked, IsWithin, asked, said};
 ghost use Rattle.index_core.specs.Whole.{HasNewCanonical};
 ghost use Rattle.run_status.specs.Causes.{HasCauses, NoneRose, ReadsInput};
 ghost use Rattle.bkd_top.specs.Calls.{LeavesAsked, OnAsked, TakesInput, TellsDamage, TellsUsage};
-ghost use Rattle.script_run.specs.Kept.{RunCosts};
 ghost use Rattle.run_status.specs.Ends.{IsAnswer};
 ghost use Rattle.bkd_top.specs.Commands.{EndsAsked, does, is_session, reads_input, reads_whole};
 
 use crate::check::run_check;
 use crate::explain::run_explain;
+use crate::scripts::{run_ranges, run_script, run_session};
 use crate::whole::{run_generate, run_load};
 use bkd_build::Gate;
 use command_words::{Words, WordsFault, read_words};
 use count_queries::run_count;
 use index_core::Settings;
-use line_source::HeldBytes;
-use outer_io::{Folder, ReadAll, Sink, Source, read_all};
-use run_status::{MAX_INPUT, Status};
-use script_run::{Work, run_lines, status_of_lines};
+use outer_io::{Folder, Sink, Source};
+use run_status::Status;
 use std::alloc::Global;
 use std::marker::Sync;
 use std::thread::Threads;
@@ -42,6 +36,7 @@ use std::thread::Threads;
 /// | `generate` | makes an index of drawn documents, commits, and says what drawn queries find in it |
 /// | `session` | does the lines of a script as `run` does, each as soon as it has come, before the input is asked for more |
 /// | `count` | reads lines, and says of each how many live points lie in a box, or in each bucket of a grid |
+/// | `ranges` | reads a script over documents that have ranges, and does its lines as `run` does those over points |
 ///
 /// **The headline.** On a folder that stores an index, or none, what `run` writes is, line for line, what a scan of the live documents
 /// answers to the script's adds, deletes and queries, whatever flushes, merges, snapshots and reopenings stand between, and the folder
@@ -159,90 +154,9 @@ fn run_command<S: Source, F: Folder, K: Sink, R: Threads + Sync, G: Gate>(
             run_session(rt, alloc, settings, input, folder, out, gate)
         }
         Words::Count { cache_pages } => run_count(alloc, cache_pages, input, folder, out),
+        Words::Ranges { cache_pages, forks } => {
+            let settings = Settings { cache_pages, forks };
+            run_ranges(rt, alloc, settings, input, folder, out, gate)
+        }
     }
-}
-
-/// The command `run`, which is `run` without its words.
-pub fn run_script<S: Source, F: Folder, K: Sink, R: Threads + Sync, G: Gate>(
-    rt: &R,
-    alloc: Global,
-    settings: Settings,
-    input: &mut S,
-    folder: &mut F,
-    out: &mut K,
-    gate: &G,
-) -> Status
-    ensures never_usage { result ≡ Status.Usage → ⊥ }
-    ensures ends { IsTrue S.told → IsTrue F.told → (state : State) → IsStored (F.files folder.old) state
-        → Ends (IsTrue K.told) (start state (lines_of (S.left input.old)) (K.written out.old)) (F.files folder.new) (K.written out.new) result }
-    ensures input { IsTrue S.told → ReadsInput (S.left input.old) (S.left input.new) result }
-    ensures untouched { DoesNothing result → (folder.new ≡ folder.old) × (out.new ≡ out.old) }
-    ensures canon { IsTrue F.told → (state : State) → IsStored (F.files folder.old) state → IsAnswer result → HasNewCanonical (F.files folder.old) (F.files folder.new) }
-    ensures costs { IsTrue S.told → IsTrue F.told
-        → RunCosts (lines_of (S.left input.old)) (F.files folder.old) (F.files folder.new) (F.reads folder.old) (F.reads folder.new) result }
-    ensures damage { TellsDamage (IsTrue F.told) (F.files folder.old) (F.files folder.new) result }
-    ensures causes { HasCauses (record { source = S.faults input.old; folder = F.faults folder.old; sink = K.faults out.old })
-        (record { source = S.faults input.new; folder = F.faults folder.new; sink = K.faults out.new }) result }
-{
-    match read_all(alloc, input, MAX_INPUT) {
-        Ok(script) => run_text(rt, alloc, settings, script.as_slice(), folder, out, gate),
-        Err(ReadAll::Failed) => Status::SourceFault,
-        Err(ReadAll::TooLarge) => Status::TooLarge,
-        Err(ReadAll::Memory) => Status::Memory,
-    }
-}
-
-/// Runs a script that was read.
-fn run_text<F: Folder, K: Sink, R: Threads + Sync, G: Gate>(
-    rt: &R,
-    alloc: Global,
-    settings: Settings,
-    script: &[u8],
-    folder: &mut F,
-    out: &mut K,
-    gate: &G,
-) -> Status
-    requires { length script.now ≤ 2 ^ 32 }
-    ensures lines { DoesNothing result → ⊥ }
-    ensures ends { IsTrue F.told → (state : State) → IsStored (F.files folder.old) state
-        → Ends (IsTrue K.told) (start state (lines_of script.now) (K.written out.old)) (F.files folder.new) (K.written out.new) result }
-    ensures canon { IsTrue F.told → (state : State) → IsStored (F.files folder.old) state → IsAnswer result → HasNewCanonical (F.files folder.old) (F.files folder.new) }
-    ensures costs { IsTrue F.told → RunCosts (lines_of script.now) (F.files folder.old) (F.files folder.new) (F.reads folder.old) (F.reads folder.new) result }
-    ensures damage { TellsDamage (IsTrue F.told) (F.files folder.old) (F.files folder.new) result }
-    ensures folder_fault { result ≡ Status.FolderFault → Rose (F.faults folder.old) (F.faults folder.new) }
-    ensures sink_fault { result ≡ Status.SinkFault → Rose (K.faults out.old) (K.faults out.new) }
-{
-    let mut script = HeldBytes { left: script };
-    run_session(rt, alloc, settings, &mut script, folder, out, gate)
-}
-
-/// The command `session`: does the lines of a script as `run` does, each as soon as it has come. The whole answer to a line is written before
-/// the input is asked for more. There is no limit on the whole input; a line is held as far as 4,194,306 bytes.
-pub fn run_session<S: Source, F: Folder, K: Sink, R: Threads + Sync, G: Gate>(
-    rt: &R,
-    alloc: Global,
-    settings: Settings,
-    input: &mut S,
-    folder: &mut F,
-    out: &mut K,
-    gate: &G,
-) -> Status
-    ensures never { (result ≡ Status.Usage) ⊎ (result ≡ Status.TooLarge) → ⊥ }
-    ensures ends { IsTrue S.told → IsTrue F.told → (state : State) → IsStored (F.files folder.old) state
-        → EndsSession (IsTrue K.told) (start state (lines_of (S.left input.old)) (K.written out.old)) (F.files folder.new) (K.written out.new) result }
-    ensures lines { IsTrue S.told → IsAnswer result → S.left input.new ≡ [] }
-    ensures canon { IsTrue F.told → (state : State) → IsStored (F.files folder.old) state → IsAnswer result → HasNewCanonical (F.files folder.old) (F.files folder.new) }
-    ensures costs { IsTrue S.told → IsTrue F.told
-        → RunCosts (lines_of (S.left input.old)) (F.files folder.old) (F.files folder.new) (F.reads folder.old) (F.reads folder.new) result }
-    ensures damage { TellsDamage (IsTrue F.told) (F.files folder.old) (F.files folder.new) result }
-    ensures causes { HasCauses (record { source = S.faults input.old; folder = F.faults folder.old; sink = K.faults out.old })
-        (record { source = S.faults input.new; folder = F.faults folder.new; sink = K.faults out.new }) result }
-{
-    let work = Work {
-        rt,
-        alloc,
-        settings,
-        gate,
-    };
-    status_of_lines(run_lines(&work, input, folder, out))
 }

@@ -21,7 +21,7 @@ too_long line long =
     let above : nat_lt 4194304 (length (strip_carriage_return line)) ≡ true = grind (arith, nat_tests) in
     rw above refl
 
-kept_text : (line : List ℕ) → text_of (kept line) ≡ text_of line
+pub kept_text : (line : List ℕ) → text_of (kept line) ≡ text_of line
 kept_text line = elim (short_or_long (length line) 4194306) as (λ _. text_of (kept line) ≡ text_of line) [
   | inl short ↦ ap text_of (take_all 4194306 line short)
   | inr long ↦ too_long (kept line) (let all = length-take-le 4194306 line long in omega (arith, all)) ∙ sym (too_long line long)

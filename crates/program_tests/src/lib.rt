@@ -23,6 +23,8 @@ mod commands;
 #[cfg(test)]
 mod counting;
 #[cfg(test)]
+mod drawn_ranges;
+#[cfg(test)]
 mod draws;
 #[cfg(test)]
 mod embedded_sessions;
@@ -48,6 +50,8 @@ mod load_faults;
 mod loading;
 #[cfg(test)]
 mod merged_segments;
+#[cfg(test)]
+mod range_stories;
 #[cfg(test)]
 mod rows;
 #[cfg(test)]

@@ -9,7 +9,7 @@ use mir.Syntax.{w32}
 use Rattle.point_codec.specs.Points.{Region, all_le, in_box}
 use Rattle.point_codec.specs.Cells.{by_dimension}
 use Rattle.point_codec.proofs.Corners.{both_true, all_le-refl, all_le-trans, all_le_greatest, all_le_of_greatest}
-use Rattle.range_docs.specs.Ranges.{range_of, is_range, Has, Answers, HasAnswers, box_for, least, greatest}
+use Rattle.range_docs.specs.Ranges.{Decides, IsQuery, is_boxed, range_of, is_range, Has, Answers, HasAnswers, box_for, least, greatest}
 use Rattle.range_docs.specs.declared.ranges.Question.{Question}
 use Rattle.range_docs.specs.declared.ranges.Question.TheVariants.{Intersects, Within, Contains}
 use Rattle.range_docs.proofs.Ends.{all_above, all_below, between, in_box-between}
@@ -107,6 +107,12 @@ box_answers question r query lo hi asked ends e =
       | Within ↦ within r query (take r ends) (drop r ends) lo hi lower upper a_fits b_fits e.ordered asked
       | Contains ↦ contains r query (take r ends) (drop r ends) lo hi lower upper a_fits b_fits e.ordered asked
     ])
+
+-- to look into the box decides
+pub boxes_decide : Decides is_boxed
+boxes_decide question r ends query e asked =
+    subst (λ c. (in_box (box_for question query) c ≡ true) ↔ Answers question (range_of r ends) query) (sym (take-append-drop r ends))
+    (box_answers question r query asked.lo asked.hi asked.ordered ends e)
 
 pub found : (question : Question) (r : ℕ) (query bounds : Region) → bounds ≡ box_for question query → length query.lo ≡ r
     → length query.hi ≡ r → HasAnswers question r query bounds

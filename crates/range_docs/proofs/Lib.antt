@@ -1,4 +1,5 @@
 pub mod Ends
 pub mod Boxes
 pub mod ReadEnds
+pub mod Added
 pub mod Sound

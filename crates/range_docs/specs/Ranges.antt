@@ -32,6 +32,18 @@ pub record AreEnds (r : ℕ) (ends : List ℤ) : Type 0 where
   pub fits : All (λ x. FitsSigned w32 x) ends
   pub ordered : is_range (range_of r ends) ≡ true
 
+-- a range of r dimensions that is asked about
+pub record IsQuery (r : ℕ) (query : Region) : Type 0 where
+  pub lo : length query.lo ≡ r
+  pub hi : length query.hi ≡ r
+  pub ordered : is_range query ≡ true
+
+-- a test of ranges says yes just where the stored one is an answer on the query
+abbrev pub Decides : (Question → (stored query : Region) → Bool) → Type 0
+Decides test =
+    (question : Question) (r : ℕ) (ends : List ℤ) (query : Region) → AreEnds r ends → IsQuery r query
+    → (test question (range_of r ends) query ≡ true) ↔ Answers question (range_of r ends) query
+
 -- where the query is a range, the box has, of the points that are ranges of r dimensions, just the answers on it
 abbrev pub HasAnswers : Question → ℕ → (query bounds : Region) → Type 0
 HasAnswers question r query bounds =
@@ -56,6 +68,10 @@ box_for Contains query = record {
   lo = replicate (length query.lo) least ++ query.hi;
   hi = query.lo ++ replicate (length query.hi) greatest;
 }
+
+-- a stored range is in the box of the answers on a query
+abbrev pub is_boxed : Question → (stored query : Region) → Bool
+is_boxed question stored query = in_box (box_for question query) (stored.lo ++ stored.hi)
 
 -- the range of a query: its ends are the first r coordinates of two points
 abbrev pub query_of : {D : ℕ} → ℕ → (lo hi : Point D) → Region

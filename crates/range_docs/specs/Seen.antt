@@ -1,9 +1,9 @@
 -- What the definitions see of the calls that read lines of ranges.
-use Rattle.std.specs.Prelude.{ℕ, ◌≡◌, true, All, Result, Ok, Err}
+use Rattle.std.specs.Prelude.{ℕ, ◌≡◌, All, Result, Ok, Err}
 use Rattle.script_lang.specs.Requests.{Request}
 use Rattle.script_lang.specs.Requests as asks
 use Rattle.script_lang.specs.declared.faults.LineFault.TheVariants as line
-use Rattle.range_docs.specs.Ranges.{range_of, is_range, box_for}
+use Rattle.range_docs.specs.Ranges.{AreEnds, IsQuery, box_for}
 use Rattle.range_docs.specs.Reading.{RangeRequest, Asks, Finds, RangeReading}
 use Rattle.range_docs.specs.declared.faults.RangeFault.{RangeFault}
 use Rattle.range_docs.specs.declared.faults.RangeFault.TheVariants as fault
@@ -28,10 +28,10 @@ AgreesOnRanges request (Err f) reading = asked reading ≡ Err f
 
 -- each point that a request adds is a range of r dimensions
 abbrev pub AddsRanges : ℕ → Request → Type 0
-AddsRanges r (asks.Add points) = All (λ p. is_range (range_of r p) ≡ true) points
+AddsRanges r (asks.Add points) = All (AreEnds r) points
 AddsRanges r request = Unit {0}
 
--- what a line adds are ranges, and what it looks for is on a range
+-- what a line adds are ranges, and what it looks for is on a range, of r dimensions
 abbrev pub NamesRanges : ℕ → RangeRequest → Type 0
 NamesRanges r (Asks request) = AddsRanges r request
-NamesRanges r (Finds question view query) = is_range query ≡ true
+NamesRanges r (Finds question view query) = IsQuery r query

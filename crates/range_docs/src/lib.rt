@@ -11,6 +11,6 @@ pub mod ranges;
 pub mod reading;
 
 pub use faults::{RangeFault, put_range_fault};
-pub use laws::{boxes_have_answers, lines_name_ranges};
+pub use laws::{boxes_decide, boxes_have_answers, lines_name_ranges};
 pub use ranges::{Question, around, inside, intersecting};
 pub use reading::{read_range_first, read_range_line};

@@ -6,15 +6,15 @@ use Rattle.page_cache.specs.declared.faults.PageFault.TheVariants as page
 use Rattle.page_cache.specs.Evidence.{FaultShows}
 use Rattle.script_lang.specs.Requests.{Request}
 use Rattle.script_lang.specs.Requests as asks
-use Rattle.script_lang.specs.Reading.{Reading, Says, Fails, read}
-use Rattle.script_lang.specs.Replies.{line_fault_text, why_text}
-use Rattle.script_lang.specs.Seen.{Agrees}
-use Rattle.script_lang.specs.declared.faults.LineFault.{LineFault}
+use Rattle.script_lang.specs.Replies.{why_text}
+use Rattle.range_docs.specs.Reading.{RangeReading}
+use Rattle.range_docs.specs.Seen.{AgreesOnRanges, asked}
+use Rattle.range_docs.specs.declared.faults.RangeFault.TheVariants as range
 use Rattle.script_lang.specs.declared.faults.LineFault.TheVariants as fault
 use Rattle.script_lang.specs.declared.faults.Why.{Why}
 use Rattle.index_model.specs.State.{Index, State, at_rest}
 use Rattle.index_model.specs.Step.{Outcome, Done, Refused, step_on}
-use Rattle.index_model.specs.Script.{answer, answer_to, answer_of, asks_commit, commits, final, stored_by}
+use Rattle.index_model.specs.Script.{answer_to}
 use Rattle.index_model.specs.declared.session.Applied.{Applied}
 use Rattle.index_model.specs.declared.session.Applied.TheVariants as applied
 use Rattle.stored_index.specs.Stored.{IsStored}
@@ -23,43 +23,60 @@ use Rattle.index_core.specs.Sessions.{SessionData, Guards}
 use Rattle.index_core.specs.Steps.{DoesOver, KeepsOver, Stores, is_committing}
 use Rattle.script_run.specs.Answers.{IsAnswered, IsLeft, Replies, Stands}
 use Rattle.script_run.proofs.Lined.{line_at}
+use Rattle.script_run.specs.Languages.{Heard, answer, answer_of, asks_commit, commits, heard, meaning}
+use Rattle.script_run.specs.Script.{final, stored_by}
+use Rattle.script_run.specs.declared.language.Language.{Language}
+use Rattle.range_docs.specs.declared.faults.RangeFault.{RangeFault}
+use Rattle.range_docs.specs.Replies.{range_fault_text}
 
 -- ---- what is read of a line
 
 -- a line is answered by what was read of it
-answer_is : (line : ℕ) (i : Index) (dims : ℕ) (bytes : List ℕ) (reading : Reading) → i.dims ≡ dims → read (Some dims) bytes ≡ reading
-    → answer line (Some i) bytes ≡ answer_of line (Some i) reading
+answer_is : (lang : Language) → (line : ℕ) (i : Index) (dims : ℕ) (bytes : List ℕ) (reading : Heard) → i.dims ≡ dims → heard lang (Some dims) bytes ≡ reading
+    → answer lang line (Some i) bytes ≡ answer_of line (Some i) reading
 unfolding answer
-answer_is line i dims bytes reading d r = ap (λ n. answer_of line (Some i) (read (Some n) bytes)) d ∙ ap (answer_of line (Some i)) r
+answer_is lang line i dims bytes reading d r = ap (λ n. answer_of line (Some i) (heard lang (Some n) bytes)) d ∙ ap (answer_of line (Some i)) r
 
-commits_is : (i : Index) (dims : ℕ) (bytes : List ℕ) (reading : Reading) → i.dims ≡ dims → read (Some dims) bytes ≡ reading → commits (Some i) bytes ≡ asks_commit reading
-commits_is i dims bytes reading d r = ap (λ n. asks_commit (read (Some n) bytes)) d ∙ ap asks_commit r
+commits_is : (lang : Language) → (i : Index) (dims : ℕ) (bytes : List ℕ) (reading : Heard) → i.dims ≡ dims → heard lang (Some dims) bytes ≡ reading
+    → commits lang (Some i) bytes ≡ asks_commit reading
+commits_is lang i dims bytes reading d r = ap (λ n. asks_commit (heard lang (Some n) bytes)) d ∙ ap asks_commit r
 
 -- a fault that is no want of memory is the one that was read
-pub fault_read : {C : Type 0} (request : C → Request) (f : LineFault) (reading : Reading) → f ≢ fault.Memory → Agrees request (Err f) reading → reading ≡ Fails f
-fault_read request fault.Memory reading no' h = absurd (no' refl)
-fault_read request fault.TooLong reading no' h = h
-fault_read request fault.NotUtf8 reading no' h = h
-fault_read request fault.NoIndex reading no' h = h
-fault_read request fault.Unknown reading no' h = h
-fault_read request fault.BadName reading no' h = h
-fault_read request fault.NotTwo reading no' h = h
-fault_read request fault.Words reading no' h = h
-fault_read request (fault.Number word) reading no' h = h
-fault_read request fault.Dims reading no' h = h
-fault_read request fault.LeafSize reading no' h = h
-fault_read request fault.BadK reading no' h = h
-fault_read request (fault.Geo geo) reading no' h = h
+pub fault_read : {C : Type 0} (request : C → Request) (f : RangeFault) (reading : RangeReading) → f ≢ range.Memory
+    → AgreesOnRanges request (Err f) reading → asked reading ≡ Err f
+fault_read request range.Memory reading no' h = absurd (no' refl)
+fault_read request range.NotRange reading no' h = h
+fault_read request range.NotRanges reading no' h = h
+fault_read request (range.Line fault.Memory) reading no' h = absurd h
+fault_read request (range.Line fault.TooLong) reading no' h = h
+fault_read request (range.Line fault.NotUtf8) reading no' h = h
+fault_read request (range.Line fault.NoIndex) reading no' h = h
+fault_read request (range.Line fault.Unknown) reading no' h = h
+fault_read request (range.Line fault.BadName) reading no' h = h
+fault_read request (range.Line fault.NotTwo) reading no' h = h
+fault_read request (range.Line fault.Words) reading no' h = h
+fault_read request (range.Line (fault.Number word)) reading no' h = h
+fault_read request (range.Line fault.Dims) reading no' h = h
+fault_read request (range.Line fault.LeafSize) reading no' h = h
+fault_read request (range.Line fault.BadK) reading no' h = h
+fault_read request (range.Line (fault.Geo geo)) reading no' h = h
+
+-- and the fault of a line is never want of memory
+pub never_memory : {C : Type 0} (request : C → Request) (f : RangeFault) (reading : RangeReading) → AgreesOnRanges request (Err f) reading
+    → f ≢ range.Line fault.Memory
+never_memory request f reading h is = subst (λ (g : RangeFault). AgreesOnRanges request (Err g) reading) is h
 
 -- a line where no index is there is answered by what was read of it
-pub first_is : (line : ℕ) (bytes : List ℕ) (reading : Reading) → read None bytes ≡ reading → answer line None bytes ≡ answer_of line None reading
+pub first_is : (lang : Language) → (line : ℕ) (bytes : List ℕ) (reading : Heard) → heard lang None bytes ≡ reading
+    → answer lang line None bytes ≡ answer_of line None reading
 unfolding answer
-first_is line bytes reading r = ap (answer_of line None) r
+first_is lang line bytes reading r = ap (answer_of line None) r
 
 -- lines that read alike are answered alike
-pub first_alike : (line : ℕ) (bytes others : List ℕ) → read None bytes ≡ read None others → answer line None bytes ≡ answer line None others
+pub first_alike : (lang : Language) → (line : ℕ) (bytes others : List ℕ) → heard lang None bytes ≡ heard lang None others
+    → answer lang line None bytes ≡ answer lang line None others
 unfolding answer
-first_alike line bytes others same = ap (answer_of line None) same
+first_alike lang line bytes others same = ap (answer_of line None) same
 
 -- ---- a line that can't be read
 
@@ -67,17 +84,18 @@ refused_one : (b : Bool) (n : ℕ) → n ≡ 1 → b ≡ true → n ≡ cond b 1
 refused_one true n one e = one
 refused_one false n one e = absurd cc
 
-module _ (D : ℕ) (files : Files) (s : SessionData) (i : Index) (stored : State) (number : ℕ) (bytes before after : List ℕ) (f : LineFault)
-    (h : Stands D files s i stored) (r : read (Some D) bytes ≡ Fails f) where
-  unread : answer number (Some i) bytes ≡ answer_of number (Some i) (Fails f)
-  unread = answer_is number i D bytes (Fails f) h.seen.dims r
+module _ (lang : Language) (D : ℕ) (files : Files) (s : SessionData) (i : Index) (stored : State) (number : ℕ) (bytes before after : List ℕ) (f : RangeFault)
+    (h : Stands D files s i stored) (r : heard lang (Some D) bytes ≡ Err f) where
+  unread : answer lang number (Some i) bytes ≡ answer_of number (Some i) (Err f)
+  unread = answer_is lang number i D bytes (Err f) h.seen.dims r
 
-  uncommitted : stored ≡ stored_by number stored (Some i) bytes
-  uncommitted = sym (ap (λ b. if b then final (answer number (Some i) bytes).state else stored) (commits_is i D bytes (Fails f) h.seen.dims r))
+  uncommitted : stored ≡ stored_by (meaning lang) number stored (Some i) bytes
+  uncommitted = sym (ap (λ b. if b then final (answer lang number (Some i) bytes).state else stored) (commits_is lang i D bytes (Err f) h.seen.dims r))
 
-  refuses_unread : (is_refused : Bool) → is_refused ≡ true → after ≡ before ++ line_fault_text number f → Replies D (line_at number i stored bytes) files s before after (Ok is_refused)
+  refuses_unread : (is_refused : Bool) → is_refused ≡ true → after ≡ before ++ range_fault_text number f
+      → Replies lang D (line_at number i stored bytes) files s before after (Ok is_refused)
   refuses_unread is_refused e text = (
-    subst (λ a. IsAnswered D a (stored_by number stored (Some i) bytes) files s is_refused) (sym unread)
+    subst (λ a. IsAnswered D a (stored_by (meaning lang) number stored (Some i) bytes) files s is_refused) (sym unread)
         (record {
           index = i;
           state = refl;
@@ -87,8 +105,9 @@ module _ (D : ℕ) (files : Files) (s : SessionData) (i : Index) (stored : State
     text ∙ ap (λ a. before ++ a.text) (sym unread),
   )
 
-  pub unread_replies : (result : Result Bool PageFault) → IfOk result (λ r. (r ≡ true) × (after ≡ before ++ line_fault_text number f)) → OnErr result (IsErrOf result page.Memory)
-      → Replies D (line_at number i stored bytes) files s before after result
+  pub unread_replies : (result : Result Bool PageFault) → IfOk result (λ r. (r ≡ true) × (after ≡ before ++ range_fault_text number f))
+      → OnErr result (IsErrOf result page.Memory)
+      → Replies lang D (line_at number i stored bytes) files s before after result
   unread_replies (Ok r) ok memory = refuses_unread r ok.0 ok.1
   unread_replies (Err page.Memory) ok memory = inl h.keeps
   unread_replies (Err page.Failed) ok memory = let e : IsErrOf {T = Bool} (Err page.Failed) page.Memory = memory in absurd cc
@@ -96,7 +115,7 @@ module _ (D : ℕ) (files : Files) (s : SessionData) (i : Index) (stored : State
 
 -- ---- a request
 
-same_test : (r : Request) → asks_commit (Says r) ≡ is_committing r
+same_test : (r : Request) → asks_commit (Ok r) ≡ is_committing r
 same_test asks.Blank = refl
 same_test (asks.Create dims leaf) = refl
 same_test (asks.Add points) = refl
@@ -177,61 +196,64 @@ by_refused D number (Refused cause) i new t kept before middle after why h text 
 )
 
 -- a line that was read, before a session that does its request
-module _ (D : ℕ) (old new : Files) (s t : SessionData) (i : Index) (stored : State) (number : ℕ) (bytes : List ℕ) (r : Request) (before : List ℕ)
-    (h : Stands D old s i stored) (reads : read (Some D) bytes ≡ Says r) where
-  answer_says : answer number (Some i) bytes ≡ answer_to number (Some i) (step_on i r)
-  answer_says = answer_is number i D bytes (Says r) h.seen.dims reads
+module _ (lang : Language) (D : ℕ) (old new : Files) (s t : SessionData) (i : Index) (stored : State) (number : ℕ) (bytes : List ℕ) (r : Request) (before : List ℕ)
+    (h : Stands D old s i stored) (reads : heard lang (Some D) bytes ≡ Ok r) where
+  answer_says : answer lang number (Some i) bytes ≡ answer_to number (Some i) (step_on i r)
+  answer_says = answer_is lang number i D bytes (Ok r) h.seen.dims reads
 
-  commits_says : commits (Some i) bytes ≡ is_committing r
-  commits_says = commits_is i D bytes (Says r) h.seen.dims reads ∙ same_test r
+  commits_says : commits lang (Some i) bytes ≡ is_committing r
+  commits_says = commits_is lang i D bytes (Ok r) h.seen.dims reads ∙ same_test r
 
-  stored_says : stored_by number stored (Some i) bytes ≡ (if is_committing r then final (answer_to number (Some i) (step_on i r)).state else stored)
+  stored_says : stored_by (meaning lang) number stored (Some i) bytes ≡ (if is_committing r then final (answer_to number (Some i) (step_on i r)).state else stored)
   stored_says = (λ j. if commits_says j then final (answer_says j).state else stored)
 
-  kept_done : (x : Applied) → KeepsOver (is_committing r) old new t (Ok x) → (is_committing r ≡ true → Stores old new i t.set (Ok x)) → IsStored new (stored_by number stored (Some i) bytes)
+  kept_done : (x : Applied) → KeepsOver (is_committing r) old new t (Ok x) → (is_committing r ≡ true → Stores old new i t.set (Ok x))
+      → IsStored new (stored_by (meaning lang) number stored (Some i) bytes)
   kept_done x keeps stores = subst (IsStored new) (sym stored_says)
       (stored_done old new i stored (final (answer_to number (Some i) (step_on i r)).state) t x (is_committing r) h.keeps (rests number i r) keeps stores)
 
   pub done_replies : (after : List ℕ) → DoesOver D new (step_on i r) i t.set before after (Ok applied.Done) → Guards D new t
       → KeepsOver (is_committing r) old new t (Ok applied.Done) → (is_committing r ≡ true → Stores old new i t.set (Ok applied.Done))
-      → Replies D (line_at number i stored bytes) new t before after (Ok false)
+      → Replies lang D (line_at number i stored bytes) new t before after (Ok false)
   done_replies after does guards keeps stores =
-      subst (λ a. IsAnswered D a (stored_by number stored (Some i) bytes) new t false × (after ≡ before ++ a.text)) (sym answer_says)
-      (by_done D number (step_on i r) i new t (stored_by number stored (Some i) bytes) before after does guards (kept_done applied.Done keeps stores))
+      subst (λ a. IsAnswered D a (stored_by (meaning lang) number stored (Some i) bytes) new t false × (after ≡ before ++ a.text)) (sym answer_says)
+      (by_done D number (step_on i r) i new t (stored_by (meaning lang) number stored (Some i) bytes) before after does guards (kept_done applied.Done keeps stores))
 
   refused_true : (middle after : List ℕ) (why : Why) → DoesOver D new (step_on i r) i t.set before middle (Ok (applied.Refused why)) → after ≡ middle ++ why_text number why → Guards D new t
       → KeepsOver (is_committing r) old new t (Ok (applied.Refused why)) → (is_committing r ≡ true → Stores old new i t.set (Ok (applied.Refused why)))
-      → Replies D (line_at number i stored bytes) new t before after (Ok true)
+      → Replies lang D (line_at number i stored bytes) new t before after (Ok true)
   refused_true middle after why does text guards keeps stores =
-      subst (λ a. IsAnswered D a (stored_by number stored (Some i) bytes) new t true × (after ≡ before ++ a.text)) (sym answer_says)
-      (by_refused D number (step_on i r) i new t (stored_by number stored (Some i) bytes) before middle after why does text guards (kept_done (applied.Refused why) keeps stores))
+      subst (λ a. IsAnswered D a (stored_by (meaning lang) number stored (Some i) bytes) new t true × (after ≡ before ++ a.text)) (sym answer_says)
+      (by_refused D number (step_on i r) i new t (stored_by (meaning lang) number stored (Some i) bytes) before middle after why does text guards (kept_done (applied.Refused why) keeps stores))
 
-  left_says : IsStored new stored ⊎ ((is_committing r ≡ true) × IsStored new (final (answer_to number (Some i) (step_on i r)).state)) → IsLeft (line_at number i stored bytes) new
+  left_says : IsStored new stored ⊎ ((is_committing r ≡ true) × IsStored new (final (answer_to number (Some i) (step_on i r)).state))
+      → IsLeft lang (line_at number i stored bytes) new
   left_says (inl same) = inl same
   left_says (inr p) = inr (commits_says ∙ p.0, subst (λ a. IsStored new (final a.state)) (sym answer_says) p.1)
 
-  fault_left : (after : List ℕ) (e : PageFault) → FaultShows (λ _. ⊥) e → IsLeft (line_at number i stored bytes) new → Replies D (line_at number i stored bytes) new t before after (Err e)
+  fault_left : (after : List ℕ) (e : PageFault) → FaultShows (λ _. ⊥) e → IsLeft lang (line_at number i stored bytes) new
+      → Replies lang D (line_at number i stored bytes) new t before after (Err e)
   fault_left after page.Failed whole left = left
   fault_left after page.Memory whole left = left
   fault_left after (page.Damaged damage) whole left = absurd whole
 
   pub fault_replies : (after : List ℕ) (e : PageFault) → FaultShows (λ _. ⊥) e → KeepsOver {T = Applied} (is_committing r) old new t (Err e)
-      → (is_committing r ≡ true → Stores {T = Applied} old new i t.set (Err e)) → Replies D (line_at number i stored bytes) new t before after (Err e)
+      → (is_committing r ≡ true → Stores {T = Applied} old new i t.set (Err e)) → Replies lang D (line_at number i stored bytes) new t before after (Err e)
   fault_replies after e whole keeps stores = fault_left after e whole
       (left_says (stored_left Applied old new i stored (final (answer_to number (Some i) (step_on i r)).state) t e (is_committing r) h.keeps (rests number i r) keeps stores))
 
   -- the answer of a refused command found no memory
   pub untold_replies : (after : List ℕ) (x : Applied) → KeepsOver (is_committing r) old new t (Ok x) → (is_committing r ≡ true → Stores old new i t.set (Ok x))
-      → Replies D (line_at number i stored bytes) new t before after (Err page.Memory)
+      → Replies lang D (line_at number i stored bytes) new t before after (Err page.Memory)
   untold_replies after x keeps stores = left_says
       (stored_untold old new i stored (final (answer_to number (Some i) (step_on i r)).state) t x (is_committing r) h.keeps (rests number i r) keeps stores)
 
   pub refused_replies : (middle after : List ℕ) (why : Why) → DoesOver D new (step_on i r) i t.set before middle (Ok (applied.Refused why)) → Guards D new t
       → KeepsOver (is_committing r) old new t (Ok (applied.Refused why)) → (is_committing r ≡ true → Stores old new i t.set (Ok (applied.Refused why)))
       → (result : Result Bool PageFault) → IfOk result (λ x. (x ≡ true) × (after ≡ middle ++ why_text number why)) → OnErr result (IsErrOf result page.Memory)
-      → Replies D (line_at number i stored bytes) new t before after result
+      → Replies lang D (line_at number i stored bytes) new t before after result
   refused_replies middle after why does guards keeps stores (Ok x) ok memory =
-      subst (λ y. Replies D (line_at number i stored bytes) new t before after (Ok y)) (sym ok.0) (refused_true middle after why does ok.1 guards keeps stores)
+      subst (λ y. Replies lang D (line_at number i stored bytes) new t before after (Ok y)) (sym ok.0) (refused_true middle after why does ok.1 guards keeps stores)
   refused_replies middle after why does guards keeps stores (Err page.Memory) ok memory = untold_replies after (applied.Refused why) keeps stores
   refused_replies middle after why does guards keeps stores (Err page.Failed) ok memory = let e : IsErrOf {T = Bool} (Err page.Failed) page.Memory = memory in absurd cc
   refused_replies middle after why does guards keeps stores (Err (page.Damaged damage)) ok memory = let e : IsErrOf {T = Bool} (Err (page.Damaged damage)) page.Memory = memory in absurd cc

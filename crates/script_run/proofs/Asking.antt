@@ -1,12 +1,11 @@
 -- What lines ask for, and what becomes of the index.
-use Rattle.std.proofs.Common.{◌≡◌, ◌≤◌, ◌+◌, ◌^◌, ◌<◌, ℕ, Bool, true, false, not, if◌then◌else◌, nat_lt, nat_le, List, [], ◌∷◌, ◌++◌, length, filter, Option, None, Some, refl, sym, ap, subst, ◌∙◌, ◌⊎◌, inl, inr, arith, ℤ}
+use Rattle.std.proofs.Common.{◌≡◌, ◌≤◌, ◌+◌, ◌^◌, ◌<◌, ℕ, Bool, true, false, not, if◌then◌else◌, nat_lt, nat_le, List, [], ◌∷◌, ◌++◌, length, filter, Option, None, Some, Ok, Err, refl, sym, ap, subst, ◌∙◌, ◌⊎◌, inl, inr, arith, ℤ}
 use Rattle.std.specs.Prelude.{is_some}
 use Rattle.std.specs.Option.{option_map}
 use Rattle.std.specs.Str.{bytes_eq}
 use Rattle.std.proofs.lemmas.Bool.Decides.{nat_tests}
 use Rattle.documents.specs.Documents.{Document}
 use Rattle.segment_file.specs.Heads.{Head}
-use Rattle.script_lang.specs.Reading.{Reading, Says, Fails, read}
 use Rattle.script_lang.specs.Requests.{Request}
 use Rattle.script_lang.specs.Requests as asks
 use Rattle.script_lang.specs.Replies.{doc_text}
@@ -14,9 +13,13 @@ use Rattle.script_lang.specs.declared.faults.LineFault.{LineFault}
 use Rattle.script_lang.specs.declared.faults.Why.TheVariants as why
 use Rattle.index_model.specs.State.{Index, State, snapshot_of, viewed_docs}
 use Rattle.index_model.specs.Step.{Outcome, Done, Refused, answered, fine, step, step_on}
-use Rattle.index_model.specs.Script.{Answer, answer, answer_of, answer_to, state_after}
+use Rattle.index_model.specs.Script.{Answer, answer_to}
 use Rattle.index_core.specs.Light.{is_light, points_in}
 use Rattle.script_run.specs.Costs.{AllAsk, AsksOnly, TouchesLine, TouchesLines, begins_no_merge, given_of, is_query}
+use Rattle.script_run.specs.Languages.{Heard, answer, answer_of, heard, meaning}
+use Rattle.script_run.specs.Script.{state_after}
+use Rattle.script_run.specs.declared.language.Language.{Language}
+use Rattle.range_docs.specs.declared.faults.RangeFault.{RangeFault}
 
 -- ---- an outcome
 
@@ -37,11 +40,12 @@ no e = cc
 
 -- what holds of the state after each of two outcomes, or of a query that is answered, holds after it
 module _ (P : State → Type 0) (line : ℕ) (i : Index) where
-  either : (b : Bool) (o p : Outcome) → P (answer_to line (Some i) o).state → P (answer_to line (Some i) p).state → P (answer_to line (Some i) (if b then o else p)).state
+  pub either : (b : Bool) (o p : Outcome) → P (answer_to line (Some i) o).state → P (answer_to line (Some i) p).state
+      → P (answer_to line (Some i) (if b then o else p)).state
   either true o p x y = x
   either false o p x y = y
 
-  queried : (docs : Option (List Document)) (text : List Document → List ℕ) → P (Some i) → P (answer_to line (Some i) (answered i docs text)).state
+  pub queried : (docs : Option (List Document)) (text : List Document → List ℕ) → P (Some i) → P (answer_to line (Some i) (answered i docs text)).state
   queried None text h = h
   queried (Some docs) text h = h
 
@@ -50,25 +54,25 @@ abbrev pub Asks : (Request → Bool) → Index → Request → Type 0
 Asks test i r = IsRefusal (step_on i r) ⊎ (test r ≡ true)
 
 -- what requests that may be refused leave, where they aren't
-abbrev more : List (List ℤ) → Index → Outcome
+abbrev pub more : List (List ℤ) → Index → Outcome
 more points i = Done (Some (record i { next = i.next + 1; given = i.given + length points; docs = i.docs ++ record { number = i.next; points = points } ∷ [] })) (doc_text i.next)
 
-abbrev taken : List ℕ → Index → Outcome
+abbrev pub taken : List ℕ → Index → Outcome
 taken name i = fine (record i { snapshots = i.snapshots ++ record { name = name; docs = i.docs } ∷ [] })
 
-abbrev let_go : List ℕ → Index → Outcome
+abbrev pub let_go : List ℕ → Index → Outcome
 let_go name i = fine (record i { snapshots = filter (λ s. not (bytes_eq s.name name)) i.snapshots })
 
-abbrev is_full : List (List ℤ) → Index → Bool
+abbrev pub is_full : List (List ℤ) → Index → Bool
 is_full points i = nat_lt (2 ^ 24) (i.given + length points)
 
-abbrev is_taken : List ℕ → Index → Bool
+abbrev pub is_taken : List ℕ → Index → Bool
 is_taken name i = is_some (snapshot_of name i.snapshots)
 
-abbrev are_many : Index → Bool
+abbrev pub are_many : Index → Bool
 are_many i = nat_le 16 (length i.snapshots)
 
-abbrev taken_if : List ℕ → Index → Outcome
+abbrev pub taken_if : List ℕ → Index → Outcome
 taken_if name i = if are_many i then Refused why.TooManySnapshots else taken name i
 
 -- ---- a begun merge
@@ -208,88 +212,102 @@ query_light r e = no e
 
 -- ---- a line
 
-answer_is : (line : ℕ) (state : State) (bytes : List ℕ) (reading : Reading) → read (option_map (λ (i : Index). i.dims) state) bytes ≡ reading → answer line state bytes ≡ answer_of line state reading
+answer_is : (lang : Language) → (line : ℕ) (state : State) (bytes : List ℕ) (reading : Heard)
+    → heard lang (option_map (λ (i : Index). i.dims) state) bytes ≡ reading → answer lang line state bytes ≡ answer_of line state reading
 unfolding answer
-answer_is line state bytes reading is = ap (answer_of line state) is
+answer_is lang line state bytes reading is = ap (answer_of line state) is
 
-says_inj : (q r : Request) → Says q ≡ Says r → q ≡ r
+says_inj : (q r : Request) → ◌≡◌ {A = Heard} (Ok q) (Ok r) → q ≡ r
 says_inj q r e = cc
 
 -- what it asks, by what was read of it
-pub asked : (test : Request → Bool) (line : ℕ) (i : Index) (bytes : List ℕ) (r : Request) → read (Some i.dims) bytes ≡ Says r → AsksOnly test line (Some i) bytes → Asks test i r
-asked test line i bytes r is (inl refused) = inl (refusal_of line (Some i) (step_on i r) (sym (ap (λ (a : Answer). a.refused) (answer_is line (Some i) bytes (Says r) is)) ∙ refused))
-asked test line i bytes r is (inr (q, says, t)) = inr (subst (λ (x : Request). test x ≡ true) (says_inj q r (sym says ∙ is)) t)
+pub asked : (lang : Language) → (test : Request → Bool) (line : ℕ) (i : Index) (bytes : List ℕ) (r : Request) → heard lang (Some i.dims) bytes ≡ Ok r
+    → AsksOnly lang test line (Some i) bytes → Asks test i r
+asked lang test line i bytes r is (inl refused) = inl (refusal_of line (Some i) (step_on i r) (sym (ap (λ (a : Answer). a.refused) (answer_is lang line (Some i) bytes (Ok r) is)) ∙ refused))
+asked lang test line i bytes r is (inr (q, says, t)) = inr (subst (λ (x : Request). test x ≡ true) (says_inj q r (sym says ∙ is)) t)
 
 -- what holds of the state after each request that asks so, and of the state before, holds after the line
-module _ (P : State → Type 0) (test : Request → Bool) (line : ℕ) (i : Index) (bytes : List ℕ) (here : P (Some i)) (there : (r : Request) → Asks test i r → P (answer_to line (Some i) (step_on i r)).state)
-    (ask : AsksOnly test line (Some i) bytes) where
-  by_reading : (reading : Reading) → read (Some i.dims) bytes ≡ reading → P (answer line (Some i) bytes).state
-  by_reading (Says r) is = subst (λ (a : Answer). P a.state) (sym (answer_is line (Some i) bytes (Says r) is)) (there r (asked test line i bytes r is ask))
-  by_reading (Fails f) is = subst (λ (a : Answer). P a.state) (sym (answer_is line (Some i) bytes (Fails f) is)) here
+module _ (lang : Language) (P : State → Type 0) (test : Request → Bool) (line : ℕ) (i : Index) (bytes : List ℕ) (here : P (Some i)) (there : (r : Request) → Asks test i r → P (answer_to line (Some i) (step_on i r)).state)
+    (ask : AsksOnly lang test line (Some i) bytes) where
+  by_reading : (reading : Heard) → heard lang (Some i.dims) bytes ≡ reading → P (answer lang line (Some i) bytes).state
+  by_reading (Ok r) is = subst (λ (a : Answer). P a.state) (sym (answer_is lang line (Some i) bytes (Ok r) is)) (there r (asked lang test line i bytes r is ask))
+  by_reading (Err f) is = subst (λ (a : Answer). P a.state) (sym (answer_is lang line (Some i) bytes (Err f) is)) here
 
-  by_line : P (answer line (Some i) bytes).state
-  by_line = by_reading (read (Some i.dims) bytes) refl
+  by_line : P (answer lang line (Some i) bytes).state
+  by_line = by_reading (heard lang (Some i.dims) bytes) refl
 
-pub line_rests : (line : ℕ) (i : Index) (bytes : List ℕ) → AsksOnly begins_no_merge line (Some i) bytes → i.begun ≡ false → Rested (answer line (Some i) bytes).state
-line_rests line i bytes ask e = by_line Rested begins_no_merge line i bytes e (λ r a. request_rests line i r a e) ask
+pub line_rests : (lang : Language) → (line : ℕ) (i : Index) (bytes : List ℕ) → AsksOnly lang begins_no_merge line (Some i) bytes → i.begun ≡ false
+    → Rested (answer lang line (Some i) bytes).state
+line_rests lang line i bytes ask e = by_line lang Rested begins_no_merge line i bytes e (λ r a. request_rests line i r a e) ask
 
-line_gives : (line : ℕ) (state : State) (bytes : List ℕ) → given_of state ≤ given_of (answer line state bytes).state
-line_gives line None bytes = omega arith
-line_gives line (Some i) bytes = by (read (Some i.dims) bytes) refl
+line_gives : (lang : Language) → (line : ℕ) (state : State) (bytes : List ℕ) → given_of state ≤ given_of (answer lang line state bytes).state
+line_gives lang line None bytes = omega arith
+line_gives lang line (Some i) bytes = by (heard lang (Some i.dims) bytes) refl
   where
-    by : (reading : Reading) → read (Some i.dims) bytes ≡ reading → i.given ≤ given_of (answer line (Some i) bytes).state
-    by (Says r) is = subst (λ (a : Answer). i.given ≤ given_of a.state) (sym (answer_is line (Some i) bytes (Says r) is)) (request_gives line i r)
-    by (Fails f) is = subst (λ (a : Answer). i.given ≤ given_of a.state) (sym (answer_is line (Some i) bytes (Fails f) is)) (omega arith)
+    by : (reading : Heard) → heard lang (Some i.dims) bytes ≡ reading → i.given ≤ given_of (answer lang line (Some i) bytes).state
+    by (Ok r) is = subst (λ (a : Answer). i.given ≤ given_of a.state) (sym (answer_is lang line (Some i) bytes (Ok r) is)) (request_gives line i r)
+    by (Err f) is = subst (λ (a : Answer). i.given ≤ given_of a.state) (sym (answer_is lang line (Some i) bytes (Err f) is)) (omega arith)
 
-pub lines_give : (line : ℕ) (state : State) (lines : List (List ℕ)) → given_of state ≤ given_of (state_after line state lines)
-lines_give line state [] = omega arith
-lines_give line state (l ∷ ls) = omega (arith, line_gives line state l, lines_give (line + 1) (answer line state l).state ls)
+pub lines_give : (lang : Language) → (line : ℕ) (state : State) (lines : List (List ℕ))
+    → given_of state ≤ given_of (state_after (meaning lang) line state lines)
+lines_give lang line state [] = omega arith
+lines_give lang line state (l ∷ ls) = omega (arith, line_gives lang line state l, lines_give lang (line + 1) (answer lang line state l).state ls)
 
-pub query_stays : (line : ℕ) (state : State) (bytes : List ℕ) → AsksOnly is_query line state bytes → (answer line state bytes).state ≡ state
-query_stays line (Some i) bytes ask = by_line (λ (s : State). s ≡ Some i) is_query line i bytes refl (λ r a. request_stays line i r a) ask
-query_stays line None bytes ask = by (read None bytes) refl
+pub query_stays : (lang : Language) → (line : ℕ) (state : State) (bytes : List ℕ) → AsksOnly lang is_query line state bytes
+    → (answer lang line state bytes).state ≡ state
+query_stays lang line (Some i) bytes ask = by_line lang (λ (s : State). s ≡ Some i) is_query line i bytes refl (λ r a. request_stays line i r a) ask
+query_stays lang line None bytes ask = by (heard lang None bytes) refl
   where
-    asks_so : (r : Request) → read None bytes ≡ Says r → AsksOnly is_query line None bytes → ((answer_to line None (step None r)).refused ≡ 1) ⊎ (is_query r ≡ true)
-    asks_so r is (inl refused) = inl (sym (ap (λ (a : Answer). a.refused) (answer_is line None bytes (Says r) is)) ∙ refused)
+    asks_so : (r : Request) → heard lang None bytes ≡ Ok r → AsksOnly lang is_query line None bytes
+        → ((answer_to line None (step None r)).refused ≡ 1) ⊎ (is_query r ≡ true)
+    asks_so r is (inl refused) = inl (sym (ap (λ (a : Answer). a.refused) (answer_is lang line None bytes (Ok r) is)) ∙ refused)
     asks_so r is (inr (q, says, t)) = inr (subst (λ (x : Request). is_query x ≡ true) (says_inj q r (sym says ∙ is)) t)
 
-    by : (reading : Reading) → read None bytes ≡ reading → (answer line None bytes).state ≡ None
-    by (Says r) is = ap (λ (a : Answer). a.state) (answer_is line None bytes (Says r) is) ∙ first_stays line r (asks_so r is ask)
-    by (Fails f) is = ap (λ (a : Answer). a.state) (answer_is line None bytes (Fails f) is)
+    by : (reading : Heard) → heard lang None bytes ≡ reading → (answer lang line None bytes).state ≡ None
+    by (Ok r) is = ap (λ (a : Answer). a.state) (answer_is lang line None bytes (Ok r) is) ∙ first_stays line r (asks_so r is ask)
+    by (Err f) is = ap (λ (a : Answer). a.state) (answer_is lang line None bytes (Err f) is)
 
-pub unread_state : (line : ℕ) (i : Index) (bytes : List ℕ) (f : LineFault) → read (Some i.dims) bytes ≡ Fails f → (answer line (Some i) bytes).state ≡ Some i
-unread_state line i bytes f fails = ap (λ (a : Answer). a.state) (answer_is line (Some i) bytes (Fails f) fails)
+pub unread_state : (lang : Language) → (line : ℕ) (i : Index) (bytes : List ℕ) (f : RangeFault) → heard lang (Some i.dims) bytes ≡ Err f
+    → (answer lang line (Some i) bytes).state ≡ Some i
+unread_state lang line i bytes f fails = ap (λ (a : Answer). a.state) (answer_is lang line (Some i) bytes (Err f) fails)
 
-pub read_state : (line : ℕ) (i : Index) (bytes : List ℕ) (r : Request) → read (Some i.dims) bytes ≡ Says r → answer line (Some i) bytes ≡ answer_to line (Some i) (step_on i r)
-read_state line i bytes r is = answer_is line (Some i) bytes (Says r) is
+pub read_state : (lang : Language) → (line : ℕ) (i : Index) (bytes : List ℕ) (r : Request) → heard lang (Some i.dims) bytes ≡ Ok r
+    → answer lang line (Some i) bytes ≡ answer_to line (Some i) (step_on i r)
+read_state lang line i bytes r is = answer_is lang line (Some i) bytes (Ok r) is
 
 -- ---- lines
 
-asks_weaker : (t u : Request → Bool) → ((r : Request) → t r ≡ true → u r ≡ true) → (line : ℕ) (state : State) (bytes : List ℕ) → AsksOnly t line state bytes → AsksOnly u line state bytes
-asks_weaker t u weaker line state bytes (inl refused) = inl refused
-asks_weaker t u weaker line state bytes (inr (r, says, test)) = inr (r, says, weaker r test)
+asks_weaker : (lang : Language) → (t u : Request → Bool) → ((r : Request) → t r ≡ true → u r ≡ true) → (line : ℕ) (state : State) (bytes : List ℕ)
+    → AsksOnly lang t line state bytes → AsksOnly lang u line state bytes
+asks_weaker lang t u weaker line state bytes (inl refused) = inl refused
+asks_weaker lang t u weaker line state bytes (inr (r, says, test)) = inr (r, says, weaker r test)
 
-pub all_weaker : (t u : Request → Bool) → ((r : Request) → t r ≡ true → u r ≡ true) → (line : ℕ) (state : State) (lines : List (List ℕ)) → AllAsk t line state lines → AllAsk u line state lines
-all_weaker t u weaker line state [] h = tt
-all_weaker t u weaker line state (l ∷ ls) h = (asks_weaker t u weaker line state l h.0, all_weaker t u weaker (line + 1) (answer line state l).state ls h.1)
+pub all_weaker : (lang : Language) → (t u : Request → Bool) → ((r : Request) → t r ≡ true → u r ≡ true) → (line : ℕ) (state : State) (lines : List (List ℕ))
+    → AllAsk lang t line state lines → AllAsk lang u line state lines
+all_weaker lang t u weaker line state [] h = tt
+all_weaker lang t u weaker line state (l ∷ ls) h = (asks_weaker lang t u weaker line state l h.0, all_weaker lang t u weaker (line + 1) (answer lang line state l).state ls h.1)
 
 -- queries leave the state
-pub queries_stay : (line : ℕ) (state : State) (lines : List (List ℕ)) → AllAsk is_query line state lines → state_after line state lines ≡ state
-queries_stay line state [] h = refl
-queries_stay line state (l ∷ ls) h = queries_stay (line + 1) (answer line state l).state ls h.1 ∙ query_stays line state l h.0
+pub queries_stay : (lang : Language) → (line : ℕ) (state : State) (lines : List (List ℕ)) → AllAsk lang is_query line state lines
+    → state_after (meaning lang) line state lines ≡ state
+queries_stay lang line state [] h = refl
+queries_stay lang line state (l ∷ ls) h = queries_stay lang (line + 1) (answer lang line state l).state ls h.1 ∙ query_stays lang line state l h.0
 
-module _ (line : ℕ) (state after : State) (lines : List (List ℕ)) (x : List ℕ) (more : List (List ℕ)) (is : lines ≡ x ∷ more) (leads : (answer line state x).state ≡ after) where
-  pub all_first : (test : Request → Bool) → AllAsk test line state lines → AsksOnly test line state x
-  all_first test h = (subst (λ (ls : List (List ℕ)). AllAsk test line state ls) is h).0
+module _ (lang : Language) (line : ℕ) (state after : State) (lines : List (List ℕ)) (x : List ℕ) (more : List (List ℕ)) (is : lines ≡ x ∷ more)
+    (leads : (answer lang line state x).state ≡ after) where
+  pub all_first : (test : Request → Bool) → AllAsk lang test line state lines → AsksOnly lang test line state x
+  all_first test h = (subst (λ (ls : List (List ℕ)). AllAsk lang test line state ls) is h).0
 
-  pub all_rest : (test : Request → Bool) → AllAsk test line state lines → AllAsk test (line + 1) after more
-  all_rest test h = subst (λ (s : State). AllAsk test (line + 1) s more) leads (subst (λ (ls : List (List ℕ)). AllAsk test line state ls) is h).1
+  pub all_rest : (test : Request → Bool) → AllAsk lang test line state lines → AllAsk lang test (line + 1) after more
+  all_rest test h = subst (λ (s : State). AllAsk lang test (line + 1) s more) leads (subst (λ (ls : List (List ℕ)). AllAsk lang test line state ls) is h).1
 
-  pub state_rest : state_after (line + 1) after more ≡ state_after line state lines
-  state_rest = ap (λ (s : State). state_after (line + 1) s more) (sym leads) ∙ ap (state_after line state) (sym is)
+  pub state_rest : state_after (meaning lang) (line + 1) after more ≡ state_after (meaning lang) line state lines
+  state_rest = ap (λ (s : State). state_after (meaning lang) (line + 1) s more) (sym leads) ∙ ap (state_after (meaning lang) line state) (sym is)
 
-  pub touches_parts : (heads : List Head) (n : ℕ) → TouchesLines heads line state lines n → (first : ℕ) × (rest : ℕ) × TouchesLine heads state x first × TouchesLines heads (line + 1) after more rest × (n ≡ first + rest)
-  touches_parts heads n h = by (subst (λ (ls : List (List ℕ)). TouchesLines heads line state ls n) is h)
+  pub touches_parts : (heads : List Head) (n : ℕ) → TouchesLines lang heads line state lines n
+      → (first : ℕ) × (rest : ℕ) × TouchesLine lang heads state x first × TouchesLines lang heads (line + 1) after more rest × (n ≡ first + rest)
+  touches_parts heads n h = by (subst (λ (ls : List (List ℕ)). TouchesLines lang heads line state ls n) is h)
     where
-      by : TouchesLines heads line state (x ∷ more) n → (first : ℕ) × (rest : ℕ) × TouchesLine heads state x first × TouchesLines heads (line + 1) after more rest × (n ≡ first + rest)
-      by (first, rest, one, others, sum) = (first, rest, one, subst (λ (s : State). TouchesLines heads (line + 1) s more rest) leads others, sum)
+      by : TouchesLines lang heads line state (x ∷ more) n
+          → (first : ℕ) × (rest : ℕ) × TouchesLine lang heads state x first × TouchesLines lang heads (line + 1) after more rest × (n ≡ first + rest)
+      by (first, rest, one, others, sum) = (first, rest, one, subst (λ (s : State). TouchesLines lang heads (line + 1) s more rest) leads others, sum)

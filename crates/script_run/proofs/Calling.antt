@@ -20,6 +20,7 @@ use Rattle.run_status.specs.declared.stop.Stop.TheVariants as stop
 use Rattle.script_run.proofs.Ending.{counted}
 use Rattle.run_status.specs.declared.status.Status.{Status}
 use Rattle.run_status.specs.declared.status.Status.TheVariants as status
+use Rattle.script_run.specs.declared.language.Language.{Language}
 
 -- what has done nothing costs nothing
 same_status : (files : Files) (s : Status) → StatusKeeps files files s
@@ -33,8 +34,9 @@ same_status files status.FolderFault = inl (kept_itself files)
 same_status files status.Memory = inl (kept_itself files)
 same_status files (status.Damaged d) = kept_itself files
 
-pub nothing_costs : (lines : List (List ℕ)) (files : Files) (reads : ℕ) (s : Status) → (IsAnswer s → ⊥) → RunCosts lines files files reads reads s
-nothing_costs lines files reads s other = record {
+pub nothing_costs : (lang : Language) → (lines : List (List ℕ)) (files : Files) (reads : ℕ) (s : Status) → (IsAnswer s → ⊥)
+    → RunCosts lang lines files files reads reads s
+nothing_costs lang lines files reads s other = record {
   levels = λ state h asks a. absurd (other a);
   still = λ state h asks. refl;
   reads = λ s scope pages opening which n touches. omega arith;
@@ -97,5 +99,6 @@ pub no_commit : (files : Files) (c : CommitData) → IsCommitFile (bytes_of (fil
 no_commit files c says none = let there = (file_there (files Commit) c says).0 in cc
 
 -- the commit that was read is the one that the file says
-pub quiet_for : (files : Files) (c read : CommitData) (lines : List (List ℕ)) → IsCommitFile (bytes_of (files Commit)) c → IsCommitFile (bytes_of (files Commit)) read → NoneCommits c.dims lines → NoneCommits read.dims lines
-quiet_for files c read lines says found quiet = subst (λ (d : CommitData). NoneCommits d.dims lines) (one_file (bytes_of (files Commit)) c read says found) quiet
+pub quiet_for : (lang : Language) → (files : Files) (c read : CommitData) (lines : List (List ℕ)) → IsCommitFile (bytes_of (files Commit)) c
+    → IsCommitFile (bytes_of (files Commit)) read → NoneCommits lang c.dims lines → NoneCommits lang read.dims lines
+quiet_for lang files c read lines says found quiet = subst (λ (d : CommitData). NoneCommits lang d.dims lines) (one_file (bytes_of (files Commit)) c read says found) quiet

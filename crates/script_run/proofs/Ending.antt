@@ -3,7 +3,6 @@ use Rattle.std.proofs.Common.{◌≡◌, ◌<◌, ◌≤◌, ◌+◌, ℕ, Bool,
 use Rattle.std.proofs.lemmas.Bool.Decides.{nat_tests}
 use Rattle.outer_io.specs.Counts.{Rose}
 use Rattle.outer_io.specs.Files.{Files}
-use Rattle.index_model.specs.Script.{refused_in}
 use Rattle.script_run.specs.Progress.{Place}
 use Rattle.run_status.specs.Ends.{HasStopCause, DoesNothing, IsDamaged}
 use Rattle.script_run.specs.Runs.{Ends, EndsLines, Finishes}
@@ -12,6 +11,7 @@ use Rattle.run_status.specs.declared.stop.Stop.{Stop}
 use Rattle.run_status.specs.declared.stop.Stop.TheVariants as stop
 use Rattle.run_status.specs.declared.status.Status.{Status}
 use Rattle.run_status.specs.declared.status.Status.TheVariants as status
+use Rattle.script_run.specs.Script.{Meaning, refused_in}
 
 abbrev pub counted : Bool → ℕ → Status
 counted b count = if b then status.Done else status.SomeRefused count
@@ -20,19 +20,20 @@ undamaged : (b : Bool) (count : ℕ) → IsDamaged (counted b count) → ⊥
 undamaged true count d = d
 undamaged false count d = d
 
-module _ (told : Type 0) (p : Place) (files : Files) (new : List ℕ) where
-  ends_counted : (b : Bool) (count : ℕ) → (count == 0) ≡ b → Finishes told p files new → count ≡ p.refused + refused_in p.line p.state p.rest → Ends told p files new (counted b count)
+module _ (m : Meaning) (told : Type 0) (p : Place) (files : Files) (new : List ℕ) where
+  ends_counted : (b : Bool) (count : ℕ) → (count == 0) ≡ b → Finishes m told p files new → count ≡ p.refused + refused_in m p.line p.state p.rest
+      → Ends m told p files new (counted b count)
   ends_counted true count test f is = let zero_is : count ≡ 0 = grind (arith, nat_tests) in (f, sym is ∙ zero_is)
   ends_counted false count test f is = let some_is : 0 < count = grind (arith, nat_tests) in (f, some_is, is)
 
-  pub status_ends : (done : Result ℕ Stop) → EndsLines told p files new done → Ends told p files new (status_of done)
+  pub status_ends : (done : Result ℕ Stop) → EndsLines m told p files new done → Ends m told p files new (status_of done)
   status_ends (Ok count) h = ends_counted (count == 0) count refl h.0 h.1
   status_ends (Err stop.FolderFault) h = h
   status_ends (Err stop.Memory) h = h
   status_ends (Err stop.SinkFault) h = h
   status_ends (Err (stop.Damaged damage)) h = h
 
-  pub never_damaged : (done : Result ℕ Stop) → EndsLines told p files new done → IsDamaged (status_of done) → ⊥
+  pub never_damaged : (done : Result ℕ Stop) → EndsLines m told p files new done → IsDamaged (status_of done) → ⊥
   never_damaged (Ok count) h d = undamaged (count == 0) count d
   never_damaged (Err stop.FolderFault) h d = d
   never_damaged (Err stop.Memory) h d = d

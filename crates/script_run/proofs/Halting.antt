@@ -17,6 +17,7 @@ use Rattle.script_run.proofs.Calling.{stop_after}
 use Rattle.script_run.proofs.Ending.{cause_from, rose_from}
 use Rattle.script_run.proofs.Shown.{stop_less}
 use Rattle.index_opening.specs.Evidence.{IsEvident}
+use Rattle.script_run.specs.Script.{Meaning}
 
 -- what holds of lines alone holds of them where they come from a source
 on_halted : {T : Type 0} (P : Result T Stop → Type 0) (Q : Type 0) (done : Result T Stop) (result : Result T Halt) → result ≡ halted done → P done → OnLines P Q result
@@ -26,8 +27,9 @@ on_halted {T} P Q done result is h = subst (OnLines P Q) (sym is) (by_done done 
     by_done (Ok x) h = h
     by_done (Err s) h = h
 
-pub halted_ends : (told : Type 0) (p : Place) (files : Files) (new : List ℕ) (done : Result ℕ Stop) (result : Result ℕ Halt) → result ≡ halted done → EndsLines told p files new done → EndsRead told p files new result
-halted_ends told p files new done result is h = on_halted (EndsLines told p files new) (Halts told p files new) done result is h
+pub halted_ends : (m : Meaning) → (told : Type 0) (p : Place) (files : Files) (new : List ℕ) (done : Result ℕ Stop) (result : Result ℕ Halt)
+    → result ≡ halted done → EndsLines m told p files new done → EndsRead m told p files new result
+halted_ends m told p files new done result is h = on_halted (EndsLines m told p files new) (Halts m told p files new) done result is h
 
 pub halted_cause : {T : Type 0} (f0 f1 k0 k1 : ℕ) (done : Result T Stop) (result : Result T Halt) → result ≡ halted done → HasStopCause f0 f1 k0 k1 done → HasHaltCause f0 f1 k0 k1 result
 halted_cause f0 f1 k0 k1 done result is h = on_halted (HasStopCause f0 f1 k0 k1) ((f0 ≤ f1) × (k0 ≤ k1)) done result is h

@@ -8,7 +8,6 @@ use Rattle.merge_policy.specs.Choice.{free_count, is_of_level}
 use Rattle.commit_list.specs.CommitFiles.{IsCommitFile}
 use Rattle.segment_file.specs.Heads.{Head}
 use Rattle.index_model.specs.State.{Index, State, at_rest}
-use Rattle.index_model.specs.Script.{answer, state_after}
 use Rattle.segment_view.specs.Parts.{Part, heads_of}
 use Rattle.segment_set.specs.Sets.{BegunMerge, IsSettled, SetData, pins_of, sizes_of}
 use Rattle.segment_set.specs.Seen.{Sees}
@@ -23,6 +22,9 @@ use Rattle.script_run.specs.Costs.{AllAsk, AreLight, HasRoomInLevels, TouchesLin
 use Rattle.script_run.specs.Leads.{AreListed, Closes, HasRoom, Leads, Passes, Spot}
 use Rattle.script_run.proofs.Asking.{Rested, all_first, all_rest, all_weaker, light_begins, line_rests, lines_give, queries_stay, query_light, state_rest, touches_parts}
 use Rattle.index_core.proofs.Undone.{begins_none}
+use Rattle.script_run.specs.Languages.{answer, meaning}
+use Rattle.script_run.specs.Script.{state_after}
+use Rattle.script_run.specs.declared.language.Language.{Language}
 
 -- ---- levels
 
@@ -95,26 +97,29 @@ closes_fails {T} D i old new r e is seen c = subst (Closes D i old new) (sym is)
 -- ---- the lines so far
 
 -- light lines: those that are left are, and what they touch still fits
-pub record LedLight (heads : List Head) (i0 : Index) (line : ℕ) (i : Index) (rest : List (List ℕ)) (now : Spot) (before all : ℕ) : Type 0 where
+pub record LedLight (lang : Language) (heads : List Head) (i0 : Index) (line : ℕ) (i : Index) (rest : List (List ℕ)) (now : Spot) (before all : ℕ) : Type 0 where
   pub rested : i.begun ≡ false
-  pub asks : AllAsk is_light line (Some i) rest
-  pub points : given_of (state_after line (Some i) rest) ≤ i0.given + 16384
+  pub asks : AllAsk lang is_light line (Some i) rest
+  pub points : given_of (state_after (meaning lang) line (Some i) rest) ≤ i0.given + 16384
   pub looks : LooksAt heads now.session.set
   pub waits : length now.session.set.buffer + i0.given ≤ i.given
   pub left : ℕ
-  pub touches : TouchesLines heads line (Some i) rest left
+  pub touches : TouchesLines lang heads line (Some i) rest left
   pub fits : now.reads + left ≤ before + all
 
-pub record Led (D line0 : ℕ) (i0 : Index) (lines : List (List ℕ)) (start : Spot) (line : ℕ) (i : Index) (rest : List (List ℕ)) (now : Spot) : Type 0 where
+pub record Led (lang : Language) (D line0 : ℕ) (i0 : Index) (lines : List (List ℕ)) (start : Spot) (line : ℕ) (i : Index) (rest : List (List ℕ)) (now : Spot) : Type 0 where
   pub canon : BringsCanonical D start.files now.files start.session.set.parts now.session.set.parts
-  pub levels : i0.begun ≡ false → AllAsk begins_no_merge line0 (Some i0) lines → (i.begun ≡ false) × AllAsk begins_no_merge line (Some i) rest × KeepsLevels start.files now.files
-  pub still : i0.begun ≡ false → IsIdle start.session → AllAsk is_query line0 (Some i0) lines
-      → (i.begun ≡ false) × AllAsk is_query line (Some i) rest × (now.files ≡ start.files) × IsIdle now.session
-  pub light : (heads : List Head) → LooksAt heads start.session.set → start.session.set.buffer ≡ [] → i0.begun ≡ false → AllAsk is_light line0 (Some i0) lines
-      → given_of (state_after line0 (Some i0) lines) ≤ i0.given + 16384 → (n : ℕ) → TouchesLines heads line0 (Some i0) lines n → LedLight heads i0 line i rest now start.reads n
+  pub levels : i0.begun ≡ false → AllAsk lang begins_no_merge line0 (Some i0) lines
+      → (i.begun ≡ false) × AllAsk lang begins_no_merge line (Some i) rest × KeepsLevels start.files now.files
+  pub still : i0.begun ≡ false → IsIdle start.session → AllAsk lang is_query line0 (Some i0) lines
+      → (i.begun ≡ false) × AllAsk lang is_query line (Some i) rest × (now.files ≡ start.files) × IsIdle now.session
+  pub light : (heads : List Head) → LooksAt heads start.session.set → start.session.set.buffer ≡ [] → i0.begun ≡ false
+      → AllAsk lang is_light line0 (Some i0) lines
+      → given_of (state_after (meaning lang) line0 (Some i0) lines) ≤ i0.given + 16384 → (n : ℕ) → TouchesLines lang heads line0 (Some i0) lines n
+      → LedLight lang heads i0 line i rest now start.reads n
 
-pub led_first : (D line : ℕ) (i : Index) (lines : List (List ℕ)) (s : Spot) → Led D line i lines s line i lines s
-led_first D line i lines s = record {
+pub led_first : (lang : Language) → (D line : ℕ) (i : Index) (lines : List (List ℕ)) (s : Spot) → Led lang D line i lines s line i lines s
+led_first lang D line i lines s = record {
   canon = brings_same D s.files s.files s.session.set.parts s.session.set.parts refl refl;
   levels = λ rested asks. (rested, asks, inl refl);
   still = λ rested u asks. (rested, asks, refl, u);
@@ -133,29 +138,32 @@ led_first D line i lines s = record {
 rests_on : (state : State) (j : Index) → state ≡ Some j → Rested state → j.begun ≡ false
 rests_on state j is h = subst Rested is h
 
-module _ (D line0 : ℕ) (i0 : Index) (lines : List (List ℕ)) (start : Spot) (line : ℕ) (i : Index) (rest : List (List ℕ)) (now : Spot) (led : Led D line0 i0 lines start line i rest now)
+module _ (lang : Language) (D line0 : ℕ) (i0 : Index) (lines : List (List ℕ)) (start : Spot) (line : ℕ) (i : Index) (rest : List (List ℕ)) (now : Spot) (led : Led lang D line0 i0 lines start line i rest now)
     (x : List ℕ) (more : List (List ℕ)) (is : rest ≡ x ∷ more) (new : Spot) where
   -- the next of light lines has room
-  room_here : (heads : List Head) (before all : ℕ) → LedLight heads i0 line i rest now before all → HasRoom now.session.set i (answer line (Some i) x).state
+  room_here : (heads : List Head) (before all : ℕ) → LedLight lang heads i0 line i rest now before all
+      → HasRoom now.session.set i (answer lang line (Some i) x).state
   room_here heads before all l =
-      let grows = lines_give (line + 1) (answer line (Some i) x).state more in
-      let same = state_rest line (Some i) (answer line (Some i) x).state rest x more is refl in
-      let most : given_of (state_after (line + 1) (answer line (Some i) x).state more) ≤ i0.given + 16384 = subst (λ (s : State). given_of s ≤ i0.given + 16384) (sym same) l.points in
+      let grows = lines_give lang (line + 1) (answer lang line (Some i) x).state more in
+      let same = state_rest lang line (Some i) (answer lang line (Some i) x).state rest x more is refl in
+      let most : given_of (state_after (meaning lang) (line + 1) (answer lang line (Some i) x).state more) ≤ i0.given + 16384 = subst (λ (s : State). given_of s ≤ i0.given + 16384) (sym same) l.points in
       omega (arith, grows, most, l.waits)
 
-  module _ {T E : Type 0} (y : T) (p : Passes {T = T} {E = E} D line i x now new (Ok y)) (j : Index) (leads : (answer line (Some i) x).state ≡ Some j) where
-    light_on : (heads : List Head) (before all : ℕ) → LedLight heads i0 line i rest now before all → LedLight heads i0 (line + 1) j more new before all
+  module _ {T E : Type 0} (y : T) (p : Passes {T = T} {E = E} lang D line i x now new (Ok y)) (j : Index)
+      (leads : (answer lang line (Some i) x).state ≡ Some j) where
+    light_on : (heads : List Head) (before all : ℕ) → LedLight lang heads i0 line i rest now before all
+        → LedLight lang heads i0 (line + 1) j more new before all
     light_on heads before all l =
-        let ask = all_first line (Some i) (Some j) rest x more is leads is_light l.asks in
+        let ask = all_first lang line (Some i) (Some j) rest x more is leads is_light l.asks in
         let room = room_here heads before all l in
         let few = p.looks heads l.looks l.rested ask room in
-        let parts = touches_parts line (Some i) (Some j) rest x more is leads heads l.left l.touches in
+        let parts = touches_parts lang line (Some i) (Some j) rest x more is leads heads l.left l.touches in
         let reads = p.reads heads l.looks l.rested ask room parts.0 parts.2 in
-        let given : given_of (answer line (Some i) x).state ≡ j.given = ap given_of leads in
+        let given : given_of (answer lang line (Some i) x).state ≡ j.given = ap given_of leads in
         record {
-          rested = rests_on (answer line (Some i) x).state j leads (line_rests line i x (all_first line (Some i) (Some j) rest x more is leads begins_no_merge (all_weaker is_light begins_no_merge light_begins line (Some i) rest l.asks)) l.rested);
-          asks = all_rest line (Some i) (Some j) rest x more is leads is_light l.asks;
-          points = subst (λ (s : State). given_of s ≤ i0.given + 16384) (sym (state_rest line (Some i) (Some j) rest x more is leads)) l.points;
+          rested = rests_on (answer lang line (Some i) x).state j leads (line_rests lang line i x (all_first lang line (Some i) (Some j) rest x more is leads begins_no_merge (all_weaker lang is_light begins_no_merge light_begins line (Some i) rest l.asks)) l.rested);
+          asks = all_rest lang line (Some i) (Some j) rest x more is leads is_light l.asks;
+          points = subst (λ (s : State). given_of s ≤ i0.given + 16384) (sym (state_rest lang line (Some i) (Some j) rest x more is leads)) l.points;
           looks = few.looks;
           waits = omega (arith, few.waits, given, l.waits);
           left = parts.1;
@@ -164,21 +172,21 @@ module _ (D line0 : ℕ) (i0 : Index) (lines : List (List ℕ)) (start : Spot) (
         }
 
     -- one more line is done
-    pub led_on : Led D line0 i0 lines start (line + 1) j more new
+    pub led_on : Led lang D line0 i0 lines start (line + 1) j more new
     led_on = record {
       canon = brings_then D start.files now.files new.files start.session.set.parts now.session.set.parts new.session.set.parts led.canon p.canon;
       levels = λ rested asks.
           let l = led.levels rested asks in (
-            rests_on (answer line (Some i) x).state j leads (line_rests line i x (all_first line (Some i) (Some j) rest x more is leads begins_no_merge l.1) l.0),
-            all_rest line (Some i) (Some j) rest x more is leads begins_no_merge l.1,
+            rests_on (answer lang line (Some i) x).state j leads (line_rests lang line i x (all_first lang line (Some i) (Some j) rest x more is leads begins_no_merge l.1) l.0),
+            all_rest lang line (Some i) (Some j) rest x more is leads begins_no_merge l.1,
             levels_then start.files now.files new.files l.2 (p.levels l.0),
           );
       still = λ rested u asks.
           let l = led.still rested u asks in
-          let ask = all_first line (Some i) (Some j) rest x more is leads is_query l.1 in (
-            rests_on (answer line (Some i) x).state j leads
-                (line_rests line i x (all_first line (Some i) (Some j) rest x more is leads begins_no_merge (all_weaker is_query begins_no_merge (λ r e. light_begins r (query_light r e)) line (Some i) rest l.1)) l.0),
-            all_rest line (Some i) (Some j) rest x more is leads is_query l.1,
+          let ask = all_first lang line (Some i) (Some j) rest x more is leads is_query l.1 in (
+            rests_on (answer lang line (Some i) x).state j leads
+                (line_rests lang line i x (all_first lang line (Some i) (Some j) rest x more is leads begins_no_merge (all_weaker lang is_query begins_no_merge (λ r e. light_begins r (query_light r e)) line (Some i) rest l.1)) l.0),
+            all_rest lang line (Some i) (Some j) rest x more is leads is_query l.1,
             p.still l.0 l.3.unchanged ask ∙ l.2,
             p.idle l.0 l.3 ask,
           );
@@ -186,32 +194,34 @@ module _ (D line0 : ℕ) (i0 : Index) (lines : List (List ℕ)) (start : Spot) (
     }
 
   -- queries are light lines
-  either_light : (heads : List Head) → (IsIdle start.session × AllAsk is_query line0 (Some i0) lines) ⊎ AreLight heads line0 (Some i0) lines
-      → AllAsk is_light line0 (Some i0) lines × (given_of (state_after line0 (Some i0) lines) ≤ i0.given + 16384)
+  either_light : (heads : List Head) → (IsIdle start.session × AllAsk lang is_query line0 (Some i0) lines) ⊎ AreLight lang heads line0 (Some i0) lines
+      → AllAsk lang is_light line0 (Some i0) lines × (given_of (state_after (meaning lang) line0 (Some i0) lines) ≤ i0.given + 16384)
   either_light heads (inr l) = (l.asks, l.points)
   either_light heads (inl (u, asks)) =
-      let same = ap given_of (queries_stay line0 (Some i0) lines asks) in
-      (all_weaker is_query is_light query_light line0 (Some i0) lines asks, omega (arith, same))
+      let same = ap given_of (queries_stay lang line0 (Some i0) lines asks) in
+      (all_weaker lang is_query is_light query_light line0 (Some i0) lines asks, omega (arith, same))
 
   -- the run stops at the next line
-  pub led_stops : {S T E F : Type 0} (e : E) (d : F) → Passes {T = S} D line i x now new (Err e) → Leads {T = T} line0 i0 lines start new (Err d)
+  pub led_stops : {S T E F : Type 0} (e : E) (d : F) → Passes {T = S} lang D line i x now new (Err e) → Leads {T = T} lang line0 i0 lines start new (Err d)
   led_stops e d p = record {
     canon = λ listed. tt;
     levels = λ rested asks. tt;
     still = λ rested u asks. let l = led.still rested u asks in p.still l.0 l.3.unchanged
-        (all_first line (Some i) (answer line (Some i) x).state rest x more is refl is_query l.1) ∙ l.2;
+        (all_first lang line (Some i) (answer lang line (Some i) x).state rest x more is refl is_query l.1) ∙ l.2;
     reads = λ heads looks empty rested which n touches.
         let light = either_light heads which in
         let l = led.light heads looks empty rested light.0 light.1 n touches in
-        let parts = touches_parts line (Some i) (answer line (Some i) x).state rest x more is refl heads l.left l.touches in
-        let reads = p.reads heads l.looks l.rested (all_first line (Some i) (answer line (Some i) x).state rest x more is refl is_light l.asks) (room_here heads start.reads n l) parts.0 parts.2 in
+        let parts = touches_parts lang line (Some i) (answer lang line (Some i) x).state rest x more is refl heads l.left l.touches in
+        let reads = p.reads heads l.looks l.rested (all_first lang line (Some i) (answer lang line (Some i) x).state rest x more is refl is_light l.asks) (room_here heads start.reads n l) parts.0 parts.2 in
         omega (arith, reads, parts.4, l.fits);
   }
 
 -- no line is left, and what they left is committed
-pub led_ends : {T E : Type 0} (D line0 : ℕ) (i0 : Index) (lines : List (List ℕ)) (start : Spot) (line : ℕ) (i : Index) (rest : List (List ℕ)) (now : Spot) → Led D line0 i0 lines start line i rest now
-    → Sees D now.files now.session.set i → (new : Spot) (r : Result T E) → Closes D i now new r → Leads line0 i0 lines start new r
-led_ends D line0 i0 lines start line i rest now led seen new r c = record {
+pub led_ends : {T E : Type 0} (lang : Language)
+    → (D line0 : ℕ) (i0 : Index) (lines : List (List ℕ)) (start : Spot) (line : ℕ) (i : Index) (rest : List (List ℕ)) (now : Spot)
+    → Led lang D line0 i0 lines start line i rest now
+    → Sees D now.files now.session.set i → (new : Spot) (r : Result T E) → Closes D i now new r → Leads lang line0 i0 lines start new r
+led_ends lang D line0 i0 lines start line i rest now led seen new r c = record {
   canon = λ listed. c.canon start.files start.session.set listed led.canon;
   levels = λ rested asks. let l = led.levels rested asks in then_levels r l.2 (c.levels l.0);
   still = λ rested u asks. let l = led.still rested u asks in c.still l.3 ∙ l.2;
@@ -222,11 +232,12 @@ led_ends D line0 i0 lines start line i rest now led seen new r c = record {
     then_levels (Ok x) first second = levels_then start.files now.files new.files first second
     then_levels (Err e) first second = tt
 
-    by_which : (heads : List Head) → LooksAt heads start.session.set → start.session.set.buffer ≡ [] → i0.begun ≡ false → (n : ℕ) → TouchesLines heads line0 (Some i0) lines n
-        → (IsIdle start.session × AllAsk is_query line0 (Some i0) lines) ⊎ AreLight heads line0 (Some i0) lines → new.reads ≤ start.reads + n
+    by_which : (heads : List Head) → LooksAt heads start.session.set → start.session.set.buffer ≡ [] → i0.begun ≡ false → (n : ℕ)
+        → TouchesLines lang heads line0 (Some i0) lines n
+        → (IsIdle start.session × AllAsk lang is_query line0 (Some i0) lines) ⊎ AreLight lang heads line0 (Some i0) lines → new.reads ≤ start.reads + n
     by_which heads looks empty rested n touches (inl (u, asks)) =
-        let given = ap given_of (queries_stay line0 (Some i0) lines asks) in
-        let l = led.light heads looks empty rested (all_weaker is_query is_light query_light line0 (Some i0) lines asks) (omega (arith, given)) n touches in
+        let given = ap given_of (queries_stay lang line0 (Some i0) lines asks) in
+        let l = led.light heads looks empty rested (all_weaker lang is_query is_light query_light line0 (Some i0) lines asks) (omega (arith, given)) n touches in
         let same = c.reads (inl (led.still rested u asks).3.unchanged) in
         omega (arith, same, l.fits)
     by_which heads looks empty rested n touches (inr light) =
@@ -235,20 +246,23 @@ led_ends D line0 i0 lines start line i rest now led seen new r c = record {
         omega (arith, same, l.fits)
 
 -- no other line has come
-pub led_breaks : {T E : Type 0} (D line0 : ℕ) (i0 : Index) (lines : List (List ℕ)) (start : Spot) (line : ℕ) (i : Index) (rest : List (List ℕ)) (now : Spot) → Led D line0 i0 lines start line i rest now
-    → (e : E) → Leads {T = T} line0 i0 lines start now (Err e)
-led_breaks D line0 i0 lines start line i rest now led e = record {
+pub led_breaks : {T E : Type 0} (lang : Language)
+    → (D line0 : ℕ) (i0 : Index) (lines : List (List ℕ)) (start : Spot) (line : ℕ) (i : Index) (rest : List (List ℕ)) (now : Spot)
+    → Led lang D line0 i0 lines start line i rest now
+    → (e : E) → Leads {T = T} lang line0 i0 lines start now (Err e)
+led_breaks lang D line0 i0 lines start line i rest now led e = record {
   canon = λ listed. tt;
   levels = λ rested asks. tt;
   still = λ rested u asks. (led.still rested u asks).2;
   reads = λ heads looks empty rested which n touches. by_which heads looks empty rested n touches which;
 }
   where
-    by_which : (heads : List Head) → LooksAt heads start.session.set → start.session.set.buffer ≡ [] → i0.begun ≡ false → (n : ℕ) → TouchesLines heads line0 (Some i0) lines n
-        → (IsIdle start.session × AllAsk is_query line0 (Some i0) lines) ⊎ AreLight heads line0 (Some i0) lines → now.reads ≤ start.reads + n
+    by_which : (heads : List Head) → LooksAt heads start.session.set → start.session.set.buffer ≡ [] → i0.begun ≡ false → (n : ℕ)
+        → TouchesLines lang heads line0 (Some i0) lines n
+        → (IsIdle start.session × AllAsk lang is_query line0 (Some i0) lines) ⊎ AreLight lang heads line0 (Some i0) lines → now.reads ≤ start.reads + n
     by_which heads looks empty rested n touches (inl (u, asks)) =
-        let given = ap given_of (queries_stay line0 (Some i0) lines asks) in
-        let l = led.light heads looks empty rested (all_weaker is_query is_light query_light line0 (Some i0) lines asks) (omega (arith, given)) n touches in
+        let given = ap given_of (queries_stay lang line0 (Some i0) lines asks) in
+        let l = led.light heads looks empty rested (all_weaker lang is_query is_light query_light line0 (Some i0) lines asks) (omega (arith, given)) n touches in
         omega (arith, l.fits)
     by_which heads looks empty rested n touches (inr light) =
         let l = led.light heads looks empty rested light.asks light.points n touches in

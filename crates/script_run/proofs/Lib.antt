@@ -15,3 +15,5 @@ pub mod Halting
 pub mod Reading
 pub mod Shown
 pub mod Statuses
+pub mod RangeStates
+pub mod RangeScripts

@@ -9,7 +9,6 @@ use Rattle.page_cache.specs.declared.faults.PageFault.TheVariants as page
 use Rattle.page_cache.specs.Causes.{HasPageCause}
 use Rattle.page_cache.specs.Evidence.{FaultShows}
 use Rattle.index_model.specs.State.{Index, State, at_rest}
-use Rattle.index_model.specs.Script.{answer, stored_by}
 use Rattle.stored_index.specs.Stored.{IsStored}
 use Rattle.stored_index.specs.Kept.{SameKept}
 use Rattle.stored_index.proofs.KeptFiles.{stored_still}
@@ -31,89 +30,97 @@ use Rattle.run_status.specs.Stops.{stop_of}
 use Rattle.run_status.specs.declared.stop.Stop.{Stop}
 use Rattle.run_status.specs.declared.stop.Stop.TheVariants as stop
 use Rattle.script_run.proofs.Going.{start_here, one_more, ends_from, halts_from, halts_here, read_from, stops_here, breaks_here, fault_stops, finishes_here}
+use Rattle.script_run.specs.Languages.{answer, meaning}
+use Rattle.script_run.specs.Script.{stored_by}
+use Rattle.script_run.specs.declared.language.Language.{Language}
 
 -- a place where an index is there
 abbrev pub place_on : (line refused : ℕ) → Index → (stored : State) → (rest : List (List ℕ)) → (written : List ℕ) → Place
 place_on line refused i stored rest written = record { line = line; refused = refused; state = Some i; stored = stored; rest = rest; written = written }
 
 -- from a place on the lines so far were done as the script says, and the session stands where they led
-pub record Goes (told : Type 0) (D : ℕ) (from : Place) (files : Files) (s : SessionData) (line refused : ℕ) (rest : List (List ℕ)) (written : List ℕ) : Type 0 where
+pub record Goes (lang : Language) (told : Type 0) (D : ℕ) (from : Place) (files : Files) (s : SessionData) (line refused : ℕ) (rest : List (List ℕ)) (written : List ℕ) : Type 0 where
   pub index : Index
   pub stored : State
   pub stands : Stands D files s index stored
-  pub progress : Progress told from (place_on line refused index stored rest written)
+  pub progress : Progress (meaning lang) told from (place_on line refused index stored rest written)
 
-abbrev pub goes_first : {told : Type 0} (D : ℕ) (files : Files) (s : SessionData) (i : Index) (stored : State) (line refused : ℕ) (rest : List (List ℕ)) (written : List ℕ)
-    → Stands D files s i stored → Goes told D (place_on line refused i stored rest written) files s line refused rest written
-goes_first D files s i stored line refused rest written h = record {
+abbrev pub goes_first : {told : Type 0} (lang : Language)
+    → (D : ℕ) (files : Files) (s : SessionData) (i : Index) (stored : State) (line refused : ℕ) (rest : List (List ℕ)) (written : List ℕ)
+    → Stands D files s i stored → Goes lang told D (place_on line refused i stored rest written) files s line refused rest written
+goes_first lang D files s i stored line refused rest written h = record {
   index = i;
   stored = stored;
   stands = h;
-  progress = start_here (place_on line refused i stored rest written);
+  progress = start_here (meaning lang) (place_on line refused i stored rest written);
 }
 
 abbrev pub line_at : ℕ → Index → State → List ℕ → Line
 line_at number i stored bytes = record { number = number; index = i; stored = stored; bytes = bytes }
 
-module _ {told : Type 0} (D : ℕ) (from : Place) (old files : Files) (s t : SessionData) (line refused : ℕ) (ls : List (List ℕ)) (written new : List ℕ)
-    (g : Goes told D from old s line refused ls written) where
+module _ {told : Type 0} (lang : Language) (D : ℕ) (from : Place) (old files : Files) (s t : SessionData) (line refused : ℕ) (ls : List (List ℕ)) (written new : List ℕ)
+    (g : Goes lang told D from old s line refused ls written) where
   -- one more line is done
   abbrev pub goes_on : (bytes : List ℕ) (rest : List (List ℕ)) → ls ≡ bytes ∷ rest → (is_refused : Bool) (count : ℕ) → count ≡ refused + cond is_refused 1 0
-      → Answers told D (line_at line g.index g.stored bytes) files t written new (Ok is_refused)
-      → Goes told D from files t (line + 1) count rest new
+      → Answers lang told D (line_at line g.index g.stored bytes) files t written new (Ok is_refused)
+      → Goes lang told D from files t (line + 1) count rest new
   goes_on bytes rest next is_refused count counted a = record {
     index = a.0.index;
-    stored = stored_by line g.stored (Some g.index) bytes;
+    stored = stored_by (meaning lang) line g.stored (Some g.index) bytes;
     stands = a.0.stands;
-    progress = one_more from (place_on line refused g.index g.stored ls written)
-        (place_on (line + 1) count a.0.index (stored_by line g.stored (Some g.index) bytes) rest new) bytes g.progress next refl a.0.state refl
+    progress = one_more (meaning lang) from (place_on line refused g.index g.stored ls written)
+        (place_on (line + 1) count a.0.index (stored_by (meaning lang) line g.stored (Some g.index) bytes) rest new) bytes g.progress next refl a.0.state refl
         (counted ∙ ap (λ n. refused + n) (sym a.0.refused)) a.1;
   }
 
-  line_stops : (bytes : List ℕ) (rest : List (List ℕ)) → (e : Stop) → Answers told D (line_at line g.index g.stored bytes) files t written new (Err e)
-      → EndsLines told (place_on line refused g.index g.stored (bytes ∷ rest) written) files new (Err e)
-  line_stops bytes rest stop.SinkFault a = breaks_here (place_on line refused g.index g.stored (bytes ∷ rest) written) files new bytes rest refl a.1 a.0
-  line_stops bytes rest stop.FolderFault a = stops_here (place_on line refused g.index g.stored (bytes ∷ rest) written) files new a.1 a.0
-  line_stops bytes rest stop.Memory a = stops_here (place_on line refused g.index g.stored (bytes ∷ rest) written) files new a.1 a.0
+  line_stops : (bytes : List ℕ) (rest : List (List ℕ)) → (e : Stop) → Answers lang told D (line_at line g.index g.stored bytes) files t written new (Err e)
+      → EndsLines (meaning lang) told (place_on line refused g.index g.stored (bytes ∷ rest) written) files new (Err e)
+  line_stops bytes rest stop.SinkFault a = breaks_here (meaning lang) (place_on line refused g.index g.stored (bytes ∷ rest) written) files new bytes rest refl a.1 a.0
+  line_stops bytes rest stop.FolderFault a = stops_here (meaning lang) (place_on line refused g.index g.stored (bytes ∷ rest) written) files new a.1 a.0
+  line_stops bytes rest stop.Memory a = stops_here (meaning lang) (place_on line refused g.index g.stored (bytes ∷ rest) written) files new a.1 a.0
   line_stops bytes rest (stop.Damaged damage) a = absurd a
 
   -- the run stops at the next line
-  pub stops_at : (bytes : List ℕ) (rest : List (List ℕ)) → ls ≡ bytes ∷ rest → (e : Stop) → Answers told D (line_at line g.index g.stored bytes) files t written new (Err e)
-      → EndsLines told from files new (Err e)
+  pub stops_at : (bytes : List ℕ) (rest : List (List ℕ)) → ls ≡ bytes ∷ rest → (e : Stop)
+      → Answers lang told D (line_at line g.index g.stored bytes) files t written new (Err e)
+      → EndsLines (meaning lang) told from files new (Err e)
   stops_at bytes rest next e a =
-      ends_from from (place_on line refused g.index g.stored ls written) g.progress files new (Err e)
-      (subst (λ xs. EndsLines told (place_on line refused g.index g.stored xs written) files new (Err e)) (sym next) (line_stops bytes rest e a))
+      ends_from (meaning lang) from (place_on line refused g.index g.stored ls written) g.progress files new (Err e)
+      (subst (λ xs. EndsLines (meaning lang) told (place_on line refused g.index g.stored xs written) files new (Err e)) (sym next) (line_stops bytes rest e a))
 
   -- the source fails before another line has come
-  pub halts_at : Halts told from old written
-  halts_at = halts_from from (place_on line refused g.index g.stored ls written) g.progress old written
-      (halts_here (place_on line refused g.index g.stored ls written) old written (λ _. refl) g.stands.keeps)
+  pub halts_at : Halts (meaning lang) told from old written
+  halts_at = halts_from (meaning lang) from (place_on line refused g.index g.stored ls written) g.progress old written
+      (halts_here (meaning lang) (place_on line refused g.index g.stored ls written) old written (λ _. refl) g.stands.keeps)
 
   -- or memory is wanting
-  pub memory_at : EndsLines told from old written (Err stop.Memory)
-  memory_at = ends_from from (place_on line refused g.index g.stored ls written) g.progress old written (Err stop.Memory)
-      (stops_here (place_on line refused g.index g.stored ls written) old written (λ _. refl) (inl g.stands.keeps))
+  pub memory_at : EndsLines (meaning lang) told from old written (Err stop.Memory)
+  memory_at = ends_from (meaning lang) from (place_on line refused g.index g.stored ls written) g.progress old written (Err stop.Memory)
+      (stops_here (meaning lang) (place_on line refused g.index g.stored ls written) old written (λ _. refl) (inl g.stands.keeps))
 
 -- no line is left, and what they leave ends the run
-pub ends_then : {told : Type 0} (D : ℕ) (from : Place) (old : Files) (s : SessionData) (line refused : ℕ) (ls : List (List ℕ)) (written : List ℕ)
-    → (g : Goes told D from old s line refused ls written) → ls ≡ [] → (after : Files) (result : Result ℕ Stop)
-    → EndsLines told (place_on line refused g.index g.stored [] written) after written result → EndsLines told from after written result
-ends_then {told} D from old s line refused ls written g none after result h =
-    ends_from from (place_on line refused g.index g.stored ls written) g.progress after written result
-    (subst (λ xs. EndsLines told (place_on line refused g.index g.stored xs written) after written result) (sym none) h)
+pub ends_then : {told : Type 0} (lang : Language)
+    → (D : ℕ) (from : Place) (old : Files) (s : SessionData) (line refused : ℕ) (ls : List (List ℕ)) (written : List ℕ)
+    → (g : Goes lang told D from old s line refused ls written) → ls ≡ [] → (after : Files) (result : Result ℕ Stop)
+    → EndsLines (meaning lang) told (place_on line refused g.index g.stored [] written) after written result
+    → EndsLines (meaning lang) told from after written result
+ends_then {told} lang D from old s line refused ls written g none after result h =
+    ends_from (meaning lang) from (place_on line refused g.index g.stored ls written) g.progress after written result
+    (subst (λ xs. EndsLines (meaning lang) told (place_on line refused g.index g.stored xs written) after written result) (sym none) h)
 
 -- ---- the end
 
 -- what ends a session ends its lines
-pub end_lines : (told : Type 0) (files : Files) (i : Index) (stored : State) (line refused : ℕ) (written : List ℕ) (result : Result ℕ Stop) → IsEnd files i stored refused result
-    → EndsLines told (place_on line refused i stored [] written) files written result
-end_lines told files i stored line refused written (Ok count) h =
-    subst (λ (n : ℕ). EndsLines told (place_on line refused i stored [] written) files written (Ok n)) (sym h.0)
-    (finishes_here {told = told} (place_on line refused i stored [] written) files written refl (λ _. refl) h.1)
-end_lines told files i stored line refused written (Err stop.FolderFault) h = stops_here {told = told} (place_on line refused i stored [] written) files written (λ _. refl) h
-end_lines told files i stored line refused written (Err stop.Memory) h = stops_here {told = told} (place_on line refused i stored [] written) files written (λ _. refl) h
-end_lines told files i stored line refused written (Err stop.SinkFault) h = absurd h
-end_lines told files i stored line refused written (Err (stop.Damaged damage)) h = absurd h
+pub end_lines : (lang : Language) → (told : Type 0) (files : Files) (i : Index) (stored : State) (line refused : ℕ) (written : List ℕ) (result : Result ℕ Stop)
+    → IsEnd files i stored refused result
+    → EndsLines (meaning lang) told (place_on line refused i stored [] written) files written result
+end_lines lang told files i stored line refused written (Ok count) h =
+    subst (λ (n : ℕ). EndsLines (meaning lang) told (place_on line refused i stored [] written) files written (Ok n)) (sym h.0)
+    (finishes_here {told = told} (meaning lang) (place_on line refused i stored [] written) files written refl (λ _. refl) h.1)
+end_lines lang told files i stored line refused written (Err stop.FolderFault) h = stops_here {told = told} (meaning lang) (place_on line refused i stored [] written) files written (λ _. refl) h
+end_lines lang told files i stored line refused written (Err stop.Memory) h = stops_here {told = told} (meaning lang) (place_on line refused i stored [] written) files written (λ _. refl) h
+end_lines lang told files i stored line refused written (Err stop.SinkFault) h = absurd h
+end_lines lang told files i stored line refused written (Err (stop.Damaged damage)) h = absurd h
 
 kept_or_rested : (old files : Files) (i : Index) (stored : State) → IsStored old stored → SameKept old files ⊎ IsStored files (Some (at_rest i)) → IsStored files stored ⊎ IsStored files (Some (at_rest i))
 kept_or_rested old files i stored keeps (inl same) = inl (stored_still old files stored same keeps)
@@ -133,30 +140,32 @@ stops_end old files i stored refused fault whole keeps h result is = subst (IsEn
 -- ---- the beginning
 
 -- no session was opened
-pub unopened : (told : Type 0) (p : Place) (old files : Files) (new : List ℕ) (fault : PageFault) → FaultShows (λ _. ⊥) fault → files ≡ old → IsStored old p.stored
-    → (result : Result ℕ Stop) → result ≡ Err (stop_of fault) → p.written ≡ new → EndsLines told p files new result
-unopened told p old files new fault whole same keeps result is still = subst (EndsLines told p files new) (sym is)
-    (fault_stops {told = told} p files new fault whole (λ _. sym still) (inl (subst (λ f. IsStored f p.stored) (sym same) keeps)))
+pub unopened : (lang : Language) → (told : Type 0) (p : Place) (old files : Files) (new : List ℕ) (fault : PageFault) → FaultShows (λ _. ⊥) fault → files ≡ old
+    → IsStored old p.stored
+    → (result : Result ℕ Stop) → result ≡ Err (stop_of fault) → p.written ≡ new → EndsLines (meaning lang) told p files new result
+unopened lang told p old files new fault whole same keeps result is still = subst (EndsLines (meaning lang) told p files new) (sym is)
+    (fault_stops {told = told} (meaning lang) p files new fault whole (λ _. sym still) (inl (subst (λ f. IsStored f p.stored) (sym same) keeps)))
 
 -- what is stored where an index comes from
 pub origin_keeps : (files : Files) (o : Origin) (i : Index) (stored : State) → IsFrom files o i stored → IsStored files stored
 origin_keeps files (origin.New dims leaf) i stored h = subst (IsStored files) (sym h.2) h.0
 origin_keeps files (origin.Stored commit) i stored h = subst (IsStored files) (sym h.2) h.1
 
-module _ (told : Type 0) (old files after : Files) (written : List ℕ) where
+module _ (lang : Language) (told : Type 0) (old files after : Files) (written : List ℕ) where
   -- no commit was found
   pub from_none : (state : State) → files ≡ old → old Commit ≡ None → IsStored old state → (lines : List (List ℕ)) (new : List ℕ) (result : Result ℕ Halt)
-      → (files Commit ≡ None → EndsRead told (start None lines written) after new result) → EndsRead told (start state lines written) after new result
+      → (files Commit ≡ None → EndsRead (meaning lang) told (start None lines written) after new result)
+      → EndsRead (meaning lang) told (start state lines written) after new result
   from_none state same none h lines new result ends =
-      subst (λ s. EndsRead told (start s lines written) after new result) (sym (none_stored old state none h)) (ends (ap (λ (f : Files). f Commit) same ∙ none))
+      subst (λ s. EndsRead (meaning lang) told (start s lines written) after new result) (sym (none_stored old state none h)) (ends (ap (λ (f : Files). f Commit) same ∙ none))
 
   -- this one was
   pub from_some : (commit : CommitData) (state : State) → files ≡ old → IsCommitFile (bytes_of (old Commit)) commit → IsStored old state → (lines : List (List ℕ)) (new : List ℕ) (result : Result ℕ Halt)
-      → ((i : Index) (stored : State) → IsFrom files (origin.Stored commit) i stored → EndsRead told (place_on 1 0 i stored lines written) after new result)
-      → EndsRead told (start state lines written) after new result
+      → ((i : Index) (stored : State) → IsFrom files (origin.Stored commit) i stored → EndsRead (meaning lang) told (place_on 1 0 i stored lines written) after new result)
+      → EndsRead (meaning lang) told (start state lines written) after new result
   from_some commit state same says h lines new result ends =
       let some = some_stored old commit state says h in
-      subst (λ s. EndsRead told (start s lines written) after new result) (sym some.1)
+      subst (λ s. EndsRead (meaning lang) told (start s lines written) after new result) (sym some.1)
       (ends some.0 (Some some.0) (subst (λ (f : Files). IsFrom f (origin.Stored commit) some.0 (Some some.0)) (sym same) (says, some.2, refl)))
 
 -- reading the commit of a folder that stores a state finds no damage
@@ -174,25 +183,27 @@ known_is P known (Err e) is h = tt
 pub sent_as : {T : Type 0} (text other old new : List ℕ) (result : Result T Stop) → text ≡ other → IsSent text old new result → IsSent other old new result
 sent_as text other old new result same sent = subst (λ (w : List ℕ). IsSent w old new result) same sent
 
-module _ {told : Type 0} (D : ℕ) (l : Line) (files : Files) (s : SessionData) (before reply written new : List ℕ) (is_refused : Bool) where
+module _ {told : Type 0} (lang : Language) (D : ℕ) (l : Line) (files : Files) (s : SessionData) (before reply written new : List ℕ) (is_refused : Bool) where
   -- the answer was sent, or a part of it
-  pub sent_answers : before ≡ [] → Replies D l files s before reply (Ok is_refused) → (result : Result Bool Stop) → IfOk result (λ x. x ≡ is_refused)
-      → OnErr result (IsErrOf result stop.SinkFault) → (told → IsSent reply written new result) → Answers told D l files s written new result
+  pub sent_answers : before ≡ [] → Replies lang D l files s before reply (Ok is_refused) → (result : Result Bool Stop) → IfOk result (λ x. x ≡ is_refused)
+      → OnErr result (IsErrOf result stop.SinkFault) → (told → IsSent reply written new result) → Answers lang told D l files s written new result
   sent_answers none a (Ok x) known cause sent =
-      subst (λ y. IsAnswered D (answer_to_line l) (stored_by_line l) files s y × (told → new ≡ written ++ (answer_to_line l).text)) (sym known)
-      (a.0, λ t. sent t ∙ ap (λ w. written ++ w) (a.1 ∙ ap (λ w. w ++ (answer_to_line l).text) none))
+      subst (λ y. IsAnswered D (answer_to_line lang l) (stored_by_line lang l) files s y × (told → new ≡ written ++ (answer_to_line lang l).text)) (sym known)
+      (a.0, λ t. sent t ∙ ap (λ w. written ++ w) (a.1 ∙ ap (λ w. w ++ (answer_to_line lang l).text) none))
   sent_answers none a (Err stop.SinkFault) known cause sent =
-      (a.0.stands.keeps, λ t. subst (WritesPart written new) (a.1 ∙ ap (λ w. w ++ (answer_to_line l).text) none) (sent t))
+      (a.0.stands.keeps, λ t. subst (WritesPart written new) (a.1 ∙ ap (λ w. w ++ (answer_to_line lang l).text) none) (sent t))
   sent_answers none a (Err stop.FolderFault) known cause sent = let e : IsErrOf {T = Bool} (Err stop.FolderFault) stop.SinkFault = cause in absurd cc
   sent_answers none a (Err stop.Memory) known cause sent = let e : IsErrOf {T = Bool} (Err stop.Memory) stop.SinkFault = cause in absurd cc
   sent_answers none a (Err (stop.Damaged damage)) known cause sent = let e : IsErrOf {T = Bool} (Err (stop.Damaged damage)) stop.SinkFault = cause in absurd cc
 
 -- nothing was sent
-pub left_answers : (told : Type 0) (D : ℕ) (l : Line) (files : Files) (s : SessionData) (before reply written new : List ℕ) (fault : PageFault) → Replies D l files s before reply (Err fault)
-    → (result : Result Bool Stop) → result ≡ Err (stop_of fault) → new ≡ written → Answers told D l files s written new result
-left_answers told D l files s before reply written new page.Failed left result is same = subst (Answers told D l files s written new) (sym is) (left, λ t. same)
-left_answers told D l files s before reply written new page.Memory left result is same = subst (Answers told D l files s written new) (sym is) (left, λ t. same)
-left_answers told D l files s before reply written new (page.Damaged damage) left result is same = absurd left
+pub left_answers : (lang : Language)
+    → (told : Type 0) (D : ℕ) (l : Line) (files : Files) (s : SessionData) (before reply written new : List ℕ) (fault : PageFault)
+    → Replies lang D l files s before reply (Err fault)
+    → (result : Result Bool Stop) → result ≡ Err (stop_of fault) → new ≡ written → Answers lang told D l files s written new result
+left_answers lang told D l files s before reply written new page.Failed left result is same = subst (Answers lang told D l files s written new) (sym is) (left, λ t. same)
+left_answers lang told D l files s before reply written new page.Memory left result is same = subst (Answers lang told D l files s written new) (sym is) (left, λ t. same)
+left_answers lang told D l files s before reply written new (page.Damaged damage) left result is same = absurd left
 
 pub only_sink : {T : Type 0} (result : Result T Stop) → OnErr result (IsErrOf result stop.SinkFault) → OnErr result (IsErrOf result stop.SinkFault ⊎ IsErrOf result stop.Memory)
 only_sink (Ok x) h = tt
@@ -203,52 +214,56 @@ only_sink (Err e) h = inl h
 abbrev pub place_off : (line refused : ℕ) → (rest : List (List ℕ)) → (written : List ℕ) → Place
 place_off line refused rest written = record { line = line; refused = refused; state = None; stored = None; rest = rest; written = written }
 
-module _ {told : Type 0} (from : Place) (line refused : ℕ) (ls : List (List ℕ)) (written : List ℕ) (g : Progress told from (place_off line refused ls written)) where
+module _ {told : Type 0} (lang : Language) (from : Place) (line refused : ℕ) (ls : List (List ℕ)) (written : List ℕ)
+    (g : Progress (meaning lang) told from (place_off line refused ls written)) where
   -- one more line is done, and still no index is there
-  pub first_goes_on : (new : List ℕ) (bytes : List ℕ) (rest : List (List ℕ)) → ls ≡ bytes ∷ rest → (count : ℕ) → count ≡ refused + (answer line None bytes).refused
-      → (answer line None bytes).state ≡ None → (told → new ≡ written ++ (answer line None bytes).text) → Progress told from (place_off (line + 1) count rest new)
+  pub first_goes_on : (new : List ℕ) (bytes : List ℕ) (rest : List (List ℕ)) → ls ≡ bytes ∷ rest → (count : ℕ)
+      → count ≡ refused + (answer lang line None bytes).refused
+      → (answer lang line None bytes).state ≡ None → (told → new ≡ written ++ (answer lang line None bytes).text)
+      → Progress (meaning lang) told from (place_off (line + 1) count rest new)
   first_goes_on new bytes rest next count counted state text =
-      one_more from (place_off line refused ls written) (place_off (line + 1) count rest new) bytes g next refl state refl counted text
+      one_more (meaning lang) from (place_off line refused ls written) (place_off (line + 1) count rest new) bytes g next refl state refl counted text
 
   -- a line makes an index, and the rest is done on it
-  pub made_ends : (bytes : List ℕ) (rest : List (List ℕ)) → ls ≡ bytes ∷ rest → (i : Index) (middle : List ℕ) → (answer line None bytes).state ≡ Some i
-      → (answer line None bytes).refused ≡ 0 → (told → middle ≡ written ++ (answer line None bytes).text)
-      → (after : Files) (last : List ℕ) (result : Result ℕ Halt) → EndsRead told (place_on (line + 1) refused i None rest middle) after last result → EndsRead told from after last result
+  pub made_ends : (bytes : List ℕ) (rest : List (List ℕ)) → ls ≡ bytes ∷ rest → (i : Index) (middle : List ℕ) → (answer lang line None bytes).state ≡ Some i
+      → (answer lang line None bytes).refused ≡ 0 → (told → middle ≡ written ++ (answer lang line None bytes).text)
+      → (after : Files) (last : List ℕ) (result : Result ℕ Halt)
+      → EndsRead (meaning lang) told (place_on (line + 1) refused i None rest middle) after last result → EndsRead (meaning lang) told from after last result
   made_ends bytes rest next i middle state none_refused text after last result h =
-      read_from from (place_on (line + 1) refused i None rest middle)
-      (one_more from (place_off line refused ls written) (place_on (line + 1) refused i None rest middle) bytes g next refl state refl
+      read_from (meaning lang) from (place_on (line + 1) refused i None rest middle)
+      (one_more (meaning lang) from (place_off line refused ls written) (place_on (line + 1) refused i None rest middle) bytes g next refl state refl
       (sym (ap (λ r. refused + r) none_refused ∙ add-zero refused)) text)
       after last result h
 
   -- no line is left
-  pub finishes_first : (files : Files) → IsStored files None → ls ≡ [] → EndsLines told from files written (Ok refused)
+  pub finishes_first : (files : Files) → IsStored files None → ls ≡ [] → EndsLines (meaning lang) told from files written (Ok refused)
   finishes_first files none empty =
-      ends_from from (place_off line refused ls written) g files written (Ok refused)
-      (finishes_here {told = told} (place_off line refused ls written) files written empty (λ _. refl) none)
+      ends_from (meaning lang) from (place_off line refused ls written) g files written (Ok refused)
+      (finishes_here {told = told} (meaning lang) (place_off line refused ls written) files written empty (λ _. refl) none)
 
   -- the source fails before another line has come
-  pub halts_first : (files : Files) → IsStored files None → Halts told from files written
-  halts_first files none = halts_from from (place_off line refused ls written) g files written (halts_here (place_off line refused ls written) files written (λ _. refl) none)
+  pub halts_first : (files : Files) → IsStored files None → Halts (meaning lang) told from files written
+  halts_first files none = halts_from (meaning lang) from (place_off line refused ls written) g files written (halts_here (meaning lang) (place_off line refused ls written) files written (λ _. refl) none)
 
   -- or memory is wanting
-  pub memory_first : (files : Files) → IsStored files None → EndsLines told from files written (Err stop.Memory)
+  pub memory_first : (files : Files) → IsStored files None → EndsLines (meaning lang) told from files written (Err stop.Memory)
   memory_first files none =
-      ends_from from (place_off line refused ls written) g files written (Err stop.Memory) (stops_here (place_off line refused ls written) files written (λ _. refl) (inl none))
+      ends_from (meaning lang) from (place_off line refused ls written) g files written (Err stop.Memory) (stops_here (meaning lang) (place_off line refused ls written) files written (λ _. refl) (inl none))
 
-module _ {told : Type 0} (from : Place) (files : Files) (line refused : ℕ) (ls : List (List ℕ)) (written new : List ℕ)
-    (g : Progress told from (place_off line refused ls written)) (none : IsStored files None) where
+module _ {told : Type 0} (lang : Language) (from : Place) (files : Files) (line refused : ℕ) (ls : List (List ℕ)) (written new : List ℕ)
+    (g : Progress (meaning lang) told from (place_off line refused ls written)) (none : IsStored files None) where
   first_stops : {T : Type 0} (bytes : List ℕ) (rest : List (List ℕ)) → ls ≡ bytes ∷ rest → (e : Stop) → IsErrOf {T = T} (Err e) stop.SinkFault ⊎ IsErrOf {T = T} (Err e) stop.Memory
-      → (told → IsCut (answer line None bytes).text written new e) → EndsLines told (place_off line refused ls written) files new (Err e)
-  first_stops bytes rest next stop.SinkFault cause sent = breaks_here (place_off line refused ls written) files new bytes rest next sent none
-  first_stops bytes rest next stop.Memory cause sent = stops_here (place_off line refused ls written) files new sent (inl none)
+      → (told → IsCut (answer lang line None bytes).text written new e) → EndsLines (meaning lang) told (place_off line refused ls written) files new (Err e)
+  first_stops bytes rest next stop.SinkFault cause sent = breaks_here (meaning lang) (place_off line refused ls written) files new bytes rest next sent none
+  first_stops bytes rest next stop.Memory cause sent = stops_here (meaning lang) (place_off line refused ls written) files new sent (inl none)
   first_stops bytes rest next stop.FolderFault cause sent = absurd (elim cause as (λ _. ⊥) [ inl e ↦ cc | inr e ↦ cc ])
   first_stops bytes rest next (stop.Damaged damage) cause sent = elim cause as (λ _. ⊥) [ inl e ↦ cc | inr e ↦ cc ]
 
   -- the run stops at the next line
   pub stops_first : {T : Type 0} (bytes : List ℕ) (rest : List (List ℕ)) → ls ≡ bytes ∷ rest → (e : Stop) → IsErrOf {T = T} (Err e) stop.SinkFault ⊎ IsErrOf {T = T} (Err e) stop.Memory
-      → (told → IsCut (answer line None bytes).text written new e) → EndsLines told from files new (Err e)
+      → (told → IsCut (answer lang line None bytes).text written new e) → EndsLines (meaning lang) told from files new (Err e)
   stops_first {T} bytes rest next e cause sent =
-      ends_from from (place_off line refused ls written) g files new (Err e) (first_stops {T = T} bytes rest next e cause sent)
+      ends_from (meaning lang) from (place_off line refused ls written) g files new (Err e) (first_stops {T = T} bytes rest next e cause sent)
 
 -- ---- causes
 

@@ -17,7 +17,6 @@ use Rattle.documents.specs.NearestEntries.{ComesBefore, IsNearest, nears_of}
 use Rattle.documents.proofs.Lists.{nil_none, pairs_none}
 use Rattle.nearest_query.specs.Segments.{AreNearLeaves, bound_of}
 use Rattle.segment_file.specs.Heads.{Head}
-use Rattle.script_lang.specs.Reading.{Reading, Says, Fails, read}
 use Rattle.script_lang.specs.Requests.{Request, Viewed}
 use Rattle.script_lang.specs.Requests as asks
 use Rattle.script_lang.specs.declared.faults.LineFault.{LineFault}
@@ -27,7 +26,7 @@ use Rattle.index_model.specs.State.{Index, Snapshot, snapshot_of, viewed_docs}
 use Rattle.ring_parity.specs.Rings.{all_edges}
 use Rattle.polygon_query.specs.Shape as polygons
 use Rattle.index_model.specs.Step.{Outcome, Done, Refused, in_plane_polygon, step_on}
-use Rattle.index_model.specs.Script.{Answer, answer, answer_to}
+use Rattle.index_model.specs.Script.{Answer, answer_to}
 use Rattle.index_model.specs.declared.session.Applied.{Applied}
 use Rattle.index_model.specs.declared.session.Applied.TheVariants as applied
 use Rattle.segment_view.specs.Costs.{AreTouched}
@@ -46,10 +45,13 @@ use Rattle.explain_queries.specs.Explained.{reach}
 use Rattle.explain_queries.proofs.Explaining.{reach_is}
 use Rattle.explain_queries.proofs.There.{are_nearest, there, there_found}
 use Rattle.index_core.proofs.Undone.{begins_none}
-use Rattle.script_run.specs.Costs.{TouchesOn, TouchesReading, TouchesView, given_of, is_query}
+use Rattle.script_run.specs.Costs.{TouchesOn, TouchesHeard, TouchesView, given_of, is_query}
 use Rattle.script_run.specs.Leads.{HasRoom, Passes, Spot, StaysFew}
 use Rattle.script_run.proofs.Asking.{Asks, IsRefusal, asked, begin_refused, full_of, full_or_given, light_gives, read_state, refusal_state, unread_state}
 use Rattle.script_run.proofs.Deciding.{idle_still, unchanged_or_not}
+use Rattle.script_run.specs.Languages.{Heard, answer, heard}
+use Rattle.script_run.specs.declared.language.Language.{Language}
+use Rattle.range_docs.specs.declared.faults.RangeFault.{RangeFault}
 
 no : {P : Type 0} → false ≡ true → P
 no e = cc
@@ -316,25 +318,27 @@ unchanged_room : (s : SessionData) → IsUnchanged s → length s.set.buffer ≤
 unchanged_room s u = let none : length s.set.buffer ≡ 0 = ap (λ (xs : List Item). length xs) u.same.empty in omega (arith, none)
 
 -- a line that was read, and whose request the session did
-pub passes_applied : (D : ℕ) (told : Type 0) → told → (line : ℕ) (i : Index) (bytes : List ℕ) (r : Request) (old new : Spot) (before after : List ℕ) (result : Result Applied PageFault) → Sees D old.files old.session.set i
-    → read (Some D) bytes ≡ Says r → IsApplied D told i r old new before after result → Passes D line i bytes old new result
-passes_applied D told is_told line i bytes r old new before after result seen says a = record {
+pub passes_applied : (lang : Language) → (D : ℕ) (told : Type 0) → told
+    → (line : ℕ) (i : Index) (bytes : List ℕ) (r : Request) (old new : Spot) (before after : List ℕ) (result : Result Applied PageFault)
+    → Sees D old.files old.session.set i
+    → heard lang (Some D) bytes ≡ Ok r → IsApplied D told i r old new before after result → Passes lang D line i bytes old new result
+passes_applied lang D told is_told line i bytes r old new before after result seen says a = record {
   canon = a.canon;
   levels = λ rested. levels_after D told i r old new before after result a (begins_none D old.files old.session.set i seen rested);
-  still = λ rested u ask. still_files D told is_told i old new before after rested (begins_none D old.files old.session.set i seen rested) seen.given r result (asked is_query line i bytes r is ask) (unchanged_room old.session u) a;
+  still = λ rested u ask. still_files D told is_told i old new before after rested (begins_none D old.files old.session.set i seen rested) seen.given r result (asked lang is_query line i bytes r is ask) (unchanged_room old.session u) a;
   idle = λ rested u ask. still_session D told is_told i old new before after rested
-      (begins_none D old.files old.session.set i seen rested) seen.given r result (asked is_query line i bytes r is ask) u a;
-  reads = λ heads looks rested ask room n touches. reads_few D told is_told i old new before after seen rested heads looks line r result (asked is_light line i bytes r is ask)
-      (subst (λ (w : Answer). HasRoom old.session.set i w.state) answers room) a n (subst (λ (x : Reading). TouchesReading (Some i) heads x n) is touches);
+      (begins_none D old.files old.session.set i seen rested) seen.given r result (asked lang is_query line i bytes r is ask) u a;
+  reads = λ heads looks rested ask room n touches. reads_few D told is_told i old new before after seen rested heads looks line r result (asked lang is_light line i bytes r is ask)
+      (subst (λ (w : Answer). HasRoom old.session.set i w.state) answers room) a n (subst (λ (x : Heard). TouchesHeard (Some i) heads x n) is touches);
   looks = λ heads looks rested ask room. subst (λ (w : Answer). OnOk result (StaysFew heads i w.state old.session.set new.session.set)) (sym answers)
-      (stays_few D told is_told i old new before after seen rested heads looks line r result (asked is_light line i bytes r is ask) (subst (λ (w : Answer). HasRoom old.session.set i w.state) answers room) a);
+      (stays_few D told is_told i old new before after seen rested heads looks line r result (asked lang is_light line i bytes r is ask) (subst (λ (w : Answer). HasRoom old.session.set i w.state) answers room) a);
 }
   where
-    is : read (Some i.dims) bytes ≡ Says r
-    is = ap (λ d. read (Some d) bytes) seen.dims ∙ says
+    is : heard lang (Some i.dims) bytes ≡ Ok r
+    is = ap (λ d. heard lang (Some d) bytes) seen.dims ∙ says
 
-    answers : answer line (Some i) bytes ≡ answer_to line (Some i) (step_on i r)
-    answers = read_state line i bytes r is
+    answers : answer lang line (Some i) bytes ≡ answer_to line (Some i) (step_on i r)
+    answers = read_state lang line i bytes r is
 
 -- the same of another result, which is fine only where the first is
 fine_as : {S T E F : Type 0} (P : Type 0) (r : Result S E) (q : Result T F) → (is_ok q ≡ true → is_ok r ≡ true) → OnOk r P → OnOk q P
@@ -342,8 +346,9 @@ fine_as P r (Err e) fine h = tt
 fine_as P (Ok x) (Ok y) fine h = h
 fine_as P (Err e) (Ok y) fine h = no (fine refl)
 
-pub passes_to : {S T E F : Type 0} (D line : ℕ) (i : Index) (bytes : List ℕ) (old new : Spot) (r : Result S E) (q : Result T F) → (is_ok q ≡ true → is_ok r ≡ true) → Passes D line i bytes old new r → Passes D line i bytes old new q
-passes_to D line i bytes old new r q fine p = record {
+pub passes_to : {S T E F : Type 0} (lang : Language) → (D line : ℕ) (i : Index) (bytes : List ℕ) (old new : Spot) (r : Result S E) (q : Result T F)
+    → (is_ok q ≡ true → is_ok r ≡ true) → Passes lang D line i bytes old new r → Passes lang D line i bytes old new q
+passes_to lang D line i bytes old new r q fine p = record {
   canon = p.canon;
   levels = λ rested. fine_as _ r q fine (p.levels rested);
   still = p.still;
@@ -357,19 +362,21 @@ on_ok (Ok x) p = p
 on_ok (Err e) p = tt
 
 -- a line that can't be read is refused, and nothing is done
-pub passes_unread : {T E : Type 0} (D line : ℕ) (i : Index) (bytes : List ℕ) (f : LineFault) (old : Spot) (r : Result T E) → i.dims ≡ D → read (Some D) bytes ≡ Fails f → Passes D line i bytes old old r
-passes_unread D line i bytes f old r dims fails = record {
+pub passes_unread : {T E : Type 0} (lang : Language) → (D line : ℕ) (i : Index) (bytes : List ℕ) (f : RangeFault) (old : Spot) (r : Result T E) → i.dims ≡ D
+    → heard lang (Some D) bytes ≡ Err f → Passes lang D line i bytes old old r
+passes_unread lang D line i bytes f old r dims fails = record {
   canon = brings_same D old.files old.files old.session.set.parts old.session.set.parts refl refl;
   levels = λ rested. on_ok r (inl refl);
   still = λ rested u ask. refl;
   idle = λ rested u ask. on_ok r u;
   reads = λ heads looks rested ask room n touches. omega arith;
-  looks = λ heads looks rested ask room. on_ok r (record { looks = looks; waits = let same = ap given_of (unread_state line i bytes f (ap (λ d. read (Some d) bytes) dims ∙ fails)) in omega (arith, same) });
+  looks = λ heads looks rested ask room. on_ok r (record { looks = looks; waits = let same = ap given_of (unread_state lang line i bytes f (ap (λ d. heard lang (Some d) bytes) dims ∙ fails)) in omega (arith, same) });
 }
 
 -- memory was wanting before anything was done
-pub passes_none : {T E : Type 0} (D line : ℕ) (i : Index) (bytes : List ℕ) (old : Spot) (e : E) → Passes {T = T} D line i bytes old old (Err e)
-passes_none D line i bytes old e = record {
+pub passes_none : {T E : Type 0} (lang : Language) → (D line : ℕ) (i : Index) (bytes : List ℕ) (old : Spot) (e : E)
+    → Passes {T = T} lang D line i bytes old old (Err e)
+passes_none lang D line i bytes old e = record {
   canon = brings_same D old.files old.files old.session.set.parts old.session.set.parts refl refl;
   levels = λ rested. tt;
   still = λ rested u ask. refl;

@@ -1,13 +1,14 @@
 -- Lines that are read one after the other: those so far, with whichever others behind them.
-use Rattle.std.proofs.Common.{◌≡◌, ◌+◌, ℕ, Bool, true, false, cond, Option, List, [], ◌∷◌, ◌++◌, Some, Result, Ok, Err, refl, sym, ap, ◌∙◌, subst, append_assoc}
+use Rattle.std.proofs.Common.{◌≡◌, ◌+◌, ◌%◌, ◌==◌, ℕ, Bool, true, false, cond, if◌then◌else◌, Option, None, List, [], ◌∷◌, ◌++◌, Some, Result, Ok, Err, refl, sym, ap, ◌∙◌, subst, append_assoc}
 use Rattle.outer_io.specs.Files.{Files}
 use Rattle.std.proofs.lemmas.Bool.{false≢true}
-use Rattle.script_lang.specs.Lines.{lines_of}
-use Rattle.script_lang.specs.Reading.{read}
+use Rattle.script_lang.specs.Lines.{lines_of, words_of}
 use Rattle.index_model.specs.State.{Index, State}
 use Rattle.line_source.specs.Reader.{Gives, GivesLine, IsNew, KnowsEnd, kept, lines_left}
 use Rattle.line_source.specs.declared.reader.LineReader.{LineReader}
-use Rattle.line_source.proofs.Kept.{kept_reads}
+use Rattle.line_source.proofs.Kept.{kept_reads, kept_text}
+use Rattle.range_docs.specs.Reading.{as_points, from_part, if_blank, range_read, read_range_words}
+use Rattle.range_docs.specs.Seen.{asked}
 use Rattle.stored_index.specs.Kept.{SameKept}
 use Rattle.stored_index.proofs.KeptFiles.{kept_after, kept_itself}
 use Rattle.run_status.specs.declared.stop.Stop.{Stop}
@@ -20,10 +21,26 @@ use Rattle.script_run.specs.Leads.{Closes, Leads, Passes, Spot}
 use Rattle.script_run.specs.Runs.{EndsLines, Halts}
 use Rattle.script_run.proofs.Leading.{Led, led_breaks, led_ends, led_first, led_on, led_stops}
 use Rattle.script_run.proofs.Lined.{Goes, end_lines, ends_then, goes_first, goes_on, halts_at, line_at, memory_at, place_on, stops_at}
+use Rattle.script_run.specs.Languages.{heard, meaning, read_in}
+use Rattle.script_run.specs.declared.language.Language.{Language}
+use Rattle.script_run.specs.declared.language.Language.TheVariants.{Points, Ranges}
+
+-- what is kept of a line of ranges reads as it does
+kept_ranges : (dims : Option ℕ) (line : List ℕ) → range_read dims (kept line) ≡ range_read dims line
+unfolding range_read
+kept_ranges None line = ap (λ text. from_part text (λ words. read_range_words None (words_of words))) (kept_text line)
+kept_ranges (Some dims) line =
+    (λ i. if dims % 2 == 0 then from_part (kept_text line i) (λ words. read_range_words (Some dims) (words_of words)) else if_blank (kept_reads None line i))
+
+kept_heard : (lang : Language) (dims : Option ℕ) (line : List ℕ) → heard lang dims (kept line) ≡ heard lang dims line
+unfolding read_in
+kept_heard Points dims line = ap (λ r. asked (as_points r)) (kept_reads dims line)
+kept_heard Ranges dims line = ap asked (kept_ranges dims line)
 
 -- what is kept of a line reads as it does
-pub reads_alike : (dims : Option ℕ) (line bytes text : List ℕ) → bytes ≡ kept line → text ≡ bytes → read dims line ≡ read dims text
-reads_alike dims line bytes text are is = sym (kept_reads dims line) ∙ ap (read dims) (sym are) ∙ ap (read dims) (sym is)
+pub reads_alike : (lang : Language) (dims : Option ℕ) (line bytes text : List ℕ) → bytes ≡ kept line → text ≡ bytes
+    → heard lang dims line ≡ heard lang dims text
+reads_alike lang dims line bytes text are is = sym (kept_heard lang dims line) ∙ ap (heard lang dims) (sym are) ∙ ap (heard lang dims) (sym is)
 
 -- ---- what was read
 
@@ -85,53 +102,63 @@ of_any told r left P h = (lines_left r left, λ t knows. refl, h (lines_left r l
 -- ---- lines in a session
 
 -- from a place on the lines so far were done, and more are left
-pub record Going (told : Type 0) (D line0 refused0 : ℕ) (i : Index) (stored : State) (written0 : List ℕ) (start : Spot) (lines : List (List ℕ)) (now : Spot) (line refused : ℕ) (more : List (List ℕ)) (written : List ℕ) : Type 0 where
-  pub goes : Goes told D (place_on line0 refused0 i stored lines written0) now.files now.session line refused more written
-  pub led : Led D line0 i lines start line goes.index more now
+pub record Going (lang : Language) (told : Type 0) (D line0 refused0 : ℕ) (i : Index) (stored : State) (written0 : List ℕ) (start : Spot) (lines : List (List ℕ)) (now : Spot) (line refused : ℕ) (more : List (List ℕ)) (written : List ℕ) : Type 0 where
+  pub goes : Goes lang told D (place_on line0 refused0 i stored lines written0) now.files now.session line refused more written
+  pub led : Led lang D line0 i lines start line goes.index more now
 
-pub going_first : (told : Type 0) (D line refused : ℕ) (i : Index) (stored : State) (written : List ℕ) (s : Spot) (more : List (List ℕ)) → Stands D s.files s.session i stored
-    → Going told D line refused i stored written s more s line refused more written
-going_first told D line refused i stored written s more h = record {
-  goes = goes_first D s.files s.session i stored line refused more written h;
-  led = led_first D line i more s;
+pub going_first : (lang : Language) → (told : Type 0) (D line refused : ℕ) (i : Index) (stored : State) (written : List ℕ) (s : Spot) (more : List (List ℕ))
+    → Stands D s.files s.session i stored
+    → Going lang told D line refused i stored written s more s line refused more written
+going_first lang told D line refused i stored written s more h = record {
+  goes = goes_first lang D s.files s.session i stored line refused more written h;
+  led = led_first lang D line i more s;
 }
 
-module _ (told : Type 0) (D line0 refused0 : ℕ) (i : Index) (stored : State) (written0 : List ℕ) (start : Spot) (lines : List (List ℕ)) (now : Spot) (line refused : ℕ) (written : List ℕ) where
-  module _ (bytes : List ℕ) (more : List (List ℕ)) (g : Going told D line0 refused0 i stored written0 start lines now line refused (bytes ∷ more) written) (new : Spot) (after : List ℕ) where
-    pub going_on : (is_refused : Bool) (count : ℕ) → count ≡ refused + cond is_refused 1 0 → Answers told D (line_at line g.goes.index g.goes.stored bytes) new.files new.session written after (Ok is_refused)
-        → Passes {T = Bool} {E = Stop} D line g.goes.index bytes now new (Ok is_refused) → Going told D line0 refused0 i stored written0 start lines new (line + 1) count more after
+module _ (lang : Language) (told : Type 0) (D line0 refused0 : ℕ) (i : Index) (stored : State) (written0 : List ℕ) (start : Spot) (lines : List (List ℕ))
+    (now : Spot) (line refused : ℕ) (written : List ℕ) where
+  module _ (bytes : List ℕ) (more : List (List ℕ)) (g : Going lang told D line0 refused0 i stored written0 start lines now line refused (bytes ∷ more) written)
+      (new : Spot) (after : List ℕ) where
+    pub going_on : (is_refused : Bool) (count : ℕ) → count ≡ refused + cond is_refused 1 0
+        → Answers lang told D (line_at line g.goes.index g.goes.stored bytes) new.files new.session written after (Ok is_refused)
+        → Passes {T = Bool} {E = Stop} lang D line g.goes.index bytes now new (Ok is_refused)
+        → Going lang told D line0 refused0 i stored written0 start lines new (line + 1) count more after
     going_on is_refused count counted answers passes = record {
-      goes = goes_on {told = told} D (place_on line0 refused0 i stored lines written0) now.files new.files now.session new.session line refused (bytes ∷ more) written after g.goes bytes more refl is_refused count counted answers;
-      led = led_on D line0 i lines start line g.goes.index (bytes ∷ more) now g.led bytes more refl new is_refused passes answers.0.index answers.0.state;
+      goes = goes_on {told = told} lang D (place_on line0 refused0 i stored lines written0) now.files new.files now.session new.session line refused (bytes ∷ more) written after g.goes bytes more refl is_refused count counted answers;
+      led = led_on lang D line0 i lines start line g.goes.index (bytes ∷ more) now g.led bytes more refl new is_refused passes answers.0.index answers.0.state;
     }
 
-    pub going_stops : {E : Type 0} (e : Stop) (d : E) → Answers told D (line_at line g.goes.index g.goes.stored bytes) new.files new.session written after (Err e)
-        → Passes {T = Bool} {E = Stop} D line g.goes.index bytes now new (Err e) → EndsLines told (place_on line0 refused0 i stored lines written0) new.files after (Err e) × Leads {T = ℕ} line0 i lines start new (Err d)
+    pub going_stops : {E : Type 0} (e : Stop) (d : E)
+        → Answers lang told D (line_at line g.goes.index g.goes.stored bytes) new.files new.session written after (Err e)
+        → Passes {T = Bool} {E = Stop} lang D line g.goes.index bytes now new (Err e)
+        → EndsLines (meaning lang) told (place_on line0 refused0 i stored lines written0) new.files after (Err e) × Leads {T = ℕ} lang line0 i lines start new (Err d)
     going_stops e d answers passes = (
-      stops_at {told = told} D (place_on line0 refused0 i stored lines written0) now.files new.files now.session new.session line refused (bytes ∷ more) written after g.goes bytes more refl e answers,
-      led_stops D line0 i lines start line g.goes.index (bytes ∷ more) now g.led bytes more refl new e d passes,
+      stops_at {told = told} lang D (place_on line0 refused0 i stored lines written0) now.files new.files now.session new.session line refused (bytes ∷ more) written after g.goes bytes more refl e answers,
+      led_stops lang D line0 i lines start line g.goes.index (bytes ∷ more) now g.led bytes more refl new e d passes,
     )
 
-  module _ (more : List (List ℕ)) (g : Going told D line0 refused0 i stored written0 start lines now line refused more written) where
-    pub going_halts : {E : Type 0} (d : E) → Halts told (place_on line0 refused0 i stored lines written0) now.files written × Leads {T = ℕ} line0 i lines start now (Err d)
+  module _ (more : List (List ℕ)) (g : Going lang told D line0 refused0 i stored written0 start lines now line refused more written) where
+    pub going_halts : {E : Type 0} (d : E)
+        → Halts (meaning lang) told (place_on line0 refused0 i stored lines written0) now.files written × Leads {T = ℕ} lang line0 i lines start now (Err d)
     going_halts d = (
-      halts_at {told = told} D (place_on line0 refused0 i stored lines written0) now.files now.files now.session now.session line refused more written written g.goes,
-      led_breaks D line0 i lines start line g.goes.index more now g.led d,
+      halts_at {told = told} lang D (place_on line0 refused0 i stored lines written0) now.files now.files now.session now.session line refused more written written g.goes,
+      led_breaks lang D line0 i lines start line g.goes.index more now g.led d,
     )
 
-    pub going_wants : {E : Type 0} (d : E) → EndsLines told (place_on line0 refused0 i stored lines written0) now.files written (Err stop.Memory) × Leads {T = ℕ} line0 i lines start now (Err d)
+    pub going_wants : {E : Type 0} (d : E)
+        → EndsLines (meaning lang) told (place_on line0 refused0 i stored lines written0) now.files written (Err stop.Memory) × Leads {T = ℕ} lang line0 i lines start now (Err d)
     going_wants d = (
-      memory_at {told = told} D (place_on line0 refused0 i stored lines written0) now.files now.files now.session now.session line refused more written written g.goes,
-      led_breaks D line0 i lines start line g.goes.index more now g.led d,
+      memory_at {told = told} lang D (place_on line0 refused0 i stored lines written0) now.files now.files now.session now.session line refused more written written g.goes,
+      led_breaks lang D line0 i lines start line g.goes.index more now g.led d,
     )
 
   -- no line is left
-  pub going_ends : {E : Type 0} (g : Going told D line0 refused0 i stored written0 start lines now line refused [] written) (new : Spot) (done : Result ℕ Stop) (result : Result ℕ E)
-      → IsEnd new.files g.goes.index g.goes.stored refused done → Closes D g.goes.index now new result → EndsLines told (place_on line0 refused0 i stored lines written0) new.files written done × Leads line0 i lines start new result
+  pub going_ends : {E : Type 0} (g : Going lang told D line0 refused0 i stored written0 start lines now line refused [] written) (new : Spot) (done : Result ℕ Stop) (result : Result ℕ E)
+      → IsEnd new.files g.goes.index g.goes.stored refused done → Closes D g.goes.index now new result
+      → EndsLines (meaning lang) told (place_on line0 refused0 i stored lines written0) new.files written done × Leads lang line0 i lines start new result
   going_ends g new done result end closes = (
-    ends_then {told = told} D (place_on line0 refused0 i stored lines written0) now.files now.session line refused [] written g.goes refl new.files done
-        (end_lines told new.files g.goes.index g.goes.stored line refused written done end),
-    led_ends D line0 i lines start line g.goes.index [] now g.led g.goes.stands.seen new result closes,
+    ends_then {told = told} lang D (place_on line0 refused0 i stored lines written0) now.files now.session line refused [] written g.goes refl new.files done
+        (end_lines lang told new.files g.goes.index g.goes.stored line refused written done end),
+    led_ends lang D line0 i lines start line g.goes.index [] now g.led g.goes.stands.seen new result closes,
   )
 
 -- what was committed is so for lines that come from a source
@@ -143,15 +170,16 @@ closes_halted {T} D i old new done result is h = subst (Closes D i old new) (sym
     by_done (Err s) h = record { canon = λ first s listed brings. tt; levels = λ rested. tt; still = h.still; reads = h.reads }
 
 -- lines of which none commits were read, and the files keep what they kept
-pub record Quiet (D : ℕ) (lines : List (List ℕ)) (old now : Files) : Type 0 where
-  pub kept : (more : List (List ℕ)) → NoneCommits D (lines ++ more) → SameKept old now × NoneCommits D more
+pub record Quiet (lang : Language) (D : ℕ) (lines : List (List ℕ)) (old now : Files) : Type 0 where
+  pub kept : (more : List (List ℕ)) → NoneCommits lang D (lines ++ more) → SameKept old now × NoneCommits lang D more
 
-pub quiet_first : (D : ℕ) (files : Files) → Quiet D [] files files
-quiet_first D files = record { kept = λ more quiet. (kept_itself files, quiet) }
+pub quiet_first : (lang : Language) → (D : ℕ) (files : Files) → Quiet lang D [] files files
+quiet_first lang D files = record { kept = λ more quiet. (kept_itself files, quiet) }
 
-pub quiet_on : (D : ℕ) (lines : List (List ℕ)) (line : List ℕ) (old now new : Files) → Quiet D lines old now → (asks_commit (read (Some D) line) ≡ false → SameKept now new) → Quiet D (lines ++ line ∷ []) old new
-quiet_on D lines line old now new q same = record {
+pub quiet_on : (lang : Language) → (D : ℕ) (lines : List (List ℕ)) (line : List ℕ) (old now new : Files) → Quiet lang D lines old now
+    → (asks_commit (heard lang (Some D) line) ≡ false → SameKept now new) → Quiet lang D (lines ++ line ∷ []) old new
+quiet_on lang D lines line old now new q same = record {
   kept = λ more quiet.
-      let next = q.kept (line ∷ more) (subst (NoneCommits D) (append_assoc lines (line ∷ []) more) quiet) in
+      let next = q.kept (line ∷ more) (subst (NoneCommits lang D) (append_assoc lines (line ∷ []) more) quiet) in
       (kept_after old now new next.0 (same next.1.0), next.1.1);
 }

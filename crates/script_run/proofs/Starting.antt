@@ -14,7 +14,6 @@ use Rattle.commit_list.proofs.CommitPages.{one_file}
 use Rattle.segment_file.specs.Heads.{Head}
 use Rattle.script_lang.specs.Requests.{Request}
 use Rattle.index_model.specs.State.{Index, Snapshot, State, new_index}
-use Rattle.index_model.specs.Script.{answer, state_after}
 use Rattle.stored_index.specs.Stored.{HasHead, HaveHeads, HaveLive, IsStored}
 use Rattle.stored_index.specs.Opening.{segments_pages}
 use Rattle.stored_index.proofs.Parts.{heads_once}
@@ -41,6 +40,9 @@ use Rattle.script_run.proofs.Leading.{levels_still}
 use Rattle.script_run.proofs.Passing.{on_ok}
 use Rattle.script_run.proofs.Opened.{none_stored, some_stored}
 use Rattle.script_run.proofs.Scoped.{commit_few, heads_zip, none_scope, opening_is, scope_holds}
+use Rattle.script_run.specs.Languages.{answer, meaning}
+use Rattle.script_run.specs.Script.{state_after}
+use Rattle.script_run.specs.declared.language.Language.{Language}
 
 -- ---- nothing was done
 
@@ -124,9 +126,11 @@ pub opens_none : (dims leaf : ℕ) (files : Files) (reads : ℕ) (i : Index) (st
 opens_none dims leaf files reads i stored fault from =
     record { rested = ap (λ (j : Index). j.begun) from.1; fresh = tt; idle = λ is. tt; looks = λ s is. tt; reads = λ s is. omega arith }
 
-module _ {T : Type 0} {E : Type 0} (o : Origin) (i : Index) (stored : State) (line : ℕ) (lines : List (List ℕ)) (old middle : Files) (before between : ℕ) (same : middle ≡ old) where
-  pub open_fails : (fault : PageFault) → Opens o i stored old before between (Err fault) → (result : Result T E) (e : E) → result ≡ Err e → LeadsFrom o i stored line lines old middle before between result
-  open_fails fault opens result e is = subst (LeadsFrom o i stored line lines old middle before between) (sym is) (record {
+module _ {T : Type 0} {E : Type 0} (lang : Language) (o : Origin) (i : Index) (stored : State) (line : ℕ) (lines : List (List ℕ)) (old middle : Files)
+    (before between : ℕ) (same : middle ≡ old) where
+  pub open_fails : (fault : PageFault) → Opens o i stored old before between (Err fault) → (result : Result T E) (e : E) → result ≡ Err e
+      → LeadsFrom lang o i stored line lines old middle before between result
+  open_fails fault opens result e is = subst (LeadsFrom lang o i stored line lines old middle before between) (sym is) (record {
     canon = tt;
     levels = λ asks. tt;
     still = λ there asks. same;
@@ -135,7 +139,8 @@ module _ {T : Type 0} {E : Type 0} (o : Origin) (i : Index) (stored : State) (li
 
   -- and the lines are done in it
   pub open_leads : (s : SessionData) (new : Spot) (result : Result T E) → Opens o i stored old before between (Ok s)
-      → Leads line i lines (record { files = middle; session = s; reads = between }) new result → LeadsFrom o i stored line lines old new.files before new.reads result
+      → Leads lang line i lines (record { files = middle; session = s; reads = between }) new result
+      → LeadsFrom lang o i stored line lines old new.files before new.reads result
   open_leads s new result opens leads = record {
     canon = subst (λ (f : Files). OnOk result (HasNewCanonical f new.files)) same (leads.canon (subst (λ (f : Files). AreListed f s.set) (sym same) opens.fresh.listed));
     levels = λ asks. subst (λ (f : Files). OnOk result (KeepsLevels f new.files)) same (leads.levels opens.rested asks);
@@ -146,78 +151,83 @@ module _ {T : Type 0} {E : Type 0} (o : Origin) (i : Index) (stored : State) (li
         omega (arith, few, more);
   }
     where
-      by_which : (scope : Scope) → ((stored ≡ Some i) × AllAsk is_query line (Some i) lines) ⊎ AreLight scope.heads line (Some i) lines
-          → (IsIdle s × AllAsk is_query line (Some i) lines) ⊎ AreLight scope.heads line (Some i) lines
+      by_which : (scope : Scope) → ((stored ≡ Some i) × AllAsk lang is_query line (Some i) lines) ⊎ AreLight lang scope.heads line (Some i) lines
+          → (IsIdle s × AllAsk lang is_query line (Some i) lines) ⊎ AreLight lang scope.heads line (Some i) lines
       by_which scope (inl (there, asks)) = inl (opens.idle there, asks)
       by_which scope (inr light) = inr light
 
 -- ---- lines where no index is there
 
 -- the lines that are left ask what all do
-pub record Nears (lines : List (List ℕ)) (line : ℕ) (rest : List (List ℕ)) : Type 0 where
-  pub asks : (test : Request → Bool) → AllAsk test 1 None lines → AllAsk test line None rest
-  pub after : state_after line None rest ≡ state_after 1 None lines
-  pub touches : (heads : List Head) (n : ℕ) → TouchesLines heads 1 None lines n → TouchesLines heads line None rest n
+pub record Nears (lang : Language) (lines : List (List ℕ)) (line : ℕ) (rest : List (List ℕ)) : Type 0 where
+  pub asks : (test : Request → Bool) → AllAsk lang test 1 None lines → AllAsk lang test line None rest
+  pub after : state_after (meaning lang) line None rest ≡ state_after (meaning lang) 1 None lines
+  pub touches : (heads : List Head) (n : ℕ) → TouchesLines lang heads 1 None lines n → TouchesLines lang heads line None rest n
 
-pub nears_first : (lines : List (List ℕ)) → Nears lines 1 lines
-nears_first lines = record { asks = λ test h. h; after = refl; touches = λ heads n h. h }
+pub nears_first : (lang : Language) → (lines : List (List ℕ)) → Nears lang lines 1 lines
+nears_first lang lines = record { asks = λ test h. h; after = refl; touches = λ heads n h. h }
 
-touches_none : (heads : List Head) (line : ℕ) (rest : List (List ℕ)) (n m k : ℕ) → m ≡ 0 → n ≡ m + k → TouchesLines heads line None rest k → TouchesLines heads line None rest n
-touches_none heads line rest n m k none sum h = subst (TouchesLines heads line None rest) (let same : k ≡ n = omega (arith, none, sum) in same) h
+touches_none : (lang : Language) → (heads : List Head) (line : ℕ) (rest : List (List ℕ)) (n m k : ℕ) → m ≡ 0 → n ≡ m + k
+    → TouchesLines lang heads line None rest k → TouchesLines lang heads line None rest n
+touches_none lang heads line rest n m k none sum h = subst (TouchesLines lang heads line None rest) (let same : k ≡ n = omega (arith, none, sum) in same) h
 
-module _ (lines : List (List ℕ)) (line : ℕ) (rest : List (List ℕ)) (near : Nears lines line rest) (x : List ℕ) (more : List (List ℕ)) (is : rest ≡ x ∷ more) where
+module _ (lang : Language) (lines : List (List ℕ)) (line : ℕ) (rest : List (List ℕ)) (near : Nears lang lines line rest) (x : List ℕ) (more : List (List ℕ))
+    (is : rest ≡ x ∷ more) where
   -- still none is there
-  pub nears_on : (answer line None x).state ≡ None → Nears lines (line + 1) more
+  pub nears_on : (answer lang line None x).state ≡ None → Nears lang lines (line + 1) more
   nears_on none = record {
-    asks = λ test h. all_rest line None None rest x more is none test (near.asks test h);
-    after = state_rest line None None rest x more is none ∙ near.after;
+    asks = λ test h. all_rest lang line None None rest x more is none test (near.asks test h);
+    after = state_rest lang line None None rest x more is none ∙ near.after;
     touches = λ heads n h.
-        let parts = touches_parts line None None rest x more is none heads n (near.touches heads n h) in
-        touches_none heads (line + 1) more n parts.0 parts.1 parts.2 parts.4 parts.3;
+        let parts = touches_parts lang line None None rest x more is none heads n (near.touches heads n h) in
+        touches_none lang heads (line + 1) more n parts.0 parts.1 parts.2 parts.4 parts.3;
   }
 
-  module _ {T E : Type 0} (dims leaf : ℕ) (made : (answer line None x).state ≡ Some (new_index dims leaf)) (old new : Files) (before now : ℕ) (none : old Commit ≡ None) (result : Result T E)
-      (leads : LeadsFrom (origin.New dims leaf) (new_index dims leaf) None (line + 1) more old new before now result) where
-    no_queries : AllAsk is_query 1 None lines → ⊥
+  module _ {T E : Type 0} (dims leaf : ℕ) (made : (answer lang line None x).state ≡ Some (new_index dims leaf)) (old new : Files) (before now : ℕ) (none : old Commit ≡ None) (result : Result T E)
+      (leads : LeadsFrom lang (origin.New dims leaf) (new_index dims leaf) None (line + 1) more old new before now result) where
+    no_queries : AllAsk lang is_query 1 None lines → ⊥
     no_queries asks =
-        let stays = query_stays line None x (all_first line None (Some (new_index dims leaf)) rest x more is made is_query (near.asks is_query asks)) in
+        let stays = query_stays lang line None x (all_first lang line None (Some (new_index dims leaf)) rest x more is made is_query (near.asks is_query asks)) in
         let e : Some (new_index dims leaf) ≡ None = sym made ∙ stays in absurd cc
 
-    light_rest : (heads : List Head) → AreLight heads 1 None lines → AreLight heads (line + 1) (Some (new_index dims leaf)) more
+    light_rest : (heads : List Head) → AreLight lang heads 1 None lines → AreLight lang heads (line + 1) (Some (new_index dims leaf)) more
     light_rest heads l = record {
-      asks = all_rest line None (Some (new_index dims leaf)) rest x more is made is_light (near.asks is_light l.asks);
-      points = subst (λ (s : State). given_of s ≤ 0 + 16384) (sym (state_rest line None (Some (new_index dims leaf)) rest x more is made ∙ near.after)) l.points;
+      asks = all_rest lang line None (Some (new_index dims leaf)) rest x more is made is_light (near.asks is_light l.asks);
+      points = subst (λ (s : State). given_of s ≤ 0 + 16384) (sym (state_rest lang line None (Some (new_index dims leaf)) rest x more is made ∙ near.after)) l.points;
       room = l.room;
     }
 
-    made_reads : (s : Scope) → IsScope old s → AllAsk is_query 1 None lines ⊎ AreLight s.heads 1 None lines → (n : ℕ) → TouchesLines s.heads 1 None lines n → now ≤ before + n
+    made_reads : (s : Scope) → IsScope old s → AllAsk lang is_query 1 None lines ⊎ AreLight lang s.heads 1 None lines → (n : ℕ)
+        → TouchesLines lang s.heads 1 None lines n → now ≤ before + n
     made_reads s scope (inl asks) n touches = absurd (no_queries asks)
     made_reads s scope (inr light) n touches =
-        let parts = touches_parts line None (Some (new_index dims leaf)) rest x more is made s.heads n (near.touches s.heads n touches) in
+        let parts = touches_parts lang line None (Some (new_index dims leaf)) rest x more is made s.heads n (near.touches s.heads n touches) in
         let few = leads.reads s scope (inr (light_rest s.heads light)) parts.1 parts.3 in
         omega (arith, few, parts.4)
 
     -- a line makes an index, and the rest is done on it
-    pub made_leads : LeadsAll None lines old new before now result
+    pub made_leads : LeadsAll lang None lines old new before now result
     made_leads = record {
       canon = leads.canon;
-      levels = λ asks. leads.levels (all_rest line None (Some (new_index dims leaf)) rest x more is made begins_no_merge (near.asks begins_no_merge asks));
+      levels = λ asks. leads.levels (all_rest lang line None (Some (new_index dims leaf)) rest x more is made begins_no_merge (near.asks begins_no_merge asks));
       still = λ asks. absurd (no_queries asks);
       reads = λ s scope pages opening which n touches.
           let is_none = ap (λ (q : Scope). q.state) (none_scope old s none scope) in
-          let few = made_reads s scope (subst (λ (o : State). AllAsk is_query 1 o lines ⊎ AreLight s.heads 1 o lines) is_none which) n (subst (λ (o : State). TouchesLines s.heads 1 o lines n) is_none touches) in
+          let few = made_reads s scope (subst (λ (o : State). AllAsk lang is_query 1 o lines ⊎ AreLight lang s.heads 1 o lines) is_none which) n (subst (λ (o : State). TouchesLines lang s.heads 1 o lines n) is_none touches) in
           omega (arith, few);
     }
 
 -- a call before left the folder alone
-pub leads_same : {T E : Type 0} (state : State) (lines : List (List ℕ)) (old middle new : Files) (before between now : ℕ) (result : Result T E) → middle ≡ old → between ≡ before
-    → LeadsAll state lines middle new between now result → LeadsAll state lines old new before now result
-leads_same state lines old middle new before between now result same unread leads =
-    subst (λ (f : Files). LeadsAll state lines f new before now result) same (subst (λ (n : ℕ). LeadsAll state lines middle new n now result) unread leads)
+pub leads_same : {T E : Type 0} (lang : Language)
+    → (state : State) (lines : List (List ℕ)) (old middle new : Files) (before between now : ℕ) (result : Result T E) → middle ≡ old → between ≡ before
+    → LeadsAll lang state lines middle new between now result → LeadsAll lang state lines old new before now result
+leads_same lang state lines old middle new before between now result same unread leads =
+    subst (λ (f : Files). LeadsAll lang state lines f new before now result) same (subst (λ (n : ℕ). LeadsAll lang state lines middle new n now result) unread leads)
 
 -- nothing was done with the folder
-pub leads_none : {T E : Type 0} (state : State) (lines : List (List ℕ)) (old new : Files) (before now : ℕ) (result : Result T E) → new ≡ old → now ≡ before → LeadsAll state lines old new before now result
-leads_none state lines old new before now result same unread = record {
+pub leads_none : {T E : Type 0} (lang : Language) → (state : State) (lines : List (List ℕ)) (old new : Files) (before now : ℕ) (result : Result T E) → new ≡ old
+    → now ≡ before → LeadsAll lang state lines old new before now result
+leads_none lang state lines old new before now result same unread = record {
   canon = on_ok result (canonical_still old new same);
   levels = λ asks. on_ok result (levels_still old new same);
   still = λ asks. same;
@@ -226,52 +236,57 @@ leads_none state lines old new before now result same unread = record {
 
 -- ---- what the folder stores
 
-module _ {T E : Type 0} (state : State) (lines : List (List ℕ)) (old middle new : Files) (before between now : ℕ) (result : Result T E) (same : middle ≡ old) (stored : IsStored old state) where
+module _ {T E : Type 0} (lang : Language) (state : State) (lines : List (List ℕ)) (old middle new : Files) (before between now : ℕ) (result : Result T E)
+    (same : middle ≡ old) (stored : IsStored old state) where
   -- no commit was found
-  pub leads_first : old Commit ≡ None → between ≡ before → (middle Commit ≡ None → LeadsAll None lines middle new between now result) → LeadsAll state lines old new before now result
+  pub leads_first : old Commit ≡ None → between ≡ before → (middle Commit ≡ None → LeadsAll lang None lines middle new between now result)
+      → LeadsAll lang state lines old new before now result
   leads_first none unread leads =
-      subst (λ (s : State). LeadsAll s lines old new before now result) (sym (none_stored old state none stored))
-      (subst (λ (f : Files). LeadsAll None lines f new before now result) same
-      (subst (λ (n : ℕ). LeadsAll None lines middle new n now result) unread (leads (ap (λ (f : Files). f Commit) same ∙ none))))
+      subst (λ (s : State). LeadsAll lang s lines old new before now result) (sym (none_stored old state none stored))
+      (subst (λ (f : Files). LeadsAll lang None lines f new before now result) same
+      (subst (λ (n : ℕ). LeadsAll lang None lines middle new n now result) unread (leads (ap (λ (f : Files). f Commit) same ∙ none))))
 
   module _ (commit : CommitData) (says : IsCommitFile (bytes_of (old Commit)) commit) (most : between ≤ before + length (bytes_of (old Commit)) / 4096)
-      (leads : (i : Index) (s : State) → IsFrom middle (origin.Stored commit) i s → LeadsFrom (origin.Stored commit) i s 1 lines middle new between now result) where
+      (leads : (i : Index) (s : State) → IsFrom middle (origin.Stored commit) i s → LeadsFrom lang (origin.Stored commit) i s 1 lines middle new between now result) where
     -- for whichever state is stored
-    leads_at : (s : State) → IsStored old s → (i : Index) × (s ≡ Some i) × LeadsFrom (origin.Stored commit) i (Some i) 1 lines old new between now result
+    leads_at : (s : State) → IsStored old s → (i : Index) × (s ≡ Some i) × LeadsFrom lang (origin.Stored commit) i (Some i) 1 lines old new between now result
     leads_at s is =
         let some = some_stored old commit s says is in (
           some.0,
           some.1,
-          subst (λ (f : Files). LeadsFrom (origin.Stored commit) some.0 (Some some.0) 1 lines f new between now result) same
+          subst (λ (f : Files). LeadsFrom lang (origin.Stored commit) some.0 (Some some.0) 1 lines f new between now result) same
               (leads some.0 (Some some.0) (subst (λ (f : Files). IsFrom f (origin.Stored commit) some.0 (Some some.0)) (sym same) (says, some.2, refl))),
         )
 
-    by_which : (s : Scope) (i : Index) → AllAsk is_query 1 (Some i) lines ⊎ AreLight s.heads 1 (Some i) lines → ((Some i ≡ Some i) × AllAsk is_query 1 (Some i) lines) ⊎ AreLight s.heads 1 (Some i) lines
+    by_which : (s : Scope) (i : Index) → AllAsk lang is_query 1 (Some i) lines ⊎ AreLight lang s.heads 1 (Some i) lines
+        → ((Some i ≡ Some i) × AllAsk lang is_query 1 (Some i) lines) ⊎ AreLight lang s.heads 1 (Some i) lines
     by_which s i (inl asks) = inl (refl, asks)
     by_which s i (inr light) = inr light
 
-    stored_reads : RunReadsFew old lines before now
+    stored_reads : RunReadsFew lang old lines before now
     stored_reads s scope pages opening which n touches =
         let at = leads_at s.state scope.stored in
-        let few = at.2.reads s scope (by_which s at.0 (subst (λ (o : State). AllAsk is_query 1 o lines ⊎ AreLight s.heads 1 o lines) at.1 which)) n (subst (λ (o : State). TouchesLines s.heads 1 o lines n) at.1 touches) in
+        let few = at.2.reads s scope (by_which s at.0 (subst (λ (o : State). AllAsk lang is_query 1 o lines ⊎ AreLight lang s.heads 1 o lines) at.1 which)) n (subst (λ (o : State). TouchesLines lang s.heads 1 o lines n) at.1 touches) in
         let pages_are = opening_is old commit s pages says scope opening in
         omega (arith, few, most, pages_are)
 
     -- this one was
-    pub leads_some : LeadsAll state lines old new before now result
+    pub leads_some : LeadsAll lang state lines old new before now result
     leads_some =
         let at = leads_at state stored in
         record {
           canon = at.2.canon;
-          levels = λ asks. at.2.levels (subst (λ (o : State). AllAsk begins_no_merge 1 o lines) at.1 asks);
-          still = λ asks. at.2.still refl (subst (λ (o : State). AllAsk is_query 1 o lines) at.1 asks);
+          levels = λ asks. at.2.levels (subst (λ (o : State). AllAsk lang begins_no_merge 1 o lines) at.1 asks);
+          still = λ asks. at.2.still refl (subst (λ (o : State). AllAsk lang is_query 1 o lines) at.1 asks);
           reads = stored_reads;
         }
 
 -- reading the commit failed
-pub leads_unread : {T E : Type 0} (state : State) (lines : List (List ℕ)) (old new : Files) (before now : ℕ) (result : Result T E) (e : E) → new ≡ old → (old Commit ≡ None → now ≡ before)
-    → ((c : CommitData) → IsCommitFile (bytes_of (old Commit)) c → now ≤ before + length (bytes_of (old Commit)) / 4096) → result ≡ Err e → LeadsAll state lines old new before now result
-leads_unread state lines old new before now result e same unread most is = record {
+pub leads_unread : {T E : Type 0} (lang : Language) → (state : State) (lines : List (List ℕ)) (old new : Files) (before now : ℕ) (result : Result T E) (e : E)
+    → new ≡ old → (old Commit ≡ None → now ≡ before)
+    → ((c : CommitData) → IsCommitFile (bytes_of (old Commit)) c → now ≤ before + length (bytes_of (old Commit)) / 4096) → result ≡ Err e
+    → LeadsAll lang state lines old new before now result
+leads_unread lang state lines old new before now result e same unread most is = record {
   canon = on_ok result (canonical_still old new same);
   levels = λ asks. on_ok result (levels_still old new same);
   still = λ asks. same;

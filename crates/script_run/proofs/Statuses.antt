@@ -18,31 +18,32 @@ use Rattle.script_run.proofs.Calling.{stop_status}
 use Rattle.script_run.proofs.Ending.{counted, folder_stopped, never_damaged, sink_stopped, status_ends}
 use Rattle.script_run.proofs.Shown.{status_shows}
 use Rattle.script_run.proofs.Starting.{when_answered}
+use Rattle.script_run.specs.Script.{Meaning}
 
 -- where the source tells its bytes the lines are its lines
 pub with_lines : (told : Type 0) (left : List ℕ) (P : List (List ℕ) → Type 0) → told → OfSource told left P → P (lines_of left)
 with_lines told left P t (lines, are, h) = subst P (are t) h
 
-module _ (told : Type 0) (p : Place) (files : Files) (new : List ℕ) where
-  session_counted : (b : Bool) (count : ℕ) → Ends told p files new (counted b count) → EndsSession told p files new (counted b count)
+module _ (m : Meaning) (told : Type 0) (p : Place) (files : Files) (new : List ℕ) where
+  session_counted : (b : Bool) (count : ℕ) → Ends m told p files new (counted b count) → EndsSession m told p files new (counted b count)
   session_counted true count h = h
   session_counted false count h = h
 
-  pub session_ends : (done : Result ℕ Halt) → EndsRead told p files new done → EndsSession told p files new (status_of_lines done)
-  session_ends (Ok count) h = session_counted (count == 0) count (status_ends told p files new (Ok count) h)
+  pub session_ends : (done : Result ℕ Halt) → EndsRead m told p files new done → EndsSession m told p files new (status_of_lines done)
+  session_ends (Ok count) h = session_counted (count == 0) count (status_ends m told p files new (Ok count) h)
   session_ends (Err halt.Source) h = h
   session_ends (Err (halt.Stopped stop.FolderFault)) h = h
   session_ends (Err (halt.Stopped stop.Memory)) h = h
   session_ends (Err (halt.Stopped stop.SinkFault)) h = h
   session_ends (Err (halt.Stopped (stop.Damaged damage))) h = h
 
-  pub session_undamaged : (done : Result ℕ Halt) → EndsRead told p files new done → IsDamaged (status_of_lines done) → ⊥
-  session_undamaged (Ok count) h d = never_damaged told p files new (Ok count) h d
+  pub session_undamaged : (done : Result ℕ Halt) → EndsRead m told p files new done → IsDamaged (status_of_lines done) → ⊥
+  session_undamaged (Ok count) h d = never_damaged m told p files new (Ok count) h d
   session_undamaged (Err halt.Source) h d = d
-  session_undamaged (Err (halt.Stopped s)) h d = never_damaged told p files new (Err s) h d
+  session_undamaged (Err (halt.Stopped s)) h d = never_damaged m told p files new (Err s) h d
 
   -- a run whose source doesn't fail ends as a session does
-  pub run_ends : (s : Status) → EndsSession told p files new s → (s ≡ status.SourceFault → ⊥) → Ends told p files new s
+  pub run_ends : (s : Status) → EndsSession m told p files new s → (s ≡ status.SourceFault → ⊥) → Ends m told p files new s
   run_ends status.Done h other = h
   run_ends (status.SomeRefused count) h other = h
   run_ends status.FolderFault h other = h

@@ -6,11 +6,14 @@ use Rattle.page_cache.specs.declared.faults.PageFault.{PageFault}
 use Rattle.page_cache.specs.declared.faults.PageFault.TheVariants as page
 use Rattle.script_lang.specs.Reading.{greatest_leaf}
 use Rattle.index_model.specs.State.{Index, State, at_rest, new_index}
-use Rattle.index_model.specs.Script.{Answer, answer, stored_by}
+use Rattle.index_model.specs.Script.{Answer}
 use Rattle.stored_index.specs.Stored.{IsStored}
 use Rattle.segment_set.specs.Seen.{Sees}
 use Rattle.index_core.specs.Sessions.{SessionData, Guards}
+use Rattle.script_run.specs.Languages.{answer, meaning}
 use Rattle.script_run.specs.Runs.{InFlight}
+use Rattle.script_run.specs.Script.{stored_by}
+use Rattle.script_run.specs.declared.language.Language.{Language}
 use Rattle.run_status.specs.declared.stop.Stop.{Stop}
 use Rattle.run_status.specs.declared.stop.Stop.TheVariants as stop
 use Rattle.script_run.specs.declared.answers.Opening.{Opening}
@@ -31,12 +34,12 @@ pub record Line : Type 0 where
   pub stored : State
   pub bytes : List ℕ
 
-abbrev pub answer_to_line : Line → Answer
-answer_to_line l = answer l.number (Some l.index) l.bytes
+abbrev pub answer_to_line : Language → Line → Answer
+answer_to_line lang l = answer lang l.number (Some l.index) l.bytes
 
 -- what is stored after the line
-abbrev pub stored_by_line : Line → State
-stored_by_line l = stored_by l.number l.stored (Some l.index) l.bytes
+abbrev pub stored_by_line : Language → Line → State
+stored_by_line lang l = stored_by (meaning lang) l.number l.stored (Some l.index) l.bytes
 
 -- the session came to the state of the answer, with this stored, and it is said whether the line is refused
 pub record IsAnswered (D : ℕ) (a : Answer) (stored : State) (files : Files) (s : SessionData) (is_refused : Bool) : Type 0 where
@@ -46,23 +49,23 @@ pub record IsAnswered (D : ℕ) (a : Answer) (stored : State) (files : Files) (s
   pub refused : a.refused ≡ cond is_refused 1 0
 
 -- the line was not done, but a commit that it asks for may have been
-abbrev pub IsLeft : Line → Files → Type 0
-IsLeft l files = IsStored files l.stored ⊎ InFlight files l.number (Some l.index) (l.bytes ∷ [])
+abbrev pub IsLeft : Language → Line → Files → Type 0
+IsLeft lang l files = IsStored files l.stored ⊎ InFlight (meaning lang) files l.number (Some l.index) (l.bytes ∷ [])
 
 -- the line is answered by an appended text, or left for a fault of the folder or want of memory
-abbrev pub Replies : (D : ℕ) → Line → Files → SessionData → (before after : List ℕ) → Result Bool PageFault → Type 0
-Replies D l files s before after (Ok is_refused) = IsAnswered D (answer_to_line l) (stored_by_line l) files s is_refused × (after ≡ before ++ (answer_to_line l).text)
-Replies D l files s before after (Err page.Failed) = IsLeft l files
-Replies D l files s before after (Err page.Memory) = IsLeft l files
-Replies D l files s before after (Err (page.Damaged damage)) = ⊥
+abbrev pub Replies : Language → (D : ℕ) → Line → Files → SessionData → (before after : List ℕ) → Result Bool PageFault → Type 0
+Replies lang D l files s before after (Ok is_refused) = IsAnswered D (answer_to_line lang l) (stored_by_line lang l) files s is_refused × (after ≡ before ++ (answer_to_line lang l).text)
+Replies lang D l files s before after (Err page.Failed) = IsLeft lang l files
+Replies lang D l files s before after (Err page.Memory) = IsLeft lang l files
+Replies lang D l files s before after (Err (page.Damaged damage)) = ⊥
 
 -- the same with the answer sent: where the sink failed a prefix of it went out
-abbrev pub Answers : (told : Type 0) (D : ℕ) → Line → Files → SessionData → (before after : List ℕ) → Result Bool Stop → Type 0
-Answers told D l files s before after (Ok is_refused) = IsAnswered D (answer_to_line l) (stored_by_line l) files s is_refused × (told → after ≡ before ++ (answer_to_line l).text)
-Answers told D l files s before after (Err stop.SinkFault) = IsStored files (stored_by_line l) × (told → WritesPart before after (answer_to_line l).text)
-Answers told D l files s before after (Err stop.FolderFault) = IsLeft l files × (told → after ≡ before)
-Answers told D l files s before after (Err stop.Memory) = IsLeft l files × (told → after ≡ before)
-Answers told D l files s before after (Err (stop.Damaged damage)) = ⊥
+abbrev pub Answers : Language → (told : Type 0) (D : ℕ) → Line → Files → SessionData → (before after : List ℕ) → Result Bool Stop → Type 0
+Answers lang told D l files s before after (Ok is_refused) = IsAnswered D (answer_to_line lang l) (stored_by_line lang l) files s is_refused × (told → after ≡ before ++ (answer_to_line lang l).text)
+Answers lang told D l files s before after (Err stop.SinkFault) = IsStored files (stored_by_line lang l) × (told → WritesPart before after (answer_to_line lang l).text)
+Answers lang told D l files s before after (Err stop.FolderFault) = IsLeft lang l files × (told → after ≡ before)
+Answers lang told D l files s before after (Err stop.Memory) = IsLeft lang l files × (told → after ≡ before)
+Answers lang told D l files s before after (Err (stop.Damaged damage)) = ⊥
 
 -- the end of a session: all is committed, or for a fault of the folder or want of memory it may be
 abbrev pub IsEnd : Files → Index → (stored : State) → (refused : ℕ) → Result ℕ Stop → Type 0

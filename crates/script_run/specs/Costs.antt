@@ -1,5 +1,5 @@
 -- What lines ask for, how many leaves they touch, and how much they read.
-use Rattle.std.specs.Prelude.{ℕ, ◌+◌, ◌≡◌, ◌≤◌, ◌<◌, ◌⊎◌, Bool, true, false, List, [], ◌∷◌, count_by, Option, None, Some}
+use Rattle.std.specs.Prelude.{ℕ, ◌+◌, ◌≡◌, ◌≤◌, ◌<◌, ◌⊎◌, Bool, true, false, List, [], ◌∷◌, count_by, Option, None, Some, Ok, Err}
 use Rattle.std.specs.Option.{option_map}
 use Rattle.outer_io.specs.Files.{Files}
 use Rattle.point_codec.specs.Points.{in_box}
@@ -10,11 +10,9 @@ use Rattle.documents.specs.Documents.{Document}
 use Rattle.documents.specs.Nearest.{nearest}
 use Rattle.merge_policy.specs.Choice.{is_of_level}
 use Rattle.segment_file.specs.Heads.{Head}
-use Rattle.script_lang.specs.Reading.{Reading, Says, Fails, read}
 use Rattle.script_lang.specs.Requests.{Request}
 use Rattle.script_lang.specs.Requests as asks
 use Rattle.index_model.specs.State.{Index, State, viewed_docs}
-use Rattle.index_model.specs.Script.{answer, state_after}
 use Rattle.index_model.specs.Step.{in_plane_polygon}
 use Rattle.stored_index.specs.Opening.{IsOpening}
 use Rattle.segment_view.specs.Costs.{AreTouched}
@@ -22,6 +20,9 @@ use Rattle.nearest_query.specs.Segments.{AreNearLeaves}
 use Rattle.index_core.specs.Light.{is_light}
 use Rattle.index_core.specs.Steps.{is_committing}
 use Rattle.explain_queries.specs.Explained.{Scope, IsScope, reach}
+use Rattle.script_run.specs.Languages.{Heard, answer, heard, meaning}
+use Rattle.script_run.specs.Script.{state_after}
+use Rattle.script_run.specs.declared.language.Language.{Language}
 
 -- ---- what lines ask for
 
@@ -39,24 +40,24 @@ begins_no_merge (asks.MergeBegin positions) = false
 begins_no_merge _ = true
 
 -- what was read asks for a commit before the end
-abbrev pub asks_commit : Reading → Bool
-asks_commit (Says request) = is_committing request
-asks_commit (Fails fault) = false
+abbrev pub asks_commit : Heard → Bool
+asks_commit (Ok request) = is_committing request
+asks_commit (Err fault) = false
 
 -- none of these lines does, as an index of so many dimensions reads them
-abbrev pub NoneCommits : (dims : ℕ) → List (List ℕ) → Type 0
-NoneCommits dims [] = Unit {0}
-NoneCommits dims (l ∷ ls) = (asks_commit (read (Some dims) l) ≡ false) × NoneCommits dims ls
+abbrev pub NoneCommits : Language → (dims : ℕ) → List (List ℕ) → Type 0
+NoneCommits lang dims [] = Unit {0}
+NoneCommits lang dims (l ∷ ls) = (asks_commit (heard lang (Some dims) l) ≡ false) × NoneCommits lang dims ls
 
 -- the line is refused, or what it asks for passes the test
-abbrev pub AsksOnly : (Request → Bool) → (line : ℕ) → State → List ℕ → Type 0
-AsksOnly test line state bytes =
-    ((answer line state bytes).refused ≡ 1) ⊎ ((request : Request) × (read (option_map (λ i. i.dims) state) bytes ≡ Says request) × (test request ≡ true))
+abbrev pub AsksOnly : Language → (Request → Bool) → (line : ℕ) → State → List ℕ → Type 0
+AsksOnly lang test line state bytes =
+    ((answer lang line state bytes).refused ≡ 1) ⊎ ((request : Request) × (heard lang (option_map (λ i. i.dims) state) bytes ≡ Ok request) × (test request ≡ true))
 
 -- each line of these does, the first of which has this number
-abbrev pub AllAsk : (Request → Bool) → (line : ℕ) → State → List (List ℕ) → Type 0
-AllAsk test line state [] = Unit {0}
-AllAsk test line state (l ∷ ls) = AsksOnly test line state l × AllAsk test (line + 1) (answer line state l).state ls
+abbrev pub AllAsk : Language → (Request → Bool) → (line : ℕ) → State → List (List ℕ) → Type 0
+AllAsk lang test line state [] = Unit {0}
+AllAsk lang test line state (l ∷ ls) = AsksOnly lang test line state l × AllAsk lang test (line + 1) (answer lang line state l).state ls
 
 -- ---- how many leaves they touch
 
@@ -75,19 +76,19 @@ TouchesOn i heads (asks.Nearest view k at) n =
     TouchesView (viewed_docs view i) (λ docs m. AreNearLeaves i.dims at (reach k (nearest k at docs)) heads m) n
 TouchesOn i heads _ n = n ≡ 0
 
-abbrev pub TouchesReading : State → List Head → Reading → ℕ → Type 0
-TouchesReading None heads reading n = n ≡ 0
-TouchesReading (Some i) heads (Says request) n = TouchesOn i heads request n
-TouchesReading (Some i) heads (Fails fault) n = n ≡ 0
+abbrev pub TouchesHeard : State → List Head → Heard → ℕ → Type 0
+TouchesHeard None heads said n = n ≡ 0
+TouchesHeard (Some i) heads (Ok request) n = TouchesOn i heads request n
+TouchesHeard (Some i) heads (Err fault) n = n ≡ 0
 
-abbrev pub TouchesLine : List Head → State → List ℕ → ℕ → Type 0
-TouchesLine heads state bytes n = TouchesReading state heads (read (option_map (λ i. i.dims) state) bytes) n
+abbrev pub TouchesLine : Language → List Head → State → List ℕ → ℕ → Type 0
+TouchesLine lang heads state bytes n = TouchesHeard state heads (heard lang (option_map (λ i. i.dims) state) bytes) n
 
 -- lines, of which the first has this number, touch so many together
-abbrev pub TouchesLines : List Head → (line : ℕ) → State → List (List ℕ) → ℕ → Type 0
-TouchesLines heads line state [] n = n ≡ 0
-TouchesLines heads line state (l ∷ ls) n =
-    (first : ℕ) × (rest : ℕ) × TouchesLine heads state l first × TouchesLines heads (line + 1) (answer line state l).state ls rest × (n ≡ first + rest)
+abbrev pub TouchesLines : Language → List Head → (line : ℕ) → State → List (List ℕ) → ℕ → Type 0
+TouchesLines lang heads line state [] n = n ≡ 0
+TouchesLines lang heads line state (l ∷ ls) n =
+    (first : ℕ) × (rest : ℕ) × TouchesLine lang heads state l first × TouchesLines lang heads (line + 1) (answer lang line state l).state ls rest × (n ≡ first + rest)
 
 -- ---- what they read
 
@@ -101,13 +102,13 @@ abbrev pub HasRoomInLevels : List Head → Type 0
 HasRoomInLevels heads = (level : ℕ) → count_by (λ h. is_of_level level h.entries) heads < 10
 
 -- Lines need no segment to be merged, over segments with these heads: they are light, the points that they add have room in the buffer, and no level of the segments is full.
-pub record AreLight (heads : List Head) (line : ℕ) (state : State) (lines : List (List ℕ)) : Type 0 where
-  pub asks : AllAsk is_light line state lines
-  pub points : given_of (state_after line state lines) ≤ given_of state + 16384
+pub record AreLight (lang : Language) (heads : List Head) (line : ℕ) (state : State) (lines : List (List ℕ)) : Type 0 where
+  pub asks : AllAsk lang is_light line state lines
+  pub points : given_of (state_after (meaning lang) line state lines) ≤ given_of state + 16384
   pub room : HasRoomInLevels heads
 
 -- a run of queries, or of light lines, reads at most the pages of opening, and a page for each leaf that its queries touch
-abbrev pub RunReadsFew : Files → List (List ℕ) → (before now : ℕ) → Type 0
-RunReadsFew files lines before now =
-    (s : Scope) → IsScope files s → (pages : ℕ) → IsOpening files pages → AllAsk is_query 1 s.state lines ⊎ AreLight s.heads 1 s.state lines
-    → (touched : ℕ) → TouchesLines s.heads 1 s.state lines touched → now ≤ before + pages + touched
+abbrev pub RunReadsFew : Language → Files → List (List ℕ) → (before now : ℕ) → Type 0
+RunReadsFew lang files lines before now =
+    (s : Scope) → IsScope files s → (pages : ℕ) → IsOpening files pages → AllAsk lang is_query 1 s.state lines ⊎ AreLight lang s.heads 1 s.state lines
+    → (touched : ℕ) → TouchesLines lang s.heads 1 s.state lines touched → now ≤ before + pages + touched

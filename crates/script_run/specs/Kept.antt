@@ -16,6 +16,7 @@ use Rattle.run_status.specs.declared.status.Status.{Status}
 use Rattle.run_status.specs.declared.status.Status.TheVariants as status
 use Rattle.script_run.specs.declared.halt.Halt.{Halt}
 use Rattle.script_run.specs.Halted.{OnLines}
+use Rattle.script_run.specs.declared.language.Language.{Language}
 use Rattle.script_run.specs.Costs.{AllAsk, NoneCommits, RunReadsFew, begins_no_merge, is_query}
 
 -- After a damage or a fault of the source all that is kept is the same; after a fault of the folder or for want of memory it is too, or the commit in flight has taken its place.
@@ -40,8 +41,8 @@ HaltKeeps old new result = OnLines (StopKeeps old new) (SameKept old new) result
 
 -- a script that begins no merge leaves few segments of each level; one of queries changes no file; it, or one that needs no segment to be merged, reads little.
 -- One that asks for no commit before its end loses nothing that is kept where it isn't done, whatever the folder of the commit holds
-pub record RunCosts (lines : List (List ℕ)) (old new : Files) (before now : ℕ) (s : Status) : Type 0 where
-  pub levels : (state : State) → IsStored old state → AllAsk begins_no_merge 1 state lines → IsAnswer s → KeepsLevels old new
-  pub still : (state : State) → IsStored old state → AllAsk is_query 1 state lines → new ≡ old
-  pub reads : RunReadsFew old lines before now
-  pub undone : (c : CommitData) → IsCommitFile (bytes_of (old Commit)) c → NoneCommits c.dims lines → StatusKeeps old new s
+pub record RunCosts (lang : Language) (lines : List (List ℕ)) (old new : Files) (before now : ℕ) (s : Status) : Type 0 where
+  pub levels : (state : State) → IsStored old state → AllAsk lang begins_no_merge 1 state lines → IsAnswer s → KeepsLevels old new
+  pub still : (state : State) → IsStored old state → AllAsk lang is_query 1 state lines → new ≡ old
+  pub reads : RunReadsFew lang old lines before now
+  pub undone : (c : CommitData) → IsCommitFile (bytes_of (old Commit)) c → NoneCommits lang c.dims lines → StatusKeeps old new s

@@ -1,3 +1,5 @@
+pub mod Script
+pub mod Languages
 pub mod Answers
 pub mod Costs
 pub mod Halted
@@ -6,3 +8,4 @@ pub mod Leads
 pub mod Origins
 pub mod Progress
 pub mod Runs
+pub mod RangeScript

@@ -1,7 +1,7 @@
 -- How far a script is done, and what the rest of it will answer.
 use Rattle.std.specs.Prelude.{ℕ, ◌+◌, ◌≡◌, List, ◌++◌, length}
 use Rattle.index_model.specs.State.{State}
-use Rattle.index_model.specs.Script.{text_of, state_after, stored_after, refused_in}
+use Rattle.script_run.specs.Script.{Meaning, text_of, state_after, stored_after, refused_in}
 
 -- a place in a script: the number of the next line, how many lines before it were refused, the state there and the one that is
 -- stored, the lines that are left, and all that has gone out
@@ -19,11 +19,11 @@ start state lines written = record { line = 1; refused = 0; state = state; store
 
 -- from one place to a later one the lines between were done, each as the script says. What went out is known where the sink
 -- tells it
-pub record Progress (told : Type 0) (from to : Place) : Type 0 where
+pub record Progress (m : Meaning) (told : Type 0) (from to : Place) : Type 0 where
   pub done : List (List ℕ)
   pub whole : from.rest ≡ done ++ to.rest
   pub line : to.line ≡ from.line + length done
-  pub state : to.state ≡ state_after from.line from.state done
-  pub stored : to.stored ≡ stored_after from.line from.stored from.state done
-  pub refused : to.refused ≡ from.refused + refused_in from.line from.state done
-  pub text : told → to.written ≡ from.written ++ text_of from.line from.state done
+  pub state : to.state ≡ state_after m from.line from.state done
+  pub stored : to.stored ≡ stored_after m from.line from.stored from.state done
+  pub refused : to.refused ≡ from.refused + refused_in m from.line from.state done
+  pub text : told → to.written ≡ from.written ++ text_of m from.line from.state done

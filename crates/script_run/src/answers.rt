@@ -1,33 +1,33 @@
 //! The answer to one line.
 
-ghost use Rattle.std.specs.Prelude.{◌≡◌, ◌≢◌, ◌≤◌, ◌++◌, ◌⊎◌, ℕ, List, Some, None, false, true, IfOk, IsErrOf, OnErr, IsTrue};
+ghost use Rattle.std.specs.Prelude.{◌≡◌, ◌≢◌, ◌≤◌, ◌++◌, ◌⊎◌, ℕ, List, Some, None, Ok, false, true, IfOk, IsErrOf, OnErr, IsTrue};
 ghost use Rattle.outer_io.specs.Faults.{Rose};
 ghost use Rattle.page_cache.specs.Causes.{HasPageCause};
 ghost use Rattle.page_cache.specs.Evidence.{OnDamage};
 ghost use Rattle.index_opening.specs.Evidence.{IsEvident};
 ghost use Rattle.index_core.specs.Sessions.{Trusts};
 ghost use Rattle.index_core.specs.Steps.{is_committing};
-ghost use Rattle.script_lang.specs.Reading.{Says, read};
-ghost use Rattle.script_lang.specs.Replies.{line_fault_text, why_text};
+ghost use Rattle.script_lang.specs.Replies.{why_text};
+ghost use Rattle.range_docs.specs.Replies.{range_fault_text};
 ghost use Rattle.script_lang.specs.Seen.{IsWithinLimits, request_of};
 ghost use Rattle.index_model.specs.State.{Index, State};
-ghost use Rattle.index_model.specs.Script.{answer};
 ghost use Rattle.run_status.specs.Sent.{IsSent};
 ghost use Rattle.script_run.specs.Answers.{Answers, IsOpening, IsWithin, Replies, Stands};
 ghost use Rattle.stored_index.specs.Kept.{SameKept};
 ghost use Rattle.script_run.specs.Costs.{asks_commit};
+ghost use Rattle.script_run.specs.Languages.{answer, heard};
 ghost use Rattle.script_run.specs.Leads.{Passes};
 ghost use Rattle.run_status.specs.Ends.{HasStopCause, OnStopDamage};
 
+use crate::language::Language;
 use crate::lines::Work;
 use bkd_build::Gate;
 use index_core::{Applied, Session};
 use outer_io::{Folder, Sink};
 use page_cache::PageFault;
+use range_docs::{RangeFault, put_range_fault};
 use run_status::{Memory, Stop, send, stopped};
-use script_lang::{
-    Command, First, LineFault, Why, put_line_fault, put_ok, put_why, read_first, read_line,
-};
+use script_lang::{Command, First, LineFault, Why, put_ok, put_why};
 use std::alloc::AllocError;
 use std::marker::Sync;
 use std::thread::Threads;
@@ -55,16 +55,16 @@ pub fn answer_line<const D: usize, R: Threads + Sync, F: Folder, K: Sink, G: Gat
     requires some { 1 ≤ D }
     requires few { D ≤ 8 }
     ensures answers { IsTrue F.told → (i : Index) → (stored : State) → Stands D (F.files folder.old) session.old i stored
-        → (bytes : List ℕ) → read (Some D) bytes ≡ read (Some D) line.now
-        → Answers (IsTrue K.told) D (record { number = number; index = i; stored = stored; bytes = bytes }) (F.files folder.new) session.new
+        → (bytes : List ℕ) → heard work.now.language (Some D) bytes ≡ heard work.now.language (Some D) line.now
+        → Answers work.now.language (IsTrue K.told) D (record { number = number; index = i; stored = stored; bytes = bytes }) (F.files folder.new) session.new
         (K.written out.old) (K.written out.new) result }
     ensures passes { IsTrue F.told → (i : Index) → (stored : State) → Stands D (F.files folder.old) session.old i stored
-        → (bytes : List ℕ) → read (Some D) bytes ≡ read (Some D) line.now
-        → Passes D number i bytes (record { files = F.files folder.old; session = session.old; reads = F.reads folder.old })
+        → (bytes : List ℕ) → heard work.now.language (Some D) bytes ≡ heard work.now.language (Some D) line.now
+        → Passes work.now.language D number i bytes (record { files = F.files folder.old; session = session.old; reads = F.reads folder.old })
         (record { files = F.files folder.new; session = session.new; reads = F.reads folder.new }) result }
     ensures cause { HasStopCause (F.faults folder.old) (F.faults folder.new) (K.faults out.old) (K.faults out.new) result }
     ensures trusts { IsTrue F.told → Trusts D (F.files folder.old) session.old → Trusts D (F.files folder.new) session.new }
-    ensures kept { IsTrue F.told → Trusts D (F.files folder.old) session.old → asks_commit (read (Some D) line.now) ≡ false → SameKept (F.files folder.old) (F.files folder.new) }
+    ensures kept { IsTrue F.told → Trusts D (F.files folder.old) session.old → asks_commit (heard work.now.language (Some D) line.now) ≡ false → SameKept (F.files folder.old) (F.files folder.new) }
     ensures evident { OnStopDamage result (IsEvident (IsTrue F.told × Trusts D (F.files folder.old) session.old) (F.files folder.new)) }
 {
     reply.clear();
@@ -86,20 +86,20 @@ fn reply_to<const D: usize, R: Threads + Sync, F: Folder, G: Gate>(
     requires some { 1 ≤ D }
     requires few { D ≤ 8 }
     ensures replies { IsTrue F.told → (i : Index) → (stored : State) → Stands D (F.files folder.old) session.old i stored
-        → (bytes : List ℕ) → read (Some D) bytes ≡ read (Some D) line.now
-        → Replies D (record { number = number; index = i; stored = stored; bytes = bytes }) (F.files folder.new) session.new reply.old.items reply.new.items result }
+        → (bytes : List ℕ) → heard work.now.language (Some D) bytes ≡ heard work.now.language (Some D) line.now
+        → Replies work.now.language D (record { number = number; index = i; stored = stored; bytes = bytes }) (F.files folder.new) session.new reply.old.items reply.new.items result }
     ensures passes { IsTrue F.told → (i : Index) → (stored : State) → Stands D (F.files folder.old) session.old i stored
-        → (bytes : List ℕ) → read (Some D) bytes ≡ read (Some D) line.now
-        → Passes D number i bytes (record { files = F.files folder.old; session = session.old; reads = F.reads folder.old })
+        → (bytes : List ℕ) → heard work.now.language (Some D) bytes ≡ heard work.now.language (Some D) line.now
+        → Passes work.now.language D number i bytes (record { files = F.files folder.old; session = session.old; reads = F.reads folder.old })
         (record { files = F.files folder.new; session = session.new; reads = F.reads folder.new }) result }
     ensures cause { HasPageCause (F.faults folder.old) (F.faults folder.new) result }
     ensures trusts { IsTrue F.told → Trusts D (F.files folder.old) session.old → Trusts D (F.files folder.new) session.new }
-    ensures kept { IsTrue F.told → Trusts D (F.files folder.old) session.old → asks_commit (read (Some D) line.now) ≡ false → SameKept (F.files folder.old) (F.files folder.new) }
+    ensures kept { IsTrue F.told → Trusts D (F.files folder.old) session.old → asks_commit (heard work.now.language (Some D) line.now) ≡ false → SameKept (F.files folder.old) (F.files folder.new) }
     ensures evident { OnDamage result (IsEvident (IsTrue F.told × Trusts D (F.files folder.old) session.old) (F.files folder.new)) }
 {
-    match read_line::<D>(work.alloc, line) {
+    match work.language.read_line::<D>(work.alloc, line) {
         Ok(command) => obey(work, session, folder, number, &command, reply),
-        Err(LineFault::Memory) => Err(PageFault::Memory),
+        Err(RangeFault::Memory) => Err(PageFault::Memory),
         Err(fault) => refuse_line(number, &fault, reply),
     }
 }
@@ -115,11 +115,11 @@ fn obey<const D: usize, R: Threads + Sync, F: Folder, G: Gate>(
 ) -> Result<bool, PageFault>
     requires { IsWithinLimits (request_of command.now) }
     ensures replies { IsTrue F.told → (i : Index) → (stored : State) → Stands D (F.files folder.old) session.old i stored
-        → (bytes : List ℕ) → read (Some D) bytes ≡ Says (request_of command.now)
-        → Replies D (record { number = number; index = i; stored = stored; bytes = bytes }) (F.files folder.new) session.new reply.old.items reply.new.items result }
+        → (bytes : List ℕ) → heard work.now.language (Some D) bytes ≡ Ok (request_of command.now)
+        → Replies work.now.language D (record { number = number; index = i; stored = stored; bytes = bytes }) (F.files folder.new) session.new reply.old.items reply.new.items result }
     ensures passes { IsTrue F.told → (i : Index) → (stored : State) → Stands D (F.files folder.old) session.old i stored
-        → (bytes : List ℕ) → read (Some D) bytes ≡ Says (request_of command.now)
-        → Passes D number i bytes (record { files = F.files folder.old; session = session.old; reads = F.reads folder.old })
+        → (bytes : List ℕ) → heard work.now.language (Some D) bytes ≡ Ok (request_of command.now)
+        → Passes work.now.language D number i bytes (record { files = F.files folder.old; session = session.old; reads = F.reads folder.old })
         (record { files = F.files folder.new; session = session.new; reads = F.reads folder.new }) result }
     ensures cause { HasPageCause (F.faults folder.old) (F.faults folder.new) result }
     ensures trusts { IsTrue F.told → Trusts D (F.files folder.old) session.old → Trusts D (F.files folder.new) session.new }
@@ -134,12 +134,13 @@ fn obey<const D: usize, R: Threads + Sync, F: Folder, G: Gate>(
 }
 
 /// Appends why a line can't be read.
-fn refuse_line(number: u64, fault: &LineFault, reply: &mut Vec<u8>) -> Result<bool, PageFault>
-    requires { fault.now ≢ LineFault.Memory }
-    ensures refused { IfOk result (λ refused. (refused ≡ true) × (reply.new.items ≡ reply.old.items ++ line_fault_text number fault.now)) }
+fn refuse_line(number: u64, fault: &RangeFault, reply: &mut Vec<u8>) -> Result<bool, PageFault>
+    requires refused { fault.now ≢ RangeFault.Memory }
+    requires by_line { fault.now ≢ RangeFault.Line LineFault.Memory }
+    ensures refused { IfOk result (λ refused. (refused ≡ true) × (reply.new.items ≡ reply.old.items ++ range_fault_text number fault.now)) }
     ensures memory { OnErr result (IsErrOf result PageFault.Memory) }
 {
-    put_line_fault(reply, number, fault)?;
+    put_range_fault(reply, number, fault)?;
     Ok(true)
 }
 
@@ -154,38 +155,44 @@ fn refuse(number: u64, why: Why, reply: &mut Vec<u8>) -> Result<bool, PageFault>
 
 /// Answers a line where no index is there, and sends the answer.
 pub fn answer_first<K: Sink>(
+    language: Language,
     number: u64,
     line: &[u8],
     reply: &mut Vec<u8>,
     out: &mut K,
 ) -> Result<Opening, Stop>
-    ensures opening { IfOk result (λ opening. IsOpening (answer number None line.now) opening) }
+    ensures opening { IfOk result (λ opening. IsOpening (answer language number None line.now) opening) }
     ensures limits { IfOk result IsWithin }
-    ensures text { IsTrue K.told → IsSent (answer number None line.now).text (K.written out.old) (K.written out.new) result }
+    ensures text { IsTrue K.told → IsSent (answer language number None line.now).text (K.written out.old) (K.written out.new) result }
     ensures sink { IsErrOf result Stop.SinkFault → Rose (K.faults out.old) (K.faults out.new) }
     ensures later { K.faults out.old ≤ K.faults out.new }
     ensures cause { OnErr result (IsErrOf result Stop.SinkFault ⊎ IsErrOf result Stop.Memory) }
 {
     reply.clear();
-    let opening = first_reply_to(number, line, reply)?;
+    let opening = first_reply_to(language, number, line, reply)?;
     send(out, reply.as_slice(), opening)
 }
 
 /// Reads a line where no index is there, and appends the answer.
-fn first_reply_to(number: u64, line: &[u8], reply: &mut Vec<u8>) -> Result<Opening, Memory>
-    ensures opening { IfOk result (λ opening. IsOpening (answer number None line.now) opening) }
+fn first_reply_to(
+    language: Language,
+    number: u64,
+    line: &[u8],
+    reply: &mut Vec<u8>,
+) -> Result<Opening, Memory>
+    ensures opening { IfOk result (λ opening. IsOpening (answer language number None line.now) opening) }
     ensures limits { IfOk result IsWithin }
-    ensures text { IfOk result (λ _. reply.new.items ≡ reply.old.items ++ (answer number None line.now).text) }
+    ensures text { IfOk result (λ _. reply.new.items ≡ reply.old.items ++ (answer language number None line.now).text) }
 {
-    match read_first(line) {
+    match language.read_first(line) {
         Ok(First::Blank) => Ok(Opening::Nothing { refused: false }),
         Ok(First::Create { dims, leaf }) => {
             put_ok(reply)?;
             Ok(Opening::Made { dims, leaf })
         }
-        Err(LineFault::Memory) => Err(AllocError),
+        Err(RangeFault::Memory) => Err(AllocError),
         Err(fault) => {
-            put_line_fault(reply, number, &fault)?;
+            put_range_fault(reply, number, &fault)?;
             Ok(Opening::Nothing { refused: true })
         }
     }

@@ -9,6 +9,7 @@ ghost use Rattle.script_run.specs.Answers.{IsEnd, Stands};
 ghost use Rattle.script_run.specs.Costs.{NoneCommits};
 ghost use Rattle.script_run.specs.Halted.{HasHaltCause, HasSourceCause, OfLines, OnHaltDamage};
 ghost use Rattle.script_run.specs.Kept.{HaltKeeps, StopKeeps};
+ghost use Rattle.script_run.specs.Languages.{meaning};
 ghost use Rattle.script_run.specs.Leads.{Closes, Leads, LeadsFrom};
 ghost use Rattle.script_run.specs.Origins.{dims_of, IsFrom, IsMade, IsThere};
 ghost use Rattle.script_run.specs.Runs.{EndsRead};
@@ -42,7 +43,7 @@ pub(crate) fn run_over<const D: usize, S: Source, R: Threads + Sync, F: Folder, 
     requires made { IsMade origin }
     requires refused { tally.refused ≤ tally.line }
     ensures does { IsTrue F.told → OfLines (IsTrue S.told) reader.old (S.left input.old) (λ lines. (i : Index) → (stored : State) → IsFrom (F.files folder.old) origin i stored
-        → EndsRead (IsTrue K.told) (record {
+        → EndsRead (meaning work.now.language) (IsTrue K.told) (record {
           line = tally.line;
           refused = tally.refused;
           state = Some i;
@@ -51,11 +52,11 @@ pub(crate) fn run_over<const D: usize, S: Source, R: Threads + Sync, F: Folder, 
           written = K.written out.old;
         })
         (F.files folder.new) (K.written out.new) result
-        × LeadsFrom origin i stored tally.line lines (F.files folder.old) (F.files folder.new) (F.reads folder.old) (F.reads folder.new) result) }
+        × LeadsFrom work.now.language origin i stored tally.line lines (F.files folder.old) (F.files folder.new) (F.reads folder.old) (F.reads folder.new) result) }
     ensures read { IsTrue S.told → KnowsEnd reader.old (S.left input.old) → OnOk result (S.left input.new ≡ []) }
     ensures cause { HasHaltCause (F.faults folder.old) (F.faults folder.new) (K.faults out.old) (K.faults out.new) result }
     ensures source { HasSourceCause (S.faults input.old) (S.faults input.new) result }
-    ensures undone { IsTrue F.told → OfLines (IsTrue S.told) reader.old (S.left input.old) (λ lines. IsThere (F.files folder.old) origin → NoneCommits (dims_of origin) lines
+    ensures undone { IsTrue F.told → OfLines (IsTrue S.told) reader.old (S.left input.old) (λ lines. IsThere (F.files folder.old) origin → NoneCommits work.now.language (dims_of origin) lines
         → HaltKeeps (F.files folder.old) (F.files folder.new) result) }
     ensures evident { OnHaltDamage result (IsEvident (IsTrue F.told × IsThere (F.files folder.old) origin) (F.files folder.new)) }
 {
@@ -79,7 +80,7 @@ fn run_made<const D: usize, S: Source, R: Threads + Sync, F: Folder, K: Sink, G:
     requires few { D ≤ 8 }
     requires refused { tally.refused ≤ tally.line }
     ensures does { IsTrue F.told → OfLines (IsTrue S.told) reader.old (S.left input.old) (λ lines. (i : Index) → (stored : State) → Stands D (F.files folder.old) session.old i stored
-        → EndsRead (IsTrue K.told) (record {
+        → EndsRead (meaning work.now.language) (IsTrue K.told) (record {
           line = tally.line;
           refused = tally.refused;
           state = Some i;
@@ -88,12 +89,12 @@ fn run_made<const D: usize, S: Source, R: Threads + Sync, F: Folder, K: Sink, G:
           written = K.written out.old;
         })
         (F.files folder.new) (K.written out.new) result
-        × Leads tally.line i lines (record { files = F.files folder.old; session = session.old; reads = F.reads folder.old })
+        × Leads work.now.language tally.line i lines (record { files = F.files folder.old; session = session.old; reads = F.reads folder.old })
         (record { files = F.files folder.new; session = session.new; reads = F.reads folder.new }) result) }
     ensures read { IsTrue S.told → KnowsEnd reader.old (S.left input.old) → OnOk result (S.left input.new ≡ []) }
     ensures cause { HasHaltCause (F.faults folder.old) (F.faults folder.new) (K.faults out.old) (K.faults out.new) result }
     ensures source { HasSourceCause (S.faults input.old) (S.faults input.new) result }
-    ensures undone { IsTrue F.told → OfLines (IsTrue S.told) reader.old (S.left input.old) (λ lines. Trusts D (F.files folder.old) session.old → NoneCommits D lines
+    ensures undone { IsTrue F.told → OfLines (IsTrue S.told) reader.old (S.left input.old) (λ lines. Trusts D (F.files folder.old) session.old → NoneCommits work.now.language D lines
         → HaltKeeps (F.files folder.old) (F.files folder.new) result) }
     ensures evident { OnHaltDamage result (IsEvident (IsTrue F.told × Trusts D (F.files folder.old) session.old) (F.files folder.new)) }
 {

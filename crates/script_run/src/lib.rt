@@ -5,8 +5,10 @@
 mod answers;
 mod halt;
 mod indexed;
+mod language;
 mod lines;
 mod origin;
 
 pub use halt::{Halt, status_of_lines};
+pub use language::Language;
 pub use lines::{Work, run_lines};

@@ -12,6 +12,7 @@ ghost use Rattle.line_source.specs.Reader.{KnowsEnd};
 ghost use Rattle.script_run.specs.Costs.{NoneCommits};
 ghost use Rattle.script_run.specs.Halted.{HasHaltCause, HasSourceCause, OfLines, OfSource, OnHaltDamage};
 ghost use Rattle.script_run.specs.Kept.{HaltKeeps};
+ghost use Rattle.script_run.specs.Languages.{meaning};
 ghost use Rattle.script_run.specs.Leads.{LeadsAll, LeadsFrom};
 ghost use Rattle.script_run.specs.Origins.{dims_of, IsFrom, IsMade, IsThere};
 ghost use Rattle.script_run.specs.Progress.{start};
@@ -20,6 +21,7 @@ ghost use Rattle.script_run.specs.Runs.{EndsRead};
 use crate::answers::{Opening, answer_first};
 use crate::halt::{Halt, halted};
 use crate::indexed::run_over;
+use crate::language::Language;
 use crate::origin::Origin;
 use bkd_build::Gate;
 use commit_list::read_commit;
@@ -31,11 +33,13 @@ use std::alloc::{AllocError, Global};
 use std::marker::Sync;
 use std::thread::Threads;
 
-/// What a run works with: none of it changes what is answered.
+/// What a run works with: none of it but the language changes what is answered.
 #[derive(Drop)]
 pub struct Work<'a, R, G> {
     pub rt: &'a R,
     pub alloc: Global,
+    /// How lines are read.
+    pub language: Language,
     pub settings: Settings,
     pub gate: &'a G,
 }
@@ -56,13 +60,13 @@ pub fn run_lines<S: Source, R: Threads + Sync, F: Folder, K: Sink, G: Gate>(
     out: &mut K,
 ) -> Result<u64, Halt>
     ensures does { IsTrue F.told → OfSource (IsTrue S.told) (S.left input.old) (λ lines. (state : State) → IsStored (F.files folder.old) state
-        → EndsRead (IsTrue K.told) (start state lines (K.written out.old))
+        → EndsRead (meaning work.now.language) (IsTrue K.told) (start state lines (K.written out.old))
         (F.files folder.new) (K.written out.new) result
-        × LeadsAll state lines (F.files folder.old) (F.files folder.new) (F.reads folder.old) (F.reads folder.new) result) }
+        × LeadsAll work.now.language state lines (F.files folder.old) (F.files folder.new) (F.reads folder.old) (F.reads folder.new) result) }
     ensures read { IsTrue S.told → OnOk result (S.left input.new ≡ []) }
     ensures cause { HasHaltCause (F.faults folder.old) (F.faults folder.new) (K.faults out.old) (K.faults out.new) result }
     ensures source { HasSourceCause (S.faults input.old) (S.faults input.new) result }
-    ensures undone { IsTrue F.told → OfSource (IsTrue S.told) (S.left input.old) (λ lines. (c : CommitData) → IsCommitFile (bytes_of (F.files folder.old CommitName)) c → NoneCommits c.dims lines
+    ensures undone { IsTrue F.told → OfSource (IsTrue S.told) (S.left input.old) (λ lines. (c : CommitData) → IsCommitFile (bytes_of (F.files folder.old CommitName)) c → NoneCommits work.now.language c.dims lines
         → HaltKeeps (F.files folder.old) (F.files folder.new) result) }
     ensures evident { OnHaltDamage result (IsEvident (IsTrue F.told) (F.files folder.new)) }
 {
@@ -81,13 +85,13 @@ fn run_read<S: Source, R: Threads + Sync, F: Folder, K: Sink, G: Gate>(
     out: &mut K,
 ) -> Result<u64, Halt>
     ensures does { IsTrue F.told → OfLines (IsTrue S.told) reader.old (S.left input.old) (λ lines. (state : State) → IsStored (F.files folder.old) state
-        → EndsRead (IsTrue K.told) (start state lines (K.written out.old))
+        → EndsRead (meaning work.now.language) (IsTrue K.told) (start state lines (K.written out.old))
         (F.files folder.new) (K.written out.new) result
-        × LeadsAll state lines (F.files folder.old) (F.files folder.new) (F.reads folder.old) (F.reads folder.new) result) }
+        × LeadsAll work.now.language state lines (F.files folder.old) (F.files folder.new) (F.reads folder.old) (F.reads folder.new) result) }
     ensures read { IsTrue S.told → KnowsEnd reader.old (S.left input.old) → OnOk result (S.left input.new ≡ []) }
     ensures cause { HasHaltCause (F.faults folder.old) (F.faults folder.new) (K.faults out.old) (K.faults out.new) result }
     ensures source { HasSourceCause (S.faults input.old) (S.faults input.new) result }
-    ensures undone { IsTrue F.told → OfLines (IsTrue S.told) reader.old (S.left input.old) (λ lines. (c : CommitData) → IsCommitFile (bytes_of (F.files folder.old CommitName)) c → NoneCommits c.dims lines
+    ensures undone { IsTrue F.told → OfLines (IsTrue S.told) reader.old (S.left input.old) (λ lines. (c : CommitData) → IsCommitFile (bytes_of (F.files folder.old CommitName)) c → NoneCommits work.now.language c.dims lines
         → HaltKeeps (F.files folder.old) (F.files folder.new) result) }
     ensures evident { OnHaltDamage result (IsEvident (IsTrue F.told) (F.files folder.new)) }
 {
@@ -121,9 +125,9 @@ fn run_first<S: Source, R: Threads + Sync, F: Folder, K: Sink, G: Gate>(
     out: &mut K,
 ) -> Result<u64, Halt>
     ensures does { IsTrue F.told → OfLines (IsTrue S.told) reader.old (S.left input.old) (λ lines. F.files folder.old CommitName ≡ None
-        → EndsRead (IsTrue K.told) (start None lines (K.written out.old))
+        → EndsRead (meaning work.now.language) (IsTrue K.told) (start None lines (K.written out.old))
         (F.files folder.new) (K.written out.new) result
-        × LeadsAll None lines (F.files folder.old) (F.files folder.new) (F.reads folder.old) (F.reads folder.new) result) }
+        × LeadsAll work.now.language None lines (F.files folder.old) (F.files folder.new) (F.reads folder.old) (F.reads folder.new) result) }
     ensures read { IsTrue S.told → KnowsEnd reader.old (S.left input.old) → OnOk result (S.left input.new ≡ []) }
     ensures cause { HasHaltCause (F.faults folder.old) (F.faults folder.new) (K.faults out.old) (K.faults out.new) result }
     ensures source { HasSourceCause (S.faults input.old) (S.faults input.new) result }
@@ -134,7 +138,7 @@ fn run_first<S: Source, R: Threads + Sync, F: Folder, K: Sink, G: Gate>(
     let mut refused = 0;
     'lines: for line in 1..u64::MAX {
         match reader.next_line(input, &mut text) {
-            Ok(true) => match answer_first(line, text.as_slice(), &mut reply, out) {
+            Ok(true) => match answer_first(work.language, line, text.as_slice(), &mut reply, out) {
                 Ok(
                     Opening::Nothing {
                         refused: is_refused,
@@ -179,7 +183,7 @@ fn run_from<S: Source, R: Threads + Sync, F: Folder, K: Sink, G: Gate>(
     requires made { IsMade origin }
     requires refused { tally.refused ≤ tally.line }
     ensures does { IsTrue F.told → OfLines (IsTrue S.told) reader.old (S.left input.old) (λ lines. (i : Index) → (stored : State) → IsFrom (F.files folder.old) origin i stored
-        → EndsRead (IsTrue K.told) (record {
+        → EndsRead (meaning work.now.language) (IsTrue K.told) (record {
           line = tally.line;
           refused = tally.refused;
           state = Some i;
@@ -188,11 +192,11 @@ fn run_from<S: Source, R: Threads + Sync, F: Folder, K: Sink, G: Gate>(
           written = K.written out.old;
         })
         (F.files folder.new) (K.written out.new) result
-        × LeadsFrom origin i stored tally.line lines (F.files folder.old) (F.files folder.new) (F.reads folder.old) (F.reads folder.new) result) }
+        × LeadsFrom work.now.language origin i stored tally.line lines (F.files folder.old) (F.files folder.new) (F.reads folder.old) (F.reads folder.new) result) }
     ensures read { IsTrue S.told → KnowsEnd reader.old (S.left input.old) → OnOk result (S.left input.new ≡ []) }
     ensures cause { HasHaltCause (F.faults folder.old) (F.faults folder.new) (K.faults out.old) (K.faults out.new) result }
     ensures source { HasSourceCause (S.faults input.old) (S.faults input.new) result }
-    ensures undone { IsTrue F.told → OfLines (IsTrue S.told) reader.old (S.left input.old) (λ lines. IsThere (F.files folder.old) origin → NoneCommits (dims_of origin) lines
+    ensures undone { IsTrue F.told → OfLines (IsTrue S.told) reader.old (S.left input.old) (λ lines. IsThere (F.files folder.old) origin → NoneCommits work.now.language (dims_of origin) lines
         → HaltKeeps (F.files folder.old) (F.files folder.new) result) }
     ensures evident { OnHaltDamage result (IsEvident (IsTrue F.told × IsThere (F.files folder.old) origin) (F.files folder.new)) }
 {

@@ -3,7 +3,7 @@ use Rattle.std.proofs.Common.{IsTrue, refl, sym, ap, subst, inl, inr}
 use Rattle.command_words.specs.Commands.{Asked, said}
 use Rattle.bkd_top.specs.Commands.{is_session, reads_input, reads_whole}
 use Rattle.run_status.specs.Ends.{DoesNothing}
-use Rattle.bkd_top.proofs.Commanding.{called, check_ends, count_ends, explain_ends, generate_ends, is_so, left_by, load_ends, run_ends, session_asked, taken_by}
+use Rattle.bkd_top.proofs.Commanding.{called, check_ends, count_ends, explain_ends, generate_ends, is_so, left_by, load_ends, ranges_ends, run_ends, session_asked, taken_by}
 use Rattle.script_run.proofs.Starting.{canonical_still}
 use Rattle.bkd_top.proofs.program.run_command.Goals as goal
 
@@ -294,3 +294,45 @@ returns-in-Count-clause-leaves g c = λ told.
     (called g.S.Source.told g.K.Sink.told (g.S.Source.left c.args.input.now) (g.F.Pages.files c.args.folder.now) (g.F.Pages.files c.run_count.new.folder)
     (g.K.Sink.written c.args.out.now) (g.K.Sink.written c.run_count.new.out) (g.F.Pages.reads c.args.folder.now) (g.F.Pages.reads c.run_count.new.folder))
     c.run_count.result (ap said c.in-Count.is) (record { files = c.run_count.ensures.files told; reads = λ source. c.run_count.ensures.reads source told })
+
+pub returns-in-Ranges-clause-ends : goal.returns-in-Ranges-clause-ends
+returns-in-Ranges-clause-ends g c = λ told state h source.
+    ranges_ends (IsTrue g.K.Sink.told) c.args.words
+    (record { state = state; files = g.F.Pages.files c.args.folder.now; input = g.S.Source.left c.args.input.now; written = g.K.Sink.written c.args.out.now })
+    (g.F.Pages.files c.run_ranges.new.folder) (g.K.Sink.written c.run_ranges.new.out) c.run_ranges.result
+    _ _ (ap said c.in-Ranges.is) (c.run_ranges.ensures.ends (source (ap (λ (a : Asked). reads_input a) (ap said c.in-Ranges.is))) told state h)
+
+pub returns-in-Ranges-clause-canon : goal.returns-in-Ranges-clause-canon
+returns-in-Ranges-clause-canon g c = c.run_ranges.ensures.canon
+
+pub returns-in-Ranges-clause-unread : goal.returns-in-Ranges-clause-unread
+returns-in-Ranges-clause-unread g c = is_so (λ a. reads_input a) c.args.words _ (ap said c.in-Ranges.is) refl
+
+pub returns-in-Ranges-clause-large : goal.returns-in-Ranges-clause-large
+returns-in-Ranges-clause-large g c = λ e. ap (λ (a : Asked). reads_whole a) (ap said c.in-Ranges.is)
+
+pub returns-in-Ranges-clause-untouched : goal.returns-in-Ranges-clause-untouched
+returns-in-Ranges-clause-untouched g c = λ other. c.run_ranges.ensures.untouched
+
+pub returns-in-Ranges-clause-never_usage : goal.returns-in-Ranges-clause-never_usage
+returns-in-Ranges-clause-never_usage g c = λ e. c.run_ranges.ensures.never_usage e
+
+pub returns-in-Ranges-clause-input : goal.returns-in-Ranges-clause-input
+returns-in-Ranges-clause-input g c = λ told.
+    taken_by c.args.words _ (g.S.Source.left c.args.input.now) (g.S.Source.left c.run_ranges.new.input) c.run_ranges.result (ap said c.in-Ranges.is) (c.run_ranges.ensures.input told)
+
+pub returns-in-Ranges-clause-leaves : goal.returns-in-Ranges-clause-leaves
+returns-in-Ranges-clause-leaves g c = λ told.
+    left_by c.args.words _
+    (record {
+      source = g.S.Source.told;
+      sink = g.K.Sink.told;
+      input = g.S.Source.left c.args.input.now;
+      old = g.F.Pages.files c.args.folder.now;
+      new = g.F.Pages.files c.run_ranges.new.folder;
+      written = g.K.Sink.written c.args.out.now;
+      written_now = g.K.Sink.written c.run_ranges.new.out;
+      before = g.F.Pages.reads c.args.folder.now;
+      now = g.F.Pages.reads c.run_ranges.new.folder;
+    })
+    c.run_ranges.result (ap said c.in-Ranges.is) (λ source. c.run_ranges.ensures.costs source told)

@@ -2,7 +2,7 @@
 use Rattle.std.proofs.Common.{◌≢◌, ◌∙◌, ap, sym, inl, rules}
 use Rattle.index_core.proofs.Sizes.{session_fits}
 use Rattle.script_lang.specs.Seen.{request_of}
-use Rattle.script_lang.specs.declared.faults.LineFault.TheVariants as fault
+use Rattle.range_docs.specs.declared.faults.RangeFault.TheVariants as range
 use Rattle.stored_index.proofs.KeptFiles.{kept_itself}
 use Rattle.script_run.specs.Costs.{asks_commit}
 use Rattle.script_run.proofs.Answered.{unread_replies, fault_read}
@@ -26,8 +26,8 @@ returns-in-Err-Memory-clause-cause g c = page_memory _
 
 pub returns-in-Err-clause-replies : goal.returns-in-Err-clause-replies
 returns-in-Err-clause-replies g c = λ told i stored h bytes same.
-    let other : c.in-Err.fault ≢ fault.Memory = search rules in
-    unread_replies g.row.D _ _ i stored c.args.number bytes _ _ c.in-Err.fault h (same ∙ fault_read (request_of {D = g.row.D}) c.in-Err.fault _ other c.in-Err.ensures.reads)
+    let other : c.in-Err.fault ≢ range.Memory = search rules in
+    unread_replies c.args.work.now.language g.row.D _ _ i stored c.args.number bytes _ _ c.in-Err.fault h (same ∙ fault_read (request_of {D = g.row.D}) c.in-Err.fault _ other c.in-Err.ensures.reads)
     c.refuse_line.result c.refuse_line.ensures.refused c.refuse_line.ensures.memory
 
 pub returns-in-Err-clause-cause : goal.returns-in-Err-clause-cause
@@ -37,12 +37,12 @@ pub returns-in-Ok-clause-passes : goal.returns-in-Ok-clause-passes
 returns-in-Ok-clause-passes g c = λ told i stored h bytes same. c.obey.ensures.passes told i stored h bytes (same ∙ c.in-Ok.ensures.reads)
 
 pub returns-in-Err-Memory-clause-passes : goal.returns-in-Err-Memory-clause-passes
-returns-in-Err-Memory-clause-passes g c = λ told i stored h bytes same. passes_none g.row.D c.args.number i bytes _ _
+returns-in-Err-Memory-clause-passes g c = λ told i stored h bytes same. passes_none c.args.work.now.language g.row.D c.args.number i bytes _ _
 
 pub returns-in-Err-clause-passes : goal.returns-in-Err-clause-passes
 returns-in-Err-clause-passes g c = λ told i stored h bytes same.
-    let other : c.in-Err.fault ≢ fault.Memory = search rules in
-    passes_unread g.row.D c.args.number i bytes c.in-Err.fault _ c.refuse_line.result h.seen.dims (same ∙ fault_read (request_of {D = g.row.D}) c.in-Err.fault _ other c.in-Err.ensures.reads)
+    let other : c.in-Err.fault ≢ range.Memory = search rules in
+    passes_unread c.args.work.now.language g.row.D c.args.number i bytes c.in-Err.fault _ c.refuse_line.result h.seen.dims (same ∙ fault_read (request_of {D = g.row.D}) c.in-Err.fault _ other c.in-Err.ensures.reads)
 
 pub returns-in-Ok-clause-trusts : goal.returns-in-Ok-clause-trusts
 returns-in-Ok-clause-trusts g c = c.obey.ensures.trusts

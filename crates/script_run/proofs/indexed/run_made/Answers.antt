@@ -14,6 +14,7 @@ use Rattle.script_run.proofs.Passing.{on_ok}
 use Rattle.script_run.proofs.Reading.{closes_halted, gives_line, gives_none, going_ends, going_first, going_halts, going_on, going_stops, going_wants, none_read, of_all, of_left, of_line, one_read, quiet_first, quiet_on, reads_alike}
 use Rattle.script_run.proofs.Shown.{same_stop, stop_less}
 use Rattle.script_run.proofs.indexed.run_made.Goals as goal
+use Rattle.script_run.specs.Languages.{meaning}
 
 pub answer_line-requires-after_bounds : goal.answer_line-requires-after_bounds
 answer_line-requires-after_bounds g c κs = λ _. (session_fits g.row.D c.requires.few, (c.requires.some, c.requires.few))
@@ -28,8 +29,8 @@ pub lines-init : goal.lines-init
 lines-init g c = record {
   so_far = (
     none_read _ c.args.reader.now _,
-    λ told i stored h more. going_first _ g.row.D _ _ i stored _ _ more h,
-    λ told h. quiet_first g.row.D _,
+    λ told i stored h more. going_first c.args.work.now.language _ g.row.D _ _ i stored _ _ more h,
+    λ told h. quiet_first c.args.work.now.language g.row.D _,
   );
   trusts = λ told h. h;
   counted = c.requires.refused;
@@ -43,16 +44,16 @@ lines-preserved g c =
     let so_far = c.lines.invariant.so_far in
     let yes : c.in-Ok-true.field-0 ≡ true = search rules in
     let gives = gives_line (IsTrue g.S.Source.told) c.lines.reader (g.S.Source.left c.lines.input) c.next_line.new.self (g.S.Source.left c.next_line.new.source) c.next_line.new.line.items c.in-Ok-true.field-0 yes c.in-Ok-true.ensures.gives in
-    let alike = reads_alike (Some g.row.D) gives.line c.next_line.new.line.items c.as_slice.result.now gives.bytes_are c.as_slice.ensures.value in
+    let alike = reads_alike c.args.work.now.language (Some g.row.D) gives.line c.next_line.new.line.items c.as_slice.result.now gives.bytes_are c.as_slice.ensures.value in
     record {
       so_far = (
         one_read _ _ _ c.lines.reader _ so_far.0 _ _ _ gives,
         λ told i stored h more.
             let going = so_far.1 told i stored h (gives.line ∷ more) in
             rw (append_assoc so_far.0.lines (gives.line ∷ []) more)
-            (going_on _ g.row.D _ _ i stored _ _ _ _ _ _ _ gives.line more going _ _ c.in-Ok.is_refused _ (refused_more c.lines.refused c.in-Ok.is_refused _ _ refl c.from-refused.ensures)
+            (going_on c.args.work.now.language _ g.row.D _ _ i stored _ _ _ _ _ _ _ gives.line more going _ _ c.in-Ok.is_refused _ (refused_more c.lines.refused c.in-Ok.is_refused _ _ refl c.from-refused.ensures)
             (c.in-Ok.ensures.answers told going.goes.index going.goes.stored going.goes.stands gives.line alike) (c.in-Ok.ensures.passes told going.goes.index going.goes.stored going.goes.stands gives.line alike)),
-        λ told h. quiet_on g.row.D so_far.0.lines gives.line _ _ _ (so_far.2 told h) (λ quiet. c.in-Ok.ensures.kept told (c.lines.invariant.trusts told h) (ap asks_commit (sym alike) ∙ quiet)),
+        λ told h. quiet_on c.args.work.now.language g.row.D so_far.0.lines gives.line _ _ _ (so_far.2 told h) (λ quiet. c.in-Ok.ensures.kept told (c.lines.invariant.trusts told h) (ap asks_commit (sym alike) ∙ quiet)),
       );
       trusts = λ told h. c.in-Ok.ensures.trusts told (c.lines.invariant.trusts told h);
       counted = omega (arith, c.lines.invariant.counted, at_most_one _ _ c.from-refused.ensures);
@@ -66,10 +67,10 @@ returns-in-Err-clause-does g c =
     let so_far = c.lines.invariant.so_far in
     let yes : c.in-Ok-true.field-0 ≡ true = search rules in
     let gives = gives_line (IsTrue g.S.Source.told) c.lines.reader (g.S.Source.left c.lines.input) c.next_line.new.self (g.S.Source.left c.next_line.new.source) c.next_line.new.line.items c.in-Ok-true.field-0 yes c.in-Ok-true.ensures.gives in
-    let alike = reads_alike (Some g.row.D) gives.line c.next_line.new.line.items c.as_slice.result.now gives.bytes_are c.as_slice.ensures.value in
+    let alike = reads_alike c.args.work.now.language (Some g.row.D) gives.line c.next_line.new.line.items c.as_slice.result.now gives.bytes_are c.as_slice.ensures.value in
     λ told. of_line _ _ _ c.lines.reader _ so_far.0 _ _ _ _ gives (λ i stored h.
     let going = so_far.1 told i stored h (gives.line ∷ lines_left c.next_line.new.self (g.S.Source.left c.next_line.new.source)) in
-    going_stops _ g.row.D _ _ i stored _ _ _ _ _ _ _ gives.line _ going _ _ c.in-Err.stop _
+    going_stops c.args.work.now.language _ g.row.D _ _ i stored _ _ _ _ _ _ _ gives.line _ going _ _ c.in-Err.stop _
     (c.in-Err.ensures.answers told going.goes.index going.goes.stored going.goes.stands gives.line alike) (c.in-Err.ensures.passes told going.goes.index going.goes.stored going.goes.stands gives.line alike))
 
 pub returns-in-Err-clause-cause : goal.returns-in-Err-clause-cause
@@ -83,7 +84,7 @@ returns-in-Err-clause-undone g c =
     let so_far = c.lines.invariant.so_far in
     let yes : c.in-Ok-true.field-0 ≡ true = search rules in
     let gives = gives_line (IsTrue g.S.Source.told) c.lines.reader (g.S.Source.left c.lines.input) c.next_line.new.self (g.S.Source.left c.next_line.new.source) c.next_line.new.line.items c.in-Ok-true.field-0 yes c.in-Ok-true.ensures.gives in
-    let alike = reads_alike (Some g.row.D) gives.line c.next_line.new.line.items c.as_slice.result.now gives.bytes_are c.as_slice.ensures.value in
+    let alike = reads_alike c.args.work.now.language (Some g.row.D) gives.line c.next_line.new.line.items c.as_slice.result.now gives.bytes_are c.as_slice.ensures.value in
     λ told. of_line _ _ _ c.lines.reader _ so_far.0 _ _ _ _ gives (λ h quiet.
     let next = (so_far.2 told h).kept (gives.line ∷ lines_left c.next_line.new.self (g.S.Source.left c.next_line.new.source)) quiet in
     stop_kept ℕ _ _ c.in-Err.stop (kept_after _ _ _ next.0 (c.in-Err.ensures.kept told (c.lines.invariant.trusts told h) (ap asks_commit (sym alike) ∙ next.1.0))))
@@ -99,9 +100,9 @@ returns-in-Ok-false-clause-does g c =
     let so_far = c.lines.invariant.so_far in
     λ told. of_all _ _ _ c.lines.reader _ so_far.0 _ c.next_line.new.self (g.S.Source.left c.next_line.new.source) (gives_none (IsTrue g.S.Source.told) c.lines.reader (g.S.Source.left c.lines.input) c.next_line.new.self (g.S.Source.left c.next_line.new.source) c.next_line.new.line.items c.in-Ok-false.field-0 no c.in-Ok-false.ensures.gives) (λ i stored h.
     let going = so_far.1 told i stored h [] in
-    let ends = going_ends _ g.row.D _ _ i stored _ _ _ _ _ _ _ going _ c.finish.result c.halted.result (c.finish.ensures.ends told going.goes.index going.goes.stored going.goes.stands)
+    let ends = going_ends c.args.work.now.language _ g.row.D _ _ i stored _ _ _ _ _ _ _ going _ c.finish.result c.halted.result (c.finish.ensures.ends told going.goes.index going.goes.stored going.goes.stands)
     (closes_halted g.row.D going.goes.index _ _ c.finish.result c.halted.result c.halted.ensures (c.finish.ensures.closes told going.goes.index going.goes.stored going.goes.stands)) in
-    (halted_ends _ _ _ _ c.finish.result c.halted.result c.halted.ensures ends.0, ends.1))
+    (halted_ends (meaning c.args.work.now.language) _ _ _ _ c.finish.result c.halted.result c.halted.ensures ends.0, ends.1))
 
 pub returns-in-Ok-false-clause-read : goal.returns-in-Ok-false-clause-read
 returns-in-Ok-false-clause-read g c =
@@ -134,7 +135,7 @@ returns-in-Ok-false-clause-evident g c =
 pub returns-in-Err-Failed-clause-does : goal.returns-in-Err-Failed-clause-does
 returns-in-Err-Failed-clause-does g c =
     let so_far = c.lines.invariant.so_far in
-    λ told. of_left _ _ _ c.lines.reader _ so_far.0 _ (λ i stored h. going_halts _ g.row.D _ _ i stored _ _ _ _ _ _ _ _ (so_far.1 told i stored h (lines_left c.lines.reader (g.S.Source.left c.lines.input))) _)
+    λ told. of_left _ _ _ c.lines.reader _ so_far.0 _ (λ i stored h. going_halts c.args.work.now.language _ g.row.D _ _ i stored _ _ _ _ _ _ _ _ (so_far.1 told i stored h (lines_left c.lines.reader (g.S.Source.left c.lines.input))) _)
 
 pub returns-in-Err-Failed-clause-source : goal.returns-in-Err-Failed-clause-source
 returns-in-Err-Failed-clause-source g c =
@@ -149,7 +150,7 @@ returns-in-Err-Failed-clause-undone g c =
 pub returns-in-Err-Memory-clause-does : goal.returns-in-Err-Memory-clause-does
 returns-in-Err-Memory-clause-does g c =
     let so_far = c.lines.invariant.so_far in
-    λ told. of_left _ _ _ c.lines.reader _ so_far.0 _ (λ i stored h. going_wants _ g.row.D _ _ i stored _ _ _ _ _ _ _ _ (so_far.1 told i stored h (lines_left c.lines.reader (g.S.Source.left c.lines.input))) _)
+    λ told. of_left _ _ _ c.lines.reader _ so_far.0 _ (λ i stored h. going_wants c.args.work.now.language _ g.row.D _ _ i stored _ _ _ _ _ _ _ _ (so_far.1 told i stored h (lines_left c.lines.reader (g.S.Source.left c.lines.input))) _)
 
 pub returns-in-Err-Memory-clause-cause : goal.returns-in-Err-Memory-clause-cause
 returns-in-Err-Memory-clause-cause g c = memory_cause _ _ _ _ c.lines.invariant.folder_later c.lines.invariant.sink_later
@@ -165,7 +166,7 @@ returns-in-Err-Memory-clause-undone g c =
 pub returns-clause-does : goal.returns-clause-does
 returns-clause-does g c =
     let so_far = c.lines.invariant.so_far in
-    λ told. of_left _ _ _ c.lines.reader _ so_far.0 _ (λ i stored h. going_wants _ g.row.D _ _ i stored _ _ _ _ _ _ _ _ (so_far.1 told i stored h (lines_left c.lines.reader (g.S.Source.left c.lines.input))) _)
+    λ told. of_left _ _ _ c.lines.reader _ so_far.0 _ (λ i stored h. going_wants c.args.work.now.language _ g.row.D _ _ i stored _ _ _ _ _ _ _ _ (so_far.1 told i stored h (lines_left c.lines.reader (g.S.Source.left c.lines.input))) _)
 
 pub returns-clause-cause : goal.returns-clause-cause
 returns-clause-cause g c = memory_cause _ _ _ _ c.lines.invariant.folder_later c.lines.invariant.sink_later

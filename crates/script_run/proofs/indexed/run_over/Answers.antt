@@ -13,6 +13,7 @@ use Rattle.script_run.proofs.Reading.{of_any, of_same}
 use Rattle.script_run.proofs.Shown.{fault_shows}
 use Rattle.script_run.proofs.Starting.{open_fails, open_leads}
 use Rattle.script_run.proofs.indexed.run_over.Goals as goal
+use Rattle.script_run.specs.Languages.{meaning}
 
 pub open-requires : goal.open-requires
 open-requires g c = (session_fits g.row.D c.requires.few, (c.requires.some, (c.requires.few, (c.requires.dims, c.requires.made))))
@@ -24,7 +25,7 @@ pub returns-in-Ok-clause-does : goal.returns-in-Ok-clause-does
 returns-in-Ok-clause-does g c = λ told.
     of_same _ c.args.reader.now (g.S.Source.left c.args.input.now) _ _ (λ lines does i stored h. (
       (does i stored (c.in-Ok.ensures.stands told i stored h)).0,
-      open_leads c.args.origin i stored c.args.tally.line lines _ _ _ _ (c.in-Ok.ensures.files told) _ _ c.run_made.result (c.in-Ok.ensures.opens told i stored h)
+      open_leads c.args.work.now.language c.args.origin i stored c.args.tally.line lines _ _ _ _ (c.in-Ok.ensures.files told) _ _ c.run_made.result (c.in-Ok.ensures.opens told i stored h)
           (does i stored (c.in-Ok.ensures.stands told i stored h)).1,
     )) (c.run_made.ensures.does told)
 
@@ -33,10 +34,10 @@ returns-in-Ok-clause-cause g c = halt_cause_from _ _ _ _ _ _ c.run_made.result c
 
 pub returns-in-Err-clause-does : goal.returns-in-Err-clause-does
 returns-in-Err-clause-does g c = λ told. of_any _ c.args.reader.now (g.S.Source.left c.args.input.now) _ (λ lines i stored h. (
-  halted_ends (IsTrue g.K.Sink.told) (place_on c.args.tally.line c.args.tally.refused i stored lines (g.K.Sink.written c.args.out.now)) _ _ c.stopped.result c.halted.result c.halted.ensures
-      (unopened (IsTrue g.K.Sink.told) (place_on c.args.tally.line c.args.tally.refused i stored lines (g.K.Sink.written c.args.out.now)) _ _ _ c.in-Err.fault
+  halted_ends (meaning c.args.work.now.language) (IsTrue g.K.Sink.told) (place_on c.args.tally.line c.args.tally.refused i stored lines (g.K.Sink.written c.args.out.now)) _ _ c.stopped.result c.halted.result c.halted.ensures
+      (unopened c.args.work.now.language (IsTrue g.K.Sink.told) (place_on c.args.tally.line c.args.tally.refused i stored lines (g.K.Sink.written c.args.out.now)) _ _ _ c.in-Err.fault
       (c.in-Err.ensures.whole told i stored h) (c.in-Err.ensures.files told) (origin_keeps (g.F.Pages.files c.args.folder.now) c.args.origin i stored h) c.stopped.result c.stopped.ensures refl),
-  open_fails c.args.origin i stored c.args.tally.line lines _ _ _ _ (c.in-Err.ensures.files told) c.in-Err.fault (c.in-Err.ensures.opens told i stored h) c.halted.result _ (c.halted.ensures ∙ ap halted c.stopped.ensures),
+  open_fails c.args.work.now.language c.args.origin i stored c.args.tally.line lines _ _ _ _ (c.in-Err.ensures.files told) c.in-Err.fault (c.in-Err.ensures.opens told i stored h) c.halted.result _ (c.halted.ensures ∙ ap halted c.stopped.ensures),
 ))
 
 pub returns-in-Err-clause-cause : goal.returns-in-Err-clause-cause
@@ -58,7 +59,7 @@ pub returns-in-Ok-clause-undone : goal.returns-in-Ok-clause-undone
 returns-in-Ok-clause-undone g c = λ told.
     of_same _ c.args.reader.now (g.S.Source.left c.args.input.now) _ _ (λ lines undone there quiet.
     subst (λ (f : Files). HaltKeeps f (g.F.Pages.files c.run_made.new.folder) c.run_made.result) (c.in-Ok.ensures.files told)
-    (undone (c.in-Ok.ensures.trusts told there) (subst (λ (n : ℕ). NoneCommits n lines) c.requires.dims quiet)))
+    (undone (c.in-Ok.ensures.trusts told there) (subst (λ (n : ℕ). NoneCommits c.args.work.now.language n lines) c.requires.dims quiet)))
     (c.run_made.ensures.undone told)
 
 pub returns-in-Err-clause-undone : goal.returns-in-Err-clause-undone

@@ -15,13 +15,14 @@ use Rattle.script_run.proofs.Reading.{gives_line, gives_none, none_read, of_all,
 use Rattle.script_run.proofs.Shown.{first_shows}
 use Rattle.script_run.proofs.Starting.{leads_none, leads_same, made_leads, nears_first, nears_on}
 use Rattle.script_run.proofs.lines.run_first.Goals as goal
+use Rattle.script_run.specs.Languages.{meaning}
 
 pub overflow_add-refused : goal.overflow_add-refused
 overflow_add-refused g c = omega (arith, c.lines.invariant.counted, at_most_one _ _ c.from-refused.ensures)
 
 pub lines-init : goal.lines-init
 lines-init g c = record {
-  so_far = (none_read _ c.args.reader.now _, λ more. (start_here _, nears_first more));
+  so_far = (none_read _ c.args.reader.now _, λ more. (start_here (meaning c.args.work.now.language) _, nears_first c.args.work.now.language more));
   counted = omega arith;
   folder = refl;
   sink_later = omega arith;
@@ -33,7 +34,7 @@ lines-preserved g c =
     let so_far = c.lines.invariant.so_far in
     let yes : c.in-Ok-true.field-0 ≡ true = search rules in
     let gives = gives_line (IsTrue g.S.Source.told) c.lines.reader (g.S.Source.left c.lines.input) c.next_line.new.self (g.S.Source.left c.next_line.new.source) c.next_line.new.line.items c.in-Ok-true.field-0 yes c.in-Ok-true.ensures.gives in
-    let is = first_alike c.lines.line gives.line c.as_slice.result.now (reads_alike None gives.line c.next_line.new.line.items c.as_slice.result.now gives.bytes_are c.as_slice.ensures.value) in
+    let is = first_alike c.args.work.now.language c.lines.line gives.line c.as_slice.result.now (reads_alike c.args.work.now.language None gives.line c.next_line.new.line.items c.as_slice.result.now gives.bytes_are c.as_slice.ensures.value) in
     let same = rw c.in-Ok-Nothing.field-0-is at c.in-Ok-Nothing.ensures.opening in
     let state = ap (λ (a : Answer). a.state) is ∙ same.state in
     record {
@@ -42,10 +43,10 @@ lines-preserved g c =
         λ more.
             let so = so_far.1 (gives.line ∷ more) in
             rw (append_assoc so_far.0.lines (gives.line ∷ []) more) (
-              first_goes_on _ _ _ _ _ so.0 _ gives.line more refl _
+              first_goes_on c.args.work.now.language _ _ _ _ _ so.0 _ gives.line more refl _
                   (refused_more c.lines.refused _ _ _ same.refused c.from-refused.ensures ∙ ap (λ (a : Answer). c.lines.refused + a.refused) (sym is)) state
                   (λ sink. c.in-Ok-Nothing.ensures.text sink ∙ ap (λ (a : Answer). g.K.Sink.written c.lines.out ++ a.text) (sym is)),
-              nears_on _ _ _ so.1 gives.line more refl state,
+              nears_on c.args.work.now.language _ _ _ so.1 gives.line more refl state,
             ),
       );
       counted = omega (arith, c.lines.invariant.counted, at_most_one _ _ c.from-refused.ensures);
@@ -59,7 +60,7 @@ returns-in-Ok-Made-clause-does g c =
     let so_far = c.lines.invariant.so_far in
     let yes : c.in-Ok-true.field-0 ≡ true = search rules in
     let gives = gives_line (IsTrue g.S.Source.told) c.lines.reader (g.S.Source.left c.lines.input) c.next_line.new.self (g.S.Source.left c.next_line.new.source) c.next_line.new.line.items c.in-Ok-true.field-0 yes c.in-Ok-true.ensures.gives in
-    let is = first_alike c.lines.line gives.line c.as_slice.result.now (reads_alike None gives.line c.next_line.new.line.items c.as_slice.result.now gives.bytes_are c.as_slice.ensures.value) in
+    let is = first_alike c.args.work.now.language c.lines.line gives.line c.as_slice.result.now (reads_alike c.args.work.now.language None gives.line c.next_line.new.line.items c.as_slice.result.now gives.bytes_are c.as_slice.ensures.value) in
     let made = rw c.in-Ok-Made.field-0-is at c.in-Ok-Made.ensures.opening in
     let same = ap (λ f. g.F.Pages.files f) c.lines.invariant.folder in
     let state = ap (λ (a : Answer). a.state) is ∙ made.0 in
@@ -69,10 +70,10 @@ returns-in-Ok-Made-clause-does g c =
     let still : g.F.Pages.files c.lines.folder Commit ≡ None = rw same none in
     let done = does (new_index c.in-Ok-Made.dims c.in-Ok-Made.leaf) None (still, refl, refl) in
     rw (append_assoc so_far.0.lines (gives.line ∷ []) ls) (
-      made_ends _ _ _ _ _ so.0 gives.line ls refl (new_index c.in-Ok-Made.dims c.in-Ok-Made.leaf) _ state (ap (λ (a : Answer). a.refused) is ∙ made.1)
+      made_ends c.args.work.now.language _ _ _ _ _ so.0 gives.line ls refl (new_index c.in-Ok-Made.dims c.in-Ok-Made.leaf) _ state (ap (λ (a : Answer). a.refused) is ∙ made.1)
           (λ sink. c.in-Ok-Made.ensures.text sink ∙ ap (λ (a : Answer). g.K.Sink.written c.lines.out ++ a.text) (sym is)) _ _ c.run_from.result done.0,
-      leads_same None _ _ _ _ _ _ _ c.run_from.result same (ap (λ f. g.F.Pages.reads f) c.lines.invariant.folder)
-          (made_leads _ _ _ so.1 gives.line ls refl c.in-Ok-Made.dims c.in-Ok-Made.leaf state _ _ _ _ still c.run_from.result done.1),
+      leads_same c.args.work.now.language None _ _ _ _ _ _ _ c.run_from.result same (ap (λ f. g.F.Pages.reads f) c.lines.invariant.folder)
+          (made_leads c.args.work.now.language _ _ _ so.1 gives.line ls refl c.in-Ok-Made.dims c.in-Ok-Made.leaf state _ _ _ _ still c.run_from.result done.1),
     ))
     (c.run_from.ensures.does told)
 
@@ -101,13 +102,13 @@ returns-in-Err-clause-does g c =
     let so_far = c.lines.invariant.so_far in
     let yes : c.in-Ok-true.field-0 ≡ true = search rules in
     let gives = gives_line (IsTrue g.S.Source.told) c.lines.reader (g.S.Source.left c.lines.input) c.next_line.new.self (g.S.Source.left c.next_line.new.source) c.next_line.new.line.items c.in-Ok-true.field-0 yes c.in-Ok-true.ensures.gives in
-    let is = first_alike c.lines.line gives.line c.as_slice.result.now (reads_alike None gives.line c.next_line.new.line.items c.as_slice.result.now gives.bytes_are c.as_slice.ensures.value) in
+    let is = first_alike c.args.work.now.language c.lines.line gives.line c.as_slice.result.now (reads_alike c.args.work.now.language None gives.line c.next_line.new.line.items c.as_slice.result.now gives.bytes_are c.as_slice.ensures.value) in
     let same = ap (λ f. g.F.Pages.files f) c.lines.invariant.folder in
     λ told. of_line _ _ _ c.lines.reader _ so_far.0 _ _ _ _ gives (λ none.
     let still : g.F.Pages.files c.lines.folder Commit ≡ None = rw same none in (
-      stops_first _ (g.F.Pages.files c.lines.folder) _ _ _ _ _ (so_far.1 (gives.line ∷ lines_left c.next_line.new.self (g.S.Source.left c.next_line.new.source))).0 still gives.line _ refl c.in-Err.stop c.in-Err.ensures.cause
+      stops_first c.args.work.now.language _ (g.F.Pages.files c.lines.folder) _ _ _ _ _ (so_far.1 (gives.line ∷ lines_left c.next_line.new.self (g.S.Source.left c.next_line.new.source))).0 still gives.line _ refl c.in-Err.stop c.in-Err.ensures.cause
           (λ sink. subst (λ (a : Answer). IsCut a.text (g.K.Sink.written c.lines.out) (g.K.Sink.written c.answer_first.new.out) c.in-Err.stop) (sym is) (c.in-Err.ensures.text sink)),
-      leads_none None _ _ _ _ _ _ same (ap (λ f. g.F.Pages.reads f) c.lines.invariant.folder),
+      leads_none c.args.work.now.language None _ _ _ _ _ _ same (ap (λ f. g.F.Pages.reads f) c.lines.invariant.folder),
     ))
 
 pub returns-in-Err-clause-cause : goal.returns-in-Err-clause-cause
@@ -128,8 +129,8 @@ returns-in-Ok-false-clause-does g c =
     let same = ap (λ f. g.F.Pages.files f) c.lines.invariant.folder in
     λ told. of_all _ _ _ c.lines.reader _ so_far.0 _ c.next_line.new.self (g.S.Source.left c.next_line.new.source) (gives_none (IsTrue g.S.Source.told) c.lines.reader (g.S.Source.left c.lines.input) c.next_line.new.self (g.S.Source.left c.next_line.new.source) c.next_line.new.line.items c.in-Ok-false.field-0 no c.in-Ok-false.ensures.gives) (λ none.
     let still : g.F.Pages.files c.lines.folder Commit ≡ None = rw same none in (
-      finishes_first _ _ _ _ _ (so_far.1 []).0 (g.F.Pages.files c.lines.folder) still refl,
-      leads_none None _ _ _ _ _ _ same (ap (λ f. g.F.Pages.reads f) c.lines.invariant.folder),
+      finishes_first c.args.work.now.language _ _ _ _ _ (so_far.1 []).0 (g.F.Pages.files c.lines.folder) still refl,
+      leads_none c.args.work.now.language None _ _ _ _ _ _ same (ap (λ f. g.F.Pages.reads f) c.lines.invariant.folder),
     ))
 
 pub returns-in-Ok-false-clause-read : goal.returns-in-Ok-false-clause-read
@@ -155,8 +156,8 @@ returns-in-Err-Failed-clause-does g c =
     let same = ap (λ f. g.F.Pages.files f) c.lines.invariant.folder in
     λ told. of_left _ _ _ c.lines.reader _ so_far.0 _ (λ none.
     let still : g.F.Pages.files c.lines.folder Commit ≡ None = rw same none in (
-      halts_first _ _ _ _ _ (so_far.1 (lines_left c.lines.reader (g.S.Source.left c.lines.input))).0 (g.F.Pages.files c.lines.folder) still,
-      leads_none None _ _ _ _ _ _ same (ap (λ f. g.F.Pages.reads f) c.lines.invariant.folder),
+      halts_first c.args.work.now.language _ _ _ _ _ (so_far.1 (lines_left c.lines.reader (g.S.Source.left c.lines.input))).0 (g.F.Pages.files c.lines.folder) still,
+      leads_none c.args.work.now.language None _ _ _ _ _ _ same (ap (λ f. g.F.Pages.reads f) c.lines.invariant.folder),
     ))
 
 pub returns-in-Err-Failed-clause-cause : goal.returns-in-Err-Failed-clause-cause
@@ -173,8 +174,8 @@ returns-in-Err-Memory-clause-does g c =
     let same = ap (λ f. g.F.Pages.files f) c.lines.invariant.folder in
     λ told. of_left _ _ _ c.lines.reader _ so_far.0 _ (λ none.
     let still : g.F.Pages.files c.lines.folder Commit ≡ None = rw same none in (
-      memory_first _ _ _ _ _ (so_far.1 (lines_left c.lines.reader (g.S.Source.left c.lines.input))).0 (g.F.Pages.files c.lines.folder) still,
-      leads_none None _ _ _ _ _ _ same (ap (λ f. g.F.Pages.reads f) c.lines.invariant.folder),
+      memory_first c.args.work.now.language _ _ _ _ _ (so_far.1 (lines_left c.lines.reader (g.S.Source.left c.lines.input))).0 (g.F.Pages.files c.lines.folder) still,
+      leads_none c.args.work.now.language None _ _ _ _ _ _ same (ap (λ f. g.F.Pages.reads f) c.lines.invariant.folder),
     ))
 
 pub returns-in-Err-Memory-clause-cause : goal.returns-in-Err-Memory-clause-cause
@@ -189,8 +190,8 @@ returns-clause-does g c =
     let same = ap (λ f. g.F.Pages.files f) c.lines.invariant.folder in
     λ told. of_left _ _ _ c.lines.reader _ so_far.0 _ (λ none.
     let still : g.F.Pages.files c.lines.folder Commit ≡ None = rw same none in (
-      memory_first _ _ _ _ _ (so_far.1 (lines_left c.lines.reader (g.S.Source.left c.lines.input))).0 (g.F.Pages.files c.lines.folder) still,
-      leads_none None _ _ _ _ _ _ same (ap (λ f. g.F.Pages.reads f) c.lines.invariant.folder),
+      memory_first c.args.work.now.language _ _ _ _ _ (so_far.1 (lines_left c.lines.reader (g.S.Source.left c.lines.input))).0 (g.F.Pages.files c.lines.folder) still,
+      leads_none c.args.work.now.language None _ _ _ _ _ _ same (ap (λ f. g.F.Pages.reads f) c.lines.invariant.folder),
     ))
 
 pub returns-clause-cause : goal.returns-clause-cause

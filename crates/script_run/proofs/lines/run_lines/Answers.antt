@@ -8,6 +8,7 @@ use Rattle.script_run.proofs.Halting.{memory_cause, no_source}
 use Rattle.script_run.proofs.Reading.{new_knows, new_reader}
 use Rattle.script_run.proofs.Starting.{leads_none}
 use Rattle.script_run.proofs.lines.run_lines.Goals as goal
+use Rattle.script_run.specs.Languages.{meaning}
 
 pub returns-in-Ok-clause-does : goal.returns-in-Ok-clause-does
 returns-in-Ok-clause-does g c = λ told. new_reader _ c.in-Ok.reader (g.S.Source.left c.args.input.now) _ c.in-Ok.ensures (c.run_read.ensures.does told)
@@ -23,8 +24,8 @@ returns-in-Err-clause-does g c = λ told. (
   lines_of (g.S.Source.left c.args.input.now),
   λ source. refl,
   λ state h. (
-    stops_here {told = IsTrue g.K.Sink.told} (start state (lines_of (g.S.Source.left c.args.input.now)) (g.K.Sink.written c.args.out.now)) _ _ (λ _. refl) (inl h),
-    leads_none state _ _ _ _ _ _ refl refl,
+    stops_here {told = IsTrue g.K.Sink.told} (meaning c.args.work.now.language) (start state (lines_of (g.S.Source.left c.args.input.now)) (g.K.Sink.written c.args.out.now)) _ _ (λ _. refl) (inl h),
+    leads_none c.args.work.now.language state _ _ _ _ _ _ refl refl,
   ),
 )
 

@@ -15,13 +15,14 @@ use Rattle.script_run.proofs.Reading.{of_any, of_same}
 use Rattle.script_run.proofs.Shown.{fault_at, fault_shows, says_after}
 use Rattle.script_run.proofs.Starting.{leads_first, leads_some, leads_unread}
 use Rattle.script_run.proofs.lines.run_read.Goals as goal
+use Rattle.script_run.specs.Languages.{meaning}
 
 pub returns-in-Ok-None-clause-does : goal.returns-in-Ok-None-clause-does
 returns-in-Ok-None-clause-does g c = λ told.
     let none = rw c.in-Ok-None.field-0-is at (c.in-Ok-None.ensures.found told) in
     of_same _ c.args.reader.now (g.S.Source.left c.args.input.now) _ _ (λ lines does state h. (
-      from_none (IsTrue g.K.Sink.told) _ _ _ _ state (c.in-Ok-None.ensures.files told) none h lines _ c.run_first.result (λ still. (does still).0),
-      leads_first state lines _ _ _ _ _ _ c.run_first.result (c.in-Ok-None.ensures.files told) h none (c.in-Ok-None.ensures.unread told none) (λ still. (does still).1),
+      from_none c.args.work.now.language (IsTrue g.K.Sink.told) _ _ _ _ state (c.in-Ok-None.ensures.files told) none h lines _ c.run_first.result (λ still. (does still).0),
+      leads_first c.args.work.now.language state lines _ _ _ _ _ _ c.run_first.result (c.in-Ok-None.ensures.files told) h none (c.in-Ok-None.ensures.unread told none) (λ still. (does still).1),
     )) (c.run_first.ensures.does told)
 
 pub returns-in-Ok-None-clause-cause : goal.returns-in-Ok-None-clause-cause
@@ -31,8 +32,8 @@ pub returns-in-Ok-Some-clause-does : goal.returns-in-Ok-Some-clause-does
 returns-in-Ok-Some-clause-does g c = λ told.
     let says = rw c.in-Ok-Some.field-0-is at (c.in-Ok-Some.ensures.found told) in
     of_same _ c.args.reader.now (g.S.Source.left c.args.input.now) _ _ (λ lines does state h. (
-      from_some (IsTrue g.K.Sink.told) _ _ _ _ c.in-Ok-Some.commit state (c.in-Ok-Some.ensures.files told) says h lines _ c.run_from.result (λ i stored from. (does i stored from).0),
-      leads_some state lines _ _ _ _ _ _ c.run_from.result (c.in-Ok-Some.ensures.files told) h c.in-Ok-Some.commit says (c.in-Ok-Some.ensures.most told c.in-Ok-Some.commit says) (λ i stored from. (does i stored from).1),
+      from_some c.args.work.now.language (IsTrue g.K.Sink.told) _ _ _ _ c.in-Ok-Some.commit state (c.in-Ok-Some.ensures.files told) says h lines _ c.run_from.result (λ i stored from. (does i stored from).0),
+      leads_some c.args.work.now.language state lines _ _ _ _ _ _ c.run_from.result (c.in-Ok-Some.ensures.files told) h c.in-Ok-Some.commit says (c.in-Ok-Some.ensures.most told c.in-Ok-Some.commit says) (λ i stored from. (does i stored from).1),
     )) (c.run_from.ensures.does told)
 
 pub returns-in-Ok-Some-clause-cause : goal.returns-in-Ok-Some-clause-cause
@@ -40,10 +41,10 @@ returns-in-Ok-Some-clause-cause g c = halt_cause_from _ _ _ _ _ _ c.run_from.res
 
 pub returns-in-Err-clause-does : goal.returns-in-Err-clause-does
 returns-in-Err-clause-does g c = λ told. of_any _ c.args.reader.now (g.S.Source.left c.args.input.now) _ (λ lines state h. (
-  halted_ends (IsTrue g.K.Sink.told) (start state lines (g.K.Sink.written c.args.out.now)) _ _ c.stopped.result c.halted.result c.halted.ensures
-      (unopened (IsTrue g.K.Sink.told) (start state lines (g.K.Sink.written c.args.out.now)) _ _ _ c.in-Err.fault
+  halted_ends (meaning c.args.work.now.language) (IsTrue g.K.Sink.told) (start state lines (g.K.Sink.written c.args.out.now)) _ _ c.stopped.result c.halted.result c.halted.ensures
+      (unopened c.args.work.now.language (IsTrue g.K.Sink.told) (start state lines (g.K.Sink.written c.args.out.now)) _ _ _ c.in-Err.fault
       (not_damaged (g.F.Pages.files c.args.folder.now) state h (c.in-Err.ensures.absent told) (c.in-Err.ensures.whole told)) (c.in-Err.ensures.files told) h c.stopped.result c.stopped.ensures refl),
-  leads_unread state lines _ _ _ _ c.halted.result _ (c.in-Err.ensures.files told) (c.in-Err.ensures.unread told) (c.in-Err.ensures.most told) (c.halted.ensures ∙ ap halted c.stopped.ensures),
+  leads_unread c.args.work.now.language state lines _ _ _ _ c.halted.result _ (c.in-Err.ensures.files told) (c.in-Err.ensures.unread told) (c.in-Err.ensures.most told) (c.halted.ensures ∙ ap halted c.stopped.ensures),
 ))
 
 pub returns-in-Err-clause-cause : goal.returns-in-Err-clause-cause
@@ -80,7 +81,7 @@ returns-in-Ok-Some-clause-undone g c = λ told.
     of_same _ c.args.reader.now (g.S.Source.left c.args.input.now) _ _ (λ lines undone listed says quiet.
     subst (λ (f : Files). HaltKeeps f (g.F.Pages.files c.run_from.new.folder) c.run_from.result) (c.in-Ok-Some.ensures.files told)
     (undone (says_after _ _ c.in-Ok-Some.commit (c.in-Ok-Some.ensures.files told) found)
-    (quiet_for (g.F.Pages.files c.args.folder.now) listed c.in-Ok-Some.commit _ says found quiet)))
+    (quiet_for c.args.work.now.language (g.F.Pages.files c.args.folder.now) listed c.in-Ok-Some.commit _ says found quiet)))
     (c.run_from.ensures.undone told)
 
 pub returns-in-Err-clause-undone : goal.returns-in-Err-clause-undone

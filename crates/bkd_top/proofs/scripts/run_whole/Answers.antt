@@ -3,7 +3,8 @@ use Rattle.std.proofs.Common.{refl, sym, subst, ◌∙◌, inl, ◌≤◌, ◌^�
 use Rattle.run_status.specs.Ends.{DoesNothing}
 use Rattle.script_run.proofs.Calling.{nothing_costs}
 use Rattle.script_run.proofs.Going.{stops_here}
-use Rattle.bkd_top.proofs.program.run_script.Goals as goal
+use Rattle.script_run.specs.Languages.{meaning}
+use Rattle.bkd_top.proofs.scripts.run_whole.Goals as goal
 
 pub returns-in-Ok-clause-never_usage : goal.returns-in-Ok-clause-never_usage
 returns-in-Ok-clause-never_usage g c = λ e. c.run_text.ensures.lines (subst DoesNothing (sym e) tt)
@@ -21,7 +22,7 @@ pub returns-in-Err-TooLarge-clause-ends : goal.returns-in-Err-TooLarge-clause-en
 returns-in-Err-TooLarge-clause-ends g c = λ source told state h. record { text = λ sink. refl; stored = h }
 
 pub returns-in-Err-Memory-clause-ends : goal.returns-in-Err-Memory-clause-ends
-returns-in-Err-Memory-clause-ends g c = λ source told state h. stops_here _ _ _ (λ sink. refl) (inl h)
+returns-in-Err-Memory-clause-ends g c = λ source told state h. stops_here (meaning c.args.work.now.language) _ _ _ (λ sink. refl) (inl h)
 
 pub returns-in-Ok-clause-canon : goal.returns-in-Ok-clause-canon
 returns-in-Ok-clause-canon g c = c.run_text.ensures.canon
@@ -53,10 +54,10 @@ pub returns-in-Ok-clause-costs : goal.returns-in-Ok-clause-costs
 returns-in-Ok-clause-costs g c = λ source told. rw (c.as_slice.ensures.value ∙ c.in-Ok.ensures.whole source) at (c.run_text.ensures.costs told)
 
 pub returns-in-Err-Failed-clause-costs : goal.returns-in-Err-Failed-clause-costs
-returns-in-Err-Failed-clause-costs g c = λ source told. nothing_costs _ _ _ _ (λ a. a)
+returns-in-Err-Failed-clause-costs g c = λ source told. nothing_costs c.args.work.now.language _ _ _ _ (λ a. a)
 
 pub returns-in-Err-TooLarge-clause-costs : goal.returns-in-Err-TooLarge-clause-costs
-returns-in-Err-TooLarge-clause-costs g c = λ source told. nothing_costs _ _ _ _ (λ a. a)
+returns-in-Err-TooLarge-clause-costs g c = λ source told. nothing_costs c.args.work.now.language _ _ _ _ (λ a. a)
 
 pub returns-in-Err-Memory-clause-costs : goal.returns-in-Err-Memory-clause-costs
-returns-in-Err-Memory-clause-costs g c = λ source told. nothing_costs _ _ _ _ (λ a. a)
+returns-in-Err-Memory-clause-costs g c = λ source told. nothing_costs c.args.work.now.language _ _ _ _ (λ a. a)

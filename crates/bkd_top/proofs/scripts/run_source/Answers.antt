@@ -3,13 +3,14 @@ use Rattle.std.proofs.Common.{refl, sym, subst, ◌∙◌}
 use Rattle.run_status.specs.Ends.{DoesNothing, IsAnswer, IsDamaged}
 use Rattle.run_status.specs.declared.status.Status.TheVariants as status
 use Rattle.script_run.proofs.Statuses.{never_refuses, read_folder, read_keeps, read_shows, read_sink, read_source, session_ends, session_undamaged, when_read, with_lines}
-use Rattle.bkd_top.proofs.program.run_session.Goals as goal
+use Rattle.script_run.specs.Languages.{meaning}
+use Rattle.bkd_top.proofs.scripts.run_source.Goals as goal
 
 pub returns-clause-never : goal.returns-clause-never
 returns-clause-never g c = λ e. never_refuses c.run_lines.result (rw c.status_of_lines.ensures at e)
 
 pub returns-clause-ends : goal.returns-clause-ends
-returns-clause-ends g c = λ source told state h. rw c.status_of_lines.ensures (session_ends _ _ _ _ c.run_lines.result (with_lines _ _ _ source (c.run_lines.ensures.does told) state h).0)
+returns-clause-ends g c = λ source told state h. rw c.status_of_lines.ensures (session_ends (meaning c.args.work.now.language) _ _ _ _ c.run_lines.result (with_lines _ _ _ source (c.run_lines.ensures.does told) state h).0)
 
 pub returns-clause-lines : goal.returns-clause-lines
 returns-clause-lines g c = λ source a. when_read c.run_lines.result (subst IsAnswer c.status_of_lines.ensures a) (c.run_lines.ensures.read source)
@@ -28,7 +29,7 @@ returns-clause-costs g c = λ source told.
 
 pub returns-clause-damage : goal.returns-clause-damage
 returns-clause-damage g c = record {
-  never = λ told state h d. session_undamaged _ _ _ _ c.run_lines.result ((c.run_lines.ensures.does told).2 state h).0 (subst IsDamaged c.status_of_lines.ensures d);
+  never = λ told state h d. session_undamaged (meaning c.args.work.now.language) _ _ _ _ c.run_lines.result ((c.run_lines.ensures.does told).2 state h).0 (subst IsDamaged c.status_of_lines.ensures d);
   evident = rw c.status_of_lines.ensures (read_shows _ c.run_lines.result c.run_lines.ensures.evident);
 }
 

@@ -1,0 +1,6 @@
+-- The lines mean what is said by the points of ranges.
+use Rattle.script_run.proofs.RangeScripts.{ends_ranges}
+use Rattle.bkd_top.proofs.scripts.run_ranges.Goals as goal
+
+pub returns-clause-ends : goal.returns-clause-ends
+returns-clause-ends g c = λ source told state h ranges. ends_ranges _ state _ _ _ _ c.run_whole.result ranges (c.run_whole.ensures.ends source told state h)
