@@ -1,4 +1,5 @@
--- What holds of every command, whatever the folder holds: which words are of none, what it reads of its input, and why it ended so.
+-- What holds of every command, whatever the folder holds: which words are of none, what it reads of its input, and why
+-- it ended so.
 use Rattle.std.specs.Prelude.{ℕ, ◌≡◌, ◌⊎◌, Bool, IsTrue, List, [], Option, None, Some}
 use Rattle.outer_io.specs.Files.{Files}
 use Rattle.script_lang.specs.Lines.{lines_of}
@@ -29,7 +30,8 @@ OnAsked P (Some asked) = P asked
 
 -- ---- the input
 
--- The whole input is read before anything is done, or none of it; but the lines of a session are read as they are done, to the end of the input where
+-- The whole input is read before anything is done, or none of it; but the lines of a session are read as they are done,
+-- to the end of the input where
 -- all are.
 abbrev pub TakesInput : Asked → (left left_now : List ℕ) → Status → Type 0
 TakesInput (Run cache forks) left now s = ReadsInput left now s
@@ -43,7 +45,8 @@ TakesInput (Generate docs seed forks) left now s = Unit {0}
 
 -- ---- damage
 
--- a folder that stored a state is never found damaged, and a damage is shown by what it carries, and is true of told files
+-- a folder that stored a state is never found damaged, and a damage is shown by what it carries, and is true of told
+-- files
 pub record TellsDamage (told : Type 0) (old new : Files) (s : Status) : Type 0 where
   pub never : told → (state : State) → IsStored old state → IsDamaged s → ⊥
   pub evident : OnStatusDamage s (IsEvident told new)
@@ -58,14 +61,16 @@ pub record CountCosts (source : Type 0) (lines : List (List ℕ)) (old new : Fil
   pub files : new ≡ old
   pub reads : source → counts.ReadsFew old lines before now
 
--- a command that is done as a whole leaves few segments of each level, and where it isn't done it loses nothing that is kept, whatever the folder holds
+-- a command that is done as a whole leaves few segments of each level, and where it isn't done it loses nothing that is
+-- kept, whatever the folder holds
 pub record WholeLeaves (old new : Files) (s : Status) : Type 0 where
   pub levels : (state : State) → IsStored old state → IsAnswer s → KeepsLevels old new
   pub undone : StatusKeeps old new s
 
 -- ---- what each command leaves, whatever the folder holds
 
--- A call: whether its source and its sink tell what they hold, its input, the files before and after it, what had gone out before and after, and the
+-- A call: whether its source and its sink tell what they hold, its input, the files before and after it, what had gone
+-- out before and after, and the
 -- folder's reads before and after
 pub record Call : Type 0 where
   pub source : Bool
@@ -79,9 +84,12 @@ pub record Call : Type 0 where
   pub now : ℕ
 
 abbrev pub LeavesAsked : Asked → Call → Status → Type 0
-LeavesAsked (Run cache forks) c s = IsTrue c.source → RunCosts language.Points (lines_of c.input) c.old c.new c.before c.now s
-LeavesAsked (Session cache forks) c s = IsTrue c.source → RunCosts language.Points (lines_of c.input) c.old c.new c.before c.now s
-LeavesAsked (Ranges cache forks) c s = IsTrue c.source → RunCosts language.Ranges (lines_of c.input) c.old c.new c.before c.now s
+LeavesAsked (Run cache forks) c s = IsTrue c.source
+    → RunCosts language.Points (lines_of c.input) c.old c.new c.before c.now s
+LeavesAsked (Session cache forks) c s = IsTrue c.source
+    → RunCosts language.Points (lines_of c.input) c.old c.new c.before c.now s
+LeavesAsked (Ranges cache forks) c s = IsTrue c.source
+    → RunCosts language.Ranges (lines_of c.input) c.old c.new c.before c.now s
 LeavesAsked (Explain cache) c s = ExplainCosts (IsTrue c.source) (lines_of c.input) c.old c.new c.before c.now
 LeavesAsked (Load columns forks) c s = WholeLeaves c.old c.new s
 LeavesAsked (Generate docs seed forks) c s = WholeLeaves c.old c.new s

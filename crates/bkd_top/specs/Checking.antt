@@ -10,11 +10,13 @@ use Rattle.run_status.specs.Ends.{OnStatusDamage}
 use Rattle.run_status.specs.declared.status.Status.{Status}
 use Rattle.run_status.specs.declared.status.Status.TheVariants as status
 
--- What there is to tell of the files went out, or a prefix of it where the sink failed; else nothing did, and where it ends as damaged the files store no
+-- What there is to tell of the files went out, or a prefix of it where the sink failed; else nothing did, and where it
+-- ends as damaged the files store no
 -- state. No line is refused, and no input is read.
 abbrev pub EndsCheck : (told : Type 0) → Files → (old new : List ℕ) → Status → Type 0
 EndsCheck told files old new status.Done = (text : List ℕ) × IsChecked files text × (told → new ≡ old ++ text)
-EndsCheck told files old new status.SinkFault = (text : List ℕ) × IsChecked files text × (told → WritesPart old new text)
+EndsCheck told files old new status.SinkFault = (text : List ℕ) × IsChecked files text
+    × (told → WritesPart old new text)
 EndsCheck told files old new (status.Damaged damage) = IsUndefined files × (told → new ≡ old)
 EndsCheck told files old new status.FolderFault = told → new ≡ old
 EndsCheck told files old new status.Memory = told → new ≡ old
@@ -32,7 +34,8 @@ IsVerdict _ = ⊥
 
 -- checking tells what the files hold, changes none of them, and reads each page of the Commit file and of those that it
 -- lists at most once; where it ends as damaged one of these files is named, and two numbers are a pair of them
-pub record Checks (told : Type 0) (old new : Files) (written written_now : List ℕ) (before now : ℕ) (s : Status) : Type 0 where
+pub record Checks (told : Type 0) (old new : Files) (written written_now : List ℕ) (before now : ℕ) (s : Status)
+    : Type 0 where
   pub ends : EndsCheck told old written written_now s
   pub files : new ≡ old
   pub reads : (pages : ℕ) → IsChecking old pages → now ≤ before + pages

@@ -1,5 +1,6 @@
 -- How the program ends, by what its words ask for.
-use Rattle.std.specs.Prelude.{ℕ, ◌+◌, ◌≡◌, ◌≤◌, ◌⊎◌, Bool, true, false, cond, List, [], ◌∷◌, ◌++◌, length, Option, None, Some, Result, Ok, Err}
+use Rattle.std.specs.Prelude.{ℕ, ◌+◌, ◌≡◌, ◌≤◌, ◌⊎◌, Bool, true, false, cond, List, [], ◌∷◌, ◌++◌, length, Option, None}
+use Rattle.std.specs.Prelude.{Some, Result, Ok, Err}
 use Rattle.outer_io.specs.Files.{Files}
 use Rattle.outer_io.specs.Parts.{WritesPart}
 use Rattle.script_lang.specs.Lines.{lines_of}
@@ -98,7 +99,8 @@ EndsWhole told b a files new status.TooLarge = Rests told b files new
 
 -- ---- explaining
 
--- a stage of explaining: the number of the next line, how many before it were refused, the lines that are left, and all that has gone out
+-- a stage of explaining: the number of the next line, how many before it were refused, the lines that are left, and all
+-- that has gone out
 pub record Stage : Type 0 where
   pub line : ℕ
   pub refused : ℕ
@@ -116,7 +118,8 @@ pub record Tellings (told : Type 0) (s : Scope) (from to : Stage) : Type 0 where
   pub text : told → to.written ≡ from.written ++ of_done.text
 
 -- of lines from a number on it was told what there is to tell, and so many are refused
-pub record TellsAll (told : Type 0) (s : Scope) (line : ℕ) (lines : List (List ℕ)) (old new : List ℕ) (refused : ℕ) : Type 0 where
+pub record TellsAll (told : Type 0) (s : Scope) (line : ℕ) (lines : List (List ℕ)) (old new : List ℕ) (refused : ℕ)
+    : Type 0 where
   pub of_lines : Told
   pub tells : TellsLines s line lines of_lines
   pub text : told → new ≡ old ++ of_lines.text
@@ -148,12 +151,15 @@ abbrev pub SendsLine : (told : Type 0) → Scope → (line : ℕ) → List ℕ �
 SendsLine told s line bytes old new (Ok is_refused) = TellsAll told s line (bytes ∷ []) old new (cond is_refused 1 0)
 SendsLine told s line bytes old new (Err stop.FolderFault) = told → new ≡ old
 SendsLine told s line bytes old new (Err stop.Memory) = told → new ≡ old
-SendsLine told s line bytes old new (Err stop.SinkFault) = (t : Told) × TellsLine s line bytes t × (told → WritesPart old new t.text)
+SendsLine told s line bytes old new (Err stop.SinkFault) = (t : Told) × TellsLine s line bytes t
+    × (told → WritesPart old new t.text)
 SendsLine told s line bytes old new (Err (stop.Damaged damage)) = ⊥
 
 -- lines are explained to their end, of which with those before so many are refused, or it stops
-abbrev pub EndsTold : (told : Type 0) → Scope → (line refused : ℕ) → List (List ℕ) → (old new : List ℕ) → Result ℕ Stop → Type 0
-EndsTold told s line refused lines old new (Ok count) = (n : ℕ) × (count ≡ refused + n) × TellsAll told s line lines old new n
+abbrev pub EndsTold : (told : Type 0) → Scope → (line refused : ℕ) → List (List ℕ) → (old new : List ℕ) → Result ℕ Stop
+    → Type 0
+EndsTold told s line refused lines old new (Ok count) = (n : ℕ) × (count ≡ refused + n)
+    × TellsAll told s line lines old new n
 EndsTold told s line refused lines old new (Err stop.FolderFault) = TellsSome told s line lines old new
 EndsTold told s line refused lines old new (Err stop.Memory) = TellsSome told s line lines old new
 EndsTold told s line refused lines old new (Err stop.SinkFault) = TellsPart told s line lines old new
@@ -171,26 +177,32 @@ EndsExplain told s lines old new status.Usage = told → new ≡ old
 EndsExplain told s lines old new status.SourceFault = told → new ≡ old
 EndsExplain told s lines old new status.TooLarge = told → new ≡ old
 
--- after the commit is read: the pages of its segments' heads, indexes and live bits, and a page for each leaf that the lines touch
+-- after the commit is read: the pages of its segments' heads, indexes and live bits, and a page for each leaf that the
+-- lines touch
 abbrev pub OpensFew : Files → CommitData → List (List ℕ) → (old new : ℕ) → Type 0
 OpensFew files c lines old new =
-    (s : Scope) → IsScope files s → (t : Told) → TellsLines s 1 lines t → new ≤ old + segments_pages files c.listed s.heads + t.touched
+    (s : Scope) → IsScope files s → (t : Told) → TellsLines s 1 lines t
+    → new ≤ old + segments_pages files c.listed s.heads + t.touched
 
 -- it reads at most the pages of opening, and a page for each leaf that the lines touch
 abbrev pub ReadsFew : Files → List (List ℕ) → (old new : ℕ) → Type 0
 ReadsFew files lines old new =
-    (pages : ℕ) → IsOpening files pages → (s : Scope) → IsScope files s → (t : Told) → TellsLines s 1 lines t → new ≤ old + pages + t.touched
+    (pages : ℕ) → IsOpening files pages → (s : Scope) → IsScope files s → (t : Told) → TellsLines s 1 lines t
+    → new ≤ old + pages + t.touched
 
 -- ---- the program
 
 -- Explaining, checking and counting leave what is stored. Of a script of ranges it is said over points that are ranges.
 abbrev pub EndsAsked : (told : Type 0) → Asked → Before → Files → List ℕ → Status → Type 0
-EndsAsked told (Run cache forks) b files new s = Ends (meaning language.Points) told (start b.state (lines_of b.input) b.written) files new s
+EndsAsked told (Run cache forks) b files new s =
+    Ends (meaning language.Points) told (start b.state (lines_of b.input) b.written) files new s
 EndsAsked told (Load columns forks) b files new s = EndsWhole told b (loaded b.state b.input columns) files new s
-EndsAsked told (Explain cache) b files new s = (scope : Scope) → IsScope b.files scope → EndsExplain told scope (lines_of b.input) b.written new s
+EndsAsked told (Explain cache) b files new s = (scope : Scope) → IsScope b.files scope
+    → EndsExplain told scope (lines_of b.input) b.written new s
 EndsAsked told Check b files new s = (files ≡ b.files) × EndsCheck told b.files b.written new s
 EndsAsked told (Generate docs seed forks) b files new s = EndsWhole told b (generated b.state docs seed) files new s
-EndsAsked told (Session cache forks) b files new s = EndsSession (meaning language.Points) told (start b.state (lines_of b.input) b.written) files new s
+EndsAsked told (Session cache forks) b files new s =
+    EndsSession (meaning language.Points) told (start b.state (lines_of b.input) b.written) files new s
 EndsAsked told (Count cache) b files new s =
     (scope : counts.Scope) → counts.IsScope b.files scope
     → telling.EndsTold told (counts.TellsCount scope) (lines_of b.input) b.written new s

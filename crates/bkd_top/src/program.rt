@@ -29,18 +29,25 @@ use std::thread::Threads;
 ///
 /// | Command | What it does |
 /// |---|---|
-/// | `run` | reads a script, does its lines one after the other on the index that the folder stores, and writes the answer to each before the next one is done; at the end it commits, if something changed |
+/// | `run` | reads a script, does its lines one after the other on the index that the folder stores, and writes the
+/// answer to each before the next one is done; at the end it commits, if something changed |
 /// | `load` | reads a CSV file, adds all its points, commits, and says how many |
-/// | `explain` | reads queries, and says of each how much of the stored segments it tests and touches, and how much it finds |
-/// | `check` | reads every page of the files that the commit lists, and says how large the index is that they hold, or ends with the first damage |
+/// | `explain` | reads queries, and says of each how much of the stored segments it tests and touches, and how much it
+/// finds |
+/// | `check` | reads every page of the files that the commit lists, and says how large the index is that they hold, or
+/// ends with the first damage |
 /// | `generate` | makes an index of drawn documents, commits, and says what drawn queries find in it |
-/// | `session` | does the lines of a script as `run` does, each as soon as it has come, before the input is asked for more |
+/// | `session` | does the lines of a script as `run` does, each as soon as it has come, before the input is asked for
+/// more |
 /// | `count` | reads lines, and says of each how many live points lie in a box, or in each bucket of a grid |
 /// | `ranges` | reads a script over documents that have ranges, and does its lines as `run` does those over points |
 ///
-/// **The headline.** On a folder that stores an index, or none, what `run` writes is, line for line, what a scan of the live documents
-/// answers to the script's adds, deletes and queries, whatever flushes, merges, snapshots and reopenings stand between, and the folder
-/// stores the documents then live. The status is Done, or SomeRefused with the number of the refused lines, whichever call failed. The
+/// **The headline.** On a folder that stores an index, or none, what `run` writes is, line for line, what a scan of the
+/// live documents
+/// answers to the script's adds, deletes and queries, whatever flushes, merges, snapshots and reopenings stand between,
+/// and the folder
+/// stores the documents then live. The status is Done, or SomeRefused with the number of the refused lines, whichever
+/// call failed. The
 /// other commands write and leave what their definitions say (`specs/Commands`).
 pub fn run<S: Source, F: Folder, K: Sink, R: Threads + Sync, G: Gate>(
     rt: &R,
@@ -53,19 +60,27 @@ pub fn run<S: Source, F: Folder, K: Sink, R: Threads + Sync, G: Gate>(
 ) -> Status
     ensures usage { TellsUsage (asked (map string_bytes words.now)) result }
     // the headline, and what each other end leaves of the text and the folder
-    ensures ends { IsTrue F.told → (state : State) → IsStored (F.files folder.old) state → (a : Asked) → asked (map string_bytes words.now) ≡ Some a → (reads_input a ≡ true → IsTrue S.told)
-        → EndsAsked (IsTrue K.told) a (record { state = state; files = F.files folder.old; input = S.left input.old; written = K.written out.old })
+    ensures ends { IsTrue F.told → (state : State) → IsStored (F.files folder.old) state → (a : Asked)
+        → asked (map string_bytes words.now) ≡ Some a → (reads_input a ≡ true → IsTrue S.told)
+        → EndsAsked (IsTrue K.told) a
+        (record { state = state; files = F.files folder.old; input = S.left input.old; written = K.written out.old })
         (F.files folder.new) (K.written out.new) result }
     // where no call failed, a command over a folder that stores a state is done, or memory was wanting
-    ensures complete { IsTrue F.told → (state : State) → IsStored (F.files folder.old) state → (a : Asked) → asked (map string_bytes words.now) ≡ Some a → (reads_input a ≡ true → IsTrue S.told)
+    ensures complete { IsTrue F.told → (state : State) → IsStored (F.files folder.old) state → (a : Asked)
+        → asked (map string_bytes words.now) ≡ Some a → (reads_input a ≡ true → IsTrue S.told)
         → (reads_whole a ≡ true → length (S.left input.old) ≤ 2 ^ 29)
         → NoneRose (record { source = S.faults input.old; folder = F.faults folder.old; sink = K.faults out.old })
-        (record { source = S.faults input.new; folder = F.faults folder.new; sink = K.faults out.new }) → IsAnswer result ⊎ (result ≡ Status.Memory) }
-    ensures input { IsTrue S.told → OnAsked (λ a. TakesInput a (S.left input.old) (S.left input.new) result) (asked (map string_bytes words.now)) }
+        (record { source = S.faults input.new; folder = F.faults folder.new; sink = K.faults out.new })
+        → IsAnswer result ⊎ (result ≡ Status.Memory) }
+    ensures input { IsTrue S.told
+        → OnAsked (λ a. TakesInput a (S.left input.old) (S.left input.new) result)
+        (asked (map string_bytes words.now)) }
     ensures unread { does (λ a. reads_input a) (asked (map string_bytes words.now)) ≡ false → input.new ≡ input.old }
-    ensures untouched { does (λ a. is_session a) (asked (map string_bytes words.now)) ≡ false → DoesNothing result → (folder.new ≡ folder.old) × (out.new ≡ out.old) }
+    ensures untouched { does (λ a. is_session a) (asked (map string_bytes words.now)) ≡ false → DoesNothing result
+        → (folder.new ≡ folder.old) × (out.new ≡ out.old) }
     // each segment that the commit lists anew is canonical
-    ensures canon { IsTrue F.told → (state : State) → IsStored (F.files folder.old) state → IsAnswer result → HasNewCanonical (F.files folder.old) (F.files folder.new) }
+    ensures canon { IsTrue F.told → (state : State) → IsStored (F.files folder.old) state → IsAnswer result
+        → HasNewCanonical (F.files folder.old) (F.files folder.new) }
     // what it leaves and costs, whatever the folder holds
     ensures leaves { IsTrue F.told → OnAsked (λ a. LeavesAsked a
         (record {
@@ -103,14 +118,17 @@ fn run_command<S: Source, F: Folder, K: Sink, R: Threads + Sync, G: Gate>(
 ) -> Status
     requires { IsWithin words }
     ensures never_usage { result ≡ Status.Usage → ⊥ }
-    ensures ends { IsTrue F.told → (state : State) → IsStored (F.files folder.old) state → (reads_input (said words) ≡ true → IsTrue S.told)
-        → EndsAsked (IsTrue K.told) (said words) (record { state = state; files = F.files folder.old; input = S.left input.old; written = K.written out.old })
+    ensures ends { IsTrue F.told → (state : State) → IsStored (F.files folder.old) state
+        → (reads_input (said words) ≡ true → IsTrue S.told)
+        → EndsAsked (IsTrue K.told) (said words)
+        (record { state = state; files = F.files folder.old; input = S.left input.old; written = K.written out.old })
         (F.files folder.new) (K.written out.new) result }
     ensures input { IsTrue S.told → TakesInput (said words) (S.left input.old) (S.left input.new) result }
     ensures unread { reads_input (said words) ≡ false → input.new ≡ input.old }
     ensures large { result ≡ Status.TooLarge → reads_whole (said words) ≡ true }
     ensures untouched { is_session (said words) ≡ false → DoesNothing result → (folder.new ≡ folder.old) × (out.new ≡ out.old) }
-    ensures canon { IsTrue F.told → (state : State) → IsStored (F.files folder.old) state → IsAnswer result → HasNewCanonical (F.files folder.old) (F.files folder.new) }
+    ensures canon { IsTrue F.told → (state : State) → IsStored (F.files folder.old) state → IsAnswer result
+        → HasNewCanonical (F.files folder.old) (F.files folder.new) }
     ensures leaves { IsTrue F.told → LeavesAsked (said words)
         (record {
           source = S.told;

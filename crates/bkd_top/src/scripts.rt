@@ -38,12 +38,15 @@ pub fn run_script<S: Source, F: Folder, K: Sink, R: Threads + Sync, G: Gate>(
 ) -> Status
     ensures never_usage { result ≡ Status.Usage → ⊥ }
     ensures ends { IsTrue S.told → IsTrue F.told → (state : State) → IsStored (F.files folder.old) state
-        → Ends (meaning Points) (IsTrue K.told) (start state (lines_of (S.left input.old)) (K.written out.old)) (F.files folder.new) (K.written out.new) result }
+        → Ends (meaning Points) (IsTrue K.told) (start state (lines_of (S.left input.old)) (K.written out.old))
+        (F.files folder.new) (K.written out.new) result }
     ensures input { IsTrue S.told → ReadsInput (S.left input.old) (S.left input.new) result }
     ensures untouched { DoesNothing result → (folder.new ≡ folder.old) × (out.new ≡ out.old) }
-    ensures canon { IsTrue F.told → (state : State) → IsStored (F.files folder.old) state → IsAnswer result → HasNewCanonical (F.files folder.old) (F.files folder.new) }
+    ensures canon { IsTrue F.told → (state : State) → IsStored (F.files folder.old) state → IsAnswer result
+        → HasNewCanonical (F.files folder.old) (F.files folder.new) }
     ensures costs { IsTrue S.told → IsTrue F.told
-        → RunCosts Points (lines_of (S.left input.old)) (F.files folder.old) (F.files folder.new) (F.reads folder.old) (F.reads folder.new) result }
+        → RunCosts Points (lines_of (S.left input.old)) (F.files folder.old) (F.files folder.new) (F.reads folder.old)
+        (F.reads folder.new) result }
     ensures damage { TellsDamage (IsTrue F.told) (F.files folder.old) (F.files folder.new) result }
     ensures causes { HasCauses (record { source = S.faults input.old; folder = F.faults folder.old; sink = K.faults out.old })
         (record { source = S.faults input.new; folder = F.faults folder.new; sink = K.faults out.new }) result }
@@ -58,8 +61,10 @@ pub fn run_script<S: Source, F: Folder, K: Sink, R: Threads + Sync, G: Gate>(
     run_whole(&work, input, folder, out)
 }
 
-/// The command `ranges`: does the lines of a script over documents that have ranges, as `run` does those over points. A range of `R`
-/// dimensions, 1 to 4, is kept as a point of `2 R` coordinates; on an index of an odd number of dimensions each line but a blank one is refused.
+/// The command `ranges`: does the lines of a script over documents that have ranges, as `run` does those over points. A
+/// range of `R`
+/// dimensions, 1 to 4, is kept as a point of `2 R` coordinates; on an index of an odd number of dimensions each line
+/// but a blank one is refused.
 pub fn run_ranges<S: Source, F: Folder, K: Sink, R: Threads + Sync, G: Gate>(
     rt: &R,
     alloc: Global,
@@ -71,13 +76,17 @@ pub fn run_ranges<S: Source, F: Folder, K: Sink, R: Threads + Sync, G: Gate>(
 ) -> Status
     ensures never_usage { result ≡ Status.Usage → ⊥ }
     // over points that are ranges it is the script that is said by the points of ranges
-    ensures ends { IsTrue S.told → IsTrue F.told → (state : State) → IsStored (F.files folder.old) state → AreRanges state
-        → EndsRanges (IsTrue K.told) (start state (lines_of (S.left input.old)) (K.written out.old)) (F.files folder.new) (K.written out.new) result }
+    ensures ends { IsTrue S.told → IsTrue F.told → (state : State) → IsStored (F.files folder.old) state
+        → AreRanges state
+        → EndsRanges (IsTrue K.told) (start state (lines_of (S.left input.old)) (K.written out.old))
+        (F.files folder.new) (K.written out.new) result }
     ensures input { IsTrue S.told → ReadsInput (S.left input.old) (S.left input.new) result }
     ensures untouched { DoesNothing result → (folder.new ≡ folder.old) × (out.new ≡ out.old) }
-    ensures canon { IsTrue F.told → (state : State) → IsStored (F.files folder.old) state → IsAnswer result → HasNewCanonical (F.files folder.old) (F.files folder.new) }
+    ensures canon { IsTrue F.told → (state : State) → IsStored (F.files folder.old) state → IsAnswer result
+        → HasNewCanonical (F.files folder.old) (F.files folder.new) }
     ensures costs { IsTrue S.told → IsTrue F.told
-        → RunCosts Ranges (lines_of (S.left input.old)) (F.files folder.old) (F.files folder.new) (F.reads folder.old) (F.reads folder.new) result }
+        → RunCosts Ranges (lines_of (S.left input.old)) (F.files folder.old) (F.files folder.new) (F.reads folder.old)
+        (F.reads folder.new) result }
     ensures damage { TellsDamage (IsTrue F.told) (F.files folder.old) (F.files folder.new) result }
     ensures causes { HasCauses (record { source = S.faults input.old; folder = F.faults folder.old; sink = K.faults out.old })
         (record { source = S.faults input.new; folder = F.faults folder.new; sink = K.faults out.new }) result }
@@ -92,7 +101,8 @@ pub fn run_ranges<S: Source, F: Folder, K: Sink, R: Threads + Sync, G: Gate>(
     run_whole(&work, input, folder, out)
 }
 
-/// The command `session`: does the lines of a script as `run` does, each as soon as it has come. The whole answer to a line is written before
+/// The command `session`: does the lines of a script as `run` does, each as soon as it has come. The whole answer to a
+/// line is written before
 /// the input is asked for more. There is no limit on the whole input; a line is held as far as 4,194,306 bytes.
 pub fn run_session<S: Source, F: Folder, K: Sink, R: Threads + Sync, G: Gate>(
     rt: &R,
@@ -105,11 +115,14 @@ pub fn run_session<S: Source, F: Folder, K: Sink, R: Threads + Sync, G: Gate>(
 ) -> Status
     ensures never { (result ≡ Status.Usage) ⊎ (result ≡ Status.TooLarge) → ⊥ }
     ensures ends { IsTrue S.told → IsTrue F.told → (state : State) → IsStored (F.files folder.old) state
-        → EndsSession (meaning Points) (IsTrue K.told) (start state (lines_of (S.left input.old)) (K.written out.old)) (F.files folder.new) (K.written out.new) result }
+        → EndsSession (meaning Points) (IsTrue K.told) (start state (lines_of (S.left input.old)) (K.written out.old))
+        (F.files folder.new) (K.written out.new) result }
     ensures lines { IsTrue S.told → IsAnswer result → S.left input.new ≡ [] }
-    ensures canon { IsTrue F.told → (state : State) → IsStored (F.files folder.old) state → IsAnswer result → HasNewCanonical (F.files folder.old) (F.files folder.new) }
+    ensures canon { IsTrue F.told → (state : State) → IsStored (F.files folder.old) state → IsAnswer result
+        → HasNewCanonical (F.files folder.old) (F.files folder.new) }
     ensures costs { IsTrue S.told → IsTrue F.told
-        → RunCosts Points (lines_of (S.left input.old)) (F.files folder.old) (F.files folder.new) (F.reads folder.old) (F.reads folder.new) result }
+        → RunCosts Points (lines_of (S.left input.old)) (F.files folder.old) (F.files folder.new) (F.reads folder.old)
+        (F.reads folder.new) result }
     ensures damage { TellsDamage (IsTrue F.told) (F.files folder.old) (F.files folder.new) result }
     ensures causes { HasCauses (record { source = S.faults input.old; folder = F.faults folder.old; sink = K.faults out.old })
         (record { source = S.faults input.new; folder = F.faults folder.new; sink = K.faults out.new }) result }
@@ -133,12 +146,16 @@ fn run_whole<S: Source, F: Folder, K: Sink, R: Threads + Sync, G: Gate>(
 ) -> Status
     ensures never_usage { result ≡ Status.Usage → ⊥ }
     ensures ends { IsTrue S.told → IsTrue F.told → (state : State) → IsStored (F.files folder.old) state
-        → Ends (meaning work.now.language) (IsTrue K.told) (start state (lines_of (S.left input.old)) (K.written out.old)) (F.files folder.new) (K.written out.new) result }
+        → Ends (meaning work.now.language) (IsTrue K.told)
+        (start state (lines_of (S.left input.old)) (K.written out.old)) (F.files folder.new)
+        (K.written out.new) result }
     ensures input { IsTrue S.told → ReadsInput (S.left input.old) (S.left input.new) result }
     ensures untouched { DoesNothing result → (folder.new ≡ folder.old) × (out.new ≡ out.old) }
-    ensures canon { IsTrue F.told → (state : State) → IsStored (F.files folder.old) state → IsAnswer result → HasNewCanonical (F.files folder.old) (F.files folder.new) }
+    ensures canon { IsTrue F.told → (state : State) → IsStored (F.files folder.old) state → IsAnswer result
+        → HasNewCanonical (F.files folder.old) (F.files folder.new) }
     ensures costs { IsTrue S.told → IsTrue F.told
-        → RunCosts work.now.language (lines_of (S.left input.old)) (F.files folder.old) (F.files folder.new) (F.reads folder.old) (F.reads folder.new) result }
+        → RunCosts work.now.language (lines_of (S.left input.old)) (F.files folder.old) (F.files folder.new)
+        (F.reads folder.old) (F.reads folder.new) result }
     ensures damage { TellsDamage (IsTrue F.told) (F.files folder.old) (F.files folder.new) result }
     ensures causes { HasCauses (record { source = S.faults input.old; folder = F.faults folder.old; sink = K.faults out.old })
         (record { source = S.faults input.new; folder = F.faults folder.new; sink = K.faults out.new }) result }
@@ -161,9 +178,13 @@ fn run_text<F: Folder, K: Sink, R: Threads + Sync, G: Gate>(
     requires { length script.now ≤ 2 ^ 32 }
     ensures lines { DoesNothing result → ⊥ }
     ensures ends { IsTrue F.told → (state : State) → IsStored (F.files folder.old) state
-        → Ends (meaning work.now.language) (IsTrue K.told) (start state (lines_of script.now) (K.written out.old)) (F.files folder.new) (K.written out.new) result }
-    ensures canon { IsTrue F.told → (state : State) → IsStored (F.files folder.old) state → IsAnswer result → HasNewCanonical (F.files folder.old) (F.files folder.new) }
-    ensures costs { IsTrue F.told → RunCosts work.now.language (lines_of script.now) (F.files folder.old) (F.files folder.new) (F.reads folder.old) (F.reads folder.new) result }
+        → Ends (meaning work.now.language) (IsTrue K.told) (start state (lines_of script.now) (K.written out.old))
+        (F.files folder.new) (K.written out.new) result }
+    ensures canon { IsTrue F.told → (state : State) → IsStored (F.files folder.old) state → IsAnswer result
+        → HasNewCanonical (F.files folder.old) (F.files folder.new) }
+    ensures costs { IsTrue F.told
+        → RunCosts work.now.language (lines_of script.now) (F.files folder.old) (F.files folder.new)
+        (F.reads folder.old) (F.reads folder.new) result }
     ensures damage { TellsDamage (IsTrue F.told) (F.files folder.old) (F.files folder.new) result }
     ensures folder_fault { result ≡ Status.FolderFault → Rose (F.faults folder.old) (F.faults folder.new) }
     ensures sink_fault { result ≡ Status.SinkFault → Rose (K.faults out.old) (K.faults out.new) }
@@ -181,11 +202,15 @@ fn run_source<S: Source, F: Folder, K: Sink, R: Threads + Sync, G: Gate>(
 ) -> Status
     ensures never { (result ≡ Status.Usage) ⊎ (result ≡ Status.TooLarge) → ⊥ }
     ensures ends { IsTrue S.told → IsTrue F.told → (state : State) → IsStored (F.files folder.old) state
-        → EndsSession (meaning work.now.language) (IsTrue K.told) (start state (lines_of (S.left input.old)) (K.written out.old)) (F.files folder.new) (K.written out.new) result }
+        → EndsSession (meaning work.now.language) (IsTrue K.told)
+        (start state (lines_of (S.left input.old)) (K.written out.old)) (F.files folder.new)
+        (K.written out.new) result }
     ensures lines { IsTrue S.told → IsAnswer result → S.left input.new ≡ [] }
-    ensures canon { IsTrue F.told → (state : State) → IsStored (F.files folder.old) state → IsAnswer result → HasNewCanonical (F.files folder.old) (F.files folder.new) }
+    ensures canon { IsTrue F.told → (state : State) → IsStored (F.files folder.old) state → IsAnswer result
+        → HasNewCanonical (F.files folder.old) (F.files folder.new) }
     ensures costs { IsTrue S.told → IsTrue F.told
-        → RunCosts work.now.language (lines_of (S.left input.old)) (F.files folder.old) (F.files folder.new) (F.reads folder.old) (F.reads folder.new) result }
+        → RunCosts work.now.language (lines_of (S.left input.old)) (F.files folder.old) (F.files folder.new)
+        (F.reads folder.old) (F.reads folder.new) result }
     ensures damage { TellsDamage (IsTrue F.told) (F.files folder.old) (F.files folder.new) result }
     ensures causes { HasCauses (record { source = S.faults input.old; folder = F.faults folder.old; sink = K.faults out.old })
         (record { source = S.faults input.new; folder = F.faults folder.new; sink = K.faults out.new }) result }

@@ -1,5 +1,6 @@
 -- What a line adds: points of as many coordinates as there are dimensions, each a whole number of 32 bits.
-use Rattle.std.proofs.Common.{◌≡◌, ℕ, zero, suc, ◌+◌, ◌*◌, ◌/◌, ◌%◌, ◌==◌, ◌≤◌, ◌^◌, ◌-◌, ◌&&◌, Bool, true, false, cond, List, [], ◌∷◌, length, map, take, drop, Option, Some, None, Result, Ok, Err, arith, refl, sym, ap, ◌∙◌, subst, ℤ, pos}
+use Rattle.std.proofs.Common.{◌≡◌, ℕ, zero, suc, ◌+◌, ◌*◌, ◌/◌, ◌%◌, ◌==◌, ◌≤◌, ◌^◌, ◌-◌, ◌&&◌, Bool, true, false, cond, List, [], ◌∷◌, length, map, take, drop}
+use Rattle.std.proofs.Common.{Option, Some, None, Result, Ok, Err, arith, refl, sym, ap, ◌∙◌, subst, ℤ, pos}
 use Rattle.std.proofs.Common.{length-take-le, length-drop}
 use Rattle.std.specs.Prelude.{All, FitsSigned, nat_lt, nat_le, is_some, option_map, neg_ℤ, ok_or}
 use Rattle.std.specs.List.{Contains, list_any}
@@ -41,7 +42,8 @@ number_fits limit bs n e = by ((nat_lt 0 (length bs) && all_ascii_digits bs) && 
     by : (b : Bool) → ((nat_lt 0 (length bs) && all_ascii_digits bs) && nat_le (digits_value 10 bs) limit) ≡ b
         → cond b (Some (digits_value 10 bs)) None ≡ Some n → n ≤ limit
     by true t same =
-        let least : nat_le (digits_value 10 bs) limit ≡ true = (both_true (nat_lt 0 (length bs) && all_ascii_digits bs) (nat_le (digits_value 10 bs) limit) t).1 in
+        let least : nat_le (digits_value 10 bs) limit ≡ true =
+        (both_true (nat_lt 0 (length bs) && all_ascii_digits bs) (nat_le (digits_value 10 bs) limit) t).1 in
         let few : digits_value 10 bs ≤ limit = grind (arith, nat_tests) in
         let is = some_inj (digits_value 10 bs) n same in
         omega (arith, few, is)

@@ -1,5 +1,6 @@
 -- What a line asks is within the limits, what it names are ranges, and no line fails for want of memory.
-use Rattle.std.proofs.Common.{◌≡◌, ℕ, ◌+◌, ◌*◌, ◌/◌, ◌%◌, ◌==◌, ◌≤◌, ◌&&◌, Bool, true, false, cond, List, [], ◌∷◌, Option, Some, None, Result, Ok, Err, arith, refl, sym, subst, ℤ}
+use Rattle.std.proofs.Common.{◌≡◌, ℕ, ◌+◌, ◌*◌, ◌/◌, ◌%◌, ◌==◌, ◌≤◌, ◌&&◌, Bool, true, false, cond, List, [], ◌∷◌, Option, Some, None, Result, Ok, Err, arith}
+use Rattle.std.proofs.Common.{refl, sym, subst, ℤ}
 use Rattle.std.specs.Prelude.{◌≢◌, not, ok_or, IfOk, All, FitsSigned}
 use Rattle.std.proofs.Common.{length, ◌∙◌}
 use Rattle.std.specs.List.{list_all, Contains as HasElement}
@@ -216,7 +217,9 @@ add_sound r dims words two =
     by (length words % dims == 0) (is_from_to 1 16 (length words / dims)) refl
   where
     by : (whole few : Bool) → (length words % dims == 0) ≡ whole
-        → IsSound r (if_ranges r (cond (whole && few) (given (points_of (length words / dims) dims (values_of coordinate 2 words)) (λ points. Says (asks.Add (ordered points)))) (Fails line.Words)))
+        → IsSound r (if_ranges r
+        (cond (whole && few) (given (points_of (length words / dims) dims (values_of coordinate 2 words)) (λ points. Says (asks.Add (ordered points))))
+        (Fails line.Words)))
     by true true e = added_sound r (length words / dims) dims (values_of coordinate 2 words) two (λ xs is.
         let values = are_values 2 words xs is in
         let none : length words % dims ≡ 0 = grind (arith, nat_tests) in

@@ -42,7 +42,8 @@ abbrev pub stored_by_line : Language → Line → State
 stored_by_line lang l = stored_by (meaning lang) l.number l.stored (Some l.index) l.bytes
 
 -- the session came to the state of the answer, with this stored, and it is said whether the line is refused
-pub record IsAnswered (D : ℕ) (a : Answer) (stored : State) (files : Files) (s : SessionData) (is_refused : Bool) : Type 0 where
+pub record IsAnswered (D : ℕ) (a : Answer) (stored : State) (files : Files) (s : SessionData) (is_refused : Bool)
+    : Type 0 where
   pub index : Index
   pub state : a.state ≡ Some index
   pub stands : Stands D files s index stored
@@ -53,16 +54,23 @@ abbrev pub IsLeft : Language → Line → Files → Type 0
 IsLeft lang l files = IsStored files l.stored ⊎ InFlight (meaning lang) files l.number (Some l.index) (l.bytes ∷ [])
 
 -- the line is answered by an appended text, or left for a fault of the folder or want of memory
-abbrev pub Replies : Language → (D : ℕ) → Line → Files → SessionData → (before after : List ℕ) → Result Bool PageFault → Type 0
-Replies lang D l files s before after (Ok is_refused) = IsAnswered D (answer_to_line lang l) (stored_by_line lang l) files s is_refused × (after ≡ before ++ (answer_to_line lang l).text)
+abbrev pub Replies : Language → (D : ℕ) → Line → Files → SessionData → (before after : List ℕ) → Result Bool PageFault
+    → Type 0
+Replies lang D l files s before after (Ok is_refused) =
+    IsAnswered D (answer_to_line lang l) (stored_by_line lang l) files s is_refused
+    × (after ≡ before ++ (answer_to_line lang l).text)
 Replies lang D l files s before after (Err page.Failed) = IsLeft lang l files
 Replies lang D l files s before after (Err page.Memory) = IsLeft lang l files
 Replies lang D l files s before after (Err (page.Damaged damage)) = ⊥
 
 -- the same with the answer sent: where the sink failed a prefix of it went out
-abbrev pub Answers : Language → (told : Type 0) (D : ℕ) → Line → Files → SessionData → (before after : List ℕ) → Result Bool Stop → Type 0
-Answers lang told D l files s before after (Ok is_refused) = IsAnswered D (answer_to_line lang l) (stored_by_line lang l) files s is_refused × (told → after ≡ before ++ (answer_to_line lang l).text)
-Answers lang told D l files s before after (Err stop.SinkFault) = IsStored files (stored_by_line lang l) × (told → WritesPart before after (answer_to_line lang l).text)
+abbrev pub Answers : Language → (told : Type 0) (D : ℕ) → Line → Files → SessionData → (before after : List ℕ)
+    → Result Bool Stop → Type 0
+Answers lang told D l files s before after (Ok is_refused) =
+    IsAnswered D (answer_to_line lang l) (stored_by_line lang l) files s is_refused
+    × (told → after ≡ before ++ (answer_to_line lang l).text)
+Answers lang told D l files s before after (Err stop.SinkFault) = IsStored files (stored_by_line lang l)
+    × (told → WritesPart before after (answer_to_line lang l).text)
 Answers lang told D l files s before after (Err stop.FolderFault) = IsLeft lang l files × (told → after ≡ before)
 Answers lang told D l files s before after (Err stop.Memory) = IsLeft lang l files × (told → after ≡ before)
 Answers lang told D l files s before after (Err (stop.Damaged damage)) = ⊥

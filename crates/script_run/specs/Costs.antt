@@ -1,5 +1,6 @@
 -- What lines ask for, how many leaves they touch, and how much they read.
-use Rattle.std.specs.Prelude.{ℕ, ◌+◌, ◌≡◌, ◌≤◌, ◌<◌, ◌⊎◌, Bool, true, false, List, [], ◌∷◌, count_by, Option, None, Some, Ok, Err}
+use Rattle.std.specs.Prelude.{ℕ, ◌+◌, ◌≡◌, ◌≤◌, ◌<◌, ◌⊎◌, Bool, true, false, List, [], ◌∷◌, count_by, Option, None}
+use Rattle.std.specs.Prelude.{Some, Ok, Err}
 use Rattle.std.specs.Option.{option_map}
 use Rattle.outer_io.specs.Files.{Files}
 use Rattle.point_codec.specs.Points.{in_box}
@@ -52,12 +53,15 @@ NoneCommits lang dims (l ∷ ls) = (asks_commit (heard lang (Some dims) l) ≡ f
 -- the line is refused, or what it asks for passes the test
 abbrev pub AsksOnly : Language → (Request → Bool) → (line : ℕ) → State → List ℕ → Type 0
 AsksOnly lang test line state bytes =
-    ((answer lang line state bytes).refused ≡ 1) ⊎ ((request : Request) × (heard lang (option_map (λ i. i.dims) state) bytes ≡ Ok request) × (test request ≡ true))
+    ((answer lang line state bytes).refused ≡ 1)
+    ⊎ ((request : Request) × (heard lang (option_map (λ i. i.dims) state) bytes ≡ Ok request)
+    × (test request ≡ true))
 
 -- each line of these does, the first of which has this number
 abbrev pub AllAsk : Language → (Request → Bool) → (line : ℕ) → State → List (List ℕ) → Type 0
 AllAsk lang test line state [] = Unit {0}
-AllAsk lang test line state (l ∷ ls) = AsksOnly lang test line state l × AllAsk lang test (line + 1) (answer lang line state l).state ls
+AllAsk lang test line state (l ∷ ls) = AsksOnly lang test line state l
+    × AllAsk lang test (line + 1) (answer lang line state l).state ls
 
 -- ---- how many leaves they touch
 
@@ -69,9 +73,13 @@ TouchesView (Some docs) touches n = touches docs n
 -- over segments with these heads: the leaves whose own cell is not outside, or is as near as the last answer
 abbrev pub TouchesOn : Index → List Head → Request → ℕ → Type 0
 TouchesOn i heads (asks.InBox view lo hi) n =
-    TouchesView (viewed_docs view i) (λ docs m. AreTouched i.dims (in_box (record { lo = lo; hi = hi })) (boxes.crosses (record { lo = lo; hi = hi })) heads m) n
+    TouchesView (viewed_docs view i)
+    (λ docs m. AreTouched i.dims (in_box (record { lo = lo; hi = hi }))
+    (boxes.crosses (record { lo = lo; hi = hi })) heads m) n
 TouchesOn i heads (asks.InPolygon view rings) n =
-    TouchesView (viewed_docs view i) (λ docs m. AreTouched i.dims (in_plane_polygon i.dims rings) (polygons.crosses i.dims (all_edges rings)) heads m) n
+    TouchesView (viewed_docs view i)
+    (λ docs m. AreTouched i.dims (in_plane_polygon i.dims rings)
+    (polygons.crosses i.dims (all_edges rings)) heads m) n
 TouchesOn i heads (asks.Nearest view k at) n =
     TouchesView (viewed_docs view i) (λ docs m. AreNearLeaves i.dims at (reach k (nearest k at docs)) heads m) n
 TouchesOn i heads _ n = n ≡ 0
@@ -88,7 +96,8 @@ TouchesLine lang heads state bytes n = TouchesHeard state heads (heard lang (opt
 abbrev pub TouchesLines : Language → List Head → (line : ℕ) → State → List (List ℕ) → ℕ → Type 0
 TouchesLines lang heads line state [] n = n ≡ 0
 TouchesLines lang heads line state (l ∷ ls) n =
-    (first : ℕ) × (rest : ℕ) × TouchesLine lang heads state l first × TouchesLines lang heads (line + 1) (answer lang line state l).state ls rest × (n ≡ first + rest)
+    (first : ℕ) × (rest : ℕ) × TouchesLine lang heads state l first
+    × TouchesLines lang heads (line + 1) (answer lang line state l).state ls rest × (n ≡ first + rest)
 
 -- ---- what they read
 
@@ -101,14 +110,18 @@ given_of (Some i) = i.given
 abbrev pub HasRoomInLevels : List Head → Type 0
 HasRoomInLevels heads = (level : ℕ) → count_by (λ h. is_of_level level h.entries) heads < 10
 
--- Lines need no segment to be merged, over segments with these heads: they are light, the points that they add have room in the buffer, and no level of the segments is full.
-pub record AreLight (lang : Language) (heads : List Head) (line : ℕ) (state : State) (lines : List (List ℕ)) : Type 0 where
+-- Lines need no segment to be merged, over segments with these heads: they are light, the points that they add have
+-- room in the buffer, and no level of the segments is full.
+pub record AreLight (lang : Language) (heads : List Head) (line : ℕ) (state : State) (lines : List (List ℕ))
+    : Type 0 where
   pub asks : AllAsk lang is_light line state lines
   pub points : given_of (state_after (meaning lang) line state lines) ≤ given_of state + 16384
   pub room : HasRoomInLevels heads
 
--- a run of queries, or of light lines, reads at most the pages of opening, and a page for each leaf that its queries touch
+-- a run of queries, or of light lines, reads at most the pages of opening, and a page for each leaf that its queries
+-- touch
 abbrev pub RunReadsFew : Language → Files → List (List ℕ) → (before now : ℕ) → Type 0
 RunReadsFew lang files lines before now =
-    (s : Scope) → IsScope files s → (pages : ℕ) → IsOpening files pages → AllAsk lang is_query 1 s.state lines ⊎ AreLight lang s.heads 1 s.state lines
+    (s : Scope) → IsScope files s → (pages : ℕ) → IsOpening files pages → AllAsk lang is_query 1 s.state lines
+    ⊎ AreLight lang s.heads 1 s.state lines
     → (touched : ℕ) → TouchesLines lang s.heads 1 s.state lines touched → now ≤ before + pages + touched

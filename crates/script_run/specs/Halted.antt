@@ -35,7 +35,8 @@ OfSource told left P = (lines : List (List ℕ)) × (told → lines ≡ lines_of
 -- the counts of faults of the folder and of the sink never fall, and the one whose fault it is rose
 abbrev pub HasHaltCause : {T : Type 0} → (folder_before folder_now sink_before sink_now : ℕ) → Result T Halt → Type 0
 HasHaltCause folder_before folder_now sink_before sink_now result =
-    OnLines (HasStopCause folder_before folder_now sink_before sink_now) ((folder_before ≤ folder_now) × (sink_before ≤ sink_now)) result
+    OnLines (HasStopCause folder_before folder_now sink_before sink_now)
+    ((folder_before ≤ folder_now) × (sink_before ≤ sink_now)) result
 
 -- P holds of the damage, where lines end for one
 abbrev pub OnHaltDamage : {T : Type 0} → Result T Halt → (Damage → Type 0) → Type 0

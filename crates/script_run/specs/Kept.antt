@@ -19,7 +19,8 @@ use Rattle.script_run.specs.Halted.{OnLines}
 use Rattle.script_run.specs.declared.language.Language.{Language}
 use Rattle.script_run.specs.Costs.{AllAsk, NoneCommits, RunReadsFew, begins_no_merge, is_query}
 
--- After a damage or a fault of the source all that is kept is the same; after a fault of the folder or for want of memory it is too, or the commit in flight has taken its place.
+-- After a damage or a fault of the source all that is kept is the same; after a fault of the folder or for want of
+-- memory it is too, or the commit in flight has taken its place.
 abbrev pub StatusKeeps : Files → Files → Status → Type 0
 StatusKeeps old new status.FolderFault = SameKept old new ⊎ HasCommit new
 StatusKeeps old new status.Memory = SameKept old new ⊎ HasCommit new
@@ -39,10 +40,15 @@ StopKeeps old new (Err (stop.Damaged damage)) = SameKept old new
 abbrev pub HaltKeeps : {T : Type 0} → Files → Files → Result T Halt → Type 0
 HaltKeeps old new result = OnLines (StopKeeps old new) (SameKept old new) result
 
--- a script that begins no merge leaves few segments of each level; one of queries changes no file; it, or one that needs no segment to be merged, reads little.
--- One that asks for no commit before its end loses nothing that is kept where it isn't done, whatever the folder of the commit holds
-pub record RunCosts (lang : Language) (lines : List (List ℕ)) (old new : Files) (before now : ℕ) (s : Status) : Type 0 where
-  pub levels : (state : State) → IsStored old state → AllAsk lang begins_no_merge 1 state lines → IsAnswer s → KeepsLevels old new
+-- a script that begins no merge leaves few segments of each level; one of queries changes no file; it, or one that
+-- needs no segment to be merged, reads little.
+-- One that asks for no commit before its end loses nothing that is kept where it isn't done, whatever the folder of the
+-- commit holds
+pub record RunCosts (lang : Language) (lines : List (List ℕ)) (old new : Files) (before now : ℕ) (s : Status)
+    : Type 0 where
+  pub levels : (state : State) → IsStored old state → AllAsk lang begins_no_merge 1 state lines → IsAnswer s
+      → KeepsLevels old new
   pub still : (state : State) → IsStored old state → AllAsk lang is_query 1 state lines → new ≡ old
   pub reads : RunReadsFew lang old lines before now
-  pub undone : (c : CommitData) → IsCommitFile (bytes_of (old Commit)) c → NoneCommits lang c.dims lines → StatusKeeps old new s
+  pub undone : (c : CommitData) → IsCommitFile (bytes_of (old Commit)) c → NoneCommits lang c.dims lines
+      → StatusKeeps old new s

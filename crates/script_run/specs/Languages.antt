@@ -37,7 +37,8 @@ answer_of line state (Err fault) = record { state = state; text = range_fault_te
 unfoldable pub answer : Language → ℕ → State → List ℕ → Answer
 answer lang line state bytes = answer_of line state (heard lang (option_map (λ i. i.dims) state) bytes)
 
--- a request commits: it is that of `commit`, or of `reopen`, which commits too; where an index is there neither is ever refused
+-- a request commits: it is that of `commit`, or of `reopen`, which commits too; where an index is there neither is ever
+-- refused
 abbrev pub asks_commit : Heard → Bool
 asks_commit (Ok asks.Commit) = true
 asks_commit (Ok asks.Reopen) = true

@@ -22,7 +22,8 @@ IsMade (origin.Stored commit) = Unit {0}
 -- a new index over files that have none, or the one that the files store, whose commit this is
 abbrev pub IsFrom : Files → Origin → Index → State → Type 0
 IsFrom files (origin.New dims leaf) i stored = (files Commit ≡ None) × (i ≡ new_index dims leaf) × (stored ≡ None)
-IsFrom files (origin.Stored commit) i stored = IsCommitFile (bytes_of (files Commit)) commit × IsStored files (Some i) × (stored ≡ Some i)
+IsFrom files (origin.Stored commit) i stored = IsCommitFile (bytes_of (files Commit)) commit × IsStored files (Some i)
+    × (stored ≡ Some i)
 
 -- no index is there, or the folder's commit is this
 abbrev pub IsThere : Files → Origin → Type 0

@@ -1,4 +1,5 @@
--- What a script of ranges answers and leaves, said by the points of ranges: a document is found where one of its ranges is an answer.
+-- What a script of ranges answers and leaves, said by the points of ranges: a document is found where one of its ranges
+-- is an answer.
 use Rattle.std.specs.Prelude.{ℕ, ◌≡◌, ◌/◌, ◌%◌, Bool, List, [], All, Some, None, Ok, Err}
 use Rattle.std.specs.Option.{option_map}
 use Rattle.outer_io.specs.Files.{Files}
@@ -50,7 +51,8 @@ HaveRanges r docs = All (λ d. All (AreEnds r) d.points) docs
 -- each point that is live, or kept by a snapshot, is a range, where the number of dimensions isn't odd
 abbrev pub AreRanges : State → Type 0
 AreRanges None = Unit {0}
-AreRanges (Some i) = i.dims % 2 ≡ 0 → HaveRanges (i.dims / 2) i.docs × All (λ s. HaveRanges (i.dims / 2) s.docs) i.snapshots
+AreRanges (Some i) = i.dims % 2 ≡ 0 → HaveRanges (i.dims / 2) i.docs
+    × All (λ s. HaveRanges (i.dims / 2) s.docs) i.snapshots
 
 -- A run over ranges ends as a script whose test decides what is an answer, and what the folder stores are ranges again.
 pub record EndsRanges (told : Type 0) (p : Place) (files : Files) (new : List ℕ) (s : Status) : Type 0 where

@@ -22,7 +22,8 @@ text_of m line state (l ∷ ls) = (m.answer line state l).text ++ text_of m (lin
 -- how many of the lines are refused
 abbrev pub refused_in : Meaning → ℕ → State → List (List ℕ) → ℕ
 refused_in m line state [] = 0
-refused_in m line state (l ∷ ls) = (m.answer line state l).refused + refused_in m (line + 1) (m.answer line state l).state ls
+refused_in m line state (l ∷ ls) =
+    (m.answer line state l).refused + refused_in m (line + 1) (m.answer line state l).state ls
 
 -- what a session leaves
 abbrev pub final : State → State
@@ -35,4 +36,5 @@ stored_by m line stored state l = if m.commits state l then final (m.answer line
 -- what is stored after lines
 abbrev pub stored_after : Meaning → (line : ℕ) (stored state : State) → List (List ℕ) → State
 stored_after m line stored state [] = stored
-stored_after m line stored state (l ∷ ls) = stored_after m (line + 1) (stored_by m line stored state l) (m.answer line state l).state ls
+stored_after m line stored state (l ∷ ls) =
+    stored_after m (line + 1) (stored_by m line stored state l) (m.answer line state l).state ls

@@ -1,6 +1,7 @@
 //! The answer to one line.
 
-ghost use Rattle.std.specs.Prelude.{◌≡◌, ◌≢◌, ◌≤◌, ◌++◌, ◌⊎◌, ℕ, List, Some, None, Ok, false, true, IfOk, IsErrOf, OnErr, IsTrue};
+ghost use Rattle.std.specs.Prelude.{◌≡◌, ◌≢◌, ◌≤◌, ◌++◌, ◌⊎◌, ℕ, List, Some, None, Ok, false, true, IfOk, IsErrOf};
+ghost use Rattle.std.specs.Prelude.{OnErr, IsTrue};
 ghost use Rattle.outer_io.specs.Faults.{Rose};
 ghost use Rattle.page_cache.specs.Causes.{HasPageCause};
 ghost use Rattle.page_cache.specs.Evidence.{OnDamage};
@@ -41,7 +42,8 @@ pub enum Opening {
     Made { dims: u8, leaf: u16 },
 }
 
-/// Answers a line where an index is there, and sends the answer. True where the line is refused. Of a line that is too long a part that is
+/// Answers a line where an index is there, and sends the answer. True where the line is refused. Of a line that is too
+/// long a part that is
 /// too long too may stand for it: the answer is that of each line that reads as this one.
 pub fn answer_line<const D: usize, R: Threads + Sync, F: Folder, K: Sink, G: Gate>(
     work: &Work<'_, R, G>,
@@ -56,16 +58,21 @@ pub fn answer_line<const D: usize, R: Threads + Sync, F: Folder, K: Sink, G: Gat
     requires few { D ≤ 8 }
     ensures answers { IsTrue F.told → (i : Index) → (stored : State) → Stands D (F.files folder.old) session.old i stored
         → (bytes : List ℕ) → heard work.now.language (Some D) bytes ≡ heard work.now.language (Some D) line.now
-        → Answers work.now.language (IsTrue K.told) D (record { number = number; index = i; stored = stored; bytes = bytes }) (F.files folder.new) session.new
+        → Answers work.now.language (IsTrue K.told) D
+        (record { number = number; index = i; stored = stored; bytes = bytes }) (F.files folder.new) session.new
         (K.written out.old) (K.written out.new) result }
     ensures passes { IsTrue F.told → (i : Index) → (stored : State) → Stands D (F.files folder.old) session.old i stored
         → (bytes : List ℕ) → heard work.now.language (Some D) bytes ≡ heard work.now.language (Some D) line.now
-        → Passes work.now.language D number i bytes (record { files = F.files folder.old; session = session.old; reads = F.reads folder.old })
+        → Passes work.now.language D number i bytes
+        (record { files = F.files folder.old; session = session.old; reads = F.reads folder.old })
         (record { files = F.files folder.new; session = session.new; reads = F.reads folder.new }) result }
     ensures cause { HasStopCause (F.faults folder.old) (F.faults folder.new) (K.faults out.old) (K.faults out.new) result }
     ensures trusts { IsTrue F.told → Trusts D (F.files folder.old) session.old → Trusts D (F.files folder.new) session.new }
-    ensures kept { IsTrue F.told → Trusts D (F.files folder.old) session.old → asks_commit (heard work.now.language (Some D) line.now) ≡ false → SameKept (F.files folder.old) (F.files folder.new) }
-    ensures evident { OnStopDamage result (IsEvident (IsTrue F.told × Trusts D (F.files folder.old) session.old) (F.files folder.new)) }
+    ensures kept { IsTrue F.told → Trusts D (F.files folder.old) session.old
+        → asks_commit (heard work.now.language (Some D) line.now) ≡ false
+        → SameKept (F.files folder.old) (F.files folder.new) }
+    ensures evident { OnStopDamage result
+        (IsEvident (IsTrue F.told × Trusts D (F.files folder.old) session.old) (F.files folder.new)) }
 {
     reply.clear();
     match reply_to(work, session, folder, number, line, reply) {
@@ -87,14 +94,18 @@ fn reply_to<const D: usize, R: Threads + Sync, F: Folder, G: Gate>(
     requires few { D ≤ 8 }
     ensures replies { IsTrue F.told → (i : Index) → (stored : State) → Stands D (F.files folder.old) session.old i stored
         → (bytes : List ℕ) → heard work.now.language (Some D) bytes ≡ heard work.now.language (Some D) line.now
-        → Replies work.now.language D (record { number = number; index = i; stored = stored; bytes = bytes }) (F.files folder.new) session.new reply.old.items reply.new.items result }
+        → Replies work.now.language D (record { number = number; index = i; stored = stored; bytes = bytes })
+        (F.files folder.new) session.new reply.old.items reply.new.items result }
     ensures passes { IsTrue F.told → (i : Index) → (stored : State) → Stands D (F.files folder.old) session.old i stored
         → (bytes : List ℕ) → heard work.now.language (Some D) bytes ≡ heard work.now.language (Some D) line.now
-        → Passes work.now.language D number i bytes (record { files = F.files folder.old; session = session.old; reads = F.reads folder.old })
+        → Passes work.now.language D number i bytes
+        (record { files = F.files folder.old; session = session.old; reads = F.reads folder.old })
         (record { files = F.files folder.new; session = session.new; reads = F.reads folder.new }) result }
     ensures cause { HasPageCause (F.faults folder.old) (F.faults folder.new) result }
     ensures trusts { IsTrue F.told → Trusts D (F.files folder.old) session.old → Trusts D (F.files folder.new) session.new }
-    ensures kept { IsTrue F.told → Trusts D (F.files folder.old) session.old → asks_commit (heard work.now.language (Some D) line.now) ≡ false → SameKept (F.files folder.old) (F.files folder.new) }
+    ensures kept { IsTrue F.told → Trusts D (F.files folder.old) session.old
+        → asks_commit (heard work.now.language (Some D) line.now) ≡ false
+        → SameKept (F.files folder.old) (F.files folder.new) }
     ensures evident { OnDamage result (IsEvident (IsTrue F.told × Trusts D (F.files folder.old) session.old) (F.files folder.new)) }
 {
     match work.language.read_line::<D>(work.alloc, line) {
@@ -116,14 +127,17 @@ fn obey<const D: usize, R: Threads + Sync, F: Folder, G: Gate>(
     requires { IsWithinLimits (request_of command.now) }
     ensures replies { IsTrue F.told → (i : Index) → (stored : State) → Stands D (F.files folder.old) session.old i stored
         → (bytes : List ℕ) → heard work.now.language (Some D) bytes ≡ Ok (request_of command.now)
-        → Replies work.now.language D (record { number = number; index = i; stored = stored; bytes = bytes }) (F.files folder.new) session.new reply.old.items reply.new.items result }
+        → Replies work.now.language D (record { number = number; index = i; stored = stored; bytes = bytes })
+        (F.files folder.new) session.new reply.old.items reply.new.items result }
     ensures passes { IsTrue F.told → (i : Index) → (stored : State) → Stands D (F.files folder.old) session.old i stored
         → (bytes : List ℕ) → heard work.now.language (Some D) bytes ≡ Ok (request_of command.now)
-        → Passes work.now.language D number i bytes (record { files = F.files folder.old; session = session.old; reads = F.reads folder.old })
+        → Passes work.now.language D number i bytes
+        (record { files = F.files folder.old; session = session.old; reads = F.reads folder.old })
         (record { files = F.files folder.new; session = session.new; reads = F.reads folder.new }) result }
     ensures cause { HasPageCause (F.faults folder.old) (F.faults folder.new) result }
     ensures trusts { IsTrue F.told → Trusts D (F.files folder.old) session.old → Trusts D (F.files folder.new) session.new }
-    ensures kept { IsTrue F.told → Trusts D (F.files folder.old) session.old → is_committing (request_of command.now) ≡ false → SameKept (F.files folder.old) (F.files folder.new) }
+    ensures kept { IsTrue F.told → Trusts D (F.files folder.old) session.old
+        → is_committing (request_of command.now) ≡ false → SameKept (F.files folder.old) (F.files folder.new) }
     ensures evident { OnDamage result (IsEvident (IsTrue F.told × Trusts D (F.files folder.old) session.old) (F.files folder.new)) }
 {
     match session.apply(work.rt, work.alloc, folder, command, reply, work.gate) {
@@ -137,7 +151,8 @@ fn obey<const D: usize, R: Threads + Sync, F: Folder, G: Gate>(
 fn refuse_line(number: u64, fault: &RangeFault, reply: &mut Vec<u8>) -> Result<bool, PageFault>
     requires refused { fault.now ≢ RangeFault.Memory }
     requires by_line { fault.now ≢ RangeFault.Line LineFault.Memory }
-    ensures refused { IfOk result (λ refused. (refused ≡ true) × (reply.new.items ≡ reply.old.items ++ range_fault_text number fault.now)) }
+    ensures refused { IfOk result
+        (λ refused. (refused ≡ true) × (reply.new.items ≡ reply.old.items ++ range_fault_text number fault.now)) }
     ensures memory { OnErr result (IsErrOf result PageFault.Memory) }
 {
     put_range_fault(reply, number, fault)?;
@@ -163,7 +178,8 @@ pub fn answer_first<K: Sink>(
 ) -> Result<Opening, Stop>
     ensures opening { IfOk result (λ opening. IsOpening (answer language number None line.now) opening) }
     ensures limits { IfOk result IsWithin }
-    ensures text { IsTrue K.told → IsSent (answer language number None line.now).text (K.written out.old) (K.written out.new) result }
+    ensures text { IsTrue K.told
+        → IsSent (answer language number None line.now).text (K.written out.old) (K.written out.new) result }
     ensures sink { IsErrOf result Stop.SinkFault → Rose (K.faults out.old) (K.faults out.new) }
     ensures later { K.faults out.old ≤ K.faults out.new }
     ensures cause { OnErr result (IsErrOf result Stop.SinkFault ⊎ IsErrOf result Stop.Memory) }

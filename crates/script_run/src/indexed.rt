@@ -42,7 +42,9 @@ pub(crate) fn run_over<const D: usize, S: Source, R: Threads + Sync, F: Folder, 
     requires dims { dims_of origin ≡ D }
     requires made { IsMade origin }
     requires refused { tally.refused ≤ tally.line }
-    ensures does { IsTrue F.told → OfLines (IsTrue S.told) reader.old (S.left input.old) (λ lines. (i : Index) → (stored : State) → IsFrom (F.files folder.old) origin i stored
+    ensures does { IsTrue F.told
+        → OfLines (IsTrue S.told) reader.old (S.left input.old)
+        (λ lines. (i : Index) → (stored : State) → IsFrom (F.files folder.old) origin i stored
         → EndsRead (meaning work.now.language) (IsTrue K.told) (record {
           line = tally.line;
           refused = tally.refused;
@@ -52,11 +54,14 @@ pub(crate) fn run_over<const D: usize, S: Source, R: Threads + Sync, F: Folder, 
           written = K.written out.old;
         })
         (F.files folder.new) (K.written out.new) result
-        × LeadsFrom work.now.language origin i stored tally.line lines (F.files folder.old) (F.files folder.new) (F.reads folder.old) (F.reads folder.new) result) }
+        × LeadsFrom work.now.language origin i stored tally.line lines (F.files folder.old) (F.files folder.new)
+        (F.reads folder.old) (F.reads folder.new) result) }
     ensures read { IsTrue S.told → KnowsEnd reader.old (S.left input.old) → OnOk result (S.left input.new ≡ []) }
     ensures cause { HasHaltCause (F.faults folder.old) (F.faults folder.new) (K.faults out.old) (K.faults out.new) result }
     ensures source { HasSourceCause (S.faults input.old) (S.faults input.new) result }
-    ensures undone { IsTrue F.told → OfLines (IsTrue S.told) reader.old (S.left input.old) (λ lines. IsThere (F.files folder.old) origin → NoneCommits work.now.language (dims_of origin) lines
+    ensures undone { IsTrue F.told
+        → OfLines (IsTrue S.told) reader.old (S.left input.old)
+        (λ lines. IsThere (F.files folder.old) origin → NoneCommits work.now.language (dims_of origin) lines
         → HaltKeeps (F.files folder.old) (F.files folder.new) result) }
     ensures evident { OnHaltDamage result (IsEvident (IsTrue F.told × IsThere (F.files folder.old) origin) (F.files folder.new)) }
 {
@@ -79,7 +84,9 @@ fn run_made<const D: usize, S: Source, R: Threads + Sync, F: Folder, K: Sink, G:
     requires some { 1 ≤ D }
     requires few { D ≤ 8 }
     requires refused { tally.refused ≤ tally.line }
-    ensures does { IsTrue F.told → OfLines (IsTrue S.told) reader.old (S.left input.old) (λ lines. (i : Index) → (stored : State) → Stands D (F.files folder.old) session.old i stored
+    ensures does { IsTrue F.told
+        → OfLines (IsTrue S.told) reader.old (S.left input.old)
+        (λ lines. (i : Index) → (stored : State) → Stands D (F.files folder.old) session.old i stored
         → EndsRead (meaning work.now.language) (IsTrue K.told) (record {
           line = tally.line;
           refused = tally.refused;
@@ -89,14 +96,18 @@ fn run_made<const D: usize, S: Source, R: Threads + Sync, F: Folder, K: Sink, G:
           written = K.written out.old;
         })
         (F.files folder.new) (K.written out.new) result
-        × Leads work.now.language tally.line i lines (record { files = F.files folder.old; session = session.old; reads = F.reads folder.old })
+        × Leads work.now.language tally.line i lines
+        (record { files = F.files folder.old; session = session.old; reads = F.reads folder.old })
         (record { files = F.files folder.new; session = session.new; reads = F.reads folder.new }) result) }
     ensures read { IsTrue S.told → KnowsEnd reader.old (S.left input.old) → OnOk result (S.left input.new ≡ []) }
     ensures cause { HasHaltCause (F.faults folder.old) (F.faults folder.new) (K.faults out.old) (K.faults out.new) result }
     ensures source { HasSourceCause (S.faults input.old) (S.faults input.new) result }
-    ensures undone { IsTrue F.told → OfLines (IsTrue S.told) reader.old (S.left input.old) (λ lines. Trusts D (F.files folder.old) session.old → NoneCommits work.now.language D lines
+    ensures undone { IsTrue F.told
+        → OfLines (IsTrue S.told) reader.old (S.left input.old)
+        (λ lines. Trusts D (F.files folder.old) session.old → NoneCommits work.now.language D lines
         → HaltKeeps (F.files folder.old) (F.files folder.new) result) }
-    ensures evident { OnHaltDamage result (IsEvident (IsTrue F.told × Trusts D (F.files folder.old) session.old) (F.files folder.new)) }
+    ensures evident { OnHaltDamage result
+        (IsEvident (IsTrue F.told × Trusts D (F.files folder.old) session.old) (F.files folder.new)) }
 {
     let mut reply = Vec::new(work.alloc);
     let mut text = Vec::new(work.alloc);
@@ -137,8 +148,10 @@ fn finish<const D: usize, R: Threads + Sync, F: Folder, G: Gate>(
         → Closes D i (record { files = F.files folder.old; session = session.old; reads = F.reads folder.old })
         (record { files = F.files folder.new; session = session.new; reads = F.reads folder.new }) result }
     ensures cause { (sink : ℕ) → HasStopCause (F.faults folder.old) (F.faults folder.new) sink sink result }
-    ensures undone { IsTrue F.told → Trusts D (F.files folder.old) session.old → StopKeeps (F.files folder.old) (F.files folder.new) result }
-    ensures evident { OnStopDamage result (IsEvident (IsTrue F.told × Trusts D (F.files folder.old) session.old) (F.files folder.new)) }
+    ensures undone { IsTrue F.told → Trusts D (F.files folder.old) session.old
+        → StopKeeps (F.files folder.old) (F.files folder.new) result }
+    ensures evident { OnStopDamage result
+        (IsEvident (IsTrue F.told × Trusts D (F.files folder.old) session.old) (F.files folder.new)) }
 {
     match session.close(work.rt, work.alloc, folder, work.gate) {
         Ok(()) => Ok(refused),

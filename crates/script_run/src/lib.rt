@@ -1,4 +1,5 @@
-//! The lines of a script, done one after the other on the index that a folder stores, each answer sent before the next line
+//! The lines of a script, done one after the other on the index that a folder stores, each answer sent before the next
+//! line
 //! is read, with a commit at the end.
 #![tactic(auto)]
 

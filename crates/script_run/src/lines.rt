@@ -51,7 +51,8 @@ pub struct Tally {
     pub refused: u64,
 }
 
-/// Does the lines of a source on what the folder stores, and commits at the end. Answers how many lines were refused. Each line is done and
+/// Does the lines of a source on what the folder stores, and commits at the end. Answers how many lines were refused.
+/// Each line is done and
 /// answered as soon as it has come, before the source is asked again.
 pub fn run_lines<S: Source, R: Threads + Sync, F: Folder, K: Sink, G: Gate>(
     work: &Work<'_, R, G>,
@@ -59,14 +60,19 @@ pub fn run_lines<S: Source, R: Threads + Sync, F: Folder, K: Sink, G: Gate>(
     folder: &mut F,
     out: &mut K,
 ) -> Result<u64, Halt>
-    ensures does { IsTrue F.told → OfSource (IsTrue S.told) (S.left input.old) (λ lines. (state : State) → IsStored (F.files folder.old) state
+    ensures does { IsTrue F.told
+        → OfSource (IsTrue S.told) (S.left input.old) (λ lines. (state : State) → IsStored (F.files folder.old) state
         → EndsRead (meaning work.now.language) (IsTrue K.told) (start state lines (K.written out.old))
         (F.files folder.new) (K.written out.new) result
-        × LeadsAll work.now.language state lines (F.files folder.old) (F.files folder.new) (F.reads folder.old) (F.reads folder.new) result) }
+        × LeadsAll work.now.language state lines (F.files folder.old) (F.files folder.new) (F.reads folder.old)
+        (F.reads folder.new) result) }
     ensures read { IsTrue S.told → OnOk result (S.left input.new ≡ []) }
     ensures cause { HasHaltCause (F.faults folder.old) (F.faults folder.new) (K.faults out.old) (K.faults out.new) result }
     ensures source { HasSourceCause (S.faults input.old) (S.faults input.new) result }
-    ensures undone { IsTrue F.told → OfSource (IsTrue S.told) (S.left input.old) (λ lines. (c : CommitData) → IsCommitFile (bytes_of (F.files folder.old CommitName)) c → NoneCommits work.now.language c.dims lines
+    ensures undone { IsTrue F.told
+        → OfSource (IsTrue S.told) (S.left input.old)
+        (λ lines. (c : CommitData) → IsCommitFile (bytes_of (F.files folder.old CommitName)) c
+        → NoneCommits work.now.language c.dims lines
         → HaltKeeps (F.files folder.old) (F.files folder.new) result) }
     ensures evident { OnHaltDamage result (IsEvident (IsTrue F.told) (F.files folder.new)) }
 {
@@ -84,14 +90,20 @@ fn run_read<S: Source, R: Threads + Sync, F: Folder, K: Sink, G: Gate>(
     folder: &mut F,
     out: &mut K,
 ) -> Result<u64, Halt>
-    ensures does { IsTrue F.told → OfLines (IsTrue S.told) reader.old (S.left input.old) (λ lines. (state : State) → IsStored (F.files folder.old) state
+    ensures does { IsTrue F.told
+        → OfLines (IsTrue S.told) reader.old (S.left input.old)
+        (λ lines. (state : State) → IsStored (F.files folder.old) state
         → EndsRead (meaning work.now.language) (IsTrue K.told) (start state lines (K.written out.old))
         (F.files folder.new) (K.written out.new) result
-        × LeadsAll work.now.language state lines (F.files folder.old) (F.files folder.new) (F.reads folder.old) (F.reads folder.new) result) }
+        × LeadsAll work.now.language state lines (F.files folder.old) (F.files folder.new) (F.reads folder.old)
+        (F.reads folder.new) result) }
     ensures read { IsTrue S.told → KnowsEnd reader.old (S.left input.old) → OnOk result (S.left input.new ≡ []) }
     ensures cause { HasHaltCause (F.faults folder.old) (F.faults folder.new) (K.faults out.old) (K.faults out.new) result }
     ensures source { HasSourceCause (S.faults input.old) (S.faults input.new) result }
-    ensures undone { IsTrue F.told → OfLines (IsTrue S.told) reader.old (S.left input.old) (λ lines. (c : CommitData) → IsCommitFile (bytes_of (F.files folder.old CommitName)) c → NoneCommits work.now.language c.dims lines
+    ensures undone { IsTrue F.told
+        → OfLines (IsTrue S.told) reader.old (S.left input.old)
+        (λ lines. (c : CommitData) → IsCommitFile (bytes_of (F.files folder.old CommitName)) c
+        → NoneCommits work.now.language c.dims lines
         → HaltKeeps (F.files folder.old) (F.files folder.new) result) }
     ensures evident { OnHaltDamage result (IsEvident (IsTrue F.told) (F.files folder.new)) }
 {
@@ -124,14 +136,17 @@ fn run_first<S: Source, R: Threads + Sync, F: Folder, K: Sink, G: Gate>(
     folder: &mut F,
     out: &mut K,
 ) -> Result<u64, Halt>
-    ensures does { IsTrue F.told → OfLines (IsTrue S.told) reader.old (S.left input.old) (λ lines. F.files folder.old CommitName ≡ None
+    ensures does { IsTrue F.told
+        → OfLines (IsTrue S.told) reader.old (S.left input.old) (λ lines. F.files folder.old CommitName ≡ None
         → EndsRead (meaning work.now.language) (IsTrue K.told) (start None lines (K.written out.old))
         (F.files folder.new) (K.written out.new) result
-        × LeadsAll work.now.language None lines (F.files folder.old) (F.files folder.new) (F.reads folder.old) (F.reads folder.new) result) }
+        × LeadsAll work.now.language None lines (F.files folder.old) (F.files folder.new) (F.reads folder.old)
+        (F.reads folder.new) result) }
     ensures read { IsTrue S.told → KnowsEnd reader.old (S.left input.old) → OnOk result (S.left input.new ≡ []) }
     ensures cause { HasHaltCause (F.faults folder.old) (F.faults folder.new) (K.faults out.old) (K.faults out.new) result }
     ensures source { HasSourceCause (S.faults input.old) (S.faults input.new) result }
-    ensures evident { OnHaltDamage result (IsEvident (IsTrue F.told × (F.files folder.old CommitName ≡ None)) (F.files folder.new)) }
+    ensures evident { OnHaltDamage result
+        (IsEvident (IsTrue F.told × (F.files folder.old CommitName ≡ None)) (F.files folder.new)) }
 {
     let mut reply = Vec::new(work.alloc);
     let mut text = Vec::new(work.alloc);
@@ -182,7 +197,9 @@ fn run_from<S: Source, R: Threads + Sync, F: Folder, K: Sink, G: Gate>(
 ) -> Result<u64, Halt>
     requires made { IsMade origin }
     requires refused { tally.refused ≤ tally.line }
-    ensures does { IsTrue F.told → OfLines (IsTrue S.told) reader.old (S.left input.old) (λ lines. (i : Index) → (stored : State) → IsFrom (F.files folder.old) origin i stored
+    ensures does { IsTrue F.told
+        → OfLines (IsTrue S.told) reader.old (S.left input.old)
+        (λ lines. (i : Index) → (stored : State) → IsFrom (F.files folder.old) origin i stored
         → EndsRead (meaning work.now.language) (IsTrue K.told) (record {
           line = tally.line;
           refused = tally.refused;
@@ -192,11 +209,14 @@ fn run_from<S: Source, R: Threads + Sync, F: Folder, K: Sink, G: Gate>(
           written = K.written out.old;
         })
         (F.files folder.new) (K.written out.new) result
-        × LeadsFrom work.now.language origin i stored tally.line lines (F.files folder.old) (F.files folder.new) (F.reads folder.old) (F.reads folder.new) result) }
+        × LeadsFrom work.now.language origin i stored tally.line lines (F.files folder.old) (F.files folder.new)
+        (F.reads folder.old) (F.reads folder.new) result) }
     ensures read { IsTrue S.told → KnowsEnd reader.old (S.left input.old) → OnOk result (S.left input.new ≡ []) }
     ensures cause { HasHaltCause (F.faults folder.old) (F.faults folder.new) (K.faults out.old) (K.faults out.new) result }
     ensures source { HasSourceCause (S.faults input.old) (S.faults input.new) result }
-    ensures undone { IsTrue F.told → OfLines (IsTrue S.told) reader.old (S.left input.old) (λ lines. IsThere (F.files folder.old) origin → NoneCommits work.now.language (dims_of origin) lines
+    ensures undone { IsTrue F.told
+        → OfLines (IsTrue S.told) reader.old (S.left input.old)
+        (λ lines. IsThere (F.files folder.old) origin → NoneCommits work.now.language (dims_of origin) lines
         → HaltKeeps (F.files folder.old) (F.files folder.new) result) }
     ensures evident { OnHaltDamage result (IsEvident (IsTrue F.told × IsThere (F.files folder.old) origin) (F.files folder.new)) }
 {

@@ -57,7 +57,8 @@ pub fn open<const D: usize, F: Folder>(
         → Opens origin i stored (F.files folder.old) (F.reads folder.old) (F.reads folder.new) result }
     ensures files { IsTrue F.told → F.files folder.new ≡ F.files folder.old }
     ensures cause { HasPageCause (F.faults folder.old) (F.faults folder.new) result }
-    ensures whole { IsTrue F.told → (i : Index) → (stored : State) → IsFrom (F.files folder.old) origin i stored → NotDamaged result }
+    ensures whole { IsTrue F.told → (i : Index) → (stored : State) → IsFrom (F.files folder.old) origin i stored
+        → NotDamaged result }
     ensures trusts { IsTrue F.told → IsThere (F.files folder.old) origin → IfOk result (Trusts D (F.files folder.new)) }
     ensures evident { OnDamage result (IsEvident (IsTrue F.told × IsThere (F.files folder.old) origin) (F.files folder.new)) }
 {

@@ -3,7 +3,8 @@ use Rattle.std.proofs.Common.{IsTrue, refl, sym, ap, subst, inl, inr}
 use Rattle.command_words.specs.Commands.{Asked, said}
 use Rattle.bkd_top.specs.Commands.{is_session, reads_input, reads_whole}
 use Rattle.run_status.specs.Ends.{DoesNothing}
-use Rattle.bkd_top.proofs.Commanding.{called, check_ends, count_ends, explain_ends, generate_ends, is_so, left_by, load_ends, ranges_ends, run_ends, session_asked, taken_by}
+use Rattle.bkd_top.proofs.Commanding.{called, check_ends, count_ends, explain_ends, generate_ends, is_so, left_by, load_ends, ranges_ends, run_ends}
+use Rattle.bkd_top.proofs.Commanding.{session_asked, taken_by}
 use Rattle.script_run.proofs.Starting.{canonical_still}
 use Rattle.bkd_top.proofs.program.run_command.Goals as goal
 

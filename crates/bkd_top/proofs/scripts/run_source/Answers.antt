@@ -2,7 +2,8 @@
 use Rattle.std.proofs.Common.{refl, sym, subst, ◌∙◌}
 use Rattle.run_status.specs.Ends.{DoesNothing, IsAnswer, IsDamaged}
 use Rattle.run_status.specs.declared.status.Status.TheVariants as status
-use Rattle.script_run.proofs.Statuses.{never_refuses, read_folder, read_keeps, read_shows, read_sink, read_source, session_ends, session_undamaged, when_read, with_lines}
+use Rattle.script_run.proofs.Statuses.{never_refuses, read_folder, read_keeps, read_shows, read_sink, read_source, session_ends, session_undamaged, when_read}
+use Rattle.script_run.proofs.Statuses.{with_lines}
 use Rattle.script_run.specs.Languages.{meaning}
 use Rattle.bkd_top.proofs.scripts.run_source.Goals as goal
 

@@ -6,7 +6,8 @@ use Rattle.run_status.specs.Ends.{DoesNothing, IsDamaged}
 use Rattle.run_status.specs.Stops.{status_of}
 use Rattle.script_run.proofs.Calling.{fault_keeps, sent_keeps}
 use Rattle.script_run.proofs.Ending.{does_lines, folder_stopped, sink_stopped}
-use Rattle.bkd_top.proofs.Finished.{count_sent, fault_ends, fault_no_answer, fault_no_sink, fault_rose, fault_undamaged, sent_ends, sent_no_folder, sent_undamaged}
+use Rattle.bkd_top.proofs.Finished.{count_sent, fault_ends, fault_no_answer, fault_no_sink, fault_rose, fault_undamaged, sent_ends, sent_no_folder}
+use Rattle.bkd_top.proofs.Finished.{sent_undamaged}
 use Rattle.script_run.proofs.Shown.{fault_status, sink_shows, status_shows}
 use Rattle.bkd_top.proofs.whole.tell.Goals as goal
 
