@@ -9,7 +9,7 @@ _bkd() {
         return
     fi
     if [ "$COMP_CWORD" -eq 2 ]; then
-        mapfile -t COMPREPLY < <(compgen -W 'run load explain check generate session count' -- "$word")
+        mapfile -t COMPREPLY < <(compgen -W 'run load explain check generate session count ranges' -- "$word")
         return
     fi
     case $before in
@@ -17,7 +17,7 @@ _bkd() {
         --cache | --docs | --seed | --columns) return ;;
     esac
     case ${COMP_WORDS[2]} in
-        run | session) options='--cache --forks' ;;
+        run | session | ranges) options='--cache --forks' ;;
         load) options='--columns --forks' ;;
         explain | count) options='--cache' ;;
         generate) options='--docs --seed --forks' ;;
