@@ -52,7 +52,8 @@ def completed(*words):
 
 @pytest.mark.parametrize("words, wanted", [
     (("bkd", "doc"), ["docs"]),
-    (("bkd", ".", ""), ["run", "load", "explain", "check", "generate", "session", "count"]),
+    (("bkd", ".", ""), ["run", "load", "explain", "check", "generate", "session", "count",
+                      "ranges"]),
     (("bkd", ".", "ge"), ["generate"]),
     (("bkd", ".", "run", "--"), ["--cache", "--forks"]),
     (("bkd", ".", "session", "--"), ["--cache", "--forks"]),
