@@ -4,7 +4,8 @@
 usage: bench/wrap.py COLUMNS FILE..     then `rt fmt` in the crates, whose proofs see no difference
 
 A line is broken where the fewest brackets are open: before an arrow or a sign between parts, else behind `=`, else
-before a bracket or a word. Where nothing is left to break it stays. Proofs by hand may need their layout: look at them.
+before a bracket or a word. Where nothing is left to break it stays, as does a row of a table in a comment. Proofs by
+hand may need their layout, and the rest of a comment's paragraph isn't filled anew: look at both.
 """
 import re
 import sys
@@ -17,6 +18,8 @@ DECLARES = r"(pub )?(record|data|abbrev|unfoldable)"
 def comment(line, columns, indent, mark):
     before = " " * indent + mark
     text = line.strip()[len(mark):]
+    if text.startswith("|"):
+        return [line]
     return textwrap.wrap(text, columns, initial_indent=before, subsequent_indent=before, break_on_hyphens=False,
                          break_long_words=False)
 
