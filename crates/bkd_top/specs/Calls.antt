@@ -30,9 +30,8 @@ OnAsked P (Some asked) = P asked
 
 -- ---- the input
 
--- The whole input is read before anything is done, or none of it; but the lines of a session are read as they are done,
--- to the end of the input where
--- all are.
+-- The whole input is read before anything is done, or none of it; but the lines of a session are read as they are
+-- done, to the end of the input where all are.
 abbrev pub TakesInput : Asked → (left left_now : List ℕ) → Status → Type 0
 TakesInput (Run cache forks) left now s = ReadsInput left now s
 TakesInput (Load columns forks) left now s = ReadsInput left now s
@@ -69,9 +68,8 @@ pub record WholeLeaves (old new : Files) (s : Status) : Type 0 where
 
 -- ---- what each command leaves, whatever the folder holds
 
--- A call: whether its source and its sink tell what they hold, its input, the files before and after it, what had gone
--- out before and after, and the
--- folder's reads before and after
+-- A call: whether its source and its sink tell what they hold, its input, the files before and after it, what had
+-- gone out before and after, and the folder's reads before and after
 pub record Call : Type 0 where
   pub source : Bool
   pub sink : Bool

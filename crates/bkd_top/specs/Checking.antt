@@ -10,9 +10,8 @@ use Rattle.run_status.specs.Ends.{OnStatusDamage}
 use Rattle.run_status.specs.declared.status.Status.{Status}
 use Rattle.run_status.specs.declared.status.Status.TheVariants as status
 
--- What there is to tell of the files went out, or a prefix of it where the sink failed; else nothing did, and where it
--- ends as damaged the files store no
--- state. No line is refused, and no input is read.
+-- What there is to tell of the files went out, or a prefix of it where the sink failed; else nothing did, and where
+-- it ends as damaged the files store no state. No line is refused, and no input is read.
 abbrev pub EndsCheck : (told : Type 0) → Files → (old new : List ℕ) → Status → Type 0
 EndsCheck told files old new status.Done = (text : List ℕ) × IsChecked files text × (told → new ≡ old ++ text)
 EndsCheck told files old new status.SinkFault = (text : List ℕ) × IsChecked files text

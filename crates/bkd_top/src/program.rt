@@ -29,26 +29,20 @@ use std::thread::Threads;
 ///
 /// | Command | What it does |
 /// |---|---|
-/// | `run` | reads a script, does its lines one after the other on the index that the folder stores, and writes the
-/// answer to each before the next one is done; at the end it commits, if something changed |
-/// | `load` | reads a CSV file, adds all its points, commits, and says how many |
-/// | `explain` | reads queries, and says of each how much of the stored segments it tests and touches, and how much it
-/// finds |
-/// | `check` | reads every page of the files that the commit lists, and says how large the index is that they hold, or
-/// ends with the first damage |
+/// | `run` | does the lines of a script one after the other on the stored index, and commits at the end what changed |
+/// | `load` | adds all points of a CSV file, commits, and says how many |
+/// | `explain` | says of each query how much of the stored segments it tests and touches, and how much it finds |
+/// | `check` | reads every page of the listed files, and says how large the index is, or ends with the first damage |
 /// | `generate` | makes an index of drawn documents, commits, and says what drawn queries find in it |
-/// | `session` | does the lines of a script as `run` does, each as soon as it has come, before the input is asked for
-/// more |
-/// | `count` | reads lines, and says of each how many live points lie in a box, or in each bucket of a grid |
-/// | `ranges` | reads a script over documents that have ranges, and does its lines as `run` does those over points |
+/// | `session` | does the lines of a script as `run` does, each as soon as it has come |
+/// | `count` | says how many live points lie in a box, or in each bucket of a grid |
+/// | `ranges` | does the lines of a script over documents that have ranges, as `run` does those over points |
 ///
 /// **The headline.** On a folder that stores an index, or none, what `run` writes is, line for line, what a scan of the
-/// live documents
-/// answers to the script's adds, deletes and queries, whatever flushes, merges, snapshots and reopenings stand between,
-/// and the folder
-/// stores the documents then live. The status is Done, or SomeRefused with the number of the refused lines, whichever
-/// call failed. The
-/// other commands write and leave what their definitions say (`specs/Commands`).
+/// live documents answers to the script's adds, deletes and queries, whatever flushes, merges, snapshots and
+/// reopenings stand between, and the folder stores the documents then live. The status is Done, or SomeRefused with
+/// the number of the refused lines, whichever call failed. The other commands write and leave what their definitions
+/// say (`specs/Commands`).
 pub fn run<S: Source, F: Folder, K: Sink, R: Threads + Sync, G: Gate>(
     rt: &R,
     alloc: Global,

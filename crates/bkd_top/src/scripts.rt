@@ -61,10 +61,9 @@ pub fn run_script<S: Source, F: Folder, K: Sink, R: Threads + Sync, G: Gate>(
     run_whole(&work, input, folder, out)
 }
 
-/// The command `ranges`: does the lines of a script over documents that have ranges, as `run` does those over points. A
-/// range of `R`
-/// dimensions, 1 to 4, is kept as a point of `2 R` coordinates; on an index of an odd number of dimensions each line
-/// but a blank one is refused.
+/// The command `ranges`: does the lines of a script over documents that have ranges, as `run` does those over points.
+/// A range of `R` dimensions, 1 to 4, is kept as a point of `2 R` coordinates; on an index of an odd number of
+/// dimensions each line but a blank one is refused.
 pub fn run_ranges<S: Source, F: Folder, K: Sink, R: Threads + Sync, G: Gate>(
     rt: &R,
     alloc: Global,
@@ -101,9 +100,9 @@ pub fn run_ranges<S: Source, F: Folder, K: Sink, R: Threads + Sync, G: Gate>(
     run_whole(&work, input, folder, out)
 }
 
-/// The command `session`: does the lines of a script as `run` does, each as soon as it has come. The whole answer to a
-/// line is written before
-/// the input is asked for more. There is no limit on the whole input; a line is held as far as 4,194,306 bytes.
+/// The command `session`: does the lines of a script as `run` does, each as soon as it has come. The whole answer to
+/// a line is written before the input is asked for more. There is no limit on the whole input; a line is held as far
+/// as 4,194,306 bytes.
 pub fn run_session<S: Source, F: Folder, K: Sink, R: Threads + Sync, G: Gate>(
     rt: &R,
     alloc: Global,

@@ -21,8 +21,8 @@ pub fn open(alloc: Global, b: &[u8]) -> Reader<&[u8]>
         .from_reader(alloc, b)
 }
 
-/// Reads the next record into `fields`, if there is one. A slice never fails, so an error of the
-/// reader is one of memory.
+/// Reads the next record into `fields`, if there is one. A slice never fails, so an error of the reader is one of
+/// memory.
 pub fn next_record(reader: &mut Reader<&[u8]>, fields: &mut ByteRecord) -> Result<bool, CsvFault>
     requires { IsReading reader.old }
     ensures more { IfOk result (λ found. found ≡ true → GaveRecord reader.old reader.new (fields_of fields.new)) }

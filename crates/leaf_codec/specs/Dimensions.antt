@@ -1,5 +1,5 @@
--- What the keys of a leaf share in each dimension, and the dimension by which the leaf is sorted
--- (prefix and sorted dimension of Lucene's leaf blocks of points).
+-- What the keys of a leaf share in each dimension, and the dimension by which the leaf is sorted (prefix and sorted
+-- dimension of Lucene's leaf blocks of points).
 use Rattle.std.specs.Prelude.{ℕ, ◌+◌, if◌then◌else◌, Bool, ◌&&◌, ◌||◌, not, List, Option, pos, nat_le, nat_lt, ◌==◌, slice_index, slice_index_or}
 use Rattle.std.specs.List.{list_any, list_all, find, count_by, position_or_len, range_with_len}
 use Rattle.point_codec.specs.Points.{Item}

@@ -1,6 +1,6 @@
-//! Which segments of an index to merge. The sizes of segments go by levels: level 0 is below 1,000,
-//! and each level above reaches up to ten times as far as the one before. Ten segments of one level
-//! are worth a merge, the lowest level first. Segments that are in use elsewhere are pinned.
+//! Which segments of an index to merge. The sizes of segments go by levels: level 0 is below 1,000, and each level
+//! above reaches up to ten times as far as the one before. Ten segments of one level are worth a merge, the lowest
+//! level first. Segments that are in use elsewhere are pinned.
 #![tactic(auto)]
 
 ghost use Rattle.std.specs.Prelude.{◌≡◌, ℕ, suc, ◌+◌, ◌^◌, ◌<◌, ◌≤◌, ◌↔◌, Bool, List, length, count_by, All, IsNone, IfNone, IfSome};

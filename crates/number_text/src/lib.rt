@@ -5,8 +5,8 @@
 ghost use Rattle.std.specs.Prelude.{◌≡◌, ◌≤◌, ◌-◌, ◌^◌, IfSome, option_map, pos, neg_ℤ};
 ghost use Rattle.number_text.specs.Number.{number_up_to, number, coordinate};
 
-/// The number that one or more ASCII digits write, if it is at most `limit`. Leading zeros are
-/// allowed; a sign, a blank or any other byte is not.
+/// The number that one or more ASCII digits write, if it is at most `limit`. Leading zeros are allowed; a sign, a
+/// blank or any other byte is not.
 pub fn number_up_to(b: &[u8], limit: u32) -> Option<u32>
     ensures value { result ≡ number_up_to limit b.now }
     ensures bound { IfSome result (λ n. n ≤ limit) }

@@ -28,8 +28,8 @@ pub record IsRenamed (from to : FileName) (old new : Files) : Type 0 where
   pub moved : new to ≡ old from
   pub gone : from ≢ to → new from ≡ None
 
--- reading at an offset: as many bytes as the buffer holds or as the file has from there, whichever
--- is fewer, stand at the front of the buffer, and the rest of the buffer is as it was
+-- reading at an offset: as many bytes as the buffer holds or as the file has from there, whichever is fewer, stand at
+-- the front of the buffer, and the rest of the buffer is as it was
 pub record IsReadAt (file : Option (List ℕ)) (at count : ℕ) (old new : List ℕ) : Type 0 where
   pub counted : count ≡ min (length old) (length (drop at (bytes_of file)))
   pub filled : new ≡ take count (drop at (bytes_of file)) ++ drop count old

@@ -12,8 +12,8 @@ same_name (Segment a) (Segment b) = a == b
 same_name (Live a m) (Live b n) = (a == b) && (m == n)
 same_name _ _ = false
 
--- a number in 16 lower-case hexadecimal digits, as `{:016x}` prints it (32 is the fill, a space, and
--- 4 asks for zeros)
+-- a number in 16 lower-case hexadecimal digits, as `{:016x}` prints it (32 is the fill, a space, and 4 asks for
+-- zeros)
 abbrev pub hex_16 : ℕ → List ℕ
 hex_16 n = padded_integral (format_spec 32 0 4 16 (2 ^ 64 - 1)) false [] (digits 16 false n)
 

@@ -2,8 +2,8 @@
 -- program between any two (this project's own).
 use Rattle.std.specs.Prelude.{ℕ, ◌+◌, ◌-◌, ◌^◌, ◌≤◌, ◌⊎◌, min, List, Option, Contains, IsSomeAnd}
 
--- the calls that fail by their numbers, the number from which on all fail and do nothing, and how
--- many calls were made, which is the number of the next one
+-- the calls that fail by their numbers, the number from which on all fail and do nothing, and how many calls were
+-- made, which is the number of the next one
 pub record Plan : Type 0 where
   pub fail : List ℕ
   pub stop : Option ℕ

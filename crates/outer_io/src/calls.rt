@@ -7,8 +7,8 @@ ghost use Rattle.outer_io.specs.Calls.{plan_of, IsFate};
 
 use crate::faults::{Failed, FaultCount};
 
-/// Counts the calls of an object and those that failed. A call fails where its number, counted
-/// from 0, is in `fail` or at least `stop`.
+/// Counts the calls of an object and those that failed. A call fails where its number, counted from 0, is in `fail`
+/// or at least `stop`.
 #[derive(Drop)]
 pub(crate) struct Calls {
     fail: Vec<u64>,

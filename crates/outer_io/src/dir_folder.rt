@@ -15,10 +15,10 @@ use std::os::unix::fs::FileExt;
 use std::rt::Files;
 use std::{fs, io};
 
-/// A folder over a directory that exists, which nobody else writes. It tells no files, since no
-/// clause can say what the system keeps. The files that were read last stay open, each until it is
-/// written, renamed or removed. A rename is a barrier: what was written before it is on the disk
-/// before the name changes, and the new name when the call is done.
+/// A folder over a directory that exists, which nobody else writes. It tells no files, since no clause can say what
+/// the system keeps. The files that were read last stay open, each until it is written, renamed or removed. A rename
+/// is a barrier: what was written before it is on the disk before the name changes, and the new name when the call is
+/// done.
 #[derive(Drop)]
 pub struct DirFolder<R: Files>
 where
@@ -44,8 +44,8 @@ where
 {
     ghost use Rattle.outer_io.specs.DirFolder.{directory_path, path_or_dot, directory_faults, directory_reads, StaysCounted};
 
-    /// A folder over this directory. An empty text is the directory that the program runs in. The
-    /// memory for paths and for the two lists of files is taken here.
+    /// A folder over this directory. An empty text is the directory that the program runs in. The memory for paths
+    /// and for the two lists of files is taken here.
     pub fn new(rt: R, alloc: Global, dir: &str) -> Result<DirFolder<R>, AllocError>
         ensures dir { IfOk result (λ f. directory_path f ≡ path_or_dot dir.now) }
         ensures faults { IfOk result (λ f. directory_faults f ≡ 0) }

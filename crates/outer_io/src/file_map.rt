@@ -62,8 +62,7 @@ impl FileMap {
         self.put(*n, bytes)
     }
 
-    /// Puts bytes behind those of a file, which is made where it isn't there. After want of memory
-    /// all files stay.
+    /// Puts bytes behind those of a file, which is made where it isn't there. After want of memory all files stay.
     pub(crate) fn extend(&mut self, n: &FileName, b: &[u8]) -> Result<(), AllocError>
         ensures extended { OnOk result (files_of self.new n.now ≡ Some (bytes_of (files_of self.old n.now) ++ b.now)) }
         ensures others { SameBut n.now (files_of self.old) (files_of self.new) }

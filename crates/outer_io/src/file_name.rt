@@ -3,8 +3,8 @@ ghost use Rattle.std.specs.Prelude.{◌≡◌, Some};
 
 use std::fmt;
 
-/// A file of an index. Segments count up from 0 and a name is never used for a second content
-/// while something needs the first.
+/// A file of an index. Segments count up from 0 and a name is never used for a second content while something needs
+/// the first.
 #[derive(Clone, Copy, PartialEq, Eq, Debug)]
 pub enum FileName {
     /// The list of the segments that the index consists of.

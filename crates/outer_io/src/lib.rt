@@ -1,8 +1,8 @@
 //! The outside of the index: where its bytes come from, where they go, and where its files lie.
 //!
-//! Each object counts the calls on it that failed, and a failure is answered only by a call in
-//! which that count rose. Objects in memory tell their bytes, so that clauses can speak of them;
-//! those over the system tell none, and are the edge that is trusted.
+//! Each object counts the calls on it that failed, and a failure is answered only by a call in which that count rose.
+//! Objects in memory tell their bytes, so that clauses can speak of them; those over the system tell none, and are
+//! the edge that is trusted.
 #![tactic(auto)]
 
 mod calls;

@@ -14,8 +14,8 @@ use crate::file_name::FileName;
 use crate::folder::{Folder, Pages};
 use std::alloc::{AllocError, Global};
 
-/// A folder that keeps its files in memory. It tells its files, and a test says which of its calls
-/// fail: all calls of the traits share one count from 0.
+/// A folder that keeps its files in memory. It tells its files, and a test says which of its calls fail: all calls of
+/// the traits share one count from 0.
 #[derive(Drop)]
 pub struct MemFolder {
     files: FileMap,
@@ -45,8 +45,7 @@ impl MemFolder {
         self.files.get(n)
     }
 
-    /// Makes these bytes the file of this name, for tests. Counts as no call. After want of memory
-    /// all is as it was.
+    /// Makes these bytes the file of this name, for tests. Counts as no call. After want of memory all is as it was.
     pub fn put(&mut self, n: FileName, b: Vec<u8>) -> Result<(), AllocError>
         ensures put { OnOk result (folder_files self.new n ≡ Some b.items) }
         ensures others { SameBut n (folder_files self.old) (folder_files self.new) }
@@ -58,8 +57,8 @@ impl MemFolder {
         self.files.put(n, b)
     }
 
-    /// From here on calls count from 0 again. Those whose numbers are in `fail` fail; those from
-    /// the number `stop` on fail and do nothing, as if the program had ended. Takes no memory.
+    /// From here on calls count from 0 again. Those whose numbers are in `fail` fail; those from the number `stop` on
+    /// fail and do nothing, as if the program had ended. Takes no memory.
     pub fn plan(&mut self, fail: Vec<u64>, stop: Option<u64>)
         ensures plan { folder_plan self.new ≡ plan_from fail.items stop }
         ensures files { folder_files self.new ≡ folder_files self.old }
@@ -115,8 +114,8 @@ impl Pages for MemFolder {
 }
 
 impl Folder for MemFolder {
-    /// A call that is named as failing leaves the first half of `b` as the file; one that is
-    /// stopped fails and does nothing else. After want of memory all files are as they were.
+    /// A call that is named as failing leaves the first half of `b` as the file; one that is stopped fails and does
+    /// nothing else. After want of memory all files are as they were.
     fn write_file(&mut self, n: &FileName, b: &[u8]) -> Result<(), WriteFault>
         ensures written { IsTrue true → OnOk result (folder_files self.new n.now ≡ Some b.now) }
         ensures others { IsTrue true → SameBut n.now (folder_files self.old) (folder_files self.new) }
@@ -146,8 +145,8 @@ impl Folder for MemFolder {
         }
     }
 
-    /// A call that is named as failing appends the first half of `b`; one that is stopped fails
-    /// and does nothing else. After want of memory all files are as they were.
+    /// A call that is named as failing appends the first half of `b`; one that is stopped fails and does nothing
+    /// else. After want of memory all files are as they were.
     fn append(&mut self, n: &FileName, b: &[u8]) -> Result<(), WriteFault>
         ensures written { IsTrue true → OnOk result
             (folder_files self.new n.now ≡ Some (bytes_of (folder_files self.old n.now) ++ b.now)) }

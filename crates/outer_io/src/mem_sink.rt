@@ -10,8 +10,8 @@ use crate::faults::Failed;
 use crate::sink::Sink;
 use std::alloc::{AllocError, Global};
 
-/// A sink that keeps its bytes in memory, up to the room that it was made with. It tells its bytes,
-/// and those of its calls fail whose numbers, counted from 0, were named when it was made.
+/// A sink that keeps its bytes in memory, up to the room that it was made with. It tells its bytes, and those of its
+/// calls fail whose numbers, counted from 0, were named when it was made.
 #[derive(Drop)]
 pub struct MemSink {
     bytes: Vec<u8>,
@@ -55,8 +55,8 @@ impl Sink for MemSink {
 
     ghost faults = { sink_faults };
 
-    /// Takes as many bytes as it has room left for, and fails where it has none for a piece that
-    /// isn't empty. A failing call takes none.
+    /// Takes as many bytes as it has room left for, and fails where it has none for a piece that isn't empty. A
+    /// failing call takes none.
     fn write(&mut self, b: &[u8]) -> Result<usize, Failed>
         ensures fits { IfOk result (λ n. n ≤ length b.now) }
         ensures some { IfOk result (λ n. 0 < length b.now → 0 < n) }

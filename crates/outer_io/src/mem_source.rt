@@ -9,8 +9,8 @@ use crate::copy::copy_front;
 use crate::faults::Failed;
 use crate::source::Source;
 
-/// A source over bytes in memory. It tells its bytes, and those of its calls fail whose numbers,
-/// counted from 0, were named when it was made.
+/// A source over bytes in memory. It tells its bytes, and those of its calls fail whose numbers, counted from 0, were
+/// named when it was made.
 #[derive(Drop)]
 pub struct MemSource {
     bytes: Vec<u8>,

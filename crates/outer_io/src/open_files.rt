@@ -60,8 +60,7 @@ impl<F: Drop> OpenFiles<F> {
         }
     }
 
-    /// Keeps a file open. Where there are as many as may be, the one that wasn't used for longest
-    /// is closed for it.
+    /// Keeps a file open. Where there are as many as may be, the one that wasn't used for longest is closed for it.
     pub(crate) fn keep(&mut self, name: FileName, file: F)
         ensures { self.new.files.items ≡ take 64 (record { name = name; file = file } ∷ self.old.files.items) }
     {

@@ -16,8 +16,8 @@ pub trait Sink {
     /// How many calls failed, up to the last value of u64.
     ghost faults: { Self → ℕ };
 
-    /// Takes a prefix of `b` and answers its length, which is at least 1 for a piece that isn't
-    /// empty. After `Failed` a prefix, perhaps an empty one, went out.
+    /// Takes a prefix of `b` and answers its length, which is at least 1 for a piece that isn't empty. After `Failed`
+    /// a prefix, perhaps an empty one, went out.
     fn write(&mut self, b: &[u8]) -> Result<usize, Failed>
         ensures fits { IfOk result (λ n. n ≤ length b.now) }
         ensures some { IfOk result (λ n. 0 < length b.now → 0 < n) }

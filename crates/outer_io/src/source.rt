@@ -17,9 +17,8 @@ pub trait Source {
     /// How many calls failed, up to the last value of u64.
     ghost faults: { Self → ℕ };
 
-    /// Gives the next bytes, at most as many as the buffer holds, and answers how many. They stand
-    /// at the front of the buffer; what stands behind them afterwards isn't said. 0 for a buffer
-    /// that isn't empty is the end.
+    /// Gives the next bytes, at most as many as the buffer holds, and answers how many. They stand at the front of
+    /// the buffer; what stands behind them afterwards isn't said. 0 for a buffer that isn't empty is the end.
     fn read(&mut self, buf: &mut [u8]) -> Result<usize, Failed>
         ensures fits { IfOk result (λ n. n ≤ length buf.new) }
         ensures bytes { IsTrue told → IfOk result (λ n. left self.old ≡ take n buf.new ++ left self.new) }
@@ -31,8 +30,8 @@ pub trait Source {
 /// How many bytes a call on a source is asked for: what a pipe holds.
 const PIECE: usize = 65_536;
 
-/// Reads a source to its end. `TooLarge` is answered just where more than `limit` bytes are left
-/// and no call fails. After an Err some of the bytes were taken.
+/// Reads a source to its end. `TooLarge` is answered just where more than `limit` bytes are left and no call fails.
+/// After an Err some of the bytes were taken.
 pub fn read_all<S: Source>(alloc: Global, s: &mut S, limit: u64) -> Result<Vec<u8>, ReadAll>
     ensures whole { IsTrue S.told → IfOk result (λ v. v.items ≡ S.left s.old) }
     ensures end { IsTrue S.told → OnOk result (S.left s.new ≡ []) }

@@ -11,8 +11,7 @@ use crate::source::Source;
 use std::io;
 use std::io::{ErrorKind, Read, Write};
 
-/// A source over a reader, as the standard input. It tells no bytes, since no clause can say what
-/// the system gives.
+/// A source over a reader, as the standard input. It tells no bytes, since no clause can say what the system gives.
 #[derive(Drop)]
 pub struct StdSource<R> {
     input: R,
@@ -56,8 +55,8 @@ impl<R: Read> Source for StdSource<R> {
     }
 }
 
-/// A sink over a writer, as the standard output. It tells no bytes, since no clause can say what
-/// the system takes. What a call took has left a buffer that the writer may have.
+/// A sink over a writer, as the standard output. It tells no bytes, since no clause can say what the system takes.
+/// What a call took has left a buffer that the writer may have.
 #[derive(Drop)]
 pub struct StdSink<W> {
     output: W,
@@ -88,8 +87,8 @@ impl<W: Write> Sink for StdSink<W> {
 
     ghost faults = { output_faults };
 
-    /// Hands on to the writer: one that knows its bytes has those that were taken. A writer that
-    /// takes nothing of a piece that isn't empty has failed.
+    /// Hands on to the writer: one that knows its bytes has those that were taken. A writer that takes nothing of a
+    /// piece that isn't empty has failed.
     fn write(&mut self, b: &[u8]) -> Result<usize, Failed>
         ensures fits { IfOk result (λ n. n ≤ length b.now) }
         ensures some { IfOk result (λ n. 0 < length b.now → 0 < n) }

@@ -5,8 +5,7 @@ ghost use Rattle.outer_io.specs.Names.{same_name};
 use crate::file_name::FileName;
 use std::alloc::{AllocError, Global};
 
-/// The files that were written since the last barrier, each once, in the order in which they first
-/// were.
+/// The files that were written since the last barrier, each once, in the order in which they first were.
 #[derive(Drop)]
 pub(crate) struct Unsynced {
     names: Vec<FileName>,

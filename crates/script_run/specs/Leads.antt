@@ -39,9 +39,8 @@ pub record StaysFew (heads : List Head) (i : Index) (after : State) (s t : SetDa
   pub waits : length t.buffer + i.given ≤ length s.buffer + given_of after
 
 -- From the one spot to the other a line is done, refused or left. Each segment that it writes is canonical. Where no
--- merge is begun: a commit that is
--- done lists few segments of each level; a query, or a line that is refused, changes no file; and one that needs no
--- segment to be written reads the leaves that it touches.
+-- merge is begun: a commit that is done lists few segments of each level; a query, or a line that is refused, changes
+-- no file; and one that needs no segment to be written reads the leaves that it touches.
 pub record Passes {T E : Type 0} (lang : Language) (D line : ℕ) (i : Index) (bytes : List ℕ) (old new : Spot)
     (result : Result T E) : Type 0 where
   pub canon : BringsCanonical D old.files new.files old.session.set.parts new.session.set.parts

@@ -3,9 +3,8 @@ use Rattle.std.specs.Prelude.{ℕ, ◌+◌, ◌≡◌, List, ◌++◌, length}
 use Rattle.index_model.specs.State.{State}
 use Rattle.script_run.specs.Script.{Meaning, text_of, state_after, stored_after, refused_in}
 
--- a place in a script: the number of the next line, how many lines before it were refused, the state there and the one
--- that is
--- stored, the lines that are left, and all that has gone out
+-- a place in a script: the number of the next line, how many lines before it were refused, the state there and the
+-- one that is stored, the lines that are left, and all that has gone out
 pub record Place : Type 0 where
   pub line : ℕ
   pub refused : ℕ
@@ -19,9 +18,8 @@ abbrev pub start : State → List (List ℕ) → List ℕ → Place
 start state lines written =
     record { line = 1; refused = 0; state = state; stored = state; rest = lines; written = written }
 
--- from one place to a later one the lines between were done, each as the script says. What went out is known where the
--- sink
--- tells it
+-- from one place to a later one the lines between were done, each as the script says. What went out is known where
+-- the sink tells it
 pub record Progress (m : Meaning) (told : Type 0) (from to : Place) : Type 0 where
   pub done : List (List ℕ)
   pub whole : from.rest ≡ done ++ to.rest

@@ -25,8 +25,7 @@ InFlight m files line state [] = IsStored files (final state)
 InFlight m files line state (l ∷ ls) = (m.commits state l ≡ true) × IsStored files (final (m.answer line state l).state)
 
 -- The folder failed, or memory was wanting: the answers of some lines went out whole, and nothing else. The folder
--- stores what these lines have stored, or
--- the commit in flight.
+-- stores what these lines have stored, or the commit in flight.
 pub record Stops (m : Meaning) (told : Type 0) (p : Place) (files : Files) (new : List ℕ) : Type 0 where
   pub done : List (List ℕ)
   pub rest : List (List ℕ)

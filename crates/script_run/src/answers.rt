@@ -42,9 +42,8 @@ pub enum Opening {
     Made { dims: u8, leaf: u16 },
 }
 
-/// Answers a line where an index is there, and sends the answer. True where the line is refused. Of a line that is too
-/// long a part that is
-/// too long too may stand for it: the answer is that of each line that reads as this one.
+/// Answers a line where an index is there, and sends the answer. True where the line is refused. Of a line that is
+/// too long a part that is too long too may stand for it: the answer is that of each line that reads as this one.
 pub fn answer_line<const D: usize, R: Threads + Sync, F: Folder, K: Sink, G: Gate>(
     work: &Work<'_, R, G>,
     session: &mut Session<D>,

@@ -1,6 +1,5 @@
-//! The lines of a script, done one after the other on the index that a folder stores, each answer sent before the next
-//! line
-//! is read, with a commit at the end.
+//! The lines of a script, done one after the other on the index that a folder stores, each answer sent before the
+//! next line is read, with a commit at the end.
 #![tactic(auto)]
 
 mod answers;

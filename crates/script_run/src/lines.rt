@@ -52,8 +52,7 @@ pub struct Tally {
 }
 
 /// Does the lines of a source on what the folder stores, and commits at the end. Answers how many lines were refused.
-/// Each line is done and
-/// answered as soon as it has come, before the source is asked again.
+/// Each line is done and answered as soon as it has come, before the source is asked again.
 pub fn run_lines<S: Source, R: Threads + Sync, F: Folder, K: Sink, G: Gate>(
     work: &Work<'_, R, G>,
     input: &mut S,
