@@ -3,6 +3,8 @@
 #![tactic(auto)]
 
 #[cfg(test)]
+mod asserts;
+#[cfg(test)]
 mod command_words_lines;
 #[cfg(test)]
 mod csv_load_records;
@@ -13,6 +15,10 @@ mod drawn_points_draws;
 #[cfg(test)]
 mod polygon_query_texts;
 #[cfg(test)]
+mod range_docs_commands;
+#[cfg(test)]
 mod range_docs_lines;
 #[cfg(test)]
 mod script_lang_lines;
+#[cfg(test)]
+mod script_lang_replies;
