@@ -1,5 +1,6 @@
 //! What is answered of a folder: by a check, and by a run of an empty script, which opens the index and reads no leaf.
 
+use crate::asserts::same;
 use crate::runs::{run_from, said};
 use crate::stories::{CHECK, RUN};
 use outer_io::{MemFolder, MemSource};
@@ -21,7 +22,7 @@ pub(crate) fn assert_said<R: Threads + Sync + Abort>(
     let checked = told(rt, alloc, CHECK, folder)?;
     let ran = told(rt, alloc, RUN, folder)?;
     let ends = if is_shown { want } else { "" };
-    assert_eq!(rt; (checked.as_str(), ran.as_str()), (want, ends));
+    same(rt, (checked.as_str(), ran.as_str()), (want, ends));
     Ok(())
 }
 

@@ -1,6 +1,7 @@
 //! A session as a program that embeds it calls it, over a folder in memory: where a call on the folder fails all is
 //! seen as before, and the line is done when it is asked again.
 
+use crate::asserts::same_at;
 use crate::runs::empty_folder;
 use crate::stories::check_there;
 use bkd_build::OpenGate;
@@ -59,10 +60,11 @@ fn check_rows<R: Threads + Sync + Abort>(
         folder.plan(fails.to_vec(alloc)?, None);
         out.clear();
         let found = applied(rt, alloc, &mut session, folder, line, &mut out)?;
-        assert_eq!(rt;
+        same_at(
+            rt,
             (found, std::str::from_utf8(out.as_slice())),
             (*comes, Ok(*answer)),
-            "{line}"
+            &line,
         );
     }
     Ok(())

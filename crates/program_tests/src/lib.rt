@@ -9,6 +9,8 @@ mod answers;
 #[cfg(test)]
 mod asked_calls;
 #[cfg(test)]
+mod asserts;
+#[cfg(test)]
 mod checked_entries;
 #[cfg(test)]
 mod checked_folders;
@@ -48,6 +50,8 @@ mod load_faults;
 mod loading;
 #[cfg(test)]
 mod merged_segments;
+#[cfg(test)]
+mod other_words;
 #[cfg(test)]
 mod rows;
 #[cfg(test)]
