@@ -10,11 +10,10 @@ const LEAST: i32 = i32::MIN;
 
 const MOST: i32 = i32::MAX;
 
+const SQUARE: [(i32, i32); 5] = [(0, 0), (10, 0), (10, 10), (0, 10), (0, 0)];
+
 /// A square with a square hole.
-const HOLED: [&[(i32, i32)]; 2] = [
-    &[(0, 0), (10, 0), (10, 10), (0, 10), (0, 0)],
-    &[(4, 4), (6, 4), (6, 6), (4, 6), (4, 4)],
-];
+const HOLED: [&[(i32, i32)]; 2] = [&SQUARE, &[(4, 4), (6, 4), (6, 6), (4, 6), (4, 4)]];
 
 /// The two triangles between the diagonals of all the plane's points.
 const HOURGLASS: [&[(i32, i32)]; 1] = [&[
@@ -112,24 +111,22 @@ fn long_ring(alloc: Global, positions: u32) -> Result<Ring, AllocError> {
     Ok(Ring::new(at))
 }
 
-const SQUARE: &[(i32, i32)] = HOLED[0];
-
 /// Rings, and the first fault of them.
 const FAULTS: [(&[&[(i32, i32)]], Option<RingFault>); 6] = [
     (&[&[]], Some(RingFault::TooFew { ring: 0 })),
     (
-        &[SQUARE, &[(0, 0), (1, 0), (0, 0)]],
+        &[&SQUARE, &[(0, 0), (1, 0), (0, 0)]],
         Some(RingFault::TooFew { ring: 1 }),
     ),
     (
-        &[SQUARE, &[(0, 0), (1, 0), (1, 1), (0, 1)]],
+        &[&SQUARE, &[(0, 0), (1, 0), (1, 1), (0, 1)]],
         Some(RingFault::NotClosed { ring: 1 }),
     ),
     (
         &[&[(0, 0), (1, 0), (1, 1), (1, 0)], &[]],
         Some(RingFault::NotClosed { ring: 0 }),
     ),
-    (&[SQUARE, SQUARE], None),
+    (&[&SQUARE, &SQUARE], None),
     (&[], None),
 ];
 
