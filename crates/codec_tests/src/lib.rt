@@ -2,8 +2,7 @@
 //! are proved.
 #![tactic(auto)]
 
-#[cfg(test)]
-mod asserts;
+pub mod asserts;
 #[cfg(test)]
 mod bkd_build_cuts;
 #[cfg(test)]

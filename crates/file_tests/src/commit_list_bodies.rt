@@ -2,6 +2,7 @@
 
 use crate::samples::changed;
 use byte_cursor::{put_slice, put_u16, put_u32, put_u64};
+use codec_tests::asserts::{holds, holds_at, same, same_at};
 use commit_list::{Commit, Listed, body_length, decode, encode_commit};
 use std::alloc::Global;
 use std::process::Abort;
@@ -56,22 +57,27 @@ const LISTED: Listed = Listed {
 #[test]
 fn one_commit(rt: HostRuntime) -> Result<(), Fail> {
     let c = read(&rt, BODY.as_slice())?;
-    assert_eq!(rt;
+    same(
+        &rt,
         (c.dims(), c.leaf(), c.next(), c.given(), c.next_segment()),
-        (2, 333, 1, 2, 1)
+        (2, 333, 1, 2, 1),
     );
     let [listed] = c.listed() else {
         return Err("one segment")?;
     };
-    assert_eq!(rt; *listed, LISTED);
+    same(&rt, *listed, LISTED);
     Ok(())
 }
 
 #[test]
 fn one_body(rt: HostRuntime) -> Result<(), Fail> {
     let c = read(&rt, BODY.as_slice())?;
-    assert_eq!(rt; encode_commit(rt.alloc(), &c)?.as_slice(), BODY.as_slice());
-    assert_eq!(rt; body_length(BODY.as_slice()), Some(53));
+    same(
+        &rt,
+        encode_commit(rt.alloc(), &c)?.as_slice(),
+        BODY.as_slice(),
+    );
+    same(&rt, body_length(BODY.as_slice()), Some(53));
     Ok(())
 }
 
@@ -81,15 +87,19 @@ fn made_by_numbers(rt: HostRuntime) -> Result<(), Fail> {
     let mut want = BODY.to_vec(rt.alloc())?;
     want.truncate(29);
     want[28] = 0;
-    assert_eq!(rt; encode_commit(rt.alloc(), &c)?.as_slice(), want.as_slice());
+    same(
+        &rt,
+        encode_commit(rt.alloc(), &c)?.as_slice(),
+        want.as_slice(),
+    );
     Ok(())
 }
 
 #[test]
 fn the_layout_of_before(rt: HostRuntime) -> Result<(), Fail> {
     let c = read(&rt, OLD_BODY.as_slice())?;
-    assert_eq!(rt; (c.next(), c.given()), (1, 1));
-    assert_eq!(rt; body_length(OLD_BODY.as_slice()), Some(49));
+    same(&rt, (c.next(), c.given()), (1, 1));
+    same(&rt, body_length(OLD_BODY.as_slice()), Some(49));
     Ok(())
 }
 
@@ -100,7 +110,11 @@ fn the_layout_of_before_is_not_written(rt: HostRuntime) -> Result<(), Fail> {
     let mut want = BODY.to_vec(rt.alloc())?;
     want[18] = 1;
     want[48] = 1;
-    assert_eq!(rt; encode_commit(rt.alloc(), &c)?.as_slice(), want.as_slice());
+    same(
+        &rt,
+        encode_commit(rt.alloc(), &c)?.as_slice(),
+        want.as_slice(),
+    );
     Ok(())
 }
 
@@ -138,10 +152,7 @@ const CHANGES: [(usize, u8, bool); 21] = [
 #[test]
 fn no_front_is_a_body(rt: HostRuntime) -> Result<(), Fail> {
     for len in 0..BODY.len() {
-        assert!(rt;
-            decode(rt.alloc(), &BODY[..len])?.is_none(),
-            "the first {len} bytes"
-        );
+        holds_at(&rt, decode(rt.alloc(), &BODY[..len])?.is_none(), &len);
     }
     Ok(())
 }
@@ -149,10 +160,11 @@ fn no_front_is_a_body(rt: HostRuntime) -> Result<(), Fail> {
 #[test]
 fn one_byte_changed(rt: HostRuntime) -> Result<(), Fail> {
     for (at, byte, want) in CHANGES {
-        assert_eq!(rt;
+        same_at(
+            &rt,
             is_body(&rt, BODY.as_slice(), at, byte)?,
             want,
-            "byte {at} as {byte}"
+            &(at, byte),
         );
     }
     Ok(())
@@ -183,8 +195,12 @@ pub fn long_body(alloc: Global, count: u16) -> Result<Vec<u8>, Fail> {
 fn lists(rt: &(impl Abort + AllocGlobal), count: u16) -> Result<(), Fail> {
     let body = long_body(rt.alloc(), count)?;
     let c = read(rt, body.as_slice())?;
-    assert_eq!(rt; c.listed().len(), usize::from(count));
-    assert_eq!(rt; encode_commit(rt.alloc(), &c)?.as_slice(), body.as_slice());
+    same(rt, c.listed().len(), usize::from(count));
+    same(
+        rt,
+        encode_commit(rt.alloc(), &c)?.as_slice(),
+        body.as_slice(),
+    );
     Ok(())
 }
 
@@ -197,8 +213,8 @@ fn least_and_most_segments(rt: HostRuntime) -> Result<(), Fail> {
 #[test]
 fn too_many_segments(rt: HostRuntime) -> Result<(), Fail> {
     let body = long_body(rt.alloc(), 201)?;
-    assert!(rt; decode(rt.alloc(), body.as_slice())?.is_none());
-    assert_eq!(rt; body_length(body.as_slice()), None);
+    holds(&rt, decode(rt.alloc(), body.as_slice())?.is_none());
+    same(&rt, body_length(body.as_slice()), None);
     Ok(())
 }
 
@@ -210,11 +226,7 @@ const FIRST_IDS: [(u8, bool); 4] = [(0, true), (1, true), (2, false), (3, false)
 fn ids_ascend(rt: HostRuntime) -> Result<(), Fail> {
     let body = long_body(rt.alloc(), 3)?;
     for (first, want) in FIRST_IDS {
-        assert_eq!(rt;
-            is_body(&rt, body.as_slice(), 36, first)?,
-            want,
-            "first id {first}"
-        );
+        same_at(&rt, is_body(&rt, body.as_slice(), 36, first)?, want, &first);
     }
     Ok(())
 }

@@ -2,6 +2,7 @@
 
 use crate::commit_list_bodies::{BODY, OLD_BODY, long_body, read};
 use crate::samples::{changed, flipped};
+use codec_tests::asserts::{holds, holds_at, same, same_at};
 use commit_list::{read_commit, write_commit};
 use outer_io::{FileName, MemFolder};
 use page_cache::{Damage, PageFault, SegFault, pages_of};
@@ -54,14 +55,14 @@ fn answer(rt: &impl AllocGlobal, folder: &mut MemFolder) -> Result<String, Fail>
 /// Reading the commit of a folder with this Commit file answers so.
 fn says(rt: &(impl Abort + AllocGlobal), file: &[u8], want: &str) -> Result<(), Fail> {
     let mut folder = folder_with(rt, file)?;
-    assert_eq!(rt; answer(rt, &mut folder)?.as_str(), want);
+    same(rt, answer(rt, &mut folder)?.as_str(), want);
     Ok(())
 }
 
 #[test]
 fn no_file(rt: HostRuntime) -> Result<(), Fail> {
     let mut empty = MemFolder::new(rt.alloc(), Vec::new(rt.alloc()));
-    assert_eq!(rt; answer(&rt, &mut empty)?.as_str(), "none");
+    same(&rt, answer(&rt, &mut empty)?.as_str(), "none");
     Ok(())
 }
 
@@ -97,7 +98,7 @@ const LENGTHS: [(usize, &str); 5] = [
 #[test]
 fn bad_lengths(rt: HostRuntime) -> Result<(), Fail> {
     let file = long_file(&rt, 200)?;
-    assert_eq!(rt; file.len(), 8192);
+    same(&rt, file.len(), 8192);
     for (len, want) in LENGTHS {
         let mut bad = file.as_slice().to_vec(rt.alloc())?;
         bad.push(0)?;
@@ -186,7 +187,10 @@ fn a_payload_is_carried(rt: HostRuntime) -> Result<(), Fail> {
     let file = bad_file(&rt)?;
     let mut folder = folder_with(&rt, file.as_slice())?;
     let payload = carried(&rt, &mut folder)?;
-    assert!(rt; payload.len() == 4064 && file.as_slice().starts_with(payload.as_slice()));
+    holds(
+        &rt,
+        payload.len() == 4064 && file.as_slice().starts_with(payload.as_slice()),
+    );
     Ok(())
 }
 
@@ -195,7 +199,7 @@ fn a_page_is_carried(rt: HostRuntime) -> Result<(), Fail> {
     let good = bad_file(&rt)?;
     let file = flipped(&rt, good.as_slice(), 9)?;
     let mut folder = folder_with(&rt, file.as_slice())?;
-    assert_eq!(rt; carried(&rt, &mut folder)?.as_slice(), file.as_slice());
+    same(&rt, carried(&rt, &mut folder)?.as_slice(), file.as_slice());
     Ok(())
 }
 
@@ -244,12 +248,12 @@ fn writes(rt: HostRuntime) -> Result<(), Fail> {
     let new = file_of(&rt, BODY.as_slice())?;
     for (fail, stop, expected, _) in WRITES {
         let (folder, done) = write_over(&rt, old.as_slice(), fail, stop)?;
-        assert_eq!(rt; done, expected, "{fail} fails");
+        same_at(&rt, done, expected, &fail);
         let want = if done { &new } else { &old };
         let commit = file_in(&folder, &FileName::Commit);
-        assert_eq!(rt; commit, want.as_slice(), "{fail} fails");
+        same_at(&rt, commit, want.as_slice(), &fail);
         let segment = file_in(&folder, &FileName::Segment(7));
-        assert_eq!(rt; segment, b"seven".as_slice());
+        same(&rt, segment, b"seven".as_slice());
     }
     Ok(())
 }
@@ -262,9 +266,10 @@ fn rests_of_writes(rt: HostRuntime) -> Result<(), Fail> {
     for (fail, stop, _, left) in WRITES {
         let (folder, _) = write_over(&rt, old.as_slice(), fail, stop)?;
         let rest = file_in(&folder, &FileName::CommitNew);
-        assert!(rt;
+        holds_at(
+            &rt,
             new.as_slice().starts_with(rest) && rest.len() == left,
-            "{fail} fails"
+            &fail,
         );
     }
     Ok(())
@@ -284,7 +289,7 @@ fn failing_reads(rt: HostRuntime) -> Result<(), Fail> {
     let mut folder = folder_with(&rt, file.as_slice())?;
     for (call, want) in READS {
         folder.plan([call].to_vec(rt.alloc())?, None);
-        assert_eq!(rt; answer(&rt, &mut folder)?.as_str(), want, "call {call}");
+        same_at(&rt, answer(&rt, &mut folder)?.as_str(), want, &call);
     }
     Ok(())
 }

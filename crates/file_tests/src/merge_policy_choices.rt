@@ -1,5 +1,6 @@
 //! Which segments are merged, at the ends of levels.
 
+use codec_tests::asserts::holds;
 use merge_policy::choose;
 
 /// Two sizes, and whether they are of one level.
@@ -37,15 +38,19 @@ fn chooses_the_first_ten_of_the_lowest_level(rt: HostRuntime) {
     ];
     let mut pinned = [false; 22];
     let lowest = choose(&sizes, &pinned);
-    assert!(rt; lowest.is_some_and(|p| p.as_slice() == [1, 2, 3, 4, 5, 6, 7, 8, 9, 10].as_slice()));
+    holds(
+        &rt,
+        lowest.is_some_and(|p| p.as_slice() == [1, 2, 3, 4, 5, 6, 7, 8, 9, 10].as_slice()),
+    );
     pinned[3] = true;
     pinned[12] = true;
     let next = choose(&sizes, &pinned);
-    assert!(rt;
-        next.is_some_and(|p| p.as_slice() == [0, 11, 13, 14, 15, 16, 17, 18, 19, 20].as_slice())
+    holds(
+        &rt,
+        next.is_some_and(|p| p.as_slice() == [0, 11, 13, 14, 15, 16, 17, 18, 19, 20].as_slice()),
     );
     pinned[13] = true;
     pinned[14] = true;
-    assert!(rt; choose(&sizes, &pinned).is_none());
-    assert!(rt; choose(&[], &[]).is_none());
+    holds(&rt, choose(&sizes, &pinned).is_none());
+    holds(&rt, choose(&[], &[]).is_none());
 }

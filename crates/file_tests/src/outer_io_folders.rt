@@ -1,5 +1,6 @@
 //! Folders by tables of calls: in memory, in a directory, and in memory with calls that fail or are stopped.
 
+use codec_tests::asserts::{holds, same, same_at};
 use outer_io::{DirFolder, Failed, FileName, Folder, MemFolder, WriteFault};
 use std::path::PathBuf;
 use std::process::Abort;
@@ -77,7 +78,7 @@ fn make_call<F: Folder>(folder: &mut F, call: &Call) -> Answer {
 /// Makes these calls in turn, and compares what each answers.
 fn goes_through<F: Folder>(rt: &impl Abort, folder: &mut F, rows: &[(Call, Answer)]) {
     for (i, (call, expected)) in rows.iter().enumerate() {
-        assert_eq!(rt; make_call(folder, call), *expected, "call {i}");
+        same_at(rt, make_call(folder, call), *expected, &i);
     }
 }
 
@@ -179,7 +180,7 @@ fn calls_in_a_directory(rt: HostRuntime) -> Result<(), Fail> {
     goes_through(&rt, &mut folder, &AGREED);
     goes_through(&rt, &mut folder, &ANEW);
     let path = format!(in rt.alloc(); "{dir}/seg-00000000000000ff.bkd", dir = dir.as_str())?;
-    assert!(rt; fs::exists(&rt, path.as_str())?);
+    holds(&rt, fs::exists(&rt, path.as_str())?);
     goes_through(&rt, &mut folder, &LEFT);
     fs::remove_dir(&rt, dir.as_str())?;
     Ok(())
@@ -225,12 +226,12 @@ fn for_each_file<F: Folder>(folder: &mut F, make: bool) -> Result<(), WriteFault
 fn more_files_than_stay_open(rt: HostRuntime) -> Result<(), Fail> {
     let dir = directory(&rt, "many")?;
     let mut folder = DirFolder::new(&rt, rt.alloc(), dir.as_str())?;
-    assert_eq!(rt; for_each_file(&mut folder, true), Ok(()));
-    assert!(rt; each_is_its_own(&mut folder));
+    same(&rt, for_each_file(&mut folder, true), Ok(()));
+    holds(&rt, each_is_its_own(&mut folder));
     let row = (Call::Rename(FIRST, FIRST), Answer::Done);
     goes_through(&rt, &mut folder, &[row]);
-    assert!(rt; each_is_its_own(&mut folder));
-    assert_eq!(rt; for_each_file(&mut folder, false), Ok(()));
+    holds(&rt, each_is_its_own(&mut folder));
+    same(&rt, for_each_file(&mut folder, false), Ok(()));
     fs::remove_dir(&rt, dir.as_str())?;
     Ok(())
 }
@@ -247,7 +248,7 @@ const TORN: [(Call, Answer); 2] = [
 fn a_torn_call_leaves_half(rt: HostRuntime) -> Result<(), Fail> {
     let mut folder = MemFolder::new(rt.alloc(), [1].to_vec(rt.alloc())?);
     goes_through(&rt, &mut folder, &TORN);
-    assert_eq!(rt; folder.get(&SEVENTH), Some(b"abcd".as_slice()));
+    same(&rt, folder.get(&SEVENTH), Some(b"abcd".as_slice()));
     Ok(())
 }
 
@@ -268,6 +269,6 @@ fn a_stopped_call_leaves_all(rt: HostRuntime) -> Result<(), Fail> {
     folder.plan([].to_vec(rt.alloc())?, Some(1));
     folder.put(FileName::CommitNew, b"next".to_vec(rt.alloc())?)?;
     goes_through(&rt, &mut folder, &STOPPED);
-    assert_eq!(rt; folder.get(&FileName::Commit), Some(b"next".as_slice()));
+    same(&rt, folder.get(&FileName::Commit), Some(b"next".as_slice()));
     Ok(())
 }

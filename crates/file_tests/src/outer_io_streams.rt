@@ -1,5 +1,6 @@
 //! Sources and sinks, in memory and over files, and how the files of an index are named.
 
+use codec_tests::asserts::{same, same_at};
 use outer_io::{
     Failed, FileName, MemSink, MemSource, ReadAll, StdSink, StdSource, read_all, write_all,
 };
@@ -35,11 +36,7 @@ const ENDS: [(&[u8], u64, &[u64], Result<usize, ReadAll>); 5] = [
 #[test]
 fn reads_to_the_end_within_the_limit(rt: HostRuntime) -> Result<(), Fail> {
     for (bytes, limit, fail, expected) in ENDS {
-        assert_eq!(rt;
-            outcome(&rt, bytes, limit, fail)?,
-            expected,
-            "limit {limit}"
-        );
+        same_at(&rt, outcome(&rt, bytes, limit, fail)?, expected, &limit);
     }
     Ok(())
 }
@@ -56,8 +53,8 @@ fn a_sink_without_room_has_a_prefix(rt: HostRuntime) -> Result<(), Fail> {
     let fail = [3].to_vec(rt.alloc())?;
     let mut sink = MemSink::new(rt.alloc(), 5, fail)?;
     for (piece, expected, written) in PIECES {
-        assert_eq!(rt; write_all(&mut sink, piece), expected);
-        assert_eq!(rt; sink.bytes(), written);
+        same(&rt, write_all(&mut sink, piece), expected);
+        same(&rt, sink.bytes(), written);
     }
     Ok(())
 }
@@ -79,7 +76,7 @@ const NAMES: [(FileName, &str); 4] = [
 #[test]
 fn names_in_a_directory(rt: HostRuntime) -> Result<(), Fail> {
     for (name, text) in NAMES {
-        assert_eq!(rt; name.to_string(rt.alloc())?.as_str(), text);
+        same(&rt, name.to_string(rt.alloc())?.as_str(), text);
     }
     Ok(())
 }
@@ -102,10 +99,10 @@ const LIMIT: u64 = 1_000_000;
 fn streams_of_the_system(rt: HostRuntime) -> Result<(), Fail> {
     let path = temporary(&rt, "lines")?;
     let mut sink = StdSink::new(fs::create(&rt, path.as_str())?);
-    assert_eq!(rt; write_all(&mut sink, LINES), Ok(()));
+    same(&rt, write_all(&mut sink, LINES), Ok(()));
     let mut source = StdSource::new(fs::open(&rt, path.as_str())?);
     let all = read_all(rt.alloc(), &mut source, LIMIT)?;
-    assert_eq!(rt; all.as_slice(), LINES);
+    same(&rt, all.as_slice(), LINES);
     fs::remove_file(&rt, path.as_str())?;
     Ok(())
 }
@@ -115,7 +112,7 @@ fn a_stream_that_takes_nothing_fails(rt: HostRuntime) -> Result<(), Fail> {
     let path = temporary(&rt, "closed")?;
     fs::create(&rt, path.as_str())?;
     let mut closed = StdSink::new(fs::open(&rt, path.as_str())?);
-    assert_eq!(rt; write_all(&mut closed, b"a"), Err(Failed));
+    same(&rt, write_all(&mut closed, b"a"), Err(Failed));
     fs::remove_file(&rt, path.as_str())?;
     Ok(())
 }

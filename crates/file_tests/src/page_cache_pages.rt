@@ -3,6 +3,7 @@
 ghost use Rattle.std.specs.Prelude.{◌≤◌};
 
 use crate::samples::{changed, front};
+use codec_tests::asserts::{holds, same, same_at};
 use outer_io::{FileName, MemFolder};
 use page_cache::{Damage, FirstPage, PageCache, PageFault, pages_of, put_pages, read_payloads};
 use page_file::PAYLOAD_LEN;
@@ -56,7 +57,7 @@ const CALLS: [(u64, Option<usize>); 4] = [(0, Some(0)), (1, Some(2)), (2, Some(3
 #[test]
 fn a_cache_of_one_page_reads_once_not_once_once(rt: HostRuntime) -> Result<(), Fail> {
     for (call, expected) in CALLS {
-        assert_eq!(rt; first_failure(&rt, call)?, expected, "call {call}");
+        same_at(&rt, first_failure(&rt, call)?, expected, &call);
     }
     Ok(())
 }
@@ -109,10 +110,10 @@ const LENGTHS: [(usize, (u8, u64, u64)); 5] = [
 #[test]
 fn a_file_is_read_whole_or_its_size_is_told(rt: HostRuntime) -> Result<(), Fail> {
     let mut bytes = stored(&rt, &FileName::Commit)?;
-    assert_eq!(rt; bytes.len(), 12288);
+    same(&rt, bytes.len(), 12288);
     bytes.push(0)?;
     for (len, expected) in LENGTHS {
-        assert_eq!(rt; outcome(&rt, front(bytes.as_slice(), len))?, expected);
+        same(&rt, outcome(&rt, front(bytes.as_slice(), len))?, expected);
     }
     Ok(())
 }
@@ -121,7 +122,10 @@ fn a_file_is_read_whole_or_its_size_is_told(rt: HostRuntime) -> Result<(), Fail>
 fn a_missing_file_is_told(rt: HostRuntime) -> Result<(), Fail> {
     let mut folder = MemFolder::new(rt.alloc(), [].to_vec(rt.alloc())?);
     let missing = read_three(&rt, &mut folder);
-    assert!(rt; missing.is_err_and(|fault| told_of(&fault) == (1, 0, 0)));
+    holds(
+        &rt,
+        missing.is_err_and(|fault| told_of(&fault) == (1, 0, 0)),
+    );
     Ok(())
 }
 
@@ -129,7 +133,7 @@ fn a_missing_file_is_told(rt: HostRuntime) -> Result<(), Fail> {
 fn a_page_that_was_changed_is_told(rt: HostRuntime) -> Result<(), Fail> {
     let bytes = stored(&rt, &FileName::Commit)?;
     let bad = changed(&rt, bytes.as_slice(), 4096 + 5, 0x5b)?;
-    assert_eq!(rt; outcome(&rt, bad.as_slice())?, (3, 1, 0x5b));
+    same(&rt, outcome(&rt, bad.as_slice())?, (3, 1, 0x5b));
     Ok(())
 }
 
@@ -142,16 +146,16 @@ fn a_page_that_was_moved_is_told(rt: HostRuntime) -> Result<(), Fail> {
     let mut turned = first.to_vec(rt.alloc())?;
     turned.extend_from_slice(third)?;
     turned.extend_from_slice(second)?;
-    assert_eq!(rt; outcome(&rt, turned.as_slice())?, (3, 1, 0x5a));
+    same(&rt, outcome(&rt, turned.as_slice())?, (3, 1, 0x5a));
     Ok(())
 }
 
 #[test]
 fn pages_are_of_a_kind_of_file(rt: HostRuntime) -> Result<(), Fail> {
     let new = stored(&rt, &FileName::CommitNew)?;
-    assert_eq!(rt; outcome(&rt, new.as_slice())?, (0, 12192, 0));
+    same(&rt, outcome(&rt, new.as_slice())?, (0, 12192, 0));
     let segment = stored(&rt, &SEGMENT)?;
-    assert_eq!(rt; outcome(&rt, segment.as_slice())?, (3, 0, 0x5a));
+    same(&rt, outcome(&rt, segment.as_slice())?, (3, 0, 0x5a));
     Ok(())
 }
 
@@ -176,10 +180,10 @@ const LOADS: [(usize, u32, (u8, u64, u64)); 4] = [
 #[test]
 fn a_page_behind_the_end_shows_the_end(rt: HostRuntime) -> Result<(), Fail> {
     let bytes = stored(&rt, &SEGMENT)?;
-    assert_eq!(rt; bytes.len(), 12288);
+    same(&rt, bytes.len(), 12288);
     for (len, number, expected) in LOADS {
         let told = loaded(&rt, front(bytes.as_slice(), len), number)?;
-        assert_eq!(rt; told, expected, "page {number} of {len} bytes");
+        same_at(&rt, told, expected, &(number, len));
     }
     Ok(())
 }
@@ -211,9 +215,9 @@ const LIVE: FileName = FileName::Live {
 /// Page 0 of segment 7 is taken once, and what is not kept is not.
 fn takes(rt: &impl Abort, cache: &mut PageCache) {
     let taken = cache.take(&SEGMENT, 0);
-    assert!(rt; taken.is_some_and(|p| p.b[0] == 0x5a));
-    assert!(rt; cache.take(&SEGMENT, 0).is_none());
-    assert!(rt; cache.take(&LIVE, 1).is_none());
+    holds(rt, taken.is_some_and(|p| p.b[0] == 0x5a));
+    holds(rt, cache.take(&SEGMENT, 0).is_none());
+    holds(rt, cache.take(&LIVE, 1).is_none());
 }
 
 /// Whether the first page of segment 8 is there where no call of the folder succeeds, and page 1 of segment 7.
@@ -232,12 +236,12 @@ fn kept(
 fn kept_pages_are_viewed_taken_and_forgotten(rt: HostRuntime) -> Result<(), Fail> {
     let mut folder = two_segments(&rt)?;
     let mut cache = PageCache::new(rt.alloc(), 3)?;
-    assert!(rt; views(&rt, &mut folder, &mut cache)?);
-    assert!(rt; cache.load(rt.alloc(), &mut folder, 7, 0).is_ok());
-    assert!(rt; cache.load(rt.alloc(), &mut folder, 8, 0).is_ok());
+    holds(&rt, views(&rt, &mut folder, &mut cache)?);
+    holds(&rt, cache.load(rt.alloc(), &mut folder, 7, 0).is_ok());
+    holds(&rt, cache.load(rt.alloc(), &mut folder, 8, 0).is_ok());
     takes(&rt, &mut cache);
     cache.forget(7);
-    assert_eq!(rt; kept(&rt, &mut folder, &mut cache)?, (true, false));
+    same(&rt, kept(&rt, &mut folder, &mut cache)?, (true, false));
     Ok(())
 }
 
@@ -257,10 +261,11 @@ fn pages_put_behind_others_are_read_from_there(rt: HostRuntime) -> Result<(), Fa
     let payloads = payloads_behind(&rt)?;
     assert_eq!(rt; payloads.len(), 3 * PAYLOAD_LEN);
     let (_, behind) = payloads.as_slice().split_at(PAYLOAD_LEN);
-    assert_eq!(rt;
+    same(
+        &rt,
         &behind[PAYLOAD_LEN..PAYLOAD_LEN + 8],
-        b"behind\0\0".as_slice()
+        b"behind\0\0".as_slice(),
     );
-    assert_eq!(rt; &behind[870..874], [0x5a, 0x5a, 0, 0].as_slice());
+    same(&rt, &behind[870..874], [0x5a, 0x5a, 0, 0].as_slice());
     Ok(())
 }

@@ -5,6 +5,7 @@ ghost use Rattle.std.specs.Prelude.{◌≡◌};
 use crate::samples::file_of_three;
 use bkd_build::OpenGate;
 use byte_cursor::Memory;
+use codec_tests::asserts::{holds, same};
 use live_bits::LiveBits;
 use outer_io::{FileName, MemFolder};
 use page_cache::SegFault;
@@ -41,16 +42,20 @@ fn five<R: Threads + Sync>(rt: &R, alloc: Global) -> Result<NewSegment<1>, Memor
 #[test]
 fn five_entries_are_written_after_a_refusal(rt: HostRuntime) -> Result<(), Fail> {
     let segment = five(&rt, rt.alloc())?;
-    assert_eq!(rt; segment.entries(), 5);
+    same(&rt, segment.entries(), 5);
     let mut folder = MemFolder::new(rt.alloc(), [0].to_vec(rt.alloc())?);
     let failed = segment.write(rt.alloc(), &mut folder, 7);
-    assert!(rt; failed.is_err_and(|fault| fault == SegFault::Failed));
+    holds(&rt, failed.is_err_and(|fault| fault == SegFault::Failed));
     let head = segment.write(rt.alloc(), &mut folder, 7);
-    assert!(rt; head.is_ok_and(|head| head.id() == 7 && head.entries() == 5));
+    holds(
+        &rt,
+        head.is_ok_and(|head| head.id() == 7 && head.entries() == 5),
+    );
     let expected = file_of_three(&rt, 7)?;
-    assert_eq!(rt;
+    same(
+        &rt,
         folder.get(&FileName::Segment(7)),
-        Some(expected.as_slice())
+        Some(expected.as_slice()),
     );
     Ok(())
 }
@@ -58,24 +63,24 @@ fn five_entries_are_written_after_a_refusal(rt: HostRuntime) -> Result<(), Fail>
 #[test]
 fn five_entries_are_live(rt: HostRuntime) -> Result<(), Fail> {
     let segment = five(&rt, rt.alloc())?;
-    assert_eq!(rt; segment.live().live_count(), 5);
+    same(&rt, segment.live().live_count(), 5);
     Ok(())
 }
 
 /// The live entries once number 3 was cleared, which is cleared once, and number 5 never.
 fn cleared<R: Abort + Threads + Sync>(rt: &R, alloc: Global) -> Result<LiveBits, Fail> {
     let mut segment = five(rt, alloc)?;
-    assert!(rt; segment.clear(3));
-    assert!(rt; !segment.clear(3));
-    assert!(rt; !segment.clear(5));
+    holds(rt, segment.clear(3));
+    holds(rt, !segment.clear(3));
+    holds(rt, !segment.clear(5));
     Ok(segment.into_live())
 }
 
 #[test]
 fn a_number_is_cleared_once(rt: HostRuntime) -> Result<(), Fail> {
     let live = cleared(&rt, rt.alloc())?;
-    assert_eq!(rt; live.live_count(), 4);
-    assert!(rt; !live.is_live(3));
-    assert!(rt; live.is_live(4));
+    same(&rt, live.live_count(), 4);
+    holds(&rt, !live.is_live(3));
+    holds(&rt, live.is_live(4));
     Ok(())
 }

@@ -5,6 +5,7 @@ ghost use Rattle.std.specs.Prelude.{◌≡◌, ◌≤◌, ◌^◌, vec_len, IfOk
 ghost use Rattle.bkd_build.specs.Parts.{AreEntries};
 
 use bkd_build::OpenGate;
+use codec_tests::asserts::{holds_at, same, same_at};
 use outer_io::{FileName, MemFolder};
 use page_cache::{PageCache, PageFault, SegFault};
 use point_codec::{Entry, Point};
@@ -69,24 +70,33 @@ fn size(folder: &MemFolder) -> usize {
     folder.get(&SEGMENT).map_or(0, |bytes| bytes.len())
 }
 
+/// Which call fails, and whether the segment is written then.
+const PIECES: [(u64, bool); 3] = [(0, false), (1, false), (2, true)];
+
+/// Writes the segment where a call fails: it is written whole, of more than one piece, or fails.
+fn is_written(
+    alloc: Global,
+    segment: &NewSegment<2>,
+    folder: &mut MemFolder,
+    call: u64,
+) -> Result<bool, Fail> {
+    folder.plan(vec![in alloc; call]?, None);
+    match segment.write(alloc, folder, 3) {
+        Ok(head) => Ok(head.entries() == MANY && size(folder) > 256 * 4096),
+        Err(SegFault::Failed) => Ok(false),
+        Err(SegFault::Memory) => Err("memory is wanting")?,
+    }
+}
+
 #[test]
 fn each_piece_that_fails(rt: HostRuntime) -> Result<(), Fail> {
     let segment = segment(&rt, rt.alloc(), MANY)?;
     let mut folder = folder(&rt)?;
-    for (call, done) in [(0, false), (1, false), (2, true)] {
-        folder.plan(vec![in rt.alloc(); call]?, None);
-        match segment.write(rt.alloc(), &mut folder, 3) {
-            Ok(head) => {
-                assert_eq!(rt; (head.entries(), done), (MANY, true));
-                assert!(rt; size(&folder) > 256 * 4096, "one piece");
-            }
-            Err(fault) => assert_eq!(rt; (fault, done), (SegFault::Failed, false)),
-        }
-        assert_eq!(rt;
-            folder.get(&FileName::Commit),
-            Some(b"as before".as_slice()),
-            "call {call}"
-        );
+    for (call, done) in PIECES {
+        let written = is_written(rt.alloc(), &segment, &mut folder, call)?;
+        same_at(&rt, written, done, &call);
+        let before = folder.get(&FileName::Commit);
+        same_at(&rt, before, Some(b"as before".as_slice()), &call);
     }
     Ok(())
 }
@@ -100,7 +110,11 @@ fn each_read_that_fails(rt: HostRuntime) -> Result<(), Fail> {
         .write(rt.alloc(), &mut folder, 3)
         .ok()
         .ok_or("no segment")?;
-    assert_eq!(rt; (head.index().leaves(), head.index().leaf_pages()), (7, 3));
+    same(
+        &rt,
+        (head.index().leaves(), head.index().leaf_pages()),
+        (7, 3),
+    );
     let file = folder.get(&SEGMENT).unwrap_or(&[]).to_vec(rt.alloc())?;
     for call in 0..4 {
         let mut cache = PageCache::new(rt.alloc(), 9)?;
@@ -108,13 +122,10 @@ fn each_read_that_fails(rt: HostRuntime) -> Result<(), Fail> {
         match read_entries(rt.alloc(), &mut folder, &mut cache, &head, segment.live()) {
             Ok(entries) => assert_eq!(rt; (entries.len(), call), (2_000, 3)),
             Err(fault) => {
-                assert!(rt;
-                    matches!(fault, PageFault::Failed) && call < 3,
-                    "read {call}"
-                );
+                holds_at(&rt, matches!(fault, PageFault::Failed) && call < 3, &call);
             }
         }
-        assert_eq!(rt; folder.get(&SEGMENT), Some(file.as_slice()), "read {call}");
+        same_at(&rt, folder.get(&SEGMENT), Some(file.as_slice()), &call);
     }
     Ok(())
 }

@@ -6,6 +6,7 @@ use crate::samples::{
     LEAVES, OWN, OWN_HEAD, PACKED, Told, answer_told, changed, fault_told, file, file_of_three,
     folder_with, front,
 };
+use codec_tests::asserts::same;
 use inner_pack::NodeAt;
 use live_bits::LiveBits;
 use outer_io::{FileName, MemFolder};
@@ -89,7 +90,7 @@ fn reads_live(
     let entries = read_entries(rt.alloc(), folder, cache, head, &live)
         .ok()
         .ok_or("no entries")?;
-    assert_eq!(rt; entries.as_slice(), LIVE.as_slice());
+    same(rt, entries.as_slice(), LIVE.as_slice());
     Ok(())
 }
 
@@ -108,8 +109,12 @@ fn live_entries_are_read_in_each_form_and_their_page_once(rt: HostRuntime) -> Re
 fn a_head_is_what_the_file_says(rt: HostRuntime) -> Result<(), Fail> {
     let (_, opened) = stored(&rt, &PACKED_HEAD, &PACKED, &LEAVES)?;
     let head = opened.copy(rt.alloc())?;
-    assert_eq!(rt; (head.id(), head.entries(), head.leaf_size()), (7, 5, 2));
-    assert_eq!(rt; head.index().body(), PACKED.as_slice());
+    same(
+        &rt,
+        (head.id(), head.entries(), head.leaf_size()),
+        (7, 5, 2),
+    );
+    same(&rt, head.index().body(), PACKED.as_slice());
     Ok(())
 }
 
@@ -117,9 +122,10 @@ fn a_head_is_what_the_file_says(rt: HostRuntime) -> Result<(), Fail> {
 fn a_head_tells_the_count_of_each_leaf(rt: HostRuntime) -> Result<(), Fail> {
     let (_, opened) = stored(&rt, &PACKED_HEAD, &PACKED, &LEAVES)?;
     let head = opened.copy(rt.alloc())?;
-    assert_eq!(rt;
+    same(
+        &rt,
         (head.count_of(1), head.count_of(2), head.count_of(3)),
-        (2, 1, 0)
+        (2, 1, 0),
     );
     Ok(())
 }
@@ -138,8 +144,8 @@ fn read(rt: &HostRuntime, bytes: &[u8], fail: &[u64]) -> Result<Told, Fail> {
 #[test]
 fn a_read_that_fails_is_told(rt: HostRuntime) -> Result<(), Fail> {
     let bytes = file_of_three(&rt, 7)?;
-    assert_eq!(rt; read(&rt, bytes.as_slice(), &[1])?, Told::Fine);
-    assert_eq!(rt; read(&rt, bytes.as_slice(), &[0])?, Told::Failed);
+    same(&rt, read(&rt, bytes.as_slice(), &[1])?, Told::Fine);
+    same(&rt, read(&rt, bytes.as_slice(), &[0])?, Told::Failed);
     Ok(())
 }
 
@@ -147,9 +153,9 @@ fn a_read_that_fails_is_told(rt: HostRuntime) -> Result<(), Fail> {
 fn a_file_that_was_cut_or_changed_is_told(rt: HostRuntime) -> Result<(), Fail> {
     let bytes = file_of_three(&rt, 7)?;
     let cut = front(bytes.as_slice(), 12287);
-    assert_eq!(rt; read(&rt, cut, &[])?, Told::Size(12287, 12288));
+    same(&rt, read(&rt, cut, &[])?, Told::Size(12287, 12288));
     let bad = changed(&rt, bytes.as_slice(), 8192 + 29, 8)?;
-    assert_eq!(rt; read(&rt, bad.as_slice(), &[])?, Told::Page(2));
+    same(&rt, read(&rt, bad.as_slice(), &[])?, Told::Page(2));
     Ok(())
 }
 
@@ -164,7 +170,7 @@ const NO_LEAVES: [(&[u8], Told); 3] = [
 fn a_leaf_that_is_none_is_told(rt: HostRuntime) -> Result<(), Fail> {
     for (leaves, expected) in NO_LEAVES {
         let bytes = file(&rt, 7, &OWN_HEAD, &OWN, leaves)?;
-        assert_eq!(rt; read(&rt, bytes.as_slice(), &[])?, expected);
+        same(&rt, read(&rt, bytes.as_slice(), &[])?, expected);
     }
     Ok(())
 }
@@ -172,7 +178,7 @@ fn a_leaf_that_is_none_is_told(rt: HostRuntime) -> Result<(), Fail> {
 #[test]
 fn the_leaves_of_another_segment_are_told(rt: HostRuntime) -> Result<(), Fail> {
     let bytes = file_of_three(&rt, 8)?;
-    assert_eq!(rt; read(&rt, bytes.as_slice(), &[])?, Told::Page(2));
+    same(&rt, read(&rt, bytes.as_slice(), &[])?, Told::Page(2));
     Ok(())
 }
 
@@ -229,12 +235,12 @@ fn a_kept_page_is_read_no_more(rt: HostRuntime) -> Result<(), Fail> {
     let mut cache = PageCache::new(rt.alloc(), 1)?;
     let (mut folder, head) = stored(&rt, &OWN_HEAD, &OWN, &LEAVES)?;
     let first = middle_doc(&rt, &mut folder, &mut cache, &head, 1)?;
-    assert_eq!(rt; first, Ok(2));
+    same(&rt, first, Ok(2));
     let again = middle_doc(&rt, &mut folder, &mut cache, &head, 0)?;
-    assert_eq!(rt; again, Ok(2));
+    same(&rt, again, Ok(2));
     cache.forget(7);
     let forgotten = middle_doc(&rt, &mut folder, &mut cache, &head, 0)?;
-    assert_eq!(rt; forgotten, Err(Told::Failed));
+    same(&rt, forgotten, Err(Told::Failed));
     Ok(())
 }
 
@@ -243,9 +249,9 @@ fn a_page_is_not_kept_where_a_leaf_is_none(rt: HostRuntime) -> Result<(), Fail> 
     let mut cache = PageCache::new(rt.alloc(), 1)?;
     let (mut folder, head) = stored(&rt, &OWN_HEAD, &OWN, &ASTRAY)?;
     let first = middle_doc(&rt, &mut folder, &mut cache, &head, 1)?;
-    assert_eq!(rt; first, Err(Told::Leaf(2, 12, 9)));
+    same(&rt, first, Err(Told::Leaf(2, 12, 9)));
     let again = middle_doc(&rt, &mut folder, &mut cache, &head, 0)?;
-    assert_eq!(rt; again, Err(Told::Failed));
+    same(&rt, again, Err(Told::Failed));
     Ok(())
 }
 
@@ -272,7 +278,7 @@ const NOTES: [(&[u8], u16, bool); 3] = [
 #[test]
 fn a_leaf_that_was_read_is_known_the_second_time(rt: HostRuntime) -> Result<(), Fail> {
     for (leaves, count, expected) in NOTES {
-        assert_eq!(rt; is_noted(&rt, leaves, count)?, expected);
+        same(&rt, is_noted(&rt, leaves, count)?, expected);
     }
     Ok(())
 }

@@ -4,6 +4,7 @@ use crate::samples::{
     LEAVES, OWN, OWN_HEAD, PACKED, Told, answer_told, changed, file, file_of_three, flipped,
     folder_with, front, put_page,
 };
+use codec_tests::asserts::{same, same_at};
 use outer_io::{FileName, MemFolder};
 use segment_file::open_segment;
 use std::test::Fail;
@@ -22,7 +23,7 @@ fn opened(rt: &HostRuntime, bytes: &[u8]) -> Result<Told, Fail> {
 #[test]
 fn a_segment_is_opened(rt: HostRuntime) -> Result<(), Fail> {
     let bytes = file_of_three(&rt, 7)?;
-    assert_eq!(rt; opened(&rt, bytes.as_slice())?, Told::Fine);
+    same(&rt, opened(&rt, bytes.as_slice())?, Told::Fine);
     Ok(())
 }
 
@@ -39,7 +40,7 @@ fn a_file_of_another_length_is_told(rt: HostRuntime) -> Result<(), Fail> {
     let mut bytes = file_of_three(&rt, 7)?;
     bytes.push(0)?;
     for (len, expected) in LENGTHS {
-        assert_eq!(rt; opened(&rt, front(bytes.as_slice(), len))?, expected);
+        same(&rt, opened(&rt, front(bytes.as_slice(), len))?, expected);
     }
     Ok(())
 }
@@ -47,9 +48,9 @@ fn a_file_of_another_length_is_told(rt: HostRuntime) -> Result<(), Fail> {
 #[test]
 fn the_file_of_another_segment_is_told(rt: HostRuntime) -> Result<(), Fail> {
     let other = file_of_three(&rt, 8)?;
-    assert_eq!(rt; opened(&rt, other.as_slice())?, Told::Page(0));
+    same(&rt, opened(&rt, other.as_slice())?, Told::Page(0));
     let mut folder = folder_with(&rt, FileName::Segment(8), other.as_slice())?;
-    assert_eq!(rt; opened_in(&rt, &mut folder), Told::Missing);
+    same(&rt, opened_in(&rt, &mut folder), Told::Missing);
     Ok(())
 }
 
@@ -67,8 +68,12 @@ fn each_call_of_opening_that_fails_is_told(rt: HostRuntime) -> Result<(), Fail> 
     let mut folder = folder_with(&rt, FileName::Segment(7), bytes.as_slice())?;
     for (call, expected) in CALLS {
         folder.plan([call].to_vec(rt.alloc())?, None);
-        assert_eq!(rt; opened_in(&rt, &mut folder), expected, "call {call}");
-        assert_eq!(rt; folder.get(&FileName::Segment(7)), Some(bytes.as_slice()));
+        same_at(&rt, opened_in(&rt, &mut folder), expected, &call);
+        same(
+            &rt,
+            folder.get(&FileName::Segment(7)),
+            Some(bytes.as_slice()),
+        );
     }
     Ok(())
 }
@@ -79,7 +84,7 @@ fn a_page_that_was_moved_is_told(rt: HostRuntime) -> Result<(), Fail> {
     put_page(&mut bytes, 7, 0, &OWN_HEAD)?;
     put_page(&mut bytes, 7, 2, &LEAVES)?;
     put_page(&mut bytes, 7, 1, &OWN)?;
-    assert_eq!(rt; opened(&rt, bytes.as_slice())?, Told::Page(1));
+    same(&rt, opened(&rt, bytes.as_slice())?, Told::Page(1));
     Ok(())
 }
 
@@ -88,7 +93,7 @@ fn each_byte_of_the_first_page_counts(rt: HostRuntime) -> Result<(), Fail> {
     let bytes = file_of_three(&rt, 7)?;
     for at in 0..4096 {
         let bad = flipped(&rt, bytes.as_slice(), at)?;
-        assert_eq!(rt; opened(&rt, bad.as_slice())?, Told::Page(0), "byte {at}");
+        same_at(&rt, opened(&rt, bad.as_slice())?, Told::Page(0), &at);
     }
     Ok(())
 }
@@ -118,11 +123,7 @@ fn each_field_out_of_range_is_told(rt: HostRuntime) -> Result<(), Fail> {
     for (at, byte, expected) in CHANGES {
         let head = changed(&rt, &OWN_HEAD, at, byte)?;
         let bytes = file(&rt, 7, head.as_slice(), &OWN, &LEAVES)?;
-        assert_eq!(rt;
-            opened(&rt, bytes.as_slice())?,
-            expected,
-            "byte {at} as {byte}"
-        );
+        same_at(&rt, opened(&rt, bytes.as_slice())?, expected, &(at, byte));
     }
     Ok(())
 }
@@ -130,7 +131,7 @@ fn each_field_out_of_range_is_told(rt: HostRuntime) -> Result<(), Fail> {
 #[test]
 fn an_index_that_is_none_is_told(rt: HostRuntime) -> Result<(), Fail> {
     let bytes = file(&rt, 7, &OWN_HEAD, &PACKED, &LEAVES)?;
-    assert_eq!(rt; opened(&rt, bytes.as_slice())?, Told::Body(8128));
+    same(&rt, opened(&rt, bytes.as_slice())?, Told::Body(8128));
     Ok(())
 }
 
@@ -139,6 +140,6 @@ fn an_index_of_other_pages_is_told(rt: HostRuntime) -> Result<(), Fail> {
     let head = changed(&rt, &OWN_HEAD, 27, 2)?;
     let mut bytes = file(&rt, 7, head.as_slice(), &OWN, &LEAVES)?;
     put_page(&mut bytes, 7, 3, &[])?;
-    assert_eq!(rt; opened(&rt, bytes.as_slice())?, Told::Unequal(2, 1));
+    same(&rt, opened(&rt, bytes.as_slice())?, Told::Unequal(2, 1));
     Ok(())
 }

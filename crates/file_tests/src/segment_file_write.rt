@@ -7,6 +7,7 @@ ghost use Rattle.leaf_codec.specs.Leaves.{SpellsLeafIn};
 
 use crate::samples::{Told, answer_told, changed, file_of_three, flipped, folder_with, front};
 use byte_cursor::Bytes;
+use codec_tests::asserts::{holds, same, same_at};
 use inner_pack::Index;
 use leaf_codec::LeafView;
 use live_bits::LiveBits;
@@ -46,23 +47,26 @@ const BEFORE: &[u8] = b"as before";
 /// The folder has the page of the body, and the other file as before.
 fn has_page(rt: &impl Abort, folder: &MemFolder) {
     let page = page_of(&BODY);
-    assert_eq!(rt; folder.get(&LIVE_FILE), Some(page.b.as_slice()));
-    assert_eq!(rt; folder.get(&FileName::Commit), Some(BEFORE));
+    same(rt, folder.get(&LIVE_FILE), Some(page.b.as_slice()));
+    same(rt, folder.get(&FileName::Commit), Some(BEFORE));
 }
 
 #[test]
 fn live_bits_are_a_page_of_their_own(rt: HostRuntime) -> Result<(), Fail> {
     let mut folder = folder_with(&rt, FileName::Commit, BEFORE)?;
     let live = LiveBits::of_docs(rt.alloc(), &[3, 4, 9])?;
-    assert!(rt; write_live(rt.alloc(), &mut folder, 2, 1, &live).is_ok());
+    holds(
+        &rt,
+        write_live(rt.alloc(), &mut folder, 2, 1, &live).is_ok(),
+    );
     has_page(&rt, &folder);
     let back = read_live(rt.alloc(), &mut folder, 2, 1)
         .ok()
         .ok_or("no live bits")?;
-    assert_eq!(rt; back.live_count(), 3);
+    same(&rt, back.live_count(), 3);
     folder.plan([0].to_vec(rt.alloc())?, None);
     let failed = write_live(rt.alloc(), &mut folder, 2, 2, &back);
-    assert_eq!(rt; failed, Err(SegFault::Failed));
+    same(&rt, failed, Err(SegFault::Failed));
     has_page(&rt, &folder);
     Ok(())
 }
@@ -91,15 +95,15 @@ fn a_file_of_another_length_is_told(rt: HostRuntime) -> Result<(), Fail> {
     let page = page_of(&BODY);
     let long = changed(&rt, &page.b, 4096, 0)?;
     for (len, expected) in LENGTHS {
-        assert_eq!(rt; read(&rt, front(long.as_slice(), len))?, expected);
+        same(&rt, read(&rt, front(long.as_slice(), len))?, expected);
     }
     Ok(())
 }
 
 #[test]
 fn the_page_of_another_file_is_told(rt: HostRuntime) -> Result<(), Fail> {
-    assert_eq!(rt; read(&rt, &seal(2, 3, 0, &BODY).b)?, Told::Page(0));
-    assert_eq!(rt; read(&rt, &seal(1, 2, 0, &BODY).b)?, Told::Page(0));
+    same(&rt, read(&rt, &seal(2, 3, 0, &BODY).b)?, Told::Page(0));
+    same(&rt, read(&rt, &seal(1, 2, 0, &BODY).b)?, Told::Page(0));
     Ok(())
 }
 
@@ -108,9 +112,9 @@ fn each_byte_of_the_page_of_live_bits_counts(rt: HostRuntime) -> Result<(), Fail
     let page = page_of(&BODY);
     for at in 0..4096 {
         let bad = flipped(&rt, &page.b, at)?;
-        assert_eq!(rt; read(&rt, bad.as_slice())?, Told::Page(0), "byte {at}");
+        same_at(&rt, read(&rt, bad.as_slice())?, Told::Page(0), &at);
     }
-    assert_eq!(rt; read(&rt, &page.b)?, Told::Fine);
+    same(&rt, read(&rt, &page.b)?, Told::Fine);
     Ok(())
 }
 
@@ -122,11 +126,7 @@ fn a_body_of_live_bits_that_is_none_is_told(rt: HostRuntime) -> Result<(), Fail>
     for (at, byte) in CHANGES {
         let body = changed(&rt, &BODY, at, byte)?;
         let page = page_of(body.as_slice());
-        assert_eq!(rt;
-            read(&rt, &page.b)?,
-            Told::Body(4064),
-            "byte {at} as {byte}"
-        );
+        same_at(&rt, read(&rt, &page.b)?, Told::Body(4064), &(at, byte));
     }
     Ok(())
 }
@@ -134,7 +134,7 @@ fn a_body_of_live_bits_that_is_none_is_told(rt: HostRuntime) -> Result<(), Fail>
 #[test]
 fn a_file_of_live_bits_that_is_missing_is_told(rt: HostRuntime) -> Result<(), Fail> {
     let mut folder = MemFolder::new(rt.alloc(), Vec::new(rt.alloc()));
-    assert_eq!(rt; read_in(&rt, &mut folder), Told::Missing);
+    same(&rt, read_in(&rt, &mut folder), Told::Missing);
     Ok(())
 }
 
@@ -150,7 +150,7 @@ const CALLS: [(u64, Told); 4] = [
 fn two_pages(rt: &(impl Abort + AllocGlobal)) -> Result<MemFolder, Fail> {
     let mut folder = MemFolder::new(rt.alloc(), Vec::new(rt.alloc()));
     let live = LiveBits::of_docs(rt.alloc(), &[3, 40_003])?;
-    assert!(rt; write_live(rt.alloc(), &mut folder, 2, 1, &live).is_ok());
+    holds(rt, write_live(rt.alloc(), &mut folder, 2, 1, &live).is_ok());
     Ok(folder)
 }
 
@@ -160,8 +160,8 @@ fn each_call_of_reading_live_bits_that_fails_is_told(rt: HostRuntime) -> Result<
     let bytes = folder.get(&LIVE_FILE).unwrap_or(&[]).to_vec(rt.alloc())?;
     for (call, expected) in CALLS {
         folder.plan([call].to_vec(rt.alloc())?, None);
-        assert_eq!(rt; read_in(&rt, &mut folder), expected, "call {call}");
-        assert_eq!(rt; folder.get(&LIVE_FILE), Some(bytes.as_slice()));
+        same_at(&rt, read_in(&rt, &mut folder), expected, &call);
+        same(&rt, folder.get(&LIVE_FILE), Some(bytes.as_slice()));
     }
     Ok(())
 }
@@ -221,13 +221,14 @@ fn three_leaves_are_written_behind_their_index(rt: HostRuntime) -> Result<(), Fa
     let mut folder = folder_with(&rt, FileName::Commit, BEFORE)?;
     folder.plan([0].to_vec(rt.alloc())?, None);
     let failed = write_three(&rt, &mut folder)?;
-    assert!(rt; failed.is_err_and(|fault| fault == SegFault::Failed));
+    holds(&rt, failed.is_err_and(|fault| fault == SegFault::Failed));
     let written = write_three(&rt, &mut folder)?;
-    assert!(rt; written.is_ok_and(|head| head.entries() == 5));
-    assert_eq!(rt;
+    holds(&rt, written.is_ok_and(|head| head.entries() == 5));
+    same(
+        &rt,
         folder.get(&FileName::Segment(7)),
-        Some(expected.as_slice())
+        Some(expected.as_slice()),
     );
-    assert_eq!(rt; folder.get(&FileName::Commit), Some(BEFORE));
+    same(&rt, folder.get(&FileName::Commit), Some(BEFORE));
     Ok(())
 }

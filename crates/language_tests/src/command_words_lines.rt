@@ -1,3 +1,4 @@
+use codec_tests::asserts::{same, same_at};
 use command_words::{Words, WordsFault, read_words};
 use std::alloc::Global;
 use std::test::Fail;
@@ -109,7 +110,7 @@ fn reads_commands(rt: HostRuntime) -> Result<(), Fail> {
     for (line, read) in COMMANDS {
         let words = words_of(alloc, line)?;
         let asked = read_words(alloc, words.as_slice())?;
-        assert_eq!(rt; format!(in alloc; "{asked:?}")?.as_str(), read, "{line}");
+        same_at(&rt, format!(in alloc; "{asked:?}")?.as_str(), read, &line);
     }
     Ok(())
 }
@@ -117,13 +118,14 @@ fn reads_commands(rt: HostRuntime) -> Result<(), Fail> {
 #[test]
 fn refuses_other_words(rt: HostRuntime) -> Result<(), Fail> {
     let alloc = rt.alloc();
-    assert_eq!(rt; read_words(alloc, &[]).err(), Some(WordsFault::Usage));
+    same(&rt, read_words(alloc, &[]).err(), Some(WordsFault::Usage));
     for line in REFUSED {
         let words = words_of(alloc, line)?;
-        assert_eq!(rt;
+        same_at(
+            &rt,
             read_words(alloc, words.as_slice()).err(),
             Some(WordsFault::Usage),
-            "{line}"
+            &line,
         );
     }
     Ok(())
@@ -139,11 +141,12 @@ fn takes_eight_columns(rt: HostRuntime) -> Result<(), Fail> {
         _ => &[],
     };
     assert_eq!(rt; names.len(), 8);
-    assert_eq!(rt; names[7].as_slice(), b"a".as_slice());
+    same(&rt, names[7].as_slice(), b"a".as_slice());
     let words = words_of(alloc, ". load --columns a,b,c,d,e,f,g,h,i")?;
-    assert_eq!(rt;
+    same(
+        &rt,
         read_words(alloc, words.as_slice()).err(),
-        Some(WordsFault::Usage)
+        Some(WordsFault::Usage),
     );
     Ok(())
 }

@@ -1,4 +1,5 @@
 use byte_cursor::Bytes;
+use codec_tests::asserts::{same, same_at};
 use csv_load::{CsvFault, read_points};
 use std::alloc::Global;
 use std::fmt::Write;
@@ -28,9 +29,9 @@ fn loads_points(rt: HostRuntime) -> Result<(), Fail> {
         (b"\n\nx,y\n\n1,2\n\n", &[[1, 2]]),
     ] {
         let loaded = read_points::<2>(rt.alloc(), text, &columns)?;
-        assert_eq!(rt; loaded.len(), points.len(), "{text:?}");
+        same_at(&rt, loaded.len(), points.len(), &text);
         for (point, c) in loaded.iter().zip(points) {
-            assert_eq!(rt; point.c, *c, "{text:?}");
+            same_at(&rt, point.c, *c, &text);
         }
     }
     Ok(())
@@ -59,7 +60,7 @@ fn names_the_first_fault(rt: HostRuntime) -> Result<(), Fail> {
         (b"x,y\n\xff,5\n", CsvFault::Value { row: 1, column: 0 }),
     ] {
         let loaded = read_points::<2>(rt.alloc(), text, &columns);
-        assert_eq!(rt; loaded.err(), Some(fault), "{text:?}");
+        same_at(&rt, loaded.err(), Some(fault), &text);
     }
     Ok(())
 }
@@ -71,8 +72,8 @@ fn loads_cities_and_many_records(rt: HostRuntime) -> Result<(), Fail> {
         b"name,lon,lat\nBerlin,13404954,52520008\nParis,2352222,48856613\nRome,12496366,41902782\n";
     let loaded = read_points::<2>(rt.alloc(), cities, &places)?;
     assert_eq!(rt; loaded.len(), 3);
-    assert_eq!(rt; loaded[0].c, [13_404_954, 52_520_008]);
-    assert_eq!(rt; loaded[2].c, [12_496_366, 41_902_782]);
+    same(&rt, loaded[0].c, [13_404_954, 52_520_008]);
+    same(&rt, loaded[2].c, [12_496_366, 41_902_782]);
 
     let mut text = String::from_str(rt.alloc(), "x,y\n")?;
     for i in 0..334 {
@@ -81,6 +82,6 @@ fn loads_cities_and_many_records(rt: HostRuntime) -> Result<(), Fail> {
     let pair = columns(rt.alloc(), b"x", b"y")?;
     let loaded = read_points::<2>(rt.alloc(), text.as_bytes(), &pair)?;
     assert_eq!(rt; loaded.len(), 334);
-    assert_eq!(rt; loaded[333].c, [333, 0]);
+    same(&rt, loaded[333].c, [333, 0]);
     Ok(())
 }

@@ -1,6 +1,7 @@
 //! The text of each damage, whole.
 
 use byte_cursor::Bytes;
+use codec_tests::asserts::same;
 use damage_text::put_damage;
 use outer_io::FileName;
 use page_cache::Damage;
@@ -12,7 +13,7 @@ use std::test::Fail;
 fn check(rt: &impl Abort, alloc: Global, damage: &Damage, want: &str) -> Result<(), Fail> {
     let mut text = String::new(alloc);
     put_damage(&mut text, damage)?;
-    assert_eq!(rt; text.as_str(), want);
+    same(rt, text.as_str(), want);
     Ok(())
 }
 

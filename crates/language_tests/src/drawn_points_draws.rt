@@ -1,5 +1,6 @@
 //! Draws as they are published, and the points and boxes that are made of them.
 
+use codec_tests::asserts::{same, same_at};
 use drawn_points::Draws;
 
 /// Seeds with the number of a draw and the draw. The first are this generator's own; the 10,000th is the one that the C++
@@ -21,22 +22,23 @@ fn draws_as_published(rt: HostRuntime) {
             last = draws.coordinate();
         }
         // a coordinate is a draw's rest by the number of its values
-        assert_eq!(rt;
+        same_at(
+            &rt,
             last,
             (drawn % 200_001) as i32 - 100_000,
-            "draw {number} of {seed}"
+            &(number, seed),
         );
     }
 }
 
 #[test]
 fn draws_points_and_boxes(rt: HostRuntime) {
-    assert_eq!(rt; Draws::new(1).coordinate(), -51_729);
+    same(&rt, Draws::new(1).coordinate(), -51_729);
     let mut draws = Draws::new(1);
     let point = draws.point();
-    assert_eq!(rt; point.c, [-51_729, -95_119]);
+    same(&rt, point.c, [-51_729, -95_119]);
     // the next two draws are those behind the point's
     let (lo, hi) = draws.corners();
-    assert_eq!(rt; lo.c, [83_430, 6_064]);
-    assert_eq!(rt; hi.c, [93_430, 16_064]);
+    same(&rt, lo.c, [83_430, 6_064]);
+    same(&rt, hi.c, [93_430, 16_064]);
 }

@@ -13,6 +13,10 @@ mod drawn_points_draws;
 #[cfg(test)]
 mod polygon_query_texts;
 #[cfg(test)]
+mod range_docs_commands;
+#[cfg(test)]
 mod range_docs_lines;
 #[cfg(test)]
 mod script_lang_lines;
+#[cfg(test)]
+mod script_lang_replies;

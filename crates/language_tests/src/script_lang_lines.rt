@@ -1,12 +1,11 @@
-use point_codec::{Name, Near, Point, View};
+use codec_tests::asserts::{same, same_at};
+use point_codec::{Name, Point, View};
 use polygon_query::GeoFault;
 use script_lang::LineFault::{
-    BadK, BadName, Dims, Geo, LeafSize, NoIndex, NotTwo, NotUtf8, Number, TooLong, Unknown, Words,
+    BadK, BadName, Dims, Geo, LeafSize, NoIndex, NotTwo, NotUtf8, Number, Unknown, Words,
 };
-use script_lang::{
-    Command, First, Why, first_line, put_deleted, put_doc, put_hits, put_line_fault, put_near,
-    put_ok, put_why, read_first, read_line,
-};
+use script_lang::{Command, First, LineFault, read_first, read_line};
+use std::alloc::Global;
 use std::test::Fail;
 
 // 17 points of one dimension
@@ -15,142 +14,161 @@ const SEVENTEEN: &[u8] = b"add 1 2 3 4 5 6 7 8 9 10 11 12 13 14 15 16 17";
 const POLYGON: &[u8] =
     br#"polygon @_ {"type": "Polygon", "coordinates": [[[0,0],[4,0],[4,4],[0,0]]]} "#;
 
-const REFUSALS: &[u8] = b"line 12: too long\n\
-line 12: not utf-8\n\
-line 12: no index\n\
-line 12: unknown command\n\
-line 12: bad name\n\
-line 12: not two dimensions\n\
-line 12: wrong words\n\
-line 12: bad number in word 3\n\
-line 12: dims\n\
-line 12: leaf size\n\
-line 12: bad k\n\
-line 12: polygon is not json\n\
-line 12: not a polygon\n\
-line 12: polygon has too many positions\n\
-line 12: polygon ring 0 position 1 is not whole\n\
-line 12: polygon ring 2 has too few positions\n\
-line 12: polygon ring 10 is not closed\n\
-line 3: index exists\n\
-line 3: full\n\
-line 3: merge begun\n\
-line 3: no merge begun\n\
-line 3: unknown snapshot\n\
-line 3: name taken\n\
-line 3: too many snapshots\n\
-line 3: not a query\n";
+/// Lines of two dimensions, and the first fault of each.
+const FAULTS: [(&[u8], LineFault); 37] = [
+    (b"near 1 0 0", Unknown),
+    (b"\xff# a note", NotUtf8),
+    (b"create 9 leaf 1", Dims),
+    (b"create 2 leaf 334", LeafSize),
+    (b"create 2 leaf 1", LeafSize),
+    (b"create 9 leaf x", Number { word: 4 }),
+    (b"create 2 leaves 3", Words),
+    (b"add 1", Words),
+    (b"add 1 2 3", Words),
+    (b"add", Words),
+    (b"add 1 x", Number { word: 3 }),
+    (b"add 1 2147483648", Number { word: 3 }),
+    (b"add -2147483649 y", Number { word: 2 }),
+    (b"add 1 +2", Number { word: 3 }),
+    (b"delete", Words),
+    (b"delete box 1", Words),
+    (b"delete 1 2", Words),
+    (b"delete 4294967296", Number { word: 2 }),
+    (b"box @ 0 0 5 5", BadName),
+    (b"box @a.b 0 0 5", BadName),
+    (b"box @a 0 0 5", Words),
+    (b"box @a 0 0 5 x", Number { word: 6 }),
+    (b"nearest 0 0 0", BadK),
+    (b"nearest 10001 0 0", BadK),
+    (b"nearest 10001 0 0x", Number { word: 4 }),
+    (b"nearest 1 0", Words),
+    (b"polygon", Words),
+    (b"polygon @a ", Words),
+    (b"polygon {", Geo(GeoFault::NotJson)),
+    (b"flush 1", Words),
+    (b"merge 1", Words),
+    (b"merge begin 0 -1", Number { word: 4 }),
+    (b"merge end 0", Words),
+    (b"snapshot", Words),
+    (b"snapshot a.b c", BadName),
+    (b"snapshot a b.c", Words),
+    (b"release a b", Words),
+];
 
-#[test]
-fn first_fault(rt: HostRuntime) {
-    for (line, fault) in [
-        (b"near 1 0 0".as_slice(), Unknown),
-        (b"\xff# a note", NotUtf8),
-        (b"create 9 leaf 1", Dims),
-        (b"create 2 leaf 334", LeafSize),
-        (b"create 2 leaf 1", LeafSize),
-        (b"create 9 leaf x", Number { word: 4 }),
-        (b"create 2 leaves 3", Words),
-        (b"add 1", Words),
-        (b"add 1 2 3", Words),
-        (b"add", Words),
-        (b"add 1 x", Number { word: 3 }),
-        (b"add 1 2147483648", Number { word: 3 }),
-        (b"add -2147483649 y", Number { word: 2 }),
-        (b"add 1 +2", Number { word: 3 }),
-        (b"delete", Words),
-        (b"delete box 1", Words),
-        (b"delete 1 2", Words),
-        (b"delete 4294967296", Number { word: 2 }),
-        (b"box @ 0 0 5 5", BadName),
-        (b"box @a.b 0 0 5", BadName),
-        (b"box @a 0 0 5", Words),
-        (b"box @a 0 0 5 x", Number { word: 6 }),
-        (b"nearest 0 0 0", BadK),
-        (b"nearest 10001 0 0", BadK),
-        (b"nearest 10001 0 0x", Number { word: 4 }),
-        (b"nearest 1 0", Words),
-        (b"polygon", Words),
-        (b"polygon @a ", Words),
-        (b"polygon {", Geo(GeoFault::NotJson)),
-        (b"flush 1", Words),
-        (b"merge 1", Words),
-        (b"merge begin 0 -1", Number { word: 4 }),
-        (b"merge end 0", Words),
-        (b"snapshot", Words),
-        (b"snapshot a.b c", BadName),
-        (b"snapshot a b.c", Words),
-        (b"release a b", Words),
-    ] {
-        assert_eq!(rt;
-            read_line::<2>(rt.alloc(), line).err(),
-            Some(fault),
-            "at {line:?}"
-        );
-    }
-    assert_eq!(rt;
-        read_line::<1>(rt.alloc(), b"polygon {").err(),
-        Some(NotTwo)
-    );
-    assert_eq!(rt; read_line::<1>(rt.alloc(), SEVENTEEN).err(), Some(Words));
-    assert_eq!(rt; read_first(b"box @ 0 0 5 5"), Err(NoIndex));
-    assert_eq!(rt; read_first(b"create 9"), Err(Dims));
-    assert_eq!(rt; read_first(b" \t#create 9"), Ok(First::Blank));
-    assert_eq!(rt;
-        read_first(b"create 2\r"),
-        Ok(First::Create { dims: 2, leaf: 333 })
-    );
+/// The fault of a line of two dimensions, if it has one.
+fn fault(alloc: Global, line: &[u8]) -> Option<LineFault> {
+    read_line::<2>(alloc, line).err()
 }
 
 #[test]
-fn commands(rt: HostRuntime) -> Result<(), Fail> {
-    let Command::Add(points) = read_line::<2>(rt.alloc(), b"\tadd 3 -0 -2147483648 007  3 0 \r")?
-    else {
+fn first_fault(rt: HostRuntime) {
+    for (line, wanted) in FAULTS {
+        same_at(&rt, fault(rt.alloc(), line), Some(wanted), &line);
+    }
+}
+
+/// The fault of a line of one dimension, if it has one.
+fn fault_of_one(alloc: Global, line: &[u8]) -> Option<LineFault> {
+    read_line::<1>(alloc, line).err()
+}
+
+#[test]
+fn first_fault_of_one_dimension(rt: HostRuntime) {
+    same(&rt, fault_of_one(rt.alloc(), b"polygon {"), Some(NotTwo));
+    same(&rt, fault_of_one(rt.alloc(), SEVENTEEN), Some(Words));
+}
+
+/// What a line asks where there is no index.
+pub(crate) fn first(line: &[u8]) -> Result<First, LineFault> {
+    read_first(line)
+}
+
+#[test]
+fn first_lines(rt: HostRuntime) {
+    same(&rt, first(b"box @ 0 0 5 5"), Err(NoIndex));
+    same(&rt, first(b"create 9"), Err(Dims));
+    same(&rt, first(b" \t#create 9"), Ok(First::Blank));
+    same(
+        &rt,
+        first(b"create 2\r"),
+        Ok(First::Create { dims: 2, leaf: 333 }),
+    );
+}
+
+/// What a line asks of an index of two dimensions.
+fn two(alloc: Global, line: &[u8]) -> Result<Command<2>, Fail> {
+    Ok(read_line(alloc, line)?)
+}
+
+/// The same of one dimension.
+fn one(alloc: Global, line: &[u8]) -> Result<Command<1>, Fail> {
+    Ok(read_line(alloc, line)?)
+}
+
+/// The points that an `add` of two repeated points gives, in order.
+const POINTS: [Point<2>; 2] = [
+    Point {
+        c: [-2_147_483_648, 7],
+    },
+    Point { c: [3, 0] },
+];
+
+#[test]
+fn adds(rt: HostRuntime) -> Result<(), Fail> {
+    let Command::Add(points) = two(rt.alloc(), b"\tadd 3 -0 -2147483648 007  3 0 \r")? else {
         return Err("no points")?;
     };
-    assert_eq!(rt;
-        points.as_slice(),
-        [
-            Point {
-                c: [-2_147_483_648, 7]
-            },
-            Point { c: [3, 0] }
-        ]
-        .as_slice()
-    );
-    let Command::DeleteBox { lo, hi } = read_line(rt.alloc(), b"delete box 1 2 2147483647 4")?
-    else {
+    same(&rt, points.as_slice(), POINTS.as_slice());
+    Ok(())
+}
+
+#[test]
+fn deletes_a_box(rt: HostRuntime) -> Result<(), Fail> {
+    let Command::DeleteBox { lo, hi } = two(rt.alloc(), b"delete box 1 2 2147483647 4")? else {
         return Err("no box")?;
     };
-    assert_eq!(rt;
-        (lo, hi),
-        (
-            Point { c: [1, 2] },
-            Point {
-                c: [2_147_483_647, 4]
-            }
-        )
-    );
-    let Command::InBox { view, lo, hi } = read_line(rt.alloc(), b"box\t@s-1 -1 5")? else {
+    let from = lo.c;
+    let to = hi.c;
+    same(&rt, (from, to), ([1, 2], [2_147_483_647, 4]));
+    Ok(())
+}
+
+#[test]
+fn asks_a_box(rt: HostRuntime) -> Result<(), Fail> {
+    let Command::InBox { view, lo, hi } = one(rt.alloc(), b"box\t@s-1 -1 5")? else {
         return Err("no box")?;
     };
-    assert_eq!(rt;
-        (view, lo, hi),
-        (named(b"s-1")?, Point { c: [-1] }, Point { c: [5] })
-    );
-    let Command::Nearest { view, k, at } = read_line(rt.alloc(), b"nearest 10000 6")? else {
+    let from = lo.c;
+    let to = hi.c;
+    same(&rt, (view, from, to), (named(b"s-1")?, [-1], [5]));
+    Ok(())
+}
+
+#[test]
+fn asks_the_nearest(rt: HostRuntime) -> Result<(), Fail> {
+    let Command::Nearest { view, k, at } = one(rt.alloc(), b"nearest 10000 6")? else {
         return Err("no point")?;
     };
-    assert_eq!(rt; (view, k, at), (View::Now, 10_000, Point { c: [6] }));
-    let Command::Polygon { view, rings } = read_line::<2>(rt.alloc(), POLYGON)? else {
+    let from = at.c;
+    same(&rt, (view, k, from), (View::Now, 10_000, [6]));
+    Ok(())
+}
+
+#[test]
+fn asks_a_polygon(rt: HostRuntime) -> Result<(), Fail> {
+    let Command::Polygon { view, rings } = two(rt.alloc(), POLYGON)? else {
         return Err("no polygon")?;
     };
-    assert_eq!(rt; (view, rings.as_slice().len()), (named(b"_")?, 1));
-    let Command::MergeBegin(positions) = read_line::<2>(rt.alloc(), b"merge begin 4294967295 0 0")?
-    else {
+    same(&rt, (view, rings.as_slice().len()), (named(b"_")?, 1));
+    Ok(())
+}
+
+#[test]
+fn begins_a_merge(rt: HostRuntime) -> Result<(), Fail> {
+    let Command::MergeBegin(positions) = two(rt.alloc(), b"merge begin 4294967295 0 0")? else {
         return Err("no positions")?;
     };
-    assert_eq!(rt; positions.as_slice(), [4_294_967_295, 0, 0].as_slice());
+    same(&rt, positions.as_slice(), [4_294_967_295, 0, 0].as_slice());
     Ok(())
 }
 
@@ -158,113 +176,76 @@ fn named(name: &[u8]) -> Result<View, &'static str> {
     Ok(View::Named(Name::new(name).ok_or("no name")?))
 }
 
+/// What a line of a command without points asks.
+#[derive(Clone, Copy, PartialEq, Eq, Debug)]
+enum Asked {
+    Blank,
+    Create(u8, u16),
+    Delete(u32),
+    Flush,
+    Merge,
+    MergeEnd,
+    Commit,
+    Reopen,
+    Other,
+}
+
+/// What a command of two dimensions asks.
+fn asked_by(command: &Command<2>) -> Asked {
+    match command {
+        Command::Blank => Asked::Blank,
+        Command::Create { dims, leaf } => Asked::Create(*dims, *leaf),
+        Command::Delete(doc) => Asked::Delete(*doc),
+        Command::Flush => Asked::Flush,
+        Command::Merge => Asked::Merge,
+        Command::MergeEnd => Asked::MergeEnd,
+        Command::Commit => Asked::Commit,
+        Command::Reopen => Asked::Reopen,
+        _ => Asked::Other,
+    }
+}
+
+/// Lines of commands without points.
+const OTHERS: [(&[u8], Asked); 8] = [
+    (b" # add 1", Asked::Blank),
+    (b"create 8 leaf 111", Asked::Create(8, 111)),
+    (b"delete 007", Asked::Delete(7)),
+    (b"flush ", Asked::Flush),
+    (b"merge", Asked::Merge),
+    (b"merge end", Asked::MergeEnd),
+    (b"commit", Asked::Commit),
+    (b"reopen", Asked::Reopen),
+];
+
 #[test]
 fn other_commands(rt: HostRuntime) -> Result<(), Fail> {
-    assert!(rt; matches!(read_line::<2>(rt.alloc(), b" # add 1")?, Command::Blank));
-    assert!(rt;
-        matches!(
-            read_line::<2>(rt.alloc(), b"create 8 leaf 111")?,
-            Command::Create { dims: 8, leaf: 111 }
-        )
-    );
-    assert!(rt;
-        matches!(
-            read_line::<2>(rt.alloc(), b"delete 007")?,
-            Command::Delete(7)
-        )
-    );
-    assert!(rt; matches!(read_line::<2>(rt.alloc(), b"flush ")?, Command::Flush));
-    assert!(rt; matches!(read_line::<2>(rt.alloc(), b"merge")?, Command::Merge));
-    assert!(rt; matches!(read_line::<2>(rt.alloc(), b"merge end")?, Command::MergeEnd));
-    let Command::Snapshot(name) = read_line::<2>(rt.alloc(), b"snapshot a")? else {
-        return Err("no snapshot")?;
-    };
-    assert_eq!(rt; name.as_bytes(), b"a".as_slice());
-    let Command::Release(name) = read_line::<2>(rt.alloc(), b"release a")? else {
-        return Err("no release")?;
-    };
-    assert_eq!(rt; name.as_bytes(), b"a".as_slice());
-    assert!(rt; matches!(read_line::<2>(rt.alloc(), b"commit")?, Command::Commit));
-    assert!(rt; matches!(read_line::<2>(rt.alloc(), b"reopen")?, Command::Reopen));
-    Ok(())
-}
-
-#[test]
-fn long_lines(rt: HostRuntime) -> Result<(), Fail> {
-    let mut line = vec![in rt.alloc(); b' '; 4_194_304]?;
-    assert_eq!(rt; read_first(&line), Ok(First::Blank));
-    line.push(b'\r')?;
-    assert_eq!(rt; read_first(&line), Ok(First::Blank));
-    line.push(b'\r')?;
-    assert_eq!(rt; read_first(&line), Err(TooLong));
-    let (first, rest) = first_line(b"a\r\n\nb");
-    assert_eq!(rt; (first, rest), (b"a\r".as_slice(), b"\nb".as_slice()));
-    assert_eq!(rt; first_line(b"\n"), (b"".as_slice(), b"".as_slice()));
-    assert_eq!(rt; first_line(b"b"), (b"b".as_slice(), b"".as_slice()));
-    Ok(())
-}
-
-#[test]
-fn replies(rt: HostRuntime) -> Result<(), Fail> {
-    let mut out = Vec::new(rt.alloc());
-    put_ok(&mut out)?;
-    put_doc(&mut out, 7)?;
-    put_deleted(&mut out, 0)?;
-    put_hits(&mut out, &[0, 4_294_967_295])?;
-    put_hits(&mut out, &[])?;
-    put_near(
-        &mut out,
-        &[Near {
-            dist2: 147_573_952_520_956_936_200,
-            doc: 0,
-        }],
-    )?;
-    assert_eq!(rt;
-        out.as_slice(),
-        b"ok\ndoc 7\ndeleted 0\nhits 2\n0\n4294967295\nhits 0\nnear 1\n0 147573952520956936200\n".as_slice()
-    );
-    Ok(())
-}
-
-#[test]
-fn refusals(rt: HostRuntime) -> Result<(), Fail> {
-    let mut out = Vec::new(rt.alloc());
-    for fault in [
-        TooLong,
-        NotUtf8,
-        NoIndex,
-        Unknown,
-        BadName,
-        NotTwo,
-        Words,
-        Number { word: 3 },
-        Dims,
-        LeafSize,
-        BadK,
-        Geo(GeoFault::NotJson),
-        Geo(GeoFault::NotPolygon),
-        Geo(GeoFault::TooMany),
-        Geo(GeoFault::NotWhole {
-            ring: 0,
-            position: 1,
-        }),
-        Geo(GeoFault::TooFew { ring: 2 }),
-        Geo(GeoFault::NotClosed { ring: 10 }),
-    ] {
-        put_line_fault(&mut out, 12, &fault)?;
+    for (line, asked) in OTHERS {
+        same_at(&rt, asked_by(&two(rt.alloc(), line)?), asked, &line);
     }
-    for why in [
-        Why::Exists,
-        Why::Full,
-        Why::Begun,
-        Why::NotBegun,
-        Why::UnknownSnapshot,
-        Why::NameTaken,
-        Why::TooManySnapshots,
-        Why::NotQuery,
-    ] {
-        put_why(&mut out, 3, why)?;
+    Ok(())
+}
+
+/// The snapshot that a line makes.
+fn made(alloc: Global, line: &[u8]) -> Result<Name, Fail> {
+    match two(alloc, line)? {
+        Command::Snapshot(name) => Ok(name),
+        _ => Err("no snapshot")?,
     }
-    assert_eq!(rt; out.as_slice(), REFUSALS);
+}
+
+/// The snapshot that a line lets go.
+fn released(alloc: Global, line: &[u8]) -> Result<Name, Fail> {
+    match two(alloc, line)? {
+        Command::Release(name) => Ok(name),
+        _ => Err("no release")?,
+    }
+}
+
+#[test]
+fn snapshots(rt: HostRuntime) -> Result<(), Fail> {
+    let name = made(rt.alloc(), b"snapshot a")?;
+    same(&rt, name.as_bytes(), b"a".as_slice());
+    let name = released(rt.alloc(), b"release a")?;
+    same(&rt, name.as_bytes(), b"a".as_slice());
     Ok(())
 }

@@ -2,6 +2,7 @@
 
 use crate::runs::{run_from, said};
 use crate::stories::{CHECK, RUN};
+use codec_tests::asserts::same;
 use outer_io::{MemFolder, MemSource};
 use std::alloc::Global;
 use std::marker::Sync;
@@ -21,7 +22,7 @@ pub(crate) fn assert_said<R: Threads + Sync + Abort>(
     let checked = told(rt, alloc, CHECK, folder)?;
     let ran = told(rt, alloc, RUN, folder)?;
     let ends = if is_shown { want } else { "" };
-    assert_eq!(rt; (checked.as_str(), ran.as_str()), (want, ends));
+    same(rt, (checked.as_str(), ran.as_str()), (want, ends));
     Ok(())
 }
 

@@ -2,6 +2,7 @@
 //! numbers, and for leaf pages only where a query takes a leaf, once each.
 
 use crate::runs::{empty_folder, outcome, said};
+use codec_tests::asserts::same_at;
 use outer_io::MemFolder;
 use std::alloc::Global;
 use std::fmt::Write;
@@ -68,7 +69,7 @@ fn pages_are_read_once_and_only_where_they_count(rt: HostRuntime) -> Result<(), 
     let mut folder = folder_with_row(&rt, rt.alloc())?;
     for (queries, expected) in ROWS {
         let found = calls(&rt, rt.alloc(), &mut folder, queries)?;
-        assert_eq!(rt; found, expected, "{:?}", std::str::from_utf8(queries));
+        same_at(&rt, found, expected, &std::str::from_utf8(queries));
     }
     Ok(())
 }

@@ -2,6 +2,7 @@
 
 use crate::fixtures::called;
 use bkd_top::{code, status_line};
+use codec_tests::asserts::{holds, same, same_at};
 use outer_io::{FileName, MemFolder};
 use std::alloc::Global;
 use std::marker::Sync;
@@ -40,8 +41,8 @@ fn tells_of_sound_folders(rt: HostRuntime) -> Result<(), Fail> {
         let mut folder = MemFolder::new(rt.alloc(), Vec::new(rt.alloc()));
         called(&rt, rt.alloc(), RUN, script, &mut folder)?;
         let (status, text) = called(&rt, rt.alloc(), CHECK, "not read", &mut folder)?;
-        assert_eq!(&rt; code(&status), 0, "after {script:?}");
-        assert_eq!(&rt; text.as_str(), told);
+        same_at(&rt, code(&status), 0, &script);
+        same(&rt, text.as_str(), told);
     }
     Ok(())
 }
@@ -114,7 +115,7 @@ fn check_said<R: Threads + Sync + Abort>(
     let (status, text) = called(rt, alloc, CHECK, "", folder)?;
     let mut line = Vec::new(alloc);
     status_line(alloc, &status, &mut line)?;
-    assert_eq!(rt; std::str::from_utf8(line.as_slice()), Ok(said));
-    assert!(rt; code(&status) == 6 && text.is_empty());
+    same(rt, std::str::from_utf8(line.as_slice()), Ok(said));
+    holds(rt, code(&status) == 6 && text.is_empty());
     Ok(())
 }

@@ -2,6 +2,7 @@
 
 use crate::fixtures::called;
 use bkd_top::code;
+use codec_tests::asserts::{holds, same, same_at};
 use commit_list::read_commit;
 use outer_io::{FileName, MemFolder};
 use std::alloc::Global;
@@ -82,7 +83,7 @@ fn left<R: Threads + Sync + Abort>(
     folder: &mut MemFolder,
 ) -> Result<(usize, String), Fail> {
     let (status, _) = called(rt, alloc, RUN, script, folder)?;
-    assert_eq!(rt; code(&status), 0, "after {script:?}");
+    same_at(rt, code(&status), 0, &script);
     let Some(files) = files_listed(alloc, folder)? else {
         return Err("a file that the commit doesn't list, or lists and isn't there".into());
     };
@@ -99,8 +100,8 @@ fn nothing_is_left_of_what_was_held(rt: HostRuntime) -> Result<(), Fail> {
         let (files, look) = left(&rt, alloc, held, &mut folder)?;
         let mut other = MemFolder::new(alloc, Vec::new(alloc));
         let (plain_files, plain_look) = left(&rt, alloc, plain, &mut other)?;
-        assert_eq!(&rt; look.as_str(), plain_look.as_str(), "after {held:?}");
-        assert_eq!(&rt; files, plain_files, "after {held:?}");
+        same_at(&rt, look.as_str(), plain_look.as_str(), &held);
+        same_at(&rt, files, plain_files, &held);
     }
     Ok(())
 }
@@ -116,7 +117,7 @@ fn runs_do_not_grow_a_folder(rt: HostRuntime) -> Result<(), Fail> {
     let (first, _) = left(&rt, alloc, "create 1\nadd 1\n", &mut folder)?;
     for _run in 0..6 {
         let (files, _) = left(&rt, alloc, AGAIN, &mut folder)?;
-        assert!(&rt; files <= first.saturating_add(2));
+        holds(&rt, files <= first.saturating_add(2));
     }
     Ok(())
 }
@@ -141,10 +142,10 @@ fn a_removal_that_fails(rt: HostRuntime) -> Result<(), Fail> {
         folder.plan(Vec::new(alloc), None);
         let (_, look) = called(&rt, alloc, RUN, LOOK, &mut folder)?;
         if code(&status) == 0 {
-            assert!(&rt; look.as_str() == "hits 3\n0\n1\n2\n" && removals > 2);
+            holds(&rt, look.as_str() == "hits 3\n0\n1\n2\n" && removals > 2);
             return Ok(());
         }
-        assert_eq!(&rt; code(&status), 4);
+        same(&rt, code(&status), 4);
         if look.as_str() == "hits 3\n0\n1\n2\n" {
             removals = removals.saturating_add(1);
         }

@@ -3,6 +3,7 @@
 use crate::fixtures::{called, faulty};
 use bkd_build::OpenGate;
 use bkd_top::{Status, code, run};
+use codec_tests::asserts::{holds, holds_at, same};
 use outer_io::{MemFolder, MemSink, MemSource};
 use std::alloc::Global;
 use std::marker::Sync;
@@ -93,15 +94,16 @@ fn fails_in_turn<R: Threads + Sync + Abort>(rt: &R, alloc: Global, row: &Row) ->
             folder.plan(Vec::new(alloc), None);
             let (_, look) = called(rt, alloc, &[".", "run"], "box 0 9\n", &mut folder)?;
             if code(&status) == 0 {
-                assert_eq!(rt; look.as_str(), row.after);
+                same(rt, look.as_str(), row.after);
                 break;
             }
-            assert_eq!(rt; code(&status), 4);
-            assert!(rt;
+            same(rt, code(&status), 4);
+            holds_at(
+                rt,
                 look.as_str() == row.before || look.as_str() == row.after,
-                "call {call}"
+                &call,
             );
-            assert!(rt; is_begun(row, text.as_str()), "call {call}");
+            holds_at(rt, is_begun(row, text.as_str()), &call);
         }
     }
     Ok(())
@@ -147,9 +149,9 @@ fn an_output_without_room(rt: HostRuntime) -> Result<(), Fail> {
             called(&rt, alloc, &[".", "run"], row.script, &mut folder)?;
             let status = cut(&rt, alloc, row, room, &mut folder)?;
             let whole = room == row.text.len();
-            assert_eq!(rt; code(&status), if whole { 0 } else { 5 });
+            same(&rt, code(&status), if whole { 0 } else { 5 });
             let (_, look) = called(&rt, alloc, &[".", "run"], "box 0 9\n", &mut folder)?;
-            assert_eq!(rt; look.as_str(), row.after);
+            same(&rt, look.as_str(), row.after);
         }
     }
     Ok(())
@@ -183,7 +185,7 @@ fn cut<R: Threads + Sync + Abort>(
         &mut sink,
         &OpenGate,
     );
-    assert_eq!(rt; sink.bytes(), wanted);
+    same(rt, sink.bytes(), wanted);
     Ok(status)
 }
 
@@ -195,14 +197,14 @@ fn output_fails<R: Threads + Sync + Abort>(rt: &R, alloc: Global, row: &Row) -> 
         let command = (row.words, row.input);
         let (status, text) = faulty(rt, alloc, command, &mut folder, &[], &[call])?;
         let (_, look) = called(rt, alloc, &[".", "run"], "box 0 9\n", &mut folder)?;
-        assert_eq!(rt; look.as_str(), row.after);
+        same(rt, look.as_str(), row.after);
         if code(&status) == 0 {
-            assert_eq!(rt; text.as_str(), row.text);
-            assert!(rt; call > 0);
+            same(rt, text.as_str(), row.text);
+            holds(rt, call > 0);
             return Ok(());
         }
-        assert_eq!(rt; code(&status), 5);
-        assert!(rt; is_begun(row, text.as_str()), "call {call}");
+        same(rt, code(&status), 5);
+        holds_at(rt, is_begun(row, text.as_str()), &call);
     }
     Err("too many calls".into())
 }
@@ -230,13 +232,14 @@ fn the_first_calls_on_the_input_fail(rt: HostRuntime) -> Result<(), Fail> {
             }
             let command = (row.words, row.input);
             let (status, text) = faulty(&rt, alloc, command, &mut folder, &[call], &[])?;
-            assert_eq!(&rt; code(&status), if takes_input { 3 } else { 0 });
-            assert_eq!(&rt; text.as_str(), if takes_input { "" } else { row.text });
+            same(&rt, code(&status), if takes_input { 3 } else { 0 });
+            same(&rt, text.as_str(), if takes_input { "" } else { row.text });
             folder.plan(Vec::new(alloc), None);
             let (_, look) = called(&rt, alloc, &[".", "run"], "box 0 9\n", &mut folder)?;
-            assert_eq!(&rt;
+            same(
+                &rt,
                 look.as_str(),
-                if takes_input { row.before } else { row.after }
+                if takes_input { row.before } else { row.after },
             );
         }
     }

@@ -2,6 +2,7 @@
 
 use crate::fixtures::called;
 use bkd_top::{Status, code};
+use codec_tests::asserts::{holds, same, same_at};
 use commit_list::read_commit;
 use outer_io::{FileName, MemFolder};
 use page_cache::Damage;
@@ -24,8 +25,8 @@ fn check<R: Threads + Sync + Abort>(
 ) -> Result<(), Fail> {
     for (words, input, number, answer) in calls {
         let (status, text) = called(rt, alloc, words, input, folder)?;
-        assert_eq!(rt; text.as_str(), *answer, "{words:?} after {input:?}");
-        assert_eq!(rt; code(&status), *number, "{words:?} after {input:?}");
+        same_at(rt, text.as_str(), *answer, &(words, input));
+        same_at(rt, code(&status), *number, &(words, input));
     }
     Ok(())
 }
@@ -46,8 +47,8 @@ fn loaded_row<R: Threads + Sync + Abort>(rt: &R, alloc: Global) -> Result<MemFol
     let mut folder = MemFolder::new(alloc, Vec::new(alloc));
     let file = row_of_points(alloc)?;
     let (status, text) = called(rt, alloc, LOAD, file.as_str(), &mut folder)?;
-    assert_eq!(rt; text.as_str(), "loaded 334\nnext 334\n");
-    assert_eq!(rt; code(&status), 0);
+    same(rt, text.as_str(), "loaded 334\nnext 334\n");
+    same(rt, code(&status), 0);
     Ok(folder)
 }
 
@@ -73,35 +74,43 @@ fn loads_and_explains_a_row_of_points(rt: HostRuntime) -> Result<(), Fail> {
     check(&rt, alloc, &mut folder, ROW_OF_POINTS)
 }
 
-/// A damaged leaf is met only where it is read.
-#[test]
-fn meets_a_damaged_leaf(rt: HostRuntime) -> Result<(), Fail> {
-    let alloc = rt.alloc();
-    let mut folder = loaded_row(&rt, alloc)?;
+/// The folder with the row of points, of which a byte of the leaf page was changed, and that page.
+fn damaged_row<R: Threads + Sync + Abort>(
+    rt: &R,
+    alloc: Global,
+) -> Result<(MemFolder, Vec<u8>), Fail> {
+    let mut folder = loaded_row(rt, alloc)?;
     let name = FileName::Segment(0);
     let mut bytes = folder.get(&name).ok_or("no segment")?.to_vec(alloc)?;
     assert_eq!(rt; bytes.len(), 3 * 4096);
     bytes[2 * 4096 + 100] ^= 1;
     let page = bytes.as_slice()[2 * 4096..].to_vec(alloc)?;
     folder.put(name, bytes)?;
+    Ok((folder, page))
+}
+
+/// A damaged leaf is met only where it is read.
+#[test]
+fn meets_a_damaged_leaf(rt: HostRuntime) -> Result<(), Fail> {
+    let alloc = rt.alloc();
+    let (mut folder, page) = damaged_row(&rt, alloc)?;
     for words in [[".", "run"].as_slice(), &[".", "explain"]] {
         let (status, _) = called(&rt, alloc, words, "box 1000 0 1001 0\n", &mut folder)?;
-        assert_eq!(rt; code(&status), 0);
+        same(&rt, code(&status), 0);
         let (status, text) = called(&rt, alloc, words, "box 0 0 5 0\n", &mut folder)?;
-        assert_eq!(rt; text.as_str(), "");
-        match status {
-            Status::Damaged(
-                Damage::Page {
-                    file,
-                    number,
-                    bytes,
-                },
-            ) => {
-                assert!(rt; file == FileName::Segment(0) && number == 2);
-                assert_eq!(rt; bytes.b.as_slice(), page.as_slice());
-            }
-            _ => return Err("not damaged".into()),
-        }
+        same(&rt, text.as_str(), "");
+        let Status::Damaged(
+            Damage::Page {
+                file,
+                number,
+                bytes,
+            },
+        ) = status
+        else {
+            return Err("not damaged".into());
+        };
+        same(&rt, (file, number), (FileName::Segment(0), 2));
+        same(&rt, bytes.b.as_slice(), page.as_slice());
     }
     Ok(())
 }
@@ -130,7 +139,7 @@ fn refuses_files(rt: HostRuntime) -> Result<(), Fail> {
     let mut folder = MemFolder::new(alloc, Vec::new(alloc));
     check(&rt, alloc, &mut folder, REFUSED_FILES)?;
     for name in [FileName::Commit, FileName::CommitNew, FileName::Segment(0)] {
-        assert!(rt; folder.get(&name).is_none());
+        holds(&rt, folder.get(&name).is_none());
     }
     Ok(())
 }
@@ -221,13 +230,14 @@ fn generates_the_same_twice(rt: HostRuntime) -> Result<(), Fail> {
     for words in DRAWN {
         let mut folder = MemFolder::new(alloc, Vec::new(alloc));
         let (status, text) = called(&rt, alloc, words, "", &mut folder)?;
-        assert_eq!(rt; code(&status), 0);
-        assert_eq!(rt;
+        same(&rt, code(&status), 0);
+        same(
+            &rt,
             text.as_str(),
-            "docs 20000 live 18000\nbox hits 2875\nnearest sum 708688812\n"
+            "docs 20000 live 18000\nbox hits 2875\nnearest sum 708688812\n",
         );
         let commit = read_commit(alloc, &mut folder)?.ok_or("no commit")?;
-        assert_eq!(rt; commit.next(), 20000);
+        same(&rt, commit.next(), 20000);
     }
     Ok(())
 }
@@ -280,52 +290,6 @@ fn refuses_too_many(rt: HostRuntime) -> Result<(), Fail> {
     let page = seal(3, 0, 0, FULL_COMMIT);
     folder.put(FileName::Commit, page.b.to_vec(alloc)?)?;
     check(&rt, alloc, &mut folder, FULL)?;
-    assert!(rt; folder.get(&FileName::Commit) == Some(page.b.as_slice()));
-    Ok(())
-}
-
-/// Words that are none of a command.
-const OTHER_WORDS: &[&[&str]] = &[
-    &[],
-    &["."],
-    &[".", "scan"],
-    &[".", "--help"],
-    &[".", "run", "--help"],
-    &[".", "run", "-h"],
-    &[".", "run", "more"],
-    &[".", "run", "--cache"],
-    &[".", "run", "--cache", "0"],
-    &[".", "run", "--cache", "65537"],
-    &[".", "run", "--cache", "1", "--cache", "1"],
-    &[".", "run", "--forks", "7"],
-    &[".", "run", "--docs", "1"],
-    &[".", "load"],
-    &[".", "load", "--columns", ","],
-    &[".", "load", "--columns", ""],
-    &[".", "load", "--columns", "a,,b"],
-    &[".", "load", "--columns", "a,b,c,d,e,f,g,h,i"],
-    &[".", "load", "--columns", "a", "--forks", "7"],
-    &[".", "load", "--columns", "a", "--columns", "b"],
-    &[".", "load", "--columns", "a", "--cache", "1"],
-    &[".", "explain", "--cache", "0"],
-    &[".", "explain", "--forks", "1"],
-    &[".", "generate", "--docs", "0", "--seed", "1"],
-    &[".", "generate", "--docs", "1000001", "--seed", "1"],
-    &[".", "generate", "--docs", "1", "--seed", "0"],
-    &[".", "generate", "--docs", "1", "--seed", "2147483647"],
-    &[".", "generate", "--docs", "1"],
-    &[".", "check", "more"],
-];
-
-#[test]
-fn other_words_do_nothing(rt: HostRuntime) -> Result<(), Fail> {
-    let alloc = rt.alloc();
-    for words in OTHER_WORDS {
-        let mut folder = MemFolder::new(alloc, Vec::new(alloc));
-        let (status, text) = called(&rt, alloc, words, "a,b\n1,2\n", &mut folder)?;
-        assert_eq!(rt; code(&status), 1, "{words:?}");
-        assert_eq!(rt; text.as_str(), "");
-        assert!(rt; folder.get(&FileName::Commit).is_none());
-    }
+    same(&rt, folder.get(&FileName::Commit), Some(page.b.as_slice()));
     Ok(())
 }

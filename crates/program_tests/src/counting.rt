@@ -2,6 +2,7 @@
 
 use crate::fixtures::called;
 use bkd_top::{Status, code};
+use codec_tests::asserts::{holds, holds_at, same, same_at};
 use outer_io::{FileName, MemFolder};
 use std::alloc::Global;
 use std::fmt::Write;
@@ -58,8 +59,8 @@ fn counts_what_scripts_leave(rt: HostRuntime) -> Result<(), Fail> {
         let mut folder = MemFolder::new(rt.alloc(), Vec::new(rt.alloc()));
         called(&rt, rt.alloc(), &[".", "run"], script, &mut folder)?;
         let (status, text) = called(&rt, rt.alloc(), COUNT, lines, &mut folder)?;
-        assert_eq!(&rt; text.as_str(), told, "after {script:?}");
-        assert!(&rt; refuses(&status, refused));
+        same_at(&rt, text.as_str(), told, &script);
+        holds(&rt, refuses(&status, refused));
     }
     Ok(())
 }
@@ -95,8 +96,8 @@ fn counts_a_row_of_points(rt: HostRuntime) -> Result<(), Fail> {
     let mut folder = row_of_points(&rt, rt.alloc())?;
     for (lines, refused, told) in OF_A_ROW {
         let (status, text) = called(&rt, rt.alloc(), COUNT, lines, &mut folder)?;
-        assert_eq!(&rt; text.as_str(), told);
-        assert!(&rt; refuses(&status, refused));
+        same(&rt, text.as_str(), told);
+        holds(&rt, refuses(&status, refused));
     }
     Ok(())
 }
@@ -112,10 +113,10 @@ fn counts_without_reading_leaves(rt: HostRuntime) -> Result<(), Fail> {
     bytes[2 * 4096 + 100] ^= 1;
     folder.put(name, bytes)?;
     let (status, text) = called(&rt, alloc, COUNT, "points -1 -1 400 1\n", &mut folder)?;
-    assert_eq!(rt; text.as_str(), "points 334\n");
-    assert_eq!(rt; code(&status), 0);
+    same(&rt, text.as_str(), "points 334\n");
+    same(&rt, code(&status), 0);
     let (status, _) = called(&rt, alloc, COUNT, "points 0 0 5 0\n", &mut folder)?;
-    assert_eq!(rt; code(&status), 6);
+    same(&rt, code(&status), 6);
     Ok(())
 }
 
@@ -131,7 +132,7 @@ fn other_words_are_refused(rt: HostRuntime) -> Result<(), Fail> {
     for words in OTHER_WORDS {
         let mut folder = MemFolder::new(rt.alloc(), Vec::new(rt.alloc()));
         let (status, text) = called(&rt, rt.alloc(), words, "points 1 2\n", &mut folder)?;
-        assert!(&rt; code(&status) == 1 && text.is_empty(), "{words:?}");
+        holds_at(&rt, code(&status) == 1 && text.is_empty(), &words);
     }
     Ok(())
 }

@@ -2,10 +2,10 @@
 
 use crate::fixtures::called;
 use bkd_top::code;
+use codec_tests::asserts::same;
 use outer_io::MemFolder;
 use std::alloc::Global;
 use std::fmt::Write;
-use std::process::Abort;
 use std::test::Fail;
 
 /// The ends of a range in each of four dimensions, of which the first are used.
@@ -150,8 +150,8 @@ fn drawn_ranges_agree_with_a_scan(rt: HostRuntime) -> Result<(), Fail> {
             story.script.as_str(),
             &mut folder,
         )?;
-        assert_eq!(&rt; text.as_str(), story.answers.as_str());
-        assert_eq!(&rt; code(&status), 0);
+        same(&rt, text.as_str(), story.answers.as_str());
+        same(&rt, code(&status), 0);
     }
     Ok(())
 }

@@ -4,6 +4,7 @@
 use crate::runs::empty_folder;
 use crate::stories::check_there;
 use bkd_build::OpenGate;
+use codec_tests::asserts::same_at;
 use index_core::{Applied, Session, Settings};
 use outer_io::{FileName, MemFolder};
 use page_cache::PageFault;
@@ -59,10 +60,11 @@ fn check_rows<R: Threads + Sync + Abort>(
         folder.plan(fails.to_vec(alloc)?, None);
         out.clear();
         let found = applied(rt, alloc, &mut session, folder, line, &mut out)?;
-        assert_eq!(rt;
+        same_at(
+            rt,
             (found, std::str::from_utf8(out.as_slice())),
             (*comes, Ok(*answer)),
-            "{line}"
+            &line,
         );
     }
     Ok(())

@@ -1,6 +1,7 @@
 //! Lines of queries, with what is told of them.
 
 use bkd_build::OpenGate;
+use codec_tests::asserts::same;
 use explain_queries::{explain_first, explain_line};
 use outer_io::MemFolder;
 use point_codec::{Point, Points};
@@ -57,9 +58,10 @@ fn tells_of_each_line(rt: HostRuntime) -> Result<(), Fail> {
     for (line, text, is_refused) in LINES {
         let mut reply = Vec::new(alloc);
         let refused = explain_line(alloc, &mut set, &mut folder, 9, line.as_bytes(), &mut reply)?;
-        assert_eq!(rt;
+        same(
+            &rt,
             (std::str::from_utf8(reply.as_slice()), refused),
-            (Ok(*text), *is_refused)
+            (Ok(*text), *is_refused),
         );
     }
     Ok(())
@@ -71,9 +73,10 @@ fn tells_without_an_index(rt: HostRuntime) -> Result<(), Fail> {
     for (line, text, is_refused) in FIRST_LINES {
         let mut reply = Vec::new(alloc);
         let refused = explain_first(2, line.as_bytes(), &mut reply)?;
-        assert_eq!(rt;
+        same(
+            &rt,
             (std::str::from_utf8(reply.as_slice()), refused),
-            (Ok(*text), *is_refused)
+            (Ok(*text), *is_refused),
         );
     }
     Ok(())

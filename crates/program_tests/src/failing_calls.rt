@@ -2,6 +2,7 @@
 
 use crate::runs::{empty_folder, faulty, outcome};
 use bkd_top::code;
+use codec_tests::asserts::{holds, holds_at, same};
 use outer_io::MemFolder;
 use std::alloc::Global;
 use std::marker::Sync;
@@ -107,14 +108,11 @@ fn run_failing<R: Threads + Sync + Abort>(
     let done = answered(output.bytes());
     let look = looked(rt, alloc, &mut folder)?;
     if code(&status) == 0 {
-        assert_eq!(rt; look.as_str(), ENDED);
+        same(rt, look.as_str(), ENDED);
         return Ok(None);
     }
-    assert_eq!(rt; code(&status), 4);
-    assert!(rt;
-        is_allowed(done, look.as_str()),
-        "{look} behind {done:?} lines"
-    );
+    same(rt, code(&status), 4);
+    holds_at(rt, is_allowed(done, look.as_str()), &(look, done));
     Ok(done)
 }
 
@@ -135,7 +133,7 @@ fn each_call_fails(rt: HostRuntime) -> Result<(), Fail> {
         at_reopen |= done == 8;
         at_end |= done == 10;
     }
-    assert!(&rt; at_commit && at_reopen && at_end);
+    holds(&rt, at_commit && at_reopen && at_end);
     Ok(())
 }
 
@@ -157,9 +155,9 @@ fn each_answer_fails(rt: HostRuntime) -> Result<(), Fail> {
         let mut folder = empty_folder(rt.alloc());
         let fails = [call as u64];
         let (status, output) = faulty(&rt, rt.alloc(), SCRIPT, &mut folder, &[], &fails)?;
-        assert_eq!(&rt; code(&status), 5);
-        assert_eq!(&rt; answered(output.bytes()), Some(call));
-        assert_eq!(&rt; looked(&rt, rt.alloc(), &mut folder)?.as_str(), *stored);
+        same(&rt, code(&status), 5);
+        same(&rt, answered(output.bytes()), Some(call));
+        same(&rt, looked(&rt, rt.alloc(), &mut folder)?.as_str(), *stored);
     }
     Ok(())
 }

@@ -5,6 +5,7 @@ use crate::runs::{check_said, empty_folder, faulty, outcome, run_words, said};
 use crate::scripts::{LOOK, script_of};
 use bkd_build::OpenGate;
 use bkd_top::{Status, code, run_script};
+use codec_tests::asserts::{holds, holds_at, same, same_at};
 use index_core::Settings;
 use outer_io::{FileName, MemFolder, MemSink, MemSource};
 use page_cache::Damage;
@@ -42,8 +43,8 @@ fn check_row<R: Threads + Sync + Abort>(rt: &R, alloc: Global, row: Row) -> Resu
     folder.plan(folder_fails.to_vec(alloc)?, None);
     let (status, output) = faulty(rt, alloc, SCRIPT, &mut folder, source_fails, sink_fails)?;
     check_said(rt, alloc, &status, line)?;
-    assert_eq!(rt; std::str::from_utf8(output.bytes()), Ok(answers));
-    assert!(rt; folder.get(&FileName::Commit).is_none());
+    same(rt, std::str::from_utf8(output.bytes()), Ok(answers));
+    holds(rt, folder.get(&FileName::Commit).is_none());
     Ok(())
 }
 
@@ -93,7 +94,7 @@ fn an_output_without_room(rt: HostRuntime) -> Result<(), Fail> {
             ""
         };
         check_said(&rt, rt.alloc(), &status, line)?;
-        assert_eq!(rt; output.bytes(), &ANSWERS[..room]);
+        same(&rt, output.bytes(), &ANSWERS[..room]);
     }
     Ok(())
 }
@@ -114,8 +115,8 @@ fn other_words(rt: HostRuntime) -> Result<(), Fail> {
         let mut folder = empty_folder(rt.alloc());
         let mut output = MemSink::new(rt.alloc(), 64, Vec::new(rt.alloc()))?;
         let status = run_words(&rt, rt.alloc(), words, &mut input, &mut folder, &mut output)?;
-        assert_eq!(rt; code(&status), 1, "after {words:?}");
-        assert_eq!(rt; output.bytes().len(), 0);
+        same_at(&rt, code(&status), 1, &words);
+        same(&rt, output.bytes().len(), 0);
     }
     Ok(())
 }
@@ -149,7 +150,7 @@ const STATUSES: [(Status, u8, &str); 9] = [
 fn statuses(rt: HostRuntime) -> Result<(), Fail> {
     for (status, number, text) in &STATUSES {
         check_said(&rt, rt.alloc(), status, text)?;
-        assert_eq!(rt; code(status), *number);
+        same(&rt, code(status), *number);
     }
     Ok(())
 }
@@ -160,10 +161,10 @@ fn a_damaged_folder(rt: HostRuntime) -> Result<(), Fail> {
     let mut folder = empty_folder(rt.alloc());
     folder.put(FileName::Commit, Vec::new(rt.alloc()))?;
     let (status, output) = outcome(&rt, rt.alloc(), b"create 1\n", &mut folder)?;
-    assert_eq!(rt; code(&status), 6);
+    same(&rt, code(&status), 6);
     assert_eq!(rt; output.bytes().len(), 0);
     let left = folder.get(&FileName::Commit).map(|bytes| bytes.len());
-    assert_eq!(rt; left, Some(0));
+    same(&rt, left, Some(0));
     Ok(())
 }
 
@@ -219,7 +220,7 @@ fn check_left<R: Threads + Sync + Abort>(
 ) -> Result<(), Fail> {
     folder.plan(Vec::new(alloc), None);
     let (_, look) = outcome(rt, alloc, LOOK, folder)?;
-    assert!(rt; is_allowed(alloc, answers, look.bytes())?, "call {call}");
+    holds_at(rt, is_allowed(alloc, answers, look.bytes())?, &call);
     Ok(())
 }
 
@@ -240,7 +241,7 @@ fn calls<R: Threads + Sync + Abort>(rt: &R, alloc: Global, stops: bool) -> Resul
 #[test]
 fn each_call_of_the_folder_fails(rt: HostRuntime) -> Result<(), Fail> {
     for stops in [false, true] {
-        assert!(rt; calls(&rt, rt.alloc(), stops)? > 0);
+        holds(&rt, calls(&rt, rt.alloc(), stops)? > 0);
     }
     Ok(())
 }

@@ -1,6 +1,7 @@
 //! Scripts over a folder that holds something already, and the files that scripts leave.
 
 use crate::runs::{check_answers, empty_folder, outcome};
+use codec_tests::asserts::holds_at;
 use outer_io::{FileName, MemFolder};
 use page_cache::pages_of;
 use std::alloc::Global;
@@ -211,10 +212,10 @@ fn check_file(
     let (name, at, expected) = file;
     let found = folder.get(name);
     match expected {
-        None => assert!(rt; found.is_none(), "after {script:?}"),
+        None => holds_at(rt, found.is_none(), &script),
         Some(expected) => {
             let behind = found.unwrap_or(&[]).get(*at..).unwrap_or(&[]);
-            assert!(rt; behind.starts_with(expected), "after {script:?}");
+            holds_at(rt, behind.starts_with(expected), &script);
         }
     }
 }

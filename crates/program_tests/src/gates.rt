@@ -3,6 +3,7 @@
 use crate::runs::{check_said, empty_folder, words_of};
 use bkd_build::Gate;
 use bkd_top::{Status, run};
+use codec_tests::asserts::{same, same_at};
 use outer_io::{MemSink, MemSource};
 use std::alloc::Global;
 use std::marker::Sync;
@@ -91,7 +92,7 @@ fn halves_run_beside_each_other(rt: HostRuntime) -> Result<(), Fail> {
     check_said(&rt, rt.alloc(), &status, "")?;
     let left = gate.met[0].load(Ordering::SeqCst);
     let right = gate.met[1].load(Ordering::SeqCst);
-    assert_eq!(rt; (left, right), (1, 1));
+    same(&rt, (left, right), (1, 1));
     Ok(())
 }
 
@@ -113,7 +114,7 @@ fn passes_by_levels_of_forks(rt: HostRuntime) -> Result<(), Fail> {
         let status = run_gated(&rt, rt.alloc(), words, THREE_BUILDS, &gate)?;
         check_said(&rt, rt.alloc(), &status, "")?;
         let passes = gate.passes.load(Ordering::SeqCst);
-        assert_eq!(rt; passes, expected, "{words:?}");
+        same_at(&rt, passes, expected, &words);
     }
     Ok(())
 }

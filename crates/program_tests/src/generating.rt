@@ -1,6 +1,7 @@
 //! Generated indexes, with what is said of them.
 
 use bkd_build::OpenGate;
+use codec_tests::asserts::{holds, same};
 use commit_list::read_commit;
 use generate_index::generate;
 use index_core::{Settings, Work};
@@ -59,12 +60,13 @@ fn says_what_a_scan_finds(rt: HostRuntime) -> Result<(), Fail> {
     for (docs, seed, text) in SUMMARIES {
         let mut folder = MemFolder::new(alloc, Vec::new(alloc));
         let (said, refused) = generated(&rt, alloc, &mut folder, *docs, *seed)?;
-        assert!(rt; !refused);
-        assert_eq!(rt; said.as_str(), *text);
+        holds(&rt, !refused);
+        same(&rt, said.as_str(), *text);
         let commit = read_commit(alloc, &mut folder)?.ok_or("no commit")?;
-        assert_eq!(rt;
+        same(
+            &rt,
             (commit.dims(), commit.leaf(), commit.next()),
-            (2, 333, *docs)
+            (2, 333, *docs),
         );
     }
     Ok(())
@@ -76,9 +78,9 @@ fn leaves_an_index_that_is_there(rt: HostRuntime) -> Result<(), Fail> {
     let mut folder = MemFolder::new(alloc, Vec::new(alloc));
     generated(&rt, alloc, &mut folder, 1, 1)?;
     let (said, refused) = generated(&rt, alloc, &mut folder, 2, 2)?;
-    assert!(rt; refused);
-    assert_eq!(rt; said.as_str(), "index exists\n");
+    holds(&rt, refused);
+    same(&rt, said.as_str(), "index exists\n");
     let commit = read_commit(alloc, &mut folder)?.ok_or("no commit")?;
-    assert_eq!(rt; commit.next(), 1);
+    same(&rt, commit.next(), 1);
     Ok(())
 }

@@ -51,6 +51,8 @@ mod loading;
 #[cfg(test)]
 mod merged_segments;
 #[cfg(test)]
+mod other_words;
+#[cfg(test)]
 mod range_stories;
 #[cfg(test)]
 mod rows;

@@ -2,6 +2,7 @@
 
 use bkd_build::OpenGate;
 use byte_cursor::Bytes;
+use codec_tests::asserts::{holds, holds_at};
 use commit_list::read_commit;
 use index_core::{Settings, Work};
 use load_points::load;
@@ -68,12 +69,13 @@ fn each_call_fails(rt: HostRuntime) -> Result<(), Fail> {
                 let whole = before.unwrap_or(0).checked_add(3);
                 match done {
                     Ok(refused) => {
-                        assert!(rt; !refused && after == whole);
+                        holds(&rt, !refused && after == whole);
                         break;
                     }
-                    Err(PageFault::Failed) => assert!(rt;
+                    Err(PageFault::Failed) => holds_at(
+                        &rt,
                         after == before || after == whole,
-                        "call {call}"
+                        &call,
                     ),
                     Err(_) => return Err("another fault".into()),
                 }

@@ -2,6 +2,7 @@
 
 use bkd_build::OpenGate;
 use byte_cursor::Bytes;
+use codec_tests::asserts::{holds, same};
 use commit_list::{Commit, read_commit, write_commit};
 use index_core::{Settings, Work};
 use load_points::load;
@@ -90,9 +91,9 @@ fn refuses_files(rt: HostRuntime) -> Result<(), Fail> {
     for row in REFUSALS {
         let mut folder = MemFolder::new(alloc, Vec::new(alloc));
         let (text, refused) = loaded(&rt, alloc, &mut folder, row.columns, row.file)?;
-        assert!(rt; refused);
-        assert_eq!(rt; text.as_str(), row.answer);
-        assert!(rt; is_empty(&folder));
+        holds(&rt, refused);
+        same(&rt, text.as_str(), row.answer);
+        holds(&rt, is_empty(&folder));
     }
     Ok(())
 }
@@ -140,15 +141,20 @@ fn loads_again_and_again(rt: HostRuntime) -> Result<(), Fail> {
     for (names, file, answer, is_refused) in LOADS {
         let before = commit_of(alloc, &folder)?;
         let (text, refused) = loaded(&rt, alloc, &mut folder, names, file)?;
-        assert_eq!(rt; (text.as_str(), refused), (*answer, *is_refused));
+        same(&rt, (text.as_str(), refused), (*answer, *is_refused));
         if refused {
-            assert_eq!(rt; commit_of(alloc, &folder)?.as_slice(), before.as_slice());
+            same(
+                &rt,
+                commit_of(alloc, &folder)?.as_slice(),
+                before.as_slice(),
+            );
         }
     }
     let commit = read_commit(alloc, &mut folder)?.ok_or("no commit")?;
-    assert_eq!(rt;
+    same(
+        &rt,
         (commit.dims(), commit.leaf(), commit.next(), commit.given()),
-        (2, 333, 3, 3)
+        (2, 333, 3, 3),
     );
     Ok(())
 }
@@ -187,7 +193,7 @@ fn refuses_what_does_not_fit(rt: HostRuntime) -> Result<(), Fail> {
     write_commit(alloc, &mut folder, &commit)?;
     for (names, file, answer, is_refused) in FULL {
         let (text, refused) = loaded(&rt, alloc, &mut folder, names, file)?;
-        assert_eq!(rt; (text.as_str(), refused), (*answer, *is_refused));
+        same(&rt, (text.as_str(), refused), (*answer, *is_refused));
     }
     Ok(())
 }

@@ -2,6 +2,7 @@
 
 use bkd_build::OpenGate;
 use bkd_top::{Status, run, status_line};
+use codec_tests::asserts::{same, same_at};
 use outer_io::{MemFolder, MemSink, MemSource, Source};
 use std::alloc::Global;
 use std::marker::Sync;
@@ -108,16 +109,18 @@ pub fn check_answers(
     refused: u64,
 ) -> Result<(), Fail> {
     let (status, output) = outcome;
-    assert_eq!(rt;
+    same_at(
+        rt,
         std::str::from_utf8(output.bytes()),
         std::str::from_utf8(answers),
-        "after {script:?}"
+        &script,
     );
     let expected = said(alloc, &refusing(refused))?;
-    assert_eq!(rt;
+    same_at(
+        rt,
         said(alloc, status)?.as_slice(),
         expected.as_slice(),
-        "after {script:?}"
+        &script,
     );
     Ok(())
 }
@@ -125,7 +128,7 @@ pub fn check_answers(
 /// A status is said so.
 pub fn check_said(rt: &impl Abort, alloc: Global, status: &Status, line: &str) -> Result<(), Fail> {
     let found = said(alloc, status)?;
-    assert_eq!(rt; std::str::from_utf8(found.as_slice()), Ok(line));
+    same(rt, std::str::from_utf8(found.as_slice()), Ok(line));
     Ok(())
 }
 

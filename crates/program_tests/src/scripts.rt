@@ -3,6 +3,7 @@
 use crate::draws::Draws;
 use crate::lists::scanned;
 use crate::runs::{check_answers, empty_folder, outcome};
+use codec_tests::asserts::{holds_at, same, same_at};
 use outer_io::{FileName, MemFolder};
 use std::alloc::Global;
 use std::marker::Sync;
@@ -87,10 +88,10 @@ fn check_look<R: Threads + Sync + Abort>(
     whole.extend_from_slice(LOOK)?;
     let scan = scanned(alloc, whole.as_slice())?;
     let (_, output) = outcome(rt, alloc, LOOK, folder)?;
-    assert!(rt;
+    holds_at(
+        rt,
         scan.answers.as_slice().ends_with(output.bytes()),
-        "again after {:?}",
-        text_of(whole.as_slice())
+        &text_of(whole.as_slice()),
     );
     Ok(())
 }
@@ -191,10 +192,11 @@ fn go_on_between<R: Threads + Sync + Abort>(
         let mut whole = reopened(alloc, place)?;
         whole.extend_from_slice(LOOK)?;
         let scan = scanned(alloc, whole.as_slice())?;
-        assert_eq!(rt;
+        same_at(
+            rt,
             last_line(answers.as_slice()),
             last_line(scan.answers.as_slice()),
-            "from line {place} on"
+            &place,
         );
     }
     Ok(())
@@ -232,7 +234,7 @@ fn a_run_without_changes(rt: HostRuntime) -> Result<(), Fail> {
     for lines in IDLE {
         outcome(&rt, rt.alloc(), lines, &mut folder)?;
         let after = commit_of(rt.alloc(), &folder)?;
-        assert_eq!(rt; after.as_slice(), before.as_slice());
+        same(&rt, after.as_slice(), before.as_slice());
     }
     Ok(())
 }

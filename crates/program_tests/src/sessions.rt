@@ -8,6 +8,7 @@ use crate::rows::ROWS;
 use crate::runs::{check_answers, check_said, empty_folder, run_from, words_of};
 use bkd_build::OpenGate;
 use bkd_top::run;
+use codec_tests::asserts::same;
 use outer_io::{Failed, FileName, MemSink, Sink, Source};
 use std::alloc::Global;
 use std::marker::Sync;
@@ -207,9 +208,10 @@ fn each_answer_comes_before_the_next_line(rt: HostRuntime) -> Result<(), Fail> {
         &OpenGate,
     );
     check_said(&rt, alloc, &status, "refused 1\n")?;
-    assert_eq!(rt;
+    same(
+        &rt,
         std::str::from_utf8(output.sink.bytes()),
-        Ok("ok\ndoc 0\nline 3: unknown command\nhits 1\n0\nok\n")
+        Ok("ok\ndoc 0\nline 3: unknown command\nhits 1\n0\nok\n"),
     );
     Ok(())
 }
@@ -265,7 +267,7 @@ fn a_source_that_fails(rt: HostRuntime) -> Result<(), Fail> {
         let mut folder = empty_folder(alloc);
         let (status, output) = run_from(&rt, alloc, &SESSION, &mut input, &mut folder)?;
         check_said(&rt, alloc, &status, "source fault\n")?;
-        assert_eq!(rt; std::str::from_utf8(output.bytes()), Ok(answers));
+        same(&rt, std::str::from_utf8(output.bytes()), Ok(answers));
         assert_eq!(rt; folder.get(&FileName::Commit).is_some(), is_stored);
     }
     Ok(())

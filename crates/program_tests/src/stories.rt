@@ -1,6 +1,7 @@
 //! Stories: steps over one folder, each with what comes of it.
 
 use crate::runs::{empty_folder, outcome, run_from, said};
+use codec_tests::asserts::{holds_at, same, same_at};
 use outer_io::{FileName, Folder, MemFolder, MemSource};
 use page_cache::pages_of;
 use std::alloc::Global;
@@ -90,13 +91,14 @@ fn call<R: Threads + Sync + Abort>(
     let mut source = MemSource::new(input.as_bytes().to_vec(alloc)?, Vec::new(alloc));
     let (status, output) = run_from(rt, alloc, words, &mut source, folder)?;
     let line = said(alloc, &status)?;
-    assert_eq!(rt;
+    same_at(
+        rt,
         (
             std::str::from_utf8(output.bytes()),
-            std::str::from_utf8(line.as_slice())
+            std::str::from_utf8(line.as_slice()),
         ),
         (Ok(answers.as_str()), Ok(end)),
-        "after {input:?}"
+        &input,
     );
     Ok(())
 }
@@ -140,7 +142,7 @@ fn lose(folder: &mut MemFolder, name: &FileName) -> Result<(), Fail> {
 
 fn begins(rt: &impl Abort, folder: &MemFolder, name: &FileName, bytes: &[u8]) -> Result<(), Fail> {
     let file = folder.get(name).ok_or("no file")?;
-    assert_eq!(rt; file.get(..bytes.len()), Some(bytes));
+    same(rt, file.get(..bytes.len()), Some(bytes));
     Ok(())
 }
 
@@ -155,7 +157,7 @@ pub fn check_there(
         assert!(rt; folder.get(name).is_some(), "{name}");
     }
     for name in none {
-        assert!(rt; folder.get(name).is_none(), "{name}");
+        holds_at(rt, folder.get(name).is_none(), &name);
     }
     Ok(())
 }

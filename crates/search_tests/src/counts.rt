@@ -7,6 +7,7 @@ use crate::index_forms::FORMS;
 use crate::long_leaves::{live_row, open_row};
 use crate::stored::{Stored, open_alone};
 use crate::views::{BUFFER, three};
+use codec_tests::asserts::same_at;
 use live_bits::LiveBits;
 use outer_io::MemFolder;
 use page_cache::{PageCache, PageFault};
@@ -141,9 +142,9 @@ fn only_crossed_leaves_are_read(rt: HostRuntime) -> Result<(), Fail> {
     let mut segments = alone(rt.alloc(), head, live_row(rt.alloc())?)?;
     for (lo, hi, points, (read, _)) in COUNTS {
         let told = counted(rt.alloc(), &mut folder, &segments, (lo, hi), false)?;
-        assert_eq!(rt; told.ok(), Some(points), "{lo:?} to {hi:?}");
+        same_at(&rt, told.ok(), Some(points), &(lo, hi));
         let stopped = counted(rt.alloc(), &mut folder, &segments, (lo, hi), true)?;
-        assert_eq!(rt; stopped.is_err(), read, "{lo:?} to {hi:?}");
+        same_at(&rt, stopped.is_err(), read, &(lo, hi));
     }
     segments.clear(333);
     for (lo, hi, points, (_, read)) in COUNTS {
@@ -153,9 +154,9 @@ fn only_crossed_leaves_are_read(rt: HostRuntime) -> Result<(), Fail> {
         } else {
             points
         };
-        assert_eq!(rt; told.ok(), Some(left), "{lo:?} to {hi:?} without 333");
+        same_at(&rt, told.ok(), Some(left), &(lo, hi));
         let stopped = counted(rt.alloc(), &mut folder, &segments, (lo, hi), true)?;
-        assert_eq!(rt; stopped.is_err(), read, "{lo:?} to {hi:?} without 333");
+        same_at(&rt, stopped.is_err(), read, &(lo, hi));
     }
     Ok(())
 }
@@ -202,7 +203,7 @@ fn grids_of_the_row(rt: HostRuntime) -> Result<(), Fail> {
     for (ends, steps, columns) in GRIDS {
         let told = gridded(rt.alloc(), ends, steps)?;
         let expected = lowest(rt.alloc(), columns)?;
-        assert_eq!(rt; told.as_slice(), expected.as_slice(), "{ends:?}");
+        same_at(&rt, told.as_slice(), expected.as_slice(), &ends);
     }
     Ok(())
 }
@@ -221,7 +222,7 @@ fn plans_that_are_none(rt: HostRuntime) -> Result<(), Fail> {
     for ((x, y), (step_x, step_y), fault) in REFUSED {
         let (lo, hi) = (Point { c: [0, 0] }, Point { c: [65_535, 1] });
         let plan = GridPlan::<2>::new(lo, hi, x, step_x, y, step_y);
-        assert_eq!(rt; plan.err(), Some(fault), "{x} {y}");
+        same_at(&rt, plan.err(), Some(fault), &(x, y));
     }
     Ok(())
 }

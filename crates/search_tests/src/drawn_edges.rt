@@ -1,8 +1,11 @@
 //! A ring of drawn positions: the tree answers as the plain list of edges does.
 
+use codec_tests::asserts::same;
 use edge_tree::EdgeTree;
 use point_codec::{Cell, Point};
 use ring_parity::{Ring, Rings, any_meets, odd, on_any};
+use std::alloc::Global;
+use std::process::Abort;
 use std::test::Fail;
 
 /// Draws by the minimal standard generator of Park and Miller.
@@ -22,10 +25,8 @@ impl Draws {
     }
 }
 
-#[test]
-fn equals_the_plain_list(rt: HostRuntime) -> Result<(), Fail> {
-    let alloc = rt.alloc();
-    let mut draws = Draws(1);
+/// A ring of a thousand drawn positions.
+fn drawn(alloc: Global, draws: &mut Draws) -> Result<Rings, Fail> {
     let first = draws.point();
     let mut at = Vec::new(alloc);
     at.push(first)?;
@@ -35,19 +36,43 @@ fn equals_the_plain_list(rt: HostRuntime) -> Result<(), Fail> {
     at.push(first)?;
     let mut list = Vec::new(alloc);
     list.push(Ring::new(at))?;
-    let rings = Rings::new(list)?;
-    let tree = EdgeTree::new(alloc, &rings)?;
+    Ok(Rings::new(list)?)
+}
+
+/// Whether the point is on an edge, whether it is in by the edges' parity, and whether it is within: by the tree.
+fn by_the_tree(tree: &EdgeTree, p: &Point<2>) -> (bool, bool, bool) {
+    (tree.on_any(p), tree.odd(p), tree.contains(p))
+}
+
+/// The same by the plain list.
+fn by_the_list(rings: &Rings, p: &Point<2>) -> (bool, bool, bool) {
+    let (on, odd) = (on_any(rings, p), odd(rings, p));
+    (on, odd, on || odd)
+}
+
+/// An edge meets the square cell of this width at the point just where one of the plain list does.
+fn meets(
+    rt: &impl Abort,
+    tree: &EdgeTree,
+    rings: &Rings,
+    p: &Point<2>,
+    width: i32,
+) -> Result<(), Fail> {
+    let cell = cell_from(p, width).ok_or("a cell above its own corner")?;
+    same(rt, tree.any_meets(&cell), any_meets(rings, &cell));
+    Ok(())
+}
+
+#[test]
+fn equals_the_plain_list(rt: HostRuntime) -> Result<(), Fail> {
+    let mut draws = Draws(1);
+    let rings = drawn(rt.alloc(), &mut draws)?;
+    let tree = EdgeTree::new(rt.alloc(), &rings)?;
     for _ in 0..200 {
         let p = draws.point();
-        assert_eq!(rt; tree.on_any(&p), on_any(&rings, &p));
-        assert_eq!(rt; tree.odd(&p), odd(&rings, &p));
-        assert_eq!(rt; tree.contains(&p), on_any(&rings, &p) || odd(&rings, &p));
-        for cell in [cell_from(&p, 2_000), cell_from(&p, 60_000)] {
-            let Some(cell) = cell else {
-                return Err("a cell above its own corner")?;
-            };
-            assert_eq!(rt; tree.any_meets(&cell), any_meets(&rings, &cell));
-        }
+        same(&rt, by_the_tree(&tree, &p), by_the_list(&rings, &p));
+        meets(&rt, &tree, &rings, &p, 2_000)?;
+        meets(&rt, &tree, &rings, &p, 60_000)?;
     }
     Ok(())
 }

@@ -4,6 +4,7 @@
 use crate::stored::{Stored, open_alone};
 use crate::walks::{line, reads, walked};
 use bkd_reader::survey;
+use codec_tests::asserts::same_at;
 use live_bits::LiveBits;
 use outer_io::MemFolder;
 use segment_file::SegmentHead;
@@ -94,13 +95,13 @@ fn check_row(
     let hits = walked(alloc, folder, head, live, &mut shape)?
         .ok()
         .ok_or("no walk")?;
-    assert_eq!(rt; hits.as_slice(), expected, "{ends:?}");
+    same_at(rt, hits.as_slice(), expected, &ends);
     let tests = shape.tests();
     let touched = survey(head, &mut shape).touched;
     let costs = if own { own_costs } else { path_costs };
-    assert_eq!(rt; (tests, touched), costs, "{ends:?}");
+    same_at(rt, (tests, touched), costs, &ends);
     let read = reads(alloc, folder, head, live, &mut shape)?;
-    assert_eq!(rt; read, touched.min(1), "{ends:?}");
+    same_at(rt, read, touched.min(1), &ends);
     Ok(())
 }
 

@@ -5,6 +5,7 @@ ghost use Rattle.bkd_build.specs.Parts.{AreEntries};
 
 use bkd_build::OpenGate;
 use cell_relate::BoxShape;
+use codec_tests::asserts::{holds_at, same, same_at};
 use outer_io::{FileName, MemFolder};
 use page_cache::{Damage, PageCache, PageFault};
 use point_codec::{Entry, Point};
@@ -115,17 +116,14 @@ fn check_visit(
     stored.folder.plan([call].to_vec(alloc)?, None);
     match visited(alloc, stored, &mut cache, &mut shape) {
         Ok(hits) => {
-            assert_eq!(rt;
-                (hits.len(), hits.first().copied()),
-                expected,
-                "{lo:?} to {hi:?}"
-            );
-            assert_eq!(rt; (shape.tests(), call), (tests, pages), "{lo:?} to {hi:?}");
+            same_at(rt, (hits.len(), hits.first().copied()), expected, &(lo, hi));
+            same_at(rt, (shape.tests(), call), (tests, pages), &(lo, hi));
         }
         Err(fault) => {
-            assert!(rt;
+            holds_at(
+                rt,
                 matches!(fault, PageFault::Failed) && call < pages,
-                "read {call}"
+                &call,
             );
         }
     }
@@ -136,10 +134,11 @@ fn check_visit(
 fn check_row(rt: &impl Abort, alloc: Global, stored: &mut Stored, row: Row) -> Result<(), Fail> {
     let (lo, hi, _, (_, touched, pages)) = row;
     let mut shape = BoxShape::new(Point { c: lo }, Point { c: hi });
-    assert_eq!(rt;
+    same_at(
+        rt,
         survey(&stored.segments, &mut shape).touched,
         touched,
-        "{lo:?} to {hi:?}"
+        &(lo, hi),
     );
     for call in 0..pages {
         check_visit(rt, alloc, stored, row, call)?;
@@ -153,7 +152,7 @@ fn a_box_reads_the_pages_of_its_leaves(rt: HostRuntime) -> Result<(), Fail> {
     let file = file_of(rt.alloc(), &stored)?;
     for row in ROWS {
         check_row(&rt, rt.alloc(), &mut stored, row)?;
-        assert_eq!(rt; stored.folder.get(&SEGMENT), Some(file.as_slice()));
+        same(&rt, stored.folder.get(&SEGMENT), Some(file.as_slice()));
     }
     Ok(())
 }
@@ -176,8 +175,8 @@ fn check_fault(rt: &impl Abort, fault: &PageFault, page: &[u8]) -> Result<(), Fa
                 bytes,
             },
         ) => {
-            assert_eq!(rt; (*file, *number), (SEGMENT, 3));
-            assert_eq!(rt; bytes.b.as_slice(), page);
+            same(rt, (*file, *number), (SEGMENT, 3));
+            same(rt, bytes.b.as_slice(), page);
             Ok(())
         }
         _ => Err("another fault".into()),
@@ -196,7 +195,7 @@ fn check_damaged(
     let mut shape = BoxShape::new(Point { c: [lo, 0] }, Point { c: [hi, 0] });
     let mut cache = PageCache::new(alloc, 4)?;
     let visit = visited(alloc, stored, &mut cache, &mut shape);
-    assert_eq!(rt; visit.is_ok(), whole, "{lo} to {hi}");
+    same_at(rt, visit.is_ok(), whole, &(lo, hi));
     match &visit {
         Ok(_) => Ok(()),
         Err(fault) => check_fault(rt, fault, page),

@@ -6,6 +6,7 @@ use crate::stored::{Stored, open_alone};
 use crate::walks::{reads, walked};
 use bkd_reader::survey;
 use cell_relate::BoxShape;
+use codec_tests::asserts::same_at;
 use live_bits::LiveBits;
 use outer_io::MemFolder;
 use point_codec::Point;
@@ -83,15 +84,11 @@ fn check_row(
     let hits = walked(alloc, folder, head, live, &mut shape)?
         .ok()
         .ok_or("no walk")?;
-    assert_eq!(rt;
-        (hits.len(), hits.first().copied()),
-        expected,
-        "{lo:?} to {hi:?}"
-    );
+    same_at(rt, (hits.len(), hits.first().copied()), expected, &(lo, hi));
     let tests = shape.tests();
     let touched = survey(head, &mut shape).touched;
     let read = reads(alloc, folder, head, live, &mut shape)?;
-    assert_eq!(rt; (tests, touched, read), costs, "{lo:?} to {hi:?}");
+    same_at(rt, (tests, touched, read), costs, &(lo, hi));
     Ok(())
 }
 

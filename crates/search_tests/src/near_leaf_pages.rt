@@ -1,6 +1,7 @@
 //! What a search for the nearest reads of a segment of several leaf pages, and where a read fails.
 
 use crate::leaf_pages::{Stored, make_stored};
+use codec_tests::asserts::{holds_at, same_at};
 use page_cache::{PageCache, PageFault};
 use point_codec::{Near, Point};
 use segment_view::{Segments, nearest, survey_near};
@@ -63,12 +64,9 @@ fn check_search(
     cache.forget(3);
     stored.folder.plan([call].to_vec(alloc)?, None);
     match ten_nearest(alloc, stored, cache, &Point { c: [x, 0] }) {
-        Ok(found) => assert_eq!(rt; (found.as_slice(), call), (wanted, pages), "at {x}"),
+        Ok(found) => same_at(rt, (found.as_slice(), call), (wanted, pages), &x),
         Err(fault) => {
-            assert!(rt;
-                matches!(fault, PageFault::Failed) && call < pages,
-                "at {x}"
-            );
+            holds_at(rt, matches!(fault, PageFault::Failed) && call < pages, &x);
         }
     }
     Ok(())
@@ -85,10 +83,11 @@ fn check_place(
     let at = Point { c: [x, 0] };
     let wanted = ten_of_entries(alloc, stored, &at)?;
     let greatest = wanted.last().map(|near| near.dist2);
-    assert_eq!(rt;
+    same_at(
+        rt,
         survey_near(&stored.segments, &at, greatest),
         near_leaves,
-        "at {x}"
+        &x,
     );
     let mut cache = PageCache::new(alloc, 4)?;
     for call in 0..=pages {
@@ -104,7 +103,7 @@ fn check_place(
     }
     stored.folder.plan(Vec::new(alloc), Some(0));
     let found = ten_nearest(alloc, stored, &mut cache, &at)?;
-    assert_eq!(rt; found.as_slice(), wanted.as_slice(), "at {x}");
+    same_at(rt, found.as_slice(), wanted.as_slice(), &x);
     Ok(())
 }
 

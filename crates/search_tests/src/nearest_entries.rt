@@ -3,6 +3,7 @@
 
 ghost use Rattle.std.specs.Prelude.{◌≤◌};
 
+use codec_tests::asserts::same;
 use nearest_query::nearest;
 use outer_io::MemFolder;
 use page_cache::PageCache;
@@ -43,7 +44,7 @@ const NEARER: [Near; 1] = [Near { doc: 0, dist2: 25 }];
 #[test]
 fn the_nearer_of_two(rt: HostRuntime) -> Result<(), Fail> {
     let found = nearest_in(rt.alloc(), &TWO, &Point { c: [0, 0] }, 1)?;
-    assert_eq!(rt; found.as_slice(), NEARER.as_slice());
+    same(&rt, found.as_slice(), NEARER.as_slice());
     Ok(())
 }
 
@@ -67,7 +68,7 @@ const LEAST_NUMBERS: [Near; 2] = [Near { doc: 0, dist2: 100 }, Near { doc: 1, di
 #[test]
 fn equally_near_ones_by_number(rt: HostRuntime) -> Result<(), Fail> {
     let found = nearest_in(rt.alloc(), &EQUALLY_NEAR, &Point { c: [0] }, 2)?;
-    assert_eq!(rt; found.as_slice(), LEAST_NUMBERS.as_slice());
+    same(&rt, found.as_slice(), LEAST_NUMBERS.as_slice());
     Ok(())
 }
 
@@ -92,7 +93,7 @@ const EACH_ONCE: [Near; 2] = [Near { doc: 0, dist2: 0 }, Near { doc: 1, dist2: 4
 #[test]
 fn a_document_once_by_its_nearest_point(rt: HostRuntime) -> Result<(), Fail> {
     let found = nearest_in(rt.alloc(), &SEVERAL_POINTS, &Point { c: [9] }, 2)?;
-    assert_eq!(rt; found.as_slice(), EACH_ONCE.as_slice());
+    same(&rt, found.as_slice(), EACH_ONCE.as_slice());
     Ok(())
 }
 
@@ -109,6 +110,6 @@ const FARTHEST: [Near; 1] = [Near {
 #[test]
 fn the_greatest_distance_and_more_places_than_numbers(rt: HostRuntime) -> Result<(), Fail> {
     let found = nearest_in(rt.alloc(), &GREATEST, &Point { c: [i32::MIN; 8] }, 10000)?;
-    assert_eq!(rt; found.as_slice(), FARTHEST.as_slice());
+    same(&rt, found.as_slice(), FARTHEST.as_slice());
     Ok(())
 }

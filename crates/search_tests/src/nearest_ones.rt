@@ -7,6 +7,7 @@ use crate::stored::{
     ASTRAY, AT_TEN, ONE_FIELDS, ONE_TO_NINE, Stored, THREE_LEAVES, TWO_FIELDS, open_alone, store,
 };
 use crate::walks::place;
+use codec_tests::asserts::{same, same_at};
 use live_bits::LiveBits;
 use nearest_query::{nearest, survey_near};
 use outer_io::MemFolder;
@@ -159,7 +160,7 @@ const FOUND: [(i32, u16, &[Near]); 2] = [
 fn segments_and_a_buffer_by_number(rt: HostRuntime) -> Result<(), Fail> {
     for (at, k, expected) in FOUND {
         let found = nearest_of_three(rt.alloc(), at, k, 9)??;
-        assert_eq!(rt; found.as_slice(), expected, "{k} at {at}");
+        same_at(&rt, found.as_slice(), expected, &(k, at));
     }
     Ok(())
 }
@@ -175,10 +176,11 @@ const READS: [(u16, u64, bool, &str); 4] = [
 #[test]
 fn only_leaves_that_may_count_are_read(rt: HostRuntime) -> Result<(), Fail> {
     for (k, fail, done, said) in READS {
-        assert_eq!(rt;
+        same_at(
+            &rt,
             nearest_of_three(rt.alloc(), -9, k, fail)?.is_ok(),
             done,
-            "{said}"
+            &said,
         );
     }
     Ok(())
@@ -192,10 +194,10 @@ const ONE_FOUND: [Near; 1] = [Near { doc: 0, dist2: 0 }];
 #[test]
 fn a_kept_page_is_not_read_again(rt: HostRuntime) -> Result<(), Fail> {
     let (first, second) = asked_twice(rt.alloc(), &THREE_LEAVES, 6, 1)?;
-    assert_eq!(rt; first?.as_slice(), TWO_FOUND.as_slice());
-    assert_eq!(rt; second?.as_slice(), TWO_FOUND.as_slice());
+    same(&rt, first?.as_slice(), TWO_FOUND.as_slice());
+    same(&rt, second?.as_slice(), TWO_FOUND.as_slice());
     let (first, _) = asked_twice(rt.alloc(), &TWO_POINTS, 9, 1)?;
-    assert_eq!(rt; first?.as_slice(), ONE_FOUND.as_slice());
+    same(&rt, first?.as_slice(), ONE_FOUND.as_slice());
     Ok(())
 }
 
@@ -206,7 +208,7 @@ fn a_leaf_astray_where_it_is_read(rt: HostRuntime) -> Result<(), Fail> {
         Err(fault) => place(fault),
         Ok(_) => None,
     };
-    assert_eq!(rt; seen, Some((2, 12, 9)));
+    same(&rt, seen, Some((2, 12, 9)));
     Ok(())
 }
 
@@ -215,7 +217,7 @@ fn leaves_within_a_bound(rt: HostRuntime) -> Result<(), Fail> {
     let (_folder, head) = open_alone(rt.alloc(), &THREE_LEAVES)?;
     let at = Point { c: [5] };
     for (bound, leaves) in [(Some(3), 1), (Some(4), 3), (None, 3)] {
-        assert_eq!(rt; survey_near(&head, &at, bound), leaves, "{bound:?}");
+        same_at(&rt, survey_near(&head, &at, bound), leaves, &bound);
     }
     Ok(())
 }

@@ -3,6 +3,7 @@
 ghost use Rattle.std.specs.Prelude.{◌<◌, ◌^◌, All};
 
 use byte_cursor::Memory;
+use codec_tests::asserts::{same, same_at};
 use live_bits::LiveBits;
 use number_checks::{Misplaced, doubled, live_with_entries, misplaced};
 use point_codec::{Entry, Point};
@@ -65,10 +66,11 @@ fn tells_the_least(rt: HostRuntime) -> Result<(), Fail> {
         if next > 1 << 24 {
             return Err("a number of 24 bits")?;
         }
-        assert_eq!(rt;
+        same_at(
+            &rt,
             misplaced(rt.alloc(), sets.as_slice(), next)?,
             answer,
-            "next {next}"
+            &next,
         );
     }
     Ok(())
@@ -107,7 +109,7 @@ const DOUBLED: [(&[(u32, i32)], Option<u32>); 9] = [
 fn finds_doubled_entries(rt: HostRuntime) -> Result<(), Fail> {
     for (pairs, answer) in DOUBLED {
         let entries = entries_of(rt.alloc(), pairs)?;
-        assert_eq!(rt; doubled(rt.alloc(), entries.as_slice())?, answer);
+        same(&rt, doubled(rt.alloc(), entries.as_slice())?, answer);
     }
     Ok(())
 }
@@ -132,11 +134,7 @@ fn counts_to_sixteen(rt: HostRuntime) -> Result<(), Fail> {
                 })?;
             }
         }
-        assert_eq!(rt;
-            doubled(rt.alloc(), entries.as_slice())?,
-            answer,
-            "{runs:?}"
-        );
+        same_at(&rt, doubled(rt.alloc(), entries.as_slice())?, answer, &runs);
     }
     Ok(())
 }
@@ -156,10 +154,11 @@ fn counts_numbers_with_entries(rt: HostRuntime) -> Result<(), Fail> {
     for (numbers, pairs, answer) in FOUND {
         let live = set_of(rt.alloc(), numbers)?;
         let entries = entries_of(rt.alloc(), pairs)?;
-        assert_eq!(rt;
+        same_at(
+            &rt,
             live_with_entries(rt.alloc(), &live, entries.as_slice())?,
             answer,
-            "{numbers:?}"
+            &numbers,
         );
     }
     Ok(())

@@ -3,12 +3,14 @@
 use crate::stored::{AT_TEN, ONE_FIELDS, ONE_TO_NINE, Stored, THREE_LEAVES, TWO_FIELDS, store};
 use bkd_reader::Tally;
 use cell_relate::BoxShape;
+use codec_tests::asserts::{same, same_at};
 use live_bits::LiveBits;
 use outer_io::MemFolder;
 use page_cache::{PageCache, PageFault};
 use point_codec::{Entry, Near, Point};
 use segment_view::{Segments, gather, nearest, survey, survey_near, visit};
 use std::alloc::Global;
+use std::process::Abort;
 use std::test::Fail;
 
 /// 6 at 10.
@@ -112,22 +114,35 @@ fn ids(alloc: Global, segments: &Segments<1>) -> Result<Vec<u64>, Fail> {
     Ok(ids)
 }
 
+/// These are the ids of the segments.
+fn stand(
+    rt: &impl Abort,
+    alloc: Global,
+    segments: &Segments<1>,
+    expected: &[u64],
+) -> Result<(), Fail> {
+    same(rt, ids(alloc, segments)?.as_slice(), expected);
+    Ok(())
+}
+
 #[test]
 fn segments_stand_by_their_ids(rt: HostRuntime) -> Result<(), Fail> {
-    let (_, mut segments) = three(rt.alloc())?;
-    assert_eq!(rt;
-        ids(rt.alloc(), &segments)?.as_slice(),
-        [7, 8, 9].as_slice()
-    );
+    let (_, segments) = three(rt.alloc())?;
+    stand(&rt, rt.alloc(), &segments, &[7, 8, 9])?;
     let sizes = segments.sizes(rt.alloc())?;
-    assert_eq!(rt; sizes.as_slice(), [5, 1, 2].as_slice());
-    let before = segments.copy(rt.alloc())?;
-    assert_eq!(rt; (segments.clear(2), segments.clear(2)), (true, false));
-    assert_eq!(rt; (segments.is_live(2), before.is_live(2)), (false, true));
-    segments.remove(&[8, 3]);
-    assert_eq!(rt; ids(rt.alloc(), &segments)?.as_slice(), [7, 9].as_slice());
-    assert_eq!(rt; ids(rt.alloc(), &before)?.as_slice(), [7, 8, 9].as_slice());
+    same(&rt, sizes.as_slice(), [5, 1, 2].as_slice());
     Ok(())
+}
+
+#[test]
+fn a_copy_of_segments_is_its_own(rt: HostRuntime) -> Result<(), Fail> {
+    let (_, mut segments) = three(rt.alloc())?;
+    let before = segments.copy(rt.alloc())?;
+    same(&rt, (segments.clear(2), segments.clear(2)), (true, false));
+    same(&rt, (segments.is_live(2), before.is_live(2)), (false, true));
+    segments.remove(&[8, 3]);
+    stand(&rt, rt.alloc(), &segments, &[7, 9])?;
+    stand(&rt, rt.alloc(), &before, &[7, 8, 9])
 }
 
 #[test]
@@ -144,10 +159,10 @@ fn what_a_box_has_and_costs(rt: HostRuntime) -> Result<(), Fail> {
             &mut folder,
             &mut shape,
         )?;
-        assert_eq!(rt; hits.as_slice(), expected, "{ends:?}");
-        assert_eq!(rt; shape.tests(), tests, "{ends:?}");
-        assert_eq!(rt; survey(&segments, &mut shape), tally, "{ends:?}");
-        assert_eq!(rt; shape.tests(), tests, "a survey of {ends:?} tests");
+        same_at(&rt, hits.as_slice(), expected, &ends);
+        same_at(&rt, shape.tests(), tests, &ends);
+        same_at(&rt, survey(&segments, &mut shape), tally, &ends);
+        same_at(&rt, shape.tests(), tests, &ends);
     }
     Ok(())
 }
@@ -171,9 +186,10 @@ fn live_entries_of_some(rt: HostRuntime) -> Result<(), Fail> {
     for entry in &entries {
         told.push((entry.doc, entry.point.c[0]))?;
     }
-    assert_eq!(rt;
+    same(
+        &rt,
         told.as_slice(),
-        [(0, 5), (1, 7), (3, 7), (4, 7), (5, 1), (5, 9)].as_slice()
+        [(0, 5), (1, 7), (3, 7), (4, 7), (5, 1), (5, 9)].as_slice(),
     );
     Ok(())
 }
@@ -197,9 +213,9 @@ fn the_nearest_of_segments_and_buffer(rt: HostRuntime) -> Result<(), Fail> {
         Near { doc: 2, dist2: 1 },
         Near { doc: 3, dist2: 1 },
     ];
-    assert_eq!(rt; found.as_slice(), expected.as_slice());
-    assert_eq!(rt; survey_near(&segments, &at, Some(1)), 4);
-    assert_eq!(rt; survey_near(&segments, &at, None), 5);
+    same(&rt, found.as_slice(), expected.as_slice());
+    same(&rt, survey_near(&segments, &at, Some(1)), 4);
+    same(&rt, survey_near(&segments, &at, None), 5);
     Ok(())
 }
 
@@ -221,6 +237,6 @@ fn a_folder_that_fails(rt: HostRuntime) -> Result<(), Fail> {
         Err(PageFault::Failed) => true,
         _ => false,
     };
-    assert_eq!(rt; failed, true);
+    same(&rt, failed, true);
     Ok(())
 }

@@ -3,6 +3,7 @@
 use crate::stored::{ASTRAY, THREE_LEAVES, open_alone};
 use bkd_reader::{Tally, intersect, survey};
 use cell_relate::BoxShape;
+use codec_tests::asserts::same_at;
 use live_bits::LiveBits;
 use outer_io::{FileName, MemFolder};
 use page_cache::{Damage, PageCache, PageFault};
@@ -67,16 +68,18 @@ fn hits_and_costs(rt: HostRuntime) -> Result<(), Fail> {
             &live,
             &mut shape,
         )?;
-        assert_eq!(rt; done.is_ok(), true, "{ends:?}");
-        assert_eq!(rt;
+        same_at(&rt, done.is_ok(), true, &ends);
+        same_at(
+            &rt,
             hits.as_slice().split_first(),
             Some((&BEFORE, expected)),
-            "{ends:?}"
+            &ends,
         );
-        assert_eq!(rt;
+        same_at(
+            &rt,
             (shape.tests(), shape.compares()),
             (tests, compares),
-            "{ends:?}"
+            &ends,
         );
         check_survey(&rt, &head, &mut shape, ends, costs);
     }
@@ -98,8 +101,8 @@ fn check_survey(
         touched: costs.1,
         leaves: 3,
     };
-    assert_eq!(rt; tally, expected, "{ends:?}");
-    assert_eq!(rt; shape.tests(), before, "a survey of {ends:?} tests");
+    same_at(rt, tally, expected, &ends);
+    same_at(rt, shape.tests(), before, &ends);
 }
 
 /// The numbers that a walk with the box finds, over a cache that keeps no page.
@@ -158,7 +161,7 @@ fn three_leaves_of_a_page_are_read_once_and_none_is_read_outside(
     let live = LiveBits::of_docs(rt.alloc(), &[0, 1, 2, 3, 4])?;
     for (ends, expected) in READS {
         let read = reads(rt.alloc(), &mut folder, &head, &live, &mut line(ends))?;
-        assert_eq!(rt; read, expected, "{ends:?}");
+        same_at(&rt, read, expected, &ends);
     }
     Ok(())
 }
@@ -203,8 +206,8 @@ fn a_leaf_astray(rt: HostRuntime) -> Result<(), Fail> {
             Ok(()) => None,
             Err(fault) => place(fault),
         };
-        assert_eq!(rt; (hits.len(), seen), (hits_then, damage), "{ends:?}");
-        assert_eq!(rt; hits.first(), Some(&BEFORE), "{ends:?}");
+        same_at(&rt, (hits.len(), seen), (hits_then, damage), &ends);
+        same_at(&rt, hits.first(), Some(&BEFORE), &ends);
     }
     Ok(())
 }
