@@ -30,7 +30,7 @@ def is_gate(pid):
     words = read_words(pid)
     if words and os.path.basename(words[0]).startswith("python"):
         words = words[1:]
-    return len(words) == 2 and os.path.basename(words[0]) == "rt" and words[1] == "ci"
+    return len(words) > 1 and os.path.basename(words[0]) == "rt" and words[1] == "ci"
 
 
 def read_words(pid):

@@ -2,7 +2,8 @@
 //! are proved.
 #![tactic(auto)]
 
-pub mod asserts;
+#[cfg(test)]
+mod asserts;
 #[cfg(test)]
 mod bkd_build_cuts;
 #[cfg(test)]

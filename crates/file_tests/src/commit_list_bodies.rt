@@ -1,8 +1,8 @@
 //! Bodies of commits: outside vectors and bad bytes.
 
+use crate::asserts::{holds, holds_at, same, same_at};
 use crate::samples::changed;
 use byte_cursor::{put_slice, put_u16, put_u32, put_u64};
-use codec_tests::asserts::{holds, holds_at, same, same_at};
 use commit_list::{Commit, Listed, body_length, decode, encode_commit};
 use std::alloc::Global;
 use std::process::Abort;

@@ -1,8 +1,8 @@
 //! The Commit file: read and written over a folder in memory, good and bad, with calls that fail.
 
+use crate::asserts::{holds, holds_at, same, same_at};
 use crate::commit_list_bodies::{BODY, OLD_BODY, long_body, read};
 use crate::samples::{changed, flipped};
-use codec_tests::asserts::{holds, holds_at, same, same_at};
 use commit_list::{read_commit, write_commit};
 use outer_io::{FileName, MemFolder};
 use page_cache::{Damage, PageFault, SegFault, pages_of};

@@ -3,7 +3,7 @@
 ghost use Rattle.std.specs.Prelude.{◌≡◌};
 ghost use Rattle.outer_io.specs.declared.file_name.FileName.TheVariants.{Live};
 
-use codec_tests::asserts::same;
+use crate::asserts::same;
 use file_names::FileNames;
 use outer_io::FileName;
 use std::alloc::Global;

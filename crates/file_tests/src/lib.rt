@@ -3,6 +3,8 @@
 #![tactic(auto)]
 
 #[cfg(test)]
+mod asserts;
+#[cfg(test)]
 mod commit_list_bodies;
 #[cfg(test)]
 mod commit_list_files;

@@ -1,6 +1,6 @@
 //! Which segments are merged, at the ends of levels.
 
-use codec_tests::asserts::holds;
+use crate::asserts::holds;
 use merge_policy::choose;
 
 /// Two sizes, and whether they are of one level.

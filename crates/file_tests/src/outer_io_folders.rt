@@ -1,6 +1,6 @@
 //! Folders by tables of calls: in memory, in a directory, and in memory with calls that fail or are stopped.
 
-use codec_tests::asserts::{holds, same, same_at};
+use crate::asserts::{holds, same, same_at};
 use outer_io::{DirFolder, Failed, FileName, Folder, MemFolder, WriteFault};
 use std::path::PathBuf;
 use std::process::Abort;

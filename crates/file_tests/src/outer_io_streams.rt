@@ -1,6 +1,6 @@
 //! Sources and sinks, in memory and over files, and how the files of an index are named.
 
-use codec_tests::asserts::{same, same_at};
+use crate::asserts::{same, same_at};
 use outer_io::{
     Failed, FileName, MemSink, MemSource, ReadAll, StdSink, StdSource, read_all, write_all,
 };

@@ -2,8 +2,8 @@
 
 ghost use Rattle.std.specs.Prelude.{◌≤◌};
 
+use crate::asserts::{holds, same, same_at};
 use crate::samples::{changed, front};
-use codec_tests::asserts::{holds, same, same_at};
 use outer_io::{FileName, MemFolder};
 use page_cache::{Damage, FirstPage, PageCache, PageFault, pages_of, put_pages, read_payloads};
 use page_file::PAYLOAD_LEN;

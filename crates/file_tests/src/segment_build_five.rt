@@ -2,10 +2,10 @@
 
 ghost use Rattle.std.specs.Prelude.{◌≡◌};
 
+use crate::asserts::{holds, same};
 use crate::samples::file_of_three;
 use bkd_build::OpenGate;
 use byte_cursor::Memory;
-use codec_tests::asserts::{holds, same};
 use live_bits::LiveBits;
 use outer_io::{FileName, MemFolder};
 use page_cache::SegFault;

@@ -4,8 +4,8 @@
 ghost use Rattle.std.specs.Prelude.{◌≡◌, ◌≤◌, ◌^◌, vec_len, IfOk};
 ghost use Rattle.bkd_build.specs.Parts.{AreEntries};
 
+use crate::asserts::{holds_at, same, same_at};
 use bkd_build::OpenGate;
-use codec_tests::asserts::{holds_at, same, same_at};
 use outer_io::{FileName, MemFolder};
 use page_cache::{PageCache, PageFault, SegFault};
 use point_codec::{Entry, Point};

@@ -2,11 +2,11 @@
 
 ghost use Rattle.std.specs.Prelude.{◌≡◌, IfSome};
 
+use crate::asserts::same;
 use crate::samples::{
     LEAVES, OWN, OWN_HEAD, PACKED, Told, answer_told, changed, fault_told, file, file_of_three,
     folder_with, front,
 };
-use codec_tests::asserts::same;
 use inner_pack::NodeAt;
 use live_bits::LiveBits;
 use outer_io::{FileName, MemFolder};

@@ -1,10 +1,10 @@
 //! Segments whose files are put together here page by page: opened, and each damage with what it carries.
 
+use crate::asserts::{same, same_at};
 use crate::samples::{
     LEAVES, OWN, OWN_HEAD, PACKED, Told, answer_told, changed, file, file_of_three, flipped,
     folder_with, front, put_page,
 };
-use codec_tests::asserts::{same, same_at};
 use outer_io::{FileName, MemFolder};
 use segment_file::open_segment;
 use std::test::Fail;

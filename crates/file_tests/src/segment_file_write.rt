@@ -5,9 +5,9 @@ ghost use Rattle.point_codec.specs.Points.{Item};
 ghost use Rattle.point_codec.specs.Seen.{region_of};
 ghost use Rattle.leaf_codec.specs.Leaves.{SpellsLeafIn};
 
+use crate::asserts::{holds, same, same_at};
 use crate::samples::{Told, answer_told, changed, file_of_three, flipped, folder_with, front};
 use byte_cursor::Bytes;
-use codec_tests::asserts::{holds, same, same_at};
 use inner_pack::Index;
 use leaf_codec::LeafView;
 use live_bits::LiveBits;

@@ -1,4 +1,4 @@
-use codec_tests::asserts::{same, same_at};
+use crate::asserts::{same, same_at};
 use command_words::{Words, WordsFault, read_words};
 use std::alloc::Global;
 use std::test::Fail;

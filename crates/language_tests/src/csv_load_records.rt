@@ -1,5 +1,5 @@
+use crate::asserts::{same, same_at};
 use byte_cursor::Bytes;
-use codec_tests::asserts::{same, same_at};
 use csv_load::{CsvFault, read_points};
 use std::alloc::Global;
 use std::fmt::Write;

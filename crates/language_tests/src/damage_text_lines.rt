@@ -1,7 +1,7 @@
 //! The text of each damage, whole.
 
+use crate::asserts::same;
 use byte_cursor::Bytes;
-use codec_tests::asserts::same;
 use damage_text::put_damage;
 use outer_io::FileName;
 use page_cache::Damage;

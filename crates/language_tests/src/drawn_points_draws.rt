@@ -1,6 +1,6 @@
 //! Draws as they are published, and the points and boxes that are made of them.
 
-use codec_tests::asserts::{same, same_at};
+use crate::asserts::{same, same_at};
 use drawn_points::Draws;
 
 /// Seeds with the number of a draw and the draw. The first are this generator's own; the 10,000th is the one that the C++

@@ -1,5 +1,5 @@
+use crate::asserts::{same, same_at};
 use cell_relate::{Relation, Shape};
-use codec_tests::asserts::{same, same_at};
 use point_codec::{Cell, Point};
 use polygon_query::GeoFault::{NotClosed, NotJson, NotPolygon, NotWhole, TooFew, TooMany};
 use polygon_query::{GeoFault, GeoRefused, PolygonShape, read_polygon};

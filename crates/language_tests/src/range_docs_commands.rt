@@ -1,6 +1,6 @@
 //! What lines ask of an index of ranges.
 
-use codec_tests::asserts::{same, same_at};
+use crate::asserts::{same, same_at};
 use point_codec::{Name, Point, View};
 use range_docs::read_range_line;
 use script_lang::Command;

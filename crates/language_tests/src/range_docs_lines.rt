@@ -1,4 +1,4 @@
-use codec_tests::asserts::{same, same_at};
+use crate::asserts::{same, same_at};
 use range_docs::RangeFault::{Line, NotRange, NotRanges};
 use range_docs::{RangeFault, put_range_fault, read_range_first, read_range_line};
 use script_lang::LineFault::{

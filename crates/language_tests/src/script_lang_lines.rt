@@ -1,4 +1,4 @@
-use codec_tests::asserts::{same, same_at};
+use crate::asserts::{same, same_at};
 use point_codec::{Name, Point, View};
 use polygon_query::GeoFault;
 use script_lang::LineFault::{

@@ -1,7 +1,7 @@
 //! Lines as they are parted, and replies as they are spelled.
 
+use crate::asserts::{same, same_at};
 use crate::script_lang_lines::first;
-use codec_tests::asserts::{same, same_at};
 use point_codec::Near;
 use polygon_query::GeoFault;
 use script_lang::LineFault::{

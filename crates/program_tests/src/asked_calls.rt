@@ -1,8 +1,8 @@
 //! How often the folder is asked in a run of queries: for the sizes and pages of the commit, the segment's head and index and its live
 //! numbers, and for leaf pages only where a query takes a leaf, once each.
 
+use crate::asserts::same_at;
 use crate::runs::{empty_folder, outcome, said};
-use codec_tests::asserts::same_at;
 use outer_io::MemFolder;
 use std::alloc::Global;
 use std::fmt::Write;

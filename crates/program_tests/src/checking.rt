@@ -1,8 +1,8 @@
 //! The command `check`: what it tells of folders that scripts leave, and of such whose files were changed.
 
+use crate::asserts::{holds, same, same_at};
 use crate::fixtures::called;
 use bkd_top::{code, status_line};
-use codec_tests::asserts::{holds, same, same_at};
 use outer_io::{FileName, MemFolder};
 use std::alloc::Global;
 use std::marker::Sync;

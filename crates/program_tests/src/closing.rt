@@ -1,8 +1,8 @@
 //! What a run leaves in its folder whose script ends with a snapshot held or a merge begun: just what its commit lists.
 
+use crate::asserts::{holds, same, same_at};
 use crate::fixtures::called;
 use bkd_top::code;
-use codec_tests::asserts::{holds, same, same_at};
 use commit_list::read_commit;
 use outer_io::{FileName, MemFolder};
 use std::alloc::Global;

@@ -1,9 +1,9 @@
 //! Loading, explaining, generating and checking where a call on the folder or a stream fails: one table.
 
+use crate::asserts::{holds, holds_at, same};
 use crate::fixtures::{called, faulty};
 use bkd_build::OpenGate;
 use bkd_top::{Status, code, run};
-use codec_tests::asserts::{holds, holds_at, same};
 use outer_io::{MemFolder, MemSink, MemSource};
 use std::alloc::Global;
 use std::marker::Sync;

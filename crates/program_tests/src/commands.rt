@@ -1,8 +1,8 @@
 //! Loading, explaining and generating through the top call, with what they have to answer.
 
+use crate::asserts::{holds, same, same_at};
 use crate::fixtures::called;
 use bkd_top::{Status, code};
-use codec_tests::asserts::{holds, same, same_at};
 use commit_list::read_commit;
 use outer_io::{FileName, MemFolder};
 use page_cache::Damage;

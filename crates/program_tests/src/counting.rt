@@ -1,8 +1,8 @@
 //! The command `count`: what it tells of folders that scripts and files leave.
 
+use crate::asserts::{holds, holds_at, same, same_at};
 use crate::fixtures::called;
 use bkd_top::{Status, code};
-use codec_tests::asserts::{holds, holds_at, same, same_at};
 use outer_io::{FileName, MemFolder};
 use std::alloc::Global;
 use std::fmt::Write;

@@ -1,8 +1,8 @@
 //! Drawn scripts over ranges of 1 to 4 dimensions: each answer is that of a scan of the live ranges.
 
+use crate::asserts::same;
 use crate::fixtures::called;
 use bkd_top::code;
-use codec_tests::asserts::same;
 use outer_io::MemFolder;
 use std::alloc::Global;
 use std::fmt::Write;

@@ -1,10 +1,10 @@
 //! A session as a program that embeds it calls it, over a folder in memory: where a call on the folder fails all is
 //! seen as before, and the line is done when it is asked again.
 
+use crate::asserts::same_at;
 use crate::runs::empty_folder;
 use crate::stories::check_there;
 use bkd_build::OpenGate;
-use codec_tests::asserts::same_at;
 use index_core::{Applied, Session, Settings};
 use outer_io::{FileName, MemFolder};
 use page_cache::PageFault;

@@ -1,7 +1,7 @@
 //! Lines of queries, with what is told of them.
 
+use crate::asserts::same;
 use bkd_build::OpenGate;
-use codec_tests::asserts::same;
 use explain_queries::{explain_first, explain_line};
 use outer_io::MemFolder;
 use point_codec::{Point, Points};

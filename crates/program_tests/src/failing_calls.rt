@@ -1,8 +1,8 @@
 //! A script that commits twice, with each call on the folder or the output failing in turn, and a stop before each call.
 
+use crate::asserts::{holds, holds_at, same};
 use crate::runs::{empty_folder, faulty, outcome};
 use bkd_top::code;
-use codec_tests::asserts::{holds, holds_at, same};
 use outer_io::MemFolder;
 use std::alloc::Global;
 use std::marker::Sync;

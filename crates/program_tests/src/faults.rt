@@ -1,11 +1,11 @@
 //! Faults of the streams and the folder, other words, and damage.
 
+use crate::asserts::{holds, holds_at, same, same_at};
 use crate::lists::scanned;
 use crate::runs::{check_said, empty_folder, faulty, outcome, run_words, said};
 use crate::scripts::{LOOK, script_of};
 use bkd_build::OpenGate;
 use bkd_top::{Status, code, run_script};
-use codec_tests::asserts::{holds, holds_at, same, same_at};
 use index_core::Settings;
 use outer_io::{FileName, MemFolder, MemSink, MemSource};
 use page_cache::Damage;

@@ -1,9 +1,9 @@
 //! The gate that a run hands to each build: halves run beside each other, and how often it is passed.
 
+use crate::asserts::{same, same_at};
 use crate::runs::{check_said, empty_folder, words_of};
 use bkd_build::Gate;
 use bkd_top::{Status, run};
-use codec_tests::asserts::{same, same_at};
 use outer_io::{MemSink, MemSource};
 use std::alloc::Global;
 use std::marker::Sync;

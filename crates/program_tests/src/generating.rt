@@ -1,7 +1,7 @@
 //! Generated indexes, with what is said of them.
 
+use crate::asserts::{holds, same};
 use bkd_build::OpenGate;
-use codec_tests::asserts::{holds, same};
 use commit_list::read_commit;
 use generate_index::generate;
 use index_core::{Settings, Work};

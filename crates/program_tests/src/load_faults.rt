@@ -1,8 +1,8 @@
 //! A load where a call on the folder fails.
 
+use crate::asserts::{holds, holds_at};
 use bkd_build::OpenGate;
 use byte_cursor::Bytes;
-use codec_tests::asserts::{holds, holds_at};
 use commit_list::read_commit;
 use index_core::{Settings, Work};
 use load_points::load;

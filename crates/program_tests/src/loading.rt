@@ -1,8 +1,8 @@
 //! Files loaded into folders, with what is answered and left.
 
+use crate::asserts::{holds, same};
 use bkd_build::OpenGate;
 use byte_cursor::Bytes;
-use codec_tests::asserts::{holds, same};
 use commit_list::{Commit, read_commit, write_commit};
 use index_core::{Settings, Work};
 use load_points::load;

@@ -1,8 +1,8 @@
 //! Words that are none of a command, which leave the folder as it was.
 
+use crate::asserts::{holds, same, same_at};
 use crate::fixtures::called;
 use bkd_top::code;
-use codec_tests::asserts::{holds, same, same_at};
 use outer_io::{FileName, MemFolder};
 use std::test::Fail;
 

@@ -1,8 +1,8 @@
 //! Runs of the program, and what is said of them.
 
+use crate::asserts::{same, same_at};
 use bkd_build::OpenGate;
 use bkd_top::{Status, run, status_line};
-use codec_tests::asserts::{same, same_at};
 use outer_io::{MemFolder, MemSink, MemSource, Source};
 use std::alloc::Global;
 use std::marker::Sync;

@@ -1,9 +1,9 @@
 //! Scripts over a folder against the same scripts over a list in memory: every answer is the same.
 
+use crate::asserts::{holds_at, same, same_at};
 use crate::draws::Draws;
 use crate::lists::scanned;
 use crate::runs::{check_answers, empty_folder, outcome};
-use codec_tests::asserts::{holds_at, same, same_at};
 use outer_io::{FileName, MemFolder};
 use std::alloc::Global;
 use std::marker::Sync;

@@ -4,11 +4,11 @@
 ghost use Rattle.std.specs.Prelude.{[], false};
 ghost use Rattle.outer_io.specs.MemSink.{sink_faults};
 
+use crate::asserts::same;
 use crate::rows::ROWS;
 use crate::runs::{check_answers, check_said, empty_folder, run_from, words_of};
 use bkd_build::OpenGate;
 use bkd_top::run;
-use codec_tests::asserts::same;
 use outer_io::{Failed, FileName, MemSink, Sink, Source};
 use std::alloc::Global;
 use std::marker::Sync;

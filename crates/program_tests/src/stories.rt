@@ -1,7 +1,7 @@
 //! Stories: steps over one folder, each with what comes of it.
 
+use crate::asserts::{holds_at, same, same_at};
 use crate::runs::{empty_folder, outcome, run_from, said};
-use codec_tests::asserts::{holds_at, same, same_at};
 use outer_io::{FileName, Folder, MemFolder, MemSource};
 use page_cache::pages_of;
 use std::alloc::Global;

@@ -1,7 +1,7 @@
 //! Boxes and cells, with answers reckoned by hand.
 
+use crate::asserts::{same, same_at};
 use cell_relate::{BoxShape, Relation, Shape};
-use codec_tests::asserts::{same, same_at};
 use point_codec::{Cell, Point};
 use std::test::Fail;
 

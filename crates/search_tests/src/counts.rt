@@ -3,11 +3,11 @@
 
 ghost use Rattle.std.specs.Prelude.{◌≤◌, ◌<◌, All};
 
+use crate::asserts::same_at;
 use crate::index_forms::FORMS;
 use crate::long_leaves::{live_row, open_row};
 use crate::stored::{Stored, open_alone};
 use crate::views::{BUFFER, three};
-use codec_tests::asserts::same_at;
 use live_bits::LiveBits;
 use outer_io::MemFolder;
 use page_cache::{PageCache, PageFault};

@@ -1,6 +1,6 @@
 //! A ring of drawn positions: the tree answers as the plain list of edges does.
 
-use codec_tests::asserts::same;
+use crate::asserts::same;
 use edge_tree::EdgeTree;
 use point_codec::{Cell, Point};
 use ring_parity::{Ring, Rings, any_meets, odd, on_any};

@@ -1,10 +1,10 @@
 //! Two leaves with a gap between them, over an index of each form: in the two older forms the cell of a leaf reaches
 //! over the gap.
 
+use crate::asserts::same_at;
 use crate::stored::{Stored, open_alone};
 use crate::walks::{line, reads, walked};
 use bkd_reader::survey;
-use codec_tests::asserts::same_at;
 use live_bits::LiveBits;
 use outer_io::MemFolder;
 use segment_file::SegmentHead;

@@ -3,9 +3,9 @@
 ghost use Rattle.std.specs.Prelude.{◌≡◌, vec_len, IfOk};
 ghost use Rattle.bkd_build.specs.Parts.{AreEntries};
 
+use crate::asserts::{holds_at, same, same_at};
 use bkd_build::OpenGate;
 use cell_relate::BoxShape;
-use codec_tests::asserts::{holds_at, same, same_at};
 use outer_io::{FileName, MemFolder};
 use page_cache::{Damage, PageCache, PageFault};
 use point_codec::{Entry, Point};

@@ -2,11 +2,11 @@
 
 ghost use Rattle.std.specs.Prelude.{◌<◌, All, IfOk};
 
+use crate::asserts::same_at;
 use crate::stored::{Stored, open_alone};
 use crate::walks::{reads, walked};
 use bkd_reader::survey;
 use cell_relate::BoxShape;
-use codec_tests::asserts::same_at;
 use live_bits::LiveBits;
 use outer_io::MemFolder;
 use point_codec::Point;

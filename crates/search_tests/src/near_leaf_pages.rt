@@ -1,7 +1,7 @@
 //! What a search for the nearest reads of a segment of several leaf pages, and where a read fails.
 
+use crate::asserts::{holds_at, same_at};
 use crate::leaf_pages::{Stored, make_stored};
-use codec_tests::asserts::{holds_at, same_at};
 use page_cache::{PageCache, PageFault};
 use point_codec::{Near, Point};
 use segment_view::{Segments, nearest, survey_near};

@@ -3,7 +3,7 @@
 
 ghost use Rattle.std.specs.Prelude.{◌≤◌};
 
-use codec_tests::asserts::same;
+use crate::asserts::same;
 use nearest_query::nearest;
 use outer_io::MemFolder;
 use page_cache::PageCache;

@@ -3,11 +3,11 @@
 
 ghost use Rattle.std.specs.Prelude.{◌≤◌};
 
+use crate::asserts::{same, same_at};
 use crate::stored::{
     ASTRAY, AT_TEN, ONE_FIELDS, ONE_TO_NINE, Stored, THREE_LEAVES, TWO_FIELDS, open_alone, store,
 };
 use crate::walks::place;
-use codec_tests::asserts::{same, same_at};
 use live_bits::LiveBits;
 use nearest_query::{nearest, survey_near};
 use outer_io::MemFolder;

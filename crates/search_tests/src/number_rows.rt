@@ -2,8 +2,8 @@
 
 ghost use Rattle.std.specs.Prelude.{◌<◌, ◌^◌, All};
 
+use crate::asserts::{same, same_at};
 use byte_cursor::Memory;
-use codec_tests::asserts::{same, same_at};
 use live_bits::LiveBits;
 use number_checks::{Misplaced, doubled, live_with_entries, misplaced};
 use point_codec::{Entry, Point};

@@ -1,6 +1,6 @@
 //! Polygons, points and cells whose answers are known from outside.
 
-use codec_tests::asserts::{same, same_at};
+use crate::asserts::{same, same_at};
 use point_codec::{Cell, Point};
 use ring_parity::{Ring, RingFault, Rings, any_meets, odd, on_any};
 use std::alloc::{AllocError, Global};

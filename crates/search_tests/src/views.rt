@@ -1,9 +1,9 @@
 //! Three segments of one dimension beside a buffer, with answers that were reckoned by hand.
 
+use crate::asserts::{same, same_at};
 use crate::stored::{AT_TEN, ONE_FIELDS, ONE_TO_NINE, Stored, THREE_LEAVES, TWO_FIELDS, store};
 use bkd_reader::Tally;
 use cell_relate::BoxShape;
-use codec_tests::asserts::{same, same_at};
 use live_bits::LiveBits;
 use outer_io::MemFolder;
 use page_cache::{PageCache, PageFault};

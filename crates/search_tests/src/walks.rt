@@ -1,9 +1,9 @@
 //! One segment, with a box that counts how often it is asked.
 
+use crate::asserts::same_at;
 use crate::stored::{ASTRAY, THREE_LEAVES, open_alone};
 use bkd_reader::{Tally, intersect, survey};
 use cell_relate::BoxShape;
-use codec_tests::asserts::same_at;
 use live_bits::LiveBits;
 use outer_io::{FileName, MemFolder};
 use page_cache::{Damage, PageCache, PageFault};
