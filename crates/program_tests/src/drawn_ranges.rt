@@ -1,6 +1,7 @@
 //! Drawn scripts over ranges of 1 to 4 dimensions: each answer is that of a scan of the live ranges.
 
 use crate::asserts::same;
+use crate::draws::Draws;
 use crate::fixtures::called;
 use bkd_top::code;
 use outer_io::MemFolder;
@@ -23,7 +24,7 @@ const OTHERS: [&str; 4] = ["flush", "merge", "commit", "reopen"];
 #[derive(Drop)]
 struct Story {
     dims: usize,
-    seed: u32,
+    draws: Draws,
     next: u32,
     live: Vec<Live>,
     script: String,
@@ -31,17 +32,11 @@ struct Story {
 }
 
 impl Story {
-    /// A number below 256 that looks like chance.
-    fn drawn(&mut self) -> u8 {
-        self.seed = self.seed.wrapping_mul(1_103_515_245).wrapping_add(12_345);
-        (self.seed >> 24) as u8
-    }
-
     /// A range from 0 to 15 in each dimension.
     fn ends(&mut self) -> Ends {
         let mut ends = [(0, 0); 4];
         for pair in &mut ends {
-            let (a, b) = (self.drawn() % 16, self.drawn() % 16);
+            let (a, b) = (self.draws.byte() % 16, self.draws.byte() % 16);
             *pair = (a.min(b), a.max(b));
         }
         ends
@@ -70,7 +65,7 @@ impl Story {
     }
 
     fn delete(&mut self) -> Result<(), Fail> {
-        let doc = u32::from(self.drawn() % 64);
+        let doc = u32::from(self.draws.byte() % 64);
         let before = self.live.len();
         self.live.retain(|(number, _)| *number != doc);
         writeln!(self.script, "delete {doc}")?;
@@ -97,7 +92,7 @@ impl Story {
 
     /// Puts a line that is drawn.
     fn put_line(&mut self) -> Result<(), Fail> {
-        let way = self.drawn() % 16;
+        let way = self.draws.byte() % 16;
         match way {
             0..=5 => self.add(),
             6 => self.delete(),
@@ -125,7 +120,7 @@ fn is_answer(question: &str, stored: &[(u8, u8)], query: &[(u8, u8)], dims: usiz
 fn drawn_story(alloc: Global, dims: usize, lines: usize) -> Result<Story, Fail> {
     let mut story = Story {
         dims,
-        seed: 20_260_711,
+        draws: Draws { seed: 20_260_711 },
         next: 0,
         live: Vec::new(alloc),
         script: String::new(alloc),

@@ -1,4 +1,4 @@
-//! Lines of scripts that are drawn.
+//! Numbers and lines of scripts that are drawn.
 
 ghost use Rattle.std.specs.Prelude.{◌<◌};
 
@@ -51,6 +51,11 @@ impl Draws {
         self.seed ^= self.seed >> 7;
         self.seed ^= self.seed << 17;
         self.seed % bound
+    }
+
+    /// A number below 256.
+    pub fn byte(&mut self) -> u8 {
+        self.below(256) as u8
     }
 
     fn digit(&mut self) -> u8 {

@@ -25,6 +25,8 @@ mod commands;
 #[cfg(test)]
 mod counting;
 #[cfg(test)]
+mod drawn_counts;
+#[cfg(test)]
 mod drawn_ranges;
 #[cfg(test)]
 mod draws;
