@@ -77,9 +77,9 @@ fn names_are_taken_out(rt: HostRuntime) -> Result<(), Fail> {
 /// Segments that are there, below the greatest id.
 fn few_segments(alloc: Global) -> Result<FileNames, Fail> {
     let mut names = FileNames::of_commit(alloc, u64::MAX - 1);
-    for id in [0, 1, 3] {
-        names.add(FileName::Segment(id))?;
-    }
+    names.add(FileName::Segment(0))?;
+    names.add(FileName::Segment(1))?;
+    names.add(FileName::Segment(3))?;
     Ok(names)
 }
 
@@ -100,10 +100,10 @@ fn ids_at_the_end(rt: HostRuntime) -> Result<(), Fail> {
 
 /// Live bits of the segments 7 and 8, of which one has the greatest generation.
 fn few_generations(alloc: Global) -> Result<FileNames, Fail> {
-    let mut names = few_segments(alloc)?;
-    for (segment, generation) in [(7, 0), (7, u64::MAX), (8, 1)] {
-        names.add(live(segment, generation))?;
-    }
+    let mut names = FileNames::of_commit(alloc, u64::MAX - 1);
+    names.add(live(7, 0))?;
+    names.add(live(7, u64::MAX))?;
+    names.add(live(8, 1))?;
     Ok(names)
 }
 
