@@ -3,8 +3,8 @@
 
 usage: bench/wrap.py COLUMNS FILE..     then `rt fmt` in the crates, whose proofs see no difference
 
-A line is broken where the fewest brackets are open: before an arrow or a sign between parts, else behind `=`, else
-before a bracket or a word. Where nothing is left to break it stays, as does a row of a table in a comment. Proofs by
+A line is broken where the fewest brackets are open, and in no text: before an arrow or a sign between parts, else
+behind `=`, else before a bracket or a word. Where nothing is left to break it stays, as does a row of a table in a comment. Proofs by
 hand may need their layout, and the rest of a comment's paragraph isn't filled anew: look at both.
 """
 import re
@@ -53,9 +53,15 @@ def rank(line, at, depth):
 
 def places(line, columns, indent):
     depth = 0
+    is_clause = line.strip().startswith(("ensures ", "requires "))
+    is_text = False
     for at, sign in enumerate(line[:columns + 1]):
+        is_text ^= sign == '"'
+        if is_text:
+            continue
         depth += (sign in "([{") - (sign in ")]}")
-        if sign == " " and at > indent + 12:
+        # a clause's bracket stays beside its name, as `rt fmt` puts it
+        if sign == " " and at > indent + 12 and (depth or not is_clause):
             how = rank(line, at, depth)
             if how is not None:
                 yield depth, how, -at

@@ -1,5 +1,5 @@
--- The canonical tree of some entries: cut in halves by the widest dimension down to full leaves (the balanced tree that the
--- bulk loading of the Bkd-tree gives, as in Lucene's index of points).
+-- The canonical tree of some entries: cut in halves by the widest dimension down to full leaves (the balanced tree
+-- that the bulk loading of the Bkd-tree gives, as in Lucene's index of points).
 use Rattle.std.specs.Prelude.{ℕ, ◌+◌, ◌-◌, ◌*◌, ◌/◌, ◌%◌, min, ◌≤◌, ◌<◌, ◌≡◌, List, [], ◌∷◌, ◌++◌, length, map, ℤ}
 use Rattle.std.specs.List.Sorted.{IsPermutation}
 use Rattle.point_codec.specs.Points.{Item, Region}
@@ -37,7 +37,8 @@ index_tree_of D (Split d x l r) = IndexSplit d x (index_tree_of D l) (index_tree
 abbrev pub leaves_for : (leaf count : ℕ) → ℕ
 leaves_for leaf count = count / leaf + min 1 (count % leaf)
 
--- how many of them go left at an inner node: half of the leaves, where their number is odd one more, and all of them full
+-- how many of them go left at an inner node: half of the leaves, where their number is odd one more, and all of them
+-- full
 abbrev pub left_count : (leaf count : ℕ) → ℕ
 left_count leaf count = (leaves_for leaf count - leaves_for leaf count / 2) * leaf
 
@@ -47,8 +48,8 @@ pub record IsCanonLeaf (D leaf : ℕ) (items : List Item) (own : Region) : Type 
   pub entries : AreLeaf D items
   pub cell : IsLeastCell (map (λ x. x.at) items) own
 
--- an inner node has more entries than a leaf, and is split in their widest dimension: the first entries in its order go left,
--- and it is split at the least coordinate of the right ones
+-- an inner node has more entries than a leaf, and is split in their widest dimension: the first entries in its order
+-- go left, and it is split at the least coordinate of the right ones
 pub record IsCanonSplit (D leaf d : ℕ) (at : ℤ) (ls rs : List Item) : Type 0 where
   pub many : leaf < length (ls ++ rs)
   pub widest : IsWidest D d (ls ++ rs)
@@ -59,7 +60,8 @@ pub record IsCanonSplit (D leaf d : ℕ) (at : ℤ) (ls rs : List Item) : Type 0
 -- each leaf and each inner node is so
 abbrev pub IsCanon : (D leaf : ℕ) → KdTree → Type 0
 IsCanon D leaf (Leaf items own) = IsCanonLeaf D leaf items own
-IsCanon D leaf (Split d x l r) = IsCanonSplit D leaf d x (entries_of l) (entries_of r) × IsCanon D leaf l × IsCanon D leaf r
+IsCanon D leaf (Split d x l r) = IsCanonSplit D leaf d x (entries_of l) (entries_of r) × IsCanon D leaf l
+    × IsCanon D leaf r
 
 -- The tree is the canonical one of these entries, with this root cell. They have one only (`one_canonical_tree`).
 pub record Canon (D leaf : ℕ) (items : List Item) (root : Region) (t : KdTree) : Type 0 where
@@ -72,8 +74,8 @@ pub record BuiltValue : Type 0 where
   pub index : Body
   pub leaves : List (List ℕ)
 
--- It is built of these entries: the index of their canonical tree in form 3, and the spellings of its leaves. There is one
--- such value only (`one_build`).
+-- It is built of these entries: the index of their canonical tree in form 3, and the spellings of its leaves. There
+-- is one such value only (`one_build`).
 pub record IsBuilt (D leaf : ℕ) (items : List Item) (b : BuiltValue) : Type 0 where
   pub tree : KdTree
   pub root : Region

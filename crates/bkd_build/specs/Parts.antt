@@ -16,8 +16,8 @@ pub record AreEntries {D : ℕ} (entries : List (Entry D)) : Type 0 where
   pub numbers : All (λ e. e.doc < 2 ^ 24) entries
   pub once : NoneTwice (items_of entries)
 
--- what a walk over a tree meets: its inner nodes in preorder as the dimension and the value of their split; and of its leaves
--- from left to right how many bytes spell them, their own cells, and the bytes
+-- what a walk over a tree meets: its inner nodes in preorder as the dimension and the value of their split; and of
+-- its leaves from left to right how many bytes spell them, their own cells, and the bytes
 pub record Pieces : Type 0 where
   pub nodes : List (ℕ × ℤ)
   pub lengths : List ℕ
@@ -41,11 +41,24 @@ one_node d x = record { nodes = (d, x) ∷ []; lengths = []; cells = []; leaves 
 
 -- those of ps, and then those of qs
 abbrev pub joined : Pieces → Pieces → Pieces
-joined ps qs = record { nodes = ps.nodes ++ qs.nodes; lengths = ps.lengths ++ qs.lengths; cells = ps.cells ++ qs.cells; leaves = ps.leaves ++ qs.leaves }
+joined ps qs =
+    record {
+      nodes = ps.nodes ++ qs.nodes;
+      lengths = ps.lengths ++ qs.lengths;
+      cells = ps.cells ++ qs.cells;
+      leaves
+          = ps.leaves ++ qs.leaves;
+    }
 
 -- those that a part holds
 abbrev pub held : {D : ℕ} → Part D → Pieces
-held part = record { nodes = part.nodes.items; lengths = part.lengths.items; cells = map region_of part.cells.items; leaves = part.leaves.items }
+held part = record {
+  nodes = part.nodes.items;
+  lengths = part.lengths.items;
+  cells = map region_of part.cells.items;
+  leaves
+      = part.leaves.items;
+}
 
 -- the pieces of a canonical tree of the items came behind those that were there
 pub record Adds (D leaf : ℕ) (items : List Item) (before after : Pieces) : Type 0 where

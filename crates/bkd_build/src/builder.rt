@@ -17,8 +17,8 @@ use std::alloc::Global;
 use std::marker::{Model, Sync};
 use std::thread::Threads;
 
-/// The canonical tree of some entries, ready to be written: its index, and the bytes of its leaves in order. Contracts see
-/// it as these two.
+/// The canonical tree of some entries, ready to be written: its index, and the bytes of its leaves in order.
+/// Contracts see it as these two.
 #[derive(Debug, Drop)]
 pub struct Built<const D: usize> {
     index: Index<D>,
@@ -61,11 +61,13 @@ impl<const D: usize> Built<D> {
     }
 }
 
-/// Builds the canonical tree of the entries with leaves of `leaf` entries (the greatest is `leaf_codec::greatest_leaf`). The
+/// Builds the canonical tree of the entries with leaves of `leaf` entries (the greatest is
+/// `leaf_codec::greatest_leaf`). The
 /// slice holds the same entries in some order afterwards, also where memory is wanting.
 ///
-/// The halves of the nodes of its upper `forks` levels are built in threads of their own, where these can be made. The left half
-/// then first calls `gate.pass(0)`, and the right one `gate.pass(1)`. Nothing that is built depends on `forks` or the gate.
+/// The halves of the nodes of its upper `forks` levels are built in threads of their own, where these can be made.
+/// The left half then first calls `gate.pass(0)`, and the right one `gate.pass(1)`. Nothing that is built depends on
+/// `forks` or the gate.
 pub fn build<const D: usize, R: Threads + Sync, G: Gate>(
     rt: &R,
     alloc: Global,

@@ -2,7 +2,8 @@
 
 use std::marker::Sync;
 
-/// Is passed by each half of a node that runs beside its other half, before it does anything else. It promises only that
+/// Is passed by each half of a node that runs beside its other half, before it does anything else. It promises only
+/// that
 /// `pass` returns, and is shared by threads. Nothing that is built depends on it.
 pub trait Gate: Sync {
     /// `piece` is 0 in the left half and 1 in the right one.

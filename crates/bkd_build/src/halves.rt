@@ -18,7 +18,8 @@ pub(crate) struct Halving {
     pub(crate) rank: usize,
 }
 
-/// Puts the entries of the left half of an inner node in front, and those of the right half behind them. Takes no memory.
+/// Puts the entries of the left half of an inner node in front, and those of the right half behind them. Takes no
+/// memory.
 pub(crate) fn halve<const D: usize>(entries: &mut [Entry<D>], leaf: usize) -> Halving
     requires dims { (1 ≤ D) × (D ≤ 8) }
     requires leaf { 1 ≤ leaf }
@@ -27,7 +28,8 @@ pub(crate) fn halve<const D: usize>(entries: &mut [Entry<D>], leaf: usize) -> Ha
     ensures same { IsPermutation entries.old entries.new }
     ensures lefts { AreEntries (take result.rank entries.new) }
     ensures rights { AreEntries (drop result.rank entries.new) }
-    ensures split { IsCanonSplit D leaf result.dimension result.at (items_of (take result.rank entries.new)) (items_of (drop result.rank entries.new)) }
+    ensures split { IsCanonSplit D leaf result.dimension result.at (items_of (take result.rank entries.new))
+        (items_of (drop result.rank entries.new)) }
     ensures left { 1 ≤ result.rank }
     ensures right { result.rank < length entries.old }
 {
@@ -41,7 +43,8 @@ pub(crate) fn halve<const D: usize>(entries: &mut [Entry<D>], leaf: usize) -> Ha
     }
 }
 
-/// How many of the entries of an inner node go left: half of the leaves, where their number is odd one more, all of them full.
+/// How many of the entries of an inner node go left: half of the leaves, where their number is odd one more, all of
+/// them full.
 fn left_count(count: usize, leaf: usize) -> usize
     requires leaf { 1 ≤ leaf }
     requires many { leaf < count }

@@ -56,7 +56,8 @@ fn grow_halves<const D: usize>(
     requires right { AreEntries right.old }
     ensures left_same { IsPermutation left.old left.new }
     ensures right_same { IsPermutation right.old right.new }
-    ensures added { OnOk result (AddsBoth D leaf (items_of left.old) (items_of right.old) (held part.old) (held part.new)) }
+    ensures added { OnOk result
+        (AddsBoth D leaf (items_of left.old) (items_of right.old) (held part.old) (held part.new)) }
 {
     grow(alloc, left, leaf, part)?;
     grow(alloc, right, leaf, part)?;
@@ -88,7 +89,8 @@ fn over<const D: usize>(
     right: Part<D>,
 ) -> Result<Part<D>, Memory>
     requires { (1 ≤ D) × (D ≤ 8) }
-    ensures { IfOk result (λ part. held part ≡ joined (joined (one_node node.dimension node.at) (held left.entry)) (held right.entry)) }
+    ensures { IfOk result
+        (λ part. held part ≡ joined (joined (one_node node.dimension node.at) (held left.entry)) (held right.entry)) }
 {
     let mut part = Part::with_room(alloc, left.leaves.len() + right.leaves.len())?;
     part.put_node(node)?;
@@ -147,7 +149,8 @@ fn both<const D: usize, R: Threads + Sync, G: Gate>(
     ensures right_built { IfOk result.1 (λ part. Adds D leaf (items_of right.old) no_pieces (held part)) }
 {
     let mut first = || -> Result<Part<D>, Memory>
-        requires { IsSync R.row × IsSync G.row × (0 < forks) × (1 ≤ D) × (D ≤ 8) × (1 ≤ leaf) × (leaf ≤ leaf_limit D) × AreEntries left.now }
+        requires { IsSync R.row × IsSync G.row × (0 < forks) × (1 ≤ D) × (D ≤ 8) × (1 ≤ leaf) × (leaf ≤ leaf_limit D)
+            × AreEntries left.now }
         ensures same { IsPermutation left.entry.now left.exit.now }
         ensures built { IfOk result (λ part. Adds D leaf (items_of left.entry.now) no_pieces (held part)) }
     {
@@ -155,7 +158,8 @@ fn both<const D: usize, R: Threads + Sync, G: Gate>(
         build_part(rt, alloc, left, leaf, forks - 1, gate)
     };
     let mut second = || -> Result<Part<D>, Memory>
-        requires { IsSync R.row × IsSync G.row × (0 < forks) × (1 ≤ D) × (D ≤ 8) × (1 ≤ leaf) × (leaf ≤ leaf_limit D) × AreEntries right.now }
+        requires { IsSync R.row × IsSync G.row × (0 < forks) × (1 ≤ D) × (D ≤ 8) × (1 ≤ leaf) × (leaf ≤ leaf_limit D)
+            × AreEntries right.now }
         ensures same { IsPermutation right.entry.now right.exit.now }
         ensures built { IfOk result (λ part. Adds D leaf (items_of right.entry.now) no_pieces (held part)) }
     {

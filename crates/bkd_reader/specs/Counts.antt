@@ -4,10 +4,12 @@ use Rattle.point_codec.specs.Points.{Region}
 use Rattle.cell_relate.specs.Relations.{is_outside}
 use Rattle.inner_pack.specs.Trees.{IndexTree, Leaf, Split, leaf_count}
 
--- how many entries, live or dead, are in leaves whose own cell the shape crosses; the subtree's first leaf has this number
+-- how many entries, live or dead, are in leaves whose own cell the shape crosses; the subtree's first leaf has this
+-- number
 abbrev pub tested : (crosses : Region → Bool) (count : ℕ → ℕ) (first : ℕ) → IndexTree → ℕ
 tested crosses count first (Leaf len own) = if crosses own then count first else 0
-tested crosses count first (Split d x l r) = tested crosses count first l + tested crosses count (first + leaf_count l) r
+tested crosses count first (Split d x l r) =
+    tested crosses count first l + tested crosses count (first + leaf_count l) r
 
 -- how many leaves are not outside: their own cell is crossed, or has all its points in the shape
 abbrev pub touched : (has : List ℤ → Bool) (crosses : Region → Bool) → IndexTree → ℕ

@@ -17,11 +17,13 @@ is_hit has live x = is_live live x.doc && has x.at
 unfoldable pub hits_in : (List ℤ → Bool) → LiveSet → List Item → List ℕ
 hits_in has live items = map (λ x. x.doc) (filter (is_hit has live) items)
 
--- a leaf's hits: where no point of its own cell is the shape's there are none, whatever stands in its page; else its page is one for its
--- place and spells as many entries as it must, inside its own cell, and the hits are theirs
-abbrev pub AreLeafHits : (D : ℕ) (bytes : List ℕ) (head : Head) (has : List ℤ → Bool) (live : LiveSet) (number : ℕ) → Spot → (len : ℕ) → Region → List ℕ → Type 0
+-- a leaf's hits: where no point of its own cell is the shape's there are none, whatever stands in its page; else its
+-- page is one for its place and spells as many entries as it must, inside its own cell, and the hits are theirs
+abbrev pub AreLeafHits : (D : ℕ) (bytes : List ℕ) (head : Head) (has : List ℤ → Bool) (live : LiveSet) (number : ℕ)
+    → Spot → (len : ℕ) → Region → List ℕ → Type 0
 AreLeafHits D bytes head has live number s len own out =
-    (AllAnswer has false own × (out ≡ [])) ⊎ ((items : List Item) × HoldsLeaf D bytes head number s len own items × (out ≡ hits_in has live items))
+    (AllAnswer has false own × (out ≡ []))
+    ⊎ ((items : List Item) × HoldsLeaf D bytes head number s len own items × (out ≡ hits_in has live items))
 
 -- two lists one behind the other
 pub record JoinsHits (left right : List ℕ → Type 0) (out : List ℕ) : Type 0 where
@@ -32,10 +34,12 @@ pub record JoinsHits (left right : List ℕ → Type 0) (out : List ℕ) : Type 
   pub joined : out ≡ front_hits ++ back_hits
 
 -- the hits of a subtree's leaves from left to right
-abbrev pub AreHits : (D : ℕ) (bytes : List ℕ) (head : Head) (has : List ℤ → Bool) (live : LiveSet) (first : ℕ) → Spot → IndexTree → List ℕ → Type 0
+abbrev pub AreHits : (D : ℕ) (bytes : List ℕ) (head : Head) (has : List ℤ → Bool) (live : LiveSet) (first : ℕ) → Spot
+    → IndexTree → List ℕ → Type 0
 AreHits D bytes head has live first s (Leaf len own) out = AreLeafHits D bytes head has live first s len own out
 AreHits D bytes head has live first s (Split d x l r) out =
-    JoinsHits (AreHits D bytes head has live first s l) (AreHits D bytes head has live (first + leaf_count l) (right_begin s l r) r) out
+    JoinsHits (AreHits D bytes head has live first s l)
+    (AreHits D bytes head has live (first + leaf_count l) (right_begin s l r) r) out
 
 -- what was there, and something behind it
 pub record Appends (old new : List ℕ) (P : List ℕ → Type 0) : Type 0 where

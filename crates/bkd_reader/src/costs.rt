@@ -24,15 +24,16 @@ pub struct Tally {
     pub leaves: u64,
 }
 
-/// What a walk over the segment costs for this shape. It reads no page and takes no memory, and asks of each leaf's own cell
-/// alone: a shape need not cross the cell of a node of which it crosses a leaf's cell.
+/// What a walk over the segment costs for this shape. It reads no page and takes no memory, and asks of each leaf's
+/// own cell alone: a shape need not cross the cell of a node of which it crosses a leaf's cell.
 pub fn survey<const D: usize, S: Shape<D>>(head: &SegmentHead<D>, shape: &mut S) -> Tally
     ensures counts { (root : Region) (t : IndexTree) → HasTree D head.now.index root t
         → (result.tested ≡ tested (S.crosses shape.old) (count_of head.now) 0 t)
         × (result.touched ≡ touched (S.has shape.old) (S.crosses shape.old) t)
         × (result.leaves ≡ leaf_count t) }
     ensures tests { S.tests shape.new ≡ S.tests shape.old }
-    ensures compares { (root : Region) (t : IndexTree) → HasTree D head.now.index root t → S.compares shape.new ≤ S.compares shape.old + leaf_count t }
+    ensures compares { (root : Region) (t : IndexTree) → HasTree D head.now.index root t
+        → S.compares shape.new ≤ S.compares shape.old + leaf_count t }
     ensures has { S.has shape.new ≡ S.has shape.old }
     ensures crosses { S.crosses shape.new ≡ S.crosses shape.old }
 {
@@ -50,8 +51,10 @@ fn cost<const D: usize, S: Shape<D>>(
     node: &NodeAt<'_, D>,
     shape: &mut S,
 ) -> (u64, u64)
-    ensures tested { (first : ℕ) (s : Spot) (path : Region) (t : IndexTree) → IsAt node.now first s path t → result.0 ≡ tested (S.crosses shape.old) (count_of head.now) first t }
-    ensures touched { (first : ℕ) (s : Spot) (path : Region) (t : IndexTree) → IsAt node.now first s path t → result.1 ≡ touched (S.has shape.old) (S.crosses shape.old) t }
+    ensures tested { (first : ℕ) (s : Spot) (path : Region) (t : IndexTree) → IsAt node.now first s path t
+        → result.0 ≡ tested (S.crosses shape.old) (count_of head.now) first t }
+    ensures touched { (first : ℕ) (s : Spot) (path : Region) (t : IndexTree) → IsAt node.now first s path t
+        → result.1 ≡ touched (S.has shape.old) (S.crosses shape.old) t }
     ensures tests { S.tests shape.new ≡ S.tests shape.old }
     ensures compares { S.compares shape.new ≤ S.compares shape.old + node.now.leaves }
     ensures has { S.has shape.new ≡ S.has shape.old }
@@ -75,9 +78,11 @@ fn leaf_cost<const D: usize, S: Shape<D>>(
     node: &NodeAt<'_, D>,
     shape: &mut S,
 ) -> (u64, u64)
-    ensures tested { (first : ℕ) (s : Spot) (path : Region) (len : ℕ) (own : Region) → IsAt node.now first s path (Leaf len own)
+    ensures tested { (first : ℕ) (s : Spot) (path : Region) (len : ℕ) (own : Region)
+        → IsAt node.now first s path (Leaf len own)
         → result.0 ≡ tested (S.crosses shape.old) (count_of head.now) first (Leaf len own) }
-    ensures touched { (first : ℕ) (s : Spot) (path : Region) (len : ℕ) (own : Region) → IsAt node.now first s path (Leaf len own)
+    ensures touched { (first : ℕ) (s : Spot) (path : Region) (len : ℕ) (own : Region)
+        → IsAt node.now first s path (Leaf len own)
         → result.1 ≡ touched (S.has shape.old) (S.crosses shape.old) (Leaf len own) }
     ensures tests { S.tests shape.new ≡ S.tests shape.old }
     ensures compares { S.compares shape.new ≤ S.compares shape.old + 1 }

@@ -38,9 +38,14 @@ pub fn test_leaf<const D: usize, S: Shape<D>, F: Pages>(
 ) -> Result<(), PageFault>
     requires leaf { node.now.leaves ≡ 1 }
     ensures begins { Begins hits.old.items hits.new.items }
-    ensures hits { IsTrue F.told → Agrees (F.files folder.old) cache.old → (first : ℕ) (s : Spot) (path : Region) (t : IndexTree) → IsAt node.now first s path t
-        → OnOk result (Appends hits.old.items hits.new.items (AreHits D (bytes_of (F.files folder.old (Segment head.now.id))) head.now (S.has shape.old) live.now first s t)) }
-    ensures tests { (first : ℕ) (s : Spot) (path : Region) (t : IndexTree) → IsAt node.now first s path t → S.crosses shape.old (cell_of path t) ≡ true
+    ensures hits { IsTrue F.told → Agrees (F.files folder.old) cache.old
+        → (first : ℕ) (s : Spot) (path : Region) (t : IndexTree) → IsAt node.now first s path t
+        → OnOk result
+        (Appends hits.old.items hits.new.items
+        (AreHits D (bytes_of (F.files folder.old (Segment head.now.id))) head.now
+        (S.has shape.old) live.now first s t)) }
+    ensures tests { (first : ℕ) (s : Spot) (path : Region) (t : IndexTree) → IsAt node.now first s path t
+        → S.crosses shape.old (cell_of path t) ≡ true
         → S.tests shape.new ≤ S.tests shape.old + tested (S.crosses shape.old) (count_of head.now) first t }
     ensures compares { S.compares shape.new ≡ S.compares shape.old }
     ensures reads { F.reads folder.new ≤ F.reads folder.old + 1 }
@@ -50,10 +55,14 @@ pub fn test_leaf<const D: usize, S: Shape<D>, F: Pages>(
     ensures others { (i : ℕ) → KeepsFile cache.new i → KeepsFile cache.old i ⊎ (i ≡ head.now.id) }
     ensures agrees { IsTrue F.told → Agrees (F.files folder.old) cache.old → Agrees (F.files folder.old) cache.new }
     ensures cause { HasPageCause (F.faults folder.old) (F.faults folder.new) result }
-    ensures shown { (first : ℕ) (s : Spot) (path : Region) (t : IndexTree) → IsAt node.now first s path t → OnDamage result (IsLeafDamage D head.now first s t) }
-    ensures damage { IsTrue F.told → Agrees (F.files folder.old) cache.old → OnDamage result (IsLeafDamageOf (F.files folder.old)) }
-    ensures whole { IsTrue F.told → Agrees (F.files folder.old) cache.old → (first : ℕ) (s : Spot) (path : Region) (t : IndexTree) (items : List Item) → IsAt node.now first s path t
-        → HoldsTree D (bytes_of (F.files folder.old (Segment head.now.id))) head.now first s t items → NotDamaged result }
+    ensures shown { (first : ℕ) (s : Spot) (path : Region) (t : IndexTree) → IsAt node.now first s path t
+        → OnDamage result (IsLeafDamage D head.now first s t) }
+    ensures damage { IsTrue F.told → Agrees (F.files folder.old) cache.old
+        → OnDamage result (IsLeafDamageOf (F.files folder.old)) }
+    ensures whole { IsTrue F.told → Agrees (F.files folder.old) cache.old
+        → (first : ℕ) (s : Spot) (path : Region) (t : IndexTree) (items : List Item) → IsAt node.now first s path t
+        → HoldsTree D (bytes_of (F.files folder.old (Segment head.now.id))) head.now first s t items
+        → NotDamaged result }
 {
     let place = load_leaf(alloc, folder, cache, head, node)?;
     let Some(leaf) = leaf_in(cache, head, node, place) else {

@@ -31,10 +31,10 @@ use std::alloc::Global;
 
 /// Appends the numbers of the live entries of the segment that the shape has, in the order of the leaves.
 ///
-/// A number stands there once for each of its entries that the shape has. Only entries of leaves whose own cell the shape
-/// crosses are tested, only leaves whose own cell is not outside are read, and a kept page is found without a read. No page
-/// is looked at that the answer doesn't need: a damage elsewhere in the segment is not met. After an error the hits begin
-/// with what they held, and may have more behind it.
+/// A number stands there once for each of its entries that the shape has. Only entries of leaves whose own cell the
+/// shape crosses are tested, only leaves whose own cell is not outside are read, and a kept page is found without a
+/// read. No page is looked at that the answer doesn't need: a damage elsewhere in the segment is not met. After an
+/// error the hits begin with what they held, and may have more behind it.
 pub fn intersect<const D: usize, S: Shape<D>, F: Pages>(
     alloc: Global,
     head: &SegmentHead<D>,
@@ -46,14 +46,22 @@ pub fn intersect<const D: usize, S: Shape<D>, F: Pages>(
 ) -> Result<(), PageFault>
     // What is found.
     ensures begins { Begins hits.old.items hits.new.items }
-    ensures found { IsTrue F.told → Agrees (F.files folder.old) cache.old → (items : List Item) → IsSegment D (bytes_of (F.files folder.old (Segment head.now.id))) head.now items
+    ensures found { IsTrue F.told → Agrees (F.files folder.old) cache.old → (items : List Item)
+        → IsSegment D (bytes_of (F.files folder.old (Segment head.now.id))) head.now items
         → OnOk result (hits.new.items ≡ hits.old.items ++ hits_in (S.has shape.old) live.now items) }
-    ensures hits { IsTrue F.told → Agrees (F.files folder.old) cache.old → (root : Region) (t : IndexTree) → HasTree D head.now.index root t
-        → OnOk result (Appends hits.old.items hits.new.items (AreHits D (bytes_of (F.files folder.old (Segment head.now.id))) head.now (S.has shape.old) live.now 0 front t)) }
+    ensures hits { IsTrue F.told → Agrees (F.files folder.old) cache.old → (root : Region) (t : IndexTree)
+        → HasTree D head.now.index root t
+        → OnOk result
+        (Appends hits.old.items hits.new.items
+        (AreHits D (bytes_of (F.files folder.old (Segment head.now.id))) head.now
+        (S.has shape.old) live.now 0 front t)) }
     // What it costs, over every folder.
-    ensures tests { (root : Region) (t : IndexTree) → HasTree D head.now.index root t → S.tests shape.new ≤ S.tests shape.old + tested (S.crosses shape.old) (count_of head.now) 0 t }
-    ensures compares { (root : Region) (t : IndexTree) → HasTree D head.now.index root t → S.compares shape.new ≤ S.compares shape.old + 2 * leaf_count t }
-    ensures reads { (root : Region) (t : IndexTree) → HasTree D head.now.index root t → F.reads folder.new ≤ F.reads folder.old + touched (S.has shape.old) (S.crosses shape.old) t }
+    ensures tests { (root : Region) (t : IndexTree) → HasTree D head.now.index root t
+        → S.tests shape.new ≤ S.tests shape.old + tested (S.crosses shape.old) (count_of head.now) 0 t }
+    ensures compares { (root : Region) (t : IndexTree) → HasTree D head.now.index root t
+        → S.compares shape.new ≤ S.compares shape.old + 2 * leaf_count t }
+    ensures reads { (root : Region) (t : IndexTree) → HasTree D head.now.index root t
+        → F.reads folder.new ≤ F.reads folder.old + touched (S.has shape.old) (S.crosses shape.old) t }
     // What stays.
     ensures has { S.has shape.new ≡ S.has shape.old }
     ensures crosses { S.crosses shape.new ≡ S.crosses shape.old }
@@ -62,9 +70,12 @@ pub fn intersect<const D: usize, S: Shape<D>, F: Pages>(
     ensures agrees { IsTrue F.told → Agrees (F.files folder.old) cache.old → Agrees (F.files folder.old) cache.new }
     // What an error says.
     ensures cause { HasPageCause (F.faults folder.old) (F.faults folder.new) result }
-    ensures shown { (root : Region) (t : IndexTree) → HasTree D head.now.index root t → OnDamage result (IsLeafDamage D head.now 0 front t) }
-    ensures damage { IsTrue F.told → Agrees (F.files folder.old) cache.old → OnDamage result (IsLeafDamageOf (F.files folder.old)) }
-    ensures whole { IsTrue F.told → Agrees (F.files folder.old) cache.old → (items : List Item) → IsSegment D (bytes_of (F.files folder.old (Segment head.now.id))) head.now items → NotDamaged result }
+    ensures shown { (root : Region) (t : IndexTree) → HasTree D head.now.index root t
+        → OnDamage result (IsLeafDamage D head.now 0 front t) }
+    ensures damage { IsTrue F.told → Agrees (F.files folder.old) cache.old
+        → OnDamage result (IsLeafDamageOf (F.files folder.old)) }
+    ensures whole { IsTrue F.told → Agrees (F.files folder.old) cache.old → (items : List Item)
+        → IsSegment D (bytes_of (F.files folder.old (Segment head.now.id))) head.now items → NotDamaged result }
 {
     visit(
         alloc,
@@ -90,11 +101,16 @@ fn visit<const D: usize, S: Shape<D>, F: Pages>(
     hits: &mut Vec<u32>,
 ) -> Result<(), PageFault>
     ensures begins { Begins hits.old.items hits.new.items }
-    ensures hits { IsTrue F.told → Agrees (F.files folder.old) cache.old → (first : ℕ) (s : Spot) (path : Region) (t : IndexTree) → IsRoot node.now first s path t
-        → OnOk result (Appends hits.old.items hits.new.items (AreHits D (bytes_of (F.files folder.old (Segment head.now.id))) head.now (S.has shape.old) live.now first s t)) }
+    ensures hits { IsTrue F.told → Agrees (F.files folder.old) cache.old
+        → (first : ℕ) (s : Spot) (path : Region) (t : IndexTree) → IsRoot node.now first s path t
+        → OnOk result
+        (Appends hits.old.items hits.new.items
+        (AreHits D (bytes_of (F.files folder.old (Segment head.now.id))) head.now
+        (S.has shape.old) live.now first s t)) }
     ensures tests { (first : ℕ) (s : Spot) (path : Region) (t : IndexTree) → IsRoot node.now first s path t
         → S.tests shape.new ≤ S.tests shape.old + tested (S.crosses shape.old) (count_of head.now) first t }
-    ensures compares { (first : ℕ) (s : Spot) (path : Region) (t : IndexTree) → IsAt node.now first s path t → S.compares shape.new + 1 ≤ S.compares shape.old + 2 * leaf_count t }
+    ensures compares { (first : ℕ) (s : Spot) (path : Region) (t : IndexTree) → IsAt node.now first s path t
+        → S.compares shape.new + 1 ≤ S.compares shape.old + 2 * leaf_count t }
     ensures reads { (first : ℕ) (s : Spot) (path : Region) (t : IndexTree) → IsRoot node.now first s path t
         → F.reads folder.new ≤ F.reads folder.old + touched (S.has shape.old) (S.crosses shape.old) t }
     ensures has { S.has shape.new ≡ S.has shape.old }
@@ -103,10 +119,14 @@ fn visit<const D: usize, S: Shape<D>, F: Pages>(
     ensures others { (i : ℕ) → KeepsFile cache.new i → KeepsFile cache.old i ⊎ (i ≡ head.now.id) }
     ensures agrees { IsTrue F.told → Agrees (F.files folder.old) cache.old → Agrees (F.files folder.old) cache.new }
     ensures cause { HasPageCause (F.faults folder.old) (F.faults folder.new) result }
-    ensures shown { (first : ℕ) (s : Spot) (path : Region) (t : IndexTree) → IsAt node.now first s path t → OnDamage result (IsLeafDamage D head.now first s t) }
-    ensures damage { IsTrue F.told → Agrees (F.files folder.old) cache.old → OnDamage result (IsLeafDamageOf (F.files folder.old)) }
-    ensures whole { IsTrue F.told → Agrees (F.files folder.old) cache.old → (first : ℕ) (s : Spot) (path : Region) (t : IndexTree) (items : List Item) → IsAt node.now first s path t
-        → HoldsTree D (bytes_of (F.files folder.old (Segment head.now.id))) head.now first s t items → NotDamaged result }
+    ensures shown { (first : ℕ) (s : Spot) (path : Region) (t : IndexTree) → IsAt node.now first s path t
+        → OnDamage result (IsLeafDamage D head.now first s t) }
+    ensures damage { IsTrue F.told → Agrees (F.files folder.old) cache.old
+        → OnDamage result (IsLeafDamageOf (F.files folder.old)) }
+    ensures whole { IsTrue F.told → Agrees (F.files folder.old) cache.old
+        → (first : ℕ) (s : Spot) (path : Region) (t : IndexTree) (items : List Item) → IsAt node.now first s path t
+        → HoldsTree D (bytes_of (F.files folder.old (Segment head.now.id))) head.now first s t items
+        → NotDamaged result }
 {
     match shape.compare(&node.cell()) {
         Relation::Outside => Ok(()),
@@ -132,18 +152,25 @@ fn take<const D: usize, F: Pages>(
     hits: &mut Vec<u32>,
 ) -> Result<(), PageFault>
     ensures begins { Begins hits.old.items hits.new.items }
-    ensures hits { IsTrue F.told → Agrees (F.files folder.old) cache.old → (first : ℕ) (s : Spot) (path : Region) (t : IndexTree) → IsRoot node.now first s path t
+    ensures hits { IsTrue F.told → Agrees (F.files folder.old) cache.old
+        → (first : ℕ) (s : Spot) (path : Region) (t : IndexTree) → IsRoot node.now first s path t
         → (has : List ℤ → Bool) → AllAnswer has true (cell_of path t)
-        → OnOk result (Appends hits.old.items hits.new.items (AreHits D (bytes_of (F.files folder.old (Segment head.now.id))) head.now has live.now first s t)) }
+        → OnOk result
+        (Appends hits.old.items hits.new.items
+        (AreHits D (bytes_of (F.files folder.old (Segment head.now.id))) head.now has live.now first s t)) }
     ensures reads { F.reads folder.new ≤ F.reads folder.old + node.now.leaves }
     ensures files { IsTrue F.told → F.files folder.new ≡ F.files folder.old }
     ensures others { (i : ℕ) → KeepsFile cache.new i → KeepsFile cache.old i ⊎ (i ≡ head.now.id) }
     ensures agrees { IsTrue F.told → Agrees (F.files folder.old) cache.old → Agrees (F.files folder.old) cache.new }
     ensures cause { HasPageCause (F.faults folder.old) (F.faults folder.new) result }
-    ensures shown { (first : ℕ) (s : Spot) (path : Region) (t : IndexTree) → IsAt node.now first s path t → OnDamage result (IsLeafDamage D head.now first s t) }
-    ensures damage { IsTrue F.told → Agrees (F.files folder.old) cache.old → OnDamage result (IsLeafDamageOf (F.files folder.old)) }
-    ensures whole { IsTrue F.told → Agrees (F.files folder.old) cache.old → (first : ℕ) (s : Spot) (path : Region) (t : IndexTree) (items : List Item) → IsAt node.now first s path t
-        → HoldsTree D (bytes_of (F.files folder.old (Segment head.now.id))) head.now first s t items → NotDamaged result }
+    ensures shown { (first : ℕ) (s : Spot) (path : Region) (t : IndexTree) → IsAt node.now first s path t
+        → OnDamage result (IsLeafDamage D head.now first s t) }
+    ensures damage { IsTrue F.told → Agrees (F.files folder.old) cache.old
+        → OnDamage result (IsLeafDamageOf (F.files folder.old)) }
+    ensures whole { IsTrue F.told → Agrees (F.files folder.old) cache.old
+        → (first : ℕ) (s : Spot) (path : Region) (t : IndexTree) (items : List Item) → IsAt node.now first s path t
+        → HoldsTree D (bytes_of (F.files folder.old (Segment head.now.id))) head.now first s t items
+        → NotDamaged result }
 {
     match node.children() {
         Some((left, right)) => {

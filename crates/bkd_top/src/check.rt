@@ -11,11 +11,12 @@ use outer_io::{Folder, Sink};
 use run_status::{Status, send, status_of, stopped};
 use std::alloc::Global;
 
-/// The command `check`: reads every page of the files that the folder's commit lists, and says how large the index is that they hold, or
-/// ends with the first damage. No file changes, whatever the status, and the input is not read.
+/// The command `check`: reads every page of the files that the folder's commit lists, and says how large the index is
+/// that they hold, or ends with the first damage. No file changes, whatever the status, and the input is not read.
 pub fn run_check<F: Folder, K: Sink>(alloc: Global, folder: &mut F, out: &mut K) -> Status
     ensures done { DoesNothing result → ⊥ }
-    ensures checks { IsTrue F.told → Checks (IsTrue K.told) (F.files folder.old) (F.files folder.new) (K.written out.old) (K.written out.new)
+    ensures checks { IsTrue F.told
+        → Checks (IsTrue K.told) (F.files folder.old) (F.files folder.new) (K.written out.old) (K.written out.new)
         (F.reads folder.old) (F.reads folder.new) result }
     ensures damage { TellsDamage (IsTrue F.told) (F.files folder.old) (F.files folder.new) result }
     ensures folder_fault { result ≡ Status.FolderFault → Rose (F.faults folder.old) (F.faults folder.new) }

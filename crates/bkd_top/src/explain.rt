@@ -26,8 +26,8 @@ use script_lang::first_line;
 use segment_set::SegmentSet;
 use std::alloc::{AllocError, Global};
 
-/// The command `explain`: reads queries, and says of each how much of the stored segments it tests and touches, and how much it finds. No file
-/// changes, whatever the status.
+/// The command `explain`: reads queries, and says of each how much of the stored segments it tests and touches, and
+/// how much it finds. No file changes, whatever the status.
 pub fn run_explain<S: Source, F: Folder, K: Sink>(
     alloc: Global,
     cache_pages: u32,
@@ -41,11 +41,13 @@ pub fn run_explain<S: Source, F: Folder, K: Sink>(
     ensures ends { IsTrue S.told → IsTrue F.told → (s : Scope) → IsScope (F.files folder.old) s
         → EndsExplain (IsTrue K.told) s (lines_of (S.left input.old)) (K.written out.old) (K.written out.new) result }
     ensures files { IsTrue F.told → F.files folder.new ≡ F.files folder.old }
-    ensures reads { IsTrue S.told → IsTrue F.told → ReadsFew (F.files folder.old) (lines_of (S.left input.old)) (F.reads folder.old) (F.reads folder.new) }
+    ensures reads { IsTrue S.told → IsTrue F.told
+        → ReadsFew (F.files folder.old) (lines_of (S.left input.old)) (F.reads folder.old) (F.reads folder.new) }
     ensures input { IsTrue S.told → ReadsInput (S.left input.old) (S.left input.new) result }
     ensures untouched { DoesNothing result → (folder.new ≡ folder.old) × (out.new ≡ out.old) }
     ensures damage { TellsDamage (IsTrue F.told) (F.files folder.old) (F.files folder.new) result }
-    ensures causes { HasCauses (record { source = S.faults input.old; folder = F.faults folder.old; sink = K.faults out.old })
+    ensures causes { HasCauses
+        (record { source = S.faults input.old; folder = F.faults folder.old; sink = K.faults out.old })
         (record { source = S.faults input.new; folder = F.faults folder.new; sink = K.faults out.new }) result }
 {
     match read_all(alloc, input, MAX_INPUT) {
@@ -70,8 +72,10 @@ fn explain_lines<F: Folder, K: Sink>(
     ensures ends { IsTrue F.told → (s : Scope) → IsScope (F.files folder.old) s
         → EndsTold (IsTrue K.told) s 1 0 (lines_of lines.now) (K.written out.old) (K.written out.new) result }
     ensures files { IsTrue F.told → F.files folder.new ≡ F.files folder.old }
-    ensures reads { IsTrue F.told → ReadsFew (F.files folder.old) (lines_of lines.now) (F.reads folder.old) (F.reads folder.new) }
-    ensures cause { HasStopCause (F.faults folder.old) (F.faults folder.new) (K.faults out.old) (K.faults out.new) result }
+    ensures reads { IsTrue F.told
+        → ReadsFew (F.files folder.old) (lines_of lines.now) (F.reads folder.old) (F.reads folder.new) }
+    ensures cause { HasStopCause (F.faults folder.old) (F.faults folder.new) (K.faults out.old)
+        (K.faults out.new) result }
     ensures evident { OnStopDamage result (IsEvident (IsTrue F.told) (F.files folder.new)) }
 {
     match read_commit(alloc, folder) {
@@ -84,7 +88,8 @@ fn explain_lines<F: Folder, K: Sink>(
 /// Explains lines where no index is there.
 fn explain_none<K: Sink>(alloc: Global, lines: &[u8], out: &mut K) -> Result<u64, Stop>
     requires { length lines.now ≤ 2 ^ 32 }
-    ensures ends { EndsTold (IsTrue K.told) (record { state = None; heads = [] }) 1 0 (lines_of lines.now) (K.written out.old) (K.written out.new) result }
+    ensures ends { EndsTold (IsTrue K.told) (record { state = None; heads = [] }) 1 0 (lines_of lines.now)
+        (K.written out.old) (K.written out.new) result }
     ensures cause { (faults : ℕ) → HasStopCause faults faults (K.faults out.old) (K.faults out.new) result }
     ensures undamaged { OnStopDamage result (λ _. ⊥) }
 {
@@ -111,7 +116,8 @@ fn tell_first<K: Sink>(
     reply: &mut Vec<u8>,
     out: &mut K,
 ) -> Result<bool, Stop>
-    ensures ends { SendsLine (IsTrue K.told) (record { state = None; heads = [] }) number line.now (K.written out.old) (K.written out.new) result }
+    ensures ends { SendsLine (IsTrue K.told) (record { state = None; heads = [] }) number line.now (K.written out.old)
+        (K.written out.new) result }
     ensures cause { (faults : ℕ) → HasStopCause faults faults (K.faults out.old) (K.faults out.new) result }
     ensures undamaged { OnStopDamage result (λ _. ⊥) }
 {
@@ -134,13 +140,17 @@ fn explain_stored<F: Folder, K: Sink>(
     requires some { 1 ≤ cache_pages }
     requires few { cache_pages ≤ 65536 }
     requires lines { length lines.now ≤ 2 ^ 32 }
-    ensures ends { IsTrue F.told → IsCommitFile (bytes_of (F.files folder.old CommitName)) commit → (s : Scope) → IsScope (F.files folder.old) s
+    ensures ends { IsTrue F.told → IsCommitFile (bytes_of (F.files folder.old CommitName)) commit → (s : Scope)
+        → IsScope (F.files folder.old) s
         → EndsTold (IsTrue K.told) s 1 0 (lines_of lines.now) (K.written out.old) (K.written out.new) result }
     ensures files { IsTrue F.told → F.files folder.new ≡ F.files folder.old }
     ensures reads { IsTrue F.told → IsCommitFile (bytes_of (F.files folder.old CommitName)) commit
         → OpensFew (F.files folder.old) commit (lines_of lines.now) (F.reads folder.old) (F.reads folder.new) }
-    ensures cause { HasStopCause (F.faults folder.old) (F.faults folder.new) (K.faults out.old) (K.faults out.new) result }
-    ensures evident { OnStopDamage result (IsEvident (IsTrue F.told × IsCommitFile (bytes_of (F.files folder.old CommitName)) commit) (F.files folder.new)) }
+    ensures cause { HasStopCause (F.faults folder.old) (F.faults folder.new) (K.faults out.old)
+        (K.faults out.new) result }
+    ensures evident { OnStopDamage result
+        (IsEvident (IsTrue F.told × IsCommitFile (bytes_of (F.files folder.old CommitName)) commit)
+        (F.files folder.new)) }
 {
     match commit.dims() {
         1 => explain_over::<1, F, K>(alloc, cache_pages, commit, lines, folder, out),
@@ -169,13 +179,17 @@ fn explain_over<const D: usize, F: Folder, K: Sink>(
     requires some { 1 ≤ cache_pages }
     requires few { cache_pages ≤ 65536 }
     requires lines { length lines.now ≤ 2 ^ 32 }
-    ensures ends { IsTrue F.told → IsCommitFile (bytes_of (F.files folder.old CommitName)) commit → (s : Scope) → IsScope (F.files folder.old) s
+    ensures ends { IsTrue F.told → IsCommitFile (bytes_of (F.files folder.old CommitName)) commit → (s : Scope)
+        → IsScope (F.files folder.old) s
         → EndsTold (IsTrue K.told) s 1 0 (lines_of lines.now) (K.written out.old) (K.written out.new) result }
     ensures files { IsTrue F.told → F.files folder.new ≡ F.files folder.old }
     ensures reads { IsTrue F.told → IsCommitFile (bytes_of (F.files folder.old CommitName)) commit
         → OpensFew (F.files folder.old) commit (lines_of lines.now) (F.reads folder.old) (F.reads folder.new) }
-    ensures cause { HasStopCause (F.faults folder.old) (F.faults folder.new) (K.faults out.old) (K.faults out.new) result }
-    ensures evident { OnStopDamage result (IsEvident (IsTrue F.told × IsCommitFile (bytes_of (F.files folder.old CommitName)) commit) (F.files folder.new)) }
+    ensures cause { HasStopCause (F.faults folder.old) (F.faults folder.new) (K.faults out.old)
+        (K.faults out.new) result }
+    ensures evident { OnStopDamage result
+        (IsEvident (IsTrue F.told × IsCommitFile (bytes_of (F.files folder.old CommitName)) commit)
+        (F.files folder.new)) }
 {
     // nothing is built
     let settings = Settings {
@@ -202,10 +216,13 @@ fn explain_all<const D: usize, F: Folder, K: Sink>(
     ensures ends { IsTrue F.told → (s : Scope) → IsExplaining D (F.files folder.old) set.old s
         → EndsTold (IsTrue K.told) s 1 0 (lines_of lines.now) (K.written out.old) (K.written out.new) result }
     ensures files { IsTrue F.told → F.files folder.new ≡ F.files folder.old }
-    ensures reads { IsTrue F.told → (s : Scope) → IsExplaining D (F.files folder.old) set.old s → (t : Told) → TellsLines s 1 (lines_of lines.now) t
+    ensures reads { IsTrue F.told → (s : Scope) → IsExplaining D (F.files folder.old) set.old s → (t : Told)
+        → TellsLines s 1 (lines_of lines.now) t
         → F.reads folder.new ≤ F.reads folder.old + t.touched }
-    ensures cause { HasStopCause (F.faults folder.old) (F.faults folder.new) (K.faults out.old) (K.faults out.new) result }
-    ensures evident { OnStopDamage result (IsEvident (IsTrue F.told × IsFaithful D (F.files folder.old) set.old) (F.files folder.new)) }
+    ensures cause { HasStopCause (F.faults folder.old) (F.faults folder.new) (K.faults out.old)
+        (K.faults out.new) result }
+    ensures evident { OnStopDamage result
+        (IsEvident (IsTrue F.told × IsFaithful D (F.files folder.old) set.old) (F.files folder.new)) }
 {
     let mut reply = Vec::new(alloc);
     let mut rest = lines;
@@ -237,13 +254,18 @@ fn tell_line<const D: usize, F: Folder, K: Sink>(
     requires few { D ≤ 8 }
     ensures ends { IsTrue F.told → (s : Scope) → IsExplaining D (F.files folder.old) set.old s
         → SendsLine (IsTrue K.told) s number line.now (K.written out.old) (K.written out.new) result }
-    ensures stays { IsTrue F.told → (s : Scope) → IsExplaining D (F.files folder.old) set.old s → IsExplaining D (F.files folder.new) set.new s }
+    ensures stays { IsTrue F.told → (s : Scope) → IsExplaining D (F.files folder.old) set.old s
+        → IsExplaining D (F.files folder.new) set.new s }
     ensures files { IsTrue F.told → F.files folder.new ≡ F.files folder.old }
-    ensures reads { IsTrue F.told → (s : Scope) → IsExplaining D (F.files folder.old) set.old s → (t : Told) → TellsLine s number line.now t
+    ensures reads { IsTrue F.told → (s : Scope) → IsExplaining D (F.files folder.old) set.old s → (t : Told)
+        → TellsLine s number line.now t
         → F.reads folder.new ≤ F.reads folder.old + t.touched }
-    ensures cause { HasStopCause (F.faults folder.old) (F.faults folder.new) (K.faults out.old) (K.faults out.new) result }
-    ensures faithful { IsTrue F.told → IsFaithful D (F.files folder.old) set.old → IsFaithful D (F.files folder.new) set.new }
-    ensures evident { OnStopDamage result (IsEvident (IsTrue F.told × IsFaithful D (F.files folder.old) set.old) (F.files folder.new)) }
+    ensures cause { HasStopCause (F.faults folder.old) (F.faults folder.new) (K.faults out.old)
+        (K.faults out.new) result }
+    ensures faithful { IsTrue F.told → IsFaithful D (F.files folder.old) set.old
+        → IsFaithful D (F.files folder.new) set.new }
+    ensures evident { OnStopDamage result
+        (IsEvident (IsTrue F.told × IsFaithful D (F.files folder.old) set.old) (F.files folder.new)) }
 {
     reply.clear();
     match explain_line(alloc, set, folder, number, line, reply) {

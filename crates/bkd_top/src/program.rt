@@ -90,7 +90,8 @@ pub fn run<S: Source, F: Folder, K: Sink, R: Threads + Sync, G: Gate>(
         }) result) (asked (map string_bytes words.now)) }
     // why it ended otherwise
     ensures damage { TellsDamage (IsTrue F.told) (F.files folder.old) (F.files folder.new) result }
-    ensures causes { HasCauses (record { source = S.faults input.old; folder = F.faults folder.old; sink = K.faults out.old })
+    ensures causes { HasCauses
+        (record { source = S.faults input.old; folder = F.faults folder.old; sink = K.faults out.old })
         (record { source = S.faults input.new; folder = F.faults folder.new; sink = K.faults out.new }) result }
 {
     match read_words(alloc, words) {
@@ -120,7 +121,8 @@ fn run_command<S: Source, F: Folder, K: Sink, R: Threads + Sync, G: Gate>(
     ensures input { IsTrue S.told → TakesInput (said words) (S.left input.old) (S.left input.new) result }
     ensures unread { reads_input (said words) ≡ false → input.new ≡ input.old }
     ensures large { result ≡ Status.TooLarge → reads_whole (said words) ≡ true }
-    ensures untouched { is_session (said words) ≡ false → DoesNothing result → (folder.new ≡ folder.old) × (out.new ≡ out.old) }
+    ensures untouched { is_session (said words) ≡ false → DoesNothing result → (folder.new ≡ folder.old)
+        × (out.new ≡ out.old) }
     ensures canon { IsTrue F.told → (state : State) → IsStored (F.files folder.old) state → IsAnswer result
         → HasNewCanonical (F.files folder.old) (F.files folder.new) }
     ensures leaves { IsTrue F.told → LeavesAsked (said words)
@@ -136,7 +138,8 @@ fn run_command<S: Source, F: Folder, K: Sink, R: Threads + Sync, G: Gate>(
           now = F.reads folder.new;
         }) result }
     ensures damage { TellsDamage (IsTrue F.told) (F.files folder.old) (F.files folder.new) result }
-    ensures causes { HasCauses (record { source = S.faults input.old; folder = F.faults folder.old; sink = K.faults out.old })
+    ensures causes { HasCauses
+        (record { source = S.faults input.old; folder = F.faults folder.old; sink = K.faults out.old })
         (record { source = S.faults input.new; folder = F.faults folder.new; sink = K.faults out.new }) result }
 {
     match words {

@@ -48,7 +48,8 @@ pub fn run_script<S: Source, F: Folder, K: Sink, R: Threads + Sync, G: Gate>(
         → RunCosts Points (lines_of (S.left input.old)) (F.files folder.old) (F.files folder.new) (F.reads folder.old)
         (F.reads folder.new) result }
     ensures damage { TellsDamage (IsTrue F.told) (F.files folder.old) (F.files folder.new) result }
-    ensures causes { HasCauses (record { source = S.faults input.old; folder = F.faults folder.old; sink = K.faults out.old })
+    ensures causes { HasCauses
+        (record { source = S.faults input.old; folder = F.faults folder.old; sink = K.faults out.old })
         (record { source = S.faults input.new; folder = F.faults folder.new; sink = K.faults out.new }) result }
 {
     let work = Work {
@@ -87,7 +88,8 @@ pub fn run_ranges<S: Source, F: Folder, K: Sink, R: Threads + Sync, G: Gate>(
         → RunCosts Ranges (lines_of (S.left input.old)) (F.files folder.old) (F.files folder.new) (F.reads folder.old)
         (F.reads folder.new) result }
     ensures damage { TellsDamage (IsTrue F.told) (F.files folder.old) (F.files folder.new) result }
-    ensures causes { HasCauses (record { source = S.faults input.old; folder = F.faults folder.old; sink = K.faults out.old })
+    ensures causes { HasCauses
+        (record { source = S.faults input.old; folder = F.faults folder.old; sink = K.faults out.old })
         (record { source = S.faults input.new; folder = F.faults folder.new; sink = K.faults out.new }) result }
 {
     let work = Work {
@@ -123,7 +125,8 @@ pub fn run_session<S: Source, F: Folder, K: Sink, R: Threads + Sync, G: Gate>(
         → RunCosts Points (lines_of (S.left input.old)) (F.files folder.old) (F.files folder.new) (F.reads folder.old)
         (F.reads folder.new) result }
     ensures damage { TellsDamage (IsTrue F.told) (F.files folder.old) (F.files folder.new) result }
-    ensures causes { HasCauses (record { source = S.faults input.old; folder = F.faults folder.old; sink = K.faults out.old })
+    ensures causes { HasCauses
+        (record { source = S.faults input.old; folder = F.faults folder.old; sink = K.faults out.old })
         (record { source = S.faults input.new; folder = F.faults folder.new; sink = K.faults out.new }) result }
 {
     let work = Work {
@@ -156,7 +159,8 @@ fn run_whole<S: Source, F: Folder, K: Sink, R: Threads + Sync, G: Gate>(
         → RunCosts work.now.language (lines_of (S.left input.old)) (F.files folder.old) (F.files folder.new)
         (F.reads folder.old) (F.reads folder.new) result }
     ensures damage { TellsDamage (IsTrue F.told) (F.files folder.old) (F.files folder.new) result }
-    ensures causes { HasCauses (record { source = S.faults input.old; folder = F.faults folder.old; sink = K.faults out.old })
+    ensures causes { HasCauses
+        (record { source = S.faults input.old; folder = F.faults folder.old; sink = K.faults out.old })
         (record { source = S.faults input.new; folder = F.faults folder.new; sink = K.faults out.new }) result }
 {
     match read_all(work.alloc, input, MAX_INPUT) {
@@ -211,7 +215,8 @@ fn run_source<S: Source, F: Folder, K: Sink, R: Threads + Sync, G: Gate>(
         → RunCosts work.now.language (lines_of (S.left input.old)) (F.files folder.old) (F.files folder.new)
         (F.reads folder.old) (F.reads folder.new) result }
     ensures damage { TellsDamage (IsTrue F.told) (F.files folder.old) (F.files folder.new) result }
-    ensures causes { HasCauses (record { source = S.faults input.old; folder = F.faults folder.old; sink = K.faults out.old })
+    ensures causes { HasCauses
+        (record { source = S.faults input.old; folder = F.faults folder.old; sink = K.faults out.old })
         (record { source = S.faults input.new; folder = F.faults folder.new; sink = K.faults out.new }) result }
 {
     status_of_lines(run_lines(work, input, folder, out))

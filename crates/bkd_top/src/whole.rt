@@ -35,8 +35,8 @@ use std::thread::Threads;
 /// How many pages are kept where no word says it.
 const CACHE_PAGES: u32 = 1024;
 
-/// The command `load`: adds the points of a CSV file, whose columns of these names are the dimensions, and commits. It says how many came
-/// and the number of the next document, or the first refusal, which leaves the folder's files.
+/// The command `load`: adds the points of a CSV file, whose columns of these names are the dimensions, and commits.
+/// It says how many came and the number of the next document, or the first refusal, which leaves the folder's files.
 pub fn run_load<S: Source, F: Folder, K: Sink, R: Threads + Sync, G: Gate>(
     rt: &R,
     alloc: Global,
@@ -52,14 +52,17 @@ pub fn run_load<S: Source, F: Folder, K: Sink, R: Threads + Sync, G: Gate>(
     requires forks { forks ≤ 6 }
     ensures never_usage { result ≡ Status.Usage → ⊥ }
     ensures ends { IsTrue S.told → IsTrue F.told → (state : State) → IsStored (F.files folder.old) state
-        → EndsWhole (IsTrue K.told) (record { state = state; files = F.files folder.old; input = S.left input.old; written = K.written out.old })
+        → EndsWhole (IsTrue K.told)
+        (record { state = state; files = F.files folder.old; input = S.left input.old; written = K.written out.old })
         (loaded state (S.left input.old) columns.now) (F.files folder.new) (K.written out.new) result }
     ensures input { IsTrue S.told → ReadsInput (S.left input.old) (S.left input.new) result }
     ensures untouched { DoesNothing result → (folder.new ≡ folder.old) × (out.new ≡ out.old) }
-    ensures canon { IsTrue F.told → (state : State) → IsStored (F.files folder.old) state → IsAnswer result → HasNewCanonical (F.files folder.old) (F.files folder.new) }
+    ensures canon { IsTrue F.told → (state : State) → IsStored (F.files folder.old) state → IsAnswer result
+        → HasNewCanonical (F.files folder.old) (F.files folder.new) }
     ensures whole { IsTrue F.told → WholeLeaves (F.files folder.old) (F.files folder.new) result }
     ensures damage { TellsDamage (IsTrue F.told) (F.files folder.old) (F.files folder.new) result }
-    ensures causes { HasCauses (record { source = S.faults input.old; folder = F.faults folder.old; sink = K.faults out.old })
+    ensures causes { HasCauses
+        (record { source = S.faults input.old; folder = F.faults folder.old; sink = K.faults out.old })
         (record { source = S.faults input.new; folder = F.faults folder.new; sink = K.faults out.new }) result }
 {
     match read_all(alloc, input, MAX_INPUT) {
@@ -95,9 +98,11 @@ fn load_file<F: Folder, K: Sink, R: Threads + Sync, G: Gate>(
     requires forks { forks ≤ 6 }
     ensures done { DoesNothing result → ⊥ }
     ensures ends { IsTrue F.told → (state : State) → IsStored (F.files folder.old) state
-        → EndsWhole (IsTrue K.told) (record { state = state; files = F.files folder.old; input = file.now; written = K.written out.old })
+        → EndsWhole (IsTrue K.told)
+        (record { state = state; files = F.files folder.old; input = file.now; written = K.written out.old })
         (loaded state file.now columns.now) (F.files folder.new) (K.written out.new) result }
-    ensures canon { IsTrue F.told → (state : State) → IsStored (F.files folder.old) state → IsAnswer result → HasNewCanonical (F.files folder.old) (F.files folder.new) }
+    ensures canon { IsTrue F.told → (state : State) → IsStored (F.files folder.old) state → IsAnswer result
+        → HasNewCanonical (F.files folder.old) (F.files folder.new) }
     ensures whole { IsTrue F.told → WholeLeaves (F.files folder.old) (F.files folder.new) result }
     ensures damage { TellsDamage (IsTrue F.told) (F.files folder.old) (F.files folder.new) result }
     ensures folder_fault { result ≡ Status.FolderFault → Rose (F.faults folder.old) (F.faults folder.new) }
@@ -117,8 +122,8 @@ fn load_file<F: Folder, K: Sink, R: Threads + Sync, G: Gate>(
     tell(out, done, text.as_slice())
 }
 
-/// The command `generate`: makes an index of so many drawn documents, deletes every tenth, and says what drawn queries find. The input is
-/// not read.
+/// The command `generate`: makes an index of so many drawn documents, deletes every tenth, and says what drawn
+/// queries find. The input is not read.
 pub fn run_generate<F: Folder, K: Sink, R: Threads + Sync, G: Gate>(
     rt: &R,
     alloc: Global,
@@ -133,9 +138,11 @@ pub fn run_generate<F: Folder, K: Sink, R: Threads + Sync, G: Gate>(
     requires forks { forks ≤ 6 }
     ensures done { DoesNothing result → ⊥ }
     ensures ends { IsTrue F.told → (state : State) → IsStored (F.files folder.old) state → (input : List ℕ)
-        → EndsWhole (IsTrue K.told) (record { state = state; files = F.files folder.old; input = input; written = K.written out.old })
+        → EndsWhole (IsTrue K.told)
+        (record { state = state; files = F.files folder.old; input = input; written = K.written out.old })
         (generated state docs seed) (F.files folder.new) (K.written out.new) result }
-    ensures canon { IsTrue F.told → (state : State) → IsStored (F.files folder.old) state → IsAnswer result → HasNewCanonical (F.files folder.old) (F.files folder.new) }
+    ensures canon { IsTrue F.told → (state : State) → IsStored (F.files folder.old) state → IsAnswer result
+        → HasNewCanonical (F.files folder.old) (F.files folder.new) }
     ensures whole { IsTrue F.told → WholeLeaves (F.files folder.old) (F.files folder.new) result }
     ensures damage { TellsDamage (IsTrue F.told) (F.files folder.old) (F.files folder.new) result }
     ensures folder_fault { result ≡ Status.FolderFault → Rose (F.faults folder.old) (F.faults folder.new) }
@@ -158,13 +165,15 @@ pub fn run_generate<F: Folder, K: Sink, R: Threads + Sync, G: Gate>(
 /// Sends the text of a command that is done or refused, and says how it ended.
 fn tell<K: Sink>(out: &mut K, done: Result<bool, PageFault>, text: &[u8]) -> Status
     ensures done { DoesNothing result → ⊥ }
-    ensures ends { (b : Before) → (a : Answer) → (files : Files) → DoesWhole files b.state a [] text.now done → b.written ≡ K.written out.old
+    ensures ends { (b : Before) → (a : Answer) → (files : Files) → DoesWhole files b.state a [] text.now done
+        → b.written ≡ K.written out.old
         → EndsWhole (IsTrue K.told) b a files (K.written out.new) result }
     ensures answer { IsAnswer result → IsOk done }
     ensures undone { (old new : Files) → KeepsUndone old new done → StatusKeeps old new result }
     ensures folder_fault { (old new : ℕ) → HasPageCause old new done → result ≡ Status.FolderFault → Rose old new }
     ensures damaged { NotDamaged done → IsDamaged result → ⊥ }
-    ensures evident { (told : Bool) (files : Files) → OnDamage done (IsEvident (IsTrue told) files) → OnStatusDamage result (IsEvident (IsTrue told) files) }
+    ensures evident { (told : Bool) (files : Files) → OnDamage done (IsEvident (IsTrue told) files)
+        → OnStatusDamage result (IsEvident (IsTrue told) files) }
     ensures sink_fault { result ≡ Status.SinkFault → Rose (K.faults out.old) (K.faults out.new) }
 {
     match done {

@@ -1,5 +1,6 @@
 -- A vint: a number in groups of seven bits, the least group first, each but the last marked by the high bit.
-use Rattle.std.specs.Prelude.{◌≡◌, ◌<◌, ◌≤◌, ℕ, zero, suc, ◌+◌, ◌/◌, ◌%◌, ◌^◌, List, [], ◌∷◌, ◌++◌, length, All, if◌then◌else◌, nat_lt}
+use Rattle.std.specs.Prelude.{◌≡◌, ◌<◌, ◌≤◌, ℕ, zero, suc, ◌+◌, ◌/◌, ◌%◌, ◌^◌, List, [], ◌∷◌, ◌++◌, length, All}
+use Rattle.std.specs.Prelude.{if◌then◌else◌, nat_lt}
 
 -- The bytes are the canonical vint of the number (this project's form of LEB128): a byte below 128 is
 -- the last one and stands for itself; a byte from 128 on holds the low seven bits, and the bytes after it

@@ -1,6 +1,7 @@
 //! A cursor over borrowed bytes.
 
-ghost use Rattle.std.specs.Prelude.{◌≡◌, ◌≢◌, ◌<◌, ◌++◌, ◌∷◌, ◌^◌, ◌↔◌, ℕ, List, length, IfOk, OnErr, IsErr, IsErrOf, Ok};
+ghost use Rattle.std.specs.Prelude.{◌≡◌, ◌≢◌, ◌<◌, ◌++◌, ◌∷◌, ◌^◌, ◌↔◌, ℕ, List, length, IfOk, OnErr, IsErr, IsErrOf};
+ghost use Rattle.std.specs.Prelude.{Ok};
 ghost use Rattle.std.specs.Bool.{OnTrue, OnFalse};
 ghost use Rattle.std.specs.Int.{w16, w32, w64, to_be_bytes};
 ghost use Rattle.byte_cursor.specs.Cursor.{cursor_rest};
@@ -91,7 +92,8 @@ impl<'a> Cursor<'a> {
 
     /// Takes `n` bytes as they stand.
     pub fn take_slice(&mut self, n: usize) -> Result<&'a [u8], Short>
-        ensures ok { IfOk result (λ front. (length front.now ≡ n) × (cursor_rest self.old ≡ front.now ++ cursor_rest self.new)) }
+        ensures ok { IfOk result
+            (λ front. (length front.now ≡ n) × (cursor_rest self.old ≡ front.now ++ cursor_rest self.new)) }
         ensures short { IsErr result ↔ (length (cursor_rest self.old) < n) }
         ensures err { OnErr result (cursor_rest self.new ≡ cursor_rest self.old) }
     {

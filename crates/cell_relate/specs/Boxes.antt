@@ -9,7 +9,8 @@ pub record Asked : Type 0 where
   pub tests : ℕ
   pub compares : ℕ
 
--- the box and the cell have a common point: in each dimension neither begins after the other ends, and the box has a point
+-- the box and the cell have a common point: in each dimension neither begins after the other ends, and the box has a
+-- point
 abbrev pub meets : Region → Region → Bool
 meets box cell = all_le box.lo cell.hi && all_le cell.lo box.hi && all_le box.lo box.hi
 

@@ -1,5 +1,5 @@
--- How a cell lies to a shape (Apache Lucene's points: PointValues.Relation). A shape is the test of which points it has,
--- beside the test of which cells it crosses.
+-- How a cell lies to a shape (Apache Lucene's points: PointValues.Relation). A shape is the test of which points it
+-- has, beside the test of which cells it crosses.
 use Rattle.std.specs.Prelude.{◌≡◌, Bool, true, false, not, ◌&&◌, List, ℤ}
 use Rattle.point_codec.specs.Points.{Region, in_box}
 use Rattle.cell_relate.specs.declared.shape.Relation.{Relation}
@@ -21,7 +21,7 @@ RelatesTo has crosses cell Inside = IsUncrossed has crosses cell true
 RelatesTo has crosses cell Outside = IsUncrossed has crosses cell false
 RelatesTo has crosses cell Crosses = crosses cell ≡ true
 
--- the cell is not crossed and has no point of the shape: as it has all its points in the shape or none, the least corner
--- tells which
+-- the cell is not crossed and has no point of the shape: as it has all its points in the shape or none, the least
+-- corner tells which
 abbrev pub is_outside : (List ℤ → Bool) → (Region → Bool) → Region → Bool
 is_outside has crosses cell = not (crosses cell) && not (has cell.lo)

@@ -21,8 +21,9 @@ pub enum Relation {
 /// A set of points that can be asked for a point and for a cell, and counts both questions.
 ///
 /// `has` says which points the shape has, `crosses` which cells it crosses: a cell that it doesn't cross has all its
-/// points in the shape or none. `tests` and `compares` are how often `contains` and `compare` were asked; a count stands
-/// still at the greatest number of 64 bits. No call changes which points the shape has or which cells it crosses.
+/// points in the shape or none. `tests` and `compares` are how often `contains` and `compare` were asked; a count
+/// stands still at the greatest number of 64 bits. No call changes which points the shape has or which cells it
+/// crosses.
 pub trait Shape<const D: usize> {
     ghost has: { Self → List ℤ → Bool };
 

@@ -220,8 +220,8 @@ impl Gate for Counting {
     }
 }
 
-/// How many drawn entries, two in a leaf, how many levels are forked, and how many inner nodes stand on these levels: of each
-/// the left half passes once, and the right one once.
+/// How many drawn entries, two in a leaf, how many levels are forked, and how many inner nodes stand on these levels:
+/// of each the left half passes once, and the right one once.
 const FORKED: [(u32, u8, u64); 10] = [
     // one leaf, and two
     (2, 3, 0),

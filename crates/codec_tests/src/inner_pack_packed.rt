@@ -15,8 +15,8 @@ const ONE: [u8; 34] = [
     0, 0, 0x80, 0, 0, 0, 0x80, 0, 0, 0,
 ];
 
-/// Four leaves of one dimension, of 4064, 1, 4063 and 2 bytes, all at 0: the second begins a page, which the third fills, and
-/// the fourth begins another one. Three splits at 0.
+/// Four leaves of one dimension, of 4064, 1, 4063 and 2 bytes, all at 0: the second begins a page, which the third
+/// fills, and the fourth begins another one. Three splits at 0.
 const PAGES: [u8; 58] = [
     0x80, 0, 0, 0, 0x80, 0, 0, 0, 4, 1, 1, 23, 4, 1, 0, 10, 0xe0, 0x1f, 0x80, 0, 0, 0, 0x80, 0, 0,
     0, 1, 0x80, 0, 0, 0, 0x80, 0, 0, 0, 4, 1, 0, 10, 0xdf, 0x1f, 0x80, 0, 0, 0, 0x80, 0, 0, 0, 2,

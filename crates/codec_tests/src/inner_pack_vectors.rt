@@ -7,9 +7,9 @@ use inner_pack::{Index, LeafPlace, NodeAt};
 use std::process::Abort;
 use std::test::Fail;
 
-/// The form, the number of leaves and bytes that are no index of them: the first leaf's cell outside its path cell; a shared
-/// prefix that is not the greatest; another length of a left child; a byte behind the last field; another offset; a split outside
-/// the cell; another place in the table; another number of leaves.
+/// The form, the number of leaves and bytes that are no index of them: the first leaf's cell outside its path cell; a
+/// shared prefix that is not the greatest; another length of a left child; a byte behind the last field; another
+/// offset; a split outside the cell; another place in the table; another number of leaves.
 const REFUSED: [(u8, u32, &[u8]); 9] = [
     (
         3,

@@ -167,8 +167,8 @@ fn pieces_are_read(rt: HostRuntime) -> Result<(), Fail> {
     Ok(())
 }
 
-/// How many of the byte strings that differ from the leaf in one byte are a leaf of as many entries. No other answer than
-/// that or none is given.
+/// How many of the byte strings that differ from the leaf in one byte are a leaf of as many entries. No other answer
+/// than that or none is given.
 fn leaves_one_byte_off<const D: usize>(
     rt: HostRuntime,
     leaf: &[u8],

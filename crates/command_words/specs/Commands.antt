@@ -1,5 +1,7 @@
--- What the words of the command line ask for: a folder, the name of a command, and the command's options, which `clap` reads.
-use Rattle.std.specs.Prelude.{ℕ, ◌≤◌, ◌==◌, ◌&&◌, Bool, true, not, nat_le, if◌then◌else◌, List, [], ◌∷◌, length, fold, find, Option, Some, None, unwrap_or, option_and_then, option_map, codes, pos, All}
+-- What the words of the command line ask for: a folder, the name of a command, and the command's options, which `clap`
+-- reads.
+use Rattle.std.specs.Prelude.{ℕ, ◌≤◌, ◌==◌, ◌&&◌, Bool, true, not, nat_le, if◌then◌else◌, List, [], ◌∷◌, length, fold}
+use Rattle.std.specs.Prelude.{find, Option, Some, None, unwrap_or, option_and_then, option_map, codes, pos, All}
 use Rattle.std.specs.List.{list_all, slice_split}
 use Rattle.std.specs.Str.{bytes_eq}
 use Rattle.std.specs.Str.Parse.{digits_value, without_leading_sign}
@@ -27,7 +29,8 @@ text_option name = record (new_rule name) { long = Some name }
 
 -- `--name N`, where N is a number in the range
 abbrev pub number_option : List ℕ → ℕ → ℕ → Rule
-number_option name least greatest = record (text_option name) { parser = Some (parser.Signed (pos least) (pos greatest)) }
+number_option name least greatest =
+    record (text_option name) { parser = Some (parser.Signed (pos least) (pos greatest)) }
 
 -- an option that may not be left out
 abbrev pub required : Rule → Rule
@@ -117,7 +120,8 @@ abbrev pub generate : Form
 generate = record {
   name = codes "generate";
   options = docs ∷ seed ∷ forks ∷ [];
-  asks = λ found. option_and_then (λ n. option_map (λ s. Generate n s (forks_by found)) (number_by seed found)) (number_by docs found);
+  asks = λ found. option_and_then (λ n. option_map (λ s. Generate n s (forks_by found)) (number_by seed found))
+      (number_by docs found);
 }
 
 abbrev pub session : Form
@@ -192,7 +196,8 @@ IsWithin (words.Run cache_pages forks) = (1 ≤ cache_pages) × (cache_pages ≤
 IsWithin (words.Load columns forks) = AreColumns columns.items × (forks ≤ 6)
 IsWithin (words.Explain cache_pages) = (1 ≤ cache_pages) × (cache_pages ≤ 65536)
 IsWithin words.Check = Unit {0}
-IsWithin (words.Generate docs seed forks) = (1 ≤ docs) × (docs ≤ 1000000) × (1 ≤ seed) × (seed ≤ 2147483646) × (forks ≤ 6)
+IsWithin (words.Generate docs seed forks) = (1 ≤ docs) × (docs ≤ 1000000) × (1 ≤ seed) × (seed ≤ 2147483646)
+    × (forks ≤ 6)
 IsWithin (words.Session cache_pages forks) = (1 ≤ cache_pages) × (cache_pages ≤ 65536) × (forks ≤ 6)
 IsWithin (words.Count cache_pages) = (1 ≤ cache_pages) × (cache_pages ≤ 65536)
 IsWithin (words.Ranges cache_pages forks) = (1 ≤ cache_pages) × (cache_pages ≤ 65536) × (forks ≤ 6)

@@ -32,4 +32,6 @@ are_distinct (x ∷ xs) = not (list_any (bytes_eq x) xs) && are_distinct xs
 
 -- the command is one of which `clap` tells all, and each of its options is known by a name of its own
 abbrev pub is_plain : App → Bool
-is_plain command = is_simple_and_free command && are_distinct (codes "" ∷ codes "help" ∷ codes "version" ∷ map (λ option. option.id) command.top.rules)
+is_plain command =
+    is_simple_and_free command && are_distinct
+    (codes "" ∷ codes "help" ∷ codes "version" ∷ map (λ option. option.id) command.top.rules)

@@ -1,4 +1,5 @@
-//! The words of the command line: which command they name, and what its options say. They are read by a simple command of
+//! The words of the command line: which command they name, and what its options say. They are read by a simple command
+//! of
 //! `clap`, and what it refuses for another cause than memory is wrong use, `--help` and `--version` among it.
 #![tactic(auto)]
 
@@ -65,7 +66,8 @@ impl<T: Drop> From<AllocFailed<T>> for WordsFault {
     }
 }
 
-/// What the words after the program's own name ask for: `FOLDER COMMAND [options]`. Usage exactly where they ask for nothing.
+/// What the words after the program's own name ask for: `FOLDER COMMAND [options]`. Usage exactly where they ask for
+/// nothing.
 ///
 /// | Words | Left out |
 /// |---|---|

@@ -3,7 +3,8 @@
 ghost use Rattle.std.specs.Prelude.{◌≡◌, ◌≢◌, ◌≤◌, ◌==◌, false, Some, None, IfOk, IfSome, Err, option_map, map};
 ghost use Rattle.std.specs.List.{slice_split};
 ghost use Rattle.clap.specs.Words.{first_of, found_of, rows_of, rule_of};
-ghost use Rattle.command_words.specs.Commands.{AreColumns, text_option, number_option, number_of, are_names, columns_by, names_of};
+ghost use Rattle.command_words.specs.Commands.{AreColumns, text_option, number_option, number_of, are_names};
+ghost use Rattle.command_words.specs.Commands.{columns_by, names_of};
 ghost use Rattle.command_words.specs.Found.{IsFound};
 
 use crate::WordsFault;

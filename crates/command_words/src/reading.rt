@@ -2,7 +2,8 @@
 
 ghost use Rattle.std.specs.Prelude.{◌≡◌, ◌≢◌, Some, None, true, IfOk, Err, map, string_bytes};
 ghost use Rattle.clap.specs.Words.{app_of, found_of, kind_of, rows_of};
-ghost use Rattle.command_words.specs.Commands.{IsWithin, asked_by, command_of, said, found_by, run, load, explain, check, generate, session, count, ranges};
+ghost use Rattle.command_words.specs.Commands.{IsWithin, asked_by, command_of, said, found_by, run, load, explain};
+ghost use Rattle.command_words.specs.Commands.{check, generate, session, count, ranges};
 ghost use Rattle.command_words.specs.Found.{AreFound, is_plain};
 
 use crate::options::{CACHE, COLUMNS, DOCS, FORKS, SEED, columns_by, text_option};
@@ -179,9 +180,11 @@ fn ranges_command<'a>(alloc: Global) -> Result<Command<'a>, AllocError>
 /// What the command finds in the words.
 fn parse<'a>(command: Command<'a>, words: &'a [String]) -> Result<ArgMatches<'a>, WordsFault>
     requires plain { is_plain (app_of command) ≡ true }
-    ensures rows { IfOk result (λ m. found_by (app_of command.entry) (map string_bytes words.entry.now) ≡ Some (rows_of (found_of m))) }
+    ensures rows { IfOk result
+        (λ m. found_by (app_of command.entry) (map string_bytes words.entry.now) ≡ Some (rows_of (found_of m))) }
     ensures found { IfOk result (λ m. AreFound (found_of m) (app_of command.entry).top.rules) }
-    ensures usage { result ≡ Err WordsFault.Usage → found_by (app_of command.entry) (map string_bytes words.entry.now) ≡ None }
+    ensures usage { result ≡ Err WordsFault.Usage
+        → found_by (app_of command.entry) (map string_bytes words.entry.now) ≡ None }
 {
     match command.try_get_matches_from(words) {
         Ok(matches) => Ok(matches),

@@ -3,7 +3,8 @@ use Rattle.std.specs.Prelude.{◌≡◌, ℕ, List, ◌++◌}
 use Rattle.outer_io.specs.declared.file_name.FileName.TheVariants.{Commit}
 use Rattle.outer_io.specs.Files.{Files}
 use Rattle.page_cache.specs.declared.faults.Damage.{Damage}
-use Rattle.page_cache.specs.declared.faults.Damage.TheVariants.{Page, Leaf, Body, Missing, Size, Unequal, Beyond, Doubled}
+use Rattle.page_cache.specs.declared.faults.Damage.TheVariants.{Page, Leaf, Body, Missing, Size, Unequal, Beyond}
+use Rattle.page_cache.specs.declared.faults.Damage.TheVariants.{Doubled}
 use Rattle.page_cache.specs.Bodies.{filled, pages_for, IsBodyFile}
 use Rattle.page_cache.specs.Evidence.{IsFileDamage, IsFileDamageOf, IsSizeOf, ArePayloadsOf}
 use Rattle.commit_list.specs.Commits.{CommitData}
@@ -32,7 +33,8 @@ HasNoFilled payloads = (c : CommitData) → SpellsFilled payloads c → ⊥
 
 -- no body of a commit begins with these payloads
 abbrev pub IsNoCommitBody : List ℕ → Type 0
-IsNoCommitBody payloads = (c : CommitData) (body rest : List ℕ) → SpellsCommit body c → payloads ++ rest ≡ filled body → ⊥
+IsNoCommitBody payloads = (c : CommitData) (body rest : List ℕ) → SpellsCommit body c → payloads ++ rest ≡ filled body
+    → ⊥
 
 -- the first page of a Commit file asks for the pages of the body that it begins
 pub record AsksCommit (payload : List ℕ) (pages : ℕ) : Type 0 where

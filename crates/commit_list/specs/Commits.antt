@@ -16,8 +16,9 @@ pub record CommitData : Type 0 where
 abbrev pub ids_of : List Listed → List ℕ
 ids_of listed = map (λ s. s.segment) listed
 
--- the ranges of the single numbers: a leaf of points of so many dimensions has at most 4,000 bytes, of which each entry takes
--- 4 for its number and 4 for each coordinate; there are at most 16,777,216 points, and each document has one; at most 200 segments
+-- the ranges of the single numbers: a leaf of points of so many dimensions has at most 4,000 bytes, of which each
+-- entry takes 4 for its number and 4 for each coordinate; there are at most 16,777,216 points, and each document has
+-- one; at most 200 segments
 pub record AreInRange (dims leaf next given count : ℕ) : Type 0 where
   pub some_dims : 1 ≤ dims
   pub most_dims : dims ≤ 8

@@ -21,7 +21,9 @@ spell_given Second given = to_be_bytes w32 given
 -- the numbers in front of the list
 unfoldable pub spell_numbers : Head → List ℕ
 spell_numbers h =
-    h.dims ∷ (to_be_bytes w16 h.leaf ++ (to_be_bytes w32 h.next ++ (spell_given h.layout h.given ++ (to_be_bytes w64 h.next_segment ++ to_be_bytes w16 h.count))))
+    h.dims ∷ (to_be_bytes w16 h.leaf ++
+    (to_be_bytes w32 h.next ++
+    (spell_given h.layout h.given ++ (to_be_bytes w64 h.next_segment ++ to_be_bytes w16 h.count))))
 
 -- all that stands in front of the list
 unfoldable pub spell_head : Head → List ℕ
@@ -29,19 +31,29 @@ spell_head h = magic h.layout ++ spell_numbers h
 
 -- a listed segment
 unfoldable pub spell_listed : Listed → List ℕ
-spell_listed s = to_be_bytes w64 s.segment ++ (to_be_bytes w64 s.generation ++ (to_be_bytes w32 s.entries ++ to_be_bytes w32 s.live))
+spell_listed s =
+    to_be_bytes w64 s.segment ++ (to_be_bytes w64 s.generation ++ (to_be_bytes w32 s.entries ++ to_be_bytes w32 s.live))
 
 -- the head of a commit's body
 abbrev pub head_of : Layout → CommitData → Head
 head_of layout c =
-    record { layout = layout; dims = c.dims; leaf = c.leaf; next = c.next; given = c.given; next_segment = c.next_segment; count = length c.listed }
+    record {
+      layout = layout;
+      dims = c.dims;
+      leaf = c.leaf;
+      next = c.next;
+      given = c.given;
+      next_segment
+          = c.next_segment;
+      count = length c.listed;
+    }
 
 -- the body in the layout that is written
 unfoldable pub commit_body : CommitData → List ℕ
 commit_body c = spell_head (head_of Second c) ++ flat_map spell_listed c.listed
 
--- the body in the layout of before, when each document had one point: it can say only commits with as many points given as
--- documents numbered
+-- the body in the layout of before, when each document had one point: it can say only commits with as many points
+-- given as documents numbered
 unfoldable pub old_commit_body : CommitData → List ℕ
 old_commit_body c = spell_head (head_of First c) ++ flat_map spell_listed c.listed
 

@@ -43,8 +43,18 @@ impl Commit {
         next_segment: u64,
         listed: Vec<Listed>,
     ) -> Commit
-        requires { IsCommit (record { dims = dims; leaf = leaf; next = next; given = given; next_segment = next_segment; listed = listed.items }) }
-        ensures { result ≡ record { dims = dims; leaf = leaf; next = next; given = given; next_segment = next_segment; listed = listed.items } }
+        requires { IsCommit
+            (record {
+              dims = dims;
+              leaf = leaf;
+              next = next;
+              given = given;
+              next_segment = next_segment;
+              listed
+                  = listed.items;
+            }) }
+        ensures { result ≡ record
+            { dims = dims; leaf = leaf; next = next; given = given; next_segment = next_segment; listed = listed.items } }
     {
         Commit {
             dims,

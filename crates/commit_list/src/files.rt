@@ -1,11 +1,13 @@
 //! The file of the commit, read and written.
 
-ghost use Rattle.std.specs.Prelude.{◌≡◌, ◌≤◌, ◌+◌, ◌*◌, ◌/◌, ◌++◌, ◌⊎◌, ℕ, List, None, Some, length, vec_len, IsTrue, IfOk, OnSome, OnOk, OnErr, IsErrOf, MatchOption, replicate, ◌↔◌};
+ghost use Rattle.std.specs.Prelude.{◌≡◌, ◌≤◌, ◌+◌, ◌*◌, ◌/◌, ◌++◌, ◌⊎◌, ℕ, List, None, Some, length, vec_len, IsTrue};
+ghost use Rattle.std.specs.Prelude.{IfOk, OnSome, OnOk, OnErr, IsErrOf, MatchOption, replicate, ◌↔◌};
 ghost use Rattle.outer_io.specs.Files.{Files, bytes_of, SameButTwo};
 ghost use Rattle.outer_io.specs.declared.file_name.FileName.TheVariants.{Commit as CommitName, CommitNew};
 ghost use Rattle.page_cache.specs.Causes.{HasPageCause, HasSegCause, IsSteady};
 ghost use Rattle.page_cache.specs.Bodies.{pages_for as pages_for_body};
-ghost use Rattle.page_cache.specs.Evidence.{OnDamage, NotDamaged, SizeWithin, IsFileDamage, IsFileDamageOf, ArePayloadsOf};
+ghost use Rattle.page_cache.specs.Evidence.{OnDamage, NotDamaged, SizeWithin, IsFileDamage, IsFileDamageOf};
+ghost use Rattle.page_cache.specs.Evidence.{ArePayloadsOf};
 ghost use Rattle.page_cache.specs.FilePages.{ArePages, payloads_of};
 ghost use Rattle.page_cache.specs.declared.faults.Damage.TheVariants.{Body};
 ghost use Rattle.page_cache.specs.FirstPages.{first_name, first_payload, IsFirstPage};
@@ -13,7 +15,8 @@ ghost use Rattle.page_cache.specs.declared.faults.PageFault.TheVariants as page;
 ghost use Rattle.page_cache.specs.declared.faults.SegFault.TheVariants as seg;
 ghost use Rattle.commit_list.specs.Commits.{CommitData};
 ghost use Rattle.commit_list.specs.Layout.{BeginsBody};
-ghost use Rattle.commit_list.specs.CommitFiles.{IsCommitFile, IsWrittenCommit, SpellsFilled, HasNoFilled, IsCommitDamage, IsCommitDamageOf};
+ghost use Rattle.commit_list.specs.CommitFiles.{IsCommitFile, IsWrittenCommit, SpellsFilled, HasNoFilled};
+ghost use Rattle.commit_list.specs.CommitFiles.{IsCommitDamage, IsCommitDamageOf};
 
 use crate::commits::Commit;
 use crate::reading::{body_length, decode};
@@ -47,7 +50,8 @@ pub fn read_commit<F: Folder>(alloc: Global, folder: &mut F) -> Result<Option<Co
     ensures shown { OnDamage result IsCommitDamage }
     ensures damage { IsTrue F.told → OnDamage result (IsCommitDamageOf (F.files folder.old)) }
     ensures absent { IsTrue F.told → F.files folder.old CommitName ≡ None → NotDamaged result }
-    ensures whole { IsTrue F.told → (c : CommitData) → IsCommitFile (bytes_of (F.files folder.old CommitName)) c → NotDamaged result }
+    ensures whole { IsTrue F.told → (c : CommitData) → IsCommitFile (bytes_of (F.files folder.old CommitName)) c
+        → NotDamaged result }
 {
     let Some(first) = FirstPage::find(alloc, folder, &FileName::Commit)? else {
         return Ok(None);
@@ -63,18 +67,21 @@ fn read_from<F: Folder>(
     first: &FirstPage,
 ) -> Result<Commit, PageFault>
     requires { first_name first.now ≡ CommitName }
-    ensures found { IsTrue F.told → IsFirstPage (F.files folder.old) first.now → IfOk result (IsCommitFile (bytes_of (F.files folder.old CommitName))) }
+    ensures found { IsTrue F.told → IsFirstPage (F.files folder.old) first.now
+        → IfOk result (IsCommitFile (bytes_of (F.files folder.old CommitName))) }
     ensures files { IsTrue F.told → F.files folder.new ≡ F.files folder.old }
     ensures reads { F.reads folder.new ≤ F.reads folder.old + 1 }
     ensures pages { IsTrue F.told → IsFirstPage (F.files folder.old) first.now
-        → OnOk result (F.reads folder.new + 1 ≤ F.reads folder.old + length (bytes_of (F.files folder.old CommitName)) / 4096) }
+        → OnOk result
+        (F.reads folder.new + 1 ≤ F.reads folder.old + length (bytes_of (F.files folder.old CommitName)) / 4096) }
     ensures most { IsTrue F.told → IsFirstPage (F.files folder.old) first.now
         → (c : CommitData) → IsCommitFile (bytes_of (F.files folder.old CommitName)) c
         → F.reads folder.new + 1 ≤ F.reads folder.old + length (bytes_of (F.files folder.old CommitName)) / 4096 }
     ensures cause { HasPageCause (F.faults folder.old) (F.faults folder.new) result }
     ensures steady { IsSteady (F.faults folder.old) (F.faults folder.new) result }
     ensures shown { OnDamage result IsCommitDamage }
-    ensures damage { IsTrue F.told → IsFirstPage (F.files folder.old) first.now → OnDamage result (IsCommitDamageOf (F.files folder.old)) }
+    ensures damage { IsTrue F.told → IsFirstPage (F.files folder.old) first.now
+        → OnDamage result (IsCommitDamageOf (F.files folder.old)) }
     ensures whole { IsTrue F.told → IsFirstPage (F.files folder.old) first.now
         → (c : CommitData) → IsCommitFile (bytes_of (F.files folder.old CommitName)) c → NotDamaged result }
 {
@@ -100,12 +107,15 @@ fn all_payloads<F: Folder>(
     ensures steady { IsSteady (F.faults folder.old) (F.faults folder.new) result }
     ensures len { IfOk result (λ v. vec_len v ≡ 4064 * pages) }
     ensures front { IfOk result (λ v. (rest : List ℕ) × (v.items ≡ first_payload first.now ++ rest)) }
-    ensures payloads { IsTrue F.told → IsFirstPage (F.files folder.old) first.now → IfOk result (λ v. v.items ≡ payloads_of (bytes_of (F.files folder.old CommitName)) 0 pages) }
-    ensures pages { IsTrue F.told → IsFirstPage (F.files folder.old) first.now → OnOk result (ArePages CommitName (bytes_of (F.files folder.old CommitName)) 0 pages) }
+    ensures payloads { IsTrue F.told → IsFirstPage (F.files folder.old) first.now
+        → IfOk result (λ v. v.items ≡ payloads_of (bytes_of (F.files folder.old CommitName)) 0 pages) }
+    ensures pages { IsTrue F.told → IsFirstPage (F.files folder.old) first.now
+        → OnOk result (ArePages CommitName (bytes_of (F.files folder.old CommitName)) 0 pages) }
     ensures shown { OnDamage result (IsFileDamage CommitName) }
     ensures within { OnDamage result (SizeWithin (4096 * pages)) }
     ensures damage { IsTrue F.told → OnDamage result (IsFileDamageOf (F.files folder.old)) }
-    ensures whole { IsTrue F.told → ArePages CommitName (bytes_of (F.files folder.old CommitName)) 1 pages → NotDamaged result }
+    ensures whole { IsTrue F.told → ArePages CommitName (bytes_of (F.files folder.old CommitName)) 1 pages
+        → NotDamaged result }
 {
     let rest = read_payloads(alloc, folder, &FileName::Commit, pages - 1)?;
     let mut all = Vec::with_capacity(alloc, PAYLOAD_LEN * pages as usize)?;
@@ -139,7 +149,8 @@ fn commit_of(alloc: Global, payloads: Vec<u8>, len: u32) -> Result<Commit, PageF
     ensures found { IfOk result (SpellsFilled payloads.items) }
     ensures failed { IsErrOf result page.Failed → ⊥ }
     ensures shown { OnDamage result IsCommitDamage }
-    ensures damage { (files : Files) → ArePayloadsOf files CommitName payloads.items → OnDamage result (IsCommitDamageOf files) }
+    ensures damage { (files : Files) → ArePayloadsOf files CommitName payloads.items
+        → OnDamage result (IsCommitDamageOf files) }
     ensures whole { (c : CommitData) → SpellsFilled payloads.items c → NotDamaged result }
 {
     match decode_filled(alloc, payloads.as_slice(), len)? {
@@ -158,8 +169,8 @@ fn no_commit(payloads: Vec<u8>) -> PageFault
     })
 }
 
-/// The commit whose body, filled up with zeros, the payloads are, which begin a body of this length. None exactly where they
-/// are that of none.
+/// The commit whose body, filled up with zeros, the payloads are, which begin a body of this length. None exactly
+/// where they are that of none.
 fn decode_filled(alloc: Global, payloads: &[u8], len: u32) -> Result<Option<Commit>, Memory>
     requires begins { BeginsBody payloads.now len }
     requires long { length payloads.now ≡ 4064 * pages_for_body len }
@@ -187,7 +198,8 @@ pub fn write_commit<F: Folder>(alloc: Global, folder: &mut F, c: &Commit) -> Res
     ensures gone { IsTrue F.told → OnOk result (F.files folder.new CommitNew ≡ None) }
     ensures kept { IsTrue F.told → OnErr result ((F.files folder.new CommitName ≡ F.files folder.old CommitName)
         ⊎ IsWrittenCommit (bytes_of (F.files folder.new CommitName)) c.now) }
-    ensures memory { IsTrue F.told → IsErrOf result seg.Memory → F.files folder.new CommitName ≡ F.files folder.old CommitName }
+    ensures memory { IsTrue F.told → IsErrOf result seg.Memory
+        → F.files folder.new CommitName ≡ F.files folder.old CommitName }
     ensures others { IsTrue F.told → SameButTwo CommitNew CommitName (F.files folder.old) (F.files folder.new) }
     ensures reads { F.reads folder.new ≡ F.reads folder.old }
     ensures cause { HasSegCause (F.faults folder.old) (F.faults folder.new) result }
@@ -203,7 +215,8 @@ fn replace<F: Folder>(folder: &mut F, bytes: &[u8]) -> Result<(), SegFault>
     ensures gone { IsTrue F.told → OnOk result (F.files folder.new CommitNew ≡ None) }
     ensures kept { IsTrue F.told → OnErr result ((F.files folder.new CommitName ≡ F.files folder.old CommitName)
         ⊎ (F.files folder.new CommitName ≡ Some bytes.now)) }
-    ensures memory { IsTrue F.told → IsErrOf result seg.Memory → F.files folder.new CommitName ≡ F.files folder.old CommitName }
+    ensures memory { IsTrue F.told → IsErrOf result seg.Memory
+        → F.files folder.new CommitName ≡ F.files folder.old CommitName }
     ensures others { IsTrue F.told → SameButTwo CommitNew CommitName (F.files folder.old) (F.files folder.new) }
     ensures reads { F.reads folder.new ≡ F.reads folder.old }
     ensures cause { HasSegCause (F.faults folder.old) (F.faults folder.new) result }

@@ -3,7 +3,8 @@
 ghost use Rattle.std.specs.Prelude.{◌≡◌, ◌≢◌, ◌≤◌, ◌<◌, ◌+◌, ◌*◌, ◌++◌, ◌↔◌, ℕ, List, length, IsTrue, IfSome, IfNone};
 ghost use Rattle.byte_cursor.specs.Cursor.{cursor_rest};
 ghost use Rattle.commit_list.specs.Commits.{AreInRange};
-ghost use Rattle.commit_list.specs.Layout.{magic, spell_given, spell_numbers, spell_head, given_length, head_length, SaysGiven, FitsHead};
+ghost use Rattle.commit_list.specs.Layout.{magic, spell_given, spell_numbers, spell_head, given_length, head_length};
+ghost use Rattle.commit_list.specs.Layout.{SaysGiven, FitsHead};
 ghost use Rattle.commit_list.specs.declared.head.Head.{Head};
 ghost use Rattle.commit_list.specs.declared.head.Layout.{Layout};
 
@@ -147,7 +148,8 @@ fn take_numbers(cursor: &mut Cursor<'_>, layout: Layout) -> Option<Head>
 fn take_given(cursor: &mut Cursor<'_>, layout: Layout, next: u32) -> Option<u32>
     ensures taken { IfSome result (λ g. cursor_rest cursor.old ≡ spell_given layout g ++ cursor_rest cursor.new) }
     ensures says { IfSome result (SaysGiven layout next) }
-    ensures long { IfSome result (λ _. length (cursor_rest cursor.old) ≡ given_length layout + length (cursor_rest cursor.new)) }
+    ensures long { IfSome result
+        (λ _. length (cursor_rest cursor.old) ≡ given_length layout + length (cursor_rest cursor.new)) }
     ensures short { IfNone result (length (cursor_rest cursor.old) < given_length layout) }
 {
     match layout {

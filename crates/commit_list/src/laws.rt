@@ -18,6 +18,8 @@ pub fn files_say_one_commit()
     ensures one { (bytes : List ℕ) (c d : CommitData) → IsCommitFile bytes c → IsCommitFile bytes d → c ≡ d }
     ensures written { (bytes : List ℕ) (c : CommitData) → IsWrittenCommit bytes c → IsCommitFile bytes c }
     // a file that isn't there, or is empty, says none
-    ensures there { (file : Option (List ℕ)) (c : CommitData) → IsCommitFile (bytes_of file) c → (file ≡ Some (bytes_of file)) × (4096 ≤ length (bytes_of file)) }
+    ensures there { (file : Option (List ℕ)) (c : CommitData) → IsCommitFile (bytes_of file) c
+        → (file ≡ Some (bytes_of file))
+        × (4096 ≤ length (bytes_of file)) }
     ensures rules { (bytes : List ℕ) (c : CommitData) → IsCommitFile bytes c → IsCommit c }
 {}

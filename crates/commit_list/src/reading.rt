@@ -50,7 +50,8 @@ pub fn decode(alloc: Global, bytes: &[u8]) -> Result<Option<Commit>, Memory>
 
 /// The list of so many segments that the bytes spell. None exactly where the bytes are too few or too many.
 fn read_list(alloc: Global, bytes: &[u8], count: u16) -> Result<Option<Vec<Listed>>, Memory>
-    ensures { IfOk result (λ found. MatchOption found (length bytes.now ≢ 24 * count) (λ v. SpellsList bytes.now count v.items)) }
+    ensures { IfOk result
+        (λ found. MatchOption found (length bytes.now ≢ 24 * count) (λ v. SpellsList bytes.now count v.items)) }
 {
     let mut listed = Vec::with_capacity(alloc, usize::from(count))?;
     let mut cursor = Cursor::new(bytes);

@@ -12,7 +12,8 @@ bytes_left reader = unwrap_or (source_of (λ s. Some s.now) reader) []
 
 -- the records in them
 abbrev pub records_left : Reader (Bor (List ℕ)) → List (List (List ℕ))
-records_left reader = records_from default_config (length (bytes_left reader) + 1) (reader_state reader) (bytes_left reader)
+records_left reader =
+    records_from default_config (length (bytes_left reader) + 1) (reader_state reader) (bytes_left reader)
 
 -- a reader with the defaults, between two records
 pub record IsReading (reader : Reader (Bor (List ℕ))) : Type 0 where

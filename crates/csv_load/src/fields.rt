@@ -1,10 +1,12 @@
 //! Columns in the header, and points in the other records.
 
-ghost use Rattle.std.specs.Prelude.{◌≡◌, ◌<◌, ◌≤◌, ◌^◌, length, position, option_and_then, slice_get, slice_index_or, [], Ok, Err, IfOk, IfErr};
+ghost use Rattle.std.specs.Prelude.{◌≡◌, ◌<◌, ◌≤◌, ◌^◌, length, position, option_and_then, slice_get, slice_index_or};
+ghost use Rattle.std.specs.Prelude.{[], Ok, Err, IfOk, IfErr};
 ghost use Rattle.std.specs.Str.{bytes_eq};
 ghost use Rattle.csv.specs.Records.{fields_of};
 ghost use Rattle.number_text.specs.Number.{coordinate};
-ghost use Rattle.csv_load.specs.Loading.{each_ok, column_of, value_of, point_of, is_blank, up_to_last, from_first, without_blanks};
+ghost use Rattle.csv_load.specs.Loading.{each_ok, column_of, value_of, point_of, is_blank, up_to_last, from_first};
+ghost use Rattle.csv_load.specs.Loading.{without_blanks};
 
 use crate::CsvFault;
 use byte_cursor::Bytes;
@@ -87,7 +89,8 @@ pub fn point_of<const D: usize>(
 
 /// The coordinate in a field of a record, between the spaces and tabs at its ends.
 fn value_of(fields: &ByteRecord, place: usize) -> Option<i32>
-    ensures { result ≡ option_and_then (λ field. coordinate (without_blanks field)) (slice_get (fields_of fields.now) place) }
+    ensures { result ≡ option_and_then (λ field. coordinate (without_blanks field))
+        (slice_get (fields_of fields.now) place) }
 {
     let field = fields.get(place)?;
     coordinate(without_blanks(field))

@@ -50,8 +50,10 @@ pub fn read_points<const D: usize>(
     requires some { 1 ≤ D }
     requires few { D ≤ 8 }
     requires named { length columns.now ≡ D }
-    ensures points { IfOk result (λ points. points_of columns.now (records_of b.now) ≡ Ok (coordinates_of points.items)) }
-    ensures fault { IfErr result (λ fault. fault ≢ CsvFault.Memory → points_of columns.now (records_of b.now) ≡ Err fault) }
+    ensures points { IfOk result
+        (λ points. points_of columns.now (records_of b.now) ≡ Ok (coordinates_of points.items)) }
+    ensures fault { IfErr result
+        (λ fault. fault ≢ CsvFault.Memory → points_of columns.now (records_of b.now) ≡ Err fault) }
 {
     let mut reader = open(alloc, b);
     let mut fields = ByteRecord::new(alloc);

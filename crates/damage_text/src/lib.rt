@@ -12,8 +12,8 @@ use std::fmt::Write;
 /// Want of memory.
 pub type Memory = AllocError;
 
-/// Appends what is said of a damage: the name of the file, or the number of the document, and what is wrong with it. For want of
-/// memory a part of it may be appended.
+/// Appends what is said of a damage: the name of the file, or the number of the document, and what is wrong with it.
+/// For want of memory a part of it may be appended.
 #[tactic(auto, unfolding(crate::specs::Texts::damage_text))]
 pub fn put_damage(text: &mut String, damage: &Damage) -> Result<(), Memory>
     ensures { OnOk result (string_bytes text.new ≡ string_bytes text.old ++ damage_text damage.now) }

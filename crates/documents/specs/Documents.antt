@@ -2,7 +2,8 @@
 use Rattle.std.specs.Prelude.{ℕ, ◌<◌, Bool, not, nat_eq, List, map, filter, AllPairs, ℤ}
 use Rattle.std.specs.List.{list_any}
 
--- a document: its number and its points, 1 to 16 different ones in ascending order (Lucene's document number and point values)
+-- a document: its number and its points, 1 to 16 different ones in ascending order (Lucene's document number and point
+-- values)
 pub record Document : Type 0 where
   pub number : ℕ
   pub points : List (List ℤ)

@@ -17,16 +17,16 @@ entries_of d = map (entry_of d.number) d.points
 abbrev pub entries_in : List Document → List Item
 entries_in docs = flat_map entries_of docs
 
--- The entries are just those of the documents, in any order. The documents ascend by numbers below next, and each has its
--- points. Entries are those of one list of documents only (`one_list`).
+-- The entries are just those of the documents, in any order. The documents ascend by numbers below next, and each has
+-- its points. Entries are those of one list of documents only (`one_list`).
 pub record AreDocs (next : ℕ) (entries : List Item) (docs : List Document) : Type 0 where
   pub ascend : Ascend docs
   pub below : All (λ d. d.number < next) docs
   pub points : All (λ d. ArePoints d.points) docs
   pub same : IsPermutation entries (entries_in docs)
 
--- What makes entries those of documents (`docs_exist`): numbers below next, of each number at most 16 entries, and no entry
--- twice.
+-- What makes entries those of documents (`docs_exist`): numbers below next, of each number at most 16 entries, and no
+-- entry twice.
 pub record MakeDocs (next : ℕ) (entries : List Item) : Type 0 where
   pub below : All (λ x. x.doc < next) entries
   pub few : (number : ℕ) → count_by (λ x. nat_eq x.doc number) entries ≤ 16

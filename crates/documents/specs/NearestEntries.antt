@@ -12,15 +12,17 @@ pub record ComesBefore (a b : Near) : Type 0 where
 abbrev pub HasNumber : List Near → ℕ → Type 0
 HasNumber found number = (a : Near) × Contains found a × (a.doc ≡ number)
 
--- The found are the k numbers nearest among the entries, a number being as near as the nearest of its entries: ascending
--- by distance and then number; each with the least distance of its entries; k of them, or all numbers where there are
--- fewer; and each number that is left out comes after all of them. This determines the found (`docs_nearest`).
+-- The found are the k numbers nearest among the entries, a number being as near as the nearest of its entries:
+-- ascending by distance and then number; each with the least distance of its entries; k of them, or all numbers where
+-- there are fewer; and each number that is left out comes after all of them. This determines the found
+-- (`docs_nearest`).
 pub record IsNearest (k : ℕ) (entries found : List Near) : Type 0 where
   pub rises : AllPairs ComesBefore found
   pub among : (a : Near) → Contains found a → Contains entries a
   pub least : (a x : Near) → Contains found a → Contains entries x → x.doc ≡ a.doc → a.dist2 ≤ x.dist2
   pub few : length found ≤ k
-  pub left_out : (x : Near) → Contains entries x → HasNumber found x.doc ⊎ ((length found ≡ k) × All (λ a. ComesBefore a x) found)
+  pub left_out : (x : Near) → Contains entries x → HasNumber found x.doc
+      ⊎ ((length found ≡ k) × All (λ a. ComesBefore a x) found)
 
 -- an entry's number and its squared distance from a point
 abbrev pub near_of : List ℤ → Item → Near

@@ -1,5 +1,6 @@
 -- The generated index, and what is said of it.
-use Rattle.std.specs.Prelude.{ℕ, ◌+◌, ◌%◌, ◌==◌, Bool, not, ◌&&◌, nat_lt, List, [], ◌∷◌, ◌++◌, length, map, filter, fold, Option, None, Some, codes, decimal, ℤ, pos, ◌+ℤ◌, ◌-ℤ◌}
+use Rattle.std.specs.Prelude.{ℕ, ◌+◌, ◌%◌, ◌==◌, Bool, not, ◌&&◌, nat_lt, List, [], ◌∷◌, ◌++◌, length, map, filter}
+use Rattle.std.specs.Prelude.{fold, Option, None, Some, codes, decimal, ℤ, pos, ◌+ℤ◌, ◌-ℤ◌}
 use Rattle.std.specs.List.{range_with_len, sum_by}
 use Rattle.point_codec.specs.Points.{Region, in_box}
 use Rattle.documents.specs.Documents.{Document, hits}

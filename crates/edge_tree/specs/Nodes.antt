@@ -1,5 +1,6 @@
 -- What the nodes of a tree tell of a list of edges.
-use Rattle.std.specs.Prelude.{◌≡◌, ℕ, suc, ◌<◌, ◌≤◌, Bool, List, length, take, drop, slice_index_or, slice_range, flat_map, count_by}
+use Rattle.std.specs.Prelude.{◌≡◌, ℕ, suc, ◌<◌, ◌≤◌, Bool, List, length, take, drop, slice_index_or, slice_range}
+use Rattle.std.specs.Prelude.{flat_map, count_by}
 use Rattle.ring_parity.specs.Edges.{Ends}
 use Rattle.edge_tree.specs.declared.runs.Run.{Run}
 use Rattle.edge_tree.specs.declared.nodes.Node.{Node}
@@ -35,8 +36,8 @@ pub record HoldsRun (edges run : List Ends) (n : Node) : Type 0 where
   pub held : held edges n ≡ run
   pub outlined : Outlines run n.outline
 
--- a node and its place among the nodes: it outlines what its subtree holds, which ends with it and begins after the first
--- nodes
+-- a node and its place among the nodes: it outlines what its subtree holds, which ends with it and begins after the
+-- first nodes
 pub record IsNode (edges : List Ends) (nodes : List Node) (place : ℕ) (n : Node) : Type 0 where
   pub ordered : n.first ≤ n.end
   pub there : n.end ≤ length edges
@@ -44,4 +45,5 @@ pub record IsNode (edges : List Ends) (nodes : List Node) (place : ℕ) (n : Nod
   pub outlined : Outlines (all_held edges (drop n.before (take (suc place) nodes))) n.outline
 
 abbrev pub AreNodes : List Ends → List Node → Type 0
-AreNodes edges nodes = (place : ℕ) (d : Node) → place < length nodes → IsNode edges nodes place (slice_index_or nodes place d)
+AreNodes edges nodes = (place : ℕ) (d : Node) → place < length nodes
+    → IsNode edges nodes place (slice_index_or nodes place d)

@@ -26,7 +26,8 @@ are_apart low high from to = int_lt high from || int_lt to low
 
 -- the box and the cell have no common point
 abbrev pub is_apart : Bounds → Region → Bool
-is_apart b cell = are_apart b.west b.east (x_of cell.lo) (x_of cell.hi) || are_apart b.south b.north (y_of cell.lo) (y_of cell.hi)
+is_apart b cell =
+    are_apart b.west b.east (x_of cell.lo) (x_of cell.hi) || are_apart b.south b.north (y_of cell.lo) (y_of cell.hi)
 
 -- the box is west of the point, below it or above it
 abbrev pub is_off_ray : Bounds → List ℤ → Bool

@@ -14,9 +14,9 @@ use std::marker::Model;
 
 /// A tree of edges with the last cell that was asked for and that some edge meets.
 ///
-/// A walk over an index asks for a cell, and then for its points. The first of them takes the edges that meet the cell from
-/// the tree, and whether the cell's least corner counts for an odd number of all: each point is told by the way to it from
-/// there, which only those edges can pass.
+/// A walk over an index asks for a cell, and then for its points. The first of them takes the edges that meet the
+/// cell from the tree, and whether the cell's least corner counts for an odd number of all: each point is told by the
+/// way to it from there, which only those edges can pass.
 #[derive(Drop)]
 pub struct Locator {
     tree: EdgeTree,
@@ -71,7 +71,8 @@ impl Locator {
     /// Some edge does not miss the cell. The points of a cell that one meets are likely to be asked for next.
     pub fn any_meets(&mut self, c: &Cell<2>) -> bool
         ensures told { result ≡ any_meets self.old (region_of c.now) }
-        ensures one_answer { IsFalse result → (p q : List ℤ) → in_box (region_of c.now) p ≡ true → in_box (region_of c.now) q ≡ true
+        ensures one_answer { IsFalse result → (p q : List ℤ) → in_box (region_of c.now) p ≡ true
+            → in_box (region_of c.now) q ≡ true
             → is_within self.old p ≡ is_within self.old q }
         ensures same { self.new ≡ self.old }
     {

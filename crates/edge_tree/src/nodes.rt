@@ -14,8 +14,8 @@ use point_codec::{Cell, Point};
 use ring_parity::{Edge, counts, misses, on_edge};
 use std::alloc::{AllocError, Global};
 
-/// What is known of the edges that a node's subtree holds. A leaf holds the run of edges from `first` up to `end`, an inner
-/// node none itself. The subtree ends with the node, and begins after the first `before` nodes.
+/// What is known of the edges that a node's subtree holds. A leaf holds the run of edges from `first` up to `end`, an
+/// inner node none itself. The subtree ends with the node, and begins after the first `before` nodes.
 #[derive(Clone, Copy, Debug)]
 pub struct Node {
     pub outline: Outline,
@@ -36,7 +36,8 @@ pub struct Place {
 impl Place {
     /// The place beside two runs together.
     pub fn join(&self, other: &Place) -> Place
-        ensures { (xs ys : List Ends) (p : List ℤ) → IsPlace xs p self.now.on self.now.odd → IsPlace ys p other.now.on other.now.odd
+        ensures { (xs ys : List Ends) (p : List ℤ) → IsPlace xs p self.now.on self.now.odd
+            → IsPlace ys p other.now.on other.now.odd
             → IsPlace (xs ++ ys) p result.on result.odd }
     {
         Place {
@@ -87,7 +88,8 @@ fn outline_of(edges: &[Edge]) -> Outline
 pub fn nodes_over(alloc: Global, edges: &[Edge], runs: &[Run]) -> Result<Vec<Node>, AllocError>
     requires { All (IsRun (map ends_of edges.now)) runs.now }
     ensures each { IfOk result (λ nodes. AreNodes (map ends_of edges.now) nodes.items) }
-    ensures whole { IfOk result (λ nodes. all_held (map ends_of edges.now) nodes.items ≡ all_in (map ends_of edges.now) runs.now) }
+    ensures whole { IfOk result
+        (λ nodes. all_held (map ends_of edges.now) nodes.items ≡ all_in (map ends_of edges.now) runs.now) }
 {
     let mut nodes = Vec::new(alloc);
     if runs.len() > 0 {
@@ -104,7 +106,9 @@ fn push_nodes(nodes: &mut Vec<Node>, edges: &[Edge], runs: &[Run]) -> Result<Out
 
     ensures outlined { IfOk result (Outlines (all_in (map ends_of edges.now) runs.now)) }
     ensures sound { OnOk result (AreNodes (map ends_of edges.now) nodes.new.items) }
-    ensures held { OnOk result (all_held (map ends_of edges.now) (drop (length nodes.old.items) nodes.new.items) ≡ all_in (map ends_of edges.now) runs.now) }
+    ensures held { OnOk result
+        (all_held (map ends_of edges.now) (drop (length nodes.old.items) nodes.new.items) ≡ all_in
+        (map ends_of edges.now) runs.now) }
     ensures kept { OnOk result (take (length nodes.old.items) nodes.new.items ≡ nodes.old.items) }
 {
     let before = nodes.len();

@@ -97,10 +97,11 @@ pub struct Climb {
 }
 
 impl Climb {
-    /// One climb in place of two that have an end in common: it passes a height where exactly one of them does. None where
-    /// no single climb is seen to do so.
+    /// One climb in place of two that have an end in common: it passes a height where exactly one of them does. None
+    /// where no single climb is seen to do so.
     pub fn then(&self, next: &Climb) -> Option<Climb>
-        ensures { IfSome result (λ climb. (y : ℤ) → climbs climb y ≡ not (beq (climbs self.now y) (climbs next.now y))) }
+        ensures { IfSome result
+            (λ climb. (y : ℤ) → climbs climb y ≡ not (beq (climbs self.now y) (climbs next.now y))) }
     {
         if self.to == next.from {
             Some(Climb {

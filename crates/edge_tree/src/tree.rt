@@ -110,11 +110,12 @@ impl EdgeTree {
         place
     }
 
-    /// Some edge does not miss the cell. Where none meets it, the polygon has all points of the cell or none of them, so
-    /// that one point tells of all.
+    /// Some edge does not miss the cell. Where none meets it, the polygon has all points of the cell or none of them,
+    /// so that one point tells of all.
     pub fn any_meets(&self, c: &Cell<2>) -> bool
         ensures told { result ≡ any_meets self.now (region_of c.now) }
-        ensures one_answer { IsFalse result → (p q : List ℤ) → in_box (region_of c.now) p ≡ true → in_box (region_of c.now) q ≡ true
+        ensures one_answer { IsFalse result → (p q : List ℤ) → in_box (region_of c.now) p ≡ true
+            → in_box (region_of c.now) q ≡ true
             → is_within self.now p ≡ is_within self.now q }
     {
         let mut at = self.nodes.len();
@@ -160,7 +161,8 @@ impl EdgeTree {
 
 /// Appends the edges of a ring.
 fn push_edges(edges: &mut Vec<Edge>, at: &[Point<2>]) -> Result<(), AllocError>
-    ensures { IfOk result (λ _. map ends_of edges.new.items ≡ map ends_of edges.old.items ++ edges_of (coordinates_of at.now)) }
+    ensures { IfOk result
+        (λ _. map ends_of edges.new.items ≡ map ends_of edges.old.items ++ edges_of (coordinates_of at.now)) }
 {
     for i in 1..at.len() {
         edges.push(Edge {

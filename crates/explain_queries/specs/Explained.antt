@@ -1,6 +1,7 @@
--- What explaining queries tells. Lines are read as those of a script; of a query it is told how much of the stored segments is tested and touched,
--- and how much is found, each leaf judged by its own cell.
-use Rattle.std.specs.Prelude.{ℕ, ◌+◌, ◌≡◌, Bool, if◌then◌else◌, nat_lt, List, [], ◌∷◌, ◌++◌, length, Option, None, Some, codes, decimal, ℤ}
+-- What explaining queries tells. Lines are read as those of a script; of a query it is told how much of the stored
+-- segments is tested and touched, and how much is found, each leaf judged by its own cell.
+use Rattle.std.specs.Prelude.{ℕ, ◌+◌, ◌≡◌, Bool, if◌then◌else◌, nat_lt, List, [], ◌∷◌, ◌++◌, length, Option, None, Some}
+use Rattle.std.specs.Prelude.{codes, decimal, ℤ}
 use Rattle.std.specs.List.{last_or}
 use Rattle.std.specs.Option.{option_map}
 use Rattle.outer_io.specs.declared.file_name.FileName.TheVariants.{Commit}
@@ -35,7 +36,8 @@ pub record Scope : Type 0 where
 -- these are the heads of the segments that the commit lists; without a commit there is none
 abbrev pub AreStoredHeads : Files → State → List Head → Type 0
 AreStoredHeads files None heads = heads ≡ []
-AreStoredHeads files (Some i) heads = (c : CommitData) × IsCommitFile (bytes_of (files Commit)) c × HaveHeads files c heads
+AreStoredHeads files (Some i) heads = (c : CommitData) × IsCommitFile (bytes_of (files Commit)) c
+    × HaveHeads files c heads
 
 pub record IsScope (files : Files) (s : Scope) : Type 0 where
   pub stored : IsStored files s.state
@@ -68,8 +70,10 @@ near_text touched near = ended (codes "touched " ++ decimal touched ++ codes " n
 
 -- ---- a query
 
--- a box or a polygon: the entries in leaves whose own cell it crosses, the leaves whose own cell is not outside, and its hits
-pub record TellsShape (dims : ℕ) (heads : List Head) (docs : List Document) (has : List ℤ → Bool) (crosses : Region → Bool) (t : Told) : Type 0 where
+-- a box or a polygon: the entries in leaves whose own cell it crosses, the leaves whose own cell is not outside, and
+-- its hits
+pub record TellsShape (dims : ℕ) (heads : List Head) (docs : List Document) (has : List ℤ → Bool)
+    (crosses : Region → Bool) (t : Told) : Type 0 where
   pub tested : ℕ
   pub tests : AreTested dims crosses heads tested
   pub touches : AreTouched dims has crosses heads t.touched
@@ -81,7 +85,8 @@ abbrev pub reach : ℕ → List (ℕ × ℕ) → Option ℕ
 reach k found = if nat_lt (length found) k then None else option_map (λ f. f.0) (last_or None found)
 
 -- a query for the nearest: the leaves as near as the last one found, and how many are found
-pub record TellsNear (dims : ℕ) (heads : List Head) (docs : List Document) (k : ℕ) (at : List ℤ) (t : Told) : Type 0 where
+pub record TellsNear (dims : ℕ) (heads : List Head) (docs : List Document) (k : ℕ) (at : List ℤ) (t : Told)
+    : Type 0 where
   pub touches : AreNearLeaves dims at (reach k (nearest k at docs)) heads t.touched
   pub text : t.text ≡ near_text t.touched (length (nearest k at docs))
   pub done : t.refused ≡ 0
@@ -92,7 +97,8 @@ pub record TellsNear (dims : ℕ) (heads : List Head) (docs : List Document) (k 
 abbrev pub TellsOn : Index → List Head → (line : ℕ) → Request → Told → Type 0
 TellsOn i heads line asks.Blank t = t ≡ silence
 TellsOn i heads line (asks.InBox None lo hi) t =
-    TellsShape i.dims heads i.docs (in_box (record { lo = lo; hi = hi })) (boxes.crosses (record { lo = lo; hi = hi })) t
+    TellsShape i.dims heads i.docs (in_box (record { lo = lo; hi = hi }))
+    (boxes.crosses (record { lo = lo; hi = hi })) t
 TellsOn i heads line (asks.InPolygon None rings) t =
     TellsShape i.dims heads i.docs (in_plane_polygon i.dims rings) (polygons.crosses i.dims (all_edges rings)) t
 TellsOn i heads line (asks.Nearest None k at) t = TellsNear i.dims heads i.docs k at t
@@ -125,4 +131,5 @@ TellsLine s line bytes t = TellsReading s line (read (option_map (λ i. i.dims) 
 abbrev pub TellsLines : Scope → (line : ℕ) → List (List ℕ) → Told → Type 0
 TellsLines s line [] t = t ≡ silence
 TellsLines s line (l ∷ ls) t =
-    (first : Told) × (rest : Told) × TellsLine s line l first × TellsLines s (line + 1) ls rest × (t ≡ followed_by first rest)
+    (first : Told) × (rest : Told) × TellsLine s line l first × TellsLines s (line + 1) ls rest
+    × (t ≡ followed_by first rest)

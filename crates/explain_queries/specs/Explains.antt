@@ -38,12 +38,15 @@ pub record Place : Type 0 where
   pub faults : ℕ
   pub text : List ℕ
 
--- from the one place to the other it is told what there is to tell, no file changes, and no more is read than leaves that are touched
-pub record Explains (D : ℕ) (told : Type 0) (tells : Scope → Told → Type 0) (old new : Place) (result : Result Bool PageFault) : Type 0 where
+-- from the one place to the other it is told what there is to tell, no file changes, and no more is read than leaves
+-- that are touched
+pub record Explains (D : ℕ) (told : Type 0) (tells : Scope → Told → Type 0) (old new : Place)
+    (result : Result Bool PageFault) : Type 0 where
   pub does : told → (s : Scope) → IsExplaining D old.files old.set s → IfOk result (IsTold (tells s) old.text new.text)
   pub stays : told → (s : Scope) → IsExplaining D old.files old.set s → IsExplaining D new.files new.set s
   pub files : told → new.files ≡ old.files
-  pub reads : told → (s : Scope) → IsExplaining D old.files old.set s → (t : Told) → tells s t → new.reads ≤ old.reads + t.touched
+  pub reads : told → (s : Scope) → IsExplaining D old.files old.set s → (t : Told) → tells s t
+      → new.reads ≤ old.reads + t.touched
   pub cause : HasPageCause old.faults new.faults result
   pub whole : told → (s : Scope) → IsExplaining D old.files old.set s → NotDamaged result
   pub faithful : told → IsFaithful D old.files old.set → IsFaithful D new.files new.set

@@ -33,8 +33,20 @@ pub fn explain_line<const D: usize, F: Folder>(
     requires some { 1 ≤ D }
     requires few { D ≤ 8 }
     ensures { Explains D (IsTrue F.told) (λ s t. TellsLine s number line.now t)
-        (record { set = set.old; files = F.files folder.old; reads = F.reads folder.old; faults = F.faults folder.old; text = reply.old.items })
-        (record { set = set.new; files = F.files folder.new; reads = F.reads folder.new; faults = F.faults folder.new; text = reply.new.items }) result }
+        (record {
+          set = set.old;
+          files = F.files folder.old;
+          reads = F.reads folder.old;
+          faults = F.faults folder.old;
+          text = reply.old.items;
+        })
+        (record {
+          set = set.new;
+          files = F.files folder.new;
+          reads = F.reads folder.new;
+          faults = F.faults folder.new;
+          text = reply.new.items;
+        }) result }
 {
     match read_line::<D>(alloc, line) {
         Ok(command) => explain(alloc, set, folder, number, &command, reply),
@@ -45,7 +57,8 @@ pub fn explain_line<const D: usize, F: Folder>(
 
 /// Appends what is told of a line where no index is there. True where the line is refused.
 pub fn explain_first(number: u64, line: &[u8], reply: &mut Vec<u8>) -> Result<bool, AllocError>
-    ensures { IfOk result (IsTold (TellsLine (record { state = None; heads = [] }) number line.now) reply.old.items reply.new.items) }
+    ensures { IfOk result
+        (IsTold (TellsLine (record { state = None; heads = [] }) number line.now) reply.old.items reply.new.items) }
 {
     match read_first(line) {
         Ok(First::Blank) => Ok(false),
@@ -61,7 +74,8 @@ pub fn explain_first(number: u64, line: &[u8], reply: &mut Vec<u8>) -> Result<bo
     }
 }
 
-/// Appends what is told of a command. True where it is refused: it is no query, or one of a snapshot, and a stored index has none.
+/// Appends what is told of a command. True where it is refused: it is no query, or one of a snapshot, and a stored
+/// index has none.
 fn explain<const D: usize, F: Folder>(
     alloc: Global,
     set: &mut SegmentSet<D>,
@@ -72,8 +86,20 @@ fn explain<const D: usize, F: Folder>(
 ) -> Result<bool, PageFault>
     requires { IsWithinLimits (request_of command.now) }
     ensures { Explains D (IsTrue F.told) (λ s t. Tells s number (request_of command.now) t)
-        (record { set = set.old; files = F.files folder.old; reads = F.reads folder.old; faults = F.faults folder.old; text = reply.old.items })
-        (record { set = set.new; files = F.files folder.new; reads = F.reads folder.new; faults = F.faults folder.new; text = reply.new.items }) result }
+        (record {
+          set = set.old;
+          files = F.files folder.old;
+          reads = F.reads folder.old;
+          faults = F.faults folder.old;
+          text = reply.old.items;
+        })
+        (record {
+          set = set.new;
+          files = F.files folder.new;
+          reads = F.reads folder.new;
+          faults = F.faults folder.new;
+          text = reply.new.items;
+        }) result }
 {
     match command {
         Command::Blank => Ok(false),
@@ -99,7 +125,8 @@ fn explain<const D: usize, F: Folder>(
 /// Appends why a line can't be read.
 fn refuse_line(number: u64, fault: &LineFault, reply: &mut Vec<u8>) -> Result<bool, PageFault>
     requires { fault.now ≢ LineFault.Memory }
-    ensures refused { IfOk result (λ refused. (refused ≡ true) × (reply.new.items ≡ reply.old.items ++ line_fault_text number fault.now)) }
+    ensures refused { IfOk result
+        (λ refused. (refused ≡ true) × (reply.new.items ≡ reply.old.items ++ line_fault_text number fault.now)) }
     ensures memory { OnErr result (IsErrOf result PageFault.Memory) }
 {
     put_line_fault(reply, number, fault)?;
@@ -108,7 +135,8 @@ fn refuse_line(number: u64, fault: &LineFault, reply: &mut Vec<u8>) -> Result<bo
 
 /// Appends why a command is refused.
 fn refuse(number: u64, why: Why, reply: &mut Vec<u8>) -> Result<bool, PageFault>
-    ensures refused { IfOk result (λ refused. (refused ≡ true) × (reply.new.items ≡ reply.old.items ++ why_text number why)) }
+    ensures refused { IfOk result
+        (λ refused. (refused ≡ true) × (reply.new.items ≡ reply.old.items ++ why_text number why)) }
     ensures memory { OnErr result (IsErrOf result PageFault.Memory) }
 {
     put_why(reply, number, why)?;
@@ -117,7 +145,8 @@ fn refuse(number: u64, why: Why, reply: &mut Vec<u8>) -> Result<bool, PageFault>
 
 /// Appends that there is no such snapshot: a stored index has none.
 fn refuse_snapshot(number: u64, reply: &mut Vec<u8>) -> Result<bool, PageFault>
-    ensures refused { IfOk result (λ refused. (refused ≡ true) × (reply.new.items ≡ reply.old.items ++ why_text number Why.UnknownSnapshot)) }
+    ensures refused { IfOk result
+        (λ refused. (refused ≡ true) × (reply.new.items ≡ reply.old.items ++ why_text number Why.UnknownSnapshot)) }
     ensures memory { OnErr result (IsErrOf result PageFault.Memory) }
 {
     refuse(number, Why::UnknownSnapshot, reply)
@@ -131,9 +160,24 @@ fn tell_polygon<const D: usize, F: Folder>(
     rings: &Rings,
     reply: &mut Vec<u8>,
 ) -> Result<bool, PageFault>
-    ensures { Explains D (IsTrue F.told) (λ s t. InScope s (λ i u. TellsShape i.dims s.heads i.docs (in_plane_polygon i.dims rings.now) (polygons.crosses i.dims (all_edges rings.now)) u) t)
-        (record { set = set.old; files = F.files folder.old; reads = F.reads folder.old; faults = F.faults folder.old; text = reply.old.items })
-        (record { set = set.new; files = F.files folder.new; reads = F.reads folder.new; faults = F.faults folder.new; text = reply.new.items }) result }
+    ensures { Explains D (IsTrue F.told)
+        (λ s t. InScope s
+        (λ i u. TellsShape i.dims s.heads i.docs (in_plane_polygon i.dims rings.now)
+        (polygons.crosses i.dims (all_edges rings.now)) u) t)
+        (record {
+          set = set.old;
+          files = F.files folder.old;
+          reads = F.reads folder.old;
+          faults = F.faults folder.old;
+          text = reply.old.items;
+        })
+        (record {
+          set = set.new;
+          files = F.files folder.new;
+          reads = F.reads folder.new;
+          faults = F.faults folder.new;
+          text = reply.new.items;
+        }) result }
 {
     let mut shape = PolygonShape::new(alloc, rings)?;
     tell_shape(alloc, set, folder, &mut shape, reply)
@@ -147,9 +191,22 @@ fn tell_shape<const D: usize, S: Shape<D>, F: Folder>(
     shape: &mut S,
     reply: &mut Vec<u8>,
 ) -> Result<bool, PageFault>
-    ensures { Explains D (IsTrue F.told) (λ s t. InScope s (λ i u. TellsShape i.dims s.heads i.docs (S.has shape.old) (S.crosses shape.old) u) t)
-        (record { set = set.old; files = F.files folder.old; reads = F.reads folder.old; faults = F.faults folder.old; text = reply.old.items })
-        (record { set = set.new; files = F.files folder.new; reads = F.reads folder.new; faults = F.faults folder.new; text = reply.new.items }) result }
+    ensures { Explains D (IsTrue F.told)
+        (λ s t. InScope s (λ i u. TellsShape i.dims s.heads i.docs (S.has shape.old) (S.crosses shape.old) u) t)
+        (record {
+          set = set.old;
+          files = F.files folder.old;
+          reads = F.reads folder.old;
+          faults = F.faults folder.old;
+          text = reply.old.items;
+        })
+        (record {
+          set = set.new;
+          files = F.files folder.new;
+          reads = F.reads folder.new;
+          faults = F.faults folder.new;
+          text = reply.new.items;
+        }) result }
 {
     let tally = set.survey(&View::Now, shape);
     let hits = set.visit(alloc, folder, &View::Now, shape)?;
@@ -169,8 +226,20 @@ fn tell_near<const D: usize, F: Folder>(
     requires some { 1 ≤ k }
     requires few { k ≤ 10000 }
     ensures { Explains D (IsTrue F.told) (λ s t. InScope s (λ i u. TellsNear i.dims s.heads i.docs k at.now.c u) t)
-        (record { set = set.old; files = F.files folder.old; reads = F.reads folder.old; faults = F.faults folder.old; text = reply.old.items })
-        (record { set = set.new; files = F.files folder.new; reads = F.reads folder.new; faults = F.faults folder.new; text = reply.new.items }) result }
+        (record {
+          set = set.old;
+          files = F.files folder.old;
+          reads = F.reads folder.old;
+          faults = F.faults folder.old;
+          text = reply.old.items;
+        })
+        (record {
+          set = set.new;
+          files = F.files folder.new;
+          reads = F.reads folder.new;
+          faults = F.faults folder.new;
+          text = reply.new.items;
+        }) result }
 {
     let found = set.nearest(alloc, folder, &View::Now, at, k)?;
     let touched = set.survey_near(&View::Now, at, reach(k, found.as_slice()));

@@ -1,4 +1,5 @@
-//! Queries explained: how much of the stored segments each one tests and touches, and how much it finds. Nothing is stored.
+//! Queries explained: how much of the stored segments each one tests and touches, and how much it finds. Nothing is
+//! stored.
 #![tactic(auto)]
 
 mod explain;

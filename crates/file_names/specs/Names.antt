@@ -1,5 +1,5 @@
--- The list of the files that a set of segments took over or began to write and hasn't removed, and which names are free for
--- further files (this project's own rules).
+-- The list of the files that a set of segments took over or began to write and hasn't removed, and which names are
+-- free for further files (this project's own rules).
 use Rattle.std.specs.Prelude.{◌≡◌, ◌<◌, ◌≤◌, ℕ, ◌+◌, ◌-◌, ◌^◌, Bool, true, false, List}
 use Rattle.std.specs.List.{list_any}
 use Rattle.outer_io.specs.declared.file_name.FileName.{FileName}
@@ -36,8 +36,8 @@ pub record IsGreatest (taken : ℕ → Bool) (number : ℕ) : Type 0 where
   pub is_taken : taken number ≡ true
   pub most : (n : ℕ) → taken n ≡ true → n ≤ number
 
--- The id of a new segment, and the next one afterwards. Ids are given in turn. At the end of the type, where no id would be
--- left above the new one, it is the least that isn't named, and the next one stays.
+-- The id of a new segment, and the next one afterwards. Ids are given in turn. At the end of the type, where no id
+-- would be left above the new one, it is the least that isn't named, and the next one stays.
 pub record IsNextId (old : NameList) (id next : ℕ) : Type 0 where
   pub in_turn : old.next_segment < 2 ^ 64 - 1 → (id ≡ old.next_segment) × (next ≡ old.next_segment + 1)
   pub at_end : old.next_segment ≡ 2 ^ 64 - 1

@@ -16,8 +16,8 @@ use std::marker::Model;
 /// Want of memory.
 pub type Memory = AllocError;
 
-/// The names of the files that a set of segments took over from a commit or began to write, and hasn't removed; and the id of the
-/// next segment. The ids of the segments in the list are below it.
+/// The names of the files that a set of segments took over from a commit or began to write, and hasn't removed; and
+/// the id of the next segment. The ids of the segments in the list are below it.
 #[derive(Drop)]
 pub struct FileNames {
     names: Vec<FileName>,
@@ -79,7 +79,8 @@ impl FileNames {
         requires { IsBelow self.old.next_segment name }
         ensures named { OnOk result (self.new.names ≡ self.old.names ++ name ∷ []) }
         ensures joins { OnOk result (is_named self.new.names name ≡ true) }
-        ensures stays { (other : FileName) → is_named self.old.names other ≡ true → is_named self.new.names other ≡ true }
+        ensures stays { (other : FileName) → is_named self.old.names other ≡ true
+            → is_named self.new.names other ≡ true }
         ensures next { self.new.next_segment ≡ self.old.next_segment }
         ensures refused { OnErr result (self.new ≡ self.old) }
     {
@@ -87,13 +88,14 @@ impl FileNames {
         Ok(())
     }
 
-    /// Names a new segment, and answers its id. Ids are given in turn, whatever becomes of the file; at the end of the type the
-    /// least one that isn't named is given.
+    /// Names a new segment, and answers its id. Ids are given in turn, whatever becomes of the file; at the end of
+    /// the type the least one that isn't named is given.
     pub fn name_segment(&mut self) -> Result<u64, Memory>
         ensures fresh { IfOk result (λ id. is_named self.old.names (Segment id) ≡ false) }
         ensures named { IfOk result (λ id. self.new.names ≡ self.old.names ++ Segment id ∷ []) }
         ensures joins { IfOk result (λ id. is_named self.new.names (Segment id) ≡ true) }
-        ensures stays { (other : FileName) → is_named self.old.names other ≡ true → is_named self.new.names other ≡ true }
+        ensures stays { (other : FileName) → is_named self.old.names other ≡ true
+            → is_named self.new.names other ≡ true }
         ensures next { IfOk result (λ id. IsNextId self.old id self.new.next_segment) }
         ensures below { IfOk result (λ id. id < self.new.next_segment) }
         ensures later { self.old.next_segment ≤ self.new.next_segment }
@@ -106,13 +108,14 @@ impl FileNames {
         Ok(id)
     }
 
-    /// Names the next live bits of a segment, and answers their generation: 1 for the first, then one more than the greatest in the
-    /// list; at the end of the type the least one that the list doesn't have for the segment.
+    /// Names the next live bits of a segment, and answers their generation: 1 for the first, then one more than the
+    /// greatest in the list; at the end of the type the least one that the list doesn't have for the segment.
     pub fn name_live(&mut self, segment: u64) -> Result<u64, Memory>
         ensures fresh { IfOk result (λ generation. is_named self.old.names (Live segment generation) ≡ false) }
         ensures named { IfOk result (λ generation. self.new.names ≡ self.old.names ++ Live segment generation ∷ []) }
         ensures joins { IfOk result (λ generation. is_named self.new.names (Live segment generation) ≡ true) }
-        ensures stays { (other : FileName) → is_named self.old.names other ≡ true → is_named self.new.names other ≡ true }
+        ensures stays { (other : FileName) → is_named self.old.names other ≡ true
+            → is_named self.new.names other ≡ true }
         ensures rule { IfOk result (IsNextGeneration (λ n. is_named self.old.names (Live segment n))) }
         ensures next { self.new.next_segment ≡ self.old.next_segment }
         ensures refused { OnErr result (self.new ≡ self.old) }
@@ -134,7 +137,8 @@ impl FileNames {
         self.names.retain(|n| !n.is(name));
     }
 
-    /// Takes out each name for which the closure says false. As in `Vec::retain` it is called once for each name, in order.
+    /// Takes out each name for which the closure says false. As in `Vec::retain` it is called once for each name, in
+    /// order.
     pub fn retain<F: FnMut(&FileName) -> bool>(&mut self, keep: F)
         requires { F.IsAlwaysCallable keep }
         ensures kept { IsFiltered (CalledAt F.FnMut) keep self.old.names self.new.names }

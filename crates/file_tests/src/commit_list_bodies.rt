@@ -218,8 +218,8 @@ fn too_many_segments(rt: HostRuntime) -> Result<(), Fail> {
     Ok(())
 }
 
-/// What the first id becomes where the second one is 2, and whether that is a commit: two ids in the wrong order are none, nor
-/// are two that are the same.
+/// What the first id becomes where the second one is 2, and whether that is a commit: two ids in the wrong order are
+/// none, nor are two that are the same.
 const FIRST_IDS: [(u8, bool); 4] = [(0, true), (1, true), (2, false), (3, false)];
 
 #[test]

@@ -228,7 +228,8 @@ fn file_in<'a>(folder: &'a MemFolder, name: &FileName) -> &'a [u8] {
     folder.get(name).unwrap_or(&[])
 }
 
-/// Whether the commit of `BODY` is written over a folder with this Commit file where calls fail so, and the folder then.
+/// Whether the commit of `BODY` is written over a folder with this Commit file where calls fail so, and the folder
+/// then.
 fn write_over(
     rt: &(impl Abort + AllocGlobal),
     old: &[u8],

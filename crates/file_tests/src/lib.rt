@@ -1,5 +1,5 @@
-//! The tests of the files and of the cache of their pages. They stand above what they test, so that there only the tests
-//! themselves are proved.
+//! The tests of the files and of the cache of their pages. They stand above what they test, so that there only the
+//! tests themselves are proved.
 #![tactic(auto)]
 
 #[cfg(test)]

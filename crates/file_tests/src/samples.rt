@@ -1,4 +1,5 @@
-//! What several of the tests take: the file of a segment, put together here page by page, and what a read of files answers.
+//! What several of the tests take: the file of a segment, put together here page by page, and what a read of files
+//! answers.
 
 use outer_io::{FileName, MemFolder};
 use page_cache::{Damage, PageFault};

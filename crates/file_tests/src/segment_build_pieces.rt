@@ -1,5 +1,5 @@
-//! A segment of more than 256 pages, which is handed to the folder in two pieces: each of the two calls fails in turn, and so does each
-//! read of a page.
+//! A segment of more than 256 pages, which is handed to the folder in two pieces: each of the two calls fails in
+//! turn, and so does each read of a page.
 
 ghost use Rattle.std.specs.Prelude.{◌≡◌, ◌≤◌, ◌^◌, vec_len, IfOk};
 ghost use Rattle.bkd_build.specs.Parts.{AreEntries};

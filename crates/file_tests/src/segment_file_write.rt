@@ -118,7 +118,8 @@ fn each_byte_of_the_page_of_live_bits_counts(rt: HostRuntime) -> Result<(), Fail
     Ok(())
 }
 
-/// Bytes of the body that are changed: another segment, another generation, a span, a count, a bit, a byte behind the body.
+/// Bytes of the body that are changed: another segment, another generation, a span, a count, a bit, a byte behind the
+/// body.
 const CHANGES: [(usize, u8); 6] = [(15, 3), (23, 2), (31, 6), (35, 2), (36, 0x42), (37, 1)];
 
 #[test]

@@ -18,7 +18,8 @@ none_text = codes "no index\n"
 
 -- of an index of this commit with so many live documents
 unfoldable pub ok_text : CommitData → (live : ℕ) → List ℕ
-ok_text c live = codes "ok dims " ++ decimal c.dims ++ codes " leaf " ++ decimal c.leaf ++ codes " next " ++ decimal c.next
+ok_text c live =
+    codes "ok dims " ++ decimal c.dims ++ codes " leaf " ++ decimal c.leaf ++ codes " next " ++ decimal c.next
     ++ codes " live " ++ decimal live ++ codes " segments " ++ decimal (length c.listed) ++ codes "\n"
 
 -- The files hold this index, and it is told of it.
@@ -28,8 +29,8 @@ pub record IsOk (files : Files) (text : List ℕ) : Type 0 where
   pub holds : HoldsIndex files commit docs
   pub told : text ≡ ok_text commit (length docs)
 
--- Of a folder without a Commit file it is told that there is no index, else of the index that the files hold how large it is. Of other files
--- nothing is told.
+-- Of a folder without a Commit file it is told that there is no index, else of the index that the files hold how
+-- large it is. Of other files nothing is told.
 abbrev pub IsChecked : Files → List ℕ → Type 0
 IsChecked files text = ((files Commit ≡ None) × (text ≡ none_text)) ⊎ IsOk files text
 

@@ -93,4 +93,5 @@ pub record AreFine (listed : List Listed) (given : ℕ) (findings : List Finding
 pub data IsWrong (listed : List Listed) (given : ℕ) (findings : List Finding) (d : Damage) : Type 0 where
   Lacking : IsLacking listed findings d → IsWrong listed given findings d
   Crowding : AllZip HasAll listed findings → IsCrowding findings d → IsWrong listed given findings d
-  Beyond : AllZip HasAll listed findings → All (λ f. f.crowded ≡ None) findings → IsBeyondGiven given findings d → IsWrong listed given findings d
+  Beyond : AllZip HasAll listed findings → All (λ f. f.crowded ≡ None) findings → IsBeyondGiven given findings d
+      → IsWrong listed given findings d

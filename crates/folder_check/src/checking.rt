@@ -25,9 +25,10 @@ use page_cache::PageFault;
 use segment_file::one_segment;
 use std::alloc::Global;
 
-/// Reads every page of each file that the Commit file lists, and appends `no index`, or how large the index is, as a line
-/// `ok dims D leaf B next N live L segments S`. It ends so exactly where the folder stores a state. Where it stores none, the
-/// first damage of these is answered:
+/// Reads every page of each file that the Commit file lists, and appends `no index`, or how large the index is, as a
+/// line
+/// `ok dims D leaf B next N live L segments S`. It ends so exactly where the folder stores a state. Where it stores
+/// none, the first damage of these is answered:
 ///
 /// - that of the Commit file;
 /// - of the segments in order of id, that of the head and the index, and then of the live bits;
@@ -39,10 +40,13 @@ use std::alloc::Global;
 ///
 /// Of one segment at a time the live entries are in memory, and a bit for each number. No file changes.
 pub fn check<F: Folder>(alloc: Global, folder: &mut F, text: &mut Vec<u8>) -> Result<(), PageFault>
-    ensures tells { IsTrue F.told → OnOk result ((told : List ℕ) × IsChecked (F.files folder.old) told × (text.new.items ≡ text.old.items ++ told)) }
+    ensures tells { IsTrue F.told
+        → OnOk result
+        ((told : List ℕ) × IsChecked (F.files folder.old) told × (text.new.items ≡ text.old.items ++ told)) }
     ensures kept { OnErr result (text.new.items ≡ text.old.items) }
     ensures files { IsTrue F.told → F.files folder.new ≡ F.files folder.old }
-    ensures reads { IsTrue F.told → (pages : ℕ) → IsChecking (F.files folder.old) pages → F.reads folder.new ≤ F.reads folder.old + pages }
+    ensures reads { IsTrue F.told → (pages : ℕ) → IsChecking (F.files folder.old) pages
+        → F.reads folder.new ≤ F.reads folder.old + pages }
     ensures cause { HasPageCause (F.faults folder.old) (F.faults folder.new) result }
     // a damage is answered where no state is stored, and there alone
     ensures undefined { IsTrue F.told → OnDamage result (λ _. IsUndefined (F.files folder.old)) }
@@ -62,7 +66,8 @@ pub fn check<F: Folder>(alloc: Global, folder: &mut F, text: &mut Vec<u8>) -> Re
 fn checked<F: Folder>(alloc: Global, folder: &mut F) -> Result<Vec<u8>, PageFault>
     ensures tells { IsTrue F.told → IfOk result (λ v. IsChecked (F.files folder.old) v.items) }
     ensures files { IsTrue F.told → F.files folder.new ≡ F.files folder.old }
-    ensures reads { IsTrue F.told → (pages : ℕ) → IsChecking (F.files folder.old) pages → F.reads folder.new ≤ F.reads folder.old + pages }
+    ensures reads { IsTrue F.told → (pages : ℕ) → IsChecking (F.files folder.old) pages
+        → F.reads folder.new ≤ F.reads folder.old + pages }
     ensures cause { HasPageCause (F.faults folder.old) (F.faults folder.new) result }
     ensures undefined { IsTrue F.told → OnDamage result (λ _. IsUndefined (F.files folder.old)) }
     ensures named { IsTrue F.told → OnDamage result (IsFound (F.files folder.old)) }
@@ -78,16 +83,22 @@ fn checked<F: Folder>(alloc: Global, folder: &mut F) -> Result<Vec<u8>, PageFaul
 
 /// Looks at what a commit lists, in as many dimensions as it has.
 fn check_commit<F: Folder>(alloc: Global, folder: &mut F, c: &Commit) -> Result<(), PageFault>
-    ensures holds { IsTrue F.told → IsCommitFile (bytes_of (F.files folder.old CommitName)) c.now → OnOk result ((docs : List Document) × HoldsIndex (F.files folder.old) c.now docs) }
+    ensures holds { IsTrue F.told → IsCommitFile (bytes_of (F.files folder.old CommitName)) c.now
+        → OnOk result ((docs : List Document) × HoldsIndex (F.files folder.old) c.now docs) }
     ensures files { IsTrue F.told → F.files folder.new ≡ F.files folder.old }
-    ensures reads { IsTrue F.told → (heads : List Head) (sets : List LiveSet) → HaveHeads (F.files folder.old) c.now heads → HaveLive (F.files folder.old) c.now sets
+    ensures reads { IsTrue F.told → (heads : List Head) (sets : List LiveSet)
+        → HaveHeads (F.files folder.old) c.now heads
+        → HaveLive (F.files folder.old) c.now sets
         → F.reads folder.new ≤ F.reads folder.old + sum_by (both_pages (F.files folder.old)) c.now.listed }
     ensures cause { HasPageCause (F.faults folder.old) (F.faults folder.new) result }
-    ensures undefined { IsTrue F.told → IsCommitFile (bytes_of (F.files folder.old CommitName)) c.now → OnDamage result (λ _. IsUndefined (F.files folder.old)) }
+    ensures undefined { IsTrue F.told → IsCommitFile (bytes_of (F.files folder.old CommitName)) c.now
+        → OnDamage result (λ _. IsUndefined (F.files folder.old)) }
     ensures named { IsTrue F.told → IsCommitFile (bytes_of (F.files folder.old CommitName)) c.now
         → OnDamage result (IsFound (F.files folder.old)) }
     ensures first { IsTrue F.told → OnDamage result (IsFirstListed (IsTrue F.told) (F.files folder.old) c.now) }
-    ensures evident { OnDamage result (IsEvident (IsTrue F.told × IsCommitFile (bytes_of (F.files folder.old CommitName)) c.now) (F.files folder.old)) }
+    ensures evident { OnDamage result
+        (IsEvident (IsTrue F.told × IsCommitFile (bytes_of (F.files folder.old CommitName)) c.now)
+        (F.files folder.old)) }
 {
     match c.dims() {
         1 => check_index::<1, F>(alloc, folder, c),
@@ -101,24 +112,30 @@ fn check_commit<F: Folder>(alloc: Global, folder: &mut F, c: &Commit) -> Result<
     }
 }
 
-/// Looks at the segments that a commit of `D` dimensions lists: opens them all, then reads the leaves of all, and then looks through
-/// what was found.
+/// Looks at the segments that a commit of `D` dimensions lists: opens them all, then reads the leaves of all, and
+/// then looks through what was found.
 fn check_index<const D: usize, F: Folder>(
     alloc: Global,
     folder: &mut F,
     c: &Commit,
 ) -> Result<(), PageFault>
     requires { c.now.dims ≡ D }
-    ensures holds { IsTrue F.told → IsCommitFile (bytes_of (F.files folder.old CommitName)) c.now → OnOk result ((docs : List Document) × HoldsIndex (F.files folder.old) c.now docs) }
+    ensures holds { IsTrue F.told → IsCommitFile (bytes_of (F.files folder.old CommitName)) c.now
+        → OnOk result ((docs : List Document) × HoldsIndex (F.files folder.old) c.now docs) }
     ensures files { IsTrue F.told → F.files folder.new ≡ F.files folder.old }
-    ensures reads { IsTrue F.told → (heads : List Head) (sets : List LiveSet) → HaveHeads (F.files folder.old) c.now heads → HaveLive (F.files folder.old) c.now sets
+    ensures reads { IsTrue F.told → (heads : List Head) (sets : List LiveSet)
+        → HaveHeads (F.files folder.old) c.now heads
+        → HaveLive (F.files folder.old) c.now sets
         → F.reads folder.new ≤ F.reads folder.old + sum_by (both_pages (F.files folder.old)) c.now.listed }
     ensures cause { HasPageCause (F.faults folder.old) (F.faults folder.new) result }
-    ensures undefined { IsTrue F.told → IsCommitFile (bytes_of (F.files folder.old CommitName)) c.now → OnDamage result (λ _. IsUndefined (F.files folder.old)) }
+    ensures undefined { IsTrue F.told → IsCommitFile (bytes_of (F.files folder.old CommitName)) c.now
+        → OnDamage result (λ _. IsUndefined (F.files folder.old)) }
     ensures named { IsTrue F.told → IsCommitFile (bytes_of (F.files folder.old CommitName)) c.now
         → OnDamage result (IsFound (F.files folder.old)) }
     ensures first { IsTrue F.told → OnDamage result (IsFirstListed (IsTrue F.told) (F.files folder.old) c.now) }
-    ensures evident { OnDamage result (IsEvident (IsTrue F.told × IsCommitFile (bytes_of (F.files folder.old CommitName)) c.now) (F.files folder.old)) }
+    ensures evident { OnDamage result
+        (IsEvident (IsTrue F.told × IsCommitFile (bytes_of (F.files folder.old CommitName)) c.now)
+        (F.files folder.old)) }
 {
     let segments = open_index::<D, F>(alloc, folder, c)?;
     let findings = read_leaves(alloc, folder, &segments)?;

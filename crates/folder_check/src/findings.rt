@@ -5,7 +5,8 @@ ghost use Rattle.std.specs.List.{AllZip};
 ghost use Rattle.page_cache.specs.declared.faults.Damage.TheVariants as damage;
 ghost use Rattle.page_cache.specs.declared.faults.PageFault.TheVariants as page;
 ghost use Rattle.page_cache.specs.Evidence.{OnDamage};
-ghost use Rattle.folder_check.specs.Found.{AreFine, HasAll, IsWrong, IsLacking, IsCrowding, IsLeastOf, IsBeyondGiven, all_entries, lesser};
+ghost use Rattle.folder_check.specs.Found.{AreFine, HasAll, IsWrong, IsLacking, IsCrowding, IsLeastOf, IsBeyondGiven};
+ghost use Rattle.folder_check.specs.Found.{all_entries, lesser};
 
 use commit_list::Listed;
 use outer_io::FileName;
@@ -22,8 +23,8 @@ pub(crate) struct Finding {
     pub(crate) entries: u64,
 }
 
-/// Whether what was found in the listed segments is that of an index with so many points given. Looked for are, in this order: a live
-/// number without an entry, a crowded number, and more live entries than points.
+/// Whether what was found in the listed segments is that of an index with so many points given. Looked for are, in
+/// this order: a live number without an entry, a crowded number, and more live entries than points.
 pub(crate) fn judge(listed: &[Listed], given: u32, findings: &[Finding]) -> Result<(), PageFault>
     requires { length findings.now ≡ length listed.now }
     ensures fine { OnOk result (AreFine listed.now given findings.now) }
@@ -35,8 +36,8 @@ pub(crate) fn judge(listed: &[Listed], given: u32, findings: &[Finding]) -> Resu
     check_given(given, findings)
 }
 
-/// Whether each live number of each segment has an entry. Of the first segment in which one has none the file of live bits is
-/// named.
+/// Whether each live number of each segment has an entry. Of the first segment in which one has none the file of live
+/// bits is named.
 fn check_found(listed: &[Listed], findings: &[Finding]) -> Result<(), PageFault>
     requires { length findings.now ≡ length listed.now }
     ensures all { OnOk result (AllZip HasAll listed.now findings.now) }
@@ -98,7 +99,8 @@ fn lesser(a: Option<u32>, b: Option<u32>) -> Option<u32>
     }
 }
 
-/// Whether the live entries of all segments are no more than the points given. Where they are, the Commit file is named.
+/// Whether the live entries of all segments are no more than the points given. Where they are, the Commit file is
+/// named.
 fn check_given(given: u32, findings: &[Finding]) -> Result<(), PageFault>
     ensures few { OnOk result (all_entries findings.now ≤ given) }
     ensures more { OnDamage result (IsBeyondGiven given findings.now) }

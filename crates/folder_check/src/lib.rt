@@ -1,5 +1,5 @@
-//! Whether the files of a folder hold an index: every page of each file that the commit lists is read and looked at. Nothing is
-//! changed, and no page is kept.
+//! Whether the files of a folder hold an index: every page of each file that the commit lists is read and looked at.
+//! Nothing is changed, and no page is kept.
 #![tactic(auto)]
 
 mod checking;

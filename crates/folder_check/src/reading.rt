@@ -63,7 +63,8 @@ fn read_segment<const D: usize, F: Pages>(
     head: &SegmentHead<D>,
     live: &LiveBits,
 ) -> Result<Finding, PageFault>
-    ensures found { IsTrue F.told → Agrees (F.files folder.old) cache.old → HasOwnHead D (F.files folder.old) (part_of head.now live.now)
+    ensures found { IsTrue F.told → Agrees (F.files folder.old) cache.old
+        → HasOwnHead D (F.files folder.old) (part_of head.now live.now)
         → IfOk result (IsFinding D (F.files folder.old) (part_of head.now live.now)) }
     ensures files { IsTrue F.told → F.files folder.new ≡ F.files folder.old }
     ensures agrees { IsTrue F.told → Agrees (F.files folder.old) cache.old → Agrees (F.files folder.old) cache.new }
@@ -71,8 +72,10 @@ fn read_segment<const D: usize, F: Pages>(
         → F.reads folder.new ≤ F.reads folder.old + leaf_pages (F.files folder.old) head.now }
     ensures cause { HasPageCause (F.faults folder.old) (F.faults folder.new) result }
     ensures shown { OnDamage result (IsReadDamage D head.now) }
-    ensures damage { IsTrue F.told → Agrees (F.files folder.old) cache.old → OnDamage result (IsLeafDamageOf (F.files folder.old)) }
-    ensures whole { IsTrue F.told → Agrees (F.files folder.old) cache.old → HasSegment D (F.files folder.old) (part_of head.now live.now) → NotDamaged result }
+    ensures damage { IsTrue F.told → Agrees (F.files folder.old) cache.old
+        → OnDamage result (IsLeafDamageOf (F.files folder.old)) }
+    ensures whole { IsTrue F.told → Agrees (F.files folder.old) cache.old
+        → HasSegment D (F.files folder.old) (part_of head.now live.now) → NotDamaged result }
 {
     head.index().is_spelled();
     let entries = read_entries(alloc, folder, cache, head, live)?;

@@ -26,8 +26,10 @@ made_docs seed n = kept n (documents seed n)
 abbrev pub IsMade : (seed n bound : ℕ) → Spot → Type 0
 IsMade seed n bound at = Sees 2 at.files at.session.set (drawn_index seed n bound)
 
--- From the one place to the other the session comes from the one state to the other, where it is done. What is kept stays, and each segment that is written is canonical.
-pub record Makes {T : Type 0} (told : Type 0) (Before After : Spot → Type 0) (old new : Spot) (result : Result T PageFault) : Type 0 where
+-- From the one place to the other the session comes from the one state to the other, where it is done. What is kept
+-- stays, and each segment that is written is canonical.
+pub record Makes {T : Type 0} (told : Type 0) (Before After : Spot → Type 0) (old new : Spot)
+    (result : Result T PageFault) : Type 0 where
   pub made : told → Before old → OnOk result (After new)
   pub guards : told → Guards 2 old.files old.session → Guards 2 new.files new.session
   pub kept : told → Guards 2 old.files old.session → SameKept old.files new.files

@@ -53,8 +53,9 @@ pub struct Summary {
     pub near: u128,
 }
 
-/// Makes an index of so many drawn documents in a folder that has none, deletes every tenth, asks drawn queries, and commits. What is
-/// said of it is appended to `text`; the answer is true where an index is there, which is refused and leaves the folder.
+/// Makes an index of so many drawn documents in a folder that has none, deletes every tenth, asks drawn queries, and
+/// commits. What is said of it is appended to `text`; the answer is true where an index is there, which is refused
+/// and leaves the folder.
 pub fn generate<R: Threads + Sync, F: Folder, G: Gate>(
     work: &Work<'_, R, G>,
     docs: u32,
@@ -65,9 +66,12 @@ pub fn generate<R: Threads + Sync, F: Folder, G: Gate>(
     requires { docs ≤ 1000000 }
     ensures generates { IsTrue F.told → (state : State) → IsStored (F.files folder.old) state
         → DoesWhole (F.files folder.new) state (generated state docs seed) text.old.items text.new.items result }
-    ensures unchanged { IsTrue F.told → IfOk result (λ refused. refused ≡ true → F.files folder.new ≡ F.files folder.old) }
-    ensures canon { IsTrue F.told → (state : State) → IsStored (F.files folder.old) state → OnOk result (HasNewCanonical (F.files folder.old) (F.files folder.new)) }
-    ensures levels { IsTrue F.told → (state : State) → IsStored (F.files folder.old) state → OnOk result (KeepsLevels (F.files folder.old) (F.files folder.new)) }
+    ensures unchanged { IsTrue F.told
+        → IfOk result (λ refused. refused ≡ true → F.files folder.new ≡ F.files folder.old) }
+    ensures canon { IsTrue F.told → (state : State) → IsStored (F.files folder.old) state
+        → OnOk result (HasNewCanonical (F.files folder.old) (F.files folder.new)) }
+    ensures levels { IsTrue F.told → (state : State) → IsStored (F.files folder.old) state
+        → OnOk result (KeepsLevels (F.files folder.old) (F.files folder.new)) }
     // whatever the folder holds
     ensures undone { IsTrue F.told → KeepsUndone (F.files folder.old) (F.files folder.new) result }
     ensures cause { HasPageCause (F.faults folder.old) (F.faults folder.new) result }
@@ -95,11 +99,15 @@ fn generate_first<R: Threads + Sync, F: Folder, G: Gate>(
     ensures generates { IsTrue F.told → F.files folder.old CommitName ≡ None
         → DoesWhole (F.files folder.new) None (generated None docs seed) text.old.items text.new.items result }
     ensures done { IfOk result (λ refused. refused ≡ true → ⊥) }
-    ensures canon { IsTrue F.told → F.files folder.old CommitName ≡ None → OnOk result (HasNewCanonical (F.files folder.old) (F.files folder.new)) }
-    ensures levels { IsTrue F.told → F.files folder.old CommitName ≡ None → OnOk result (KeepsLevels (F.files folder.old) (F.files folder.new)) }
-    ensures undone { IsTrue F.told → F.files folder.old CommitName ≡ None → KeepsUndone (F.files folder.old) (F.files folder.new) result }
+    ensures canon { IsTrue F.told → F.files folder.old CommitName ≡ None
+        → OnOk result (HasNewCanonical (F.files folder.old) (F.files folder.new)) }
+    ensures levels { IsTrue F.told → F.files folder.old CommitName ≡ None
+        → OnOk result (KeepsLevels (F.files folder.old) (F.files folder.new)) }
+    ensures undone { IsTrue F.told → F.files folder.old CommitName ≡ None
+        → KeepsUndone (F.files folder.old) (F.files folder.new) result }
     ensures cause { HasPageCause (F.faults folder.old) (F.faults folder.new) result }
-    ensures evident { OnDamage result (IsEvident (IsTrue F.told × (F.files folder.old CommitName ≡ None)) (F.files folder.new)) }
+    ensures evident { OnDamage result
+        (IsEvident (IsTrue F.told × (F.files folder.old CommitName ≡ None)) (F.files folder.new)) }
 {
     index_made();
     documents_added();
@@ -124,8 +132,12 @@ fn fill<R: Threads + Sync, F: Folder, G: Gate>(
     ensures makes { Makes (IsTrue F.told) (IsMade seed 0 0) (IsMade seed docs docs)
         (record { files = F.files folder.old; session = session.old; faults = F.faults folder.old })
         (record { files = F.files folder.new; session = session.new; faults = F.faults folder.new }) result }
-    ensures summary { IsTrue F.told → IsMade seed 0 0 (record { files = F.files folder.old; session = session.old; faults = F.faults folder.old })
-        → IfOk result (λ s. (s.docs ≡ docs) × (s.live ≡ length (made_docs seed docs)) × (s.hits ≡ box_hits (made_docs seed docs) (points seed docs 64))
+    ensures summary { IsTrue F.told
+        → IsMade seed 0 0
+        (record { files = F.files folder.old; session = session.old; faults = F.faults folder.old })
+        → IfOk result
+        (λ s. (s.docs ≡ docs) × (s.live ≡ length (made_docs seed docs))
+        × (s.hits ≡ box_hits (made_docs seed docs) (points seed docs 64))
         × (s.near ≡ near_sum (made_docs seed docs) (points seed (docs + 64) 16))) }
 {
     let mut draws = Draws::new(seed);
@@ -170,12 +182,16 @@ fn add_drawn<R: Threads + Sync, F: Folder, G: Gate>(
 /// Deletes the documents below `docs` whose numbers are multiples of 10, and answers how many of that many are left.
 fn delete_tenths(session: &mut Session<2>, docs: u32) -> u32
     requires { docs ≤ 1000000 }
-    ensures made { (files : Files) (faults seed : ℕ) → IsMade seed docs 0 (record { files = files; session = session.old; faults = faults })
+    ensures made { (files : Files) (faults seed : ℕ)
+        → IsMade seed docs 0 (record { files = files; session = session.old; faults = faults })
         → IsMade seed docs docs (record { files = files; session = session.new; faults = faults }) }
-    ensures live { (files : Files) (faults seed : ℕ) → IsMade seed docs 0 (record { files = files; session = session.old; faults = faults }) → result ≡ length (made_docs seed docs) }
+    ensures live { (files : Files) (faults seed : ℕ)
+        → IsMade seed docs 0 (record { files = files; session = session.old; faults = faults })
+        → result ≡ length (made_docs seed docs) }
     ensures guards { (files : Files) → Guards 2 files session.old → Guards 2 files session.new }
     ensures faithful { (files : Files) → IsFaithful 2 files session.old.set → IsFaithful 2 files session.new.set }
-    ensures traced { (files : Files) → AreTraced 2 files session.old.set.parts → AreTraced 2 files session.new.set.parts }
+    ensures traced { (files : Files) → AreTraced 2 files session.old.set.parts
+        → AreTraced 2 files session.new.set.parts }
     ensures canon { (files : Files) → BringsCanonical 2 files files session.old.set.parts session.new.set.parts }
 {
     documents_deleted();
@@ -206,7 +222,9 @@ fn ask_boxes<R: Threads + Sync, F: Folder, G: Gate>(
     ensures makes { (seed n : ℕ) → Makes (IsTrue F.told) (IsMade seed n n) (IsMade seed n n)
         (record { files = F.files folder.old; session = session.old; faults = F.faults folder.old })
         (record { files = F.files folder.new; session = session.new; faults = F.faults folder.new }) result }
-    ensures hits { IsTrue F.told → (seed n : ℕ) → IsMade seed n n (record { files = F.files folder.old; session = session.old; faults = F.faults folder.old }) → draws.old ≡ draw seed (2 * n)
+    ensures hits { IsTrue F.told → (seed n : ℕ)
+        → IsMade seed n n (record { files = F.files folder.old; session = session.old; faults = F.faults folder.old })
+        → draws.old ≡ draw seed (2 * n)
         → IfOk result (λ hits. hits ≡ box_hits (made_docs seed n) (points seed n 64)) }
     ensures drawn { (seed n : ℕ) → draws.old ≡ draw seed (2 * n) → OnOk result (draws.new ≡ draw seed (2 * (n + 64))) }
 {
@@ -235,7 +253,9 @@ fn ask_nearest<R: Threads + Sync, F: Folder, G: Gate>(
     ensures makes { (seed n : ℕ) → Makes (IsTrue F.told) (IsMade seed n n) (IsMade seed n n)
         (record { files = F.files folder.old; session = session.old; faults = F.faults folder.old })
         (record { files = F.files folder.new; session = session.new; faults = F.faults folder.new }) result }
-    ensures near { IsTrue F.told → (seed n : ℕ) → IsMade seed n n (record { files = F.files folder.old; session = session.old; faults = F.faults folder.old }) → draws.old ≡ draw seed (2 * (n + 64))
+    ensures near { IsTrue F.told → (seed n : ℕ)
+        → IsMade seed n n (record { files = F.files folder.old; session = session.old; faults = F.faults folder.old })
+        → draws.old ≡ draw seed (2 * (n + 64))
         → IfOk result (λ near. near ≡ near_sum (made_docs seed n) (points seed (n + 64) 16)) }
 {
     sums_are_small();

@@ -9,7 +9,9 @@ use std::alloc::AllocError;
 
 /// Appends how many documents were made and live, and what the queries found.
 pub fn put_summary(text: &mut Vec<u8>, s: &Summary) -> Result<(), AllocError>
-    ensures { OnOk result (text.new.items ≡ text.old.items ++ (ended (codes "docs " ++ decimal s.now.docs ++ codes " live " ++ decimal s.now.live)
+    ensures { OnOk result
+        (text.new.items ≡ text.old.items ++
+        (ended (codes "docs " ++ decimal s.now.docs ++ codes " live " ++ decimal s.now.live)
         ++ ended (codes "box hits " ++ decimal s.now.hits) ++ ended (codes "nearest sum " ++ decimal s.now.near))) }
 {
     let mut digits = Buffer::new();

@@ -1,4 +1,5 @@
--- What the damage shows that a request answers: by what it carries, and of the files where those are told and the kept pages are theirs.
+-- What the damage shows that a request answers: by what it carries, and of the files where those are told and the kept
+-- pages are theirs.
 use Rattle.std.specs.Prelude.{◌≡◌, ◌⊎◌, ℕ, List, Option, Some, Result}
 use Rattle.outer_io.specs.Files.{Files}
 use Rattle.page_cache.specs.Cache.{Agrees}
@@ -16,30 +17,44 @@ use Rattle.segment_set.specs.Damages.{IsDoubt, IsMergeDamage, IsMergeDamageOf}
 use Rattle.index_core.specs.Sessions.{SessionData}
 
 -- of a search: a leaf of one of the segments
-pub record ShowsLeaf {T : Type 0} (D : ℕ) (told : Type 0) (files : Files) (s : SetData) (parts : List Part) (result : Result T PageFault) : Type 0 where
+pub record ShowsLeaf {T : Type 0} (D : ℕ) (told : Type 0) (files : Files) (s : SetData) (parts : List Part)
+    (result : Result T PageFault) : Type 0 where
   pub shown : OnDamage result (IsPartDamage D parts)
   pub damage : told → Agrees files s.cache → OnDamage result (IsLeafDamageOf files)
 
--- Of what may merge: a leaf of a segment, or entries that are none of documents. Where the files hold the segments it is the latter.
-pub record ShowsMerge {T : Type 0} (D : ℕ) (told : Type 0) (old new : Files) (s : SetData) (result : Result T PageFault) : Type 0 where
+-- Of what may merge: a leaf of a segment, or entries that are none of documents. Where the files hold the segments it
+-- is the latter.
+pub record ShowsMerge {T : Type 0} (D : ℕ) (told : Type 0) (old new : Files) (s : SetData) (result : Result T PageFault)
+    : Type 0 where
   pub shown : OnDamage result (IsMergeDamage D s.given s.names s.parts)
   pub damage : told → Agrees old s.cache → OnDamage result (IsMergeDamageOf new s.given)
-  pub doubled : told → Agrees old s.cache → (c : Contents) → AreRead D old c s.parts → OnDamage result (IsDoubt s.given (live_in_parts c s.parts))
+  pub doubled : told → Agrees old s.cache → (c : Contents) → AreRead D old c s.parts
+      → OnDamage result (IsDoubt s.given (live_in_parts c s.parts))
 
 -- of what commits and attaches anew: the same, or a damage of a file that the commit lists
-pub record ShowsAnew {T : Type 0} (D : ℕ) (told : Type 0) (old new : Files) (s : SetData) (commit : Option CommitData) (result : Result T PageFault) : Type 0 where
-  pub shown : OnDamage result (λ d. IsMergeDamage D s.given s.names s.parts d ⊎ ((c : CommitData) × (commit ≡ Some c) × IsAttachDamage c d))
-  pub damage : told → Agrees old s.cache → OnDamage result (λ d. IsMergeDamageOf new s.given d ⊎ ((c : CommitData) × (commit ≡ Some c) × IsAttachDamageOf new c d))
+pub record ShowsAnew {T : Type 0} (D : ℕ) (told : Type 0) (old new : Files) (s : SetData) (commit : Option CommitData)
+    (result : Result T PageFault) : Type 0 where
+  pub shown : OnDamage result
+      (λ d. IsMergeDamage D s.given s.names s.parts d ⊎ ((c : CommitData) × (commit ≡ Some c) × IsAttachDamage c d))
+  pub damage : told → Agrees old s.cache
+      → OnDamage result
+      (λ d. IsMergeDamageOf new s.given d ⊎ ((c : CommitData) × (commit ≡ Some c) × IsAttachDamageOf new c d))
   pub doubled : told → Agrees old s.cache → (contents : Contents) → AreRead D old contents s.parts
-      → OnDamage result (λ d. IsDoubt s.given (live_in_parts contents s.parts) d ⊎ ((c : CommitData) × (commit ≡ Some c) × IsAttachDamageOf new c d))
+      → OnDamage result
+      (λ d. IsDoubt s.given (live_in_parts contents s.parts) d
+      ⊎ ((c : CommitData) × (commit ≡ Some c) × IsAttachDamageOf new c d))
 
 -- what the damage shows that the request answers; all else answers none
-abbrev pub ShowsDamage : {T : Type 0} → (D : ℕ) (told : Type 0) → Request → (old new : Files) → (s t : SessionData) → Result T PageFault → Type 0
+abbrev pub ShowsDamage : {T : Type 0} → (D : ℕ) (told : Type 0) → Request → (old new : Files) → (s t : SessionData)
+    → Result T PageFault → Type 0
 ShowsDamage D told (asks.Add points) old new s t result = ShowsMerge D told old new s.set result
 ShowsDamage D told (asks.DeleteBox lo hi) old new s t result = ShowsLeaf D told old s.set s.set.parts result
-ShowsDamage D told (asks.InBox view lo hi) old new s t result = ShowsLeaf D told old s.set (viewed_parts view s.set) result
-ShowsDamage D told (asks.InPolygon view rings) old new s t result = ShowsLeaf D told old s.set (viewed_parts view s.set) result
-ShowsDamage D told (asks.Nearest view k target) old new s t result = ShowsLeaf D told old s.set (viewed_parts view s.set) result
+ShowsDamage D told (asks.InBox view lo hi) old new s t result =
+    ShowsLeaf D told old s.set (viewed_parts view s.set) result
+ShowsDamage D told (asks.InPolygon view rings) old new s t result =
+    ShowsLeaf D told old s.set (viewed_parts view s.set) result
+ShowsDamage D told (asks.Nearest view k target) old new s t result =
+    ShowsLeaf D told old s.set (viewed_parts view s.set) result
 ShowsDamage D told asks.Flush old new s t result = ShowsMerge D told old new s.set result
 ShowsDamage D told asks.Merge old new s t result = ShowsMerge D told old new s.set result
 ShowsDamage D told (asks.MergeBegin positions) old new s t result = ShowsMerge D told old new s.set result

@@ -1,4 +1,5 @@
--- What done commands on segments leave of a set: the documents stay, and segments, buffer and begun merge are as these say.
+-- What done commands on segments leave of a set: the documents stay, and segments, buffer and begun merge are as these
+-- say.
 use Rattle.std.specs.Prelude.{◌≡◌, ◌≤◌, ◌⊎◌, ℕ, true, List, [], length, All, Contains, None, Some, Result, Ok, Err}
 use Rattle.outer_io.specs.declared.file_name.FileName.TheVariants.{Segment}
 use Rattle.outer_io.specs.Files.{Files}
@@ -31,7 +32,8 @@ OnRefused (Ok (applied.Refused why)) P = P
 OnRefused (Err fault) P = Unit {0}
 
 -- blank lines and queries change nothing but the kept pages, whatever is answered, and what is refused doesn't either
-abbrev pub KeepsStill : (told : Type 0) → Request → (old new : Files) → (s t : SessionData) → Result Applied PageFault → Type 0
+abbrev pub KeepsStill : (told : Type 0) → Request → (old new : Files) → (s t : SessionData) → Result Applied PageFault
+    → Type 0
 KeepsStill told asks.Blank old new s t result = IsStill told old new s t
 KeepsStill told (asks.InBox view lo hi) old new s t result = IsStill told old new s t
 KeepsStill told (asks.InPolygon view rings) old new s t result = IsStill told old new s t
@@ -44,15 +46,16 @@ KeepsStill told (asks.Snapshot name) old new s t result = OnRefused result (IsSt
 KeepsStill told (asks.Release name) old new s t result = OnRefused result (IsStill told old new s t)
 KeepsStill told _ old new s t result = Unit {0}
 
--- nothing waits, no level has more than ten segments that are no inputs of the begun merge, and each segment of a new name is canonical
+-- nothing waits, no level has more than ten segments that are no inputs of the begun merge, and each segment of a new
+-- name is canonical
 pub record IsFlushed (D : ℕ) (told : Type 0) (files : Files) (s t : SetData) : Type 0 where
   pub emptied : t.buffer ≡ []
   pub levels : (level : ℕ) → free_count level (sizes_of t.parts) (pins_of t.begun t.parts) ≤ 10
   pub begun : t.begun ≡ s.begun
   pub canon : told → AreCanonical D files s.names t.parts
 
--- Of the segments that are no inputs of a begun merge one is left at most, of index form 3, and each of its entries is live. Where it was so
--- already the set stays, and else just these were merged.
+-- Of the segments that are no inputs of a begun merge one is left at most, of index form 3, and each of its entries
+-- is live. Where it was so already the set stays, and else just these were merged.
 pub record IsMergedAll (D : ℕ) (told : Type 0) (files new_files : Files) (s t : SetData) : Type 0 where
   pub buffer : t.buffer ≡ s.buffer
   pub begun : t.begun ≡ s.begun
@@ -82,9 +85,11 @@ pub record IsOfBefore (old new : Files) (parts : List Part) (p : Part) : Type 0 
   pub head : part.head ≡ p.head
   pub file : new (Segment p.head.id) ≡ old (Segment p.head.id)
 
--- Each segment of now that isn't one of before is the canonical tree of entries that its file holds. What this says of one call after another it says of all.
+-- Each segment of now that isn't one of before is the canonical tree of entries that its file holds. What this says of
+-- one call after another it says of all.
 abbrev pub BringsCanonical : (D : ℕ) → (old new : Files) → (before now : List Part) → Type 0
-BringsCanonical D old new before now = (p : Part) → Contains now p → IsOfBefore old new before p ⊎ HasCanonical D new p.head
+BringsCanonical D old new before now = (p : Part) → Contains now p → IsOfBefore old new before p
+    ⊎ HasCanonical D new p.head
 
 -- what the request leaves of the set, once it is done
 abbrev pub Leaves : (D : ℕ) (told : Type 0) → Request → (files new_files : Files) → (s t : SetData) → Type 0

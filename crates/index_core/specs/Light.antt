@@ -1,5 +1,6 @@
 -- What requests leave that need no segment to be written or merged.
-use Rattle.std.specs.Prelude.{◌≡◌, ◌≤◌, ◌<◌, ◌+◌, ◌^◌, ◌⊎◌, ℕ, Bool, true, false, List, length, All, count_by, Option, None, Some}
+use Rattle.std.specs.Prelude.{◌≡◌, ◌≤◌, ◌<◌, ◌+◌, ◌^◌, ◌⊎◌, ℕ, Bool, true, false, List, length, All, count_by, Option}
+use Rattle.std.specs.Prelude.{None, Some}
 use Rattle.outer_io.specs.declared.file_name.FileName.TheVariants.{Commit}
 use Rattle.outer_io.specs.Files.{Files, bytes_of}
 use Rattle.merge_policy.specs.Choice.{is_of_level}
@@ -36,7 +37,8 @@ abbrev pub points_in : Request → ℕ
 points_in (asks.Add points) = length points
 points_in _ = 0
 
--- the set alone says that it is refused: more points would be given than ever may be, or no merge is begun that could end
+-- the set alone says that it is refused: more points would be given than ever may be, or no merge is begun that could
+-- end
 abbrev pub IsBarred : Request → SetData → Type 0
 IsBarred (asks.Add points) s = 2 ^ 24 < s.given + length points
 IsBarred asks.MergeEnd s = s.begun ≡ None
@@ -62,4 +64,5 @@ CommitsFewOfLevels commit = (c : CommitData) → commit ≡ Some c → HasFewOfL
 
 -- the Commit file stays, or says a commit that lists at most ten segments of one level
 abbrev pub KeepsLevels : Files → Files → Type 0
-KeepsLevels old new = (new Commit ≡ old Commit) ⊎ ((c : CommitData) × IsCommitFile (bytes_of (new Commit)) c × HasFewOfLevels c)
+KeepsLevels old new = (new Commit ≡ old Commit)
+    ⊎ ((c : CommitData) × IsCommitFile (bytes_of (new Commit)) c × HasFewOfLevels c)

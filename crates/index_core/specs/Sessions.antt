@@ -31,7 +31,8 @@ pub record SessionData : Type 0 where
   pub commit : Option CommitData
   pub refused : Bool
 
--- where there is a Commit file, it says a commit of these dimensions and of the set's leaf size, which lists nothing but files of the set's list of names
+-- where there is a Commit file, it says a commit of these dimensions and of the set's leaf size, which lists nothing
+-- but files of the set's list of names
 pub record ListsOnlyNamed (D : ℕ) (files : Files) (s : SetData) : Type 0 where
   pub commit : CommitData
   pub says : IsCommitFile (bytes_of (files Commit)) commit
@@ -53,15 +54,16 @@ pub record CoversPart (files : Files) (l : Listed) (p : Part) : Type 0 where
 -- the Commit file says this commit, whose live files cover the segments of now that it lists
 pub record IsLastCommit (files : Files) (s : SetData) (c : CommitData) : Type 0 where
   pub says : IsCommitFile (bytes_of (files Commit)) c
-  pub covers : (l : Listed) (p : Part) → Contains c.listed l → Contains s.parts p → l.segment ≡ p.head.id → CoversPart files l p
+  pub covers : (l : Listed) (p : Part) → Contains c.listed l → Contains s.parts p → l.segment ≡ p.head.id
+      → CoversPart files l p
 
 -- the last commit is the one that is there; where there was none, there is no Commit file
 abbrev pub IsLast : Files → SetData → Option CommitData → Type 0
 IsLast files s None = files Commit ≡ None
 IsLast files s (Some c) = IsLastCommit files s c
 
--- The session guards the files: no call of it changes what they keep before a commit has taken its place. Where a commit was refused it isn't known which of the
--- two is there.
+-- The session guards the files: no call of it changes what they keep before a commit has taken its place. Where a
+-- commit was refused it isn't known which of the two is there.
 pub record Guards (D : ℕ) (files : Files) (s : SessionData) : Type 0 where
   pub set : GuardsSet D files s.set
   pub last : s.refused ≡ false → IsLast files s.set s.commit
@@ -76,14 +78,16 @@ pub record IsListedWith (D : ℕ) (files : Files) (p : Part) : Type 0 where
   pub is : listed.segment ≡ p.head.id
   pub covers : CoversPart files listed p
 
--- it is known where the segment comes from: the commit lists it, or its file is the canonical tree of entries such as documents have
+-- it is known where the segment comes from: the commit lists it, or its file is the canonical tree of entries such as
+-- documents have
 abbrev pub IsTraced : ℕ → Files → Part → Type 0
 IsTraced D files p = IsListedWith D files p ⊎ HasCanonical D files p.head
 
 abbrev pub AreTraced : ℕ → Files → List Part → Type 0
 AreTraced D files parts = (p : Part) → Contains parts p → IsTraced D files p
 
--- the session guards the files, what its set keeps of them is theirs, and it is known where each segment of now comes from
+-- the session guards the files, what its set keeps of them is theirs, and it is known where each segment of now comes
+-- from
 pub record Trusts (D : ℕ) (files : Files) (s : SessionData) : Type 0 where
   pub guards : Guards D files s
   pub faithful : IsFaithful D files s.set
@@ -103,7 +107,8 @@ pub record IsStill (told : Type 0) (old new : Files) (s t : SessionData) : Type 
   pub refused : t.refused ≡ s.refused
   pub files : told → new ≡ old
 
--- what each session keeps to: its commit has its dimensions, the live numbers of each segment are a set, and its set keeps to its rules
+-- what each session keeps to: its commit has its dimensions, the live numbers of each segment are a set, and its set
+-- keeps to its rules
 pub record IsSound (D : ℕ) (s : SessionData) : Type 0 where
   pub dims : HasDims D s.commit
   pub sets : All (λ p. IsLiveSet p.live) s.set.parts

@@ -29,13 +29,16 @@ use Rattle.index_core.specs.Light.{CommitsFewOfLevels}
 abbrev pub SeesState : ℕ → Files → SetData → State → Type 0
 SeesState D files s state = (j : Index) × (state ≡ Some j) × Sees D files s j
 
--- The session does what the outcome says: it is seen as the state and appends the text, or it is refused for the cause, and is seen as before with the text as before. After
--- a fault it is seen as before.
-abbrev pub DoesOver : (D : ℕ) → Files → Outcome → Index → SetData → (before after : List ℕ) → Result Applied PageFault → Type 0
-DoesOver D files (Done state text) i new before after (Ok applied.Done) = SeesState D files new state × (after ≡ before ++ text)
+-- The session does what the outcome says: it is seen as the state and appends the text, or it is refused for the
+-- cause, and is seen as before with the text as before. After a fault it is seen as before.
+abbrev pub DoesOver : (D : ℕ) → Files → Outcome → Index → SetData → (before after : List ℕ) → Result Applied PageFault
+    → Type 0
+DoesOver D files (Done state text) i new before after (Ok applied.Done) = SeesState D files new state
+    × (after ≡ before ++ text)
 DoesOver D files (Done state text) i new before after (Ok (applied.Refused why)) = ⊥
 DoesOver D files (Refused cause) i new before after (Ok applied.Done) = ⊥
-DoesOver D files (Refused cause) i new before after (Ok (applied.Refused why)) = (why ≡ cause) × Sees D files new i × (after ≡ before)
+DoesOver D files (Refused cause) i new before after (Ok (applied.Refused why)) = (why ≡ cause) × Sees D files new i
+    × (after ≡ before)
 DoesOver D files (Done state text) i new before after (Err fault) = Sees D files new i
 DoesOver D files (Refused cause) i new before after (Err fault) = Sees D files new i
 
@@ -49,8 +52,8 @@ is_committing _ = false
 abbrev pub SaysCommit : Files → Option CommitData → Type 0
 SaysCommit files commit = (c : CommitData) × (commit ≡ Some c) × IsCommitFile (bytes_of (files Commit)) c
 
--- Committing leaves the session's commit in the Commit file. After a fault all that is kept is the same, or the commit in flight is there, the one that the set's last
--- save answered.
+-- Committing leaves the session's commit in the Commit file. After a fault all that is kept is the same, or the
+-- commit in flight is there, the one that the set's last save answered.
 abbrev pub Commits : {T : Type 0} → Files → Files → SessionData → Result T PageFault → Type 0
 Commits old new s (Ok x) = SaysCommit new s.commit
 Commits old new s (Err fault) = SameKept old new ⊎ SaysCommit new s.set.saved
@@ -59,7 +62,8 @@ Commits old new s (Err fault) = SameKept old new ⊎ SaysCommit new s.set.saved
 abbrev pub HasCommit : Files → Type 0
 HasCommit files = (c : CommitData) × IsCommitFile (bytes_of (files Commit)) c
 
--- After a damage all that is kept is the same. Where the folder failed, or memory was wanting, it is too, or a commit in flight has taken its place.
+-- After a damage all that is kept is the same. Where the folder failed, or memory was wanting, it is too, or a commit
+-- in flight has taken its place.
 abbrev pub FaultKeeps : Files → Files → PageFault → Type 0
 FaultKeeps old new page.Failed = SameKept old new ⊎ HasCommit new
 FaultKeeps old new page.Memory = SameKept old new ⊎ HasCommit new
@@ -75,7 +79,8 @@ abbrev pub KeepsOver : {T : Type 0} → Bool → Files → Files → SessionData
 KeepsOver false old new s result = SameKept old new
 KeepsOver true old new s result = Commits old new s result
 
--- a request that commits has stored what is seen, where it is done, and nothing waits in the buffer; after a fault it has, or all is kept as it was
+-- a request that commits has stored what is seen, where it is done, and nothing waits in the buffer; after a fault it
+-- has, or all is kept as it was
 abbrev pub Stores : {T : Type 0} → Files → Files → Index → SetData → Result T PageFault → Type 0
 Stores old new i s (Ok x) = IsStored new (Some (at_rest i)) × (s.buffer ≡ [])
 Stores old new i s (Err fault) = SameKept old new ⊎ IsStored new (Some (at_rest i))
@@ -90,20 +95,26 @@ pub record Place : Type 0 where
   pub faults : ℕ
 
 -- from the one place to the other the session does what this outcome says, committing or not
-pub record Applies (D : ℕ) (told : Type 0) (outcome : Index → Outcome) (committing : Bool) (old new : Place) (result : Result Applied PageFault) : Type 0 where
+pub record Applies (D : ℕ) (told : Type 0) (outcome : Index → Outcome) (committing : Bool) (old new : Place)
+    (result : Result Applied PageFault) : Type 0 where
   pub does : told → (i : Index) → Sees D old.files old.session.set i → Guards D old.files old.session
       → DoesOver D new.files (outcome i) i new.session.set old.text new.text result
   pub begins : Begins old.text new.text
   pub guards : told → Guards D old.files old.session → Guards D new.files new.session
   pub kept : told → Guards D old.files old.session → KeepsOver committing old.files new.files new.session result
-  pub stored : told → (i : Index) → Sees D old.files old.session.set i → Guards D old.files old.session → committing ≡ true → Stores old.files new.files i new.session.set result
+  pub stored : told → (i : Index) → Sees D old.files old.session.set i → Guards D old.files old.session
+      → committing ≡ true → Stores old.files new.files i new.session.set result
   pub cause : HasPageCause old.faults new.faults result
-  pub whole : told → (i : Index) → Sees D old.files old.session.set i → Guards D old.files old.session → NotDamaged result
+  pub whole : told → (i : Index) → Sees D old.files old.session.set i → Guards D old.files old.session
+      → NotDamaged result
   pub faithful : told → IsFaithful D old.files old.session.set → IsFaithful D new.files new.session.set
   pub traced : told → Trusts D old.files old.session → AreTraced D new.files new.session.set.parts
   pub evident : OnDamage result (IsEvident (told × Trusts D old.files old.session) new.files)
   pub idle : told → committing ≡ true → IsUnchanged old.session → new.files ≡ old.files
   pub unchanged : committing ≡ true → OnDone result (IsUnchanged new.session)
-  pub anew : committing ≡ true → (IsUnchanged old.session → ⊥) → OnDone result (IsCommitAnew old.session.set.names new.session)
-  pub levels : committing ≡ true → (IsUnchanged old.session → ⊥) → old.session.set.begun ≡ None → OnDone result (CommitsFewOfLevels new.session.commit)
-  pub canon : told → (i : Index) → Sees D old.files old.session.set i → Guards D old.files old.session → BringsCanonical D old.files new.files old.session.set.parts new.session.set.parts
+  pub anew : committing ≡ true → (IsUnchanged old.session → ⊥)
+      → OnDone result (IsCommitAnew old.session.set.names new.session)
+  pub levels : committing ≡ true → (IsUnchanged old.session → ⊥) → old.session.set.begun ≡ None
+      → OnDone result (CommitsFewOfLevels new.session.commit)
+  pub canon : told → (i : Index) → Sees D old.files old.session.set i → Guards D old.files old.session
+      → BringsCanonical D old.files new.files old.session.set.parts new.session.set.parts

@@ -1,5 +1,6 @@
 -- What commands that are done as a whole leave: documents are added without a line for each, and one text answers all.
-use Rattle.std.specs.Prelude.{◌≡◌, ◌⊎◌, ◌+◌, ℕ, Bool, cond, List, [], ◌∷◌, ◌++◌, length, fold, Contains, Result, Ok, Err, OnOk, ℤ}
+use Rattle.std.specs.Prelude.{◌≡◌, ◌⊎◌, ◌+◌, ℕ, Bool, cond, List, [], ◌∷◌, ◌++◌, length, fold, Contains, Result, Ok}
+use Rattle.std.specs.Prelude.{Err, OnOk, ℤ}
 use Rattle.outer_io.specs.declared.file_name.FileName.TheVariants.{Commit, Segment}
 use Rattle.outer_io.specs.Files.{Files, bytes_of}
 use Rattle.page_cache.specs.declared.faults.PageFault.{PageFault}
@@ -25,7 +26,13 @@ use Rattle.index_core.specs.Effects.{BringsCanonical}
 
 -- the index with a document of one point more
 abbrev pub with_point : Index → List ℤ → Index
-with_point i point = record i { next = i.next + 1; given = i.given + 1; docs = i.docs ++ record { number = i.next; points = point ∷ [] } ∷ [] }
+with_point i point =
+    record i {
+      next = i.next + 1;
+      given = i.given + 1;
+      docs = i.docs ++ record { number = i.next; points = point ∷ [] }
+          ∷ [];
+    }
 
 -- and with one for each point, in their order
 abbrev pub with_points : Index → List (List ℤ) → Index
@@ -37,10 +44,12 @@ pub record Spot : Type 0 where
   pub session : SessionData
   pub faults : ℕ
 
--- From the one place to the other a document came for each point, where it is done; after a fault some of them may have come. What is kept stays, and each
--- segment that is written is canonical.
-pub record Adds {T : Type 0} (D : ℕ) (told : Type 0) (points : List (List ℤ)) (old new : Spot) (result : Result T PageFault) : Type 0 where
-  pub seen : told → (i : Index) → Sees D old.files old.session.set i → OnOk result (Sees D new.files new.session.set (with_points i points))
+-- From the one place to the other a document came for each point, where it is done; after a fault some of them may
+-- have come. What is kept stays, and each segment that is written is canonical.
+pub record Adds {T : Type 0} (D : ℕ) (told : Type 0) (points : List (List ℤ)) (old new : Spot)
+    (result : Result T PageFault) : Type 0 where
+  pub seen : told → (i : Index) → Sees D old.files old.session.set i
+      → OnOk result (Sees D new.files new.session.set (with_points i points))
   pub given : OnOk result (new.session.set.given ≡ old.session.set.given + length points)
   pub guards : told → Guards D old.files old.session → Guards D new.files new.session
   pub kept : told → Guards D old.files old.session → SameKept old.files new.files
@@ -59,8 +68,9 @@ added (Err add.Failed) = Err page.Failed
 added (Err (add.Damaged d)) = Err (page.Damaged d)
 added (Err add.Memory) = Err page.Memory
 
--- A command that is done as a whole appends the text of the answer and leaves its state stored, and it is said whether it is refused. After a
--- fault of the folder or want of memory what was stored is, or what the answer leaves. The folder is never found damaged.
+-- A command that is done as a whole appends the text of the answer and leaves its state stored, and it is said
+-- whether it is refused. After a fault of the folder or want of memory what was stored is, or what the answer leaves.
+-- The folder is never found damaged.
 abbrev pub DoesWhole : Files → (stored : State) → Answer → (before after : List ℕ) → Result Bool PageFault → Type 0
 DoesWhole files stored answer before after (Ok is_refused) =
     (after ≡ before ++ answer.text) × (answer.refused ≡ cond is_refused 1 0) × IsStored files answer.state
@@ -74,5 +84,6 @@ IsNewSegment files id = (c : CommitData) → IsCommitFile (bytes_of (files Commi
 
 -- each segment that the commit lists and the one of before didn't is the canonical tree of the entries of its file
 abbrev pub HasNewCanonical : (old new : Files) → Type 0
-HasNewCanonical old new = (c : CommitData) → IsCommitFile (bytes_of (new Commit)) c → (l : Listed) → Contains c.listed l → IsNewSegment old l.segment
+HasNewCanonical old new = (c : CommitData) → IsCommitFile (bytes_of (new Commit)) c → (l : Listed) → Contains c.listed l
+    → IsNewSegment old l.segment
     → (head : Head) → HasHead c.dims new l head → HasCanonical c.dims new head

@@ -27,7 +27,8 @@ use std::marker::Sync;
 use std::thread::Threads;
 
 impl<const D: usize> Session<D> {
-    /// Adds a document. Its reply is written first, since the document stays once it is added. Where the set is full nothing is written.
+    /// Adds a document. Its reply is written first, since the document stays once it is added. Where the set is full
+    /// nothing is written.
     pub(crate) fn add<R: Threads + Sync, F: Folder, G: Gate>(
         &mut self,
         rt: &R,
@@ -38,13 +39,28 @@ impl<const D: usize> Session<D> {
         gate: &G,
     ) -> Result<Applied, PageFault>
         ensures applies { Applies D (IsTrue F.told) (λ i. step_on i (asks.Add points.now)) false
-            (record { files = F.files folder.old; session = self.old; text = out.old.items; faults = F.faults folder.old })
-            (record { files = F.files folder.new; session = self.new; text = out.new.items; faults = F.faults folder.new }) result }
-        ensures reads { ReadsAtMost D (IsTrue F.told) (asks.Add points.now) (F.files folder.old) self.old (F.reads folder.old) (F.reads folder.new) }
-        ensures damage { ShowsDamage D (IsTrue F.told) (asks.Add points.now) (F.files folder.old) (F.files folder.new) self.old self.new result }
-        ensures still { KeepsStill (IsTrue F.told) (asks.Add points.now) (F.files folder.old) (F.files folder.new) self.old self.new result }
+            (record {
+              files = F.files folder.old;
+              session = self.old;
+              text = out.old.items;
+              faults = F.faults folder.old;
+            })
+            (record {
+              files = F.files folder.new;
+              session = self.new;
+              text = out.new.items;
+              faults = F.faults folder.new;
+            }) result }
+        ensures reads { ReadsAtMost D (IsTrue F.told) (asks.Add points.now) (F.files folder.old) self.old
+            (F.reads folder.old)
+            (F.reads folder.new) }
+        ensures damage { ShowsDamage D (IsTrue F.told) (asks.Add points.now) (F.files folder.old)
+            (F.files folder.new) self.old self.new result }
+        ensures still { KeepsStill (IsTrue F.told) (asks.Add points.now) (F.files folder.old)
+            (F.files folder.new) self.old self.new result }
         ensures light { length self.old.set.buffer + length points.now ≤ 16384
-            → StaysLight (IsTrue F.told) (length points.now) (F.files folder.old) (F.files folder.new) self.old self.new }
+            → StaysLight (IsTrue F.told) (length points.now) (F.files folder.old)
+            (F.files folder.new) self.old self.new }
         ensures unread { OnRefused result (F.reads folder.new ≡ F.reads folder.old) }
         ensures barred { 2 ^ 24 < self.old.set.given + length points.now → IsOk result }
     {
@@ -92,10 +108,22 @@ impl<const D: usize> Session<D> {
         out: &mut Vec<u8>,
     ) -> Result<Applied, PageFault>
         ensures applies { Applies D (IsTrue F.told) (λ i. step_on i (asks.DeleteBox lo.now.c hi.now.c)) false
-            (record { files = F.files folder.old; session = self.old; text = out.old.items; faults = F.faults folder.old })
-            (record { files = F.files folder.new; session = self.new; text = out.new.items; faults = F.faults folder.new }) result }
-        ensures reads { ReadsAtMost D (IsTrue F.told) (asks.DeleteBox lo.now.c hi.now.c) (F.files folder.old) self.old (F.reads folder.old) (F.reads folder.new) }
-        ensures damage { ShowsDamage D (IsTrue F.told) (asks.DeleteBox lo.now.c hi.now.c) (F.files folder.old) (F.files folder.new) self.old self.new result }
+            (record {
+              files = F.files folder.old;
+              session = self.old;
+              text = out.old.items;
+              faults = F.faults folder.old;
+            })
+            (record {
+              files = F.files folder.new;
+              session = self.new;
+              text = out.new.items;
+              faults = F.faults folder.new;
+            }) result }
+        ensures reads { ReadsAtMost D (IsTrue F.told) (asks.DeleteBox lo.now.c hi.now.c) (F.files folder.old) self.old
+            (F.reads folder.old) (F.reads folder.new) }
+        ensures damage { ShowsDamage D (IsTrue F.told) (asks.DeleteBox lo.now.c hi.now.c) (F.files folder.old)
+            (F.files folder.new) self.old self.new result }
         ensures unread { OnRefused result (F.reads folder.new ≡ F.reads folder.old) }
     {
         let mut shape = BoxShape::new(*lo, *hi);
@@ -120,11 +148,23 @@ impl<const D: usize> Session<D> {
         gate: &G,
     ) -> Result<Applied, PageFault>
         ensures applies { Applies D (IsTrue F.told) (λ i. step_on i asks.Flush) false
-            (record { files = F.files folder.old; session = self.old; text = out.old.items; faults = F.faults folder.old })
-            (record { files = F.files folder.new; session = self.new; text = out.new.items; faults = F.faults folder.new }) result }
+            (record {
+              files = F.files folder.old;
+              session = self.old;
+              text = out.old.items;
+              faults = F.faults folder.old;
+            })
+            (record {
+              files = F.files folder.new;
+              session = self.new;
+              text = out.new.items;
+              faults = F.faults folder.new;
+            }) result }
         ensures leaves { OnDone result (IsFlushed D (IsTrue F.told) (F.files folder.new) self.old.set self.new.set) }
-        ensures reads { ReadsAtMost D (IsTrue F.told) asks.Flush (F.files folder.old) self.old (F.reads folder.old) (F.reads folder.new) }
-        ensures damage { ShowsDamage D (IsTrue F.told) asks.Flush (F.files folder.old) (F.files folder.new) self.old self.new result }
+        ensures reads { ReadsAtMost D (IsTrue F.told) asks.Flush (F.files folder.old) self.old (F.reads folder.old)
+            (F.reads folder.new) }
+        ensures damage { ShowsDamage D (IsTrue F.told) asks.Flush (F.files folder.old)
+            (F.files folder.new) self.old self.new result }
         ensures unread { OnRefused result (F.reads folder.new ≡ F.reads folder.old) }
     {
         // its segments are all named
@@ -144,10 +184,22 @@ impl<const D: usize> Session<D> {
         gate: &G,
     ) -> Result<Applied, PageFault>
         ensures applies { Applies D (IsTrue F.told) (λ i. step_on i asks.Merge) false
-            (record { files = F.files folder.old; session = self.old; text = out.old.items; faults = F.faults folder.old })
-            (record { files = F.files folder.new; session = self.new; text = out.new.items; faults = F.faults folder.new }) result }
-        ensures leaves { OnDone result (IsMergedAll D (IsTrue F.told) (F.files folder.old) (F.files folder.new) self.old.set self.new.set) }
-        ensures damage { ShowsDamage D (IsTrue F.told) asks.Merge (F.files folder.old) (F.files folder.new) self.old self.new result }
+            (record {
+              files = F.files folder.old;
+              session = self.old;
+              text = out.old.items;
+              faults = F.faults folder.old;
+            })
+            (record {
+              files = F.files folder.new;
+              session = self.new;
+              text = out.new.items;
+              faults = F.faults folder.new;
+            }) result }
+        ensures leaves { OnDone result
+            (IsMergedAll D (IsTrue F.told) (F.files folder.old) (F.files folder.new) self.old.set self.new.set) }
+        ensures damage { ShowsDamage D (IsTrue F.told) asks.Merge (F.files folder.old)
+            (F.files folder.new) self.old self.new result }
         ensures unread { OnRefused result (F.reads folder.new ≡ F.reads folder.old) }
     {
         // its segments are all named
@@ -168,12 +220,24 @@ impl<const D: usize> Session<D> {
         gate: &G,
     ) -> Result<Applied, PageFault>
         ensures applies { Applies D (IsTrue F.told) (λ i. step_on i (asks.MergeBegin which.now)) false
-            (record { files = F.files folder.old; session = self.old; text = out.old.items; faults = F.faults folder.old })
-            (record { files = F.files folder.new; session = self.new; text = out.new.items; faults = F.faults folder.new }) result }
+            (record {
+              files = F.files folder.old;
+              session = self.old;
+              text = out.old.items;
+              faults = F.faults folder.old;
+            })
+            (record {
+              files = F.files folder.new;
+              session = self.new;
+              text = out.new.items;
+              faults = F.faults folder.new;
+            }) result }
         ensures leaves { OnDone result (HasBegun which.now self.old.set self.new.set) }
-        ensures damage { ShowsDamage D (IsTrue F.told) (asks.MergeBegin which.now) (F.files folder.old) (F.files folder.new) self.old self.new result }
+        ensures damage { ShowsDamage D (IsTrue F.told) (asks.MergeBegin which.now) (F.files folder.old)
+            (F.files folder.new) self.old self.new result }
         ensures unread { OnRefused result (F.reads folder.new ≡ F.reads folder.old) }
-        ensures still { KeepsStill (IsTrue F.told) (asks.MergeBegin which.now) (F.files folder.old) (F.files folder.new) self.old self.new result }
+        ensures still { KeepsStill (IsTrue F.told) (asks.MergeBegin which.now) (F.files folder.old)
+            (F.files folder.new) self.old self.new result }
     {
         if self.set.is_merging() {
             return Ok(Applied::Refused(Why::Begun));
@@ -190,14 +254,27 @@ impl<const D: usize> Session<D> {
         out: &mut Vec<u8>,
     ) -> Result<Applied, PageFault>
         ensures applies { Applies D (IsTrue F.told) (λ i. step_on i asks.MergeEnd) false
-            (record { files = F.files folder.old; session = self.old; text = out.old.items; faults = F.faults folder.old })
-            (record { files = F.files folder.new; session = self.new; text = out.new.items; faults = F.faults folder.new }) result }
+            (record {
+              files = F.files folder.old;
+              session = self.old;
+              text = out.old.items;
+              faults = F.faults folder.old;
+            })
+            (record {
+              files = F.files folder.new;
+              session = self.new;
+              text = out.new.items;
+              faults = F.faults folder.new;
+            }) result }
         ensures leaves { OnDone result (HasEnded D (IsTrue F.told) (F.files folder.new) self.old.set self.new.set) }
-        ensures reads { ReadsAtMost D (IsTrue F.told) asks.MergeEnd (F.files folder.old) self.old (F.reads folder.old) (F.reads folder.new) }
-        ensures damage { ShowsDamage D (IsTrue F.told) asks.MergeEnd (F.files folder.old) (F.files folder.new) self.old self.new result }
+        ensures reads { ReadsAtMost D (IsTrue F.told) asks.MergeEnd (F.files folder.old) self.old (F.reads folder.old)
+            (F.reads folder.new) }
+        ensures damage { ShowsDamage D (IsTrue F.told) asks.MergeEnd (F.files folder.old)
+            (F.files folder.new) self.old self.new result }
         ensures unread { OnRefused result (F.reads folder.new ≡ F.reads folder.old) }
         ensures barred { self.old.set.begun ≡ None → IsOk result }
-        ensures still { KeepsStill (IsTrue F.told) asks.MergeEnd (F.files folder.old) (F.files folder.new) self.old self.new result }
+        ensures still { KeepsStill (IsTrue F.told) asks.MergeEnd (F.files folder.old)
+            (F.files folder.new) self.old self.new result }
     {
         if !self.set.is_merging() {
             return Ok(Applied::Refused(Why::NotBegun));
@@ -213,7 +290,8 @@ impl<const D: usize> Session<D> {
         name: &Name,
         out: &mut Vec<u8>,
     ) -> Result<Applied, PageFault>
-        ensures applies { (files : Files) (faults : ℕ) → Applies D (Unit {0}) (λ i. step_on i (asks.Snapshot name.now)) false
+        ensures applies { (files : Files) (faults : ℕ)
+            → Applies D (Unit {0}) (λ i. step_on i (asks.Snapshot name.now)) false
             (record { files = files; session = self.old; text = out.old.items; faults = faults })
             (record { files = files; session = self.new; text = out.new.items; faults = faults }) result }
         ensures damage { NotDamaged result }
@@ -229,7 +307,8 @@ impl<const D: usize> Session<D> {
 
     /// Lets the snapshot of a name go.
     pub(crate) fn release(&mut self, name: &Name, out: &mut Vec<u8>) -> Result<Applied, PageFault>
-        ensures applies { (files : Files) (faults : ℕ) → Applies D (Unit {0}) (λ i. step_on i (asks.Release name.now)) false
+        ensures applies { (files : Files) (faults : ℕ)
+            → Applies D (Unit {0}) (λ i. step_on i (asks.Release name.now)) false
             (record { files = files; session = self.old; text = out.old.items; faults = faults })
             (record { files = files; session = self.new; text = out.new.items; faults = faults }) result }
         ensures damage { NotDamaged result }

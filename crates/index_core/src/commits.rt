@@ -1,10 +1,12 @@
 //! Commits, and sessions anew over one.
 
-ghost use Rattle.std.specs.Prelude.{◌≡◌, ◌↔◌, ◌⊎◌, ℕ, [], None, Some, true, false, All, Contains, IsTrue, IsSome, IsOk, IfOk, OnOk};
+ghost use Rattle.std.specs.Prelude.{◌≡◌, ◌↔◌, ◌⊎◌, ℕ, [], None, Some, true, false, All, Contains, IsTrue, IsSome, IsOk};
+ghost use Rattle.std.specs.Prelude.{IfOk, OnOk};
 ghost use Rattle.std.specs.List.{AllZip};
 ghost use Rattle.outer_io.specs.Files.{Files, SameButTwo, bytes_of};
 ghost use Rattle.outer_io.specs.declared.file_name.FileName.{FileName};
-ghost use Rattle.outer_io.specs.declared.file_name.FileName.TheVariants.{Commit as CommitName, CommitNew, Live, Segment};
+ghost use Rattle.outer_io.specs.declared.file_name.FileName.TheVariants.{Commit as CommitName, CommitNew, Live};
+ghost use Rattle.outer_io.specs.declared.file_name.FileName.TheVariants.{Segment};
 ghost use Rattle.page_cache.specs.Causes.{HasPageCause};
 ghost use Rattle.page_cache.specs.Evidence.{NotDamaged, OnDamage};
 ghost use Rattle.commit_list.specs.Commits.{CommitData};
@@ -44,8 +46,8 @@ use std::marker::Sync;
 use std::thread::Threads;
 
 impl<const D: usize> Session<D> {
-    /// Commits, only if something changed: there is no commit yet, one was refused, or the documents, the next number, the points given or
-    /// the segments are others than those of the last one.
+    /// Commits, only if something changed: there is no commit yet, one was refused, or the documents, the next
+    /// number, the points given or the segments are others than those of the last one.
     pub fn commit<R: Threads + Sync, F: Folder, G: Gate>(
         &mut self,
         rt: &R,
@@ -53,13 +55,17 @@ impl<const D: usize> Session<D> {
         folder: &mut F,
         gate: &G,
     ) -> Result<(), PageFault>
-        ensures seen { IsTrue F.told → (i : Index) → Sees D (F.files folder.old) self.old.set i → Sees D (F.files folder.new) self.new.set i }
-        ensures guards { IsTrue F.told → Guards D (F.files folder.old) self.old → Guards D (F.files folder.new) self.new }
-        ensures kept { IsTrue F.told → Guards D (F.files folder.old) self.old → KeepsOver true (F.files folder.old) (F.files folder.new) self.new result }
+        ensures seen { IsTrue F.told → (i : Index) → Sees D (F.files folder.old) self.old.set i
+            → Sees D (F.files folder.new) self.new.set i }
+        ensures guards { IsTrue F.told → Guards D (F.files folder.old) self.old
+            → Guards D (F.files folder.new) self.new }
+        ensures kept { IsTrue F.told → Guards D (F.files folder.old) self.old
+            → KeepsOver true (F.files folder.old) (F.files folder.new) self.new result }
         // whatever is answered, all that is kept is the same, or the commit in flight is there
         ensures flight { IsTrue F.told → Guards D (F.files folder.old) self.old
             → SameKept (F.files folder.old) (F.files folder.new) ⊎ SaysCommit (F.files folder.new) self.new.set.saved }
-        ensures stored { IsTrue F.told → (i : Index) → Sees D (F.files folder.old) self.old.set i → Guards D (F.files folder.old) self.old
+        ensures stored { IsTrue F.told → (i : Index) → Sees D (F.files folder.old) self.old.set i
+            → Guards D (F.files folder.old) self.old
             → Stores (F.files folder.old) (F.files folder.new) i self.new.set result }
         ensures emptied { OnOk result (self.new.set.buffer ≡ []) }
         ensures committed { OnOk result (IsSome self.new.commit × (self.new.refused ≡ false)) }
@@ -69,22 +75,30 @@ impl<const D: usize> Session<D> {
         // where something did, the commit is written anew; and once it is done nothing is changed
         ensures anew { (IsUnchanged self.old → ⊥) → OnOk result (IsCommitAnew self.old.set.names self.new) }
         ensures unchanged { OnOk result (IsUnchanged self.new) }
-        // with no merge begun it lists few segments of each level, and where none are chosen to be merged nothing is read
-        ensures levels { (IsUnchanged self.old → ⊥) → self.old.set.begun ≡ None → OnOk result (CommitsFewOfLevels self.new.commit) }
-        ensures few { IsTrue F.told → Guards D (F.files folder.old) self.old → self.old.set.begun ≡ None → OnOk result (KeepsLevels (F.files folder.old) (F.files folder.new)) }
+        // with no merge begun it lists few segments of each level, and where none are chosen to be merged nothing is
+        // read
+        ensures levels { (IsUnchanged self.old → ⊥) → self.old.set.begun ≡ None
+            → OnOk result (CommitsFewOfLevels self.new.commit) }
+        ensures few { IsTrue F.told → Guards D (F.files folder.old) self.old → self.old.set.begun ≡ None
+            → OnOk result (KeepsLevels (F.files folder.old) (F.files folder.new)) }
         ensures rested { IsSettled self.old.set → F.reads folder.new ≡ F.reads folder.old }
         // what is not done loses nothing that is kept, and after a damage no commit is in flight
-        ensures undone { IsTrue F.told → Guards D (F.files folder.old) self.old → KeepsUndone (F.files folder.old) (F.files folder.new) result }
+        ensures undone { IsTrue F.told → Guards D (F.files folder.old) self.old
+            → KeepsUndone (F.files folder.old) (F.files folder.new) result }
         // each segment that is written is canonical, whatever is answered
-        ensures canon { IsTrue F.told → BringsCanonical D (F.files folder.old) (F.files folder.new) self.old.set.parts self.new.set.parts }
+        ensures canon { IsTrue F.told
+            → BringsCanonical D (F.files folder.old) (F.files folder.new) self.old.set.parts self.new.set.parts }
         ensures cause { HasPageCause (F.faults folder.old) (F.faults folder.new) result }
         ensures whole { IsTrue F.told → (i : Index) → Sees D (F.files folder.old) self.old.set i → NotDamaged result }
         // what a damage shows
         ensures damage { ShowsMerge D (IsTrue F.told) (F.files folder.old) (F.files folder.new) self.old.set result }
         // whatever the files hold
-        ensures faithful { IsTrue F.told → IsFaithful D (F.files folder.old) self.old.set → IsFaithful D (F.files folder.new) self.new.set }
-        ensures traced { IsTrue F.told → Trusts D (F.files folder.old) self.old → AreTraced D (F.files folder.new) self.new.set.parts }
-        ensures evident { OnDamage result (IsEvident (IsTrue F.told × Trusts D (F.files folder.old) self.old) (F.files folder.new)) }
+        ensures faithful { IsTrue F.told → IsFaithful D (F.files folder.old) self.old.set
+            → IsFaithful D (F.files folder.new) self.new.set }
+        ensures traced { IsTrue F.told → Trusts D (F.files folder.old) self.old
+            → AreTraced D (F.files folder.new) self.new.set.parts }
+        ensures evident { OnDamage result
+            (IsEvident (IsTrue F.told × Trusts D (F.files folder.old) self.old) (F.files folder.new)) }
         // no file is there that the list of names doesn't have, but those that were
         ensures tracked { IsTrue F.told → OnOk result ((m : FileName)
             → IsTracked (F.files folder.old) (F.files folder.new) self.old.set.names self.new.set.names m) }
@@ -109,7 +123,8 @@ impl<const D: usize> Session<D> {
         ensures closed { OnOk result
             (IsClosed D (IsTrue F.told) (F.files folder.old) (F.files folder.new) self.old self.new) }
         ensures stored { IsTrue F.told → (i : Index) → Sees D (F.files folder.old) self.old.set i
-            → Guards D (F.files folder.old) self.old → Stores (F.files folder.old) (F.files folder.new) i self.new.set result }
+            → Guards D (F.files folder.old) self.old
+            → Stores (F.files folder.old) (F.files folder.new) i self.new.set result }
         ensures kept { IsTrue F.told → Guards D (F.files folder.old) self.old
             → KeepsOver true (F.files folder.old) (F.files folder.new) self.new result }
         ensures undone { IsTrue F.told → Guards D (F.files folder.old) self.old
@@ -147,7 +162,8 @@ impl<const D: usize> Session<D> {
         self.set.differs(commit)
     }
 
-    /// Makes the commit that the set saved the folder's. Where that is refused it isn't known which of the two is there.
+    /// Makes the commit that the set saved the folder's. Where that is refused it isn't known which of the two is
+    /// there.
     fn write<F: Folder>(
         &mut self,
         alloc: Global,
@@ -159,19 +175,26 @@ impl<const D: usize> Session<D> {
         requires emptied { self.old.set.buffer ≡ [] }
         ensures set { self.new.set ≡ self.old.set }
         ensures others { IsTrue F.told → SameButTwo CommitNew CommitName (F.files folder.old) (F.files folder.new) }
-        ensures faithful { IsTrue F.told → IsFaithful D (F.files folder.old) self.old.set → IsFaithful D (F.files folder.new) self.new.set }
+        ensures faithful { IsTrue F.told → IsFaithful D (F.files folder.old) self.old.set
+            → IsFaithful D (F.files folder.new) self.new.set }
         ensures gone { IsTrue F.told → OnOk result (F.files folder.new CommitNew ≡ None) }
         ensures written { OnOk result ((self.new.commit ≡ Some commit) × (self.new.refused ≡ false)) }
-        ensures seen { IsTrue F.told → (i : Index) → Sees D (F.files folder.old) self.old.set i → Sees D (F.files folder.new) self.new.set i }
+        ensures seen { IsTrue F.told → (i : Index) → Sees D (F.files folder.old) self.old.set i
+            → Sees D (F.files folder.new) self.new.set i }
         ensures guards { IsTrue F.told → GuardsSet D (F.files folder.old) self.old.set
-            → AllZip (λ l p. IsLiveFile l.segment l.generation (bytes_of (F.files folder.old (Live l.segment l.generation))) p.live) commit.listed self.old.set.parts
+            → AllZip (λ l p. IsLiveFile l.segment l.generation
+            (bytes_of (F.files folder.old (Live l.segment l.generation))) p.live) commit.listed self.old.set.parts
             → Guards D (F.files folder.new) self.new }
         ensures traced { IsTrue F.told
-            → AllZip (λ l p. IsLiveFile l.segment l.generation (bytes_of (F.files folder.old (Live l.segment l.generation))) p.live) commit.listed self.old.set.parts
-            → AreTraced D (F.files folder.old) self.old.set.parts → AreTraced D (F.files folder.new) self.new.set.parts }
+            → AllZip (λ l p. IsLiveFile l.segment l.generation
+            (bytes_of (F.files folder.old (Live l.segment l.generation))) p.live) commit.listed self.old.set.parts
+            → AreTraced D (F.files folder.old) self.old.set.parts
+            → AreTraced D (F.files folder.new) self.new.set.parts }
         ensures kept { IsTrue F.told → KeepsOver true (F.files folder.old) (F.files folder.new) self.new result }
         ensures stored { IsTrue F.told → (i : Index)
-            → ((files : Files) → IsCommitFile (bytes_of (files CommitName)) commit → ((m : FileName) → ListsFile commit m → files m ≡ F.files folder.old m) → IsStored files (Some (at_rest i)))
+            → ((files : Files) → IsCommitFile (bytes_of (files CommitName)) commit
+            → ((m : FileName) → ListsFile commit m → files m ≡ F.files folder.old m)
+            → IsStored files (Some (at_rest i)))
             → Stores (F.files folder.old) (F.files folder.new) i self.new.set result }
         ensures cause { HasPageCause (F.faults folder.old) (F.faults folder.new) result }
         ensures whole { NotDamaged result }
@@ -196,13 +219,20 @@ impl<const D: usize> Session<D> {
         requires there { IsSome self.old.commit }
         requires written { self.old.refused ≡ false }
         ensures alone { StaysButFiles self.old.set self.new.set }
-        ensures segments { IsTrue F.told → (p : Part) → Contains self.old.set.parts p → F.files folder.new (Segment p.head.id) ≡ F.files folder.old (Segment p.head.id) }
-        ensures faithful { IsTrue F.told → IsFaithful D (F.files folder.old) self.old.set → IsFaithful D (F.files folder.new) self.new.set }
+        ensures segments { IsTrue F.told → (p : Part) → Contains self.old.set.parts p
+            → F.files folder.new (Segment p.head.id) ≡ F.files folder.old (Segment p.head.id) }
+        ensures faithful { IsTrue F.told → IsFaithful D (F.files folder.old) self.old.set
+            → IsFaithful D (F.files folder.new) self.new.set }
         ensures written { (self.new.commit ≡ self.old.commit) × (self.new.refused ≡ false) }
-        ensures seen { IsTrue F.told → (i : Index) → Sees D (F.files folder.old) self.old.set i → Sees D (F.files folder.new) self.new.set i }
-        ensures guards { IsTrue F.told → Guards D (F.files folder.old) self.old → Guards D (F.files folder.new) self.new }
-        ensures traced { IsTrue F.told → Guards D (F.files folder.old) self.old → AreTraced D (F.files folder.old) self.old.set.parts → AreTraced D (F.files folder.new) self.new.set.parts }
-        ensures kept { IsTrue F.told → Guards D (F.files folder.old) self.old → SameKept (F.files folder.old) (F.files folder.new) }
+        ensures seen { IsTrue F.told → (i : Index) → Sees D (F.files folder.old) self.old.set i
+            → Sees D (F.files folder.new) self.new.set i }
+        ensures guards { IsTrue F.told → Guards D (F.files folder.old) self.old
+            → Guards D (F.files folder.new) self.new }
+        ensures traced { IsTrue F.told → Guards D (F.files folder.old) self.old
+            → AreTraced D (F.files folder.old) self.old.set.parts
+            → AreTraced D (F.files folder.new) self.new.set.parts }
+        ensures kept { IsTrue F.told → Guards D (F.files folder.old) self.old
+            → SameKept (F.files folder.old) (F.files folder.new) }
         ensures cause { HasPageCause (F.faults folder.old) (F.faults folder.new) result }
         ensures whole { NotDamaged result }
         ensures unread { F.reads folder.new ≡ F.reads folder.old }
@@ -231,10 +261,22 @@ impl<const D: usize> Session<D> {
         gate: &G,
     ) -> Result<Applied, PageFault>
         ensures applies { Applies D (IsTrue F.told) (λ i. step_on i asks.Commit) true
-            (record { files = F.files folder.old; session = self.old; text = out.old.items; faults = F.faults folder.old })
-            (record { files = F.files folder.new; session = self.new; text = out.new.items; faults = F.faults folder.new }) result }
-        ensures reads { ReadsAtMost D (IsTrue F.told) asks.Commit (F.files folder.old) self.old (F.reads folder.old) (F.reads folder.new) }
-        ensures damage { ShowsDamage D (IsTrue F.told) asks.Commit (F.files folder.old) (F.files folder.new) self.old self.new result }
+            (record {
+              files = F.files folder.old;
+              session = self.old;
+              text = out.old.items;
+              faults = F.faults folder.old;
+            })
+            (record {
+              files = F.files folder.new;
+              session = self.new;
+              text = out.new.items;
+              faults = F.faults folder.new;
+            }) result }
+        ensures reads { ReadsAtMost D (IsTrue F.told) asks.Commit (F.files folder.old) self.old (F.reads folder.old)
+            (F.reads folder.new) }
+        ensures damage { ShowsDamage D (IsTrue F.told) asks.Commit (F.files folder.old)
+            (F.files folder.new) self.old self.new result }
         ensures unread { OnRefused result (F.reads folder.new ≡ F.reads folder.old) }
     {
         self.commit(rt, alloc, folder, gate)?;
@@ -253,9 +295,20 @@ impl<const D: usize> Session<D> {
         gate: &G,
     ) -> Result<Applied, PageFault>
         ensures applies { Applies D (IsTrue F.told) (λ i. step_on i asks.Reopen) true
-            (record { files = F.files folder.old; session = self.old; text = out.old.items; faults = F.faults folder.old })
-            (record { files = F.files folder.new; session = self.new; text = out.new.items; faults = F.faults folder.new }) result }
-        ensures damage { ShowsDamage D (IsTrue F.told) asks.Reopen (F.files folder.old) (F.files folder.new) self.old self.new result }
+            (record {
+              files = F.files folder.old;
+              session = self.old;
+              text = out.old.items;
+              faults = F.faults folder.old;
+            })
+            (record {
+              files = F.files folder.new;
+              session = self.new;
+              text = out.new.items;
+              faults = F.faults folder.new;
+            }) result }
+        ensures damage { ShowsDamage D (IsTrue F.told) asks.Reopen (F.files folder.old)
+            (F.files folder.new) self.old self.new result }
         ensures unread { OnRefused result (F.reads folder.new ≡ F.reads folder.old) }
     {
         self.commit(rt, alloc, folder, gate)?;
@@ -274,21 +327,29 @@ impl<const D: usize> Session<D> {
         folder: &mut F,
     ) -> Result<SegmentSet<D>, PageFault>
         requires { IsSome self.now.commit }
-        ensures seen { IsTrue F.told → self.now.refused ≡ false → Guards D (F.files folder.old) self.now → (i : Index) → IsStored (F.files folder.old) (Some i)
+        ensures seen { IsTrue F.told → self.now.refused ≡ false → Guards D (F.files folder.old) self.now → (i : Index)
+            → IsStored (F.files folder.old) (Some i)
             → IfOk result (λ s. Sees D (F.files folder.old) s i) }
-        ensures guards { IsTrue F.told → self.now.refused ≡ false → Guards D (F.files folder.old) self.now → IfOk result (λ s. Guards D (F.files folder.old) (record self.now { set = s })) }
+        ensures guards { IsTrue F.told → self.now.refused ≡ false → Guards D (F.files folder.old) self.now
+            → IfOk result (λ s. Guards D (F.files folder.old) (record self.now { set = s })) }
         ensures faithful { IsTrue F.told → IfOk result (IsFaithful D (F.files folder.old)) }
-        ensures traced { IsTrue F.told → self.now.refused ≡ false → Guards D (F.files folder.old) self.now → IfOk result (λ s. AreTraced D (F.files folder.old) s.parts) }
+        ensures traced { IsTrue F.told → self.now.refused ≡ false → Guards D (F.files folder.old) self.now
+            → IfOk result (λ s. AreTraced D (F.files folder.old) s.parts) }
         ensures emptied { IfOk result (λ s. s.buffer ≡ []) }
         ensures names { (c : CommitData) → self.now.commit ≡ Some c
             → IfOk result (λ s. (m : FileName) → is_named s.names.names m ≡ true → ListsFile c m) }
         ensures unchanged { (c : CommitData) → self.now.commit ≡ Some c → IfOk result (λ s. IsAsCommitted s c) }
         ensures files { IsTrue F.told → F.files folder.new ≡ F.files folder.old }
         ensures cause { HasPageCause (F.faults folder.old) (F.faults folder.new) result }
-        ensures whole { IsTrue F.told → self.now.refused ≡ false → Guards D (F.files folder.old) self.now → (state : State) → IsStored (F.files folder.old) state → NotDamaged result }
+        ensures whole { IsTrue F.told → self.now.refused ≡ false → Guards D (F.files folder.old) self.now
+            → (state : State)
+            → IsStored (F.files folder.old) state → NotDamaged result }
         ensures shown { (c : CommitData) → self.now.commit ≡ Some c → OnDamage result (IsAttachDamage c) }
-        ensures damage { IsTrue F.told → (c : CommitData) → self.now.commit ≡ Some c → OnDamage result (IsAttachDamageOf (F.files folder.old) c) }
-        ensures evident { OnDamage result (IsEvident (IsTrue F.told × (self.now.refused ≡ false) × Guards D (F.files folder.old) self.now) (F.files folder.old)) }
+        ensures damage { IsTrue F.told → (c : CommitData) → self.now.commit ≡ Some c
+            → OnDamage result (IsAttachDamageOf (F.files folder.old) c) }
+        ensures evident { OnDamage result
+            (IsEvident (IsTrue F.told × (self.now.refused ≡ false) × Guards D (F.files folder.old) self.now)
+            (F.files folder.old)) }
     {
         let Some(commit) = &self.commit else {
             unreachable!()

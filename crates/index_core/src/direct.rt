@@ -88,7 +88,8 @@ impl<const D: usize> Session<D> {
 
     /// Takes a document out. True exactly where it was live. It takes no memory and no folder.
     pub fn take_out(&mut self, doc: u32) -> bool
-        ensures seen { (files : Files) (i : Index) → Sees D files self.old.set i → Sees D files self.new.set (record i { docs = deleted doc i.docs }) }
+        ensures seen { (files : Files) (i : Index) → Sees D files self.old.set i
+            → Sees D files self.new.set (record i { docs = deleted doc i.docs }) }
         ensures live { (files : Files) (i : Index) → Sees D files self.old.set i → result ≡ is_live doc i.docs }
         ensures guards { (files : Files) → Guards D files self.old → Guards D files self.new }
         ensures faithful { (files : Files) → IsFaithful D files self.old.set → IsFaithful D files self.new.set }
@@ -105,15 +106,20 @@ impl<const D: usize> Session<D> {
         folder: &mut F,
         shape: &mut S,
     ) -> Result<Vec<u32>, PageFault>
-        ensures found { IsTrue F.told → (i : Index) → Sees D (F.files folder.old) self.old.set i → IfOk result (λ v. v.items ≡ hits (S.has shape.old) i.docs) }
-        ensures seen { IsTrue F.told → (i : Index) → Sees D (F.files folder.old) self.old.set i → Sees D (F.files folder.new) self.new.set i }
-        ensures guards { IsTrue F.told → Guards D (F.files folder.old) self.old → Guards D (F.files folder.new) self.new }
+        ensures found { IsTrue F.told → (i : Index) → Sees D (F.files folder.old) self.old.set i
+            → IfOk result (λ v. v.items ≡ hits (S.has shape.old) i.docs) }
+        ensures seen { IsTrue F.told → (i : Index) → Sees D (F.files folder.old) self.old.set i
+            → Sees D (F.files folder.new) self.new.set i }
+        ensures guards { IsTrue F.told → Guards D (F.files folder.old) self.old
+            → Guards D (F.files folder.new) self.new }
         ensures files { IsTrue F.told → F.files folder.new ≡ F.files folder.old }
         ensures parts { self.new.set.parts ≡ self.old.set.parts }
         ensures cause { HasPageCause (F.faults folder.old) (F.faults folder.new) result }
         ensures whole { IsTrue F.told → (i : Index) → Sees D (F.files folder.old) self.old.set i → NotDamaged result }
-        ensures faithful { IsTrue F.told → IsFaithful D (F.files folder.old) self.old.set → IsFaithful D (F.files folder.new) self.new.set }
-        ensures evident { OnDamage result (IsEvident (IsTrue F.told × IsFaithful D (F.files folder.old) self.old.set) (F.files folder.new)) }
+        ensures faithful { IsTrue F.told → IsFaithful D (F.files folder.old) self.old.set
+            → IsFaithful D (F.files folder.new) self.new.set }
+        ensures evident { OnDamage result
+            (IsEvident (IsTrue F.told × IsFaithful D (F.files folder.old) self.old.set) (F.files folder.new)) }
     {
         self.set.visit(alloc, folder, &View::Now, shape)
     }
@@ -128,15 +134,20 @@ impl<const D: usize> Session<D> {
     ) -> Result<Vec<Near>, PageFault>
         requires some { 1 ≤ k }
         requires few { k ≤ 10000 }
-        ensures found { IsTrue F.told → (i : Index) → Sees D (F.files folder.old) self.old.set i → IfOk result (λ v. found_of v.items ≡ nearest k at.now.c i.docs) }
-        ensures seen { IsTrue F.told → (i : Index) → Sees D (F.files folder.old) self.old.set i → Sees D (F.files folder.new) self.new.set i }
-        ensures guards { IsTrue F.told → Guards D (F.files folder.old) self.old → Guards D (F.files folder.new) self.new }
+        ensures found { IsTrue F.told → (i : Index) → Sees D (F.files folder.old) self.old.set i
+            → IfOk result (λ v. found_of v.items ≡ nearest k at.now.c i.docs) }
+        ensures seen { IsTrue F.told → (i : Index) → Sees D (F.files folder.old) self.old.set i
+            → Sees D (F.files folder.new) self.new.set i }
+        ensures guards { IsTrue F.told → Guards D (F.files folder.old) self.old
+            → Guards D (F.files folder.new) self.new }
         ensures files { IsTrue F.told → F.files folder.new ≡ F.files folder.old }
         ensures parts { self.new.set.parts ≡ self.old.set.parts }
         ensures cause { HasPageCause (F.faults folder.old) (F.faults folder.new) result }
         ensures whole { IsTrue F.told → (i : Index) → Sees D (F.files folder.old) self.old.set i → NotDamaged result }
-        ensures faithful { IsTrue F.told → IsFaithful D (F.files folder.old) self.old.set → IsFaithful D (F.files folder.new) self.new.set }
-        ensures evident { OnDamage result (IsEvident (IsTrue F.told × IsFaithful D (F.files folder.old) self.old.set) (F.files folder.new)) }
+        ensures faithful { IsTrue F.told → IsFaithful D (F.files folder.old) self.old.set
+            → IsFaithful D (F.files folder.new) self.new.set }
+        ensures evident { OnDamage result
+            (IsEvident (IsTrue F.told × IsFaithful D (F.files folder.old) self.old.set) (F.files folder.new)) }
     {
         self.set.nearest(alloc, folder, &View::Now, at, k)
     }

@@ -45,11 +45,26 @@ impl<const D: usize> Session<D> {
         shape: &mut S,
         out: &mut Vec<u8>,
     ) -> Result<Applied, PageFault>
-        ensures applies { Applies D (IsTrue F.told) (λ i. answered i (viewed_docs (viewed view.now) i) (λ docs. hits_text (hits (S.has shape.old) docs))) false
-            (record { files = F.files folder.old; session = self.old; text = out.old.items; faults = F.faults folder.old })
-            (record { files = F.files folder.new; session = self.new; text = out.new.items; faults = F.faults folder.new }) result }
-        ensures reads { ReadsTouched D (S.has shape.old) (S.crosses shape.old) (viewed_parts (viewed view.now) self.old.set) (F.reads folder.old) (F.reads folder.new) }
-        ensures damage { ShowsLeaf D (IsTrue F.told) (F.files folder.old) self.old.set (viewed_parts (viewed view.now) self.old.set) result }
+        ensures applies { Applies D (IsTrue F.told)
+            (λ i. answered i (viewed_docs (viewed view.now) i) (λ docs. hits_text (hits (S.has shape.old) docs)))
+            false
+            (record {
+              files = F.files folder.old;
+              session = self.old;
+              text = out.old.items;
+              faults = F.faults folder.old;
+            })
+            (record {
+              files = F.files folder.new;
+              session = self.new;
+              text = out.new.items;
+              faults = F.faults folder.new;
+            }) result }
+        ensures reads { ReadsTouched D (S.has shape.old) (S.crosses shape.old)
+            (viewed_parts (viewed view.now) self.old.set)
+            (F.reads folder.old) (F.reads folder.new) }
+        ensures damage { ShowsLeaf D (IsTrue F.told) (F.files folder.old) self.old.set
+            (viewed_parts (viewed view.now) self.old.set) result }
         ensures still { IsStill (IsTrue F.told) (F.files folder.old) (F.files folder.new) self.old self.new }
         ensures unread { OnRefused result (F.reads folder.new ≡ F.reads folder.old) }
     {
@@ -71,11 +86,25 @@ impl<const D: usize> Session<D> {
         out: &mut Vec<u8>,
     ) -> Result<Applied, PageFault>
         ensures applies { Applies D (IsTrue F.told) (λ i. step_on i (asks.InPolygon (viewed view.now) rings.now)) false
-            (record { files = F.files folder.old; session = self.old; text = out.old.items; faults = F.faults folder.old })
-            (record { files = F.files folder.new; session = self.new; text = out.new.items; faults = F.faults folder.new }) result }
-        ensures reads { ReadsAtMost D (IsTrue F.told) (asks.InPolygon (viewed view.now) rings.now) (F.files folder.old) self.old (F.reads folder.old) (F.reads folder.new) }
-        ensures damage { ShowsDamage D (IsTrue F.told) (asks.InPolygon (viewed view.now) rings.now) (F.files folder.old) (F.files folder.new) self.old self.new result }
-        ensures still { KeepsStill (IsTrue F.told) (asks.InPolygon (viewed view.now) rings.now) (F.files folder.old) (F.files folder.new) self.old self.new result }
+            (record {
+              files = F.files folder.old;
+              session = self.old;
+              text = out.old.items;
+              faults = F.faults folder.old;
+            })
+            (record {
+              files = F.files folder.new;
+              session = self.new;
+              text = out.new.items;
+              faults = F.faults folder.new;
+            }) result }
+        ensures reads { ReadsAtMost D (IsTrue F.told) (asks.InPolygon (viewed view.now) rings.now)
+            (F.files folder.old) self.old
+            (F.reads folder.old) (F.reads folder.new) }
+        ensures damage { ShowsDamage D (IsTrue F.told) (asks.InPolygon (viewed view.now) rings.now) (F.files folder.old)
+            (F.files folder.new) self.old self.new result }
+        ensures still { KeepsStill (IsTrue F.told) (asks.InPolygon (viewed view.now) rings.now) (F.files folder.old)
+            (F.files folder.new) self.old self.new result }
         ensures unread { OnRefused result (F.reads folder.new ≡ F.reads folder.old) }
     {
         let mut shape = PolygonShape::new(alloc, rings)?;
@@ -95,11 +124,25 @@ impl<const D: usize> Session<D> {
         requires some { 1 ≤ k }
         requires few { k ≤ 10000 }
         ensures applies { Applies D (IsTrue F.told) (λ i. step_on i (asks.Nearest (viewed view.now) k at.now.c)) false
-            (record { files = F.files folder.old; session = self.old; text = out.old.items; faults = F.faults folder.old })
-            (record { files = F.files folder.new; session = self.new; text = out.new.items; faults = F.faults folder.new }) result }
-        ensures reads { ReadsAtMost D (IsTrue F.told) (asks.Nearest (viewed view.now) k at.now.c) (F.files folder.old) self.old (F.reads folder.old) (F.reads folder.new) }
-        ensures damage { ShowsDamage D (IsTrue F.told) (asks.Nearest (viewed view.now) k at.now.c) (F.files folder.old) (F.files folder.new) self.old self.new result }
-        ensures still { KeepsStill (IsTrue F.told) (asks.Nearest (viewed view.now) k at.now.c) (F.files folder.old) (F.files folder.new) self.old self.new result }
+            (record {
+              files = F.files folder.old;
+              session = self.old;
+              text = out.old.items;
+              faults = F.faults folder.old;
+            })
+            (record {
+              files = F.files folder.new;
+              session = self.new;
+              text = out.new.items;
+              faults = F.faults folder.new;
+            }) result }
+        ensures reads { ReadsAtMost D (IsTrue F.told) (asks.Nearest (viewed view.now) k at.now.c)
+            (F.files folder.old) self.old
+            (F.reads folder.old) (F.reads folder.new) }
+        ensures damage { ShowsDamage D (IsTrue F.told) (asks.Nearest (viewed view.now) k at.now.c) (F.files folder.old)
+            (F.files folder.new) self.old self.new result }
+        ensures still { KeepsStill (IsTrue F.told) (asks.Nearest (viewed view.now) k at.now.c) (F.files folder.old)
+            (F.files folder.new) self.old self.new result }
         ensures unread { OnRefused result (F.reads folder.new ≡ F.reads folder.old) }
     {
         if !self.has_view(view) {

@@ -1,6 +1,7 @@
 //! The session.
 
-ghost use Rattle.std.specs.Prelude.{◌≡◌, ◌≤◌, ◌+◌, ℕ, List, [], None, Some, true, false, length, IsTrue, IsOk, IfOk, OnOk, OnErr};
+ghost use Rattle.std.specs.Prelude.{◌≡◌, ◌≤◌, ◌+◌, ℕ, List, [], None, Some, true, false, length, IsTrue, IsOk, IfOk};
+ghost use Rattle.std.specs.Prelude.{OnOk, OnErr};
 ghost use Rattle.outer_io.specs.Files.{Files, bytes_of};
 ghost use Rattle.outer_io.specs.declared.file_name.FileName.TheVariants.{Commit as CommitName};
 ghost use Rattle.leaf_codec.specs.Leaves.{leaf_limit};
@@ -32,8 +33,8 @@ use std::alloc::Global;
 use std::marker::{Model, Sync};
 use std::thread::Threads;
 
-/// An index of `D` dimensions that is kept in a folder. Contracts see its set, the commit that it attached or last wrote, and whether one
-/// was refused since then.
+/// An index of `D` dimensions that is kept in a folder. Contracts see its set, the commit that it attached or last
+/// wrote, and whether one was refused since then.
 #[derive(Drop)]
 pub struct Session<const D: usize> {
     pub(crate) set: SegmentSet<D>,
@@ -90,24 +91,33 @@ impl<const D: usize> Session<D> {
         settings: Settings,
     ) -> Result<Session<D>, PageFault>
         requires { commit.dims ≡ D }
-        ensures seen { IsTrue F.told → IsCommitFile (bytes_of (F.files folder.old CommitName)) commit → (i : Index) → IsStored (F.files folder.old) (Some i)
+        ensures seen { IsTrue F.told → IsCommitFile (bytes_of (F.files folder.old CommitName)) commit → (i : Index)
+            → IsStored (F.files folder.old) (Some i)
             → IfOk result (λ s. Sees D (F.files folder.old) s.set i) }
-        ensures guards { IsTrue F.told → IsCommitFile (bytes_of (F.files folder.old CommitName)) commit → IfOk result (Guards D (F.files folder.old)) }
+        ensures guards { IsTrue F.told → IsCommitFile (bytes_of (F.files folder.old CommitName)) commit
+            → IfOk result (Guards D (F.files folder.old)) }
         ensures faithful { IsTrue F.told → IfOk result (λ s. IsFaithful D (F.files folder.old) s.set) }
-        ensures traced { IsTrue F.told → IsCommitFile (bytes_of (F.files folder.old CommitName)) commit → IfOk result (λ s. AreTraced D (F.files folder.old) s.set.parts) }
+        ensures traced { IsTrue F.told → IsCommitFile (bytes_of (F.files folder.old CommitName)) commit
+            → IfOk result (λ s. AreTraced D (F.files folder.old) s.set.parts) }
         ensures files { IsTrue F.told → F.files folder.new ≡ F.files folder.old }
         ensures cause { HasPageCause (F.faults folder.old) (F.faults folder.new) result }
         ensures unchanged { IfOk result IsUnchanged }
         ensures listed { IfOk result NamesOnlyListed }
-        ensures whole { IsTrue F.told → IsCommitFile (bytes_of (F.files folder.old CommitName)) commit → (state : State) → IsStored (F.files folder.old) state → NotDamaged result }
+        ensures whole { IsTrue F.told → IsCommitFile (bytes_of (F.files folder.old CommitName)) commit → (state : State)
+            → IsStored (F.files folder.old) state → NotDamaged result }
         // it reads what opening the segments reads
-        ensures reads { IsTrue F.told → (heads : List Head) (sets : List LiveSet) → HaveHeads (F.files folder.old) commit heads → HaveLive (F.files folder.old) commit sets
+        ensures reads { IsTrue F.told → (heads : List Head) (sets : List LiveSet)
+            → HaveHeads (F.files folder.old) commit heads
+            → HaveLive (F.files folder.old) commit sets
             → F.reads folder.new ≤ F.reads folder.old + segments_pages (F.files folder.old) commit.listed heads }
         // where there is a damage nothing is stored
-        ensures undefined { IsTrue F.told → IsCommitFile (bytes_of (F.files folder.old CommitName)) commit → OnDamage result (λ _. IsUndefined (F.files folder.old)) }
+        ensures undefined { IsTrue F.told → IsCommitFile (bytes_of (F.files folder.old CommitName)) commit
+            → OnDamage result (λ _. IsUndefined (F.files folder.old)) }
         ensures shown { OnDamage result (IsAttachDamage commit) }
         ensures damage { IsTrue F.told → OnDamage result (IsAttachDamageOf (F.files folder.old) commit) }
-        ensures evident { OnDamage result (IsEvident (IsTrue F.told × IsCommitFile (bytes_of (F.files folder.old CommitName)) commit) (F.files folder.old)) }
+        ensures evident { OnDamage result
+            (IsEvident (IsTrue F.told × IsCommitFile (bytes_of (F.files folder.old CommitName)) commit)
+            (F.files folder.old)) }
     {
         let _dims = commit.dims();
         Ok(Session {
@@ -118,8 +128,9 @@ impl<const D: usize> Session<D> {
         })
     }
 
-    /// Does what a command asks, and appends the answer to `out`. A refused command changes nothing. After a fault the session is seen as
-    /// before, and `out` begins with what it held; what the folder keeps is then as before, or that of the commit in flight.
+    /// Does what a command asks, and appends the answer to `out`. A refused command changes nothing. After a fault
+    /// the session is seen as before, and `out` begins with what it held; what the folder keeps is then as before, or
+    /// that of the commit in flight.
     pub fn apply<R: Threads + Sync, F: Folder, G: Gate>(
         &mut self,
         rt: &R,
@@ -130,40 +141,63 @@ impl<const D: usize> Session<D> {
         gate: &G,
     ) -> Result<Applied, PageFault>
         requires { IsWithinLimits (request_of c.now) }
-        ensures does { IsTrue F.told → (i : Index) → Sees D (F.files folder.old) self.old.set i → Guards D (F.files folder.old) self.old
-            → DoesOver D (F.files folder.new) (step_on i (request_of c.now)) i self.new.set out.old.items out.new.items result }
+        ensures does { IsTrue F.told → (i : Index) → Sees D (F.files folder.old) self.old.set i
+            → Guards D (F.files folder.old) self.old
+            → DoesOver D (F.files folder.new)
+            (step_on i (request_of c.now)) i self.new.set out.old.items out.new.items result }
         ensures begins { Begins out.old.items out.new.items }
-        ensures guards { IsTrue F.told → Guards D (F.files folder.old) self.old → Guards D (F.files folder.new) self.new }
+        ensures guards { IsTrue F.told → Guards D (F.files folder.old) self.old
+            → Guards D (F.files folder.new) self.new }
         ensures kept { IsTrue F.told → Guards D (F.files folder.old) self.old
             → KeepsOver (is_committing (request_of c.now)) (F.files folder.old) (F.files folder.new) self.new result }
-        ensures stored { IsTrue F.told → (i : Index) → Sees D (F.files folder.old) self.old.set i → Guards D (F.files folder.old) self.old
-            → is_committing (request_of c.now) ≡ true → Stores (F.files folder.old) (F.files folder.new) i self.new.set result }
+        ensures stored { IsTrue F.told → (i : Index) → Sees D (F.files folder.old) self.old.set i
+            → Guards D (F.files folder.old) self.old
+            → is_committing (request_of c.now) ≡ true
+            → Stores (F.files folder.old) (F.files folder.new) i self.new.set result }
         // what a done flush, merge, merge begin and merge end leaves of the segments
-        ensures leaves { OnDone result (Leaves D (IsTrue F.told) (request_of c.now) (F.files folder.old) (F.files folder.new) self.old.set self.new.set) }
+        ensures leaves { OnDone result
+            (Leaves D (IsTrue F.told) (request_of c.now) (F.files folder.old)
+            (F.files folder.new) self.old.set self.new.set) }
         ensures cause { HasPageCause (F.faults folder.old) (F.faults folder.new) result }
-        ensures whole { IsTrue F.told → (i : Index) → Sees D (F.files folder.old) self.old.set i → Guards D (F.files folder.old) self.old → NotDamaged result }
-        // a request that commits changes no file where nothing changed, and else writes the commit anew; once it is done nothing is changed
-        ensures idle { IsTrue F.told → is_committing (request_of c.now) ≡ true → IsUnchanged self.old → F.files folder.new ≡ F.files folder.old }
+        ensures whole { IsTrue F.told → (i : Index) → Sees D (F.files folder.old) self.old.set i
+            → Guards D (F.files folder.old) self.old → NotDamaged result }
+        // a request that commits changes no file where nothing changed, and else writes the commit anew; once it is
+        // done nothing is changed
+        ensures idle { IsTrue F.told → is_committing (request_of c.now) ≡ true → IsUnchanged self.old
+            → F.files folder.new ≡ F.files folder.old }
         ensures unchanged { is_committing (request_of c.now) ≡ true → OnDone result (IsUnchanged self.new) }
-        ensures anew { is_committing (request_of c.now) ≡ true → (IsUnchanged self.old → ⊥) → OnDone result (IsCommitAnew self.old.set.names self.new) }
+        ensures anew { is_committing (request_of c.now) ≡ true → (IsUnchanged self.old → ⊥)
+            → OnDone result (IsCommitAnew self.old.set.names self.new) }
         // and with no merge begun it lists few segments of each level
-        ensures levels { is_committing (request_of c.now) ≡ true → (IsUnchanged self.old → ⊥) → self.old.set.begun ≡ None → OnDone result (CommitsFewOfLevels self.new.commit) }
+        ensures levels { is_committing (request_of c.now) ≡ true → (IsUnchanged self.old → ⊥)
+            → self.old.set.begun ≡ None
+            → OnDone result (CommitsFewOfLevels self.new.commit) }
         // each segment that is written is canonical, whatever is answered
-        ensures canon { IsTrue F.told → (i : Index) → Sees D (F.files folder.old) self.old.set i → Guards D (F.files folder.old) self.old
+        ensures canon { IsTrue F.told → (i : Index) → Sees D (F.files folder.old) self.old.set i
+            → Guards D (F.files folder.old) self.old
             → BringsCanonical D (F.files folder.old) (F.files folder.new) self.old.set.parts self.new.set.parts }
         // what it costs, and what a damage shows
-        ensures reads { ReadsAtMost D (IsTrue F.told) (request_of c.now) (F.files folder.old) self.old (F.reads folder.old) (F.reads folder.new) }
-        ensures damage { ShowsDamage D (IsTrue F.told) (request_of c.now) (F.files folder.old) (F.files folder.new) self.old self.new result }
-        // Whatever the files hold, what the set keeps of them is theirs, and it is known where its segments come from; and a damage is shown by
-        // what it carries, and is true of the files.
-        ensures faithful { IsTrue F.told → IsFaithful D (F.files folder.old) self.old.set → IsFaithful D (F.files folder.new) self.new.set }
-        ensures traced { IsTrue F.told → Trusts D (F.files folder.old) self.old → AreTraced D (F.files folder.new) self.new.set.parts }
-        ensures evident { OnDamage result (IsEvident (IsTrue F.told × Trusts D (F.files folder.old) self.old) (F.files folder.new)) }
+        ensures reads { ReadsAtMost D (IsTrue F.told) (request_of c.now) (F.files folder.old) self.old
+            (F.reads folder.old)
+            (F.reads folder.new) }
+        ensures damage { ShowsDamage D (IsTrue F.told) (request_of c.now) (F.files folder.old)
+            (F.files folder.new) self.old self.new result }
+        // Whatever the files hold, what the set keeps of them is theirs, and it is known where its segments come
+        // from; and a damage is shown by what it carries, and is true of the files.
+        ensures faithful { IsTrue F.told → IsFaithful D (F.files folder.old) self.old.set
+            → IsFaithful D (F.files folder.new) self.new.set }
+        ensures traced { IsTrue F.told → Trusts D (F.files folder.old) self.old
+            → AreTraced D (F.files folder.new) self.new.set.parts }
+        ensures evident { OnDamage result
+            (IsEvident (IsTrue F.told × Trusts D (F.files folder.old) self.old) (F.files folder.new)) }
         // blank lines, queries and what is refused leave all but the kept pages
-        ensures still { KeepsStill (IsTrue F.told) (request_of c.now) (F.files folder.old) (F.files folder.new) self.old self.new result }
+        ensures still { KeepsStill (IsTrue F.told) (request_of c.now) (F.files folder.old)
+            (F.files folder.new) self.old self.new result }
         // where no segment has to be written the files and segments stay, and what is refused reads nothing
-        ensures light { is_light (request_of c.now) ≡ true → length self.old.set.buffer + points_in (request_of c.now) ≤ 16384
-            → StaysLight (IsTrue F.told) (points_in (request_of c.now)) (F.files folder.old) (F.files folder.new) self.old self.new }
+        ensures light { is_light (request_of c.now) ≡ true
+            → length self.old.set.buffer + points_in (request_of c.now) ≤ 16384
+            → StaysLight (IsTrue F.told) (points_in (request_of c.now)) (F.files folder.old)
+            (F.files folder.new) self.old self.new }
         ensures unread { OnRefused result (F.reads folder.new ≡ F.reads folder.old) }
         // where the set alone says that it is refused there is no fault
         ensures barred { IsBarred (request_of c.now) self.old.set → IsOk result }
@@ -182,15 +216,34 @@ impl<const D: usize> Session<D> {
         gate: &G,
     ) -> Result<Applied, PageFault>
         requires { IsWithinLimits (request_of c.now) }
-        ensures applies { Applies D (IsTrue F.told) (λ i. step_on i (request_of c.now)) (is_committing (request_of c.now))
-            (record { files = F.files folder.old; session = self.old; text = out.old.items; faults = F.faults folder.old })
-            (record { files = F.files folder.new; session = self.new; text = out.new.items; faults = F.faults folder.new }) result }
-        ensures leaves { OnDone result (Leaves D (IsTrue F.told) (request_of c.now) (F.files folder.old) (F.files folder.new) self.old.set self.new.set) }
-        ensures reads { ReadsAtMost D (IsTrue F.told) (request_of c.now) (F.files folder.old) self.old (F.reads folder.old) (F.reads folder.new) }
-        ensures damage { ShowsDamage D (IsTrue F.told) (request_of c.now) (F.files folder.old) (F.files folder.new) self.old self.new result }
-        ensures still { KeepsStill (IsTrue F.told) (request_of c.now) (F.files folder.old) (F.files folder.new) self.old self.new result }
-        ensures light { is_light (request_of c.now) ≡ true → length self.old.set.buffer + points_in (request_of c.now) ≤ 16384
-            → StaysLight (IsTrue F.told) (points_in (request_of c.now)) (F.files folder.old) (F.files folder.new) self.old self.new }
+        ensures applies { Applies D (IsTrue F.told) (λ i. step_on i (request_of c.now))
+            (is_committing (request_of c.now))
+            (record {
+              files = F.files folder.old;
+              session = self.old;
+              text = out.old.items;
+              faults = F.faults folder.old;
+            })
+            (record {
+              files = F.files folder.new;
+              session = self.new;
+              text = out.new.items;
+              faults = F.faults folder.new;
+            }) result }
+        ensures leaves { OnDone result
+            (Leaves D (IsTrue F.told) (request_of c.now) (F.files folder.old)
+            (F.files folder.new) self.old.set self.new.set) }
+        ensures reads { ReadsAtMost D (IsTrue F.told) (request_of c.now) (F.files folder.old) self.old
+            (F.reads folder.old)
+            (F.reads folder.new) }
+        ensures damage { ShowsDamage D (IsTrue F.told) (request_of c.now) (F.files folder.old)
+            (F.files folder.new) self.old self.new result }
+        ensures still { KeepsStill (IsTrue F.told) (request_of c.now) (F.files folder.old)
+            (F.files folder.new) self.old self.new result }
+        ensures light { is_light (request_of c.now) ≡ true
+            → length self.old.set.buffer + points_in (request_of c.now) ≤ 16384
+            → StaysLight (IsTrue F.told) (points_in (request_of c.now)) (F.files folder.old)
+            (F.files folder.new) self.old self.new }
         ensures unread { OnRefused result (F.reads folder.new ≡ F.reads folder.old) }
         ensures barred { IsBarred (request_of c.now) self.old.set → IsOk result }
     {

@@ -7,8 +7,9 @@ use Rattle.index_model.specs.Step.{Outcome, Done, Refused}
 use Rattle.index_model.specs.declared.session.Applied.{Applied}
 use Rattle.index_model.specs.declared.session.Applied.TheVariants as applied
 
--- A session does what the outcome says: it goes on to the state and appends the text, or it is refused for the cause and
--- neither changes. For want of memory the session is as before, and what was appended to the text is not to be used.
+-- A session does what the outcome says: it goes on to the state and appends the text, or it is refused for the cause
+-- and neither changes. For want of memory the session is as before, and what was appended to the text is not to be
+-- used.
 abbrev pub Does : Outcome → Index → Index → List ℕ → List ℕ → Result Applied AllocError → Type 0
 Does (Done state text) old new before after (Ok applied.Done) = (state ≡ Some new) × (after ≡ before ++ text)
 Does (Done state text) old new before after (Ok (applied.Refused why)) = ⊥

@@ -9,8 +9,9 @@ pub record Snapshot : Type 0 where
   pub name : List ℕ
   pub docs : List Document
 
--- an index: how many dimensions its points have, how many entries a leaf has at most, the number of the next document, how
--- many points were ever given, the live documents by ascending number, the snapshots, and whether a merge is begun
+-- an index: how many dimensions its points have, how many entries a leaf has at most, the number of the next
+-- document, how many points were ever given, the live documents by ascending number, the snapshots, and whether a
+-- merge is begun
 pub record Index : Type 0 where
   pub dims : ℕ
   pub leaf : ℕ

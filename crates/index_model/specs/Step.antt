@@ -1,5 +1,6 @@
 -- What one request answers and leaves, over one list of documents: each answer is that list filtered or ordered.
-use Rattle.std.specs.Prelude.{ℕ, ◌+◌, ◌^◌, Bool, true, false, not, ◌&&◌, ◌==◌, if◌then◌else◌, nat_lt, nat_le, List, [], ◌∷◌, ◌++◌, map, filter, length, Option, None, Some, is_some, ℤ}
+use Rattle.std.specs.Prelude.{ℕ, ◌+◌, ◌^◌, Bool, true, false, not, ◌&&◌, ◌==◌, if◌then◌else◌, nat_lt, nat_le, List, []}
+use Rattle.std.specs.Prelude.{◌∷◌, ◌++◌, map, filter, length, Option, None, Some, is_some, ℤ}
 use Rattle.std.specs.Str.{bytes_eq}
 use Rattle.point_codec.specs.Points.{in_box}
 use Rattle.ring_parity.specs.Rings.{in_polygon}
@@ -31,7 +32,12 @@ abbrev pub added : List (List ℤ) → Index → Outcome
 added points i =
     if nat_lt (2 ^ 24) (i.given + length points) then Refused why.Full
     else Done
-    (Some (record i { next = i.next + 1; given = i.given + length points; docs = i.docs ++ record { number = i.next; points = points } ∷ [] }))
+    (Some (record i {
+      next = i.next + 1;
+      given = i.given + length points;
+      docs = i.docs ++ record
+          { number = i.next; points = points } ∷ [];
+    }))
     (doc_text i.next)
 
 -- the live documents are kept under a name that no snapshot has, where fewer than 16 are there
@@ -57,12 +63,15 @@ unfoldable pub step_on : Index → Request → Outcome
 step_on i asks.Blank = Done (Some i) []
 step_on i (asks.Create dims leaf) = Refused why.Exists
 step_on i (asks.Add points) = added points i
-step_on i (asks.Delete doc) = Done (Some (record i { docs = deleted doc i.docs })) (deleted_text (if is_live doc i.docs then 1 else 0))
+step_on i (asks.Delete doc) =
+    Done (Some (record i { docs = deleted doc i.docs })) (deleted_text (if is_live doc i.docs then 1 else 0))
 step_on i (asks.DeleteBox lo hi) =
     let test = in_box (record { lo = lo; hi = hi }) in
     Done (Some (record i { docs = without test i.docs })) (deleted_text (length (hits test i.docs)))
-step_on i (asks.InBox view lo hi) = answered i (viewed_docs view i) (λ docs. hits_text (hits (in_box (record { lo = lo; hi = hi })) docs))
-step_on i (asks.InPolygon view rings) = answered i (viewed_docs view i) (λ docs. hits_text (hits (in_plane_polygon i.dims rings) docs))
+step_on i (asks.InBox view lo hi) =
+    answered i (viewed_docs view i) (λ docs. hits_text (hits (in_box (record { lo = lo; hi = hi })) docs))
+step_on i (asks.InPolygon view rings) =
+    answered i (viewed_docs view i) (λ docs. hits_text (hits (in_plane_polygon i.dims rings) docs))
 step_on i (asks.Nearest view k target) =
     answered i (viewed_docs view i) (λ docs. near_text (map (λ found. (found.1, found.0)) (nearest k target docs)))
 step_on i asks.Flush = fine i

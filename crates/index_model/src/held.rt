@@ -1,6 +1,7 @@
 //! Documents and snapshots in memory.
 
-ghost use Rattle.std.specs.Prelude.{◌≡◌, ◌≤◌, List, map, filter, not, nat_eq, length, OnOk, IfOk, MatchOption, None, Some, is_some, ◌++◌};
+ghost use Rattle.std.specs.Prelude.{◌≡◌, ◌≤◌, List, map, filter, not, nat_eq, length, OnOk, IfOk, MatchOption, None};
+ghost use Rattle.std.specs.Prelude.{Some, is_some, ◌++◌};
 ghost use Rattle.std.specs.Str.{bytes_eq};
 ghost use Rattle.std.specs.List.{list_any};
 ghost use Rattle.point_codec.specs.Points.{in_box};
@@ -80,7 +81,8 @@ pub fn snapshot_of<'a, const D: usize>(
     snapshots: &'a [HeldSnapshot<D>],
     name: &Name,
 ) -> Option<&'a HeldSnapshot<D>>
-    ensures { MatchOption result (snapshot_of name.now snapshots.now ≡ None) (λ s. snapshot_of name.now snapshots.now ≡ Some s.now) }
+    ensures { MatchOption result (snapshot_of name.now snapshots.now ≡ None)
+        (λ s. snapshot_of name.now snapshots.now ≡ Some s.now) }
 {
     for snapshot in snapshots {
         if snapshot.is_named(name) {

@@ -45,7 +45,15 @@ impl<const D: usize> Model for ListSession<D> {
 
     ghost Value = { Index };
 
-    ghost view = { λ s. record { dims = D; leaf = s.leaf; next = s.next; given = s.given; docs = s.docs.items; snapshots = s.snapshots.items; begun = s.begun } };
+    ghost view = { λ s. record {
+      dims = D;
+      leaf = s.leaf;
+      next = s.next;
+      given = s.given;
+      docs = s.docs.items;
+      snapshots = s.snapshots.items;
+      begun = s.begun;
+    } };
 
     ghost invariant = { λ s. AreGiven s.next s.given s.docs.items };
 }
@@ -77,7 +85,8 @@ impl<const D: usize> ListSession<D> {
         D
     }
 
-    /// Does what a command asks, and appends the answer to `out`. A refused command changes neither the session nor `out`.
+    /// Does what a command asks, and appends the answer to `out`. A refused command changes neither the session nor
+    /// `out`.
     /// For want of memory the session is as before, and what was appended is not to be used.
     pub fn apply(
         &mut self,
@@ -151,7 +160,8 @@ impl<const D: usize> ListSession<D> {
         out: &mut Vec<u8>,
     ) -> Result<Applied, Memory>
         requires { D ≤ 8 }
-        ensures { Does (step_on self.old (asks.DeleteBox lo.now.c hi.now.c)) self.old self.new out.old.items out.new.items result }
+        ensures { Does
+            (step_on self.old (asks.DeleteBox lo.now.c hi.now.c)) self.old self.new out.old.items out.new.items result }
     {
         let hits = scan_hits(alloc, self.docs.as_slice(), &mut BoxShape::new(*lo, *hi))?;
         put_deleted(out, hits.as_slice().len() as u32)?;
@@ -162,7 +172,8 @@ impl<const D: usize> ListSession<D> {
     /// The documents that a query looks at, or None where no snapshot has the name.
     fn viewed(&self, view: &View) -> Option<&[HeldDocument<D>]>
         requires { D ≤ 8 }
-        ensures { MatchOption result (viewed_docs (viewed view.now) self.now ≡ None) (λ docs. viewed_docs (viewed view.now) self.now ≡ Some docs.now) }
+        ensures { MatchOption result (viewed_docs (viewed view.now) self.now ≡ None)
+            (λ docs. viewed_docs (viewed view.now) self.now ≡ Some docs.now) }
     {
         match view {
             View::Now => Some(self.docs.as_slice()),
@@ -181,7 +192,9 @@ impl<const D: usize> ListSession<D> {
         out: &mut Vec<u8>,
     ) -> Result<Applied, Memory>
         requires { D ≤ 8 }
-        ensures { Does (answered self.now (viewed_docs (viewed view.now) self.now) (λ docs. hits_text (hits (S.has shape.old) docs)))
+        ensures { Does
+            (answered self.now (viewed_docs (viewed view.now) self.now)
+            (λ docs. hits_text (hits (S.has shape.old) docs)))
             self.now self.now out.old.items out.new.items result }
     {
         let Some(docs) = self.viewed(view) else {
@@ -199,7 +212,9 @@ impl<const D: usize> ListSession<D> {
         out: &mut Vec<u8>,
     ) -> Result<Applied, Memory>
         requires { D ≤ 8 }
-        ensures { Does (step_on self.now (asks.InPolygon (viewed view.now) rings.now)) self.now self.now out.old.items out.new.items result }
+        ensures { Does
+            (step_on self.now (asks.InPolygon (viewed view.now) rings.now)) self.now self.now out.old.items
+            out.new.items result }
     {
         let _ = &self.leaf;
         let mut shape = PolygonShape::new(alloc, rings)?;
@@ -215,7 +230,9 @@ impl<const D: usize> ListSession<D> {
         out: &mut Vec<u8>,
     ) -> Result<Applied, Memory>
         requires { D ≤ 8 }
-        ensures { Does (step_on self.now (asks.Nearest (viewed view.now) k at.now.c)) self.now self.now out.old.items out.new.items result }
+        ensures { Does
+            (step_on self.now (asks.Nearest (viewed view.now) k at.now.c)) self.now self.now out.old.items out.new.items
+            result }
     {
         let Some(docs) = self.viewed(view) else {
             return Ok(Applied::Refused(Why::UnknownSnapshot));
@@ -225,7 +242,8 @@ impl<const D: usize> ListSession<D> {
     }
 
     fn merge_begin(&mut self, out: &mut Vec<u8>) -> Result<Applied, Memory>
-        ensures { (positions : List ℕ) → Does (step_on self.old (asks.MergeBegin positions)) self.old self.new out.old.items out.new.items result }
+        ensures { (positions : List ℕ)
+            → Does (step_on self.old (asks.MergeBegin positions)) self.old self.new out.old.items out.new.items result }
     {
         if self.begun {
             return Ok(Applied::Refused(Why::Begun));

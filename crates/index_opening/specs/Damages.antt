@@ -5,7 +5,8 @@ use Rattle.outer_io.specs.declared.file_name.FileName.TheVariants.{Segment, Live
 use Rattle.outer_io.specs.Files.{Files}
 use Rattle.live_bits.specs.LiveSet.{LiveSet}
 use Rattle.page_cache.specs.declared.faults.Damage.{Damage}
-use Rattle.page_cache.specs.declared.faults.Damage.TheVariants.{Page, Leaf, Body, Missing, Size, Unequal, Beyond, Doubled}
+use Rattle.page_cache.specs.declared.faults.Damage.TheVariants.{Page, Leaf, Body, Missing, Size, Unequal, Beyond}
+use Rattle.page_cache.specs.declared.faults.Damage.TheVariants.{Doubled}
 use Rattle.commit_list.specs.declared.listed.Listed.{Listed}
 use Rattle.commit_list.specs.Commits.{CommitData}
 use Rattle.segment_file.specs.Heads.{Head}
@@ -15,7 +16,8 @@ use Rattle.stored_index.specs.Stored.{HasHead, HasLive, HaveLive}
 
 -- two numbers differ that the commit says and the file of a listed segment, or that of its live bits, has
 abbrev pub IsUnequal : Listed → Damage → Type 0
-IsUnequal s (Unequal file said found) = ((file ≡ Segment s.segment) ⊎ (file ≡ Live s.segment s.generation)) × (said ≢ found)
+IsUnequal s (Unequal file said found) = ((file ≡ Segment s.segment) ⊎ (file ≡ Live s.segment s.generation))
+    × (said ≢ found)
 IsUnequal s (Page file number bytes) = ⊥
 IsUnequal s (Leaf file number offset len bytes) = ⊥
 IsUnequal s (Body file bytes) = ⊥
@@ -35,8 +37,8 @@ IsMisplaced beyond doubled n (Missing file) = ⊥
 IsMisplaced beyond doubled n (Size file size needed) = ⊥
 IsMisplaced beyond doubled n (Unequal file said found) = ⊥
 
--- reading a listed segment's head or its live bits shows one of their files to be damaged, or two numbers that must agree
--- to differ
+-- reading a listed segment's head or its live bits shows one of their files to be damaged, or two numbers that must
+-- agree to differ
 abbrev pub IsListedDamage : Listed → Damage → Type 0
 IsListedDamage s d = IsHeadDamage s.segment d ⊎ IsLiveDamage s.segment s.generation d ⊎ IsUnequal s d
 
@@ -50,7 +52,8 @@ IsAttachDamage c d =
 pub data IsPair (files : Files) (c : CommitData) (s : Listed) : FileName → (said found : ℕ) → Type 0 where
   LeafSize : (head : Head) → HasHead c.dims files s head → IsPair files c s (Segment s.segment) c.leaf head.leaf
   Entries : (head : Head) → HasHead c.dims files s head → IsPair files c s (Segment s.segment) s.entries head.entries
-  LiveCount : (live : LiveSet) → HasLive files s live → IsPair files c s (Live s.segment s.generation) s.live (length live.live)
+  LiveCount : (live : LiveSet) → HasLive files s live
+      → IsPair files c s (Live s.segment s.generation) s.live (length live.live)
 
 abbrev pub IsUnequalOf : Files → CommitData → Listed → Damage → Type 0
 IsUnequalOf files c s (Unequal file said found) = IsPair files c s file said found
@@ -72,4 +75,5 @@ IsListedDamageOf files c s d =
 abbrev pub IsAttachDamageOf : Files → CommitData → Damage → Type 0
 IsAttachDamageOf files c d =
     ((s : Listed) × Contains c.listed s × IsListedDamageOf files c s d)
-    ⊎ ((sets : List LiveSet) × HaveLive files c sets × IsMisplaced (λ doc. 1 ≤ places doc sets) (λ doc. 2 ≤ places doc sets) c.next d)
+    ⊎ ((sets : List LiveSet) × HaveLive files c sets
+    × IsMisplaced (λ doc. 1 ≤ places doc sets) (λ doc. 2 ≤ places doc sets) c.next d)

@@ -1,4 +1,5 @@
--- What a damage shows of a folder's files, whichever call answers it: by what it carries alone, and of the files where those are told.
+-- What a damage shows of a folder's files, whichever call answers it: by what it carries alone, and of the files where
+-- those are told.
 use Rattle.std.specs.Prelude.{◌≡◌, ◌≤◌, ◌<◌, ◌⊎◌, ℕ, List, None, Contains, length, filter, count_by}
 use Rattle.outer_io.specs.declared.file_name.FileName.{FileName}
 use Rattle.outer_io.specs.declared.file_name.FileName.TheVariants.{Commit, CommitNew, Segment, Live}
@@ -11,7 +12,8 @@ use Rattle.inner_pack.specs.Bodies.{HasTree}
 use Rattle.documents.specs.Entries.{has_entry}
 use Rattle.page_cache.specs.Evidence.{IsShown, IsPageOf, ArePayloadsOf, IsSizeOf}
 use Rattle.page_cache.specs.declared.faults.Damage.{Damage}
-use Rattle.page_cache.specs.declared.faults.Damage.TheVariants.{Page, Leaf, Body, Missing, Size, Unequal, Beyond, Doubled}
+use Rattle.page_cache.specs.declared.faults.Damage.TheVariants.{Page, Leaf, Body, Missing, Size, Unequal, Beyond}
+use Rattle.page_cache.specs.declared.faults.Damage.TheVariants.{Doubled}
 use Rattle.commit_list.specs.declared.listed.Listed.{Listed}
 use Rattle.commit_list.specs.Commits.{CommitData}
 use Rattle.commit_list.specs.CommitFiles.{IsCommitFile, IsNoCommitBody, AsksCommit}
@@ -26,7 +28,8 @@ use Rattle.index_opening.specs.Damages.{IsPair}
 
 -- ---- by what it carries
 
--- a head of which P holds has a leaf at this place of its file, and this part of the page spells no leaf of its count inside its cell
+-- a head of which P holds has a leaf at this place of its file, and this part of the page spells no leaf of its count
+-- inside its cell
 pub record LacksLeaf (P : ℕ → Head → Type 0) (file : FileName) (page offset len : ℕ) (part : List ℕ) : Type 0 where
   pub D : ℕ
   pub head : Head
@@ -91,7 +94,8 @@ pub data IsFilePair (files : Files) (file : FileName) (said found : ℕ) : Type 
   InLive : (c : CommitData) → IsCommitFile (bytes_of (files Commit)) c → (s : Listed) → Contains c.listed s
       → (d : SegmentData) → HoldsEntries files c s d → file ≡ Live s.segment s.generation → said ≡ length d.live.live
       → found ≡ count_by (λ number. has_entry number d.entries) d.live.live → IsFilePair files file said found
-  InCommit : (c : CommitData) → IsCommitFile (bytes_of (files Commit)) c → (parts : List SegmentData) → HoldAll files c parts
+  InCommit : (c : CommitData) → IsCommitFile (bytes_of (files Commit)) c → (parts : List SegmentData)
+      → HoldAll files c parts
       → file ≡ Commit → said ≡ c.given → found ≡ length (all_live_entries parts) → IsFilePair files file said found
 
 -- Where entries are about to be merged that are more than the points given, the Commit file is named too, and the
@@ -134,10 +138,11 @@ pub record CrowdsPart (D : ℕ) (files : Files) (p : Part) (doc : ℕ) : Type 0 
 abbrev pub IsCrowdedIn : ℕ → Files → List Part → (doc : ℕ) → Type 0
 IsCrowdedIn D files parts doc = (p : Part) × Contains parts p × CrowdsPart D files p doc
 
--- The number is live in two segments that the commit lists. Or more than 16 of the live entries of one of them have it, or two of these are the same; live are
--- the numbers of its file of live bits.
+-- The number is live in two segments that the commit lists. Or more than 16 of the live entries of one of them have
+-- it, or two of these are the same; live are the numbers of its file of live bits.
 pub data IsTwice (files : Files) (doc : ℕ) : Type 0 where
-  InSets : (c : CommitData) → IsCommitFile (bytes_of (files Commit)) c → (sets : List LiveSet) → HaveLive files c sets → 2 ≤ places doc sets → IsTwice files doc
+  InSets : (c : CommitData) → IsCommitFile (bytes_of (files Commit)) c → (sets : List LiveSet) → HaveLive files c sets
+      → 2 ≤ places doc sets → IsTwice files doc
   InSegment : (c : CommitData) → IsCommitFile (bytes_of (files Commit)) c → (s : Listed) → Contains c.listed s
       → (p : Part) → p.head.id ≡ s.segment → HasLive files s p.live → CrowdsPart c.dims files p doc → IsTwice files doc
 
@@ -152,7 +157,8 @@ IsTrueOf twice files (Unequal file said found) = ArePair files file said found
 IsTrueOf twice files (Beyond doc next) = IsLiveBeyond files doc next
 IsTrueOf twice files (Doubled doc) = twice doc
 
--- The damage is true of the files: what it carries is theirs, and a leaf that isn't spelled is one that the head of its file has.
+-- The damage is true of the files: what it carries is theirs, and a leaf that isn't spelled is one that the head of its
+-- file has.
 pub record IsTrueDamage (twice : ℕ → Type 0) (files : Files) (d : Damage) : Type 0 where
   pub shows : ShowsItself (IsHeadIn files) d
   pub carries : ∥ IsTrueOf twice files d ∥₁

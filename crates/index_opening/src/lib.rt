@@ -1,5 +1,6 @@
-//! Opening the index that a commit lists: the heads, indexes and live bits of its segments, and whether each live number
-//! stands where it may. No leaf is read. What a damage shows of a folder's files is said here too (`specs/Evidence`).
+//! Opening the index that a commit lists: the heads, indexes and live bits of its segments, and whether each live
+//! number stands where it may. No leaf is read. What a damage shows of a folder's files is said here too
+//! (`specs/Evidence`).
 #![tactic(auto)]
 
 mod opening;

@@ -1,6 +1,7 @@
 //! The segments that a commit lists, as their files have them.
 
-ghost use Rattle.std.specs.Prelude.{◌≡◌, ◌≢◌, ◌≤◌, ◌+◌, ◌/◌, ◌^◌, ◌↔◌, ℕ, List, length, Contains, IsTrue, IsOk, IsErrOf, IfOk, OnOk};
+ghost use Rattle.std.specs.Prelude.{◌≡◌, ◌≢◌, ◌≤◌, ◌+◌, ◌/◌, ◌^◌, ◌↔◌, ℕ, List, length, Contains, IsTrue, IsOk};
+ghost use Rattle.std.specs.Prelude.{IsErrOf, IfOk, OnOk};
 ghost use Rattle.std.specs.List.{AllZip};
 ghost use Rattle.outer_io.specs.Files.{bytes_of};
 ghost use Rattle.outer_io.specs.declared.file_name.FileName.TheVariants.{Live, Segment};
@@ -36,16 +37,22 @@ pub fn open_all<const D: usize, F: Folder>(
     c: &Commit,
 ) -> Result<Segments<D>, PageFault>
     requires { c.now.dims ≡ D }
-    ensures opened { IfOk result (λ parts. AllZip (IsOpened (IsTrue F.told) (F.files folder.old) c.now) c.now.listed parts) }
+    ensures opened { IfOk result
+        (λ parts. AllZip (IsOpened (IsTrue F.told) (F.files folder.old) c.now) c.now.listed parts) }
     ensures files { IsTrue F.told → F.files folder.new ≡ F.files folder.old }
-    ensures reads { IsTrue F.told → (heads : List Head) (sets : List LiveSet) → HaveHeads (F.files folder.old) c.now heads → HaveLive (F.files folder.old) c.now sets
+    ensures reads { IsTrue F.told → (heads : List Head) (sets : List LiveSet)
+        → HaveHeads (F.files folder.old) c.now heads
+        → HaveLive (F.files folder.old) c.now sets
         → F.reads folder.new ≤ F.reads folder.old + segments_pages (F.files folder.old) c.now.listed heads }
     ensures cause { HasPageCause (F.faults folder.old) (F.faults folder.new) result }
     ensures shown { OnDamage result (λ d. (s : Listed) × Contains c.now.listed s × IsListedDamage s d) }
-    ensures damage { IsTrue F.told → OnDamage result (λ d. (s : Listed) × Contains c.now.listed s × IsListedDamageOf (F.files folder.old) c.now s d) }
+    ensures damage { IsTrue F.told
+        → OnDamage result
+        (λ d. (s : Listed) × Contains c.now.listed s × IsListedDamageOf (F.files folder.old) c.now s d) }
     // the first in the order in which they are read
     ensures first { OnDamage result (IsFirstListed (IsTrue F.told) (F.files folder.old) c.now) }
-    ensures whole { IsTrue F.told → (parts : List SegmentData) → HoldAll (F.files folder.old) c.now parts → NotDamaged result }
+    ensures whole { IsTrue F.told → (parts : List SegmentData) → HoldAll (F.files folder.old) c.now parts
+        → NotDamaged result }
 {
     let listed = c.listed();
     let mut segments = Segments::new(alloc);
@@ -66,7 +73,8 @@ fn open_one<const D: usize, F: Folder>(
     requires { c.now.dims ≡ D }
     ensures opened { IfOk result (λ r. IsOpened (IsTrue F.told) (F.files folder.old) c.now s (part_of r.0 r.1)) }
     ensures files { IsTrue F.told → F.files folder.new ≡ F.files folder.old }
-    ensures reads { IsTrue F.told → (head : Head) (live : LiveSet) → HasHead c.now.dims (F.files folder.old) s head → HasLive (F.files folder.old) s live
+    ensures reads { IsTrue F.told → (head : Head) (live : LiveSet) → HasHead c.now.dims (F.files folder.old) s head
+        → HasLive (F.files folder.old) s live
         → F.reads folder.new ≤ F.reads folder.old + listed_pages (F.files folder.old) s head }
     ensures cause { HasPageCause (F.faults folder.old) (F.faults folder.new) result }
     ensures shown { OnDamage result (IsListedDamage s) }
@@ -90,7 +98,8 @@ fn open_head<const D: usize, F: Folder>(
     ensures listed { IfOk result (λ h. (h.id ≡ s.segment) × (h.leaf ≡ c.now.leaf) × (h.entries ≡ s.entries)) }
     ensures head { IsTrue F.told → IfOk result (HasHead c.now.dims (F.files folder.old) s) }
     ensures files { IsTrue F.told → F.files folder.new ≡ F.files folder.old }
-    ensures reads { IsTrue F.told → (h : Head) → HasHead c.now.dims (F.files folder.old) s h → F.reads folder.new ≤ F.reads folder.old + 1 + index_pages h }
+    ensures reads { IsTrue F.told → (h : Head) → HasHead c.now.dims (F.files folder.old) s h
+        → F.reads folder.new ≤ F.reads folder.old + 1 + index_pages h }
     ensures cause { HasPageCause (F.faults folder.old) (F.faults folder.new) result }
     ensures shown { OnDamage result (IsListedDamage s) }
     ensures damage { IsTrue F.told → OnDamage result (IsListedDamageOf (F.files folder.old) c.now s) }
@@ -111,12 +120,14 @@ fn open_live<F: Folder>(alloc: Global, folder: &mut F, s: Listed) -> Result<Live
     ensures live { IsTrue F.told → IfOk result (HasLive (F.files folder.old) s) }
     ensures files { IsTrue F.told → F.files folder.new ≡ F.files folder.old }
     ensures reads { IsTrue F.told → (live : LiveSet) → HasLive (F.files folder.old) s live
-        → F.reads folder.new ≤ F.reads folder.old + length (bytes_of (F.files folder.old (Live s.segment s.generation))) / 4096 }
+        → F.reads folder.new ≤ F.reads folder.old + length
+        (bytes_of (F.files folder.old (Live s.segment s.generation))) / 4096 }
     ensures cause { HasPageCause (F.faults folder.old) (F.faults folder.new) result }
     ensures shown { OnDamage result (IsListedDamage s) }
     ensures damage { IsTrue F.told → (c : CommitData) → OnDamage result (IsListedDamageOf (F.files folder.old) c s) }
     ensures of { OnDamage result (IsOfFile (Live s.segment s.generation)) }
-    ensures whole { IsTrue F.told → (c : CommitData) (d : SegmentData) → HoldsFiles (F.files folder.old) c s d → NotDamaged result }
+    ensures whole { IsTrue F.told → (c : CommitData) (d : SegmentData) → HoldsFiles (F.files folder.old) c s d
+        → NotDamaged result }
 {
     let live = read_live(alloc, folder, s.segment, s.generation)?;
     let file = FileName::Live {
@@ -142,8 +153,10 @@ fn agree(file: FileName, said: u64, found: u64) -> Result<(), PageFault>
 /// Whether each live number is below the next one and live in one segment alone.
 pub fn check_numbers(alloc: Global, lives: &[LiveBits], next: u32) -> Result<(), PageFault>
     requires { next ≤ 2 ^ 24 }
-    ensures alone { OnOk result ((number : ℕ) → (places number lives.now ≤ 1) × (next ≤ number → places number lives.now ≡ 0)) }
-    ensures shown { OnDamage result (IsMisplaced (λ doc. 1 ≤ places doc lives.now) (λ doc. 2 ≤ places doc lives.now) next) }
+    ensures alone { OnOk result
+        ((number : ℕ) → (places number lives.now ≤ 1) × (next ≤ number → places number lives.now ≡ 0)) }
+    ensures shown { OnDamage result
+        (IsMisplaced (λ doc. 1 ≤ places doc lives.now) (λ doc. 2 ≤ places doc lives.now) next) }
     ensures least { OnDamage result (IsOfLeast next lives.now) }
     ensures no_fault { IsErrOf result page.Failed → ⊥ }
 {

@@ -24,26 +24,32 @@ use page_cache::PageFault;
 use segment_view::Segments;
 use std::alloc::Global;
 
-/// The segments that the commit lists, where each live number is below the next one and live in one segment alone. No leaf is
-/// read. A damage is answered only where no state is stored.
+/// The segments that the commit lists, where each live number is below the next one and live in one segment alone. No
+/// leaf is read. A damage is answered only where no state is stored.
 pub fn open_index<const D: usize, F: Folder>(
     alloc: Global,
     folder: &mut F,
     c: &Commit,
 ) -> Result<Segments<D>, PageFault>
     requires { c.now.dims ≡ D }
-    ensures opened { IfOk result (λ parts. AllZip (IsOpened (IsTrue F.told) (F.files folder.old) c.now) c.now.listed parts) }
+    ensures opened { IfOk result
+        (λ parts. AllZip (IsOpened (IsTrue F.told) (F.files folder.old) c.now) c.now.listed parts) }
     ensures placed { IfOk result (λ parts. (number : ℕ) → IsPlaced c.now.next (lives_of parts) number) }
     ensures files { IsTrue F.told → F.files folder.new ≡ F.files folder.old }
-    ensures reads { IsTrue F.told → (heads : List Head) (sets : List LiveSet) → HaveHeads (F.files folder.old) c.now heads → HaveLive (F.files folder.old) c.now sets
+    ensures reads { IsTrue F.told → (heads : List Head) (sets : List LiveSet)
+        → HaveHeads (F.files folder.old) c.now heads
+        → HaveLive (F.files folder.old) c.now sets
         → F.reads folder.new ≤ F.reads folder.old + segments_pages (F.files folder.old) c.now.listed heads }
     ensures cause { HasPageCause (F.faults folder.old) (F.faults folder.new) result }
-    ensures undefined { IsTrue F.told → IsCommitFile (bytes_of (F.files folder.old CommitName)) c.now → OnDamage result (λ _. IsUndefined (F.files folder.old)) }
+    ensures undefined { IsTrue F.told → IsCommitFile (bytes_of (F.files folder.old CommitName)) c.now
+        → OnDamage result (λ _. IsUndefined (F.files folder.old)) }
     // the first in the order in which they are looked for
     ensures first { OnDamage result (IsFirstOpened (IsTrue F.told) (F.files folder.old) c.now) }
     ensures named { IsTrue F.told → IsCommitFile (bytes_of (F.files folder.old CommitName)) c.now
         → OnDamage result (IsFound (F.files folder.old)) }
-    ensures evident { OnDamage result (IsEvident (IsTrue F.told × IsCommitFile (bytes_of (F.files folder.old CommitName)) c.now) (F.files folder.old)) }
+    ensures evident { OnDamage result
+        (IsEvident (IsTrue F.told × IsCommitFile (bytes_of (F.files folder.old CommitName)) c.now)
+        (F.files folder.old)) }
 {
     let segments = open_all::<D, F>(alloc, folder, c)?;
     check_numbers(alloc, segments.lives(), c.next())?;

@@ -1,6 +1,7 @@
--- The bytes of an index body: the root cell, and then the tree in one of three forms. They are a function of the root cell
--- and the tree; the number of leaves stands beside them in the segment's head.
-use Rattle.std.specs.Prelude.{ℕ, ◌+◌, ◌-◌, ◌*◌, ◌<◌, ◌≤◌, ◌≡◌, if◌then◌else◌, ◌==◌, List, [], ◌∷◌, ◌++◌, map, length, drop, slice_set, slice_index_or, ℤ}
+-- The bytes of an index body: the root cell, and then the tree in one of three forms. They are a function of the root
+-- cell and the tree; the number of leaves stands beside them in the segment's head.
+use Rattle.std.specs.Prelude.{ℕ, ◌+◌, ◌-◌, ◌*◌, ◌<◌, ◌≤◌, ◌≡◌, if◌then◌else◌, ◌==◌, List, [], ◌∷◌, ◌++◌, map, length}
+use Rattle.std.specs.Prelude.{drop, slice_set, slice_index_or, ℤ}
 use Rattle.std.specs.List.{flat_map}
 use Rattle.std.specs.Int.{w16, w32, to_be_bytes}
 use Rattle.point_codec.specs.Points.{Region}
@@ -28,8 +29,8 @@ cuts_table t = flat_map cut_bytes (cuts_of t)
 unfoldable pub places_table : Spot → IndexTree → List ℕ
 places_table s t = flat_map place_bytes (placed s (lengths_of t))
 
--- ---- forms 2 and 3, packed: a split value less what it shares with the last one on the path in its dimension, and its place
--- in the bytes told so that a walk can pass over a subtree (after Lucene's packed index of a block tree)
+-- ---- forms 2 and 3, packed: a split value less what it shares with the last one on the path in its dimension, and its
+-- place in the bytes told so that a walk can pass over a subtree (after Lucene's packed index of a block tree)
 
 -- how many bytes the two keys share at the front
 abbrev pub shared : List ℕ → List ℕ → ℕ
@@ -37,12 +38,13 @@ shared (x ∷ xs) (y ∷ ys) = if x == y then shared xs ys + 1 else 0
 shared [] ys = 0
 shared (x ∷ xs) [] = 0
 
--- the code of dimension and shared length, the rest of the key, how many pages further and at which offset the right child's
--- first leaf begins, and how many bytes spell the left child. A reference is the key of the last split in its dimension on
--- the path from the root, and of the root cell's least coordinate where there is none
+-- the code of dimension and shared length, the rest of the key, how many pages further and at which offset the right
+-- child's first leaf begins, and how many bytes spell the left child. A reference is the key of the last split in its
+-- dimension on the path from the root, and of the root cell's least coordinate where there is none
 unfoldable pub head_bytes : (references : List (List ℕ)) (dimension : ℕ) (at : ℤ) (pages offset left : ℕ) → List ℕ
 head_bytes references d x pages offset left =
-    (5 * d + shared (key x) (slice_index_or references d [])) ∷ drop (shared (key x) (slice_index_or references d [])) (key x) ++ vint pages ++ vint offset ++ vint left
+    (5 * d + shared (key x) (slice_index_or references d [])) ∷ drop (shared (key x) (slice_index_or references d []))
+    (key x) ++ vint pages ++ vint offset ++ vint left
 
 -- in form 3 a leaf's own cell stands behind its length
 unfoldable pub leaf_bytes : (form length : ℕ) → Region → List ℕ
@@ -57,7 +59,8 @@ first_length (Split d x l r) = first_length l
 unfoldable pub right_begin : Spot → IndexTree → IndexTree → Spot
 right_begin s l r = fitted (end_of s (lengths_of l)) (first_length r)
 
-abbrev pub with_children : (references : List (List ℕ)) (d : ℕ) (x : ℤ) (s right : Spot) (left_bytes right_bytes : List ℕ) → List ℕ
+abbrev pub with_children : (references : List (List ℕ)) (d : ℕ) (x : ℤ) (s right : Spot)
+    (left_bytes right_bytes : List ℕ) → List ℕ
 with_children references d x s right left_bytes right_bytes =
     head_bytes references d x (right.page - s.page) right.offset (length left_bytes) ++ left_bytes ++ right_bytes
 
@@ -71,7 +74,9 @@ node_bytes form references s (Split d x l r) = with_children references d x s (r
 -- ---- the whole
 
 unfoldable pub body_bytes : (form : ℕ) → Region → IndexTree → List ℕ
-body_bytes form root t = cell_bytes root ++ (if form == 1 then cuts_table t ++ places_table front t else node_bytes form (map key root.lo) front t)
+body_bytes form root t =
+    cell_bytes root ++
+    (if form == 1 then cuts_table t ++ places_table front t else node_bytes form (map key root.lo) front t)
 
 -- The bytes spell the tree of n leaves over a root cell, in form 1, 2 or 3. They spell no other one (`one_tree`).
 pub record SpellsIndex (D form n : ℕ) (bytes : List ℕ) (root : Region) (t : IndexTree) : Type 0 where

@@ -16,7 +16,8 @@ abbrev pub spot_of : Mark → Spot
 spot_of m = record { page = m.page; offset = m.offset }
 
 -- the head says the split at x in dimension d of a node whose first leaf begins at s, with these children
-pub record SaysSplit (form : ℕ) (references : List (List ℕ)) (s : Spot) (d : ℕ) (x : ℤ) (l r : IndexTree) (h : Head) : Type 0 where
+pub record SaysSplit (form : ℕ) (references : List (List ℕ)) (s : Spot) (d : ℕ) (x : ℤ) (l r : IndexTree) (h : Head)
+    : Type 0 where
   pub dimension : h.dimension ≡ d
   pub value : h.at ≡ x
   pub key_is : h.key ≡ key x
@@ -36,12 +37,15 @@ pub record SaysTree (form : ℕ) (references : List (List ℕ)) (s : Spot) (t : 
   pub is : t ≡ Split dimension value l r
   pub says : SaysSplit form references s dimension value l r h
 
--- the bytes are those of the node with the head's split, wherever its first leaf begins, where the parts are those of the children
+-- the bytes are those of the node with the head's split, wherever its first leaf begins, where the parts are those of
+-- the children
 pub record IsHead (D form : ℕ) (references : List (List ℕ)) (bytes places : List ℕ) (h : Head) : Type 0 where
   pub dimension : h.dimension < D
   pub key_is : h.key ≡ key h.at
-  pub joins : (s : Spot) (l r : IndexTree) → All (λ length. (1 ≤ length) × (length ≤ 4064)) (lengths_of r) → SaysSplit form references s h.dimension h.at l r h
-      → (bytes ≡ spelled_part form references s (Split h.dimension h.at l r)) × (places ≡ told_part form s (Split h.dimension h.at l r))
+  pub joins : (s : Spot) (l r : IndexTree) → All (λ length. (1 ≤ length) × (length ≤ 4064)) (lengths_of r)
+      → SaysSplit form references s h.dimension h.at l r h
+      → (bytes ≡ spelled_part form references s (Split h.dimension h.at l r))
+      × (places ≡ told_part form s (Split h.dimension h.at l r))
 
 abbrev pub placed_of : LeafPlace → Placed
 placed_of p = record { at = record { page = p.page; offset = p.offset }; length = p.length }
@@ -70,7 +74,8 @@ pub record IsTableLeaf (e : Spot) (bytes places : List ℕ) (length : ℕ) : Typ
   pub told : places ≡ place_bytes (record { at = fitted e length; length = length })
 
 -- a leaf of so many bytes next behind e, in any form
-pub record IsLeafBehind (D form : ℕ) (e : Spot) (path : Region) (references : List (List ℕ)) (bytes places : List ℕ) (length : ℕ) : Type 0 where
+pub record IsLeafBehind (D form : ℕ) (e : Spot) (path : Region) (references : List (List ℕ)) (bytes places : List ℕ)
+    (length : ℕ) : Type 0 where
   pub own : Region
   pub is : IsNodeOf D form 1 (fitted e length) path references bytes places (Leaf length own)
 
@@ -80,12 +85,14 @@ pub record IsSpanOf (e : Spot) (t : IndexTree) (x : Span) : Type 0 where
   pub end : spot_of x.end ≡ end_of e (lengths_of t)
 
 -- the node next behind e, from where its first leaf begins to where its last one ends
-pub record SpansFrom (D form leaves : ℕ) (e : Spot) (path : Region) (references : List (List ℕ)) (bytes places : List ℕ) (x : Span) : Type 0 where
+pub record SpansFrom (D form leaves : ℕ) (e : Spot) (path : Region) (references : List (List ℕ)) (bytes places : List ℕ)
+    (x : Span) : Type 0 where
   pub tree : IndexTree
   pub is : IsNodeOf D form leaves (fitted e (first_length tree)) path references bytes places tree
   pub span : IsSpanOf e tree x
 
 -- what follows the root cell is a tree's, where these are the root's parts
 abbrev pub JoinsRoot : (form : ℕ) (rest bytes places : List ℕ) → Type 0
-JoinsRoot form rest bytes places = (references : List (List ℕ)) (t : IndexTree) → bytes ≡ spelled_part form references front t → places ≡ told_part form front t
+JoinsRoot form rest bytes places = (references : List (List ℕ)) (t : IndexTree)
+    → bytes ≡ spelled_part form references front t → places ≡ told_part form front t
     → rest ≡ tree_bytes form references t

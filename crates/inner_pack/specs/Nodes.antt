@@ -10,7 +10,8 @@ use Rattle.inner_pack.specs.Spelled.{IsNodeOf}
 use Rattle.inner_pack.specs.declared.node.NodeAt.{NodeAt}
 use Rattle.inner_pack.specs.declared.place.LeafPlace.{LeafPlace}
 
--- the node is the root of this subtree: of the leaves in order its first one has this number and begins at s, and its path cell is this
+-- the node is the root of this subtree: of the leaves in order its first one has this number and begins at s, and its
+-- path cell is this
 pub record IsAt {D : ℕ} (node : NodeAt D) (first : ℕ) (s : Spot) (path : Region) (t : IndexTree) : Type 0 where
   pub first_is : node.first ≡ first
   pub page_is : node.page ≡ s.page
@@ -19,7 +20,8 @@ pub record IsAt {D : ℕ} (node : NodeAt D) (first : ℕ) (s : Spot) (path : Reg
   pub is : IsNodeOf D node.form node.leaves s path node.references node.bytes.now node.places.now t
 
 -- the children of the node are those of the tree, which is an inner node
-pub record AreChildren {D : ℕ} (left right : NodeAt D) (first : ℕ) (s : Spot) (path : Region) (t : IndexTree) : Type 0 where
+pub record AreChildren {D : ℕ} (left right : NodeAt D) (first : ℕ) (s : Spot) (path : Region) (t : IndexTree)
+    : Type 0 where
   pub dimension : ℕ
   pub value : ℤ
   pub l : IndexTree

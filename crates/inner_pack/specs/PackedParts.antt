@@ -2,7 +2,8 @@
 use Rattle.std.specs.Prelude.{ℕ, ◌-◌, ◌/◌, ◌≡◌, length, take, drop}
 use Rattle.inner_pack.specs.declared.pack.Subtree.{Subtree}
 
--- of n leaves, the first n - n / 2 are left; behind the node itself come the inner nodes of the left child, one fewer than its leaves
+-- of n leaves, the first n - n / 2 are left; behind the node itself come the inner nodes of the left child, one fewer
+-- than its leaves
 pub record AreChildParts {D : ℕ} (whole left right : Subtree D) : Type 0 where
   pub half : length left.places.now ≡ length whole.places.now - length whole.places.now / 2
   pub left_nodes : left.nodes.now ≡ take (length left.places.now - 1) (drop 1 whole.nodes.now)

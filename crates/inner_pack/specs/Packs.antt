@@ -20,8 +20,10 @@ end_at p = record { page = p.page; offset = p.offset + p.length }
 abbrev pub AppendsTurned : (old new bytes : List ℕ) → Type 0
 AppendsTurned old new bytes = new ≡ old ++ reverse bytes
 
--- the inner nodes in preorder and the places and own cells of the leaves are those of a subtree whose first leaf begins at s
-pub record IsPart (D : ℕ) (s : Spot) (nodes : List (ℕ × ℤ)) (places : List LeafPlace) (cells : List (Cell D)) (t : IndexTree) : Type 0 where
+-- the inner nodes in preorder and the places and own cells of the leaves are those of a subtree whose first leaf begins
+-- at s
+pub record IsPart (D : ℕ) (s : Spot) (nodes : List (ℕ × ℤ)) (places : List LeafPlace) (cells : List (Cell D))
+    (t : IndexTree) : Type 0 where
   pub path : Region
   pub shaped : IsShaped (length places) t
   pub cells_in : HasCells D path t

@@ -16,10 +16,12 @@ told_part form s t = if form == 1 then places_table s t else []
 
 -- what follows the root cell
 unfoldable pub tree_bytes : (form : ℕ) (references : List (List ℕ)) → IndexTree → List ℕ
-tree_bytes form references t = if form == 1 then cuts_table t ++ places_table front t else node_bytes form references front t
+tree_bytes form references t =
+    if form == 1 then cuts_table t ++ places_table front t else node_bytes form references front t
 
 -- these bytes are the subtree of so many leaves, whose first one begins at s, and whose path cell is this
-pub record IsNodeOf (D form leaves : ℕ) (s : Spot) (path : Region) (references : List (List ℕ)) (bytes places : List ℕ) (t : IndexTree) : Type 0 where
+pub record IsNodeOf (D form leaves : ℕ) (s : Spot) (path : Region) (references : List (List ℕ)) (bytes places : List ℕ)
+    (t : IndexTree) : Type 0 where
   pub least_form : 1 ≤ form
   pub greatest_form : form ≤ 3
   pub shaped : IsShaped leaves t
@@ -31,14 +33,16 @@ pub record IsNodeOf (D form leaves : ℕ) (s : Spot) (path : Region) (references
   pub told : places ≡ told_part form s t
 
 -- there is such a subtree, and the cell is that of its root
-pub record IsSomeNode (D form leaves : ℕ) (s : Spot) (cell : Region) (references : List (List ℕ)) (bytes places : List ℕ) : Type 0 where
+pub record IsSomeNode (D form leaves : ℕ) (s : Spot) (cell : Region) (references : List (List ℕ))
+    (bytes places : List ℕ) : Type 0 where
   pub path : Region
   pub tree : IndexTree
   pub cell_is : cell ≡ cell_of path tree
   pub is : IsNodeOf D form leaves s path references bytes places tree
 
 -- there is one with this path cell
-pub record IsSomeTree (D form leaves : ℕ) (s : Spot) (path : Region) (references : List (List ℕ)) (bytes places : List ℕ) : Type 0 where
+pub record IsSomeTree (D form leaves : ℕ) (s : Spot) (path : Region) (references : List (List ℕ))
+    (bytes places : List ℕ) : Type 0 where
   pub tree : IndexTree
   pub is : IsNodeOf D form leaves s path references bytes places tree
 

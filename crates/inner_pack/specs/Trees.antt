@@ -1,5 +1,6 @@
 -- The tree of an index: how a cell is split over and over, and what each leaf says of itself.
-use Rattle.std.specs.Prelude.{ℕ, ◌+◌, ◌-◌, ◌/◌, ◌<◌, ◌≤◌, ◌≡◌, true, List, [], ◌∷◌, ◌++◌, length, All, ℤ, ◌≤ℤ◌, pos, slice_index_or, FitsSigned}
+use Rattle.std.specs.Prelude.{ℕ, ◌+◌, ◌-◌, ◌/◌, ◌<◌, ◌≤◌, ◌≡◌, true, List, [], ◌∷◌, ◌++◌, length, All, ℤ, ◌≤ℤ◌, pos}
+use Rattle.std.specs.Prelude.{slice_index_or, FitsSigned}
 use Rattle.std.specs.Int.{w32}
 use Rattle.point_codec.specs.Points.{Region, all_le}
 use Rattle.point_codec.specs.Cells.{within, left_of, right_of}
@@ -53,11 +54,12 @@ pub record IsInCell (D : ℕ) (path : Region) (d : ℕ) (x : ℤ) : Type 0 where
   pub from : slice_index_or path.lo d (pos 0) ≤ℤ x
   pub to : x ≤ℤ slice_index_or path.hi d (pos 0)
 
--- in a node whose path cell (the root cell, cut at each split on the way) is this: each split value lies in its node's path
--- cell, and each leaf's own cell lies within its path cell
+-- in a node whose path cell (the root cell, cut at each split on the way) is this: each split value lies in its
+-- node's path cell, and each leaf's own cell lies within its path cell
 abbrev pub HasCells : ℕ → Region → IndexTree → Type 0
 HasCells D path (Leaf n own) = IsCell D own × (within own path ≡ true)
-HasCells D path (Split d x l r) = IsInCell D path d x × HasCells D (left_of path d x) l × HasCells D (right_of path d x) r
+HasCells D path (Split d x l r) = IsInCell D path d x × HasCells D (left_of path d x) l
+    × HasCells D (right_of path d x) r
 
 -- each leaf's own cell is its path cell, as the forms 1 and 2 have it
 abbrev pub HasPathCells : Region → IndexTree → Type 0

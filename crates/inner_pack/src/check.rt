@@ -1,6 +1,7 @@
 //! Checking that bytes are a tree.
 
-ghost use Rattle.std.specs.Prelude.{◌≡◌, ◌≤◌, ◌<◌, ◌≤ℤ◌, ◌+◌, ◌-◌, ◌^◌, ℕ, ℤ, List, pos, length, IfSome, IsSomeAnd, IsTrue, ◌↔◌, slice_index_or, slice_set};
+ghost use Rattle.std.specs.Prelude.{◌≡◌, ◌≤◌, ◌<◌, ◌≤ℤ◌, ◌+◌, ◌-◌, ◌^◌, ℕ, ℤ, List, pos, length, IfSome, IsSomeAnd};
+ghost use Rattle.std.specs.Prelude.{IsTrue, ◌↔◌, slice_index_or, slice_set};
 ghost use Rattle.point_codec.specs.Seen.{region_of};
 ghost use Rattle.inner_pack.specs.Places.{fitted, end_of};
 ghost use Rattle.inner_pack.specs.Trees.{IndexTree, IsInCell, lengths_of};
@@ -21,8 +22,8 @@ pub(crate) struct Span {
     pub end: Mark,
 }
 
-/// The span of the leaves next behind the mark, where the part is a node of so many leaves. It calls itself once a node, and at
-/// most 24 deep.
+/// The span of the leaves next behind the mark, where the part is a node of so many leaves. It calls itself once a
+/// node, and at most 24 deep.
 pub(crate) fn check_node<const D: usize>(
     form: u8,
     leaves: u32,
@@ -36,8 +37,12 @@ pub(crate) fn check_node<const D: usize>(
     requires leaves { 1 ≤ leaves }
     requires room { behind.page + leaves ≤ 8388608 }
     requires offset { behind.offset ≤ 4064 }
-    ensures found { IfSome result (SpansFrom D form leaves (spot_of behind) (region_of path.now) references.now part.entry.bytes.now part.entry.places.now) }
-    ensures only { (t : IndexTree) → IsNodeOf D form leaves (fitted (spot_of behind) (first_length t)) (region_of path.now) references.now part.entry.bytes.now part.entry.places.now t
+    ensures found { IfSome result
+        (SpansFrom D form leaves (spot_of behind)
+        (region_of path.now) references.now part.entry.bytes.now part.entry.places.now) }
+    ensures only { (t : IndexTree)
+        → IsNodeOf D form leaves (fitted (spot_of behind) (first_length t))
+        (region_of path.now) references.now part.entry.bytes.now part.entry.places.now t
         → IsSomeAnd result (IsSpanOf (spot_of behind) t) }
     ensures page { IfSome result (λ x. x.end.page ≤ behind.page + leaves) }
     ensures end { IfSome result (λ x. x.end.offset ≤ 4064) }
@@ -88,8 +93,12 @@ fn check_leaf<const D: usize>(
     requires form { (1 ≤ form) × (form ≤ 3) }
     requires room { behind.page < 8388608 }
     requires offset { behind.offset ≤ 4064 }
-    ensures found { IfSome result (SpansFrom D form 1 (spot_of behind) (region_of path.now) references.now part.entry.bytes.now part.entry.places.now) }
-    ensures only { (t : IndexTree) → IsNodeOf D form 1 (fitted (spot_of behind) (first_length t)) (region_of path.now) references.now part.entry.bytes.now part.entry.places.now t
+    ensures found { IfSome result
+        (SpansFrom D form 1 (spot_of behind)
+        (region_of path.now) references.now part.entry.bytes.now part.entry.places.now) }
+    ensures only { (t : IndexTree)
+        → IsNodeOf D form 1 (fitted (spot_of behind) (first_length t))
+        (region_of path.now) references.now part.entry.bytes.now part.entry.places.now t
         → IsSomeAnd result (IsSpanOf (spot_of behind) t) }
     ensures page { IfSome result (λ x. x.end.page ≤ behind.page + 1) }
     ensures end { IfSome result (λ x. x.end.offset ≤ 4064) }

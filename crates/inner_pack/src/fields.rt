@@ -1,6 +1,7 @@
 //! The fields of an index body: cells, keys and vints.
 
-ghost use Rattle.std.specs.Prelude.{◌≡◌, ◌≤◌, ◌<◌, ◌*◌, ◌+◌, ◌-◌, ◌^◌, ◌++◌, ◌∷◌, ℕ, ℤ, List, length, take, drop, All, IfSome, IsSomeAnd, FitsSigned, slice_index_or, pos};
+ghost use Rattle.std.specs.Prelude.{◌≡◌, ◌≤◌, ◌<◌, ◌*◌, ◌+◌, ◌-◌, ◌^◌, ◌++◌, ◌∷◌, ℕ, ℤ, List, length, take, drop, All};
+ghost use Rattle.std.specs.Prelude.{IfSome, IsSomeAnd, FitsSigned, slice_index_or, pos};
 ghost use Rattle.std.specs.Int.{w32};
 ghost use Rattle.std.specs.List.{flat_map};
 ghost use Rattle.point_codec.specs.Points.{Region};
@@ -85,7 +86,8 @@ pub(crate) fn is_cell<const D: usize>(cell: &Cell<D>)
 /// The number of the vint with which the bytes begin, and the bytes behind it.
 pub(crate) fn take_vint(b: &[u8]) -> Option<(u32, &[u8])>
     ensures found { IfSome result (λ x. b.now ≡ vint x.0 ++ x.1.now) }
-    ensures only { (n : ℕ) (rest : List ℕ) → n < 2 ^ 32 → b.now ≡ vint n ++ rest → IsSomeAnd result (λ x. (x.0 ≡ n) × (x.1.now ≡ rest)) }
+    ensures only { (n : ℕ) (rest : List ℕ) → n < 2 ^ 32 → b.now ≡ vint n ++ rest
+        → IsSomeAnd result (λ x. (x.0 ≡ n) × (x.1.now ≡ rest)) }
 {
     let mut cursor = Cursor::new(b);
     let Ok(n) = cursor.take_vint() else {
@@ -94,8 +96,8 @@ pub(crate) fn take_vint(b: &[u8]) -> Option<(u32, &[u8])>
     Some((n, cursor.rest()))
 }
 
-/// The key of which so many bytes at the front, and no more, are those of the reference, and the others stand at the front of
-/// the bytes; and the bytes behind it.
+/// The key of which so many bytes at the front, and no more, are those of the reference, and the others stand at the
+/// front of the bytes; and the bytes behind it.
 pub(crate) fn take_key(b: &[u8], reference: [u8; 4], prefix: usize) -> Option<([u8; 4], &[u8])>
     requires { prefix ≤ 4 }
     ensures found { IfSome result (λ x. (shared x.0 reference ≡ prefix) × (b.now ≡ drop prefix x.0 ++ x.1.now)) }
@@ -130,7 +132,8 @@ fn joined(reference: [u8; 4], prefix: usize, back: &[u8]) -> [u8; 4]
 /// The place with which the bytes begin, and the bytes behind it.
 pub(crate) fn take_place(b: &[u8]) -> Option<(LeafPlace, &[u8])>
     ensures found { IfSome result (λ x. b.now ≡ place_bytes (placed_of x.0) ++ x.1.now) }
-    ensures only { (p : Placed) (rest : List ℕ) → p.at.page < 2 ^ 32 → p.at.offset < 2 ^ 16 → p.length < 2 ^ 16 → b.now ≡ place_bytes p ++ rest
+    ensures only { (p : Placed) (rest : List ℕ) → p.at.page < 2 ^ 32 → p.at.offset < 2 ^ 16 → p.length < 2 ^ 16
+        → b.now ≡ place_bytes p ++ rest
         → IsSomeAnd result (λ x. (placed_of x.0 ≡ p) × (x.1.now ≡ rest)) }
 {
     let mut cursor = Cursor::new(b);
@@ -165,7 +168,8 @@ pub(crate) fn take_byte(b: &[u8]) -> Option<(u8, &[u8])>
 /// The first `n` bytes and the others.
 pub(crate) fn cut(b: &[u8], n: usize) -> Option<(&[u8], &[u8])>
     ensures found { IfSome result (λ x. (length x.0.now ≡ n) × (b.now ≡ x.0.now ++ x.1.now)) }
-    ensures only { (front rest : List ℕ) → length front ≡ n → b.now ≡ front ++ rest → IsSomeAnd result (λ x. (x.0.now ≡ front) × (x.1.now ≡ rest)) }
+    ensures only { (front rest : List ℕ) → length front ≡ n → b.now ≡ front ++ rest
+        → IsSomeAnd result (λ x. (x.0.now ≡ front) × (x.1.now ≡ rest)) }
 {
     if b.len() < n {
         return None;

@@ -1,6 +1,7 @@
 //! What an inner node says of itself, in each form.
 
-ghost use Rattle.std.specs.Prelude.{◌≡◌, ◌≤◌, ◌<◌, ◌*◌, ◌+◌, ◌-◌, ◌^◌, ◌++◌, ◌∷◌, [], ℕ, ℤ, List, length, drop, All, IfSome, IsSomeAnd, slice_index_or, slice_set, FitsSigned};
+ghost use Rattle.std.specs.Prelude.{◌≡◌, ◌≤◌, ◌<◌, ◌*◌, ◌+◌, ◌-◌, ◌^◌, ◌++◌, ◌∷◌, [], ℕ, ℤ, List, length, drop, All};
+ghost use Rattle.std.specs.Prelude.{IfSome, IsSomeAnd, slice_index_or, slice_set, FitsSigned};
 ghost use Rattle.std.specs.Int.{w16, w32, to_be_bytes};
 ghost use Rattle.point_codec.specs.Points.{Region};
 ghost use Rattle.point_codec.specs.Keys.{key};
@@ -47,7 +48,8 @@ pub(crate) fn read_head<'a, const D: usize>(
     requires form { (1 ≤ form) × (form ≤ 3) }
     requires leaves { (2 ≤ leaves) × (leaves ≤ 8388608) }
     ensures found { IfSome result (IsHead D form references.now part.entry.bytes.now part.entry.places.now) }
-    ensures only { (s : Spot) (path : Region) (d : ℕ) (x : ℤ) (l r : IndexTree) → s.page ≤ 8388608 → FitsSigned w32 x → IsNodeOf D form leaves s path references.now part.entry.bytes.now part.entry.places.now (Split d x l r)
+    ensures only { (s : Spot) (path : Region) (d : ℕ) (x : ℤ) (l r : IndexTree) → s.page ≤ 8388608 → FitsSigned w32 x
+        → IsNodeOf D form leaves s path references.now part.entry.bytes.now part.entry.places.now (Split d x l r)
         → IsSomeAnd result (SaysSplit form references.now s d x l r) }
 {
     if form == 1 {
@@ -61,8 +63,11 @@ pub(crate) fn read_head<'a, const D: usize>(
 fn table_head<'a, const D: usize>(leaves: u32, part: Part<'a>) -> Option<Head<'a>>
     requires dims { D ≤ 8 }
     requires leaves { (2 ≤ leaves) × (leaves ≤ 8388608) }
-    ensures found { (references : List (List ℕ)) → IfSome result (IsHead D 1 references part.entry.bytes.now part.entry.places.now) }
-    ensures only { (references : List (List ℕ)) (s : Spot) (path : Region) (d : ℕ) (x : ℤ) (l r : IndexTree) → s.page ≤ 8388608 → FitsSigned w32 x → IsNodeOf D 1 leaves s path references part.entry.bytes.now part.entry.places.now (Split d x l r)
+    ensures found { (references : List (List ℕ))
+        → IfSome result (IsHead D 1 references part.entry.bytes.now part.entry.places.now) }
+    ensures only { (references : List (List ℕ)) (s : Spot) (path : Region) (d : ℕ) (x : ℤ) (l r : IndexTree)
+        → s.page ≤ 8388608 → FitsSigned w32 x
+        → IsNodeOf D 1 leaves s path references part.entry.bytes.now part.entry.places.now (Split d x l r)
         → IsSomeAnd result (SaysSplit 1 references s d x l r) }
 {
     let (dimension, key, cuts) = take_cut::<D>(part.bytes)?;
@@ -108,8 +113,11 @@ fn take_cut<const D: usize>(b: &[u8]) -> Option<(usize, [u8; 4], &[u8])>
 /// The head of an inner node of a packed form.
 fn packed_head<'a, const D: usize>(references: &[[u8; 4]; D], part: Part<'a>) -> Option<Head<'a>>
     requires dims { D ≤ 8 }
-    ensures found { (form : ℕ) → 2 ≤ form → IfSome result (IsHead D form references.now part.entry.bytes.now part.entry.places.now) }
-    ensures only { (form leaves : ℕ) (s : Spot) (path : Region) (d : ℕ) (x : ℤ) (l r : IndexTree) → 2 ≤ form → leaves ≤ 8388608 → FitsSigned w32 x → IsNodeOf D form leaves s path references.now part.entry.bytes.now part.entry.places.now (Split d x l r)
+    ensures found { (form : ℕ) → 2 ≤ form
+        → IfSome result (IsHead D form references.now part.entry.bytes.now part.entry.places.now) }
+    ensures only { (form leaves : ℕ) (s : Spot) (path : Region) (d : ℕ) (x : ℤ) (l r : IndexTree) → 2 ≤ form
+        → leaves ≤ 8388608 → FitsSigned w32 x
+        → IsNodeOf D form leaves s path references.now part.entry.bytes.now part.entry.places.now (Split d x l r)
         → IsSomeAnd result (SaysSplit form references.now s d x l r) }
 {
     let (code, rest) = take_byte(part.bytes)?;

@@ -26,7 +26,8 @@ pub struct NotIndex {
     pub b: Bytes,
 }
 
-/// The index of a segment. Contracts see its form, its number of leaves and its bytes; these have one root cell and one tree.
+/// The index of a segment. Contracts see its form, its number of leaves and its bytes; these have one root cell and one
+/// tree.
 #[derive(Debug, Drop)]
 pub struct Index<const D: usize> {
     form: u8,
@@ -51,13 +52,14 @@ impl<const D: usize> Index<D> {
     ghost use Rattle.inner_pack.specs.Nodes.{IsAt};
     ghost use Rattle.inner_pack.specs.Places.{front};
 
-    /// The index of that form and number of leaves that the bytes spell. They are handed back exactly where they spell none. No
-    /// memory is taken.
+    /// The index of that form and number of leaves that the bytes spell. They are handed back exactly where they
+    /// spell none. No memory is taken.
     pub fn read(form: u8, leaves: u32, b: Bytes) -> Result<Index<D>, NotIndex>
         requires { (1 ≤ D) × (D ≤ 8) }
         ensures ok { IfOk result (λ i. i ≡ record { form = form; leaves = leaves; bytes = b }) }
         ensures spelled { IfOk result (λ i. IsSpelled D i) }
-        ensures err { IfErr result (λ e. (e.b ≡ b) × ((root : Region) (t : IndexTree) → SpellsIndex D form leaves b root t → ⊥)) }
+        ensures err { IfErr result
+            (λ e. (e.b ≡ b) × ((root : Region) (t : IndexTree) → SpellsIndex D form leaves b root t → ⊥)) }
     {
         let b = match checked::<D>(form, leaves, b.as_slice()) {
             Some((root, pages)) => return Ok(Index::of_parts(
@@ -206,8 +208,10 @@ fn root_part(form: u8, leaves: u32, b: &[u8]) -> Option<Part<'_>>
     requires form { 1 ≤ form }
     requires leaves { (1 ≤ leaves) × (leaves ≤ 8388608) }
     ensures found { IfSome result (λ part. JoinsRoot form b.now part.bytes.now part.places.now) }
-    ensures only { (references : List (List ℕ)) (t : IndexTree) → IsShaped leaves t → b.now ≡ tree_bytes form references t
-        → IsSomeAnd result (λ part. (part.bytes.now ≡ spelled_part form references front t) × (part.places.now ≡ told_part form front t)) }
+    ensures only { (references : List (List ℕ)) (t : IndexTree) → IsShaped leaves t
+        → b.now ≡ tree_bytes form references t
+        → IsSomeAnd result
+        (λ part. (part.bytes.now ≡ spelled_part form references front t) × (part.places.now ≡ told_part form front t)) }
 {
     if form == 1 {
         let (bytes, places) = cut(b, 5 * (leaves as usize - 1))?;

@@ -1,6 +1,7 @@
 //! What a leaf says of itself, in each form.
 
-ghost use Rattle.std.specs.Prelude.{◌≡◌, ◌≤◌, ◌<◌, ◌+◌, ◌^◌, ◌++◌, [], ℕ, List, length, true, IfSome, IsSomeAnd, IsTrue, ◌↔◌, if◌then◌else◌, ◌==◌};
+ghost use Rattle.std.specs.Prelude.{◌≡◌, ◌≤◌, ◌<◌, ◌+◌, ◌^◌, ◌++◌, [], ℕ, List, length, true, IfSome, IsSomeAnd};
+ghost use Rattle.std.specs.Prelude.{IsTrue, ◌↔◌, if◌then◌else◌, ◌==◌};
 ghost use Rattle.point_codec.specs.Points.{Region};
 ghost use Rattle.point_codec.specs.Seen.{region_of};
 ghost use Rattle.point_codec.specs.Cells.{within};
@@ -25,8 +26,13 @@ pub(crate) fn read_leaf<const D: usize>(
     requires form { (1 ≤ form) × (form ≤ 3) }
     requires room { behind.page < 8388608 }
     requires offset { behind.offset ≤ 4064 }
-    ensures found { (references : List (List ℕ)) → IfSome result (IsLeafBehind D form (spot_of behind) (region_of path.now) references part.entry.bytes.now part.entry.places.now) }
-    ensures only { (references : List (List ℕ)) (n : ℕ) (own : Region) → IsNodeOf D form 1 (fitted (spot_of behind) n) (region_of path.now) references part.entry.bytes.now part.entry.places.now (Leaf n own)
+    ensures found { (references : List (List ℕ))
+        → IfSome result
+        (IsLeafBehind D form (spot_of behind)
+        (region_of path.now) references part.entry.bytes.now part.entry.places.now) }
+    ensures only { (references : List (List ℕ)) (n : ℕ) (own : Region)
+        → IsNodeOf D form 1 (fitted (spot_of behind) n)
+        (region_of path.now) references part.entry.bytes.now part.entry.places.now (Leaf n own)
         → IsSomeAnd result (λ x. x ≡ n) }
 {
     is_cell(path);
@@ -45,7 +51,8 @@ fn table_leaf(part: Part, behind: Mark) -> Option<u16>
     requires room { behind.page < 8388608 }
     requires offset { behind.offset ≤ 4064 }
     ensures found { IfSome result (IsTableLeaf (spot_of behind) part.entry.bytes.now part.entry.places.now) }
-    ensures only { (n : ℕ) → IsTableLeaf (spot_of behind) part.entry.bytes.now part.entry.places.now n → IsSomeAnd result (λ x. x ≡ n) }
+    ensures only { (n : ℕ) → IsTableLeaf (spot_of behind) part.entry.bytes.now part.entry.places.now n
+        → IsSomeAnd result (λ x. x ≡ n) }
 {
     if !part.bytes.is_empty() {
         return None;
@@ -89,7 +96,8 @@ pub(crate) fn packed_leaf<const D: usize>(
 /// The length of a leaf, with which its bytes begin in a packed form, and the bytes behind it.
 pub(crate) fn take_length(b: &[u8]) -> Option<(u16, &[u8])>
     ensures found { IfSome result (λ x. (1 ≤ x.0) × (x.0 ≤ 4064) × (b.now ≡ vint x.0 ++ x.1.now)) }
-    ensures only { (n : ℕ) (rest : List ℕ) → 1 ≤ n → n ≤ 4064 → b.now ≡ vint n ++ rest → IsSomeAnd result (λ x. (x.0 ≡ n) × (x.1.now ≡ rest)) }
+    ensures only { (n : ℕ) (rest : List ℕ) → 1 ≤ n → n ≤ 4064 → b.now ≡ vint n ++ rest
+        → IsSomeAnd result (λ x. (x.0 ≡ n) × (x.1.now ≡ rest)) }
 {
     let (length, rest) = take_vint(b)?;
     if length < 1 {
@@ -105,7 +113,8 @@ pub(crate) fn take_length(b: &[u8]) -> Option<(u16, &[u8])>
 fn own_cell<const D: usize>(form: u8, path: &Cell<D>, b: &[u8]) -> Option<Cell<D>>
     requires form { (2 ≤ form) × (form ≤ 3) }
     ensures found { IfSome result (λ own. IsOwnCell D form (region_of path.now) b.now (region_of own)) }
-    ensures only { (own : Region) → IsOwnCell D form (region_of path.now) b.now own → IsSomeAnd result (λ x. region_of x ≡ own) }
+    ensures only { (own : Region) → IsOwnCell D form (region_of path.now) b.now own
+        → IsSomeAnd result (λ x. region_of x ≡ own) }
 {
     if form == 2 {
         return whole_path(path, b);
@@ -121,7 +130,8 @@ fn own_cell<const D: usize>(form: u8, path: &Cell<D>, b: &[u8]) -> Option<Cell<D
 /// The path cell, where no bytes are left.
 fn whole_path<const D: usize>(path: &Cell<D>, b: &[u8]) -> Option<Cell<D>>
     ensures found { IfSome result (λ own. IsOwnCell D 2 (region_of path.now) b.now (region_of own)) }
-    ensures only { (own : Region) → IsOwnCell D 2 (region_of path.now) b.now own → IsSomeAnd result (λ x. region_of x ≡ own) }
+    ensures only { (own : Region) → IsOwnCell D 2 (region_of path.now) b.now own
+        → IsSomeAnd result (λ x. region_of x ≡ own) }
 {
     if !b.is_empty() {
         return None;

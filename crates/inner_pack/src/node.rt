@@ -44,14 +44,16 @@ impl<'a, const D: usize> NodeAt<'a, D> {
 
     /// The cell in which all entries below the node lie: of an inner node its path cell, of a leaf its own.
     pub fn cell(&self) -> Cell<D>
-        ensures { (first : ℕ) (s : Spot) (path : Region) (t : IndexTree) → IsAt self.now first s path t → region_of result ≡ cell_of path t }
+        ensures { (first : ℕ) (s : Spot) (path : Region) (t : IndexTree) → IsAt self.now first s path t
+            → region_of result ≡ cell_of path t }
     {
         self.cell
     }
 
     /// How many leaves there are at or below the node.
     pub fn leaf_count(&self) -> u32
-        ensures count { (first : ℕ) (s : Spot) (path : Region) (t : IndexTree) → IsAt self.now first s path t → result ≡ leaf_count t }
+        ensures count { (first : ℕ) (s : Spot) (path : Region) (t : IndexTree) → IsAt self.now first s path t
+            → result ≡ leaf_count t }
         ensures field { result ≡ self.now.leaves }
     {
         self.leaves
@@ -59,7 +61,8 @@ impl<'a, const D: usize> NodeAt<'a, D> {
 
     /// Which of all leaves in order is the first at or below the node, from 0.
     pub fn first_leaf(&self) -> u32
-        ensures number { (first : ℕ) (s : Spot) (path : Region) (t : IndexTree) → IsAt self.now first s path t → result ≡ first }
+        ensures number { (first : ℕ) (s : Spot) (path : Region) (t : IndexTree) → IsAt self.now first s path t
+            → result ≡ first }
         ensures field { result ≡ self.now.first }
     {
         self.first
@@ -67,7 +70,9 @@ impl<'a, const D: usize> NodeAt<'a, D> {
 
     /// The left and the right child. None exactly at a leaf.
     pub fn children(&self) -> Option<(NodeAt<'a, D>, NodeAt<'a, D>)>
-        ensures some { IfSome result (λ c. (first : ℕ) (s : Spot) (path : Region) (t : IndexTree) → IsAt self.now first s path t → AreChildren c.0 c.1 first s path t) }
+        ensures some { IfSome result
+            (λ c. (first : ℕ) (s : Spot) (path : Region) (t : IndexTree) → IsAt self.now first s path t
+            → AreChildren c.0 c.1 first s path t) }
         ensures none { IsNone result ↔ (self.now.leaves ≡ 1) }
         ensures fewer { IfSome result (λ c. (c.0.leaves < self.now.leaves) × (c.1.leaves < self.now.leaves)) }
         ensures sum { IfSome result (λ c. c.0.leaves + c.1.leaves ≡ self.now.leaves) }
@@ -110,7 +115,9 @@ impl<'a, const D: usize> NodeAt<'a, D> {
 
     /// Where the leaf stands. None exactly at an inner node.
     pub fn leaf_place(&self) -> Option<LeafPlace>
-        ensures some { IfSome result (λ p. (first : ℕ) (s : Spot) (path : Region) (t : IndexTree) → IsAt self.now first s path t → IsPlaceOf p s t) }
+        ensures some { IfSome result
+            (λ p. (first : ℕ) (s : Spot) (path : Region) (t : IndexTree) → IsAt self.now first s path t
+            → IsPlaceOf p s t) }
         ensures none { IsSome result ↔ (self.now.leaves ≡ 1) }
         ensures small { IfSome result (λ p. p.page < 8388608) }
         ensures fits { IfSome result (λ p. p.offset + p.length ≤ 4064) }
@@ -130,7 +137,9 @@ impl<'a, const D: usize> NodeAt<'a, D> {
         requires { 2 ≤ self.now.leaves }
         ensures cell { IsInCell D (region_of self.now.cell) result.dimension result.at }
         ensures room { result.pages ≤ self.now.leaves - self.now.leaves / 2 }
-        ensures says { (path : Region) (t : IndexTree) → region_of self.now.cell ≡ cell_of path t → IsNodeOf D self.now.form self.now.leaves (spot_at self.now.page self.now.offset) path self.now.references self.now.bytes.now self.now.places.now t
+        ensures says { (path : Region) (t : IndexTree) → region_of self.now.cell ≡ cell_of path t
+            → IsNodeOf D self.now.form self.now.leaves
+            (spot_at self.now.page self.now.offset) path self.now.references self.now.bytes.now self.now.places.now t
             → SaysTree self.now.form self.now.references (spot_at self.now.page self.now.offset) t result }
     {
         is_cell(&self.cell);
@@ -147,7 +156,9 @@ impl<'a, const D: usize> NodeAt<'a, D> {
     /// How many bytes spell the leaf.
     fn length(&self) -> u16
         requires { self.now.leaves ≡ 1 }
-        ensures { (path : Region) (t : IndexTree) → IsNodeOf D self.now.form self.now.leaves (spot_at self.now.page self.now.offset) path self.now.references self.now.bytes.now self.now.places.now t
+        ensures { (path : Region) (t : IndexTree)
+            → IsNodeOf D self.now.form self.now.leaves
+            (spot_at self.now.page self.now.offset) path self.now.references self.now.bytes.now self.now.places.now t
             → result ≡ first_length t }
     {
         if self.form == 1 {
@@ -172,12 +183,15 @@ impl<'a, const D: usize> NodeAt<'a, D> {
         references: &[[u8; 4]; D],
         part: Part<'a>,
     ) -> NodeAt<'a, D>
-        requires some { ∥ IsSomeTree D form leaves (spot_of begin) (region_of path.now) references.now part.bytes.now part.places.now ∥₁ }
+        requires some { ∥ IsSomeTree D form leaves (spot_of begin)
+            (region_of path.now) references.now part.bytes.now part.places.now ∥₁ }
         requires leaves { 1 ≤ leaves }
         requires last { first + leaves ≤ 8388608 }
         requires page { begin.page ≤ first }
         ensures count { result.leaves ≡ leaves }
-        ensures at { (t : IndexTree) → IsNodeOf D form leaves (spot_of begin) (region_of path.now) references.now part.entry.bytes.now part.entry.places.now t
+        ensures at { (t : IndexTree)
+            → IsNodeOf D form leaves (spot_of begin)
+            (region_of path.now) references.now part.entry.bytes.now part.entry.places.now t
             → IsAt result first (spot_of begin) (region_of path.now) t }
     {
         NodeAt {
@@ -198,7 +212,8 @@ impl<'a, const D: usize> NodeAt<'a, D> {
 fn cell_at<const D: usize>(form: u8, leaves: u32, path: &Cell<D>, b: &[u8]) -> Cell<D>
     requires some { ∥ IsSomeLeaf D form leaves (region_of path.now) b.now ∥₁ }
     requires leaves { 1 ≤ leaves }
-    ensures { (s : Spot) (references : List (List ℕ)) (places : List ℕ) (t : IndexTree) → IsNodeOf D form leaves s (region_of path.now) references b.now places t
+    ensures { (s : Spot) (references : List (List ℕ)) (places : List ℕ) (t : IndexTree)
+        → IsNodeOf D form leaves s (region_of path.now) references b.now places t
         → region_of result ≡ cell_of (region_of path.now) t }
 {
     if leaves > 1 {

@@ -1,10 +1,11 @@
 //! Packing a tree into the bytes of form 3.
 //!
-//! Before the bytes of a left child stands the number of them, so the bytes are made from their end: each node behind both of
-//! its children, the right one first, and each with its last byte first. All of them are turned once at the end. So a node is
-//! written as soon as its parts are known, into one vector that is reserved once.
+//! Before the bytes of a left child stands the number of them, so the bytes are made from their end: each node behind
+//! both of its children, the right one first, and each with its last byte first. All of them are turned once at the
+//! end. So a node is written as soon as its parts are known, into one vector that is reserved once.
 
-ghost use Rattle.std.specs.Prelude.{◌≡◌, ◌≤◌, ◌<◌, ◌+◌, ◌*◌, ◌^◌, ◌++◌, length, List, map, reverse, take, drop, All, IfOk, OnOk, ℕ, [], slice_index_or};
+ghost use Rattle.std.specs.Prelude.{◌≡◌, ◌≤◌, ◌<◌, ◌+◌, ◌*◌, ◌^◌, ◌++◌, length, List, map, reverse, take, drop, All};
+ghost use Rattle.std.specs.Prelude.{IfOk, OnOk, ℕ, [], slice_index_or};
 ghost use Rattle.std.specs.List.{flat_map};
 ghost use Rattle.point_codec.specs.Keys.{key};
 ghost use Rattle.point_codec.specs.Seen.{region_of};
@@ -29,8 +30,8 @@ impl<const D: usize> Index<D> {
     ghost use Rattle.inner_pack.specs.Bodies.{HasTree, IsSpelled};
     ghost use Rattle.inner_pack.specs.Parts.{AreParts, ArePartsOf};
 
-    /// The index of form 3 with this root cell, these inner nodes in preorder as the dimension and the value of their split, and
-    /// the lengths and own cells of its leaves from left to right.
+    /// The index of form 3 with this root cell, these inner nodes in preorder as the dimension and the value of their
+    /// split, and the lengths and own cells of its leaves from left to right.
     pub fn pack(
         alloc: Global,
         root: Cell<D>,
@@ -78,8 +79,8 @@ fn room(leaves: usize, dims: usize) -> usize
     requires leaves { leaves ≤ 8388608 }
     requires dims { dims ≤ 8 }
 {
-    // Each leaf has a length of at most two bytes and its own cell. Each inner node has a code, four bytes of a key, a number of
-    // pages below 2^28, an offset below 2^14, and the length of its left child.
+    // Each leaf has a length of at most two bytes and its own cell. Each inner node has a code, four bytes of a key,
+    // a number of pages below 2^28, an offset below 2^14, and the length of its left child.
     8 * dims + leaves * (2 + 8 * dims + 1 + 4 + 4 + 2 + 5)
 }
 
@@ -197,15 +198,16 @@ impl<'a, const D: usize> Subtree<'a, D> {
     }
 }
 
-/// Appends the bytes of a node, the last one first. The references are the keys of the last split in each dimension on the
-/// path from the root, and of the root cell where there is none.
+/// Appends the bytes of a node, the last one first. The references are the keys of the last split in each dimension
+/// on the path from the root, and of the root cell where there is none.
 fn put_node<const D: usize>(
     out: &mut Vec<u8>,
     references: [[u8; 4]; D],
     part: Subtree<'_, D>,
 ) -> Result<(), Memory>
     requires { length out.old.items + 89 * length part.places.now < 2 ^ 32 }
-    ensures spelled { (s : Spot) (t : IndexTree) → IsPart D s part.entry.nodes.now part.entry.places.now part.entry.cells.now t
+    ensures spelled { (s : Spot) (t : IndexTree)
+        → IsPart D s part.entry.nodes.now part.entry.places.now part.entry.cells.now t
         → OnOk result (AppendsTurned out.old.items out.new.items (node_bytes 3 references.entry s t)) }
     ensures more { OnOk result (length out.old.items ≤ length out.new.items) }
     ensures room { OnOk result (length out.new.items + 20 ≤ length out.old.items + 89 * length part.entry.places.now) }

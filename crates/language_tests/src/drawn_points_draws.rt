@@ -3,8 +3,8 @@
 use crate::asserts::{same, same_at};
 use drawn_points::Draws;
 
-/// Seeds with the number of a draw and the draw. The first are this generator's own; the 10,000th is the one that the C++
-/// standard gives for its `minstd_rand`.
+/// Seeds with the number of a draw and the draw. The first are this generator's own; the 10,000th is the one that the
+/// C++ standard gives for its `minstd_rand`.
 const DRAWN: [(u32, u32, u32); 5] = [
     (1, 1, 48_271),
     (1, 2, 182_605_794),

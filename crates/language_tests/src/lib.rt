@@ -1,5 +1,5 @@
-//! The tests of the crates that read and write texts: lines of a script, polygons, CSV, words of the command line, damages. They stand above
-//! what they test, so that there only the tests themselves are proved.
+//! The tests of the crates that read and write texts: lines of a script, polygons, CSV, words of the command line,
+//! damages. They stand above what they test, so that there only the tests themselves are proved.
 #![tactic(auto)]
 
 #[cfg(test)]

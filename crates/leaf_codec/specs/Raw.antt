@@ -1,5 +1,6 @@
 -- What the bytes of a leaf say, field by field, before it is asked whether they are the spelling of its entries.
-use Rattle.std.specs.Prelude.{ℕ, ◌≡◌, ◌+◌, ◌-◌, ◌*◌, ◌^◌, ◌<◌, ◌≤◌, List, [], ◌∷◌, ◌++◌, map, length, take, drop, All, ℤ, if◌then◌else◌, nat_lt, ◌==◌, slice_index}
+use Rattle.std.specs.Prelude.{ℕ, ◌≡◌, ◌+◌, ◌-◌, ◌*◌, ◌^◌, ◌<◌, ◌≤◌, List, [], ◌∷◌, ◌++◌, map, length, take, drop, All}
+use Rattle.std.specs.Prelude.{ℤ, if◌then◌else◌, nat_lt, ◌==◌, slice_index}
 use Rattle.std.specs.List.{range_with_len, sum_by}
 use Rattle.std.specs.Int.{w16, to_be_bytes}
 use Rattle.point_codec.specs.Points.{Item}
@@ -34,7 +35,8 @@ raw_docs count r = map (λ i. r.least + offset_at r i) (range_with_len 0 count)
 
 -- ---- the keys
 
--- the lengths of the shared prefixes, the prefixes, the sorted dimension (or the number of dimensions where there is none) and its bytes, and the rests
+-- the lengths of the shared prefixes, the prefixes, the sorted dimension (or the number of dimensions where there is
+-- none) and its bytes, and the rests
 pub record RawKeys : Type 0 where
   pub lengths : List ℕ
   pub prefixes : List ℕ
@@ -82,7 +84,8 @@ keys_bytes D r = r.lengths ++ (r.prefixes ++ (sorted_raw D r.sorted r.bytes ++ r
 unfoldable pub key_at : ℕ → RawKeys → ℕ → ℕ → List ℕ
 key_at D r i d = take (slice_index r.lengths d) (drop (start_of r.lengths d) r.prefixes)
     ++ ((if d == r.sorted then slice_index r.bytes i ∷ [] else [])
-    ++ take (gap_of r.lengths r.sorted d) (drop (i * place_of r.lengths r.sorted D + place_of r.lengths r.sorted d) r.rests))
+    ++ take (gap_of r.lengths r.sorted d)
+    (drop (i * place_of r.lengths r.sorted D + place_of r.lengths r.sorted d) r.rests))
 
 unfoldable pub point_at : ℕ → RawKeys → ℕ → List ℤ
 point_at D r i = map (λ d. coordinate (key_at D r i d)) (range_with_len 0 D)

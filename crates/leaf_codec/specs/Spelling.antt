@@ -1,6 +1,7 @@
 -- The bytes of a leaf, part by part in the order of the format (after Lucene's leaf blocks of points: shared
 -- prefixes, one sorted dimension in runs, and the rest of each key). The spelling is a function of the items.
-use Rattle.std.specs.Prelude.{ℕ, ◌+◌, ◌-◌, ◌*◌, ◌/◌, ◌%◌, min, max, Bool, if◌then◌else◌, List, [], ◌∷◌, ◌++◌, map, length, take, drop, replicate, Option, Some, None, nat_eq, nat_lt, ◌==◌}
+use Rattle.std.specs.Prelude.{ℕ, ◌+◌, ◌-◌, ◌*◌, ◌/◌, ◌%◌, min, max, Bool, if◌then◌else◌, List, [], ◌∷◌, ◌++◌, map}
+use Rattle.std.specs.Prelude.{length, take, drop, replicate, Option, Some, None, nat_eq, nat_lt, ◌==◌}
 use Rattle.std.specs.List.{flat_map, fold, range_with_len}
 use Rattle.std.specs.Int.{w16, w32, to_be_bytes}
 use lib.Pointwise.{pointwise}
@@ -46,7 +47,8 @@ shared_bytes d (x ∷ items) = take (shared_prefix d (x ∷ items)) (key_of d x)
 
 -- the length of each dimension's prefix, then the prefixes
 unfoldable pub prefixes : ℕ → List Item → List ℕ
-prefixes D items = map (λ d. shared_prefix d items) (range_with_len 0 D) ++ flat_map (λ d. shared_bytes d items) (range_with_len 0 D)
+prefixes D items =
+    map (λ d. shared_prefix d items) (range_with_len 0 D) ++ flat_map (λ d. shared_bytes d items) (range_with_len 0 D)
 
 -- ---- the sorted bytes
 
@@ -71,7 +73,8 @@ pieces bs = flat_map pieces_of_run (runs bs)
 abbrev pub piece_bytes : ℕ × ℕ → List ℕ
 piece_bytes p = p.0 ∷ (p.1 - 1) ∷ []
 
--- run form 0 and the bytes, or run form 1, the number of pieces and the pieces: these exactly where twice their number is less than that of the bytes
+-- run form 0 and the bytes, or run form 1, the number of pieces and the pieces: these exactly where twice their number
+-- is less than that of the bytes
 unfoldable pub sorted_bytes : List ℕ → List ℕ
 sorted_bytes bs = if nat_lt (2 * length (pieces bs)) (length bs)
     then 1 ∷ length (pieces bs) ∷ flat_map piece_bytes (pieces bs)
@@ -100,4 +103,6 @@ rests D items = flat_map (rest D items) items
 
 -- the one spelling of the items of a leaf of D dimensions
 unfoldable pub spelling : ℕ → List Item → List ℕ
-spelling D items = to_be_bytes w16 (length items) ++ numbers (map (λ x. x.doc) items) ++ prefixes D items ++ sorted_part (sorted_dimension D items) items ++ rests D items
+spelling D items =
+    to_be_bytes w16 (length items) ++ numbers (map (λ x. x.doc) items) ++ prefixes D items ++ sorted_part
+    (sorted_dimension D items) items ++ rests D items

@@ -1,5 +1,6 @@
 -- What contracts see of the parts of a leaf that is read in place.
-use Rattle.std.specs.Prelude.{ℕ, ◌≡◌, ◌≢◌, ◌⊎◌, Bool, true, false, unwrap_or, map, ◌+◌, ◌-◌, ◌*◌, ◌^◌, ◌<◌, ◌≤◌, List, ◌++◌, length, take, drop, slice_index, All, if◌then◌else◌, ◌==◌}
+use Rattle.std.specs.Prelude.{ℕ, ◌≡◌, ◌≢◌, ◌⊎◌, Bool, true, false, unwrap_or, map, ◌+◌, ◌-◌, ◌*◌, ◌^◌, ◌<◌, ◌≤◌, List}
+use Rattle.std.specs.Prelude.{◌++◌, length, take, drop, slice_index, All, if◌then◌else◌, ◌==◌}
 use Rattle.std.specs.Int.{w16, to_be_bytes}
 use Rattle.std.specs.List.{range_with_len}
 use Rattle.std.specs.List.Sorted.{IsStrictlySortedBy}
@@ -11,7 +12,8 @@ use Rattle.leaf_codec.specs.declared.read_parts.Parts.{Parts}
 use Rattle.leaf_codec.specs.declared.read_parts.Slots.{Slots}
 use Rattle.leaf_codec.specs.Spelling.{form, least}
 use Rattle.leaf_codec.specs.Words.{AreBytes, number_of}
-use Rattle.leaf_codec.specs.Raw.{RawNumbers, AreRawNumbers, numbers_bytes, offset_at, raw_docs, RawKeys, AreRawKeys, keys_bytes, start_of, gap_of, place_of, raw_items}
+use Rattle.leaf_codec.specs.Raw.{RawNumbers, AreRawNumbers, numbers_bytes, offset_at, raw_docs, RawKeys, AreRawKeys}
+use Rattle.leaf_codec.specs.Raw.{keys_bytes, start_of, gap_of, place_of, raw_items}
 
 abbrev pub raw_numbers_of : Numbers → RawNumbers
 raw_numbers_of n = record { width = n.width; least = n.least; offsets = drop 4 n.words.now }
@@ -58,7 +60,15 @@ pub record IsSpan (n : ℕ) (r : RawNumbers) (top : ℕ) (from_least row : Bool)
 -- ---- the keys
 
 abbrev pub raw_keys_of : Parts → RawKeys
-raw_keys_of p = record { lengths = p.lengths.now; prefixes = p.prefixes.now; sorted = p.sorted; bytes = take p.count p.table; rests = drop 4 p.words.now }
+raw_keys_of p =
+    record {
+      lengths = p.lengths.now;
+      prefixes = p.prefixes.now;
+      sorted = p.sorted;
+      bytes = take p.count p.table;
+      rests
+          = drop 4 p.words.now;
+    }
 
 -- keys that can be read
 pub record IsParts (D : ℕ) (p : Parts) : Type 0 where
@@ -75,10 +85,15 @@ pub record BeginsWithKeys (bytes : List ℕ) (D count : ℕ) (p : Parts) : Type 
   pub counted : p.count ≡ count
   pub is : bytes ≡ keys_bytes D (raw_keys_of p)
 
--- what the slots of the parts hold for each dimension: the prefix and then bytes 0, as a number; what a sorted byte counts; the bits of the rest, and where it ends
+-- what the slots of the parts hold for each dimension: the prefix and then bytes 0, as a number; what a sorted byte
+-- counts; the bits of the rest, and where it ends
 pub record AreSlots (D : ℕ) (p : Parts) (s : Slots D) : Type 0 where
-  pub bases : (d : ℕ) → d < D → slice_index s.bases d ≡ number_of (take (slice_index p.lengths.now d) (drop (start_of p.lengths.now d) p.prefixes.now)) * 256 ^ (4 - slice_index p.lengths.now d)
-  pub scales : (d : ℕ) → d < D → slice_index s.scales d ≡ (if d == p.sorted then 256 ^ gap_of p.lengths.now p.sorted d else 0)
+  pub bases : (d : ℕ) → d < D
+      → slice_index s.bases d ≡ number_of
+      (take (slice_index p.lengths.now d) (drop (start_of p.lengths.now d) p.prefixes.now)) * 256 ^
+      (4 - slice_index p.lengths.now d)
+  pub scales : (d : ℕ) → d < D
+      → slice_index s.scales d ≡ (if d == p.sorted then 256 ^ gap_of p.lengths.now p.sorted d else 0)
   pub masks : (d : ℕ) → d < D → slice_index s.masks d ≡ 256 ^ gap_of p.lengths.now p.sorted d - 1
   pub places : (d : ℕ) → d < D → slice_index s.places d ≡ place_of p.lengths.now p.sorted (d + 1)
 

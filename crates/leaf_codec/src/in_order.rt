@@ -1,6 +1,7 @@
 //! Whether the entries of a leaf stand in leaf order and inside a cell.
 
-ghost use Rattle.std.specs.Prelude.{◌≡◌, ◌≢◌, ◌≤◌, ◌<◌, ◌^◌, ◌+◌, ◌*◌, ◌↔◌, ℕ, IsTrue, length, true, pos, int_le, nat_lt, if◌then◌else◌, slice_index_or, FitsSigned, bit_and, take, drop};
+ghost use Rattle.std.specs.Prelude.{◌≡◌, ◌≢◌, ◌≤◌, ◌<◌, ◌^◌, ◌+◌, ◌*◌, ◌↔◌, ℕ, IsTrue, length, true, pos, int_le};
+ghost use Rattle.std.specs.Prelude.{nat_lt, if◌then◌else◌, slice_index_or, FitsSigned, bit_and, take, drop};
 ghost use Rattle.std.specs.Int.{w32};
 ghost use Rattle.std.specs.declared.cmp.Ordering.TheVariants.{Less};
 ghost use Rattle.point_codec.specs.Points.{in_box};
@@ -8,7 +9,8 @@ ghost use Rattle.point_codec.specs.Keys.{key};
 ghost use Rattle.point_codec.specs.Seen.{region_of};
 ghost use Rattle.leaf_codec.specs.LeafOrder.{leaf_cmp, item_of};
 ghost use Rattle.leaf_codec.specs.Raw.{offset_at, key_at, point_at, raw_item};
-ghost use Rattle.leaf_codec.specs.Views.{IsParts, IsReadable, AreSlots, AscendInside, items_said, raw_numbers_of, raw_keys_of};
+ghost use Rattle.leaf_codec.specs.Views.{IsParts, IsReadable, AreSlots, AscendInside, items_said, raw_numbers_of};
+ghost use Rattle.leaf_codec.specs.Views.{raw_keys_of};
 ghost use Rattle.leaf_codec.specs.Words.{number_of};
 
 use crate::order::by_leaf_order;
@@ -26,7 +28,8 @@ pub fn are_in_order<const D: usize>(
 ) -> bool
     requires readable { IsReadable D numbers.now parts.now slots.now }
     requires some { 1 ≤ numbers.now.count }
-    ensures { IsTrue result ↔ AscendInside (if nat_lt parts.now.sorted D then parts.now.sorted else 0) (region_of cell.now) (items_said D numbers.now parts.now) }
+    ensures { IsTrue result ↔ AscendInside (if nat_lt parts.now.sorted D then parts.now.sorted else 0)
+        (region_of cell.now) (items_said D numbers.now parts.now) }
 {
     let d = leading::<D>(parts);
     if !ascend(numbers, parts, slots, d) {
@@ -62,7 +65,8 @@ fn ascend<const D: usize>(numbers: &Numbers, parts: &Parts, slots: &Slots<D>, d:
     requires some { 1 ≤ numbers.now.count }
     requires dimension { d < D }
     ensures { IsTrue result ↔ ((k : ℕ) → k + 1 < numbers.now.count
-        → leaf_cmp d (raw_item D (raw_numbers_of numbers.now) (raw_keys_of parts.now) k) (raw_item D (raw_numbers_of numbers.now) (raw_keys_of parts.now) (k + 1)) ≡ Less) }
+        → leaf_cmp d (raw_item D (raw_numbers_of numbers.now) (raw_keys_of parts.now) k)
+        (raw_item D (raw_numbers_of numbers.now) (raw_keys_of parts.now) (k + 1)) ≡ Less) }
 {
     let mut at = climb(numbers, parts, slots, d, 1);
     while at < numbers.count {
@@ -76,8 +80,8 @@ fn ascend<const D: usize>(numbers: &Numbers, parts: &Parts, slots: &Slots<D>, d:
     true
 }
 
-/// The first entry from `from` on that is not above the one before by its coordinate `d` and then its number, or the number of
-/// entries. Entries that tie in both are few, so they are left to the caller.
+/// The first entry from `from` on that is not above the one before by its coordinate `d` and then its number, or the
+/// number of entries. Entries that tie in both are few, so they are left to the caller.
 fn climb<const D: usize>(
     numbers: &Numbers,
     parts: &Parts,
@@ -90,7 +94,8 @@ fn climb<const D: usize>(
     requires from { (1 ≤ from) × (from ≤ numbers.now.count) }
     ensures within { (from ≤ result) × (result ≤ numbers.now.count) }
     ensures up { (k : ℕ) → from ≤ k + 1 → k + 1 < result
-        → leaf_cmp d (raw_item D (raw_numbers_of numbers.now) (raw_keys_of parts.now) k) (raw_item D (raw_numbers_of numbers.now) (raw_keys_of parts.now) (k + 1)) ≡ Less }
+        → leaf_cmp d (raw_item D (raw_numbers_of numbers.now) (raw_keys_of parts.now) k)
+        (raw_item D (raw_numbers_of numbers.now) (raw_keys_of parts.now) (k + 1)) ≡ Less }
 {
     let mut last = place(numbers, parts, slots, d, from - 1);
     for i in from..numbers.count {
@@ -114,7 +119,8 @@ fn place<const D: usize>(
     requires readable { IsReadable D numbers.now parts.now slots.now }
     requires dimension { d < D }
     requires within { i < numbers.now.count }
-    ensures value { result ≡ number_of (key_at D (raw_keys_of parts.now) i d) * 2 ^ 32 + (numbers.now.least + offset_at (raw_numbers_of numbers.now) i) }
+    ensures value { result ≡ number_of (key_at D (raw_keys_of parts.now) i d) * 2 ^ 32 +
+        (numbers.now.least + offset_at (raw_numbers_of numbers.now) i) }
     ensures small { numbers.now.least + offset_at (raw_numbers_of numbers.now) i < 2 ^ 32 }
 {
     u64::from(slots.rank(parts, i, d)) * (1 << 32) + u64::from(numbers.number(i))
@@ -127,8 +133,11 @@ fn lie_inside<const D: usize>(parts: &Parts, slots: &Slots<D>, cell: &Cell<D>, d
     requires slots { AreSlots D parts.now slots.now }
     requires some { 1 ≤ parts.now.count }
     requires leading { d ≡ if nat_lt parts.now.sorted D then parts.now.sorted else 0 }
-    requires rises { (k : ℕ) → k + 1 < parts.now.count → number_of (key_at D (raw_keys_of parts.now) k d) ≤ number_of (key_at D (raw_keys_of parts.now) (k + 1) d) }
-    ensures { IsTrue result ↔ ((i : ℕ) → i < parts.now.count → in_box (region_of cell.now) (point_at D (raw_keys_of parts.now) i) ≡ true) }
+    requires rises { (k : ℕ) → k + 1 < parts.now.count
+        → number_of (key_at D (raw_keys_of parts.now) k d) ≤ number_of
+        (key_at D (raw_keys_of parts.now) (k + 1) d) }
+    ensures { IsTrue result ↔
+        ((i : ℕ) → i < parts.now.count → in_box (region_of cell.now) (point_at D (raw_keys_of parts.now) i) ≡ true) }
 {
     let lo = coordinates(&cell.lo);
     let hi = coordinates(&cell.hi);
@@ -174,9 +183,13 @@ fn lie_between<const D: usize>(
     requires slots { AreSlots D parts.now slots.now }
     requires some { 1 ≤ parts.now.count }
     requires leading { d ≡ if nat_lt parts.now.sorted D then parts.now.sorted else 0 }
-    requires rises { (k : ℕ) → k + 1 < parts.now.count → number_of (key_at D (raw_keys_of parts.now) k d) ≤ number_of (key_at D (raw_keys_of parts.now) (k + 1) d) }
+    requires rises { (k : ℕ) → k + 1 < parts.now.count
+        → number_of (key_at D (raw_keys_of parts.now) k d) ≤ number_of
+        (key_at D (raw_keys_of parts.now) (k + 1) d) }
     requires dimension { e < D }
-    ensures { IsTrue result ↔ ((i : ℕ) → i < parts.now.count → (low ≤ number_of (key_at D (raw_keys_of parts.now) i e)) × (number_of (key_at D (raw_keys_of parts.now) i e) ≤ high)) }
+    ensures { IsTrue result ↔
+        ((i : ℕ) → i < parts.now.count → (low ≤ number_of (key_at D (raw_keys_of parts.now) i e))
+        × (number_of (key_at D (raw_keys_of parts.now) i e) ≤ high)) }
 {
     if e == d {
         return ends_between(parts, slots, e, low, high);
@@ -197,8 +210,12 @@ fn ends_between<const D: usize>(
     requires slots { AreSlots D parts.now slots.now }
     requires some { 1 ≤ parts.now.count }
     requires dimension { e < D }
-    requires rises { (k : ℕ) → k + 1 < parts.now.count → number_of (key_at D (raw_keys_of parts.now) k e) ≤ number_of (key_at D (raw_keys_of parts.now) (k + 1) e) }
-    ensures { IsTrue result ↔ ((i : ℕ) → i < parts.now.count → (low ≤ number_of (key_at D (raw_keys_of parts.now) i e)) × (number_of (key_at D (raw_keys_of parts.now) i e) ≤ high)) }
+    requires rises { (k : ℕ) → k + 1 < parts.now.count
+        → number_of (key_at D (raw_keys_of parts.now) k e) ≤ number_of
+        (key_at D (raw_keys_of parts.now) (k + 1) e) }
+    ensures { IsTrue result ↔
+        ((i : ℕ) → i < parts.now.count → (low ≤ number_of (key_at D (raw_keys_of parts.now) i e))
+        × (number_of (key_at D (raw_keys_of parts.now) i e) ≤ high)) }
 {
     if slots.rank(parts, 0, e) < low {
         return false;
@@ -206,8 +223,8 @@ fn ends_between<const D: usize>(
     slots.rank(parts, parts.count - 1, e) <= high
 }
 
-/// Whether the keys in dimension `e`, which isn't the sorted one, lie between two numbers: the prefix is the same in all of
-/// them, so what is left of each tells.
+/// Whether the keys in dimension `e`, which isn't the sorted one, lie between two numbers: the prefix is the same in
+/// all of them, so what is left of each tells.
 fn rests_between<const D: usize>(
     parts: &Parts,
     slots: &Slots<D>,
@@ -221,7 +238,9 @@ fn rests_between<const D: usize>(
     requires some { 1 ≤ parts.now.count }
     requires dimension { e < D }
     requires other { e ≢ parts.now.sorted }
-    ensures { IsTrue result ↔ ((i : ℕ) → i < parts.now.count → (low ≤ number_of (key_at D (raw_keys_of parts.now) i e)) × (number_of (key_at D (raw_keys_of parts.now) i e) ≤ high)) }
+    ensures { IsTrue result ↔
+        ((i : ℕ) → i < parts.now.count → (low ≤ number_of (key_at D (raw_keys_of parts.now) i e))
+        × (number_of (key_at D (raw_keys_of parts.now) i e) ≤ high)) }
 {
     let base = slots.bases[e];
     if high < base {
@@ -238,7 +257,8 @@ fn rests_between<const D: usize>(
     )
 }
 
-/// Whether the words at `start`, `start + stride` and so on, `count` of them, lie between two numbers in the bits of the mask.
+/// Whether the words at `start`, `start + stride` and so on, `count` of them, lie between two numbers in the bits of
+/// the mask.
 fn words_between(
     bytes: &[u8],
     start: usize,
@@ -250,7 +270,8 @@ fn words_between(
 ) -> bool
     requires within { (i : ℕ) → i < count → start + i * stride + 4 ≤ length bytes.now }
     ensures { IsTrue result ↔ ((i : ℕ) → i < count
-        → (low ≤ bit_and (number_of (take 4 (drop (start + i * stride) bytes.now))) mask) × (bit_and (number_of (take 4 (drop (start + i * stride) bytes.now))) mask ≤ high)) }
+        → (low ≤ bit_and (number_of (take 4 (drop (start + i * stride) bytes.now))) mask)
+        × (bit_and (number_of (take 4 (drop (start + i * stride) bytes.now))) mask ≤ high)) }
 {
     for i in 0..count {
         let left = word(bytes, start + i * stride) & mask;

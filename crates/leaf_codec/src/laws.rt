@@ -8,7 +8,8 @@ ghost use Rattle.leaf_codec.specs.Leaves.{SpellsLeaf};
 
 /// Bytes spell one list of entries at most, and a list has one spelling.
 pub fn one_leaf()
-    ensures items { (D : ℕ) (bytes : List ℕ) (xs ys : List Item) → SpellsLeaf D bytes xs → SpellsLeaf D bytes ys → xs ≡ ys }
+    ensures items { (D : ℕ) (bytes : List ℕ) (xs ys : List Item) → SpellsLeaf D bytes xs → SpellsLeaf D bytes ys
+        → xs ≡ ys }
     ensures bytes { (D : ℕ) (a b : List ℕ) (xs : List Item) → SpellsLeaf D a xs → SpellsLeaf D b xs → a ≡ b }
 {}
 

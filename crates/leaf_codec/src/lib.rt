@@ -1,4 +1,5 @@
-//! Leaves of a point index: a list of entries, spelled in bytes with shared prefixes (after Lucene's leaf blocks of points).
+//! Leaves of a point index: a list of entries, spelled in bytes with shared prefixes (after Lucene's leaf blocks of
+//! points).
 //!
 //! The spelling is a function of the entries, and no bytes spell two lists of them (`one_leaf`).
 #![tactic(auto)]

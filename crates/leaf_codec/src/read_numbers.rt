@@ -1,6 +1,7 @@
 //! Reading the numbers of a leaf.
 
-ghost use Rattle.std.specs.Prelude.{◌≡◌, ◌≢◌, false, ◌≤◌, ◌<◌, ◌^◌, ◌*◌, ◌+◌, ◌++◌, ◌∷◌, ◌↔◌, ℕ, List, length, IfSome, IsSome, IsTrue};
+ghost use Rattle.std.specs.Prelude.{◌≡◌, ◌≢◌, false, ◌≤◌, ◌<◌, ◌^◌, ◌*◌, ◌+◌, ◌++◌, ◌∷◌, ◌↔◌, ℕ, List, length, IfSome};
+ghost use Rattle.std.specs.Prelude.{IsSome, IsTrue};
 ghost use Rattle.std.specs.Int.{w16, to_be_bytes};
 ghost use Rattle.byte_cursor.specs.Vint.{vint};
 ghost use Rattle.leaf_codec.specs.Raw.{RawNumbers, AreRawNumbers, numbers_bytes, offset_at};
@@ -179,7 +180,8 @@ fn form_and_least(bytes: &[u8]) -> Option<(usize, u32, &[u8])>
     ensures form { IfSome result (λ x. x.0 ≤ 3) }
     ensures least { IfSome result (λ x. x.1 < 2 ^ 24) }
     ensures found { IfSome result (λ x. bytes.now ≡ x.0 ∷ vint x.1 ++ x.2.now) }
-    ensures only { (form least : ℕ) (rest : List ℕ) → form ≤ 3 → least < 2 ^ 24 → bytes.now ≡ form ∷ vint least ++ rest → IsSome result }
+    ensures only { (form least : ℕ) (rest : List ℕ) → form ≤ 3 → least < 2 ^ 24 → bytes.now ≡ form ∷ vint least ++ rest
+        → IsSome result }
 {
     let mut cursor = Cursor::new(bytes);
     let Ok(form) = cursor.take_u8() else {

@@ -1,6 +1,7 @@
 //! Reading the sorted bytes of a leaf.
 
-ghost use Rattle.std.specs.Prelude.{◌≡◌, ◌≤◌, ◌<◌, ◌%◌, ◌*◌, ◌+◌, ◌-◌, ◌++◌, ◌∷◌, ◌↔◌, ℕ, List, length, IfSome, IsSome, IsTrue, take, replicate};
+ghost use Rattle.std.specs.Prelude.{◌≡◌, ◌≤◌, ◌<◌, ◌%◌, ◌*◌, ◌+◌, ◌-◌, ◌++◌, ◌∷◌, ◌↔◌, ℕ, List, length, IfSome, IsSome};
+ghost use Rattle.std.specs.Prelude.{IsTrue, take, replicate};
 ghost use Rattle.std.specs.List.{flat_map};
 ghost use Rattle.leaf_codec.specs.Spelling.{pieces, piece_bytes, sorted_bytes};
 ghost use Rattle.leaf_codec.specs.Words.{pairs_expanded};
@@ -28,7 +29,8 @@ pub fn take_sorted(b: &[u8], count: usize) -> Option<(Table, &[u8])>
 fn take_plain(b: &[u8], count: usize) -> Option<(Table, &[u8])>
     requires { count ≤ 500 }
     ensures found { IfSome result (λ x. 0 ∷ b.now ≡ sorted_bytes (take count x.0) ++ x.1.now) }
-    ensures only { (bytes tail : List ℕ) → length bytes ≡ count → 0 ∷ b.now ≡ sorted_bytes bytes ++ tail → IsSome result }
+    ensures only { (bytes tail : List ℕ) → length bytes ≡ count → 0 ∷ b.now ≡ sorted_bytes bytes ++ tail
+        → IsSome result }
 {
     if b.len() < count {
         return None;
@@ -44,7 +46,8 @@ fn take_plain(b: &[u8], count: usize) -> Option<(Table, &[u8])>
 fn take_pieces(b: &[u8], count: usize) -> Option<(Table, &[u8])>
     requires { count ≤ 500 }
     ensures found { IfSome result (λ x. 1 ∷ b.now ≡ sorted_bytes (take count x.0) ++ x.1.now) }
-    ensures only { (bytes tail : List ℕ) → length bytes ≡ count → 1 ∷ b.now ≡ sorted_bytes bytes ++ tail → IsSome result }
+    ensures only { (bytes tail : List ℕ) → length bytes ≡ count → 1 ∷ b.now ≡ sorted_bytes bytes ++ tail
+        → IsSome result }
 {
     let (number, rest) = b.split_first()?;
     let size = 2 * *number as usize;
@@ -102,7 +105,8 @@ fn fill(table: &mut Table, at: usize, end: usize, byte: u8)
     }
 }
 
-/// Whether the bytes that these pieces say would be cut so: each piece begins another byte, or goes on behind 256 of its own.
+/// Whether the bytes that these pieces say would be cut so: each piece begins another byte, or goes on behind 256 of
+/// its own.
 fn are_cut(spelled: &[u8]) -> bool
     requires { length spelled.now % 2 ≡ 0 }
     ensures { IsTrue result ↔ (flat_map piece_bytes (pieces (pairs_expanded spelled.now)) ≡ spelled.now) }

@@ -1,6 +1,7 @@
 //! Reading a leaf in place.
 
-ghost use Rattle.std.specs.Prelude.{◌≡◌, ◌≤◌, ◌<◌, ◌^◌, ◌+◌, ◌*◌, ◌↔◌, ℕ, List, length, All, IfSome, IfNone, IsSomeAnd, IsTrue, slice_get, slice_index, nat_lt, if◌then◌else◌, ◌==◌};
+ghost use Rattle.std.specs.Prelude.{◌≡◌, ◌≤◌, ◌<◌, ◌^◌, ◌+◌, ◌*◌, ◌↔◌, ℕ, List, length, All, IfSome, IfNone, IsSomeAnd};
+ghost use Rattle.std.specs.Prelude.{IsTrue, slice_get, slice_index, nat_lt, if◌then◌else◌, ◌==◌};
 ghost use Rattle.std.specs.List.{list_any, range_with_len};
 ghost use Rattle.point_codec.specs.Points.{Item};
 ghost use Rattle.point_codec.specs.Seen.{region_of};
@@ -8,7 +9,8 @@ ghost use Rattle.leaf_codec.specs.Dimensions.{count_values, different};
 ghost use Rattle.leaf_codec.specs.LeafOrder.{item_of};
 ghost use Rattle.leaf_codec.specs.Leaves.{SpellsLeafIn, SpellsSomeIn};
 ghost use Rattle.leaf_codec.specs.Raw.{RawNumbers, place_of, raw_item, raw_items};
-ghost use Rattle.leaf_codec.specs.Views.{IsParts, IsReadable, AreDimensionsOf, AscendInside, items_said, raw_numbers_of, raw_keys_of};
+ghost use Rattle.leaf_codec.specs.Views.{IsParts, IsReadable, AreDimensionsOf, AscendInside, items_said};
+ghost use Rattle.leaf_codec.specs.Views.{raw_numbers_of, raw_keys_of};
 
 use crate::byte_set::ByteSet;
 use crate::dimensions::narrowest;
@@ -114,7 +116,9 @@ fn has_these_dimensions<const D: usize>(parts: &Parts) -> bool
     requires dims { (1 ≤ D) × (D ≤ 8) }
     requires parts { IsParts D parts.now }
     requires some { 1 ≤ parts.now.count }
-    ensures { (n : RawNumbers) → IsTrue result ↔ AreDimensionsOf D (raw_items D parts.now.count n (raw_keys_of parts.now)) parts.now.lengths.now parts.now.sorted }
+    ensures { (n : RawNumbers)
+        → IsTrue result ↔ AreDimensionsOf D
+        (raw_items D parts.now.count n (raw_keys_of parts.now)) parts.now.lengths.now parts.now.sorted }
 {
     let mut spreads = [0; D];
     let mut place = 4;
@@ -131,13 +135,16 @@ fn has_these_dimensions<const D: usize>(parts: &Parts) -> bool
     narrowest(parts.lengths, &spreads) == parts.sorted
 }
 
-/// How many different values the first byte behind the shared prefix takes in dimension `d`, whose rests begin at `place`.
+/// How many different values the first byte behind the shared prefix takes in dimension `d`, whose rests begin at
+/// `place`.
 fn spread<const D: usize>(parts: &Parts, d: usize, place: usize) -> usize
     requires parts { IsParts D parts.now }
     requires within { d < D }
     requires moves { slice_index parts.now.lengths.now d < 4 }
     requires place { place ≡ 4 + place_of parts.now.lengths.now parts.now.sorted d }
-    ensures value { (n : RawNumbers) → result ≡ different d (slice_index parts.now.lengths.now d) (raw_items D parts.now.count n (raw_keys_of parts.now)) }
+    ensures value { (n : RawNumbers)
+        → result ≡ different d (slice_index parts.now.lengths.now d)
+        (raw_items D parts.now.count n (raw_keys_of parts.now)) }
     ensures few { result ≤ 256 }
 {
     if d == parts.sorted {
@@ -150,7 +157,8 @@ fn spread<const D: usize>(parts: &Parts, d: usize, place: usize) -> usize
 /// How many different values the bytes at `start`, `start + stride` and so on take, `count` of them.
 fn different(bytes: &[u8], start: usize, stride: usize, count: usize) -> usize
     requires within { (i : ℕ) → i < count → start + i * stride < length bytes.now }
-    ensures value { result ≡ count_values (λ b. list_any (λ i. slice_index bytes.now (start + i * stride) == b) (range_with_len 0 count)) }
+    ensures value { result ≡ count_values
+        (λ b. list_any (λ i. slice_index bytes.now (start + i * stride) == b) (range_with_len 0 count)) }
     ensures few { result ≤ 256 }
 {
     let mut seen = ByteSet::new();

@@ -43,7 +43,9 @@ pub fn put_sorted<const D: usize>(
     requires few { length entries.now ≤ 500 }
     requires lengths { dimensions.now.lengths ≡ map (λ d. shared_prefix d (items_of entries.now)) (range_with_len 0 D) }
     requires sorted { dimensions.now.sorted ≡ unwrap_or (sorted_dimension D (items_of entries.now)) D }
-    ensures { OnOk result (out.new.items ≡ out.old.items ++ sorted_part (sorted_dimension D (items_of entries.now)) (items_of entries.now)) }
+    ensures { OnOk result
+        (out.new.items ≡ out.old.items ++ sorted_part (sorted_dimension D (items_of entries.now))
+        (items_of entries.now)) }
 {
     let d = dimensions.sorted;
     if d >= D {
@@ -127,7 +129,8 @@ fn put_rest<const D: usize>(
     requires dims { D ≤ 8 }
     ensures point { OnOk result (IsPoint D entry.now.point.c) }
     ensures ok { OnOk result (out.new.items ≡ out.old.items
-        ++ flat_map (λ d. drop (told_of dimensions.now.lengths dimensions.now.sorted d) (key_of d (item_of entry.now))) (range_with_len 0 D)) }
+        ++ flat_map (λ d. drop (told_of dimensions.now.lengths dimensions.now.sorted d) (key_of d (item_of entry.now)))
+        (range_with_len 0 D)) }
 {
     for d in 0..D {
         let told = dimensions.lengths[d] as usize + usize::from(d == dimensions.sorted);

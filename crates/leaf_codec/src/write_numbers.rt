@@ -89,7 +89,8 @@ fn put_offsets<const D: usize>(
     requires dims { D ≤ 8 }
     requires least { All (λ e. least ≤ e.doc) entries.now }
     requires narrow { width ≤ 3 }
-    ensures { OnOk result (out.new.items ≡ out.old.items ++ flat_map (λ n. low_bytes width (n - least)) (docs_of entries.now)) }
+    ensures { OnOk result
+        (out.new.items ≡ out.old.items ++ flat_map (λ n. low_bytes width (n - least)) (docs_of entries.now)) }
 {
     for entry in entries {
         let bytes = (entry.doc - least).to_be_bytes();

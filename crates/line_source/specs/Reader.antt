@@ -1,5 +1,6 @@
 -- What a reader of lines holds and gives.
-use Rattle.std.specs.Prelude.{ℕ, ◌≡◌, ◌==◌, Bool, true, false, cond, List, [], ◌∷◌, ◌++◌, ◌-◌, length, take, drop, Result, Ok, Err}
+use Rattle.std.specs.Prelude.{ℕ, ◌≡◌, ◌==◌, Bool, true, false, cond, List, [], ◌∷◌, ◌++◌, ◌-◌, length, take, drop}
+use Rattle.std.specs.Prelude.{Result, Ok, Err}
 use Rattle.std.specs.List.{position_or_len}
 use Rattle.script_lang.specs.Lines.{lines_of}
 use Rattle.line_source.specs.declared.faults.ReadFault.{ReadFault}
@@ -26,14 +27,16 @@ abbrev pub IsNew : LineReader → Type 0
 IsNew r = (waiting r ≡ []) × (r.has_ended ≡ false)
 
 -- A line was given, as far as it is kept. Where the source tells its bytes it is the first of the lines.
-pub record GivesLine (told : Type 0) (old : LineReader) (left : List ℕ) (new : LineReader) (now bytes : List ℕ) : Type 0 where
+pub record GivesLine (told : Type 0) (old : LineReader) (left : List ℕ) (new : LineReader) (now bytes : List ℕ)
+    : Type 0 where
   pub line : List ℕ
   pub bytes_are : bytes ≡ kept line
   pub first : told → KnowsEnd old left → lines_left old left ≡ line ∷ lines_left new now
   pub ended : told → KnowsEnd old left → KnowsEnd new now
 
 -- a line was given; there was none, and the source is at its end; or it failed
-abbrev pub Gives : (told : Type 0) → LineReader → (left : List ℕ) → LineReader → (now bytes : List ℕ) → Result Bool ReadFault → Type 0
+abbrev pub Gives : (told : Type 0) → LineReader → (left : List ℕ) → LineReader → (now bytes : List ℕ)
+    → Result Bool ReadFault → Type 0
 Gives told old left new now bytes (Ok true) = GivesLine told old left new now bytes
 Gives told old left new now bytes (Ok false) = told → KnowsEnd old left → (lines_left old left ≡ []) × (now ≡ [])
 Gives told old left new now bytes (Err fault) = Unit {0}

@@ -1,7 +1,8 @@
 //! The reader.
 
 ghost use Rattle.std.specs.List.{position_or_len};
-ghost use Rattle.std.specs.Prelude.{◌≡◌, ◌==◌, ◌≤◌, ◌<◌, ◌+◌, ◌^◌, ◌++◌, ℕ, List, length, take, vec_len, IfOk, OnOk, IsTrue, true, false};
+ghost use Rattle.std.specs.Prelude.{◌≡◌, ◌==◌, ◌≤◌, ◌<◌, ◌+◌, ◌^◌, ◌++◌, ℕ, List, length, take, vec_len, IfOk, OnOk};
+ghost use Rattle.std.specs.Prelude.{IsTrue, true, false};
 
 use crate::faults::ReadFault;
 use outer_io::{Failed, Source};
@@ -13,7 +14,8 @@ const PIECE: usize = 65_536;
 /// How many bytes of a line are kept: a line may have 4,194,304 and a byte 13, and one more shows that it has too many.
 const KEPT: usize = 4_194_306;
 
-/// Gives the lines of a source, one after the other. It holds what it has read of the source and not given yet, at most 65,536 bytes.
+/// Gives the lines of a source, one after the other. It holds what it has read of the source and not given yet, at most
+/// 65,536 bytes.
 #[derive(Drop)]
 pub struct LineReader {
     piece: Vec<u8>,
@@ -43,17 +45,19 @@ impl LineReader {
         })
     }
 
-    /// Reads the next line into `line`, without its byte 10, in place of what that holds. False where no line is left. The source is
-    /// asked for bytes only where none are held, and never again after its end.
+    /// Reads the next line into `line`, without its byte 10, in place of what that holds. False where no line is
+    /// left. The source is asked for bytes only where none are held, and never again after its end.
     ///
-    /// Of a line above 4,194,306 bytes the first 4,194,306 are given, which are too many for a line of a script as the whole line is;
+    /// Of a line above 4,194,306 bytes the first 4,194,306 are given, which are too many for a line of a script as the
+    /// whole line is;
     /// the others are read and dropped.
     pub fn next_line<S: Source>(
         &mut self,
         source: &mut S,
         line: &mut Vec<u8>,
     ) -> Result<bool, ReadFault>
-        ensures gives { Gives (IsTrue S.told) self.old (S.left source.old) self.new (S.left source.new) line.new.items result }
+        ensures gives { Gives (IsTrue S.told) self.old (S.left source.old) self.new
+            (S.left source.new) line.new.items result }
         ensures ahead { length (waiting self.new) ≤ 2 ^ 16 }
         ensures kept { length line.new.items ≤ 2 ^ 22 + 2 }
         ensures cause { HasReadCause (S.faults source.old) (S.faults source.new) result }
@@ -74,7 +78,8 @@ impl LineReader {
 
     /// Reads a piece where nothing is held. False at the end of the source.
     fn hold<S: Source>(&mut self, source: &mut S) -> Result<bool, Failed>
-        ensures holds { IsTrue S.told → KnowsEnd self.old (S.left source.old) → IfOk result (Holds self.new (waiting self.old ++ S.left source.old) (S.left source.new)) }
+        ensures holds { IsTrue S.told → KnowsEnd self.old (S.left source.old)
+            → IfOk result (Holds self.new (waiting self.old ++ S.left source.old) (S.left source.new)) }
         ensures some { IfOk result (λ is_more. is_more ≡ true → self.new.at < self.new.end) }
         ensures cause { HasCause (S.faults source.old) (S.faults source.new) result }
     {
@@ -91,11 +96,13 @@ impl LineReader {
         Ok(count > 0)
     }
 
-    /// Takes what is held up to a byte 10 and with it, or all that is held, to the end of a line. True where a byte 10 was there.
+    /// Takes what is held up to a byte 10 and with it, or all that is held, to the end of a line. True where a byte 10
+    /// was there.
     fn take(&mut self, line: &mut Vec<u8>) -> Result<bool, AllocError>
         requires some { self.old.at < self.old.end }
         requires kept { length line.old.items ≤ 4194306 }
-        ensures takes { (seen : List ℕ) → line.old.items ≡ kept seen → IfOk result (TakesPart self.old self.new seen line.new.items) }
+        ensures takes { (seen : List ℕ) → line.old.items ≡ kept seen
+            → IfOk result (TakesPart self.old self.new seen line.new.items) }
         ensures kept { length line.new.items ≤ 4194306 }
     {
         let held = &self.piece.as_slice()[self.at..self.end];

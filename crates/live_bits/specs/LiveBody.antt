@@ -1,5 +1,6 @@
 -- The body of a file of live bits: one spelling for each set, segment and generation.
-use Rattle.std.specs.Prelude.{◌≡◌, ◌≤◌, ◌<◌, ℕ, zero, suc, ◌+◌, ◌-◌, ◌/◌, ◌%◌, ◌^◌, ◌==◌, Bool, false, List, [], ◌∷◌, ◌++◌, length, filter, All, slice_index, codes}
+use Rattle.std.specs.Prelude.{◌≡◌, ◌≤◌, ◌<◌, ℕ, zero, suc, ◌+◌, ◌-◌, ◌/◌, ◌%◌, ◌^◌, ◌==◌, Bool, false, List, [], ◌∷◌}
+use Rattle.std.specs.Prelude.{◌++◌, length, filter, All, slice_index, codes}
 use Rattle.std.specs.Int.{w32, w64, to_be_bytes}
 use Rattle.live_bits.specs.LiveSet.{LiveSet}
 
@@ -29,7 +30,8 @@ pub record AreBits (base span : ℕ) (bits : List ℕ) : Type 0 where
 -- what stands before the bits (this project's format, the greatest byte of a number first)
 unfoldable pub head : ℕ → ℕ → ℕ → ℕ → ℕ → List ℕ
 head segment generation base span count =
-    codes "BKDPLIV1" ++ to_be_bytes w64 segment ++ to_be_bytes w64 generation ++ to_be_bytes w32 base ++ to_be_bytes w32 span ++ to_be_bytes w32 count
+    codes "BKDPLIV1" ++ to_be_bytes w64 segment ++ to_be_bytes w64 generation ++ to_be_bytes w32 base ++ to_be_bytes w32
+    span ++ to_be_bytes w32 count
 
 -- the bytes are the body of this set for a segment and a generation, all of them
 pub record IsLiveBody (segment generation : ℕ) (s : LiveSet) (bytes : List ℕ) : Type 0 where

@@ -9,11 +9,13 @@ use crate::body::{LIMIT, fields_of};
 /// How many bytes the body has that begins with these bytes, as its sizes say. None where no body begins so. The
 /// bytes are at least the 36 before the bits.
 pub fn body_len(segment: u64, generation: u64, front: &[u8]) -> Option<u32>
-    ensures some { IfSome result (λ n. (s : LiveSet) (body x y : List ℕ) → 36 ≤ length front.now → IsLiveBody segment generation s body
+    ensures some { IfSome result
+        (λ n. (s : LiveSet) (body x y : List ℕ) → 36 ≤ length front.now → IsLiveBody segment generation s body
         → front.now ++ x ≡ body ++ y → length body ≡ n) }
     ensures said { IfSome result (SaysLength segment generation front.now) }
     ensures few { IfSome result (λ n. (36 ≤ n) × (n ≤ 2097188)) }
-    ensures none { IfNone result ((s : LiveSet) (body x y : List ℕ) → 36 ≤ length front.now → IsLiveBody segment generation s body
+    ensures none { IfNone result
+        ((s : LiveSet) (body x y : List ℕ) → 36 ≤ length front.now → IsLiveBody segment generation s body
         → front.now ++ x ≢ body ++ y) }
 {
     let (sizes, _) = fields_of(segment, generation, front)?;

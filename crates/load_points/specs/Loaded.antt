@@ -1,5 +1,6 @@
 -- What loading a CSV file answers and leaves: all its points at once, or the first refusal.
-use Rattle.std.specs.Prelude.{ℕ, ◌+◌, ◌^◌, ◌==◌, not, if◌then◌else◌, nat_lt, List, [], ◌∷◌, ◌++◌, length, fold, slice_index_or, None, Some, Result, Ok, Err, codes, decimal, ℤ}
+use Rattle.std.specs.Prelude.{ℕ, ◌+◌, ◌^◌, ◌==◌, not, if◌then◌else◌, nat_lt, List, [], ◌∷◌, ◌++◌, length, fold}
+use Rattle.std.specs.Prelude.{slice_index_or, None, Some, Result, Ok, Err, codes, decimal, ℤ}
 use Rattle.script_lang.specs.Reading.{greatest_leaf}
 use Rattle.script_lang.specs.Replies.{ended}
 use Rattle.script_lang.specs.Requests.{Add}
@@ -44,7 +45,8 @@ abbrev pub csv_text : (names : List (List ℕ)) → CsvFault → List ℕ
 csv_text names (fault.NoColumn column) = codes "no column " ++ slice_index_or names column []
 csv_text names (fault.Length row) = codes "record " ++ decimal row ++ codes " has another length"
 csv_text names (fault.Value row column) =
-    codes "record " ++ decimal row ++ codes " column " ++ slice_index_or names column [] ++ codes " is not a whole number"
+    codes "record " ++ decimal row ++ codes " column " ++ slice_index_or names column []
+    ++ codes " is not a whole number"
 -- no file has this fault
 csv_text names fault.Memory = []
 
@@ -69,17 +71,24 @@ loaded_text count next = ended (codes "loaded " ++ decimal count) ++ ended (code
 abbrev pub added : (dims : ℕ) → State → List (List ℤ) → Answer
 added dims state points =
     if nat_lt (2 ^ 24) (given_of state + length points) then refusal state full_text
-    else record { state = with_documents dims state points; text = loaded_text (length points) (next_of state + length points); refused = 0 }
+    else record {
+      state = with_documents dims state points;
+      text = loaded_text (length points)
+          (next_of state + length points);
+      refused = 0;
+    }
 
 -- they have as many dimensions as the index that is there
 abbrev pub matched : (dims : ℕ) → State → List (List ℤ) → Answer
 matched dims None points = added dims None points
-matched dims (Some i) points = if not (i.dims == dims) then refusal (Some i) (dims_text i.dims) else added dims (Some i) points
+matched dims (Some i) points =
+    if not (i.dims == dims) then refusal (Some i) (dims_text i.dims) else added dims (Some i) points
 
 abbrev pub loaded_by : List (List ℕ) → State → Result (List (List ℤ)) CsvFault → Answer
 loaded_by names state (Ok points) = matched (length names) state points
 loaded_by names state (Err fault) = refusal state (csv_text names fault)
 
--- The answer to loading a file by columns of these names. The first refusal counts: a fault of the file, another number of dimensions, too many points.
+-- The answer to loading a file by columns of these names. The first refusal counts: a fault of the file, another number
+-- of dimensions, too many points.
 unfoldable pub loaded : State → (input : List ℕ) → (names : List (List ℕ)) → Answer
 loaded state input names = loaded_by names state (points_of names (records_of input))

@@ -25,10 +25,13 @@ pub record Place : Type 0 where
   pub faults : ℕ
   pub text : List ℕ
 
--- From the one place to the other a load that starts so is answered so. A refused one changes no file, each segment that is listed anew is canonical, few of each level
--- are listed, what isn't done loses nothing that is kept by files that are trusted, and a damage is shown by what it carries, and is true of such files.
-pub record Loads (told trusts : Type 0) (Starts : State → Type 0) (answer : State → Answer) (old new : Place) (result : Result Bool PageFault) : Type 0 where
-  pub does : told → (stored : State) → Starts stored → DoesWhole new.files stored (answer stored) old.text new.text result
+-- From the one place to the other a load that starts so is answered so. A refused one changes no file, each segment
+-- that is listed anew is canonical, few of each level are listed, what isn't done loses nothing that is kept by files
+-- that are trusted, and a damage is shown by what it carries, and is true of such files.
+pub record Loads (told trusts : Type 0) (Starts : State → Type 0) (answer : State → Answer) (old new : Place)
+    (result : Result Bool PageFault) : Type 0 where
+  pub does : told → (stored : State) → Starts stored
+      → DoesWhole new.files stored (answer stored) old.text new.text result
   pub unchanged : told → IfOk result (λ refused. refused ≡ true → new.files ≡ old.files)
   pub canon : told → (stored : State) → Starts stored → OnOk result (HasNewCanonical old.files new.files)
   pub levels : told → (stored : State) → Starts stored → OnOk result (KeepsLevels old.files new.files)
@@ -44,14 +47,15 @@ StartsNone files stored = (stored ≡ None) × (files Commit ≡ None)
 
 -- the index is there that the folder's commit lists
 abbrev pub StartsFrom : Files → CommitData → State → Type 0
-StartsFrom files commit stored = IsCommitFile (bytes_of (files Commit)) commit × ((i : Index) × (stored ≡ Some i) × IsStored files (Some i))
+StartsFrom files commit stored = IsCommitFile (bytes_of (files Commit)) commit
+    × ((i : Index) × (stored ≡ Some i) × IsStored files (Some i))
 
 -- an index of so many dimensions is there
 abbrev pub HasDims : Files → (dims : ℕ) → State → Type 0
 HasDims files dims stored = IsStored files stored × ((i : Index) × (stored ≡ Some i) × (i.dims ≡ dims))
 
--- A session is open: with these files it is seen as the index that is stored, or as a new one where none is, guards what is kept, and has no segment but those
--- that are listed.
+-- A session is open: with these files it is seen as the index that is stored, or as a new one where none is, guards
+-- what is kept, and has no segment but those that are listed.
 pub record IsLoading (D : ℕ) (files : Files) (s : SessionData) (stored : State) : Type 0 where
   pub index : Index
   pub seen : Sees D files s.set index

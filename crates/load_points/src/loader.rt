@@ -1,6 +1,7 @@
 //! The points of a file go into the index of a folder.
 
-ghost use Rattle.std.specs.Prelude.{◌≡◌, ◌≢◌, ◌≤◌, ◌<◌, ◌+◌, ◌^◌, MatchOption, ℕ, true, length, None, Ok, Err, IsTrue, IfOk, IfErr, OnOk, List, ℤ};
+ghost use Rattle.std.specs.Prelude.{◌≡◌, ◌≢◌, ◌≤◌, ◌<◌, ◌+◌, ◌^◌, MatchOption, ℕ, true, length, None, Ok, Err, IsTrue};
+ghost use Rattle.std.specs.Prelude.{IfOk, IfErr, OnOk, List, ℤ};
 ghost use Rattle.outer_io.specs.Files.{Files, bytes_of};
 ghost use Rattle.outer_io.specs.declared.file_name.FileName.TheVariants.{Commit as CommitName};
 ghost use Rattle.point_codec.specs.Seen.{coordinates_of};
@@ -35,8 +36,9 @@ use std::thread::Threads;
 /// The greatest number of points that are ever given.
 const MAX_POINTS: u32 = 1 << 24;
 
-/// Adds the points of a CSV file to the index of a folder, and commits; the columns of these names are the dimensions. Where no index is
-/// there, one is made. The answer is appended to `text`; it is true where the load is refused: then the folder's files stay as they are.
+/// Adds the points of a CSV file to the index of a folder, and commits; the columns of these names are the
+/// dimensions. Where no index is there, one is made. The answer is appended to `text`; it is true where the load is
+/// refused: then the folder's files stay as they are.
 pub fn load<R: Threads + Sync, F: Folder, G: Gate>(
     work: &Work<'_, R, G>,
     columns: &[Bytes],
@@ -47,10 +49,14 @@ pub fn load<R: Threads + Sync, F: Folder, G: Gate>(
     requires some { 1 ≤ length columns.now }
     requires few { length columns.now ≤ 8 }
     ensures loads { IsTrue F.told → (state : State) → IsStored (F.files folder.old) state
-        → DoesWhole (F.files folder.new) state (loaded state input.now columns.now) text.old.items text.new.items result }
-    ensures unchanged { IsTrue F.told → IfOk result (λ refused. refused ≡ true → F.files folder.new ≡ F.files folder.old) }
-    ensures canon { IsTrue F.told → (state : State) → IsStored (F.files folder.old) state → OnOk result (HasNewCanonical (F.files folder.old) (F.files folder.new)) }
-    ensures levels { IsTrue F.told → (state : State) → IsStored (F.files folder.old) state → OnOk result (KeepsLevels (F.files folder.old) (F.files folder.new)) }
+        → DoesWhole (F.files folder.new) state
+        (loaded state input.now columns.now) text.old.items text.new.items result }
+    ensures unchanged { IsTrue F.told
+        → IfOk result (λ refused. refused ≡ true → F.files folder.new ≡ F.files folder.old) }
+    ensures canon { IsTrue F.told → (state : State) → IsStored (F.files folder.old) state
+        → OnOk result (HasNewCanonical (F.files folder.old) (F.files folder.new)) }
+    ensures levels { IsTrue F.told → (state : State) → IsStored (F.files folder.old) state
+        → OnOk result (KeepsLevels (F.files folder.old) (F.files folder.new)) }
     // whatever the folder holds
     ensures undone { IsTrue F.told → KeepsUndone (F.files folder.old) (F.files folder.new) result }
     ensures cause { HasPageCause (F.faults folder.old) (F.faults folder.new) result }
@@ -73,8 +79,10 @@ fn load_first<R: Threads + Sync, F: Folder, G: Gate>(
 ) -> Result<bool, PageFault>
     requires some { 1 ≤ length columns.now }
     requires few { length columns.now ≤ 8 }
-    ensures { Loads (IsTrue F.told) (F.files folder.old CommitName ≡ None) (StartsNone (F.files folder.old)) (λ stored. loaded stored input.now columns.now)
-        (record { files = F.files folder.old; faults = F.faults folder.old; text = text.old.items }) (record { files = F.files folder.new; faults = F.faults folder.new; text = text.new.items }) result }
+    ensures { Loads (IsTrue F.told) (F.files folder.old CommitName ≡ None) (StartsNone (F.files folder.old))
+        (λ stored. loaded stored input.now columns.now)
+        (record { files = F.files folder.old; faults = F.faults folder.old; text = text.old.items })
+        (record { files = F.files folder.new; faults = F.faults folder.new; text = text.new.items }) result }
 {
     match columns.len() {
         1 => load_new::<1, R, F, G>(work, columns, input, folder, text),
@@ -99,8 +107,10 @@ fn load_new<const D: usize, R: Threads + Sync, F: Folder, G: Gate>(
     requires some { 1 ≤ D }
     requires few { D ≤ 8 }
     requires named { length columns.now ≡ D }
-    ensures { Loads (IsTrue F.told) (F.files folder.old CommitName ≡ None) (StartsNone (F.files folder.old)) (λ stored. loaded stored input.now columns.now)
-        (record { files = F.files folder.old; faults = F.faults folder.old; text = text.old.items }) (record { files = F.files folder.new; faults = F.faults folder.new; text = text.new.items }) result }
+    ensures { Loads (IsTrue F.told) (F.files folder.old CommitName ≡ None) (StartsNone (F.files folder.old))
+        (λ stored. loaded stored input.now columns.now)
+        (record { files = F.files folder.old; faults = F.faults folder.old; text = text.old.items })
+        (record { files = F.files folder.new; faults = F.faults folder.new; text = text.new.items }) result }
 {
     match Session::<D>::create(work.alloc, greatest_leaf(D as u8), work.settings) {
         Ok(mut session) => load_into(work, &mut session, columns, input, folder, text),
@@ -119,8 +129,10 @@ fn load_stored<R: Threads + Sync, F: Folder, G: Gate>(
 ) -> Result<bool, PageFault>
     requires some { 1 ≤ length columns.now }
     requires few { length columns.now ≤ 8 }
-    ensures { Loads (IsTrue F.told) (IsCommitFile (bytes_of (F.files folder.old CommitName)) commit) (StartsFrom (F.files folder.old) commit) (λ stored. loaded stored input.now columns.now)
-        (record { files = F.files folder.old; faults = F.faults folder.old; text = text.old.items }) (record { files = F.files folder.new; faults = F.faults folder.new; text = text.new.items }) result }
+    ensures { Loads (IsTrue F.told) (IsCommitFile (bytes_of (F.files folder.old CommitName)) commit)
+        (StartsFrom (F.files folder.old) commit) (λ stored. loaded stored input.now columns.now)
+        (record { files = F.files folder.old; faults = F.faults folder.old; text = text.old.items })
+        (record { files = F.files folder.new; faults = F.faults folder.new; text = text.new.items }) result }
 {
     match commit.dims() {
         1 => load_over::<1, R, F, G>(work, commit, columns, input, folder, text),
@@ -148,8 +160,10 @@ fn load_over<const D: usize, R: Threads + Sync, F: Folder, G: Gate>(
     requires most_dims { D ≤ 8 }
     requires some { 1 ≤ length columns.now }
     requires few { length columns.now ≤ 8 }
-    ensures { Loads (IsTrue F.told) (IsCommitFile (bytes_of (F.files folder.old CommitName)) commit) (StartsFrom (F.files folder.old) commit) (λ stored. loaded stored input.now columns.now)
-        (record { files = F.files folder.old; faults = F.faults folder.old; text = text.old.items }) (record { files = F.files folder.new; faults = F.faults folder.new; text = text.new.items }) result }
+    ensures { Loads (IsTrue F.told) (IsCommitFile (bytes_of (F.files folder.old CommitName)) commit)
+        (StartsFrom (F.files folder.old) commit) (λ stored. loaded stored input.now columns.now)
+        (record { files = F.files folder.old; faults = F.faults folder.old; text = text.old.items })
+        (record { files = F.files folder.new; faults = F.faults folder.new; text = text.new.items }) result }
 {
     match Session::<D>::attach(work.alloc, folder, commit, work.settings) {
         Ok(mut session) => load_open(work, &mut session, columns, input, folder, text),
@@ -157,7 +171,8 @@ fn load_over<const D: usize, R: Threads + Sync, F: Folder, G: Gate>(
     }
 }
 
-/// Loads in a session over the index that is there, or refuses the file whose columns are not as many as its dimensions.
+/// Loads in a session over the index that is there, or refuses the file whose columns are not as many as its
+/// dimensions.
 fn load_open<const D: usize, R: Threads + Sync, F: Folder, G: Gate>(
     work: &Work<'_, R, G>,
     session: &mut Session<D>,
@@ -170,8 +185,11 @@ fn load_open<const D: usize, R: Threads + Sync, F: Folder, G: Gate>(
     requires most_dims { D ≤ 8 }
     requires some { 1 ≤ length columns.now }
     requires few { length columns.now ≤ 8 }
-    ensures { Loads (IsTrue F.told) (Trusts D (F.files folder.old) session.old) (λ stored. IsLoading D (F.files folder.old) session.old stored × HasDims (F.files folder.old) D stored) (λ stored. loaded stored input.now columns.now)
-        (record { files = F.files folder.old; faults = F.faults folder.old; text = text.old.items }) (record { files = F.files folder.new; faults = F.faults folder.new; text = text.new.items }) result }
+    ensures { Loads (IsTrue F.told) (Trusts D (F.files folder.old) session.old)
+        (λ stored. IsLoading D (F.files folder.old) session.old stored × HasDims (F.files folder.old) D stored)
+        (λ stored. loaded stored input.now columns.now)
+        (record { files = F.files folder.old; faults = F.faults folder.old; text = text.old.items })
+        (record { files = F.files folder.new; faults = F.faults folder.new; text = text.new.items }) result }
 {
     let count = columns.len();
     if count == D {
@@ -193,8 +211,10 @@ fn load_into<const D: usize, R: Threads + Sync, F: Folder, G: Gate>(
     requires some { 1 ≤ D }
     requires few { D ≤ 8 }
     requires named { length columns.now ≡ D }
-    ensures { Loads (IsTrue F.told) (Trusts D (F.files folder.old) session.old) (IsLoading D (F.files folder.old) session.old) (λ stored. loaded stored input.now columns.now)
-        (record { files = F.files folder.old; faults = F.faults folder.old; text = text.old.items }) (record { files = F.files folder.new; faults = F.faults folder.new; text = text.new.items }) result }
+    ensures { Loads (IsTrue F.told) (Trusts D (F.files folder.old) session.old)
+        (IsLoading D (F.files folder.old) session.old) (λ stored. loaded stored input.now columns.now)
+        (record { files = F.files folder.old; faults = F.faults folder.old; text = text.old.items })
+        (record { files = F.files folder.new; faults = F.faults folder.new; text = text.new.items }) result }
 {
     match read_points::<D>(work.alloc, input, columns) {
         Ok(points) => add_all(work, session, points.as_slice(), folder, text),
@@ -212,8 +232,10 @@ fn add_all<const D: usize, R: Threads + Sync, F: Folder, G: Gate>(
     text: &mut Vec<u8>,
 ) -> Result<bool, PageFault>
     requires { D ≤ 8 }
-    ensures { Loads (IsTrue F.told) (Trusts D (F.files folder.old) session.old) (IsLoading D (F.files folder.old) session.old) (λ stored. matched D stored (coordinates_of points.now))
-        (record { files = F.files folder.old; faults = F.faults folder.old; text = text.old.items }) (record { files = F.files folder.new; faults = F.faults folder.new; text = text.new.items }) result }
+    ensures { Loads (IsTrue F.told) (Trusts D (F.files folder.old) session.old)
+        (IsLoading D (F.files folder.old) session.old) (λ stored. matched D stored (coordinates_of points.now))
+        (record { files = F.files folder.old; faults = F.faults folder.old; text = text.old.items })
+        (record { files = F.files folder.new; faults = F.faults folder.new; text = text.new.items }) result }
 {
     match fitting(session.given(), points.len()) {
         Some(count) => add_fitting(work, session, points, count, folder, text),
@@ -247,8 +269,10 @@ fn add_fitting<const D: usize, R: Threads + Sync, F: Folder, G: Gate>(
     requires few { D ≤ 8 }
     requires counted { count ≡ length points.now }
     requires fits { session.old.set.given + length points.now ≤ 2 ^ 24 }
-    ensures { Loads (IsTrue F.told) (Trusts D (F.files folder.old) session.old) (IsLoading D (F.files folder.old) session.old) (λ stored. matched D stored (coordinates_of points.now))
-        (record { files = F.files folder.old; faults = F.faults folder.old; text = text.old.items }) (record { files = F.files folder.new; faults = F.faults folder.new; text = text.new.items }) result }
+    ensures { Loads (IsTrue F.told) (Trusts D (F.files folder.old) session.old)
+        (IsLoading D (F.files folder.old) session.old) (λ stored. matched D stored (coordinates_of points.now))
+        (record { files = F.files folder.old; faults = F.faults folder.old; text = text.old.items })
+        (record { files = F.files folder.new; faults = F.faults folder.new; text = text.new.items }) result }
 {
     put_loaded(text, count, session.next() + count)?;
     session.add_points(work.rt, work.alloc, folder, points, work.gate)?;
@@ -267,8 +291,10 @@ fn refuse_dims(
     requires some { 1 ≤ length columns.now }
     requires few { length columns.now ≤ 8 }
     requires other { length columns.now ≢ dims }
-    ensures { (files : Files) (faults : ℕ) → Loads (Unit {0}) (Unit {0}) (HasDims files dims) (λ stored. loaded stored input.now columns.now)
-        (record { files = files; faults = faults; text = text.old.items }) (record { files = files; faults = faults; text = text.new.items }) result }
+    ensures { (files : Files) (faults : ℕ)
+        → Loads (Unit {0}) (Unit {0}) (HasDims files dims) (λ stored. loaded stored input.now columns.now)
+        (record { files = files; faults = faults; text = text.old.items })
+        (record { files = files; faults = faults; text = text.new.items }) result }
 {
     match look_through(alloc, columns, input) {
         Ok(()) => {
@@ -283,8 +309,10 @@ fn refuse_dims(
 /// Refuses a file for its fault.
 fn refuse_file(text: &mut Vec<u8>, columns: &[Bytes], fault: &CsvFault) -> Result<bool, PageFault>
     requires { fault.now ≢ CsvFault.Memory }
-    ensures { (files : Files) (faults : ℕ) → Loads (Unit {0}) (Unit {0}) (IsStored files) (λ stored. loaded_by columns.now stored (Err fault.now))
-        (record { files = files; faults = faults; text = text.old.items }) (record { files = files; faults = faults; text = text.new.items }) result }
+    ensures { (files : Files) (faults : ℕ)
+        → Loads (Unit {0}) (Unit {0}) (IsStored files) (λ stored. loaded_by columns.now stored (Err fault.now))
+        (record { files = files; faults = faults; text = text.old.items })
+        (record { files = files; faults = faults; text = text.new.items }) result }
 {
     put_csv_fault(text, columns, fault)?;
     Ok(true)
@@ -295,7 +323,8 @@ fn look_through(alloc: Global, columns: &[Bytes], input: &[u8]) -> Result<(), Cs
     requires some { 1 ≤ length columns.now }
     requires few { length columns.now ≤ 8 }
     ensures fine { OnOk result ((points : List (List ℤ)) × (points_of columns.now (records_of input.now) ≡ Ok points)) }
-    ensures fault { IfErr result (λ fault. fault ≢ CsvFault.Memory → points_of columns.now (records_of input.now) ≡ Err fault) }
+    ensures fault { IfErr result
+        (λ fault. fault ≢ CsvFault.Memory → points_of columns.now (records_of input.now) ≡ Err fault) }
 {
     match columns.len() {
         1 => look::<1>(alloc, columns, input),
@@ -315,7 +344,8 @@ fn look<const D: usize>(alloc: Global, columns: &[Bytes], input: &[u8]) -> Resul
     requires few { D ≤ 8 }
     requires named { length columns.now ≡ D }
     ensures fine { OnOk result ((points : List (List ℤ)) × (points_of columns.now (records_of input.now) ≡ Ok points)) }
-    ensures fault { IfErr result (λ fault. fault ≢ CsvFault.Memory → points_of columns.now (records_of input.now) ≡ Err fault) }
+    ensures fault { IfErr result
+        (λ fault. fault ≢ CsvFault.Memory → points_of columns.now (records_of input.now) ≡ Err fault) }
 {
     match read_points::<D>(alloc, input, columns) {
         Ok(_) => Ok(()),

@@ -69,7 +69,8 @@ fn put_no_column(text: &mut Vec<u8>, name: &[u8]) -> Result<(), AllocError>
 
 /// Appends that this record has not as many fields as the header.
 fn put_other_length(text: &mut Vec<u8>, row: u64) -> Result<(), AllocError>
-    ensures { OnOk result (text.new.items ≡ text.old.items ++ ended (codes "record " ++ decimal row ++ codes " has another length")) }
+    ensures { OnOk result
+        (text.new.items ≡ text.old.items ++ ended (codes "record " ++ decimal row ++ codes " has another length")) }
 {
     put_record(text, row)?;
     text.extend_from_slice(b" has another length\n")
@@ -77,7 +78,9 @@ fn put_other_length(text: &mut Vec<u8>, row: u64) -> Result<(), AllocError>
 
 /// Appends that what this record has in the column of this name is no coordinate.
 fn put_no_number(text: &mut Vec<u8>, row: u64, name: &[u8]) -> Result<(), AllocError>
-    ensures { OnOk result (text.new.items ≡ text.old.items ++ ended (codes "record " ++ decimal row ++ codes " column " ++ name.now ++ codes " is not a whole number")) }
+    ensures { OnOk result
+        (text.new.items ≡ text.old.items ++ ended
+        (codes "record " ++ decimal row ++ codes " column " ++ name.now ++ codes " is not a whole number")) }
 {
     put_record(text, row)?;
     text.extend_from_slice(b" column ")?;

@@ -1,6 +1,7 @@
 -- Which segments to merge. Sizes go by levels, each ten times as wide as the one below it, and ten
 -- segments of one level are merged into one, as in a log-structured merge tree.
-use Rattle.std.specs.Prelude.{◌≡◌, ℕ, zero, suc, ◌*◌, ◌^◌, ◌<◌, ◌≤◌, Bool, true, false, not, ◌&&◌, nat_le, nat_lt, List, length, slice_index, slice_get, Some, count_by, All, Contains}
+use Rattle.std.specs.Prelude.{◌≡◌, ℕ, zero, suc, ◌*◌, ◌^◌, ◌<◌, ◌≤◌, Bool, true, false, not, ◌&&◌, nat_le, nat_lt, List}
+use Rattle.std.specs.Prelude.{length, slice_index, slice_get, Some, count_by, All, Contains}
 use Rattle.std.specs.List.{zip}
 use Rattle.std.specs.List.Sorted.{IsStrictlyIncreasing}
 

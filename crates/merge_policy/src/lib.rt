@@ -3,7 +3,8 @@
 //! level first. Segments that are in use elsewhere are pinned.
 #![tactic(auto)]
 
-ghost use Rattle.std.specs.Prelude.{◌≡◌, ℕ, suc, ◌+◌, ◌^◌, ◌<◌, ◌≤◌, ◌↔◌, Bool, List, length, count_by, All, IsNone, IfNone, IfSome};
+ghost use Rattle.std.specs.Prelude.{◌≡◌, ℕ, suc, ◌+◌, ◌^◌, ◌<◌, ◌≤◌, ◌↔◌, Bool, List, length, count_by, All, IsNone};
+ghost use Rattle.std.specs.Prelude.{IfNone, IfSome};
 ghost use Rattle.merge_policy.specs.Choice.{least_size, is_of_level, free_count, AreFirstTen, IsChoice};
 
 use arrayvec::ArrayVec;
@@ -17,7 +18,8 @@ pub fn choose(sizes: &[u32], pinned: &[bool]) -> Option<ArrayVec<u32, 10>>
     requires one_pin_a_size { length sizes.now ≡ length pinned.now }
     requires few { length sizes.now ≤ 65535 }
     ensures choice { IfSome result (λ positions. IsChoice sizes.now pinned.now positions.items) }
-    ensures only { IfSome result (λ positions. (others : List ℕ) → IsChoice sizes.now pinned.now others → others ≡ positions.items) }
+    ensures only { IfSome result
+        (λ positions. (others : List ℕ) → IsChoice sizes.now pinned.now others → others ≡ positions.items) }
     ensures none { IsNone result ↔ ((level : ℕ) → free_count level sizes.now pinned.now < 10) }
 {
     for level in 0..LEVELS {
@@ -28,8 +30,8 @@ pub fn choose(sizes: &[u32], pinned: &[bool]) -> Option<ArrayVec<u32, 10>>
     None
 }
 
-/// A law, with an empty body: where nothing is left to merge, at most nine sizes of each of the eight levels are left, and those
-/// that are pinned.
+/// A law, with an empty body: where nothing is left to merge, at most nine sizes of each of the eight levels are
+/// left, and those that are pinned.
 pub fn few_are_left()
     ensures { (sizes : List ℕ) (pinned : List Bool) → length sizes ≡ length pinned → All (λ size. size < 2 ^ 32) sizes
         → ((level : ℕ) → free_count level sizes pinned < 10) → length sizes ≤ 72 + count_by (λ pin. pin) pinned }

@@ -1,5 +1,6 @@
 -- What is kept of the entries seen so far.
-use Rattle.std.specs.Prelude.{ℕ, ◌≡◌, ◌≤◌, ◌+◌, ◌↔◌, Some, IsTrue, true, false, List, ◌∷◌, ◌++◌, All, sum_by, length, nat_eq, nat_le, not, if◌then◌else◌}
+use Rattle.std.specs.Prelude.{ℕ, ◌≡◌, ◌≤◌, ◌+◌, ◌↔◌, Some, IsTrue, true, false, List, ◌∷◌, ◌++◌, All, sum_by, length}
+use Rattle.std.specs.Prelude.{nat_eq, nat_le, not, if◌then◌else◌}
 use Rattle.std.specs.declared.cmp.Ordering.{Ordering}
 use Rattle.std.specs.declared.cmp.Ordering.TheVariants.{Less}
 use Rattle.std.specs.Ordering.{nat_cmp, ordering_then, is_lt}
@@ -16,7 +17,8 @@ near_cmp a b = ordering_then (nat_cmp a.dist2 b.dist2) (nat_cmp a.doc b.doc)
 
 -- the distance that is kept of each number is that with which the number stands in order
 unfoldable pub AreLinked : Many → Type 0
-AreLinked c = (n : Near) → (hash.get nat_eq c.distances n.doc ≡ Some n.dist2) ↔ IsTrue (sorted.contains near_cmp c.in_order n)
+AreLinked c = (n : Near)
+    → (hash.get nat_eq c.distances n.doc ≡ Some n.dist2) ↔ IsTrue (sorted.contains near_cmp c.in_order n)
 
 -- many numbers, which are the nearest among the entries
 pub record AreKept (entries : List Near) (c : Many) : Type 0 where
@@ -28,7 +30,8 @@ pub record AreKept (entries : List Near) (c : Many) : Type 0 where
 pub record IsPut (n : Near) (old new : Many) : Type 0 where
   pub room : new.room ≡ old.room
   pub placed : sorted.Updates near_cmp old.in_order new.in_order n true
-  pub counted : length new.in_order.keys ≡ length old.in_order.keys + (if not (sorted.contains near_cmp old.in_order n) then 1 else 0)
+  pub counted : length new.in_order.keys ≡ length old.in_order.keys +
+      (if not (sorted.contains near_cmp old.in_order n) then 1 else 0)
   pub ordered : sorted.IsOrdered near_cmp new.in_order
   pub kept : hash.Updates nat_eq old.distances new.distances n.doc (Some n.dist2)
 

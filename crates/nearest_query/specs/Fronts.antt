@@ -36,6 +36,14 @@ work t = 2 * t.leaves - 1 + (1 - t.leaves)
 pub record IsWaiting {D : ℕ} (at : List ℤ) (segment : ℕ) (node : NodeAt D) (old new : Front D) : Type 0 where
   pub dist : ℕ
   pub grown : new.nodes ≡ old.nodes ++ node ∷ []
-  pub moved : IsPermutation (record { dist2 = record { 0 = dist }; segment = segment; first = node.first; leaves = node.leaves; place = length old.nodes } ∷ old.turns) new.turns
+  pub moved : IsPermutation
+      (record {
+        dist2 = record { 0 = dist };
+        segment = segment;
+        first = node.first;
+        leaves = node.leaves;
+        place = length
+            old.nodes;
+      } ∷ old.turns) new.turns
   pub is : (first : ℕ) (s : Spot) (path : Region) (t : IndexTree) → IsAt node first s path t
       → (dist ≡ least_dist2 at (cell_of path t)) × (node.first ≡ first) × (node.leaves ≡ leaf_count t)

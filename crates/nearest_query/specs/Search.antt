@@ -44,8 +44,10 @@ nears_at w i n = nears_of w.at (live_items (live_at w i) (w.table i n))
 -- the leaves of a subtree of segment i are those of the world
 abbrev pub HasLeaves : (D : ℕ) → World → ℕ → (first : ℕ) → Spot → IndexTree → Type 0
 HasLeaves D w i first s (Leaf len own) =
-    HoldsLeaf D (bytes_of (w.files (Segment (head_at w i).id))) (head_at w i) first s len own (w.table i first) × (w.least i first ≡ least_dist2 w.at own)
-HasLeaves D w i first s (Split d x l r) = HasLeaves D w i first s l × HasLeaves D w i (first + leaf_count l) (right_begin s l r) r
+    HoldsLeaf D (bytes_of (w.files (Segment (head_at w i).id))) (head_at w i) first s len own (w.table i first)
+    × (w.least i first ≡ least_dist2 w.at own)
+HasLeaves D w i first s (Split d x l r) = HasLeaves D w i first s l
+    × HasLeaves D w i (first + leaf_count l) (right_begin s l r) r
 
 -- the world is over these
 pub record IsOver (w : World) (at : List ℤ) (heads : List Head) (lives : List LiveSet) (files : Files) : Type 0 where
@@ -67,7 +69,8 @@ pub record IsInside {D : ℕ} (segments : ℕ) (nodes : List (NodeAt D)) (t : Wa
   pub leaves_are : t.leaves ≡ node.leaves
 
 -- what waits is a node of its segment's tree, whose leaves are some of those of the tree
-pub record IsPart {D : ℕ} (heads : List Head) (trees : ℕ → IndexTree) (nodes : List (NodeAt D)) (t : Waiting) : Type 0 where
+pub record IsPart {D : ℕ} (heads : List Head) (trees : ℕ → IndexTree) (nodes : List (NodeAt D)) (t : Waiting)
+    : Type 0 where
   pub inside : t.segment < length heads
   pub node : NodeAt D
   pub stands : Stands nodes t.place node
@@ -75,7 +78,8 @@ pub record IsPart {D : ℕ} (heads : List Head) (trees : ℕ → IndexTree) (nod
   pub path : Region
   pub tree : IndexTree
   pub is : IsAt node t.first spot path tree
-  pub part : (number : ℕ) (at : Spot) (len : ℕ) (own : Region) → IsLeafOf t.first spot tree number at len own → IsLeafOf 0 front (trees t.segment) number at len own
+  pub part : (number : ℕ) (at : Spot) (len : ℕ) (own : Region) → IsLeafOf t.first spot tree number at len own
+      → IsLeafOf 0 front (trees t.segment) number at len own
 
 -- what waits is a node of its segment's tree, and waits by its least distance
 pub record IsNode (D : ℕ) (w : World) (nodes : List (NodeAt D)) (t : Waiting) : Type 0 where
@@ -95,7 +99,8 @@ pub record IsNode (D : ℕ) (w : World) (nodes : List (NodeAt D)) (t : Waiting) 
   pub dist : t.dist2.0 ≡ least_dist2 w.at (cell_of path tree)
 
 -- the entries seen and those below the nodes that wait are all; of those seen the candidates are the nearest
-pub record IsSought (D : ℕ) (w : World) (all : List Near) (turns : List Waiting) (nodes : List (NodeAt D)) (found : Candidates) : Type 0 where
+pub record IsSought (D : ℕ) (w : World) (all : List Near) (turns : List Waiting) (nodes : List (NodeAt D))
+    (found : Candidates) : Type 0 where
   pub seen : List Near
   pub best : AreBest seen found
   pub nodes_are : All (IsNode D w nodes) turns

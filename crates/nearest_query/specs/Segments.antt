@@ -1,5 +1,6 @@
 -- The entries of segments, and how far their leaves are from a point.
-use Rattle.std.specs.Prelude.{ℕ, ◌<◌, slice_index_or, ◌+◌, ◌≡◌, Bool, true, if◌then◌else◌, nat_le, nat_lt, Option, Some, None, List, [], ◌∷◌, ◌++◌, filter, length, All, Contains, ℤ}
+use Rattle.std.specs.Prelude.{ℕ, ◌<◌, slice_index_or, ◌+◌, ◌≡◌, Bool, true, if◌then◌else◌, nat_le, nat_lt, Option, Some}
+use Rattle.std.specs.Prelude.{None, List, [], ◌∷◌, ◌++◌, filter, length, All, Contains, ℤ}
 use Rattle.point_codec.specs.Points.{Item, Region, dist2}
 use Rattle.point_codec.specs.Cells.{nearest_in}
 use Rattle.point_codec.specs.declared.entries.Near.{Near}
@@ -44,8 +45,8 @@ abbrev pub is_within : Option ℕ → ℕ → Bool
 is_within None d = true
 is_within (Some b) d = nat_le d b
 
--- how many leaves have a cell whose least squared distance from the point is at most the bound (this project's count of the
--- leaves that a search may read)
+-- how many leaves have a cell whose least squared distance from the point is at most the bound (this project's count
+-- of the leaves that a search may read)
 unfoldable pub near_leaves : List ℤ → Option ℕ → IndexTree → ℕ
 near_leaves at bound (Leaf len own) = if is_within bound (least_dist2 at own) then 1 else 0
 near_leaves at bound (Split d x l r) = near_leaves at bound l + near_leaves at bound r
@@ -54,15 +55,18 @@ near_leaves at bound (Split d x l r) = near_leaves at bound l + near_leaves at b
 abbrev pub AreNearLeaves : (D : ℕ) → List ℤ → Option ℕ → List Head → ℕ → Type 0
 AreNearLeaves D at bound [] n = n ≡ 0
 AreNearLeaves D at bound (h ∷ hs) n =
-    (m : ℕ) × (rest : ℕ) × ((root : Region) (t : IndexTree) → HasTree D h.index root t → m ≡ near_leaves at bound t) × AreNearLeaves D at bound hs rest × (n ≡ m + rest)
+    (m : ℕ) × (rest : ℕ) × ((root : Region) (t : IndexTree) → HasTree D h.index root t → m ≡ near_leaves at bound t)
+    × AreNearLeaves D at bound hs rest × (n ≡ m + rest)
 
 -- a damage of a leaf of one of the segments, told by position, of whose index this is the tree
 abbrev pub IsSegmentDamage : ℕ → List Head → (ℕ → IndexTree) → Damage → Type 0
-IsSegmentDamage D heads trees d = (i : ℕ) × (i < length heads) × IsLeafDamage D (slice_index_or heads i no_head) 0 front (trees i) d
+IsSegmentDamage D heads trees d = (i : ℕ) × (i < length heads)
+    × IsLeafDamage D (slice_index_or heads i no_head) 0 front (trees i) d
 
 -- these are the trees of the segments' indexes
 abbrev pub HaveTrees : ℕ → List Head → (ℕ → IndexTree) → Type 0
-HaveTrees D heads trees = (i : ℕ) → i < length heads → (root : Region) × HasTree D (slice_index_or heads i no_head).index root (trees i)
+HaveTrees D heads trees = (i : ℕ) → i < length heads → (root : Region)
+    × HasTree D (slice_index_or heads i no_head).index root (trees i)
 
 -- how far a search of k numbers goes that finds these: as far as the last, and over all where there are fewer
 abbrev pub last_of : List Near → Option ℕ

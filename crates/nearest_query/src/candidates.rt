@@ -8,7 +8,8 @@ use crate::many::Many;
 use point_codec::Near;
 use std::alloc::{AllocError, Global};
 
-/// Up to so many places the numbers stand in one vector, where to move some of them takes less time than a tree and a table.
+/// Up to so many places the numbers stand in one vector, where to move some of them takes less time than a tree and a
+/// table.
 const FEW: usize = 64;
 
 /// The nearest numbers among the entries that were offered, each with the least distance of its entries.
@@ -48,7 +49,8 @@ impl Candidates {
     /// Takes the entry where it is among the nearest so far.
     pub fn offer(&mut self, near: Near) -> Result<(), AllocError>
         ensures room { self.new.many.room ≡ self.old.many.room }
-        ensures best { (entries : List Near) → AreBest entries self.old → OnOk result (AreBest (near ∷ entries) self.new) }
+        ensures best { (entries : List Near) → AreBest entries self.old
+            → OnOk result (AreBest (near ∷ entries) self.new) }
     {
         if self.many.room > FEW {
             return self.many.offer(near);
@@ -59,7 +61,8 @@ impl Candidates {
     /// Whether all places are taken by numbers that are nearer than this distance.
     pub fn ends_before(&self, dist2: u128) -> bool
         ensures full { IsTrue result → self.now.many.room ≤ length (found_of self.now) }
-        ensures yes { IsTrue result → (entries : List Near) → AreBest entries self.now → All (λ a. a.dist2 < dist2) (found_of self.now) }
+        ensures yes { IsTrue result → (entries : List Near) → AreBest entries self.now
+            → All (λ a. a.dist2 < dist2) (found_of self.now) }
         ensures no { result ≡ false → 1 ≤ self.now.many.room → self.now.many.room ≤ length (found_of self.now)
             → (a : Near) × Contains (found_of self.now) a × (dist2 ≤ a.dist2) }
     {

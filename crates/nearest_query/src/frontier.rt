@@ -1,6 +1,7 @@
 //! The nodes that wait to be opened.
 
-ghost use Rattle.std.specs.Prelude.{◌≡◌, ◌≤◌, ◌<◌, ◌+◌, ℕ, [], ◌∷◌, length, OnOk, IfSome, IfNone, All, sum_by, slice_index_or};
+ghost use Rattle.std.specs.Prelude.{◌≡◌, ◌≤◌, ◌<◌, ◌+◌, ℕ, [], ◌∷◌, length, OnOk, IfSome, IfNone, All, sum_by};
+ghost use Rattle.std.specs.Prelude.{slice_index_or};
 ghost use Rattle.std.specs.List.Sorted.{IsPermutation};
 ghost use Rattle.point_codec.specs.Points.{Region};
 ghost use Rattle.inner_pack.specs.Places.{Spot};
@@ -72,8 +73,11 @@ impl<'a, const D: usize> Frontier<'a, D> {
         at: &Point<D>,
     ) -> Result<(), AllocError>
         ensures put { OnOk result (IsWaiting at.now.c segment node.now self.old self.new) }
-        ensures counted { (first : ℕ) (s : Spot) (path : Region) (t : IndexTree) → IsAt node.now first s path t → node.now.leaves ≡ leaf_count t }
-        ensures most { (g : ℕ → ℕ → ℕ) → sum_by (spread g) self.new.turns ≤ span g segment node.now.first node.now.leaves + sum_by (spread g) self.old.turns }
+        ensures counted { (first : ℕ) (s : Spot) (path : Region) (t : IndexTree) → IsAt node.now first s path t
+            → node.now.leaves ≡ leaf_count t }
+        ensures most { (g : ℕ → ℕ → ℕ)
+            → sum_by (spread g) self.new.turns ≤ span g segment node.now.first node.now.leaves + sum_by
+            (spread g) self.old.turns }
     {
         let waiting = Waiting {
             dist2: Reverse(node.cell().least_dist2(at)),

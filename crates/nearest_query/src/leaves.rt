@@ -46,13 +46,21 @@ pub fn open_leaf<const D: usize, F: Pages>(
     ensures others { (i : ℕ) → KeepsFile cache.new i → KeepsFile cache.old i ⊎ (i ≡ head.now.id) }
     ensures agrees { IsTrue F.told → Agrees (F.files folder.old) cache.old → Agrees (F.files folder.old) cache.new }
     ensures room { found.new.many.room ≡ found.old.many.room }
-    ensures found { IsTrue F.told → Agrees (F.files folder.old) cache.old → (first : ℕ) (s : Spot) (path : Region) (len : ℕ) (own : Region) (items : List Item) (seen : List Near)
-        → IsAt node.now first s path (Leaf len own) → HoldsLeaf D (bytes_of (F.files folder.old (Segment head.now.id))) head.now first s len own items
-        → AreBest seen found.old → OnOk result (AreAdded seen (nears_of at.now.c (live_items live.now items)) found.new) }
-    ensures damage { IsTrue F.told → Agrees (F.files folder.old) cache.old → OnDamage result (IsLeafDamageOf (F.files folder.old)) }
-    ensures shown { (first : ℕ) (s : Spot) (path : Region) (t : IndexTree) → IsAt node.now first s path t → OnDamage result (IsLeafDamage D head.now first s t) }
-    ensures whole { IsTrue F.told → Agrees (F.files folder.old) cache.old → (first : ℕ) (s : Spot) (path : Region) (len : ℕ) (own : Region) (items : List Item)
-        → IsAt node.now first s path (Leaf len own) → HoldsLeaf D (bytes_of (F.files folder.old (Segment head.now.id))) head.now first s len own items → NotDamaged result }
+    ensures found { IsTrue F.told → Agrees (F.files folder.old) cache.old
+        → (first : ℕ) (s : Spot) (path : Region) (len : ℕ) (own : Region) (items : List Item) (seen : List Near)
+        → IsAt node.now first s path (Leaf len own)
+        → HoldsLeaf D (bytes_of (F.files folder.old (Segment head.now.id))) head.now first s len own items
+        → AreBest seen found.old
+        → OnOk result (AreAdded seen (nears_of at.now.c (live_items live.now items)) found.new) }
+    ensures damage { IsTrue F.told → Agrees (F.files folder.old) cache.old
+        → OnDamage result (IsLeafDamageOf (F.files folder.old)) }
+    ensures shown { (first : ℕ) (s : Spot) (path : Region) (t : IndexTree) → IsAt node.now first s path t
+        → OnDamage result (IsLeafDamage D head.now first s t) }
+    ensures whole { IsTrue F.told → Agrees (F.files folder.old) cache.old
+        → (first : ℕ) (s : Spot) (path : Region) (len : ℕ) (own : Region) (items : List Item)
+        → IsAt node.now first s path (Leaf len own)
+        → HoldsLeaf D (bytes_of (F.files folder.old (Segment head.now.id))) head.now first s len own items
+        → NotDamaged result }
 {
     let place = load_leaf(alloc, folder, cache, head, node)?;
     let Some(view) = leaf_in(cache, head, node, place) else {
@@ -70,7 +78,8 @@ fn offer_leaf<const D: usize>(
     found: &mut Candidates,
 ) -> Result<(), AllocError>
     ensures room { found.new.many.room ≡ found.old.many.room }
-    ensures found { (seen : List Near) → AreBest seen found.old → OnOk result (AreAdded seen (nears_of at.now.c (live_items live.now view.now)) found.new) }
+    ensures found { (seen : List Near) → AreBest seen found.old
+        → OnOk result (AreAdded seen (nears_of at.now.c (live_items live.now view.now)) found.new) }
 {
     for i in 0..view.count() {
         let doc = view.doc(i);
@@ -92,7 +101,8 @@ pub fn offer_all<const D: usize>(
     found: &mut Candidates,
 ) -> Result<(), AllocError>
     ensures room { found.new.many.room ≡ found.old.many.room }
-    ensures found { (seen : List Near) → AreBest seen found.old → OnOk result (AreAdded seen (nears_of at.now.c (items_of entries.now)) found.new) }
+    ensures found { (seen : List Near) → AreBest seen found.old
+        → OnOk result (AreAdded seen (nears_of at.now.c (items_of entries.now)) found.new) }
 {
     for entry in entries {
         found.offer(Near {

@@ -1,5 +1,5 @@
-//! The k nearest documents of segments and a buffer, found best first: nodes wait in a queue by their least distance, and a
-//! leaf is read only where it may hold one of the k.
+//! The k nearest documents of segments and a buffer, found best first: nodes wait in a queue by their least distance,
+//! and a leaf is read only where it may hold one of the k.
 #![tactic(auto)]
 
 mod candidates;

@@ -1,6 +1,7 @@
 //! The nearest numbers among the entries seen so far, where they may be many.
 
-ghost use Rattle.std.specs.Prelude.{◌≡◌, ◌≤◌, ◌<◌, List, [], ◌∷◌, length, OnOk, IfOk, IsTrue, Contains, All, false, None, Some, nat_eq};
+ghost use Rattle.std.specs.Prelude.{◌≡◌, ◌≤◌, ◌<◌, List, [], ◌∷◌, length, OnOk, IfOk, IsTrue, Contains, All, false};
+ghost use Rattle.std.specs.Prelude.{None, Some, nat_eq};
 ghost use Rattle.std.specs.Ordering.{is_lt};
 ghost use Rattle.std.specs.declared.cmp.Ordering.TheVariants.{Less};
 ghost use Rattle.std.specs.HashMap as hash;
@@ -47,7 +48,8 @@ impl Many {
     /// Takes the entry where it is among the nearest so far.
     pub fn offer(&mut self, near: Near) -> Result<(), AllocError>
         ensures room { self.new.room ≡ self.old.room }
-        ensures best { (entries : List Near) → AreKept entries self.old → OnOk result (AreKept (near ∷ entries) self.new) }
+        ensures best { (entries : List Near) → AreKept entries self.old
+            → OnOk result (AreKept (near ∷ entries) self.new) }
     {
         if self.is_left_out(&near) {
             return Ok(());
@@ -60,7 +62,8 @@ impl Many {
 
     /// Whether all places are taken by numbers that are nearer than this distance.
     pub fn ends_before(&self, dist2: u128) -> bool
-        ensures yes { IsTrue result → (self.now.room ≤ length self.now.in_order.keys) × All (λ a. a.dist2 < dist2) self.now.in_order.keys }
+        ensures yes { IsTrue result → (self.now.room ≤ length self.now.in_order.keys)
+            × All (λ a. a.dist2 < dist2) self.now.in_order.keys }
         ensures no { result ≡ false → 1 ≤ self.now.room → self.now.room ≤ length self.now.in_order.keys
             → (a : Near) × Contains self.now.in_order.keys a × (dist2 ≤ a.dist2) }
     {
@@ -75,7 +78,8 @@ impl Many {
 
     /// Whether all places are taken and the entry doesn't come before the last.
     fn is_left_out(&self, near: &Near) -> bool
-        ensures yes { IsTrue result → (self.now.room ≤ length self.now.in_order.keys) × All (λ a. is_lt (near_cmp near.now a) ≡ false) self.now.in_order.keys }
+        ensures yes { IsTrue result → (self.now.room ≤ length self.now.in_order.keys)
+            × All (λ a. is_lt (near_cmp near.now a) ≡ false) self.now.in_order.keys }
         ensures no { result ≡ false → 1 ≤ self.now.room → self.now.room ≤ length self.now.in_order.keys
             → (a : Near) × Contains self.now.in_order.keys a × (near_cmp near.now a ≡ Less) }
     {
@@ -91,7 +95,8 @@ impl Many {
     /// Gives a number of the candidates, whose distance is `dist2`, the entry's distance where that is less.
     fn improve(&mut self, dist2: u128, near: Near) -> Result<(), AllocError>
         ensures room { self.new.room ≡ self.old.room }
-        ensures best { (entries : List Near) → AreKept entries self.old → hash.get nat_eq self.old.distances near.doc ≡ Some dist2
+        ensures best { (entries : List Near) → AreKept entries self.old
+            → hash.get nat_eq self.old.distances near.doc ≡ Some dist2
             → OnOk result (AreKept (near ∷ entries) self.new) }
     {
         if dist2 <= near.dist2 {
@@ -107,8 +112,10 @@ impl Many {
     /// Adds a number that is no candidate, in place of the last where all places are taken.
     fn add(&mut self, near: Near) -> Result<(), AllocError>
         ensures room { self.new.room ≡ self.old.room }
-        ensures best { (entries : List Near) → AreKept entries self.old → hash.get nat_eq self.old.distances near.doc ≡ None
-            → (self.old.room ≤ length self.old.in_order.keys → (a : Near) × Contains self.old.in_order.keys a × (near_cmp near a ≡ Less))
+        ensures best { (entries : List Near) → AreKept entries self.old
+            → hash.get nat_eq self.old.distances near.doc ≡ None
+            → (self.old.room ≤ length self.old.in_order.keys → (a : Near) × Contains self.old.in_order.keys a
+            × (near_cmp near a ≡ Less))
             → OnOk result (AreKept (near ∷ entries) self.new) }
     {
         if self.in_order.len() < self.room {

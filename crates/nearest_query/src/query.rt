@@ -1,6 +1,7 @@
 //! The nearest documents of segments and a buffer.
 
-ghost use Rattle.std.specs.Prelude.{◌≡◌, ◌≤◌, ◌<◌, ◌+◌, ◌++◌, ◌⊎◌, ℕ, List, [], length, All, IsTrue, OnOk, IfOk, sum_by};
+ghost use Rattle.std.specs.Prelude.{◌≡◌, ◌≤◌, ◌<◌, ◌+◌, ◌++◌, ◌⊎◌, ℕ, List, [], length, All, IsTrue, OnOk, IfOk};
+ghost use Rattle.std.specs.Prelude.{sum_by};
 ghost use Rattle.std.specs.List.{range_with_len};
 ghost use Rattle.point_codec.specs.Points.{Item, Region};
 ghost use Rattle.point_codec.specs.Seen.{items_of};
@@ -12,7 +13,8 @@ ghost use Rattle.page_cache.specs.Causes.{HasPageCause};
 ghost use Rattle.page_cache.specs.Evidence.{OnDamage, NotDamaged};
 ghost use Rattle.segment_file.specs.Damages.{IsLeafDamageOf};
 ghost use Rattle.documents.specs.NearestEntries.{IsNearest, nears_of};
-ghost use Rattle.nearest_query.specs.Segments.{AreSegments, AreNearLeaves, HasId, HaveTrees, IsSegmentDamage, live_in, bound_of};
+ghost use Rattle.nearest_query.specs.Segments.{AreSegments, AreNearLeaves, HasId, HaveTrees, IsSegmentDamage, live_in};
+ghost use Rattle.nearest_query.specs.Segments.{bound_of};
 ghost use Rattle.nearest_query.specs.Fronts.{Front, span, spread};
 ghost use Rattle.nearest_query.specs.Search.{World, IsOver, IsInside, IsPart, IsNode, HasRoots, head_at};
 
@@ -27,12 +29,13 @@ use point_codec::{Entry, Near, Point};
 use segment_file::SegmentHead;
 use std::alloc::{AllocError, Global};
 
-/// The `k` numbers that are nearest to a point among the live entries of the segments and those of the buffer, the nearest
-/// first, each with the least squared distance of its entries: all numbers, where there are fewer than `k`. Of equally near
-/// ones the smaller comes first. `k` is 1 to 10,000.
+/// The `k` numbers that are nearest to a point among the live entries of the segments and those of the buffer, the
+/// nearest first, each with the least squared distance of its entries: all numbers, where there are fewer than `k`.
+/// Of equally near ones the smaller comes first. `k` is 1 to 10,000.
 ///
-/// Leaves are read by way of the cache, and only those whose cell is as near as the last number found. It answers a damage of
-/// a leaf that it had to read, Failed and Memory; a cache keeps nothing new then but pages of these segments.
+/// Leaves are read by way of the cache, and only those whose cell is as near as the last number found. It answers a
+/// damage of a leaf that it had to read, Failed and Memory; a cache keeps nothing new then but pages of these
+/// segments.
 pub fn nearest<const D: usize, F: Pages>(
     alloc: Global,
     heads: &[SegmentHead<D>],
@@ -46,15 +49,23 @@ pub fn nearest<const D: usize, F: Pages>(
     requires lives { length lives.now ≡ length heads.now }
     requires some { 1 ≤ k }
     requires few { k ≤ 10000 }
-    ensures answer { IsTrue F.told → Agrees (F.files folder.old) cache.old → (contents : ℕ → List Item) → AreSegments D (F.files folder.old) contents heads.now
-        → IfOk result (λ v. IsNearest k (nears_of at.now.c (live_in contents heads.now lives.now ++ items_of buffer.now)) v.items) }
-    ensures reads { IsTrue F.told → Agrees (F.files folder.old) cache.old → (contents : ℕ → List Item) → AreSegments D (F.files folder.old) contents heads.now
-        → (found : List Near) → IsNearest k (nears_of at.now.c (live_in contents heads.now lives.now ++ items_of buffer.now)) found
-        → (leaves : ℕ) → AreNearLeaves D at.now.c (bound_of k found) heads.now leaves → F.reads folder.new ≤ F.reads folder.old + leaves }
+    ensures answer { IsTrue F.told → Agrees (F.files folder.old) cache.old → (contents : ℕ → List Item)
+        → AreSegments D (F.files folder.old) contents heads.now
+        → IfOk result
+        (λ v. IsNearest k (nears_of at.now.c (live_in contents heads.now lives.now ++ items_of buffer.now)) v.items) }
+    ensures reads { IsTrue F.told → Agrees (F.files folder.old) cache.old → (contents : ℕ → List Item)
+        → AreSegments D (F.files folder.old) contents heads.now
+        → (found : List Near)
+        → IsNearest k (nears_of at.now.c (live_in contents heads.now lives.now ++ items_of buffer.now)) found
+        → (leaves : ℕ) → AreNearLeaves D at.now.c (bound_of k found) heads.now leaves
+        → F.reads folder.new ≤ F.reads folder.old + leaves }
     // what a damage shows by what it carries, and of the files; there is none where the files hold the segments
-    ensures shown { (trees : ℕ → IndexTree) → HaveTrees D heads.now trees → OnDamage result (IsSegmentDamage D heads.now trees) }
-    ensures damage { IsTrue F.told → Agrees (F.files folder.old) cache.old → OnDamage result (IsLeafDamageOf (F.files folder.old)) }
-    ensures whole { IsTrue F.told → Agrees (F.files folder.old) cache.old → (contents : ℕ → List Item) → AreSegments D (F.files folder.old) contents heads.now → NotDamaged result }
+    ensures shown { (trees : ℕ → IndexTree) → HaveTrees D heads.now trees
+        → OnDamage result (IsSegmentDamage D heads.now trees) }
+    ensures damage { IsTrue F.told → Agrees (F.files folder.old) cache.old
+        → OnDamage result (IsLeafDamageOf (F.files folder.old)) }
+    ensures whole { IsTrue F.told → Agrees (F.files folder.old) cache.old → (contents : ℕ → List Item)
+        → AreSegments D (F.files folder.old) contents heads.now → NotDamaged result }
     ensures files { IsTrue F.told → F.files folder.new ≡ F.files folder.old }
     ensures agrees { IsTrue F.told → Agrees (F.files folder.old) cache.old → Agrees (F.files folder.old) cache.new }
     ensures others { (id : ℕ) → KeepsFile cache.new id → KeepsFile cache.old id ⊎ HasId heads.now id }
@@ -85,10 +96,14 @@ fn put_roots<'a, const D: usize>(
 ) -> Result<(), AllocError>
     requires { frontier.old.turns ≡ [] }
     ensures inside { OnOk result (All (IsInside (length heads.now) frontier.new.nodes) frontier.new.turns) }
-    ensures parts { (trees : ℕ → IndexTree) → HaveTrees D heads.now trees → OnOk result (All (IsPart heads.now trees frontier.new.nodes) frontier.new.turns) }
-    ensures nodes { (w : World) → HasRoots D w → w.heads ≡ heads.now → w.at ≡ at.now.c → OnOk result (All (IsNode D w frontier.new.nodes) frontier.new.turns) }
+    ensures parts { (trees : ℕ → IndexTree) → HaveTrees D heads.now trees
+        → OnOk result (All (IsPart heads.now trees frontier.new.nodes) frontier.new.turns) }
+    ensures nodes { (w : World) → HasRoots D w → w.heads ≡ heads.now → w.at ≡ at.now.c
+        → OnOk result (All (IsNode D w frontier.new.nodes) frontier.new.turns) }
     ensures totals { (w : World) → HasRoots D w → w.heads ≡ heads.now → (g : ℕ → ℕ → ℕ)
-        → OnOk result (sum_by (spread g) frontier.new.turns ≡ sum_by (λ i. span g i 0 (head_at w i).index.leaves) (range_with_len 0 (length heads.now))) }
+        → OnOk result
+        (sum_by (spread g) frontier.new.turns ≡ sum_by (λ i. span g i 0 (head_at w i).index.leaves)
+        (range_with_len 0 (length heads.now))) }
 {
     for i in 0..heads.len() {
         frontier.put(i, &heads[i].index().walk(), at)?;

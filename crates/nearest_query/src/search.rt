@@ -1,6 +1,7 @@
 //! The search, best first.
 
-ghost use Rattle.std.specs.Prelude.{◌≡◌, ◌≤◌, ◌<◌, ◌+◌, ◌⊎◌, ℕ, List, [], ◌∷◌, length, All, IsTrue, true, OnOk, sum_by, Option};
+ghost use Rattle.std.specs.Prelude.{◌≡◌, ◌≤◌, ◌<◌, ◌+◌, ◌⊎◌, ℕ, List, [], ◌∷◌, length, All, IsTrue, true, OnOk, sum_by};
+ghost use Rattle.std.specs.Prelude.{Option};
 ghost use Rattle.point_codec.specs.Points.{Region};
 ghost use Rattle.point_codec.specs.declared.entries.Near.{Near};
 ghost use Rattle.inner_pack.specs.Places.{Spot};
@@ -35,10 +36,14 @@ fn fork<'a, const D: usize>(
     right: &NodeAt<'a, D>,
     at: &Point<D>,
 ) -> Result<(), AllocError>
-    ensures put { OnOk result ((mid : Front D) × IsWaiting at.now.c segment left.now frontier.old mid × IsWaiting at.now.c segment right.now mid frontier.new) }
-    ensures counted { (first : ℕ) (s : Spot) (path : Region) (t : IndexTree) → IsAt left.now first s path t → left.now.leaves ≡ leaf_count t }
+    ensures put { OnOk result
+        ((mid : Front D) × IsWaiting at.now.c segment left.now frontier.old mid
+        × IsWaiting at.now.c segment right.now mid frontier.new) }
+    ensures counted { (first : ℕ) (s : Spot) (path : Region) (t : IndexTree) → IsAt left.now first s path t
+        → left.now.leaves ≡ leaf_count t }
     ensures most { (g : ℕ → ℕ → ℕ) → sum_by (spread g) frontier.new.turns
-        ≤ span g segment left.now.first left.now.leaves + span g segment right.now.first right.now.leaves + sum_by (spread g) frontier.old.turns }
+        ≤ span g segment left.now.first left.now.leaves + span g segment right.now.first right.now.leaves + sum_by
+        (spread g) frontier.old.turns }
 {
     frontier.put(segment, left, at)?;
     frontier.put(segment, right, at)?;
@@ -65,16 +70,26 @@ fn open<'a, const D: usize, F: Pages>(
     ensures agrees { IsTrue F.told → Agrees (F.files folder.old) cache.old → Agrees (F.files folder.old) cache.new }
     ensures room { found.new.many.room ≡ found.old.many.room }
     ensures work { OnOk result (sum_by work frontier.new.turns < work next + sum_by work frontier.old.turns) }
-    ensures inside { All (IsInside (length heads.now) frontier.old.nodes) frontier.old.turns → OnOk result (All (IsInside (length heads.now) frontier.new.nodes) frontier.new.turns) }
-    ensures sought { IsTrue F.told → Agrees (F.files folder.old) cache.old → (w : World) (all : List Near) → IsOver w at.now.c heads.now lives.now (F.files folder.old)
-        → IsSought D w all (next ∷ frontier.old.turns) frontier.old.nodes found.old → OnOk result (IsSought D w all frontier.new.turns frontier.new.nodes found.new) }
-    ensures reads { (w : World) (bound : Option ℕ) → IsNode D w frontier.old.nodes next → w.at ≡ at.now.c → is_within bound next.dist2.0 ≡ true
+    ensures inside { All (IsInside (length heads.now) frontier.old.nodes) frontier.old.turns
+        → OnOk result (All (IsInside (length heads.now) frontier.new.nodes) frontier.new.turns) }
+    ensures sought { IsTrue F.told → Agrees (F.files folder.old) cache.old → (w : World) (all : List Near)
+        → IsOver w at.now.c heads.now lives.now (F.files folder.old)
+        → IsSought D w all (next ∷ frontier.old.turns) frontier.old.nodes found.old
+        → OnOk result (IsSought D w all frontier.new.turns frontier.new.nodes found.new) }
+    ensures reads { (w : World) (bound : Option ℕ) → IsNode D w frontier.old.nodes next → w.at ≡ at.now.c
+        → is_within bound next.dist2.0 ≡ true
         → F.reads folder.new + sum_by (spread (one_within w bound)) frontier.new.turns
-        ≤ F.reads folder.old + spread (one_within w bound) next + sum_by (spread (one_within w bound)) frontier.old.turns }
-    ensures damage { IsTrue F.told → Agrees (F.files folder.old) cache.old → OnDamage result (IsLeafDamageOf (F.files folder.old)) }
-    ensures parts { (trees : ℕ → IndexTree) → All (IsPart heads.now trees frontier.old.nodes) (next ∷ frontier.old.turns) → OnOk result (All (IsPart heads.now trees frontier.new.nodes) frontier.new.turns) }
-    ensures shown { (trees : ℕ → IndexTree) → IsPart heads.now trees frontier.old.nodes next → OnDamage result (IsSegmentDamage D heads.now trees) }
-    ensures whole { IsTrue F.told → Agrees (F.files folder.old) cache.old → (w : World) → IsOver w at.now.c heads.now lives.now (F.files folder.old)
+        ≤ F.reads folder.old + spread (one_within w bound) next + sum_by
+        (spread (one_within w bound)) frontier.old.turns }
+    ensures damage { IsTrue F.told → Agrees (F.files folder.old) cache.old
+        → OnDamage result (IsLeafDamageOf (F.files folder.old)) }
+    ensures parts { (trees : ℕ → IndexTree)
+        → All (IsPart heads.now trees frontier.old.nodes) (next ∷ frontier.old.turns)
+        → OnOk result (All (IsPart heads.now trees frontier.new.nodes) frontier.new.turns) }
+    ensures shown { (trees : ℕ → IndexTree) → IsPart heads.now trees frontier.old.nodes next
+        → OnDamage result (IsSegmentDamage D heads.now trees) }
+    ensures whole { IsTrue F.told → Agrees (F.files folder.old) cache.old → (w : World)
+        → IsOver w at.now.c heads.now lives.now (F.files folder.old)
         → IsNode D w frontier.old.nodes next → NotDamaged result }
 {
     match frontier.node(next.place).children() {
@@ -109,14 +124,21 @@ pub fn search<'a, const D: usize, F: Pages>(
     ensures cause { HasPageCause (F.faults folder.old) (F.faults folder.new) result }
     ensures others { (i : ℕ) → KeepsFile cache.new i → KeepsFile cache.old i ⊎ HasId heads.now i }
     ensures agrees { IsTrue F.told → Agrees (F.files folder.old) cache.old → Agrees (F.files folder.old) cache.new }
-    ensures answer { IsTrue F.told → Agrees (F.files folder.old) cache.old → (w : World) (all : List Near) → IsOver w at.now.c heads.now lives.now (F.files folder.old)
-        → IsSought D w all frontier.old.turns frontier.old.nodes found.old → OnOk result (IsNearest found.old.many.room all (found_of found.new)) }
-    ensures reads { IsTrue F.told → Agrees (F.files folder.old) cache.old → (w : World) (all nearest : List Near) → IsOver w at.now.c heads.now lives.now (F.files folder.old)
+    ensures answer { IsTrue F.told → Agrees (F.files folder.old) cache.old → (w : World) (all : List Near)
+        → IsOver w at.now.c heads.now lives.now (F.files folder.old)
+        → IsSought D w all frontier.old.turns frontier.old.nodes found.old
+        → OnOk result (IsNearest found.old.many.room all (found_of found.new)) }
+    ensures reads { IsTrue F.told → Agrees (F.files folder.old) cache.old → (w : World) (all nearest : List Near)
+        → IsOver w at.now.c heads.now lives.now (F.files folder.old)
         → IsSought D w all frontier.old.turns frontier.old.nodes found.old → IsNearest found.old.many.room all nearest
-        → F.reads folder.new ≤ F.reads folder.old + sum_by (spread (one_within w (bound_of found.old.many.room nearest))) frontier.old.turns }
-    ensures damage { IsTrue F.told → Agrees (F.files folder.old) cache.old → OnDamage result (IsLeafDamageOf (F.files folder.old)) }
-    ensures shown { (trees : ℕ → IndexTree) → All (IsPart heads.now trees frontier.old.nodes) frontier.old.turns → OnDamage result (IsSegmentDamage D heads.now trees) }
-    ensures whole { IsTrue F.told → Agrees (F.files folder.old) cache.old → (w : World) (all : List Near) → IsOver w at.now.c heads.now lives.now (F.files folder.old)
+        → F.reads folder.new ≤ F.reads folder.old + sum_by
+        (spread (one_within w (bound_of found.old.many.room nearest))) frontier.old.turns }
+    ensures damage { IsTrue F.told → Agrees (F.files folder.old) cache.old
+        → OnDamage result (IsLeafDamageOf (F.files folder.old)) }
+    ensures shown { (trees : ℕ → IndexTree) → All (IsPart heads.now trees frontier.old.nodes) frontier.old.turns
+        → OnDamage result (IsSegmentDamage D heads.now trees) }
+    ensures whole { IsTrue F.told → Agrees (F.files folder.old) cache.old → (w : World) (all : List Near)
+        → IsOver w at.now.c heads.now lives.now (F.files folder.old)
         → IsSought D w all frontier.old.turns frontier.old.nodes found.old → NotDamaged result }
 {
     while let Some(next) = frontier.pop() {

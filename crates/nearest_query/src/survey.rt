@@ -12,17 +12,19 @@ use inner_pack::NodeAt;
 use point_codec::Point;
 use segment_file::SegmentHead;
 
-/// How many leaves of the segment have a cell whose least squared distance from the point is at most the bound; all where
-/// there is none. Nothing is read, and no memory is taken.
+/// How many leaves of the segment have a cell whose least squared distance from the point is at most the bound; all
+/// where there is none. Nothing is read, and no memory is taken.
 pub fn survey_near<const D: usize>(head: &SegmentHead<D>, at: &Point<D>, bound: Option<u128>) -> u64
-    ensures { (root : Region) (t : IndexTree) → HasTree D head.now.index root t → result ≡ near_leaves at.now.c bound t }
+    ensures { (root : Region) (t : IndexTree) → HasTree D head.now.index root t
+        → result ≡ near_leaves at.now.c bound t }
 {
     near_below(&head.index().walk(), at, bound)
 }
 
 /// The same of the leaves at or below a node.
 fn near_below<const D: usize>(node: &NodeAt<'_, D>, at: &Point<D>, bound: Option<u128>) -> u64
-    ensures value { (first : ℕ) (s : Spot) (path : Region) (t : IndexTree) → IsAt node.now first s path t → result ≡ near_leaves at.now.c bound t }
+    ensures value { (first : ℕ) (s : Spot) (path : Region) (t : IndexTree) → IsAt node.now first s path t
+        → result ≡ near_leaves at.now.c bound t }
     ensures fits { result ≤ node.now.leaves }
 {
     if node.leaf_count() == 1 {

@@ -1,5 +1,6 @@
 -- Numbers with too many entries, or with one of them twice.
-use Rattle.std.specs.Prelude.{ℕ, ◌≡◌, ◌≤◌, ◌<◌, ◌-◌, ◌⊎◌, ◌&&◌, ◌||◌, Bool, true, false, List, length, nat_eq, nat_le, slice_index_or}
+use Rattle.std.specs.Prelude.{ℕ, ◌≡◌, ◌≤◌, ◌<◌, ◌-◌, ◌⊎◌, ◌&&◌, ◌||◌, Bool, true, false, List, length, nat_eq, nat_le}
+use Rattle.std.specs.Prelude.{slice_index_or}
 use Rattle.std.specs.List.{count_by}
 use Rattle.std.specs.declared.cmp.Ordering.{Ordering}
 use Rattle.std.specs.Ordering.{int_cmp, nat_cmp, is_eq, ordering_then}
@@ -18,7 +19,8 @@ AreFew items = (number : ℕ) → count_of number items ≤ 16
 
 -- more than 16 entries have the number, or one of them stands twice
 abbrev pub IsCrowded : ℕ → List Item → Type 0
-IsCrowded number items = (17 ≤ count_of number items) ⊎ ((x : Item) × (x.doc ≡ number) × (2 ≤ count_by (same_item x) items))
+IsCrowded number items = (17 ≤ count_of number items)
+    ⊎ ((x : Item) × (x.doc ≡ number) × (2 ≤ count_by (same_item x) items))
 
 -- no number has so many, and none of the entries stands twice, as is so of those of documents
 abbrev pub AreUncrowded : List Item → Type 0

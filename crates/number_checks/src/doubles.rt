@@ -1,6 +1,7 @@
 //! Entries that stand twice, and numbers with too many of them.
 
-ghost use Rattle.std.specs.Prelude.{◌≡◌, ◌<◌, ◌≤◌, ◌+◌, ◌-◌, ◌/◌, ◌&&◌, ◌||◌, ℕ, true, false, nat_eq, length, filter, count_by, All, IfOk, IfSome, IfNone};
+ghost use Rattle.std.specs.Prelude.{◌≡◌, ◌<◌, ◌≤◌, ◌+◌, ◌-◌, ◌/◌, ◌&&◌, ◌||◌, ℕ, true, false, nat_eq, length, filter};
+ghost use Rattle.std.specs.Prelude.{count_by, All, IfOk, IfSome, IfNone};
 ghost use Rattle.point_codec.specs.Seen.{items_of};
 ghost use Rattle.point_codec.specs.declared.entries.Entry.{Entry};
 ghost use Rattle.leaf_codec.specs.LeafOrder.{item_of, NoneTwice};
@@ -16,9 +17,10 @@ use std::cmp::Ordering;
 /// The greatest number of points of a document.
 const MOST_POINTS: usize = 16;
 
-/// The least number of which one entry stands twice in the list, or of which there are more than 16 entries, if there is one.
-/// Entries may stand in any order. Where no two entries have one number, nothing is sorted, and the call takes memory of two bits
-/// for each number from the least of the entries to the greatest; else also that of the entries whose number another one has.
+/// The least number of which one entry stands twice in the list, or of which there are more than 16 entries, if there
+/// is one. Entries may stand in any order. Where no two entries have one number, nothing is sorted, and the call
+/// takes memory of two bits for each number from the least of the entries to the greatest; else also that of the
+/// entries whose number another one has.
 pub fn doubled<const D: usize>(alloc: Global, entries: &[Entry<D>]) -> Result<Option<u32>, Memory>
     ensures none { IfOk result (λ r. IfNone r (NoneTwice (items_of entries.now) × AreFew (items_of entries.now))) }
     ensures some { IfOk result (λ r. IfSome r (λ number. IsLeastCrowded number (items_of entries.now))) }
@@ -54,7 +56,9 @@ fn numbers_again<const D: usize>(
 ) -> Result<Option<Vec<u64>>, Memory>
     requires { All (λ e. (base ≤ e.doc) × ((e.doc - base) / 64 < words)) entries.now }
     ensures none { IfOk result (λ r. IfNone r ((n : ℕ) → count_by (λ e. nat_eq e.doc n) entries.now ≤ 1)) }
-    ensures some { IfOk result (λ r. IfSome r (λ v. (n : ℕ) → 2 ≤ count_by (λ e. nat_eq e.doc n) entries.now → is_marked v.items (n - base) ≡ true)) }
+    ensures some { IfOk result
+        (λ r. IfSome r
+        (λ v. (n : ℕ) → 2 ≤ count_by (λ e. nat_eq e.doc n) entries.now → is_marked v.items (n - base) ≡ true)) }
     ensures len { IfOk result (λ r. IfSome r (λ v. length v.items ≡ words)) }
 {
     let mut seen = vec![in alloc; 0u64; words]?;
@@ -65,8 +69,8 @@ fn numbers_again<const D: usize>(
     Ok(Some(again))
 }
 
-/// Marks the number of each entry as seen, and in `again` where it was seen, at their places behind `base`. Answers whether
-/// one was.
+/// Marks the number of each entry as seen, and in `again` where it was seen, at their places behind `base`. Answers
+/// whether one was.
 fn mark_all<const D: usize>(
     seen: &mut [u64],
     again: &mut [u64],
@@ -91,7 +95,8 @@ fn mark_again(seen: &mut [u64], again: &mut [u64], number: u32) -> bool
     requires again { number / 64 < length again.old }
     ensures was { result ≡ is_marked seen.old number }
     ensures seen { (n : ℕ) → is_marked seen.new n ≡ (is_marked seen.old n || nat_eq n number) }
-    ensures again { (n : ℕ) → is_marked again.new n ≡ (is_marked again.old n || (is_marked seen.old number && nat_eq n number)) }
+    ensures again { (n : ℕ)
+        → is_marked again.new n ≡ (is_marked again.old n || (is_marked seen.old number && nat_eq n number)) }
 {
     let was = mark(seen, number);
     if was {
@@ -145,7 +150,8 @@ fn by_number<const D: usize>(a: &Entry<D>, b: &Entry<D>) -> Ordering
 
 /// The number of the first entry that repeats one before it.
 fn first_crowded<const D: usize>(list: &[Entry<D>]) -> Option<u32>
-    ensures none { IfNone result ((k : ℕ) (d : Entry D) → 1 ≤ k → k < length list.now → repeats_at d list.now k ≡ false) }
+    ensures none { IfNone result
+        ((k : ℕ) (d : Entry D) → 1 ≤ k → k < length list.now → repeats_at d list.now k ≡ false) }
     ensures some { IfSome result (IsFirstRepeat list.now) }
 {
     for k in 1..list.len() {

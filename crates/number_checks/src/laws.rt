@@ -11,9 +11,10 @@ pub fn none_twice()
     ensures { (xs : List Item) → NoneTwice xs ↔ AllPairs (λ x y. x ≢ y) xs }
 {}
 
-/// Entries are those of documents where none stands twice, each number has few enough and is below the next; and they are not
-/// where a number has too many or one of them twice.
+/// Entries are those of documents where none stands twice, each number has few enough and is below the next; and they
+/// are not where a number has too many or one of them twice.
 pub fn fits_docs()
-    ensures fit { (next : ℕ) (xs : List Item) → NoneTwice xs → AreFew xs → All (λ x. x.doc < next) xs → MakeDocs next xs }
+    ensures fit { (next : ℕ) (xs : List Item) → NoneTwice xs → AreFew xs → All (λ x. x.doc < next) xs
+        → MakeDocs next xs }
     ensures crowded { (next number : ℕ) (xs : List Item) → IsCrowded number xs → MakeDocs next xs → ⊥ }
 {}

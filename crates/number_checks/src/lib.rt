@@ -1,5 +1,5 @@
-//! Whether numbers stand where they may: live in one segment only and below the next number, and with few enough entries
-//! of which none stands twice.
+//! Whether numbers stand where they may: live in one segment only and below the next number, and with few enough
+//! entries of which none stands twice.
 #![tactic(auto)]
 
 mod doubles;

@@ -23,11 +23,13 @@ pub(crate) fn mark(words: &mut [u64], number: u32) -> bool
     was
 }
 
-/// Marks of the 64 numbers from `64 * at` on those of which the bit in `word` is set, and answers which of them were marked.
+/// Marks of the 64 numbers from `64 * at` on those of which the bit in `word` is set, and answers which of them were
+/// marked.
 pub(crate) fn mark_word(words: &mut [u64], at: usize, word: u64) -> u64
     requires { at < length words.old }
     ensures were { (k : ℕ) → k < 64 → has_bit result k ≡ (is_marked words.old (64 * at + k) && has_bit word k) }
-    ensures after { (n : ℕ) → is_marked words.new n ≡ (is_marked words.old n || (nat_eq (n / 64) at && has_bit word (n % 64))) }
+    ensures after { (n : ℕ)
+        → is_marked words.new n ≡ (is_marked words.old n || (nat_eq (n / 64) at && has_bit word (n % 64))) }
 {
     let marked = words[at];
     words[at] = marked | word;

@@ -15,9 +15,9 @@ use std::alloc::Global;
 /// What no set has: each live number is below it.
 const LIMIT: u32 = 1 << 24;
 
-/// The least live number that isn't below `next` or is live in two of the sets, if there is one. A number of which both
-/// hold is told as Beyond. The sets are gone through once, a word of their bits at a time, and the call takes memory of a bit
-/// for each number below `next`.
+/// The least live number that isn't below `next` or is live in two of the sets, if there is one. A number of which
+/// both hold is told as Beyond. The sets are gone through once, a word of their bits at a time, and the call takes
+/// memory of a bit for each number below `next`.
 pub fn misplaced(alloc: Global, lives: &[LiveBits], next: u32) -> Result<Option<Misplaced>, Memory>
     requires { next ≤ 2 ^ 24 }
     ensures none { IfOk result (λ r. IfNone r ((number : ℕ) → IsPlaced next lives.now number)) }
@@ -35,7 +35,8 @@ pub fn misplaced(alloc: Global, lives: &[LiveBits], next: u32) -> Result<Option<
     Ok(None)
 }
 
-/// The least number below `next` that is live in two of the sets, or `next` where there is none. Nothing is marked before.
+/// The least number below `next` that is live in two of the sets, or `next` where there is none. Nothing is marked
+/// before.
 fn least_doubled(marks: &mut [u64], lives: &[LiveBits], next: u32) -> u32
     requires room { next ≤ 64 * length marks.old }
     requires unmarked { (n : ℕ) → is_marked marks.old n ≡ false }
@@ -51,8 +52,8 @@ fn least_doubled(marks: &mut [u64], lives: &[LiveBits], next: u32) -> u32
     limit
 }
 
-/// Marks the live numbers of the set in ascending order, up to the limit or to the first that is marked already. Answers with
-/// that one, or with the limit where there is none.
+/// Marks the live numbers of the set in ascending order, up to the limit or to the first that is marked already.
+/// Answers with that one, or with the limit where there is none.
 fn mark_live(marks: &mut [u64], live: &LiveBits, limit: u32) -> u32
     requires { limit ≤ 64 * length marks.old }
     ensures within { result ≤ limit }

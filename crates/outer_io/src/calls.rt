@@ -84,7 +84,8 @@ impl Calls {
     pub(crate) fn count(&mut self) -> Result<(), Failed>
         ensures exact { IsErr result ↔ Fails (plan_of self.old) }
         ensures plan { plan_of self.new ≡ after_call (plan_of self.old) }
-        ensures raised { MatchResult result (λ _. self.new.faults.raised ≡ self.old.faults.raised) (λ _. RisesByOne self.old.faults.raised self.new.faults.raised) }
+        ensures raised { MatchResult result (λ _. self.new.faults.raised ≡ self.old.faults.raised)
+            (λ _. RisesByOne self.old.faults.raised self.new.faults.raised) }
         ensures cause { HasCause self.old.faults.raised self.new.faults.raised result }
     {
         match self.next() {

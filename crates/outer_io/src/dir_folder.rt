@@ -42,7 +42,8 @@ impl<R: Files + Drop> DirFolder<R>
 where
     R::File: FileExt,
 {
-    ghost use Rattle.outer_io.specs.DirFolder.{directory_path, path_or_dot, directory_faults, directory_reads, StaysCounted};
+    ghost use Rattle.outer_io.specs.DirFolder.{directory_path, path_or_dot, directory_faults, directory_reads};
+    ghost use Rattle.outer_io.specs.DirFolder.{StaysCounted};
 
     /// A folder over this directory. An empty text is the directory that the program runs in. The memory for paths
     /// and for the two lists of files is taken here.

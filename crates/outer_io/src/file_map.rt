@@ -1,5 +1,6 @@
 //! Files in memory: a map from names to bytes.
-ghost use Rattle.std.specs.Prelude.{◌≡◌, ◌++◌, ◌≤◌, None, Some, map, filter, position, not, option_map, vec_len, vec_capacity, OnOk, OnErr};
+ghost use Rattle.std.specs.Prelude.{◌≡◌, ◌++◌, ◌≤◌, None, Some, map, filter, position, not, option_map, vec_len};
+ghost use Rattle.std.specs.Prelude.{vec_capacity, OnOk, OnErr};
 ghost use Rattle.outer_io.specs.Files.{bytes_of, SameBut, SameButTwo, IsRenamed};
 ghost use Rattle.outer_io.specs.FileMap.{files_of, is_named, renamed, with_new_name};
 ghost use Rattle.outer_io.specs.Names.{same_name};

@@ -1,5 +1,6 @@
 //! Where files are read and written.
-ghost use Rattle.std.specs.Prelude.{◌≡◌, ℕ, ◌≤◌, Bool, List, Option, Some, None, ◌++◌, ◌⊎◌, length, IsTrue, IfOk, OnOk, OnErr};
+ghost use Rattle.std.specs.Prelude.{◌≡◌, ℕ, ◌≤◌, Bool, List, Option, Some, None, ◌++◌, ◌⊎◌, length, IsTrue, IfOk, OnOk};
+ghost use Rattle.std.specs.Prelude.{OnErr};
 ghost use Rattle.outer_io.specs.Counts.{RisesByOne};
 ghost use Rattle.outer_io.specs.Faults.{HasCause, HasWriteCause};
 ghost use Rattle.outer_io.specs.Files.{bytes_of, size_of, SameBut, SameButTwo, IsRenamed, IsReadAt};
@@ -65,7 +66,8 @@ pub trait Folder: Pages {
         ensures renamed { IsTrue Self.told → OnOk result
             (IsRenamed from.now to.now (Self.files self.old) (Self.files self.new)) }
         ensures torn { IsTrue Self.told → OnErr result
-            ((Self.files self.new ≡ Self.files self.old) ⊎ IsRenamed from.now to.now (Self.files self.old) (Self.files self.new)) }
+            ((Self.files self.new ≡ Self.files self.old)
+            ⊎ IsRenamed from.now to.now (Self.files self.old) (Self.files self.new)) }
         ensures others { IsTrue Self.told → SameButTwo from.now to.now (Self.files self.old) (Self.files self.new) }
         ensures reads { Self.reads self.new ≡ Self.reads self.old }
         ensures cause { HasCause (Self.faults self.old) (Self.faults self.new) result };

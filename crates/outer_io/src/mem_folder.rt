@@ -1,5 +1,6 @@
 //! A folder in memory.
-ghost use Rattle.std.specs.Prelude.{◌≡◌, ◌/◌, ◌≤◌, ◌++◌, ◌↔◌, ◌⊎◌, None, Some, true, length, take, drop, option_map, IfOk, OnOk, OnErr, IsErr, IsErrOf, IsTrue};
+ghost use Rattle.std.specs.Prelude.{◌≡◌, ◌/◌, ◌≤◌, ◌++◌, ◌↔◌, ◌⊎◌, None, Some, true, length, take, drop, option_map};
+ghost use Rattle.std.specs.Prelude.{IfOk, OnOk, OnErr, IsErr, IsErrOf, IsTrue};
 ghost use Rattle.outer_io.specs.Counts.{RisesByOne};
 ghost use Rattle.outer_io.specs.Faults.{HasCause, HasWriteCause};
 ghost use Rattle.outer_io.specs.Files.{bytes_of, size_of, SameBut, SameButTwo, IsRenamed, IsReadAt};
@@ -97,7 +98,8 @@ impl Pages for MemFolder {
     fn read_at(&mut self, n: &FileName, at: u64, buf: &mut [u8]) -> Result<usize, Failed>
         requires { length buf.old ≤ 4096 }
         ensures fits { IfOk result (λ count. count ≤ length buf.new) }
-        ensures bytes { IsTrue true → IfOk result (λ count. IsReadAt (folder_files self.old n.now) at count buf.old buf.new) }
+        ensures bytes { IsTrue true
+            → IfOk result (λ count. IsReadAt (folder_files self.old n.now) at count buf.old buf.new) }
         ensures same { IsTrue true → folder_files self.new ≡ folder_files self.old }
         ensures reads { RisesByOne (folder_reads self.old) (folder_reads self.new) }
         ensures cause { HasCause (folder_faults self.old) (folder_faults self.new) result }
@@ -125,7 +127,8 @@ impl Folder for MemFolder {
         ensures fails { Fails (folder_plan self.old) → IsErr result }
         ensures only { IsErrOf result WriteFault.Failed → Fails (folder_plan self.old) }
         ensures plan { folder_plan self.new ≡ after_call (folder_plan self.old) }
-        ensures raised { IsErrOf result WriteFault.Failed → RisesByOne (folder_faults self.old) (folder_faults self.new) }
+        ensures raised { IsErrOf result WriteFault.Failed
+            → RisesByOne (folder_faults self.old) (folder_faults self.new) }
         ensures half { IsErrOf result WriteFault.Failed → (¬ Stops (folder_plan self.old)) →
             folder_files self.new n.now ≡ Some (take (length b.now / 2) b.now) }
         ensures stopped { Stops (folder_plan self.old) → folder_files self.new ≡ folder_files self.old }
@@ -157,9 +160,11 @@ impl Folder for MemFolder {
         ensures fails { Fails (folder_plan self.old) → IsErr result }
         ensures only { IsErrOf result WriteFault.Failed → Fails (folder_plan self.old) }
         ensures plan { folder_plan self.new ≡ after_call (folder_plan self.old) }
-        ensures raised { IsErrOf result WriteFault.Failed → RisesByOne (folder_faults self.old) (folder_faults self.new) }
+        ensures raised { IsErrOf result WriteFault.Failed
+            → RisesByOne (folder_faults self.old) (folder_faults self.new) }
         ensures half { IsErrOf result WriteFault.Failed → (¬ Stops (folder_plan self.old)) →
-            folder_files self.new n.now ≡ Some (bytes_of (folder_files self.old n.now) ++ take (length b.now / 2) b.now) }
+            folder_files self.new n.now ≡ Some
+            (bytes_of (folder_files self.old n.now) ++ take (length b.now / 2) b.now) }
         ensures stopped { Stops (folder_plan self.old) → folder_files self.new ≡ folder_files self.old }
         ensures halted { Stops (folder_plan self.old) → IsErrOf result WriteFault.Failed }
         ensures memory { IsErrOf result WriteFault.Memory → folder_files self.new ≡ folder_files self.old }
@@ -183,7 +188,8 @@ impl Folder for MemFolder {
         ensures renamed { IsTrue true → OnOk result
             (IsRenamed from.now to.now (folder_files self.old) (folder_files self.new)) }
         ensures torn { IsTrue true → OnErr result
-            ((folder_files self.new ≡ folder_files self.old) ⊎ IsRenamed from.now to.now (folder_files self.old) (folder_files self.new)) }
+            ((folder_files self.new ≡ folder_files self.old)
+            ⊎ IsRenamed from.now to.now (folder_files self.old) (folder_files self.new)) }
         ensures others { IsTrue true → SameButTwo from.now to.now (folder_files self.old) (folder_files self.new) }
         ensures reads { folder_reads self.new ≡ folder_reads self.old }
         ensures cause { HasCause (folder_faults self.old) (folder_faults self.new) result }

@@ -1,6 +1,7 @@
 //! Files that stay open between reads.
 ghost use Rattle.outer_io.specs.declared.open_files.Opened.{Opened};
-ghost use Rattle.std.specs.Prelude.{◌<◌, position, slice_index_or, ◌≡◌, ◌∷◌, [], find, filter, not, take, option_map, vec_len, vec_capacity, ◌≤◌, IfOk, All, Contains};
+ghost use Rattle.std.specs.Prelude.{◌<◌, position, slice_index_or, ◌≡◌, ◌∷◌, [], find, filter, not, take, option_map};
+ghost use Rattle.std.specs.Prelude.{vec_len, vec_capacity, ◌≤◌, IfOk, All, Contains};
 ghost use Rattle.outer_io.specs.OpenFiles.{is_opened, file_under};
 ghost use Rattle.outer_io.specs.Names.{same_name};
 
@@ -50,7 +51,8 @@ impl<F: Drop> OpenFiles<F> {
     /// Counts a use of the file at this place.
     fn put_first(&mut self, place: usize)
         requires { place < vec_len self.old.files }
-        ensures first { (d : Opened F) → slice_index_or self.new.files.items 0 d ≡ slice_index_or self.old.files.items place d }
+        ensures first { (d : Opened F)
+            → slice_index_or self.new.files.items 0 d ≡ slice_index_or self.old.files.items place d }
         ensures kept { All (Contains self.old.files.items) self.new.files.items }
         ensures len { vec_len self.new.files ≡ vec_len self.old.files }
     {

@@ -46,7 +46,8 @@ impl<R: Read> Source for StdSource<R> {
     fn read(&mut self, buf: &mut [u8]) -> Result<usize, Failed>
         ensures fits { IfOk result (λ n. n ≤ length buf.new) }
         ensures cause { HasCause (input_faults self.old) (input_faults self.new) result }
-        ensures given { ReadConsumes (R.remaining (input_of self.old)) (R.remaining (input_of self.new)) result buf.new }
+        ensures given { ReadConsumes (R.remaining (input_of self.old))
+            (R.remaining (input_of self.new)) result buf.new }
     {
         match read_again(&mut self.input, buf) {
             Ok(count) => Ok(count),
@@ -93,7 +94,8 @@ impl<W: Write> Sink for StdSink<W> {
         ensures fits { IfOk result (λ n. n ≤ length b.now) }
         ensures some { IfOk result (λ n. 0 < length b.now → 0 < n) }
         ensures cause { HasCause (output_faults self.old) (output_faults self.new) result }
-        ensures handed { WritesFlushed (W.contents (output_of self.old)) (W.contents (output_of self.new)) result b.now }
+        ensures handed { WritesFlushed (W.contents (output_of self.old))
+            (W.contents (output_of self.new)) result b.now }
     {
         match write_again(&mut self.output, b) {
             Ok(count) if count > 0 || b.is_empty() => Ok(count),

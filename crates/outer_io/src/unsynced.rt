@@ -1,5 +1,6 @@
 //! Which files were written and may not be on the disk yet.
-ghost use Rattle.std.specs.Prelude.{◌≡◌, ◌∷◌, ◌++◌, ◌<◌, ◌≤◌, ◌↔◌, [], filter, not, drop, vec_len, vec_capacity, IfOk, IsTrue, Contains, ◌==◌, ◌+◌};
+ghost use Rattle.std.specs.Prelude.{◌≡◌, ◌∷◌, ◌++◌, ◌<◌, ◌≤◌, ◌↔◌, [], filter, not, drop, vec_len, vec_capacity, IfOk};
+ghost use Rattle.std.specs.Prelude.{IsTrue, Contains, ◌==◌, ◌+◌};
 ghost use Rattle.outer_io.specs.Names.{same_name};
 
 use crate::file_name::FileName;

@@ -15,7 +15,8 @@ filled body = body ++ replicate (4064 * pages_for (length body) - length body) 0
 -- the bytes are the pages of this body, sealed as the pages of a file from page `first` on
 pub record ArePagesOf (name : FileName) (first : ℕ) (body bytes : List ℕ) : Type 0 where
   pub len : length bytes ≡ 4096 * pages_for (length body)
-  pub pages : (i : ℕ) → i < pages_for (length body) → IsPage (kind_of name) (number_of name) (first + i) (page_at bytes i)
+  pub pages : (i : ℕ) → i < pages_for (length body)
+      → IsPage (kind_of name) (number_of name) (first + i) (page_at bytes i)
   pub payload : payloads_of bytes 0 (pages_for (length body)) ≡ filled body
 
 -- a file of this name and these bytes is one body: exactly its pages, each for its place

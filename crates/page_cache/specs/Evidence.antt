@@ -1,11 +1,13 @@
 -- What a damage shows: by what it carries alone, and of the files where those are told.
-use Rattle.std.specs.Prelude.{◌≡◌, ◌≢◌, ℕ, ◌+◌, ◌*◌, ◌≤◌, ◌<◌, ◌⊎◌, max, List, length, take, drop, None, Result, Ok, Err}
+use Rattle.std.specs.Prelude.{◌≡◌, ◌≢◌, ℕ, ◌+◌, ◌*◌, ◌≤◌, ◌<◌, ◌⊎◌, max, List, length, take, drop, None, Result, Ok}
+use Rattle.std.specs.Prelude.{Err}
 use Rattle.outer_io.specs.declared.file_name.FileName.{FileName}
 use Rattle.outer_io.specs.Files.{Files, bytes_of}
 use Rattle.page_file.specs.Page.{IsPage, payload_of}
 use Rattle.page_cache.specs.FilePages.{kind_of, number_of, page_at, IsFilePage, ArePages, payloads_of}
 use Rattle.page_cache.specs.declared.faults.Damage.{Damage}
-use Rattle.page_cache.specs.declared.faults.Damage.TheVariants.{Page, Leaf, Body, Missing, Size, Unequal, Beyond, Doubled}
+use Rattle.page_cache.specs.declared.faults.Damage.TheVariants.{Page, Leaf, Body, Missing, Size, Unequal, Beyond}
+use Rattle.page_cache.specs.declared.faults.Damage.TheVariants.{Doubled}
 use Rattle.page_cache.specs.declared.faults.PageFault.{PageFault}
 use Rattle.page_cache.specs.declared.faults.PageFault.TheVariants.{Failed, Damaged, Memory}
 
@@ -28,10 +30,12 @@ NotDamaged result = OnDamage result (λ _. ⊥)
 
 -- what a damage carries shows it, over every folder. `leaf file page offset length part` says that the part of a
 -- page is no leaf of the entries and cell used; `body file payloads` that the payloads are out of the grammar
-abbrev pub IsShown : (leaf : FileName → ℕ → ℕ → ℕ → List ℕ → Type 0) (body : FileName → List ℕ → Type 0) → Damage → Type 0
+abbrev pub IsShown : (leaf : FileName → ℕ → ℕ → ℕ → List ℕ → Type 0) (body : FileName → List ℕ → Type 0) → Damage
+    → Type 0
 IsShown leaf body (Page file number bytes) = IsPage (kind_of file) (number_of file) number bytes.value.b → ⊥
 IsShown leaf body (Leaf file number offset len bytes) =
-    IsPage (kind_of file) (number_of file) number bytes.value.b × leaf file number offset len (take len (drop offset (payload_of bytes.value.b)))
+    IsPage (kind_of file) (number_of file) number bytes.value.b
+    × leaf file number offset len (take len (drop offset (payload_of bytes.value.b)))
 IsShown leaf body (Body file bytes) = body file bytes
 IsShown leaf body (Missing file) = Unit {0}
 IsShown leaf body (Size file size needed) = size ≢ needed
@@ -70,8 +74,8 @@ pub record IsShort (files : Files) (file : FileName) (size needed : ℕ) : Type 
   pub short : size < needed
   pub there : files file ≢ None
 
--- The file has size bytes, and needed are the pages that its first page asks for. `asks payload pages` says that a first page of this payload asks for
--- so many.
+-- The file has size bytes, and needed are the pages that its first page asks for. `asks payload pages` says that a
+-- first page of this payload asks for so many.
 pub record HasOtherSize (asks : List ℕ → ℕ → Type 0) (files : Files) (file : FileName) (size needed : ℕ) : Type 0 where
   pub has : size ≡ length (bytes_of (files file))
   pub first : IsFilePage file (bytes_of (files file)) 0
@@ -120,7 +124,8 @@ IsSizeDamage name had most (Doubled doc) = ⊥
 
 -- reading this page of this file shows it to be no page for its place, or the file to end before its end
 abbrev pub IsPageDamage : FileName → ℕ → Damage → Type 0
-IsPageDamage name n (Page file number bytes) = (file ≡ name) × (number ≡ n) × (IsPage (kind_of file) (number_of file) number bytes.value.b → ⊥)
+IsPageDamage name n (Page file number bytes) = (file ≡ name) × (number ≡ n)
+    × (IsPage (kind_of file) (number_of file) number bytes.value.b → ⊥)
 IsPageDamage name n (Size file size needed) = (file ≡ name) × (needed ≡ 4096 * (n + 1)) × (size < needed)
 IsPageDamage name n (Leaf file number offset len bytes) = ⊥
 IsPageDamage name n (Body file bytes) = ⊥
@@ -142,7 +147,8 @@ IsPageDamageOf files n (Doubled doc) = ⊥
 
 -- the file isn't there, or has another size than is needed, or one of its pages is none for its place
 abbrev pub IsFileDamage : FileName → Damage → Type 0
-IsFileDamage name (Page file number bytes) = (file ≡ name) × (IsPage (kind_of file) (number_of file) number bytes.value.b → ⊥)
+IsFileDamage name (Page file number bytes) = (file ≡ name)
+    × (IsPage (kind_of file) (number_of file) number bytes.value.b → ⊥)
 IsFileDamage name (Missing file) = file ≡ name
 IsFileDamage name (Size file size needed) = (file ≡ name) × (size ≢ needed)
 IsFileDamage name (Leaf file number offset len bytes) = ⊥

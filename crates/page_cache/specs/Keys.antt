@@ -35,7 +35,8 @@ KeepsNoMore old new = (e : PageKey × Box PageBytes Global) → Contains new e �
 
 -- it was kept or is this one
 abbrev pub KeepsOneMore : PageKey → Box PageBytes Global → Kept → Kept → Type 0
-KeepsOneMore key page old new = (e : PageKey × Box PageBytes Global) → Contains new e → Contains old e ⊎ (e ≡ (key, page))
+KeepsOneMore key page old new = (e : PageKey × Box PageBytes Global) → Contains new e → Contains old e
+    ⊎ (e ≡ (key, page))
 
 -- whether the key is of another segment
 abbrev pub is_of_other : ℕ → PageKey → Bool

@@ -24,7 +24,8 @@ pub struct PageCache {
 }
 
 impl PageCache {
-    ghost use Rattle.std.specs.Prelude.{◌≡◌, ◌≢◌, ◌≤◌, ◌+◌, ◌⊎◌, ℕ, List, [], IsTrue, IsOk, OnOk, OnErr, IfOk, IfSome, IfNone, OnSome};
+    ghost use Rattle.std.specs.Prelude.{◌≡◌, ◌≢◌, ◌≤◌, ◌+◌, ◌⊎◌, ℕ, List, [], IsTrue, IsOk, OnOk, OnErr, IfOk, IfSome};
+    ghost use Rattle.std.specs.Prelude.{IfNone, OnSome};
     ghost use Rattle.outer_io.specs.Counts.{RisesByOne};
     ghost use Rattle.outer_io.specs.Files.{Files, bytes_of};
     ghost use Rattle.outer_io.specs.declared.file_name.FileName.TheVariants.{Segment};
@@ -34,7 +35,8 @@ impl PageCache {
     ghost use Rattle.page_cache.specs.Causes.{HasPageCause, IsSteady};
     ghost use Rattle.page_cache.specs.Keys.{page_key, without};
     ghost use Rattle.page_cache.specs.Notes.{Fits};
-    ghost use Rattle.page_cache.specs.Cache.{Keeps, IsKept, KeepsFile, Agrees, room_of, order_of, of_others, IsUsed, KeepsOf, IsKeptOf};
+    ghost use Rattle.page_cache.specs.Cache.{Keeps, IsKept, KeepsFile, Agrees, room_of, order_of, of_others, IsUsed};
+    ghost use Rattle.page_cache.specs.Cache.{KeepsOf, IsKeptOf};
 
     /// A cache with room for so many pages, 1 to 65,536, that keeps none.
     #[tactic(auto, unfolding(crate::specs::Cache::Keeps, crate::specs::Cache::IsKept, crate::specs::Cache::KeepsFile, crate::specs::Cache::Agrees, crate::specs::Cache::room_of, crate::specs::Cache::order_of))]
@@ -68,7 +70,8 @@ impl PageCache {
         ensures cause { HasPageCause (F.faults folder.old) (F.faults folder.new) result }
         ensures steady { IsSteady (F.faults folder.old) (F.faults folder.new) result }
         ensures hit { IsKept self.old id number → IsOk result × (F.reads folder.new ≡ F.reads folder.old) }
-        ensures once { (IsKept self.old id number → ⊥) → OnOk result (RisesByOne (F.reads folder.old) (F.reads folder.new)) }
+        ensures once { (IsKept self.old id number → ⊥)
+            → OnOk result (RisesByOne (F.reads folder.old) (F.reads folder.new)) }
         ensures kept { OnOk result (IsKept self.new id number) }
         ensures order { OnOk result (IsUsed id number self.old self.new) }
         ensures refused { OnErr result (order_of self.new ≡ order_of self.old) }
@@ -79,7 +82,8 @@ impl PageCache {
         ensures agrees { IsTrue F.told → Agrees (F.files folder.old) self.old → Agrees (F.files folder.old) self.new }
         ensures shown { OnDamage result (IsPageDamage (Segment id) number) }
         ensures damage { IsTrue F.told → OnDamage result (IsPageDamageOf (F.files folder.old) number) }
-        ensures whole { IsTrue F.told → IsFilePage (Segment id) (bytes_of (F.files folder.old (Segment id))) number → NotDamaged result }
+        ensures whole { IsTrue F.told → IsFilePage (Segment id) (bytes_of (F.files folder.old (Segment id))) number
+            → NotDamaged result }
     {
         let key = PageKey { id, number };
         if touch(&mut self.pages, key) {
@@ -112,7 +116,8 @@ impl PageCache {
         ensures bytes { Keeps self.now id number result.0.bytes.now.b }
         // No other page is kept for that place.
         ensures only { (bytes : List ℕ) → Keeps self.now id number bytes → bytes ≡ result.0.bytes.now.b }
-        ensures file { (files : Files) → Agrees files self.now → IsPageOf files (Segment id) number result.0.bytes.now.b }
+        ensures file { (files : Files) → Agrees files self.now
+            → IsPageOf files (Segment id) number result.0.bytes.now.b }
         ensures noted { IsTrue result.1 → Fits note.now result.0.bytes.now.b }
     {
         let page = kept_page(&self.pages, PageKey { id, number });
@@ -138,7 +143,8 @@ impl PageCache {
         ensures some { IfSome result (λ p. KeepsOf self.old file.now number p.value.b) }
         ensures valid { IfSome result (λ p. IsPage (kind_of file.now) (number_of file.now) number p.value.b) }
         ensures gone { IsKeptOf self.new file.now number → ⊥ }
-        ensures order { OnSome result (order_of self.new ≡ without (page_key (number_of file.now) number) (order_of self.old)) }
+        ensures order { OnSome result
+            (order_of self.new ≡ without (page_key (number_of file.now) number) (order_of self.old)) }
         ensures refused { IfNone result (order_of self.new ≡ order_of self.old) }
         ensures stays { (i n : ℕ) (bytes : List ℕ) → Keeps self.old i n bytes
             → Keeps self.new i n bytes ⊎ ((file.now ≡ Segment i) × (number ≡ n)) }

@@ -23,10 +23,12 @@ pub struct FirstPage {
 }
 
 impl FirstPage {
-    ghost use Rattle.std.specs.Prelude.{◌≡◌, ◌≤◌, ◌+◌, ◌*◌, length, vec_len, IsTrue, IsOk, IfOk, OnOk, IfSome, IfNone, None, IsErrOf, ◌↔◌};
+    ghost use Rattle.std.specs.Prelude.{◌≡◌, ◌≤◌, ◌+◌, ◌*◌, length, vec_len, IsTrue, IsOk, IfOk, OnOk, IfSome, IfNone};
+    ghost use Rattle.std.specs.Prelude.{None, IsErrOf, ◌↔◌};
     ghost use Rattle.outer_io.specs.Files.{Files, bytes_of};
     ghost use Rattle.page_cache.specs.FilePages.{IsFilePage, ArePages, payloads_of};
-    ghost use Rattle.page_cache.specs.Evidence.{OnDamage, NotDamaged, SizeNeeds, SizeWithin, IsSizeDamage, IsFileDamage, IsFileDamageOf};
+    ghost use Rattle.page_cache.specs.Evidence.{OnDamage, NotDamaged, SizeNeeds, SizeWithin, IsSizeDamage};
+    ghost use Rattle.page_cache.specs.Evidence.{IsFileDamage, IsFileDamageOf};
     ghost use Rattle.page_cache.specs.Causes.{HasPageCause, IsSteady};
     ghost use Rattle.page_cache.specs.FirstPages.{first_name, first_payload, first_size, IsFirstPage};
     ghost use Rattle.page_cache.specs.declared.faults.PageFault.TheVariants as page;
@@ -52,7 +54,8 @@ impl FirstPage {
         ensures absent { IsTrue F.told → F.files folder.old name.now ≡ None → NotDamaged result }
         // a file that isn't there is not read
         ensures unread { IsTrue F.told → F.files folder.old name.now ≡ None → F.reads folder.new ≡ F.reads folder.old }
-        ensures whole { IsTrue F.told → IsFilePage name.now (bytes_of (F.files folder.old name.now)) 0 → NotDamaged result }
+        ensures whole { IsTrue F.told → IsFilePage name.now (bytes_of (F.files folder.old name.now)) 0
+            → NotDamaged result }
     {
         let Some(size) = folder.size(name)? else {
             return Ok(None);
@@ -89,7 +92,8 @@ impl FirstPage {
         ensures shown { OnDamage result (IsFileDamage name.now) }
         ensures needed { OnDamage result (SizeNeeds 4096) }
         ensures damage { IsTrue F.told → OnDamage result (IsFileDamageOf (F.files folder.old)) }
-        ensures whole { IsTrue F.told → IsFilePage name.now (bytes_of (F.files folder.old name.now)) 0 → NotDamaged result }
+        ensures whole { IsTrue F.told → IsFilePage name.now (bytes_of (F.files folder.old name.now)) 0
+            → NotDamaged result }
     {
         match FirstPage::find(alloc, folder, name)? {
             Some(first) => Ok(first),
@@ -149,12 +153,18 @@ impl FirstPage {
         ensures cause { HasPageCause (F.faults folder.old) (F.faults folder.new) result }
         ensures steady { IsSteady (F.faults folder.old) (F.faults folder.new) result }
         ensures len { IfOk result (λ v. vec_len v ≡ 4064 * pages) }
-        ensures payloads { IsTrue F.told → IsFirstPage (F.files folder.old) self.now → IfOk result (λ v. v.items ≡ payloads_of (bytes_of (F.files folder.old (first_name self.now))) 0 pages) }
-        ensures pages { IsTrue F.told → IsFirstPage (F.files folder.old) self.now → OnOk result (ArePages (first_name self.now) (bytes_of (F.files folder.old (first_name self.now))) 0 pages) }
+        ensures payloads { IsTrue F.told → IsFirstPage (F.files folder.old) self.now
+            → IfOk result
+            (λ v. v.items ≡ payloads_of (bytes_of (F.files folder.old (first_name self.now))) 0 pages) }
+        ensures pages { IsTrue F.told → IsFirstPage (F.files folder.old) self.now
+            → OnOk result
+            (ArePages (first_name self.now) (bytes_of (F.files folder.old (first_name self.now))) 0 pages) }
         ensures shown { OnDamage result (IsFileDamage (first_name self.now)) }
         ensures within { OnDamage result (SizeWithin (4096 * pages)) }
         ensures damage { IsTrue F.told → OnDamage result (IsFileDamageOf (F.files folder.old)) }
-        ensures whole { IsTrue F.told → ArePages (first_name self.now) (bytes_of (F.files folder.old (first_name self.now))) 1 pages → NotDamaged result }
+        ensures whole { IsTrue F.told
+            → ArePages (first_name self.now) (bytes_of (F.files folder.old (first_name self.now))) 1 pages
+            → NotDamaged result }
     {
         let mut out = Vec::with_capacity(alloc, pages as usize * PAYLOAD_LEN)?;
         out.extend_from_slice(self.payload())?;

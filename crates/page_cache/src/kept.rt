@@ -1,6 +1,7 @@
 //! The kept pages by themselves: a list of pages by their keys, the last used first.
 
-ghost use Rattle.std.specs.Prelude.{◌≡◌, ◌⊎◌, ◌≤◌, ◌<◌, ◌-◌, ◌++◌, ◌∷◌, [], cond, ℕ, List, length, map, take, filter, Contains, IsTrue, IfSome, IfNone, IfOk, OnOk, OnErr};
+ghost use Rattle.std.specs.Prelude.{◌≡◌, ◌⊎◌, ◌≤◌, ◌<◌, ◌-◌, ◌++◌, ◌∷◌, [], cond, ℕ, List, length, map, take, filter};
+ghost use Rattle.std.specs.Prelude.{Contains, IsTrue, IfSome, IfNone, IfOk, OnOk, OnErr};
 ghost use Rattle.std.specs.Bool.{OnTrue, OnFalse};
 ghost use Rattle.std.specs.Map.{keys_of};
 ghost use Rattle.std.specs.declared.boxed.Box.{Box};
@@ -8,7 +9,8 @@ ghost use Rattle.std.specs.declared.alloc.Global.{Global};
 ghost use Rattle.page_file.specs.declared.page.PageBytes.{PageBytes};
 ghost use Rattle.page_cache.specs.declared.key.PageKey.{PageKey};
 ghost use Rattle.page_cache.specs.Notes.{Fits};
-ghost use Rattle.page_cache.specs.Keys.{Kept, same_key, without, HasKey, KeepsIn, KeepsNoMore, KeepsOneMore, is_of_other};
+ghost use Rattle.page_cache.specs.Keys.{Kept, same_key, without, HasKey, KeepsIn, KeepsNoMore, KeepsOneMore};
+ghost use Rattle.page_cache.specs.Keys.{is_of_other};
 
 use crate::faults::Memory;
 use crate::kept_page::KeptPage;
@@ -37,7 +39,8 @@ pub(crate) fn keep(pages: &mut KeptPages, key: PageKey, page: Box<PageBytes>) ->
     requires { HasKey pages.old.entries key → ⊥ }
     ensures kept { OnOk result (Contains pages.new.entries (key, page)) }
     ensures one { KeepsOneMore key page pages.old.entries pages.new.entries }
-    ensures first { OnOk result (keys_of pages.new.entries ≡ key ∷ take (pages.old.cap - 1) (keys_of pages.old.entries)) }
+    ensures first { OnOk result
+        (keys_of pages.new.entries ≡ key ∷ take (pages.old.cap - 1) (keys_of pages.old.entries)) }
     ensures room { pages.new.cap ≡ pages.old.cap }
     ensures same { OnErr result (pages.new.entries ≡ pages.old.entries) }
 {
@@ -65,7 +68,8 @@ pub(crate) fn take_out(pages: &mut KeptPages, key: PageKey) -> Option<Box<PageBy
     ensures none { IfNone result (HasKey pages.old.entries key → ⊥) }
     ensures gone { HasKey pages.new.entries key → ⊥ }
     ensures fewer { KeepsNoMore pages.old.entries pages.new.entries }
-    ensures stays { (e : PageKey × Box PageBytes Global) → Contains pages.old.entries e → Contains pages.new.entries e ⊎ (e.0 ≡ key) }
+    ensures stays { (e : PageKey × Box PageBytes Global) → Contains pages.old.entries e → Contains pages.new.entries e
+        ⊎ (e.0 ≡ key) }
     ensures order { keys_of pages.new.entries ≡ without key (keys_of pages.old.entries) }
     ensures same { IfNone result (pages.new.entries ≡ pages.old.entries) }
     ensures room { pages.new.cap ≡ pages.old.cap }

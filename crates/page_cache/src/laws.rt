@@ -13,7 +13,8 @@ ghost use Rattle.page_cache.specs.Evidence.{IsPageOf};
 
 /// A cache agrees with other files too where those of which it keeps pages are the same.
 pub fn agreement_is_of_kept_files()
-    ensures { (old new : Files) (c : PageCache) → ((id : ℕ) → KeepsFile c id → new (Segment id) ≡ old (Segment id)) → Agrees old c → Agrees new c }
+    ensures { (old new : Files) (c : PageCache) → ((id : ℕ) → KeepsFile c id → new (Segment id) ≡ old (Segment id))
+        → Agrees old c → Agrees new c }
 {}
 
 /// What a cache keeps is the page of the file where it agrees.
@@ -24,22 +25,27 @@ pub fn pages_that_agree()
 
 /// Two bodies of one length that a file is are the same.
 pub fn bodies_of_one_length_are_equal()
-    ensures { (name : FileName) (bytes a b : List ℕ) → length a ≡ length b → IsBodyFile name bytes a → IsBodyFile name bytes b → a ≡ b }
+    ensures { (name : FileName) (bytes a b : List ℕ) → length a ≡ length b → IsBodyFile name bytes a
+        → IsBodyFile name bytes b → a ≡ b }
 {}
 
 /// The payloads of a run of pages are those of its parts.
 pub fn payloads_join()
-    ensures parts { (bytes : List ℕ) (from a b : ℕ) → payloads_of bytes from (a + b) ≡ payloads_of bytes from a ++ payloads_of bytes (from + a) b }
+    ensures parts { (bytes : List ℕ) (from a b : ℕ)
+        → payloads_of bytes from (a + b) ≡ payloads_of bytes from a ++ payloads_of bytes (from + a) b }
     ensures one { (bytes : List ℕ) (n : ℕ) → payloads_of bytes n 1 ≡ payload_of (page_at bytes n) }
 {}
 
 /// Pages that are put behind so many whole pages of a file are its pages from there on, and the pages before stay.
 pub fn pages_put_behind()
-    ensures pages { (name : FileName) (first : ℕ) (body old bytes : List ℕ) → length old ≡ 4096 * first → ArePagesOf name first body bytes
+    ensures pages { (name : FileName) (first : ℕ) (body old bytes : List ℕ) → length old ≡ 4096 * first
+        → ArePagesOf name first body bytes
         → ArePages name (old ++ bytes) first (first + pages_for (length body)) }
-    ensures payloads { (name : FileName) (first : ℕ) (body old bytes : List ℕ) → length old ≡ 4096 * first → ArePagesOf name first body bytes
+    ensures payloads { (name : FileName) (first : ℕ) (body old bytes : List ℕ) → length old ≡ 4096 * first
+        → ArePagesOf name first body bytes
         → payloads_of (old ++ bytes) first (pages_for (length body)) ≡ payloads_of bytes 0 (pages_for (length body)) }
-    ensures before { (name : FileName) (from end : ℕ) (old bytes : List ℕ) → ArePages name old from end → ArePages name (old ++ bytes) from end }
+    ensures before { (name : FileName) (from end : ℕ) (old bytes : List ℕ) → ArePages name old from end
+        → ArePages name (old ++ bytes) from end }
     ensures same { (name : FileName) (from count : ℕ) (old bytes : List ℕ) → ArePages name old from (from + count)
         → payloads_of (old ++ bytes) from count ≡ payloads_of old from count }
 {}

@@ -1,12 +1,14 @@
 //! Pages read from a file.
 
-ghost use Rattle.std.specs.Prelude.{◌≡◌, ◌≤◌, ◌<◌, ◌+◌, ◌*◌, ◌^◌, ◌++◌, ◌↔◌, length, vec_len, IsTrue, IfOk, OnOk, IfErr, OnErr};
+ghost use Rattle.std.specs.Prelude.{◌≡◌, ◌≤◌, ◌<◌, ◌+◌, ◌*◌, ◌^◌, ◌++◌, ◌↔◌, length, vec_len, IsTrue, IfOk, OnOk};
+ghost use Rattle.std.specs.Prelude.{IfErr, OnErr};
 ghost use Rattle.outer_io.specs.Counts.{RisesByOne};
 ghost use Rattle.outer_io.specs.Faults.{HasCause};
 ghost use Rattle.outer_io.specs.Files.{bytes_of};
 ghost use Rattle.page_file.specs.Page.{IsPage, payload_of};
 ghost use Rattle.page_cache.specs.FilePages.{kind_of, number_of, IsFilePage, ArePages, payloads_of};
-ghost use Rattle.page_cache.specs.Evidence.{OnDamage, NotDamaged, IsPageOf, seen_end, SizeWithin, IsPageDamage, IsPageDamageOf, IsFileDamage, IsFileDamageOf};
+ghost use Rattle.page_cache.specs.Evidence.{OnDamage, NotDamaged, IsPageOf, seen_end, SizeWithin, IsPageDamage};
+ghost use Rattle.page_cache.specs.Evidence.{IsPageDamageOf, IsFileDamage, IsFileDamageOf};
 ghost use Rattle.page_cache.specs.Causes.{HasPageCause, IsSteady};
 ghost use Rattle.page_cache.specs.declared.faults.PageFault.TheVariants as fault;
 ghost use Rattle.page_cache.specs.declared.faults.Damage.TheVariants as damage;
@@ -68,9 +70,13 @@ fn read_bytes<F: Pages>(
     ensures files { IsTrue F.told → F.files folder.new ≡ F.files folder.old }
     ensures reads { RisesByOne (F.reads folder.old) (F.reads folder.new) }
     ensures cause { HasCause (F.faults folder.old) (F.faults folder.new) result }
-    ensures whole { IsTrue F.told → IfOk result (λ count. 4096 ≤ count → IsPageOf (F.files folder.old) name.now number page.new.b) }
-    ensures end { IsTrue F.told → IfOk result (λ count. count < 4096 → 4096 * number + count ≡ seen_end (F.files folder.old) name.now number) }
-    ensures none { IsTrue F.told → IfOk result (λ count. count < 4096 → IsFilePage name.now (bytes_of (F.files folder.old name.now)) number → ⊥) }
+    ensures whole { IsTrue F.told
+        → IfOk result (λ count. 4096 ≤ count → IsPageOf (F.files folder.old) name.now number page.new.b) }
+    ensures end { IsTrue F.told
+        → IfOk result (λ count. count < 4096 → 4096 * number + count ≡ seen_end (F.files folder.old) name.now number) }
+    ensures none { IsTrue F.told
+        → IfOk result
+        (λ count. count < 4096 → IsFilePage name.now (bytes_of (F.files folder.old name.now)) number → ⊥) }
 {
     let count = folder.read_at(name, PAGE_LEN as u64 * u64::from(number), &mut page.b)?;
     Ok(count)
@@ -92,7 +98,8 @@ pub(crate) fn read_over<F: Pages>(
     ensures bytes { IsTrue F.told → IfOk result (λ p. IsPageOf (F.files folder.old) name.now number p.value.b) }
     ensures shown { OnDamage result (IsPageDamage name.now number) }
     ensures damage { IsTrue F.told → OnDamage result (IsPageDamageOf (F.files folder.old) number) }
-    ensures whole { IsTrue F.told → IsFilePage name.now (bytes_of (F.files folder.old name.now)) number → NotDamaged result }
+    ensures whole { IsTrue F.told → IsFilePage name.now (bytes_of (F.files folder.old name.now)) number
+        → NotDamaged result }
 {
     let count = read_bytes(folder, name, number, &mut page)?;
     if count < PAGE_LEN {
@@ -122,7 +129,8 @@ pub(crate) fn read_page<F: Pages>(
     ensures bytes { IsTrue F.told → IfOk result (λ p. IsPageOf (F.files folder.old) name.now number p.value.b) }
     ensures shown { OnDamage result (IsPageDamage name.now number) }
     ensures damage { IsTrue F.told → OnDamage result (IsPageDamageOf (F.files folder.old) number) }
-    ensures whole { IsTrue F.told → IsFilePage name.now (bytes_of (F.files folder.old name.now)) number → NotDamaged result }
+    ensures whole { IsTrue F.told → IsFilePage name.now (bytes_of (F.files folder.old name.now)) number
+        → NotDamaged result }
 {
     let page = blank_page(alloc)?;
     read_over(folder, name, number, page)
@@ -149,13 +157,17 @@ pub(crate) fn append_payloads<F: Pages>(
     ensures reads { F.reads folder.new ≤ F.reads folder.old + count }
     ensures cause { HasPageCause (F.faults folder.old) (F.faults folder.new) result }
     ensures steady { IsSteady (F.faults folder.old) (F.faults folder.new) result }
-    ensures payloads { IsTrue F.told → OnOk result (out.new.items ≡ out.old.items ++ payloads_of (bytes_of (F.files folder.old name.now)) 1 count) }
+    ensures payloads { IsTrue F.told
+        → OnOk result
+        (out.new.items ≡ out.old.items ++ payloads_of (bytes_of (F.files folder.old name.now)) 1 count) }
     ensures len { OnOk result (vec_len out.new ≡ vec_len out.old + 4064 * count) }
-    ensures pages { IsTrue F.told → OnOk result (ArePages name.now (bytes_of (F.files folder.old name.now)) 1 (1 + count)) }
+    ensures pages { IsTrue F.told
+        → OnOk result (ArePages name.now (bytes_of (F.files folder.old name.now)) 1 (1 + count)) }
     ensures shown { OnDamage result (IsFileDamage name.now) }
     ensures within { OnDamage result (SizeWithin (4096 * (1 + count))) }
     ensures damage { IsTrue F.told → OnDamage result (IsFileDamageOf (F.files folder.old)) }
-    ensures whole { IsTrue F.told → ArePages name.now (bytes_of (F.files folder.old name.now)) 1 (1 + count) → NotDamaged result }
+    ensures whole { IsTrue F.told → ArePages name.now (bytes_of (F.files folder.old name.now)) 1 (1 + count)
+        → NotDamaged result }
 {
     let mut page = blank_page(alloc)?;
     'pages: for i in 0..count {
@@ -177,13 +189,16 @@ pub fn read_payloads<F: Pages>(
     ensures reads { F.reads folder.new ≤ F.reads folder.old + count }
     ensures cause { HasPageCause (F.faults folder.old) (F.faults folder.new) result }
     ensures steady { IsSteady (F.faults folder.old) (F.faults folder.new) result }
-    ensures payloads { IsTrue F.told → IfOk result (λ v. v.items ≡ payloads_of (bytes_of (F.files folder.old name.now)) 1 count) }
+    ensures payloads { IsTrue F.told
+        → IfOk result (λ v. v.items ≡ payloads_of (bytes_of (F.files folder.old name.now)) 1 count) }
     ensures len { IfOk result (λ v. vec_len v ≡ 4064 * count) }
-    ensures pages { IsTrue F.told → OnOk result (ArePages name.now (bytes_of (F.files folder.old name.now)) 1 (1 + count)) }
+    ensures pages { IsTrue F.told
+        → OnOk result (ArePages name.now (bytes_of (F.files folder.old name.now)) 1 (1 + count)) }
     ensures shown { OnDamage result (IsFileDamage name.now) }
     ensures within { OnDamage result (SizeWithin (4096 * (1 + count))) }
     ensures damage { IsTrue F.told → OnDamage result (IsFileDamageOf (F.files folder.old)) }
-    ensures whole { IsTrue F.told → ArePages name.now (bytes_of (F.files folder.old name.now)) 1 (1 + count) → NotDamaged result }
+    ensures whole { IsTrue F.told → ArePages name.now (bytes_of (F.files folder.old name.now)) 1 (1 + count)
+        → NotDamaged result }
 {
     let mut out = Vec::with_capacity(alloc, count as usize * PAYLOAD_LEN)?;
     append_payloads(alloc, folder, name, count, &mut out)?;

@@ -5,7 +5,8 @@ ghost use Rattle.page_file.specs.Page.{IsPage, payload_of};
 
 /// A page has 4,064 bytes of payload.
 pub fn payload_length()
-    ensures { (kind file number : ℕ) (bytes : List ℕ) → IsPage kind file number bytes → length (payload_of bytes) ≡ 4064 }
+    ensures { (kind file number : ℕ) (bytes : List ℕ) → IsPage kind file number bytes
+        → length (payload_of bytes) ≡ 4064 }
 {}
 
 /// There is one page with a payload for a place.

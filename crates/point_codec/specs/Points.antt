@@ -1,5 +1,6 @@
 -- Points, boxes and distances on plain lists of whole numbers: a point is the list of its coordinates.
-use Rattle.std.specs.Prelude.{ℕ, ◌+◌, ◌*◌, ◌≤◌, length, Bool, true, false, ◌&&◌, List, [], ◌∷◌, ℤ, ◌-ℤ◌, int_le, unsigned_abs}
+use Rattle.std.specs.Prelude.{ℕ, ◌+◌, ◌*◌, ◌≤◌, length, Bool, true, false, ◌&&◌, List, [], ◌∷◌, ℤ, ◌-ℤ◌, int_le}
+use Rattle.std.specs.Prelude.{unsigned_abs}
 use Rattle.std.specs.List.Sorted.{IsStrictlySortedBy}
 use Rattle.point_codec.specs.Order.{in_order}
 use Rattle.std.specs.Ordering.{int_cmp}
@@ -22,7 +23,8 @@ pub record Item : Type 0 where
   pub doc : ℕ
   pub at : List ℤ
 
--- lo[i] ≤ p[i] ≤ hi[i] in each dimension i (the closed box of Lucene's points); where some lo[i] is above hi[i] no point is
+-- lo[i] ≤ p[i] ≤ hi[i] in each dimension i (the closed box of Lucene's points); where some lo[i] is above hi[i] no
+-- point is
 abbrev pub in_box : Region → List ℤ → Bool
 in_box r p = all_le r.lo p && all_le p r.hi
 
@@ -39,7 +41,8 @@ dist2 (x ∷ xs) [] = 0
 abbrev pub ordered : List (List ℤ) → List (List ℤ)
 ordered points = in_order (slice_cmp int_cmp) points
 
--- the points of a document: 1 to 16 different ones, ascending (Lucene's several values of one field; this project's limit)
+-- the points of a document: 1 to 16 different ones, ascending (Lucene's several values of one field; this project's
+-- limit)
 pub record ArePoints (points : List (List ℤ)) : Type 0 where
   pub some : 1 ≤ length points
   pub few : length points ≤ 16

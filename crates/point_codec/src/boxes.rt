@@ -1,6 +1,8 @@
 //! Cells: the closed boxes of a tree's nodes.
 
-ghost use Rattle.std.specs.Prelude.{◌≡◌, ℕ, ◌<◌, ◌≤◌, ◌≤ℤ◌, ◌↔◌, length, List, ℤ, IsTrue, true, false, Bool, ◌&&◌, ◌||◌, MatchOption, IfSome, IsSome, map, slice_index_or, slice_set, pos, int_le, ◌-ℤ◌};
+ghost use Rattle.std.specs.Prelude.{◌≡◌, ℕ, ◌<◌, ◌≤◌, ◌≤ℤ◌, ◌↔◌, length, List, ℤ, IsTrue, true, false, Bool, ◌&&◌};
+ghost use Rattle.std.specs.Prelude.{◌||◌, MatchOption, IfSome, IsSome, map, slice_index_or, slice_set, pos, int_le};
+ghost use Rattle.std.specs.Prelude.{◌-ℤ◌};
 ghost use Rattle.std.specs.Int.{int_max, int_min};
 ghost use Rattle.point_codec.specs.Points.{Region, all_le, in_box, dist2, square};
 ghost use Rattle.point_codec.specs.Cells.{by_dimension};
@@ -23,7 +25,8 @@ impl<const D: usize> Cell<D> {
 
     /// The cell from `lo` to `hi`. None where some coordinate of `lo` is greater than that of `hi`.
     pub fn new(lo: Point<D>, hi: Point<D>) -> Option<Cell<D>>
-        ensures cases { MatchOption result (all_le lo.entry.c hi.entry.c ≡ false) (λ cell. region_of cell ≡ record { lo = lo.entry.c; hi = hi.entry.c }) }
+        ensures cases { MatchOption result (all_le lo.entry.c hi.entry.c ≡ false)
+            (λ cell. region_of cell ≡ record { lo = lo.entry.c; hi = hi.entry.c }) }
         ensures ordered { IfSome result (λ cell. IsTrue (all_le cell.lo.c cell.hi.c)) }
     {
         if all_le(&lo.c, &hi.c) {
@@ -79,11 +82,18 @@ impl<const D: usize> Cell<D> {
         ensures left { region_of result.0 ≡ left_of (region_of self.now) dim at }
         ensures right { region_of result.1 ≡ right_of (region_of self.now) dim at }
         // the points of the cell that are at most at the value, and those that are at least at it
-        ensures keeps_left { (p : List ℤ) → length p ≡ D → in_box (region_of result.0) p ≡ (in_box (region_of self.now) p && int_le (slice_index_or p dim (pos 0)) at) }
-        ensures keeps_right { (p : List ℤ) → length p ≡ D → in_box (region_of result.1) p ≡ (in_box (region_of self.now) p && int_le at (slice_index_or p dim (pos 0))) }
-        ensures together { (p : List ℤ) → length p ≡ D → in_box (region_of self.now) p ≡ (in_box (region_of result.0) p || in_box (region_of result.1) p) }
+        ensures keeps_left { (p : List ℤ) → length p ≡ D
+            → in_box (region_of result.0) p ≡
+            (in_box (region_of self.now) p && int_le (slice_index_or p dim (pos 0)) at) }
+        ensures keeps_right { (p : List ℤ) → length p ≡ D
+            → in_box (region_of result.1) p ≡
+            (in_box (region_of self.now) p && int_le at (slice_index_or p dim (pos 0))) }
+        ensures together { (p : List ℤ) → length p ≡ D
+            → in_box (region_of self.now) p ≡ (in_box (region_of result.0) p || in_box (region_of result.1) p) }
         // those at the value are in both
-        ensures shared { (p : List ℤ) → length p ≡ D → slice_index_or p dim (pos 0) ≡ at → (in_box (region_of result.0) p ≡ in_box (region_of self.now) p) × (in_box (region_of result.1) p ≡ in_box (region_of self.now) p) }
+        ensures shared { (p : List ℤ) → length p ≡ D → slice_index_or p dim (pos 0) ≡ at
+            → (in_box (region_of result.0) p ≡ in_box (region_of self.now) p)
+            × (in_box (region_of result.1) p ≡ in_box (region_of self.now) p) }
     {
         let hi = moved_to(&self.hi, dim, at);
         let lo = moved_to(&self.lo, dim, at);

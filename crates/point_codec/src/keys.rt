@@ -26,7 +26,8 @@ pub fn from_sortable(b: [u8; 4]) -> i32
 /// The order of two keys by their bytes, which is that of their numbers.
 pub fn key_order(a: &[u8; 4], b: &[u8; 4]) -> Ordering
     ensures bytes { result ≡ slice_cmp nat_cmp a.now b.now }
-    ensures numbers { (x y : ℤ) → FitsSigned w32 x → FitsSigned w32 y → a.now ≡ key x → b.now ≡ key y → result ≡ int_cmp x y }
+    ensures numbers { (x y : ℤ) → FitsSigned w32 x → FitsSigned w32 y → a.now ≡ key x → b.now ≡ key y
+        → result ≡ int_cmp x y }
 {
     a.cmp(b)
 }

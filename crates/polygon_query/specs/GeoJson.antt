@@ -1,6 +1,8 @@
--- Polygons in JSON: the Polygon objects of RFC 7946 (3.1.6) whose positions are pairs of whole numbers. A text is read by
--- serde_json's own definition, by which the last of members with one name counts.
-use Rattle.std.specs.Prelude.{ℕ, ◌+◌, ◌-◌, ◌^◌, ℤ, pos, negsuc, int_le, Bool, false, ◌&&◌, List, [], ◌∷◌, length, sum_by, slice_index_or, codes, nat_lt, if◌then◌else◌, Option, Some, None, unwrap_or, is_some, option_map, option_and_then, Result, Ok, Err}
+-- Polygons in JSON: the Polygon objects of RFC 7946 (3.1.6) whose positions are pairs of whole numbers. A text is
+-- read by serde_json's own definition, by which the last of members with one name counts.
+use Rattle.std.specs.Prelude.{ℕ, ◌+◌, ◌-◌, ◌^◌, ℤ, pos, negsuc, int_le, Bool, false, ◌&&◌, List, [], ◌∷◌, length}
+use Rattle.std.specs.Prelude.{sum_by, slice_index_or, codes, nat_lt, if◌then◌else◌, Option, Some, None, unwrap_or}
+use Rattle.std.specs.Prelude.{is_some, option_map, option_and_then, Result, Ok, Err}
 use Rattle.std.specs.Option.{option_map_or, ok_or}
 use Rattle.std.specs.List.{list_all}
 use Rattle.std.specs.Ordering.{int_eq}
@@ -10,7 +12,8 @@ use Rattle.serde_json.specs.Data.{Data, null, Items, no_items, item}
 use Rattle.serde_json.specs.Read.{read}
 use Rattle.serde_json.specs.Find.{get, as_array, as_str, as_number, as_i64}
 use Rattle.polygon_query.specs.declared.geo_json.GeoFault.{GeoFault}
-use Rattle.polygon_query.specs.declared.geo_json.GeoFault.TheVariants.{NotJson, NotPolygon, TooMany, NotWhole, TooFew, NotClosed}
+use Rattle.polygon_query.specs.declared.geo_json.GeoFault.TheVariants.{NotJson, NotPolygon, TooMany, NotWhole, TooFew}
+use Rattle.polygon_query.specs.declared.geo_json.GeoFault.TheVariants.{NotClosed}
 
 -- the value of a member, null where an object has none of that name
 abbrev pub member_of : List ℕ → Data → Data
@@ -58,7 +61,9 @@ and_then f (Err e) = Err e
 -- the positions of a ring from that number on, or the first that is none
 abbrev pub positions : ℕ → ℕ → List Data → Result (List (List ℤ)) GeoFault
 positions ring number [] = Ok []
-positions ring number (d ∷ ds) = and_then (λ p. and_then (λ ps. Ok (p ∷ ps)) (positions ring (number + 1) ds)) (ok_or (position d) (NotWhole ring number))
+positions ring number (d ∷ ds) =
+    and_then (λ p. and_then (λ ps. Ok (p ∷ ps)) (positions ring (number + 1) ds))
+    (ok_or (position d) (NotWhole ring number))
 
 -- the last position is the first again
 abbrev pub is_closed : List (List ℤ) → Bool
@@ -66,7 +71,8 @@ is_closed ps = pointwise int_eq (slice_index_or ps 0 []) (slice_index_or ps (len
 
 -- four or more positions, the last the first again (RFC 7946, 3.1.6)
 abbrev pub linear : ℕ → List (List ℤ) → Result (List (List ℤ)) GeoFault
-linear ring ps = if nat_lt (length ps) 4 then Err (TooFew ring) else (if is_closed ps then Ok ps else Err (NotClosed ring))
+linear ring ps =
+    if nat_lt (length ps) 4 then Err (TooFew ring) else (if is_closed ps then Ok ps else Err (NotClosed ring))
 
 abbrev pub ring_of : ℕ → List Data → Result (List (List ℤ)) GeoFault
 ring_of ring ds = and_then (linear ring) (positions ring 0 ds)
@@ -74,12 +80,14 @@ ring_of ring ds = and_then (linear ring) (positions ring 0 ds)
 -- the rings from that number on, or the fault of the first that has one
 abbrev pub rings_of : ℕ → List Data → Result (List (List (List ℤ))) GeoFault
 rings_of ring [] = Ok []
-rings_of ring (d ∷ ds) = and_then (λ r. and_then (λ rs. Ok (r ∷ rs)) (rings_of (ring + 1) ds)) (ring_of ring (elements d))
+rings_of ring (d ∷ ds) =
+    and_then (λ r. and_then (λ rs. Ok (r ∷ rs)) (rings_of (ring + 1) ds)) (ring_of ring (elements d))
 
 abbrev pub count_positions : List Data → ℕ
 count_positions rings = sum_by (λ ring. length (elements ring)) rings
 
--- each of the coordinates is an array; there are at most 65,536 positions in all (a limit of this index); then ring by ring
+-- each of the coordinates is an array; there are at most 65,536 positions in all (a limit of this index); then ring by
+-- ring
 abbrev pub polygon_in : Data → Result (List (List (List ℤ))) GeoFault
 polygon_in d =
     if names_polygon d && is_array (member_of (codes "coordinates") d) && list_all is_array (coordinates d)

@@ -1,10 +1,13 @@
 //! Polygons from GeoJSON (RFC 7946, 3.1.6).
 
-ghost use Rattle.std.specs.Prelude.{◌≡◌, ◌-◌, ◌^◌, ◌≤◌, min, length, map, true, false, Ok, Err, IfOk, IfErr, MatchOption, option_map, codes};
+ghost use Rattle.std.specs.Prelude.{◌≡◌, ◌-◌, ◌^◌, ◌≤◌, min, length, map, true, false, Ok, Err, IfOk, IfErr};
+ghost use Rattle.std.specs.Prelude.{MatchOption, option_map, codes};
 ghost use Rattle.std.specs.List.{list_all};
 ghost use Rattle.point_codec.specs.Seen.{coordinates_of};
 ghost use Rattle.serde_json.specs.View.{view};
-ghost use Rattle.polygon_query.specs.GeoJson.{elements, is_array, member_of, names_polygon, coordinates, count_positions, coordinate, position, positions, ring_of, rings_of, polygon_in, polygon_of};
+ghost use Rattle.polygon_query.specs.GeoJson.{elements, is_array, member_of, names_polygon, coordinates};
+ghost use Rattle.polygon_query.specs.GeoJson.{count_positions, coordinate, position, positions, ring_of, rings_of};
+ghost use Rattle.polygon_query.specs.GeoJson.{polygon_in, polygon_of};
 ghost use Rattle.polygon_query.specs.Refusals.{IsRefusal};
 
 use point_codec::Point;
@@ -12,7 +15,8 @@ use ring_parity::{Ring, Rings};
 use serde_json::Value;
 use std::alloc::{AllocError, AllocFailed, Global};
 
-/// Why a text is no polygon, in the order in which the faults are looked for: those of the whole text, then ring by ring.
+/// Why a text is no polygon, in the order in which the faults are looked for: those of the whole text, then ring by
+/// ring.
 /// Rings and their positions count from 0.
 #[derive(Clone, Copy, PartialEq, Eq, Debug)]
 pub enum GeoFault {
@@ -114,7 +118,8 @@ fn names_polygon(value: &Value) -> bool
 /// The coordinates of a polygon. None where they are no array.
 fn coordinates(value: &Value) -> Option<&[Value]>
     ensures { MatchOption result (is_array (member_of (codes "coordinates") (view value.now)) ≡ false)
-        (λ rings. (is_array (member_of (codes "coordinates") (view value.now)) ≡ true) × (map view rings.now ≡ coordinates (view value.now))) }
+        (λ rings. (is_array (member_of (codes "coordinates") (view value.now)) ≡ true)
+        × (map view rings.now ≡ coordinates (view value.now))) }
 {
     match value.get("coordinates") {
         Some(member) => array_in(member),
@@ -145,7 +150,8 @@ fn elements(value: &Value) -> &[Value]
     }
 }
 
-/// The number of positions of all rings, or the greatest number of 64 bits where that is less. None where one is no array.
+/// The number of positions of all rings, or the greatest number of 64 bits where that is less. None where one is no
+/// array.
 fn count_positions(rings: &[Value]) -> Option<u64>
     ensures { MatchOption result (list_all is_array (map view rings.now) ≡ false)
         (λ n. (list_all is_array (map view rings.now) ≡ true)

@@ -84,8 +84,8 @@ impl<const D: usize> Shape<D> for PolygonShape {
     }
 }
 
-/// How the cell lies to the polygon of these edges. A cell that no edge meets has all its points in the polygon or none,
-/// so that its least corner tells which.
+/// How the cell lies to the polygon of these edges. A cell that no edge meets has all its points in the polygon or
+/// none, so that its least corner tells which.
 fn relation_of(edges: &mut Locator, c: &Cell<2>) -> Relation
     ensures told { RelatesTo (has 2 edges.old) (crosses 2 edges.old) (region_of c.now) result }
     ensures same { edges.new ≡ edges.old }

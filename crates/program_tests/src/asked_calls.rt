@@ -1,5 +1,5 @@
-//! How often the folder is asked in a run of queries: for the sizes and pages of the commit, the segment's head and index and its live
-//! numbers, and for leaf pages only where a query takes a leaf, once each.
+//! How often the folder is asked in a run of queries: for the sizes and pages of the commit, the segment's head and
+//! index and its live numbers, and for leaf pages only where a query takes a leaf, once each.
 
 use crate::asserts::same_at;
 use crate::runs::{empty_folder, outcome, said};

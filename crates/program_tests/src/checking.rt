@@ -57,7 +57,8 @@ const LIVE: FileName = FileName::Live {
     generation: 1,
 };
 
-/// A file, the place of a byte of it that is changed (behind its end the file is cut by a byte instead), and what is said then.
+/// A file, the place of a byte of it that is changed (behind its end the file is cut by a byte instead), and what is
+/// said then.
 const CHANGED: [(FileName, usize, &str); 6] = [
     (SEGMENT, 0, "damaged: seg-0000000000000000.bkd page 0\n"),
     (SEGMENT, 5_000, "damaged: seg-0000000000000000.bkd page 1\n"),

@@ -24,8 +24,8 @@ fn failing(alloc: Global, folder: &mut MemFolder, stops: bool, call: u64) -> Res
     Ok(())
 }
 
-/// A command on what a script leaves, its input, and how the folder may answer a query for all documents afterwards: as before, or as
-/// the command leaves it.
+/// A command on what a script leaves, its input, and how the folder may answer a query for all documents afterwards:
+/// as before, or as the command leaves it.
 struct Row {
     script: &'static str,
     words: &'static [&'static str],
@@ -82,8 +82,8 @@ const CHECKED: Row = Row {
 
 const ROWS: [&Row; 5] = [&FIRST_LOAD, &SECOND_LOAD, &GENERATED, &EXPLAINED, &CHECKED];
 
-/// Each call on the folder fails in turn, or the program stops before it. Nothing of a command that is done at once goes out then, and of
-/// queries what is told of the first ones.
+/// Each call on the folder fails in turn, or the program stops before it. Nothing of a command that is done at once
+/// goes out then, and of queries what is told of the first ones.
 fn fails_in_turn<R: Threads + Sync + Abort>(rt: &R, alloc: Global, row: &Row) -> Result<(), Fail> {
     for stops in [false, true] {
         for call in 0..64 {

@@ -105,7 +105,8 @@ fn each_line_has_its_answer(rt: HostRuntime) -> Result<(), Fail> {
     check_rows(&rt, rt.alloc(), &mut folder, LINES)
 }
 
-/// The second file of a commit fails, and no name is written again: the next one has live numbers of the next generation.
+/// The second file of a commit fails, and no name is written again: the next one has live numbers of the next
+/// generation.
 const SAVES: &[Row] = &[
     (&[], "add 0 0", "doc 0\n", DONE),
     (&[], "flush", "ok\n", DONE),

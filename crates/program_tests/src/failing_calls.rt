@@ -1,4 +1,5 @@
-//! A script that commits twice, with each call on the folder or the output failing in turn, and a stop before each call.
+//! A script that commits twice, with each call on the folder or the output failing in turn, and a stop before each
+//! call.
 
 use crate::asserts::{holds, holds_at, same};
 use crate::runs::{empty_folder, faulty, outcome};
@@ -27,7 +28,8 @@ const ANSWERS: [&str; 10] = [
     "doc 3\n",
 ];
 
-/// A query for all documents, and its answers where nothing is stored, and behind the line `commit`, the line `reopen` and the end.
+/// A query for all documents, and its answers where nothing is stored, and behind the line `commit`, the line `reopen`
+/// and the end.
 const LOOK: &[u8] = b"box 0 9\n";
 
 const NOTHING: &str = "line 1: no index\n";
@@ -94,8 +96,8 @@ fn is_allowed(done: Option<usize>, look: &str) -> bool {
     }
 }
 
-/// Runs the script over a folder where these calls fail, and none from a number on is done. How many lines were answered; None
-/// where all was done.
+/// Runs the script over a folder where these calls fail, and none from a number on is done. How many lines were
+/// answered; None where all was done.
 fn run_failing<R: Threads + Sync + Abort>(
     rt: &R,
     alloc: Global,

@@ -186,8 +186,9 @@ const STORING: &[&str] = &[
 /// The lines that commit, where `create` has place 0 and the end the last.
 const COMMITS: [usize; 4] = [3, 7, 10, 12];
 
-/// Whether a run over a folder where this call fails, or where the program stops before it, comes to that call. What went out are the
-/// answers of whole lines then, and the folder answers as the lines that they are of have stored, or as the commit in flight would.
+/// Whether a run over a folder where this call fails, or where the program stops before it, comes to that call. What
+/// went out are the answers of whole lines then, and the folder answers as the lines that they are of have stored, or
+/// as the commit in flight would.
 fn comes_to<R: Threads + Sync + Abort>(
     rt: &R,
     alloc: Global,
@@ -268,8 +269,8 @@ fn last_commit(done: usize) -> usize {
     last
 }
 
-/// Whether a folder may answer so after these answers of `STORING`: as the last line that commits and was answered has stored it,
-/// or as the next line does, where that commits.
+/// Whether a folder may answer so after these answers of `STORING`: as the last line that commits and was answered
+/// has stored it, or as the next line does, where that commits.
 fn is_allowed(alloc: Global, answers: &[u8], look: &[u8]) -> Result<bool, Fail> {
     let done = lines_of(answers);
     if looked(alloc, last_commit(done))?.as_slice() == look {

@@ -23,8 +23,8 @@ enum Before {
     Files(&'static [File]),
 }
 
-/// A script over a folder, what it answers, and how many of its lines are refused; then a file, and what stands in it behind so many bytes,
-/// where it is there at all.
+/// A script over a folder, what it answers, and how many of its lines are refused; then a file, and what stands in it
+/// behind so many bytes, where it is there at all.
 struct Row {
     before: Before,
     script: &'static str,
@@ -41,14 +41,15 @@ const FIVE: &str = "create 1 leaf 2\nadd 5\nadd 7\nadd 7\nadd 7\nadd 7\nflush\nb
 
 const FIVE_ANSWERS: &str = "ok\ndoc 0\ndoc 1\ndoc 2\ndoc 3\ndoc 4\nok\nhits 4\n1\n2\n3\n4\n";
 
-/// A commit of two dimensions without segments in the older layout, which has no number of points: all numbers are given.
+/// A commit of two dimensions without segments in the older layout, which has no number of points: all numbers are
+/// given.
 const OLD_FULL: [u8; 25] = *b"BKDPCOM1\x02\x01\x4d\x01\0\0\0\0\0\0\0\0\0\0\0\0\0";
 
 /// A commit of one document, where one point is left.
 const NEARLY_FULL: [u8; 29] = *b"BKDPCOM2\x02\x01\x4d\0\0\0\x01\0\xff\xff\xff\0\0\0\0\0\0\0\0\0\0";
 
-/// The commit of one document of two points: leaves of 333, next number 1, given 2, next segment 1; segment 0 of generation 1 with two
-/// entries and one live number.
+/// The commit of one document of two points: leaves of 333, next number 1, given 2, next segment 1; segment 0 of
+/// generation 1 with two entries and one live number.
 const TWO_POINTS: [u8; 53] =
     *b"BKDPCOM2\x02\x01\x4d\0\0\0\x01\0\0\0\x02\0\0\0\0\0\0\0\x01\0\x01\0\0\0\0\0\0\0\0\0\0\0\0\0\0\0\x01\0\0\0\x02\0\0\0\x01";
 
@@ -58,7 +59,8 @@ const FIVE_INDEX: [u8; 44] = [
     9, 0x80, 0, 0, 7, 0x80, 0, 0, 7, 9, 0x80, 0, 0, 7, 0x80, 0, 0, 7,
 ];
 
-/// The same in the oldest form, a table: the root cell; the inner nodes' dimensions and values; the leaves' pages, offsets and lengths.
+/// The same in the oldest form, a table: the root cell; the inner nodes' dimensions and values; the leaves' pages,
+/// offsets and lengths.
 const FIVE_TABLE: [u8; 42] = [
     0x80, 0, 0, 5, 0x80, 0, 0, 7, 0, 0x80, 0, 0, 7, 0, 0x80, 0, 0, 7, 0, 0, 0, 0, 0, 0, 0, 12, 0,
     0, 0, 0, 0, 12, 0, 9, 0, 0, 0, 0, 0, 21, 0, 9,
@@ -79,7 +81,8 @@ const NEW_FRONT: [u8; 10] = *b"BKDPSEG2\x01\x03";
 const FIVE_LIVE: [u8; 37] =
     *b"BKDPLIV1\0\0\0\0\0\0\0\0\0\0\0\0\0\0\0\x01\0\0\0\0\0\0\0\x05\0\0\0\x05\x1f";
 
-/// Their commit: leaves of 2, next number 5, given 5, next segment 1; segment 0 of generation 1 with five entries, all live.
+/// Their commit: leaves of 2, next number 5, given 5, next segment 1; segment 0 of generation 1 with five entries, all
+/// live.
 const FIVE_COMMIT: [u8; 53] =
     *b"BKDPCOM2\x01\0\x02\0\0\0\x05\0\0\0\x05\0\0\0\0\0\0\0\x01\0\x01\0\0\0\0\0\0\0\0\0\0\0\0\0\0\0\x01\0\0\0\x05\0\0\0\x05";
 

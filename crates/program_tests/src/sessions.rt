@@ -1,5 +1,5 @@
-//! Sessions: the rows of `run` over sources that give few bytes at a time, an answer before the next line, and what a fault of the
-//! source leaves.
+//! Sessions: the rows of `run` over sources that give few bytes at a time, an answer before the next line, and what a
+//! fault of the source leaves.
 
 ghost use Rattle.std.specs.Prelude.{[], false};
 ghost use Rattle.outer_io.specs.MemSink.{sink_faults};

@@ -5,7 +5,8 @@ use Rattle.std.specs.List.{list_all}
 use Rattle.std.specs.Ordering.{int_eq}
 use Rattle.point_codec.specs.Points.{Region}
 
--- an edge, the straight line from one position of a ring to the next (RFC 7946, 3.1.1 and 3.1.6), as the pair of its ends
+-- an edge, the straight line from one position of a ring to the next (RFC 7946, 3.1.1 and 3.1.6), as the pair of its
+-- ends
 abbrev pub Ends : Type 0
 Ends = List ℤ × List ℤ
 
@@ -33,7 +34,8 @@ are_beyond a b lo hi = int_lt a lo && int_lt b lo || int_lt hi a && int_lt hi b
 -- the bounding box of an edge and the cell have no common point
 abbrev pub is_disjoint : Ends → Region → Bool
 is_disjoint e cell =
-    are_beyond (x_of e.0) (x_of e.1) (x_of cell.lo) (x_of cell.hi) || are_beyond (y_of e.0) (y_of e.1) (y_of cell.lo) (y_of cell.hi)
+    are_beyond (x_of e.0) (x_of e.1) (x_of cell.lo) (x_of cell.hi) || are_beyond (y_of e.0) (y_of e.1) (y_of cell.lo)
+    (y_of cell.hi)
 
 -- p is on the edge: in one line with its ends, and in its bounding box
 unfoldable pub on : Ends → List ℤ → Bool
@@ -42,16 +44,19 @@ on e p = int_eq (side e p) (pos 0) && not (is_disjoint e (record { lo = p; hi = 
 abbrev pub is_above : List ℤ → List ℤ → Bool
 is_above a p = int_lt (y_of p) (y_of a)
 
--- the even-odd rule counts an edge that crosses the ray from p to the east: exactly one end is above p, and p is left of
--- the edge where it rises and right of it where it falls
+-- the even-odd rule counts an edge that crosses the ray from p to the east: exactly one end is above p, and p is left
+-- of the edge where it rises and right of it where it falls
 unfoldable pub counts : Ends → List ℤ → Bool
-counts e p = not (is_above e.0 p) && is_above e.1 p && is_left e p || is_above e.0 p && not (is_above e.1 p) && is_right e p
+counts e p = not (is_above e.0 p) && is_above e.1 p && is_left e p || is_above e.0 p && not
+    (is_above e.1 p) && is_right e p
 
 -- the corners of a cell
 abbrev pub corners : Region → List (List ℤ)
 corners cell =
-    (x_of cell.lo ∷ y_of cell.lo ∷ []) ∷ (x_of cell.lo ∷ y_of cell.hi ∷ []) ∷ (x_of cell.hi ∷ y_of cell.lo ∷ []) ∷ (x_of cell.hi ∷ y_of cell.hi ∷ []) ∷ []
+    (x_of cell.lo ∷ y_of cell.lo ∷ []) ∷ (x_of cell.lo ∷ y_of cell.hi ∷ []) ∷ (x_of cell.hi ∷ y_of cell.lo ∷ []) ∷
+    (x_of cell.hi ∷ y_of cell.hi ∷ []) ∷ []
 
--- the edge misses the cell: its bounding box has no point of it, or the corners lie strictly on one side of the edge's line
+-- the edge misses the cell: its bounding box has no point of it, or the corners lie strictly on one side of the edge's
+-- line
 unfoldable pub misses : Ends → Region → Bool
 misses e cell = is_disjoint e cell || list_all (is_left e) (corners cell) || list_all (is_right e) (corners cell)

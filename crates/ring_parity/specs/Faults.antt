@@ -10,10 +10,11 @@ pub record IsFirstFaulty (rings : List (List (List ℤ))) (ring : ℕ) : Type 0 
   pub there : ring < length rings
   pub before : All IsLinearRing (take ring rings)
 
--- too many positions come first, then the first ring that is too short or open. A number of positions above the greatest
--- of 64 bits is told as that
+-- too many positions come first, then the first ring that is too short or open. A number of positions above the
+-- greatest of 64 bits is told as that
 abbrev pub IsFault : List (List (List ℤ)) → RingFault → Type 0
-IsFault rings (TooMany positions) = (2 ^ 16 < sum_by length rings) × (positions ≡ min (sum_by length rings) (2 ^ 64 - 1))
+IsFault rings (TooMany positions) = (2 ^ 16 < sum_by length rings)
+    × (positions ≡ min (sum_by length rings) (2 ^ 64 - 1))
 IsFault rings (TooFew ring) = IsFirstFaulty rings ring × (length (slice_index_or rings ring []) < 4)
 IsFault rings (NotClosed ring) =
     IsFirstFaulty rings ring × (4 ≤ length (slice_index_or rings ring [])) × ¬ (IsClosed (slice_index_or rings ring []))

@@ -1,6 +1,7 @@
 -- Polygons as rings: a ring is the list of its positions, a polygon the list of its rings, the outer one and the holes
 -- alike (RFC 7946, 3.1.6).
-use Rattle.std.specs.Prelude.{◌≡◌, ◌≤◌, ◌-◌, ◌%◌, ◌^◌, ℤ, Bool, not, ◌||◌, ◌==◌, List, [], length, drop, slice_index_or, sum_by, count_by, flat_map, zip, All}
+use Rattle.std.specs.Prelude.{◌≡◌, ◌≤◌, ◌-◌, ◌%◌, ◌^◌, ℤ, Bool, not, ◌||◌, ◌==◌, List, [], length, drop, slice_index_or}
+use Rattle.std.specs.Prelude.{sum_by, count_by, flat_map, zip, All}
 use Rattle.std.specs.List.{list_any}
 use Rattle.std.specs.Bool.{beq}
 use Rattle.point_codec.specs.Points.{Region}

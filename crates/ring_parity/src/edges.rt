@@ -4,7 +4,8 @@ ghost use Rattle.std.specs.Prelude.{◌≡◌, ◌≤◌, ◌^◌, ◌-ℤ◌, �
 ghost use Rattle.std.specs.List.{list_all};
 ghost use Rattle.std.specs.Ordering.{int_eq};
 ghost use Rattle.point_codec.specs.Seen.{region_of};
-ghost use Rattle.ring_parity.specs.Edges.{side, on, counts, misses, is_left, is_right, are_beyond, is_disjoint, corners};
+ghost use Rattle.ring_parity.specs.Edges.{side, on, counts, misses, is_left, is_right, are_beyond, is_disjoint};
+ghost use Rattle.ring_parity.specs.Edges.{corners};
 ghost use Rattle.ring_parity.specs.Seen.{ends_of};
 
 use point_codec::{Cell, Point};
@@ -87,8 +88,8 @@ pub fn on_edge(e: &Edge, p: &Point<2>) -> bool
     !is_disjoint(e, p, p) && is_in_line(e, p)
 }
 
-/// The edge counts for the point in the even-odd rule: it crosses the ray that runs from the point to the east. An end at
-/// the point's own height is below it, so that a corner of a ring counts once where the ring passes the ray.
+/// The edge counts for the point in the even-odd rule: it crosses the ray that runs from the point to the east. An
+/// end at the point's own height is below it, so that a corner of a ring counts once where the ring passes the ray.
 #[tactic(auto, unfolding(crate::specs::Edges::counts))]
 pub fn counts(e: &Edge, p: &Point<2>) -> bool
     ensures { result ≡ counts (ends_of e.now) p.now.c }

@@ -1,10 +1,12 @@
 //! Rings, and all their edges beside a point or a cell.
 
-ghost use Rattle.std.specs.Prelude.{◌≡◌, ◌↔◌, ◌-◌, ◌^◌, ◌<◌, ◌≤◌, min, ℤ, List, length, sum_by, All, true, IsTrue, IsFalse, IsOk, IfOk, IfErr, IsNone, IfSome};
+ghost use Rattle.std.specs.Prelude.{◌≡◌, ◌↔◌, ◌-◌, ◌^◌, ◌<◌, ◌≤◌, min, ℤ, List, length, sum_by, All, true, IsTrue};
+ghost use Rattle.std.specs.Prelude.{IsFalse, IsOk, IfOk, IfErr, IsNone, IfSome};
 ghost use Rattle.point_codec.specs.Points.{in_box};
 ghost use Rattle.point_codec.specs.Seen.{coordinates_of, region_of};
 ghost use Rattle.ring_parity.specs.Faults.{IsFault};
-ghost use Rattle.ring_parity.specs.Rings.{edges_of, all_edges, is_on_any, is_odd, any_meets, in_polygon, rings_cross, IsClosed, IsLinearRing, ArePolygon};
+ghost use Rattle.ring_parity.specs.Rings.{edges_of, all_edges, is_on_any, is_odd, any_meets, in_polygon, rings_cross};
+ghost use Rattle.ring_parity.specs.Rings.{IsClosed, IsLinearRing, ArePolygon};
 
 use crate::edges::{Edge, counts, misses, on_edge};
 use point_codec::{Cell, Point};
@@ -203,11 +205,12 @@ fn is_odd_ring(at: &[Point<2>], p: &Point<2>) -> bool
     odd
 }
 
-/// Some edge does not miss the cell. Where none meets it, the polygon has all points of the cell or none of them, so that
-/// one point tells of all.
+/// Some edge does not miss the cell. Where none meets it, the polygon has all points of the cell or none of them, so
+/// that one point tells of all.
 pub fn any_meets(r: &Rings, c: &Cell<2>) -> bool
     ensures told { result ≡ rings_cross r.now (region_of c.now) }
-    ensures one_answer { IsFalse result → (p q : List ℤ) → in_box (region_of c.now) p ≡ true → in_box (region_of c.now) q ≡ true
+    ensures one_answer { IsFalse result → (p q : List ℤ) → in_box (region_of c.now) p ≡ true
+        → in_box (region_of c.now) q ≡ true
         → in_polygon r.now p ≡ in_polygon r.now q }
 {
     for ring in r.as_slice() {

@@ -14,7 +14,8 @@ IsAnswer (status.SomeRefused count) = Unit {0}
 IsAnswer _ = ⊥
 
 -- the counts of faults of the folder and of the sink never fall, and the one whose fault it is rose
-pub record HasStopCause {T : Type 0} (folder_before folder_now sink_before sink_now : ℕ) (result : Result T Stop) : Type 0 where
+pub record HasStopCause {T : Type 0} (folder_before folder_now sink_before sink_now : ℕ) (result : Result T Stop)
+    : Type 0 where
   pub folder_later : folder_before ≤ folder_now
   pub sink_later : sink_before ≤ sink_now
   pub folder : IsErrOf result stop.FolderFault → Rose folder_before folder_now

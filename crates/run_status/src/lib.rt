@@ -1,5 +1,5 @@
-//! How a run of the program ended: its status with its number and its line, why it stopped before its end, and answers that
-//! are sent. Each command ends by these words.
+//! How a run of the program ended: its status with its number and its line, why it stopped before its end, and
+//! answers that are sent. Each command ends by these words.
 #![tactic(auto)]
 
 mod sending;

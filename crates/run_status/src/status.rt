@@ -52,8 +52,8 @@ pub fn code(s: &Status) -> u8
     }
 }
 
-/// Appends the line that the program prints for a status on standard error; nothing where all was done. For want of memory
-/// a part of it may be appended.
+/// Appends the line that the program prints for a status on standard error; nothing where all was done. For want of
+/// memory a part of it may be appended.
 #[tactic(auto, unfolding(crate::specs::Texts::line_of))]
 pub fn status_line(alloc: Global, s: &Status, out: &mut Vec<u8>) -> Result<(), Memory>
     ensures ok { OnOk result (out.new.items ≡ out.old.items ++ line_of s.now) }
@@ -86,7 +86,8 @@ fn put_refused(out: &mut Vec<u8>, count: u64) -> Result<(), Memory>
 }
 
 fn put_damaged(alloc: Global, out: &mut Vec<u8>, damage: &Damage) -> Result<(), Memory>
-    ensures ok { OnOk result (out.new.items ≡ out.old.items ++ (codes "damaged: " ++ damage_text damage.now ++ codes "\n")) }
+    ensures ok { OnOk result
+        (out.new.items ≡ out.old.items ++ (codes "damaged: " ++ damage_text damage.now ++ codes "\n")) }
     ensures memory { OnErr result (take (length out.old.items) out.new.items ≡ out.old.items) }
 {
     let mut text = String::new(alloc);

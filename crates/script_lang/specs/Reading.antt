@@ -1,7 +1,9 @@
 -- How a line of a script is read. Its faults come in one order, whichever command it is: too long, not UTF-8, no index,
 -- an unknown command, a bad name, a polygon on other than two dimensions, the wrong number of words, a word that is no
 -- number, and then the values: dimensions, leaf size, k, polygon.
-use Rattle.std.specs.Prelude.{ℕ, zero, suc, ◌+◌, ◌*◌, ◌/◌, ◌%◌, ◌==◌, ◌&&◌, not, Bool, nat_lt, nat_le, if◌then◌else◌, List, [], ◌∷◌, length, take, drop, slice_index, Option, None, Some, Result, Ok, Err, ok_or, ℤ, codes}
+use Rattle.std.specs.Prelude.{ℕ, zero, suc, ◌+◌, ◌*◌, ◌/◌, ◌%◌, ◌==◌, ◌&&◌, not, Bool, nat_lt, nat_le, if◌then◌else◌}
+use Rattle.std.specs.Prelude.{List, [], ◌∷◌, length, take, drop, slice_index, Option, None, Some, Result, Ok, Err}
+use Rattle.std.specs.Prelude.{ok_or, ℤ, codes}
 use Rattle.std.specs.Str.{is_utf8, bytes_eq}
 use Rattle.std.specs.Str.Lines.{strip_carriage_return}
 use Rattle.number_text.specs.Number.{number, coordinate}
@@ -20,7 +22,8 @@ pub data Reading : Type 0 where
   Says : (request : Request) → Reading
   Fails : (fault : LineFault) → Reading
 
--- the greatest leaf size of an index: as many points with their document's number, 4 bytes each, as fit into 4,000 bytes
+-- the greatest leaf size of an index: as many points with their document's number, 4 bytes each, as fit into 4,000
+-- bytes
 abbrev pub greatest_leaf : ℕ → ℕ
 greatest_leaf dims = 4000 / (4 + 4 * dims)
 
@@ -77,7 +80,8 @@ unfoldable pub query_of : List (List ℕ) → Result Query LineFault
 query_of [] = Ok (record { view = None; place = 2; words = [] })
 query_of (w ∷ ws) =
     if slice_index w 0 == 64
-    then (if is_name (drop 1 w) then Ok (record { view = Some (drop 1 w); place = 3; words = ws }) else Err fault.BadName)
+    then (if is_name (drop 1 w) then Ok
+    (record { view = Some (drop 1 w); place = 3; words = ws }) else Err fault.BadName)
     else Ok (record { view = None; place = 2; words = w ∷ ws })
 
 -- `NAME`, alone
@@ -111,7 +115,8 @@ read_create (d ∷ word ∷ s ∷ w ∷ ws) = Fails fault.Words
 unfoldable pub read_add : ℕ → List (List ℕ) → Reading
 read_add dims words =
     if length words % dims == 0 && is_from_to 1 16 (length words / dims)
-    then given (points_of (length words / dims) dims (values_of coordinate 2 words)) (λ points. Says (asks.Add (ordered points)))
+    then given (points_of (length words / dims) dims (values_of coordinate 2 words))
+    (λ points. Says (asks.Add (ordered points)))
     else Fails fault.Words
 
 -- `delete NUMBER` or `delete box LO HI`: the word `box` is never a number
@@ -125,7 +130,8 @@ read_delete dims (w ∷ ws) =
 -- `box [@NAME] LO HI`
 unfoldable pub read_box : ℕ → List (List ℕ) → Reading
 read_box dims words =
-    given (query_of words) (λ query. given (box_of dims query.place query.words) (λ box. Says (asks.InBox query.view box.0 box.1)))
+    given (query_of words)
+    (λ query. given (box_of dims query.place query.words) (λ box. Says (asks.InBox query.view box.0 box.1)))
 
 -- `K C1 .. CD`
 abbrev pub nearest_of : ℕ → Viewed → ℕ → List (List ℕ) → Reading
@@ -195,7 +201,8 @@ read_verb (Some dims) verb words rest = read_command dims verb words rest
 -- a line without words asks nothing, nor does one whose first word begins with '#'
 abbrev pub read_words : Option ℕ → List (List ℕ) → List ℕ → Reading
 read_words dims [] text = Says asks.Blank
-read_words dims (verb ∷ words) text = if slice_index verb 0 == 35 then Says asks.Blank else read_verb dims verb words (after_word text)
+read_words dims (verb ∷ words) text =
+    if slice_index verb 0 == 35 then Says asks.Blank else read_verb dims verb words (after_word text)
 
 -- a line's text: one byte 13 at its end is no part of it
 unfoldable pub text_of : List ℕ → Result (List ℕ) LineFault

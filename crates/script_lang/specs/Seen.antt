@@ -46,8 +46,8 @@ Agrees request (Ok c) reading = reading ≡ Says (request c)
 Agrees request (Err fault.Memory) reading = Unit {0}
 Agrees request (Err f) reading = reading ≡ Fails f
 
--- the limits of what a line may ask: an index of 1 to 8 dimensions and leaves of 2 points up to the greatest leaf, and the
--- 1 to 10,000 nearest
+-- the limits of what a line may ask: an index of 1 to 8 dimensions and leaves of 2 points up to the greatest leaf,
+-- and the 1 to 10,000 nearest
 abbrev pub IsWithinLimits : Request → Type 0
 IsWithinLimits (asks.Create dims leaf) = (1 ≤ dims) × (dims ≤ 8) × (2 ≤ leaf) × (leaf ≤ greatest_leaf dims)
 IsWithinLimits (asks.Nearest view k target) = (1 ≤ k) × (k ≤ 10000)

@@ -4,7 +4,8 @@ ghost use Rattle.std.specs.Prelude.{◌≡◌, ◌≤◌, ◌<◌, ◌+◌, ◌*
 ghost use Rattle.number_text.specs.Number.{number, coordinate};
 ghost use Rattle.point_codec.specs.Seen.{coordinates_of};
 ghost use Rattle.script_lang.specs.Parts.{left, IsRead, first_reading_of};
-ghost use Rattle.script_lang.specs.Reading.{read_create, created, read_add, read_delete, read_merge, name_of, alone, greatest_leaf, values_of, points_of};
+ghost use Rattle.script_lang.specs.Reading.{read_create, created, read_add, read_delete, read_merge, name_of, alone};
+ghost use Rattle.script_lang.specs.Reading.{greatest_leaf, values_of, points_of};
 ghost use Rattle.script_lang.specs.Seen.{request_of, Agrees};
 
 use crate::commands::{Command, First, Positions};
@@ -88,7 +89,8 @@ pub fn points_at<const D: usize>(
     requires some { 1 ≤ D }
     requires few { D ≤ 8 }
     requires all { length (left words) ≡ count * D }
-    ensures points { IsRead (λ points. coordinates_of points.items) result (points_of count D (values_of coordinate words.entry.place (left words.entry))) }
+    ensures points { IsRead (λ points. coordinates_of points.items) result
+        (points_of count D (values_of coordinate words.entry.place (left words.entry))) }
     ensures count { IfOk result (λ points. length points.items ≡ count) }
 {
     let mut points = Vec::with_capacity(alloc, count)?;
@@ -155,7 +157,8 @@ fn positions_at(alloc: Global, mut words: Words<'_>) -> Result<Vec<u32>, LineFau
 /// `NAME`, alone
 #[tactic(auto, unfolding(crate::specs::Reading::name_of))]
 pub fn name_at(mut words: Words<'_>) -> Result<Name, LineFault>
-    ensures { MatchResult result (λ name. name_of (left words.entry) ≡ Ok name) (λ f. name_of (left words.entry) ≡ Err f) }
+    ensures { MatchResult result (λ name. name_of (left words.entry) ≡ Ok name)
+        (λ f. name_of (left words.entry) ≡ Err f) }
 {
     let Some(word) = words.next() else {
         return Err(LineFault::Words);

@@ -10,7 +10,8 @@ use std::alloc::{AllocError, AllocFailed};
 /// Want of memory, where it is the only fault.
 pub type Memory = AllocError;
 
-/// Why a line cannot be read. Of several faults it is the first of this order, but for `Memory`, which may come anywhere.
+/// Why a line cannot be read. Of several faults it is the first of this order, but for `Memory`, which may come
+/// anywhere.
 #[derive(Clone, Copy, PartialEq, Eq, Debug)]
 pub enum LineFault {
     /// More than 4,194,304 bytes, without a byte 13 at the end.

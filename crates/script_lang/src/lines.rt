@@ -38,7 +38,8 @@ fn line_len(bytes: &[u8]) -> usize
 /// All words of a line, if it is a text that is not too long.
 #[tactic(auto, using(crate::proofs::WordsOf::words_fit), unfolding(crate::specs::Reading::text_of))]
 pub fn words_of(line: &[u8]) -> Result<Words<'_>, LineFault>
-    ensures { MatchResult result (λ words. (words.place ≡ 1) × (text_of line.now ≡ Ok words.text.now)) (λ f. text_of line.now ≡ Err f) }
+    ensures { MatchResult result (λ words. (words.place ≡ 1) × (text_of line.now ≡ Ok words.text.now))
+        (λ f. text_of line.now ≡ Err f) }
 {
     let line = without_return(line);
     if line.len() > 4_194_304 {
@@ -62,7 +63,8 @@ fn without_return(line: &[u8]) -> &[u8]
 
 /// The text of UTF-8 bytes.
 fn text_in(bytes: &[u8]) -> Option<&str>
-    ensures { MatchOption result (is_utf8 bytes.now ≡ false) (λ text. (is_utf8 bytes.now ≡ true) × (text.now ≡ bytes.now)) }
+    ensures { MatchOption result (is_utf8 bytes.now ≡ false)
+        (λ text. (is_utf8 bytes.now ≡ true) × (text.now ≡ bytes.now)) }
 {
     match std::str::from_utf8(bytes) {
         Ok(text) => Some(text),

@@ -17,7 +17,10 @@ use std::alloc::Global;
 #[tactic(auto, unfolding(crate::specs::Reading::query_of))]
 pub fn view_at(words: &mut Words<'_>) -> Result<View, LineFault>
     requires { words.old.place ≡ 2 }
-    ensures query { MatchResult result (λ view. query_of (left words.old) ≡ Ok (record { view = viewed view; place = words.new.place; words = left words.new })) (λ f. query_of (left words.old) ≡ Err f) }
+    ensures query { MatchResult result
+        (λ view. query_of (left words.old) ≡ Ok
+        (record { view = viewed view; place = words.new.place; words = left words.new }))
+        (λ f. query_of (left words.old) ≡ Err f) }
     ensures behind { IfOk result (λ view. words.new.text.now ≡ behind_view (viewed view) words.old.text.now) }
 {
     let mut behind = *words;

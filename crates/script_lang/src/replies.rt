@@ -2,7 +2,8 @@
 
 ghost use Rattle.std.specs.Prelude.{◌≡◌, ◌++◌, ◌≢◌, OnOk, OnErr, length, take};
 ghost use Rattle.std.specs.List.{flat_map};
-ghost use Rattle.script_lang.specs.Replies.{ok_text, doc_text, deleted_text, hits_text, near_text, line_fault_text, why_text, refusal_text, polygon_text, found_of};
+ghost use Rattle.script_lang.specs.Replies.{ok_text, doc_text, deleted_text, hits_text, near_text, line_fault_text};
+ghost use Rattle.script_lang.specs.Replies.{why_text, refusal_text, polygon_text, found_of};
 
 use crate::faults::{LineFault, Memory, Why};
 use itoa::{Buffer, write_digits};
@@ -196,7 +197,8 @@ pub fn put_why(out: &mut Vec<u8>, line: u64, w: Why) -> Result<(), Memory>
 
 /// Appends a line's number and why it is refused, told in pieces.
 pub fn refuse(out: &mut Vec<u8>, line: u64, cause: &[&[u8]]) -> Result<(), Memory>
-    ensures ok { OnOk result (out.new.items ≡ out.old.items ++ refusal_text line (flat_map (λ piece. piece.now) cause.now)) }
+    ensures ok { OnOk result
+        (out.new.items ≡ out.old.items ++ refusal_text line (flat_map (λ piece. piece.now) cause.now)) }
     ensures memory { OnErr result (out.new.items ≡ out.old.items) }
 {
     let before = out.len();
@@ -209,7 +211,8 @@ pub fn refuse(out: &mut Vec<u8>, line: u64, cause: &[&[u8]]) -> Result<(), Memor
 
 /// As `refuse`, but what went before want of memory stays.
 fn append_refusal(out: &mut Vec<u8>, line: u64, cause: &[&[u8]]) -> Result<(), Memory>
-    ensures ok { OnOk result (out.new.items ≡ out.old.items ++ refusal_text line (flat_map (λ piece. piece.now) cause.now)) }
+    ensures ok { OnOk result
+        (out.new.items ≡ out.old.items ++ refusal_text line (flat_map (λ piece. piece.now) cause.now)) }
     ensures memory { OnErr result (take (length out.old.items) out.new.items ≡ out.old.items) }
 {
     let mut digits = Buffer::new();

@@ -6,7 +6,8 @@ ghost use Rattle.script_lang.specs.Lines.{words_of, after_word, is_blank};
 
 /// The first word of a text, and what stands behind it.
 fn first_word(text: &str) -> Option<(&str, &str)>
-    ensures { MatchOption result (words_of text.now ≡ []) (λ w. (words_of text.now ≡ w.0.now ∷ words_of w.1.now) × (w.1.now ≡ after_word text.now)) }
+    ensures { MatchOption result (words_of text.now ≡ [])
+        (λ w. (words_of text.now ≡ w.0.now ∷ words_of w.1.now) × (w.1.now ≡ after_word text.now)) }
 {
     let (_, text) = text.split_at(blanks(text));
     if text.is_empty() {

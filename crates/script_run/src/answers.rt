@@ -55,7 +55,8 @@ pub fn answer_line<const D: usize, R: Threads + Sync, F: Folder, K: Sink, G: Gat
 ) -> Result<bool, Stop>
     requires some { 1 ≤ D }
     requires few { D ≤ 8 }
-    ensures answers { IsTrue F.told → (i : Index) → (stored : State) → Stands D (F.files folder.old) session.old i stored
+    ensures answers { IsTrue F.told → (i : Index) → (stored : State)
+        → Stands D (F.files folder.old) session.old i stored
         → (bytes : List ℕ) → heard work.now.language (Some D) bytes ≡ heard work.now.language (Some D) line.now
         → Answers work.now.language (IsTrue K.told) D
         (record { number = number; index = i; stored = stored; bytes = bytes }) (F.files folder.new) session.new
@@ -65,8 +66,10 @@ pub fn answer_line<const D: usize, R: Threads + Sync, F: Folder, K: Sink, G: Gat
         → Passes work.now.language D number i bytes
         (record { files = F.files folder.old; session = session.old; reads = F.reads folder.old })
         (record { files = F.files folder.new; session = session.new; reads = F.reads folder.new }) result }
-    ensures cause { HasStopCause (F.faults folder.old) (F.faults folder.new) (K.faults out.old) (K.faults out.new) result }
-    ensures trusts { IsTrue F.told → Trusts D (F.files folder.old) session.old → Trusts D (F.files folder.new) session.new }
+    ensures cause { HasStopCause (F.faults folder.old) (F.faults folder.new) (K.faults out.old)
+        (K.faults out.new) result }
+    ensures trusts { IsTrue F.told → Trusts D (F.files folder.old) session.old
+        → Trusts D (F.files folder.new) session.new }
     ensures kept { IsTrue F.told → Trusts D (F.files folder.old) session.old
         → asks_commit (heard work.now.language (Some D) line.now) ≡ false
         → SameKept (F.files folder.old) (F.files folder.new) }
@@ -91,7 +94,8 @@ fn reply_to<const D: usize, R: Threads + Sync, F: Folder, G: Gate>(
 ) -> Result<bool, PageFault>
     requires some { 1 ≤ D }
     requires few { D ≤ 8 }
-    ensures replies { IsTrue F.told → (i : Index) → (stored : State) → Stands D (F.files folder.old) session.old i stored
+    ensures replies { IsTrue F.told → (i : Index) → (stored : State)
+        → Stands D (F.files folder.old) session.old i stored
         → (bytes : List ℕ) → heard work.now.language (Some D) bytes ≡ heard work.now.language (Some D) line.now
         → Replies work.now.language D (record { number = number; index = i; stored = stored; bytes = bytes })
         (F.files folder.new) session.new reply.old.items reply.new.items result }
@@ -101,11 +105,13 @@ fn reply_to<const D: usize, R: Threads + Sync, F: Folder, G: Gate>(
         (record { files = F.files folder.old; session = session.old; reads = F.reads folder.old })
         (record { files = F.files folder.new; session = session.new; reads = F.reads folder.new }) result }
     ensures cause { HasPageCause (F.faults folder.old) (F.faults folder.new) result }
-    ensures trusts { IsTrue F.told → Trusts D (F.files folder.old) session.old → Trusts D (F.files folder.new) session.new }
+    ensures trusts { IsTrue F.told → Trusts D (F.files folder.old) session.old
+        → Trusts D (F.files folder.new) session.new }
     ensures kept { IsTrue F.told → Trusts D (F.files folder.old) session.old
         → asks_commit (heard work.now.language (Some D) line.now) ≡ false
         → SameKept (F.files folder.old) (F.files folder.new) }
-    ensures evident { OnDamage result (IsEvident (IsTrue F.told × Trusts D (F.files folder.old) session.old) (F.files folder.new)) }
+    ensures evident { OnDamage result
+        (IsEvident (IsTrue F.told × Trusts D (F.files folder.old) session.old) (F.files folder.new)) }
 {
     match work.language.read_line::<D>(work.alloc, line) {
         Ok(command) => obey(work, session, folder, number, &command, reply),
@@ -124,7 +130,8 @@ fn obey<const D: usize, R: Threads + Sync, F: Folder, G: Gate>(
     reply: &mut Vec<u8>,
 ) -> Result<bool, PageFault>
     requires { IsWithinLimits (request_of command.now) }
-    ensures replies { IsTrue F.told → (i : Index) → (stored : State) → Stands D (F.files folder.old) session.old i stored
+    ensures replies { IsTrue F.told → (i : Index) → (stored : State)
+        → Stands D (F.files folder.old) session.old i stored
         → (bytes : List ℕ) → heard work.now.language (Some D) bytes ≡ Ok (request_of command.now)
         → Replies work.now.language D (record { number = number; index = i; stored = stored; bytes = bytes })
         (F.files folder.new) session.new reply.old.items reply.new.items result }
@@ -134,10 +141,12 @@ fn obey<const D: usize, R: Threads + Sync, F: Folder, G: Gate>(
         (record { files = F.files folder.old; session = session.old; reads = F.reads folder.old })
         (record { files = F.files folder.new; session = session.new; reads = F.reads folder.new }) result }
     ensures cause { HasPageCause (F.faults folder.old) (F.faults folder.new) result }
-    ensures trusts { IsTrue F.told → Trusts D (F.files folder.old) session.old → Trusts D (F.files folder.new) session.new }
+    ensures trusts { IsTrue F.told → Trusts D (F.files folder.old) session.old
+        → Trusts D (F.files folder.new) session.new }
     ensures kept { IsTrue F.told → Trusts D (F.files folder.old) session.old
         → is_committing (request_of command.now) ≡ false → SameKept (F.files folder.old) (F.files folder.new) }
-    ensures evident { OnDamage result (IsEvident (IsTrue F.told × Trusts D (F.files folder.old) session.old) (F.files folder.new)) }
+    ensures evident { OnDamage result
+        (IsEvident (IsTrue F.told × Trusts D (F.files folder.old) session.old) (F.files folder.new)) }
 {
     match session.apply(work.rt, work.alloc, folder, command, reply, work.gate) {
         Ok(Applied::Done) => Ok(false),
@@ -160,7 +169,8 @@ fn refuse_line(number: u64, fault: &RangeFault, reply: &mut Vec<u8>) -> Result<b
 
 /// Appends why a command is refused.
 fn refuse(number: u64, why: Why, reply: &mut Vec<u8>) -> Result<bool, PageFault>
-    ensures refused { IfOk result (λ refused. (refused ≡ true) × (reply.new.items ≡ reply.old.items ++ why_text number why)) }
+    ensures refused { IfOk result
+        (λ refused. (refused ≡ true) × (reply.new.items ≡ reply.old.items ++ why_text number why)) }
     ensures memory { OnErr result (IsErrOf result PageFault.Memory) }
 {
     put_why(reply, number, why)?;

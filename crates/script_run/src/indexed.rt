@@ -57,13 +57,15 @@ pub(crate) fn run_over<const D: usize, S: Source, R: Threads + Sync, F: Folder, 
         × LeadsFrom work.now.language origin i stored tally.line lines (F.files folder.old) (F.files folder.new)
         (F.reads folder.old) (F.reads folder.new) result) }
     ensures read { IsTrue S.told → KnowsEnd reader.old (S.left input.old) → OnOk result (S.left input.new ≡ []) }
-    ensures cause { HasHaltCause (F.faults folder.old) (F.faults folder.new) (K.faults out.old) (K.faults out.new) result }
+    ensures cause { HasHaltCause (F.faults folder.old) (F.faults folder.new) (K.faults out.old)
+        (K.faults out.new) result }
     ensures source { HasSourceCause (S.faults input.old) (S.faults input.new) result }
     ensures undone { IsTrue F.told
         → OfLines (IsTrue S.told) reader.old (S.left input.old)
         (λ lines. IsThere (F.files folder.old) origin → NoneCommits work.now.language (dims_of origin) lines
         → HaltKeeps (F.files folder.old) (F.files folder.new) result) }
-    ensures evident { OnHaltDamage result (IsEvident (IsTrue F.told × IsThere (F.files folder.old) origin) (F.files folder.new)) }
+    ensures evident { OnHaltDamage result
+        (IsEvident (IsTrue F.told × IsThere (F.files folder.old) origin) (F.files folder.new)) }
 {
     match open::<D, F>(work.alloc, work.settings, origin, folder) {
         Ok(mut session) => run_made(work, &mut session, tally, reader, input, folder, out),
@@ -100,7 +102,8 @@ fn run_made<const D: usize, S: Source, R: Threads + Sync, F: Folder, K: Sink, G:
         (record { files = F.files folder.old; session = session.old; reads = F.reads folder.old })
         (record { files = F.files folder.new; session = session.new; reads = F.reads folder.new }) result) }
     ensures read { IsTrue S.told → KnowsEnd reader.old (S.left input.old) → OnOk result (S.left input.new ≡ []) }
-    ensures cause { HasHaltCause (F.faults folder.old) (F.faults folder.new) (K.faults out.old) (K.faults out.new) result }
+    ensures cause { HasHaltCause (F.faults folder.old) (F.faults folder.new) (K.faults out.old)
+        (K.faults out.new) result }
     ensures source { HasSourceCause (S.faults input.old) (S.faults input.new) result }
     ensures undone { IsTrue F.told
         → OfLines (IsTrue S.told) reader.old (S.left input.old)

@@ -66,7 +66,8 @@ pub fn run_lines<S: Source, R: Threads + Sync, F: Folder, K: Sink, G: Gate>(
         × LeadsAll work.now.language state lines (F.files folder.old) (F.files folder.new) (F.reads folder.old)
         (F.reads folder.new) result) }
     ensures read { IsTrue S.told → OnOk result (S.left input.new ≡ []) }
-    ensures cause { HasHaltCause (F.faults folder.old) (F.faults folder.new) (K.faults out.old) (K.faults out.new) result }
+    ensures cause { HasHaltCause (F.faults folder.old) (F.faults folder.new) (K.faults out.old)
+        (K.faults out.new) result }
     ensures source { HasSourceCause (S.faults input.old) (S.faults input.new) result }
     ensures undone { IsTrue F.told
         → OfSource (IsTrue S.told) (S.left input.old)
@@ -97,7 +98,8 @@ fn run_read<S: Source, R: Threads + Sync, F: Folder, K: Sink, G: Gate>(
         × LeadsAll work.now.language state lines (F.files folder.old) (F.files folder.new) (F.reads folder.old)
         (F.reads folder.new) result) }
     ensures read { IsTrue S.told → KnowsEnd reader.old (S.left input.old) → OnOk result (S.left input.new ≡ []) }
-    ensures cause { HasHaltCause (F.faults folder.old) (F.faults folder.new) (K.faults out.old) (K.faults out.new) result }
+    ensures cause { HasHaltCause (F.faults folder.old) (F.faults folder.new) (K.faults out.old)
+        (K.faults out.new) result }
     ensures source { HasSourceCause (S.faults input.old) (S.faults input.new) result }
     ensures undone { IsTrue F.told
         → OfLines (IsTrue S.told) reader.old (S.left input.old)
@@ -142,7 +144,8 @@ fn run_first<S: Source, R: Threads + Sync, F: Folder, K: Sink, G: Gate>(
         × LeadsAll work.now.language None lines (F.files folder.old) (F.files folder.new) (F.reads folder.old)
         (F.reads folder.new) result) }
     ensures read { IsTrue S.told → KnowsEnd reader.old (S.left input.old) → OnOk result (S.left input.new ≡ []) }
-    ensures cause { HasHaltCause (F.faults folder.old) (F.faults folder.new) (K.faults out.old) (K.faults out.new) result }
+    ensures cause { HasHaltCause (F.faults folder.old) (F.faults folder.new) (K.faults out.old)
+        (K.faults out.new) result }
     ensures source { HasSourceCause (S.faults input.old) (S.faults input.new) result }
     ensures evident { OnHaltDamage result
         (IsEvident (IsTrue F.told × (F.files folder.old CommitName ≡ None)) (F.files folder.new)) }
@@ -211,13 +214,15 @@ fn run_from<S: Source, R: Threads + Sync, F: Folder, K: Sink, G: Gate>(
         × LeadsFrom work.now.language origin i stored tally.line lines (F.files folder.old) (F.files folder.new)
         (F.reads folder.old) (F.reads folder.new) result) }
     ensures read { IsTrue S.told → KnowsEnd reader.old (S.left input.old) → OnOk result (S.left input.new ≡ []) }
-    ensures cause { HasHaltCause (F.faults folder.old) (F.faults folder.new) (K.faults out.old) (K.faults out.new) result }
+    ensures cause { HasHaltCause (F.faults folder.old) (F.faults folder.new) (K.faults out.old)
+        (K.faults out.new) result }
     ensures source { HasSourceCause (S.faults input.old) (S.faults input.new) result }
     ensures undone { IsTrue F.told
         → OfLines (IsTrue S.told) reader.old (S.left input.old)
         (λ lines. IsThere (F.files folder.old) origin → NoneCommits work.now.language (dims_of origin) lines
         → HaltKeeps (F.files folder.old) (F.files folder.new) result) }
-    ensures evident { OnHaltDamage result (IsEvident (IsTrue F.told × IsThere (F.files folder.old) origin) (F.files folder.new)) }
+    ensures evident { OnHaltDamage result
+        (IsEvident (IsTrue F.told × IsThere (F.files folder.old) origin) (F.files folder.new)) }
 {
     match origin.dims() {
         1 => run_over::<1, S, R, F, K, G>(work, origin, tally, reader, input, folder, out),

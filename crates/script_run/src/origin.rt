@@ -60,7 +60,8 @@ pub fn open<const D: usize, F: Folder>(
     ensures whole { IsTrue F.told → (i : Index) → (stored : State) → IsFrom (F.files folder.old) origin i stored
         → NotDamaged result }
     ensures trusts { IsTrue F.told → IsThere (F.files folder.old) origin → IfOk result (Trusts D (F.files folder.new)) }
-    ensures evident { OnDamage result (IsEvident (IsTrue F.told × IsThere (F.files folder.old) origin) (F.files folder.new)) }
+    ensures evident { OnDamage result
+        (IsEvident (IsTrue F.told × IsThere (F.files folder.old) origin) (F.files folder.new)) }
 {
     match origin {
         Origin::New { dims: _, leaf } => Ok(Session::create(alloc, leaf, settings)?),

@@ -7,7 +7,8 @@ use Rattle.bkd_build.specs.Canon.{KdTree, Canon, IsBuilt, index_tree_of}
 use Rattle.segment_file.specs.Heads.{Head}
 use Rattle.segment_file.specs.Written.{FitsSegment}
 
--- a segment in memory: the index and the bytes of each leaf, how many entries a leaf has and how many there are, and which numbers are live
+-- a segment in memory: the index and the bytes of each leaf, how many entries a leaf has and how many there are, and
+-- which numbers are live
 pub record NewSegmentData : Type 0 where
   pub index : Body
   pub leaves : List (List ℕ)
@@ -27,8 +28,8 @@ pub record HasSomeEntries (D : ℕ) (n : NewSegmentData) : Type 0 where
   pub items : List Item
   pub has : HasEntries D items n
 
--- The head is that of the canonical tree of these entries, with the index in form 3. There is one such index of a leaf size
--- (`one_canonical_index`).
+-- The head is that of the canonical tree of these entries, with the index in form 3. There is one such index of a
+-- leaf size (`one_canonical_index`).
 pub record IsCanonical (D : ℕ) (head : Head) (items : List Item) : Type 0 where
   pub root : Region
   pub tree : KdTree

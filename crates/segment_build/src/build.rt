@@ -19,9 +19,9 @@ use std::alloc::Global;
 use std::marker::Sync;
 use std::thread::Threads;
 
-/// Builds the segment of these entries with leaves of `leaf` entries, all of whose numbers are live. The slice holds the same
-/// entries in some order afterwards, also where memory is wanting. The upper `forks` levels of the tree are built in threads,
-/// whose halves pass the gate (`bkd_build::build`); nothing depends on these two.
+/// Builds the segment of these entries with leaves of `leaf` entries, all of whose numbers are live. The slice holds
+/// the same entries in some order afterwards, also where memory is wanting. The upper `forks` levels of the tree are
+/// built in threads, whose halves pass the gate (`bkd_build::build`); nothing depends on these two.
 pub fn build_segment<const D: usize, R: Threads + Sync, G: Gate>(
     rt: &R,
     alloc: Global,
@@ -38,10 +38,13 @@ pub fn build_segment<const D: usize, R: Threads + Sync, G: Gate>(
     requires least_leaf { 2 ≤ leaf }
     requires greatest_leaf { leaf ≤ leaf_limit D }
     ensures same { IsPermutation entries.old entries.new }
-    ensures has { IfOk result (λ n. (items : List Item) × IsPermutation (items_of entries.old) items × HasEntries D items n) }
-    ensures live { IfOk result (λ n. IsLiveSet n.live × (is_live n.live ≡ (λ number. has_entry number (items_of entries.old)))) }
+    ensures has { IfOk result
+        (λ n. (items : List Item) × IsPermutation (items_of entries.old) items × HasEntries D items n) }
+    ensures live { IfOk result
+        (λ n. IsLiveSet n.live × (is_live n.live ≡ (λ number. has_entry number (items_of entries.old)))) }
     // the live numbers are those of its entries
-    ensures found { IfOk result (λ n. (items : List Item) → HasEntries D items n → is_live n.live ≡ (λ number. has_entry number items)) }
+    ensures found { IfOk result
+        (λ n. (items : List Item) → HasEntries D items n → is_live n.live ≡ (λ number. has_entry number items)) }
     ensures leaf { IfOk result (λ n. (n.leaf ≡ leaf) × (n.entries ≡ length entries.old)) }
 {
     let live = numbers_of(alloc, entries)?;

@@ -1,7 +1,7 @@
 //! Segments as they are built: in memory, and written when their turn comes.
 //!
-//! What is written of some entries depends on nothing but these, the leaf size and the segment's id: the file is that of
-//! their canonical tree (`laws::one_canonical_index`).
+//! What is written of some entries depends on nothing but these, the leaf size and the segment's id: the file is that
+//! of their canonical tree (`laws::one_canonical_index`).
 #![tactic(auto)]
 
 mod build;

@@ -8,8 +8,8 @@ use segment_file::{SegmentHead, write_segment};
 use std::alloc::Global;
 use std::marker::Model;
 
-/// A segment in memory: the canonical tree of its entries, spelled, and which of its numbers are live. Nothing of it is in a
-/// file yet.
+/// A segment in memory: the canonical tree of its entries, spelled, and which of its numbers are live. Nothing of it
+/// is in a file yet.
 #[derive(Debug, Drop)]
 pub struct NewSegment<const D: usize> {
     pub(crate) built: Built<D>,
@@ -23,9 +23,17 @@ impl<const D: usize> Model for NewSegment<D> {
 
     ghost Value = { NewSegmentData };
 
-    ghost view = { λ n. record { index = n.built.index; leaves = n.built.leaves; leaf = n.leaf; entries = n.entries; live = n.live } };
+    ghost view = { λ n. record
+        { index = n.built.index; leaves = n.built.leaves; leaf = n.leaf; entries = n.entries; live = n.live } };
 
-    ghost invariant = { λ n. ∥ HasSomeEntries D (record { index = n.built.index; leaves = n.built.leaves; leaf = n.leaf; entries = n.entries; live = n.live }) ∥₁ };
+    ghost invariant = { λ n. ∥ HasSomeEntries D
+        (record {
+          index = n.built.index;
+          leaves = n.built.leaves;
+          leaf = n.leaf;
+          entries = n.entries;
+          live = n.live;
+        }) ∥₁ };
 }
 
 impl<const D: usize> NewSegment<D> {
@@ -70,8 +78,8 @@ impl<const D: usize> NewSegment<D> {
         self.live.clear(doc)
     }
 
-    /// Writes the segment's file, and answers its head. The segment stays as it is, so that it can be written again after a
-    /// refusal.
+    /// Writes the segment's file, and answers its head. The segment stays as it is, so that it can be written again
+    /// after a refusal.
     pub fn write<F: Folder>(
         &self,
         alloc: Global,

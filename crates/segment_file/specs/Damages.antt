@@ -1,4 +1,5 @@
--- What a damage of a segment's file or of a file of live bits shows: by what it carries alone, and of the files where those are told.
+-- What a damage of a segment's file or of a file of live bits shows: by what it carries alone, and of the files where
+-- those are told.
 use Rattle.std.specs.Prelude.{◌≡◌, ◌≢◌, ℕ, ◌+◌, ◌*◌, ◌^◌, ◌<◌, ◌⊎◌, List, ◌++◌, None, slice_index}
 use Rattle.outer_io.specs.declared.file_name.FileName.{FileName}
 use Rattle.outer_io.specs.declared.file_name.FileName.TheVariants.{Commit, CommitNew, Segment, Live}
@@ -15,7 +16,8 @@ use Rattle.page_cache.specs.FilePages.{kind_of, number_of, page_at}
 use Rattle.page_cache.specs.Bodies.{filled, pages_for}
 use Rattle.page_cache.specs.Evidence.{IsPageOf, ArePayloadsOf, IsCut, IsSizeOf}
 use Rattle.page_cache.specs.declared.faults.Damage.{Damage}
-use Rattle.page_cache.specs.declared.faults.Damage.TheVariants.{Page, Leaf, Body, Missing, Size, Unequal, Beyond, Doubled}
+use Rattle.page_cache.specs.declared.faults.Damage.TheVariants.{Page, Leaf, Body, Missing, Size, Unequal, Beyond}
+use Rattle.page_cache.specs.declared.faults.Damage.TheVariants.{Doubled}
 use Rattle.segment_file.specs.Heads.{Head, Fields, AreFields, IsHead, fields_of, fields_bytes, page_of, count_of}
 use Rattle.segment_file.specs.Segments.{SpellsHead, part_of, IsLeafOf}
 
@@ -44,7 +46,8 @@ AsksFor CommitNew payload pages = ⊥
 -- ---- a leaf that is read through a head
 
 -- the part of a page is no leaf of the count and own cell of a leaf of the subtree, which has this place
-pub record IsNoLeaf (D : ℕ) (head : Head) (first : ℕ) (s : Spot) (t : IndexTree) (page offset len : ℕ) (part : List ℕ) : Type 0 where
+pub record IsNoLeaf (D : ℕ) (head : Head) (first : ℕ) (s : Spot) (t : IndexTree) (page offset len : ℕ) (part : List ℕ)
+    : Type 0 where
   pub number : ℕ
   pub spot : Spot
   pub own : Region
@@ -62,13 +65,16 @@ pub record IsLeafPage (head : Head) (first : ℕ) (s : Spot) (t : IndexTree) (ne
   pub is : IsLeafOf first s t number spot len own
   pub needs : needed ≡ 4096 * (page_of head spot.page + 1)
 
--- reading leaves of the subtree of a head's index shows a page to be none for its place, the file to end before the end of the page of a leaf, or a
--- page to have no leaf where one must be
+-- reading leaves of the subtree of a head's index shows a page to be none for its place, the file to end before the
+-- end of the page of a leaf, or a page to have no leaf where one must be
 abbrev pub IsLeafDamage : (D : ℕ) → Head → (first : ℕ) → Spot → IndexTree → Damage → Type 0
-IsLeafDamage D head first s t (Page file number bytes) = (file ≡ Segment head.id) × (IsPage 1 head.id number bytes.value.b → ⊥)
-IsLeafDamage D head first s t (Size file size needed) = (file ≡ Segment head.id) × (size < needed) × IsLeafPage head first s t needed
+IsLeafDamage D head first s t (Page file number bytes) = (file ≡ Segment head.id)
+    × (IsPage 1 head.id number bytes.value.b → ⊥)
+IsLeafDamage D head first s t (Size file size needed) = (file ≡ Segment head.id) × (size < needed)
+    × IsLeafPage head first s t needed
 IsLeafDamage D head first s t (Leaf file number offset len bytes) =
-    (file ≡ Segment head.id) × IsPage 1 head.id number bytes.value.b × IsNoLeaf D head first s t number offset len (part_of offset len bytes.value.b)
+    (file ≡ Segment head.id) × IsPage 1 head.id number bytes.value.b
+    × IsNoLeaf D head first s t number offset len (part_of offset len bytes.value.b)
 IsLeafDamage D head first s t (Body file bytes) = ⊥
 IsLeafDamage D head first s t (Missing file) = ⊥
 IsLeafDamage D head first s t (Unequal file said found) = ⊥
@@ -93,17 +99,19 @@ abbrev pub BeginsNoHead : List ℕ → Type 0
 BeginsNoHead payloads = (dims said : ℕ) (head : Head) (rest : List ℕ) → said < 2 ^ 32 → IsHead dims head
     → payloads ++ rest ≡ filled (fields_bytes (fields_of dims head said)) ++ filled head.index.bytes → ⊥
 
--- two numbers of a segment's file that must agree: the dimensions that are wanted and the file's, or the leaf pages that the head says and those
--- that the index has
+-- two numbers of a segment's file that must agree: the dimensions that are wanted and the file's, or the leaf pages
+-- that the head says and those that the index has
 abbrev pub AreHeadPair : (D : ℕ) → List ℕ → (said found : ℕ) → Type 0
 AreHeadPair D bytes said found =
     ((said ≡ D) × (found ≡ slice_index (payload_of (page_at bytes 0)) 8))
-    ⊎ ((head : Head) × (root : Region) × (tree : IndexTree) × SpellsHead D bytes head said root tree × (found ≡ pages_of tree))
+    ⊎ ((head : Head) × (root : Region) × (tree : IndexTree) × SpellsHead D bytes head said root tree
+    × (found ≡ pages_of tree))
 
--- opening a segment shows its file to be missing, of another size, with a page that is none for its place, with a head or an index out of the
--- grammar, or with numbers that don't agree
+-- opening a segment shows its file to be missing, of another size, with a page that is none for its place, with a
+-- head or an index out of the grammar, or with numbers that don't agree
 abbrev pub IsHeadDamage : (id : ℕ) → Damage → Type 0
-IsHeadDamage id (Page file number bytes) = (file ≡ Segment id) × (IsPage (kind_of file) (number_of file) number bytes.value.b → ⊥)
+IsHeadDamage id (Page file number bytes) = (file ≡ Segment id)
+    × (IsPage (kind_of file) (number_of file) number bytes.value.b → ⊥)
 IsHeadDamage id (Missing file) = file ≡ Segment id
 IsHeadDamage id (Size file size needed) = (file ≡ Segment id) × (size ≢ needed)
 IsHeadDamage id (Body file bytes) = (file ≡ Segment id) × BeginsNoHead bytes
@@ -149,14 +157,18 @@ IsPairDamage name m n (Doubled doc) = ⊥
 
 -- no set's body begins with these payloads
 abbrev pub BeginsNoSet : (segment generation : ℕ) → List ℕ → Type 0
-BeginsNoSet segment generation payloads = (live : LiveSet) (body rest : List ℕ) → IsLiveBody segment generation live body → payloads ++ rest ≡ filled body → ⊥
+BeginsNoSet segment generation payloads = (live : LiveSet) (body rest : List ℕ)
+    → IsLiveBody segment generation live body → payloads ++ rest ≡ filled body → ⊥
 
--- reading live bits shows their file to be missing, of another size, with a page that is none for its place, or out of the grammar
+-- reading live bits shows their file to be missing, of another size, with a page that is none for its place, or out of
+-- the grammar
 abbrev pub IsLiveDamage : (segment generation : ℕ) → Damage → Type 0
-IsLiveDamage segment generation (Page file number bytes) = (file ≡ Live segment generation) × (IsPage (kind_of file) (number_of file) number bytes.value.b → ⊥)
+IsLiveDamage segment generation (Page file number bytes) = (file ≡ Live segment generation)
+    × (IsPage (kind_of file) (number_of file) number bytes.value.b → ⊥)
 IsLiveDamage segment generation (Missing file) = file ≡ Live segment generation
 IsLiveDamage segment generation (Size file size needed) = (file ≡ Live segment generation) × (size ≢ needed)
-IsLiveDamage segment generation (Body file bytes) = (file ≡ Live segment generation) × BeginsNoSet segment generation bytes
+IsLiveDamage segment generation (Body file bytes) = (file ≡ Live segment generation)
+    × BeginsNoSet segment generation bytes
 IsLiveDamage segment generation (Leaf file number offset len bytes) = ⊥
 IsLiveDamage segment generation (Unequal file said found) = ⊥
 IsLiveDamage segment generation (Beyond doc next) = ⊥

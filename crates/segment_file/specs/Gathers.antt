@@ -10,7 +10,8 @@ use Rattle.segment_file.specs.Heads.{Head, page_of}
 use Rattle.segment_file.specs.Segments.{HoldsTree}
 
 -- the leaves of the subtree are spelled, and their live entries were put behind the others
-pub record Gathers (D : ℕ) (bytes : List ℕ) (head : Head) (first : ℕ) (s : Spot) (t : IndexTree) (live : LiveSet) (old new : List Item) : Type 0 where
+pub record Gathers (D : ℕ) (bytes : List ℕ) (head : Head) (first : ℕ) (s : Spot) (t : IndexTree) (live : LiveSet)
+    (old new : List Item) : Type 0 where
   pub items : List Item
   pub holds : HoldsTree D bytes head first s t items
   pub grew : new ≡ old ++ filter (λ x. is_live live x.doc) items

@@ -1,5 +1,6 @@
 -- The head of a segment: what the first page of its file says, together with the index that follows.
-use Rattle.std.specs.Prelude.{ℕ, ◌+◌, ◌-◌, ◌*◌, ◌/◌, ◌^◌, ◌<◌, ◌≤◌, ◌≡◌, if◌then◌else◌, ◌==◌, min, List, ◌∷◌, ◌++◌, length, codes}
+use Rattle.std.specs.Prelude.{ℕ, ◌+◌, ◌-◌, ◌*◌, ◌/◌, ◌^◌, ◌<◌, ◌≤◌, ◌≡◌, if◌then◌else◌, ◌==◌, min, List, ◌∷◌, ◌++◌}
+use Rattle.std.specs.Prelude.{length, codes}
 use Rattle.std.specs.Int.{w16, w32, to_be_bytes}
 use Rattle.inner_pack.specs.Bodies.{Body, IsSpelled}
 use Rattle.leaf_codec.specs.Leaves.{leaf_limit}

@@ -22,7 +22,8 @@ use Rattle.page_cache.specs.Evidence.{OnDamage}
 use Rattle.segment_file.specs.Heads.{Head, page_of, count_of}
 use Rattle.segment_file.specs.Segments.{part_of}
 
--- what the cache keeps of this place spells no leaf of the count and the own cell of the node, which is a leaf of the head's index
+-- what the cache keeps of this place spells no leaf of the count and the own cell of the node, which is a leaf of the
+-- head's index
 unfoldable pub SpellsNoLeaf : {D : ℕ} → PageCache → Head → NodeAt D → LeafPlace → Type 0
 SpellsNoLeaf {D} cache head node place =
     (first : ℕ) (s : Spot) (path : Region) (len : ℕ) (own : Region) → IsAt node first s path (Leaf len own)

@@ -23,9 +23,10 @@ pub record IsPaged (name : FileName) (count : ℕ) (payloads bytes : List ℕ) :
   pub pages : ArePages name bytes 0 count
   pub payloads_are : payloads_of bytes 0 count ≡ payloads
 
--- the payloads of leaf pages, on the last of which these bytes stand already: a leaf stands behind the one before where the page has room
--- for it, and else at the front of the next page
+-- the payloads of leaf pages, on the last of which these bytes stand already: a leaf stands behind the one before
+-- where the page has room for it, and else at the front of the next page
 abbrev pub laid : (current : List ℕ) → List (List ℕ) → List ℕ
 laid current [] = filled current
 laid current (leaf ∷ leaves) =
-    if nat_le (length current + length leaf) 4064 then laid (current ++ leaf) leaves else filled current ++ laid leaf leaves
+    if nat_le (length current + length leaf) 4064 then laid
+    (current ++ leaf) leaves else filled current ++ laid leaf leaves

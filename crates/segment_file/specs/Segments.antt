@@ -14,9 +14,10 @@ use Rattle.segment_file.specs.Heads.{fields_of, fields_bytes, index_pages, page_
 
 -- ---- the head and the index
 
--- the head page and the index pages of the file spell this head, whose index has this tree. The head page says that there
--- are so many leaf pages
-pub record SpellsHead (D : ℕ) (bytes : List ℕ) (head : Head) (said : ℕ) (root : Region) (tree : IndexTree) : Type 0 where
+-- the head page and the index pages of the file spell this head, whose index has this tree. The head page says that
+-- there are so many leaf pages
+pub record SpellsHead (D : ℕ) (bytes : List ℕ) (head : Head) (said : ℕ) (root : Region) (tree : IndexTree)
+    : Type 0 where
   pub ranges : HasRanges D head
   pub said_fits : said < 2 ^ 32
   pub has : HasTree D head.index root tree
@@ -49,9 +50,11 @@ abbrev pub part_of : (offset len : ℕ) → List ℕ → List ℕ
 part_of offset len page = take len (drop offset (payload_of page))
 
 -- in its page, which is one for its place, the leaf of this number, place, length and own cell is spelled
-pub record LeafParts (D : ℕ) (bytes : List ℕ) (head : Head) (number : ℕ) (s : Spot) (len : ℕ) (own : Region) (items : List Item) : Type 0 where
+pub record LeafParts (D : ℕ) (bytes : List ℕ) (head : Head) (number : ℕ) (s : Spot) (len : ℕ) (own : Region)
+    (items : List Item) : Type 0 where
   pub page : IsFilePage (Segment head.id) bytes (page_of head s.page)
-  pub spells : SpellsLeafIn D (part_of s.offset len (page_at bytes (page_of head s.page))) (count_of head number) own items
+  pub spells : SpellsLeafIn D (part_of s.offset len (page_at bytes (page_of head s.page)))
+      (count_of head number) own items
 
 unfoldable pub HoldsLeaf : ℕ → List ℕ → Head → ℕ → Spot → ℕ → Region → List Item → Type 0
 HoldsLeaf D bytes head number s len own items = LeafParts D bytes head number s len own items
@@ -64,7 +67,8 @@ pub record Joins (left right : List Item → Type 0) (items : List Item) : Type 
   pub back_holds : right back_items
   pub joined : items ≡ front_items ++ back_items
 
--- the leaves of a subtree, of which the first has this number and begins at s, are spelled, and have these items from left to right
+-- the leaves of a subtree, of which the first has this number and begins at s, are spelled, and have these items from
+-- left to right
 abbrev pub HoldsTree : (D : ℕ) (bytes : List ℕ) (head : Head) (first : ℕ) → Spot → IndexTree → List Item → Type 0
 HoldsTree D bytes head first s (Leaf len own) items = HoldsLeaf D bytes head first s len own items
 HoldsTree D bytes head first s (Split d x l r) items =
@@ -85,6 +89,7 @@ pub record SegmentParts (D : ℕ) (bytes : List ℕ) (head : Head) (items : List
   pub has : HasTree D head.index root tree
   pub holds : HoldsTree D bytes head 0 front tree items
 
--- the file is that of a segment with this head and these entries, in the order of the leaves. It has no others (`one_segment`)
+-- the file is that of a segment with this head and these entries, in the order of the leaves. It has no others
+-- (`one_segment`)
 unfoldable pub IsSegment : ℕ → List ℕ → Head → List Item → Type 0
 IsSegment D bytes head items = SegmentParts D bytes head items

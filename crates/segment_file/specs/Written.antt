@@ -7,7 +7,8 @@ use Rattle.inner_pack.specs.Bodies.{Body, HasTree}
 use Rattle.segment_file.specs.Heads.{Head, leaves_for, count_of}
 
 -- the leaves of two subtrees and their items, one behind the other
-pub record JoinsBoth (left right : List (List ℕ) → List Item → Type 0) (leaves : List (List ℕ)) (items : List Item) : Type 0 where
+pub record JoinsBoth (left right : List (List ℕ) → List Item → Type 0) (leaves : List (List ℕ)) (items : List Item)
+    : Type 0 where
   pub front_leaves : List (List ℕ)
   pub back_leaves : List (List ℕ)
   pub front_items : List Item
@@ -17,18 +18,21 @@ pub record JoinsBoth (left right : List (List ℕ) → List Item → Type 0) (le
   pub leaves_joined : leaves ≡ front_leaves ++ back_leaves
   pub items_joined : items ≡ front_items ++ back_items
 
--- the bytes are those of the leaves of the subtree from left to right, of which the first has this number: each has its length, and spells
--- the count of its number, inside its own cell
+-- the bytes are those of the leaves of the subtree from left to right, of which the first has this number: each has
+-- its length, and spells the count of its number, inside its own cell
 abbrev pub SpellsLeaves : (D : ℕ) → Head → (first : ℕ) → IndexTree → List (List ℕ) → List Item → Type 0
-SpellsLeaves D head first (Leaf len own) leaves items = (bytes : List ℕ) × (leaves ≡ bytes ∷ []) × (length bytes ≡ len) × SpellsLeafIn D bytes (count_of head first) own items
-SpellsLeaves D head first (Split d x l r) leaves items = JoinsBoth (SpellsLeaves D head first l) (SpellsLeaves D head (first + leaf_count l) r) leaves items
+SpellsLeaves D head first (Leaf len own) leaves items = (bytes : List ℕ) × (leaves ≡ bytes ∷ []) × (length bytes ≡ len)
+    × SpellsLeafIn D bytes (count_of head first) own items
+SpellsLeaves D head first (Split d x l r) leaves items =
+    JoinsBoth (SpellsLeaves D head first l) (SpellsLeaves D head (first + leaf_count l) r) leaves items
 
 -- the head of these arguments
 abbrev pub head_of : (id entries leaf : ℕ) → Body → Head
 head_of id entries leaf index = record { id = id; entries = entries; leaf = leaf; index = index }
 
 -- these parts are those of a segment with these entries
-pub record FitsSegment (D id leaf entries : ℕ) (index : Body) (leaves : List (List ℕ)) (items : List Item) : Type 0 where
+pub record FitsSegment (D id leaf entries : ℕ) (index : Body) (leaves : List (List ℕ)) (items : List Item)
+    : Type 0 where
   pub least_leaf : 2 ≤ leaf
   pub greatest_leaf : leaf ≤ leaf_limit D
   pub some : 1 ≤ entries

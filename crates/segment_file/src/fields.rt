@@ -1,6 +1,7 @@
 //! The fields of a head, on the first page of a segment's file.
 
-ghost use Rattle.std.specs.Prelude.{◌≡◌, ◌≢◌, ◌<◌, ◌++◌, ◌↔◌, Bool, ℕ, List, length, codes, if◌then◌else◌, IsTrue, IfOk, IfSome, IfNone};
+ghost use Rattle.std.specs.Prelude.{◌≡◌, ◌≢◌, ◌<◌, ◌++◌, ◌↔◌, Bool, ℕ, List, length, codes, if◌then◌else◌, IsTrue};
+ghost use Rattle.std.specs.Prelude.{IfOk, IfSome, IfNone};
 ghost use Rattle.byte_cursor.specs.Cursor.{cursor_rest};
 ghost use Rattle.page_cache.specs.Bodies.{filled};
 ghost use Rattle.segment_file.specs.Heads.{Fields, AreFields, magic, fields_bytes, numbers_bytes};
@@ -107,8 +108,12 @@ fn magic_of(form: u8) -> &'static [u8]
 
 /// Takes the magic bytes, and answers whether they are those of own cells.
 fn take_magic(cursor: &mut Cursor<'_>) -> Option<bool>
-    ensures taken { IfSome result (λ own. cursor_rest cursor.old ≡ (if own then codes "BKDPSEG2" else codes "BKDPSEG1") ++ cursor_rest cursor.new) }
-    ensures other { IfNone result ((own : Bool) (rest : List ℕ) → cursor_rest cursor.old ≢ (if own then codes "BKDPSEG2" else codes "BKDPSEG1") ++ rest) }
+    ensures taken { IfSome result
+        (λ own. cursor_rest cursor.old ≡
+        (if own then codes "BKDPSEG2" else codes "BKDPSEG1") ++ cursor_rest cursor.new) }
+    ensures other { IfNone result
+        ((own : Bool) (rest : List ℕ)
+        → cursor_rest cursor.old ≢ (if own then codes "BKDPSEG2" else codes "BKDPSEG1") ++ rest) }
 {
     if cursor.take_exact(MAGIC) {
         return Some(false);
@@ -121,7 +126,8 @@ fn take_magic(cursor: &mut Cursor<'_>) -> Option<bool>
 
 /// Takes the fields behind the magic bytes, whatever they say.
 fn take_numbers(cursor: &mut Cursor<'_>) -> Option<HeadFields>
-    ensures taken { IfSome result (λ f. cursor_rest cursor.old ≡ numbers_bytes (fields_said f) ++ cursor_rest cursor.new) }
+    ensures taken { IfSome result
+        (λ f. cursor_rest cursor.old ≡ numbers_bytes (fields_said f) ++ cursor_rest cursor.new) }
     ensures narrow { IfSome result (λ f. AreNarrow (fields_said f)) }
     ensures short { IfNone result (length (cursor_rest cursor.old) < 20) }
 {

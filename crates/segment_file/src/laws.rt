@@ -16,19 +16,25 @@ pub fn one_head()
 
 /// A file is that of one segment at most.
 pub fn one_segment()
-    ensures head { (D : ℕ) (bytes : List ℕ) (h : Head) (items : List Item) → IsSegment D bytes h items → IsHeadOf D bytes h }
-    ensures items { (D : ℕ) (bytes : List ℕ) (h : Head) (xs ys : List Item) → IsSegment D bytes h xs → IsSegment D bytes h ys → xs ≡ ys }
+    ensures head { (D : ℕ) (bytes : List ℕ) (h : Head) (items : List Item) → IsSegment D bytes h items
+        → IsHeadOf D bytes h }
+    ensures items { (D : ℕ) (bytes : List ℕ) (h : Head) (xs ys : List Item) → IsSegment D bytes h xs
+        → IsSegment D bytes h ys
+        → xs ≡ ys }
 {
     one_tree();
 }
 
 /// A file has one set of live numbers at most.
 pub fn one_live_set()
-    ensures { (segment generation : ℕ) (bytes : List ℕ) (s t : LiveSet) → IsLiveFile segment generation bytes s → IsLiveFile segment generation bytes t → s ≡ t }
+    ensures { (segment generation : ℕ) (bytes : List ℕ) (s t : LiveSet) → IsLiveFile segment generation bytes s
+        → IsLiveFile segment generation bytes t → s ≡ t }
 {}
 
 /// A segment has as many entries as its head says, and the numbers of its head are in range.
 pub fn segments_are_counted()
-    ensures entries { (D : ℕ) (bytes : List ℕ) (h : Head) (items : List Item) → IsSegment D bytes h items → length items ≡ h.entries }
-    ensures ranges { (D : ℕ) (bytes : List ℕ) (h : Head) (items : List Item) → IsSegment D bytes h items → HasRanges D h }
+    ensures entries { (D : ℕ) (bytes : List ℕ) (h : Head) (items : List Item) → IsSegment D bytes h items
+        → length items ≡ h.entries }
+    ensures ranges { (D : ℕ) (bytes : List ℕ) (h : Head) (items : List Item) → IsSegment D bytes h items
+        → HasRanges D h }
 {}

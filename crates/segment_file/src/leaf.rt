@@ -1,6 +1,7 @@
 //! One leaf, read in place in a page that the cache keeps.
 
-ghost use Rattle.std.specs.Prelude.{◌≡◌, ◌≤◌, ◌<◌, ◌+◌, ◌⊎◌, ℕ, List, length, take, drop, IsTrue, IsOk, IfOk, OnOk, OnErr, IfSome, IfNone};
+ghost use Rattle.std.specs.Prelude.{◌≡◌, ◌≤◌, ◌<◌, ◌+◌, ◌⊎◌, ℕ, List, length, take, drop, IsTrue, IsOk, IfOk, OnOk};
+ghost use Rattle.std.specs.Prelude.{OnErr, IfSome, IfNone};
 ghost use Rattle.outer_io.specs.Files.{Files, bytes_of};
 ghost use Rattle.outer_io.specs.declared.file_name.FileName.TheVariants.{Segment};
 ghost use Rattle.point_codec.specs.Points.{Item, Region};
@@ -39,18 +40,24 @@ pub fn load_leaf<const D: usize, F: Pages>(
     ensures files { IsTrue F.told → F.files folder.new ≡ F.files folder.old }
     ensures reads { F.reads folder.new ≤ F.reads folder.old + 1 }
     ensures cause { HasPageCause (F.faults folder.old) (F.faults folder.new) result }
-    ensures place { IfOk result (λ p. (first : ℕ) (s : Spot) (path : Region) (t : IndexTree) → IsAt node.now first s path t → IsPlaceOf p s t) }
+    ensures place { IfOk result
+        (λ p. (first : ℕ) (s : Spot) (path : Region) (t : IndexTree) → IsAt node.now first s path t
+        → IsPlaceOf p s t) }
     ensures small { IfOk result (λ p. p.page < 8388608) }
     ensures fits { IfOk result (λ p. p.offset + p.length ≤ 4064) }
     ensures kept { IfOk result (λ p. IsKept cache.new head.now.id (page_of head.now p.page)) }
     ensures hit { (first : ℕ) (s : Spot) (path : Region) (t : IndexTree) → IsAt node.now first s path t
-        → IsKept cache.old head.now.id (page_of head.now s.page) → IsOk result × (F.reads folder.new ≡ F.reads folder.old) }
+        → IsKept cache.old head.now.id (page_of head.now s.page) → IsOk result
+        × (F.reads folder.new ≡ F.reads folder.old) }
     ensures others { (i : ℕ) → KeepsFile cache.new i → KeepsFile cache.old i ⊎ (i ≡ head.now.id) }
     ensures agrees { IsTrue F.told → Agrees (F.files folder.old) cache.old → Agrees (F.files folder.old) cache.new }
-    ensures shown { (first : ℕ) (s : Spot) (path : Region) (t : IndexTree) → IsAt node.now first s path t → OnDamage result (IsLeafDamage D head.now first s t) }
+    ensures shown { (first : ℕ) (s : Spot) (path : Region) (t : IndexTree) → IsAt node.now first s path t
+        → OnDamage result (IsLeafDamage D head.now first s t) }
     ensures damage { IsTrue F.told → OnDamage result (IsLeafDamageOf (F.files folder.old)) }
-    ensures whole { IsTrue F.told → (first : ℕ) (s : Spot) (path : Region) (t : IndexTree) → IsAt node.now first s path t
-        → IsFilePage (Segment head.now.id) (bytes_of (F.files folder.old (Segment head.now.id))) (page_of head.now s.page) → NotDamaged result }
+    ensures whole { IsTrue F.told → (first : ℕ) (s : Spot) (path : Region) (t : IndexTree)
+        → IsAt node.now first s path t
+        → IsFilePage (Segment head.now.id) (bytes_of (F.files folder.old (Segment head.now.id)))
+        (page_of head.now s.page) → NotDamaged result }
 {
     let Some(place) = node.leaf_place() else {
         unreachable!()
@@ -98,14 +105,17 @@ pub fn leaf_in<'a, const D: usize>(
     requires small { place.page < 8388608 }
     requires fits { place.offset + place.length ≤ 4064 }
     requires kept { IsKept cache.now head.now.id (page_of head.now place.page) }
-    ensures some { IfSome result (λ view. (files : Files) (first : ℕ) (s : Spot) (path : Region) (len : ℕ) (own : Region)
+    ensures some { IfSome result
+        (λ view. (files : Files) (first : ℕ) (s : Spot) (path : Region) (len : ℕ) (own : Region)
         → Agrees files cache.now → IsAt node.now first s path (Leaf len own) → IsPlaceOf place s (Leaf len own)
         → HoldsLeaf D (bytes_of (files (Segment head.now.id))) head.now first s len own view) }
     ensures none { IfNone result ((files : Files) (first : ℕ) (s : Spot) (path : Region) (len : ℕ) (own : Region)
         → Agrees files cache.now → IsAt node.now first s path (Leaf len own) → IsPlaceOf place s (Leaf len own)
         → (items : List Item) → HoldsLeaf D (bytes_of (files (Segment head.now.id))) head.now first s len own items → ⊥) }
     // As many as the head says, over every folder.
-    ensures count { IfSome result (λ view. (first : ℕ) (s : Spot) (path : Region) (t : IndexTree) → IsAt node.now first s path t → length view ≡ count_of head.now first) }
+    ensures count { IfSome result
+        (λ view. (first : ℕ) (s : Spot) (path : Region) (t : IndexTree) → IsAt node.now first s path t
+        → length view ≡ count_of head.now first) }
     ensures bad { IfNone result (SpellsNoLeaf cache.now head.now node.now place) }
 {
     let cell = node.cell();
@@ -155,7 +165,8 @@ pub fn bad_leaf<const D: usize>(
     requires kept { IsKept cache.old head.now.id (page_of head.now place.page) }
     requires bad { SpellsNoLeaf cache.old head.now node.now place }
     ensures is { IsLeafFault cache.old head.now place result }
-    ensures shown { (first : ℕ) (s : Spot) (path : Region) (t : IndexTree) → IsAt node.now first s path t → IsPlaceOf place s t
+    ensures shown { (first : ℕ) (s : Spot) (path : Region) (t : IndexTree) → IsAt node.now first s path t
+        → IsPlaceOf place s t
         → OnFault result (IsLeafDamage D head.now first s t) }
     ensures damage { (files : Files) → Agrees files cache.old → OnFault result (IsLeafDamageOf files) }
     ensures fewer { (i : ℕ) → KeepsFile cache.new i → KeepsFile cache.old i }

@@ -1,6 +1,7 @@
 //! Files of live bits.
 
-ghost use Rattle.std.specs.Prelude.{◌≡◌, ◌≢◌, ◌≤◌, ◌+◌, ◌*◌, ◌/◌, ◌++◌, ℕ, List, length, vec_len, IsTrue, IfOk, OnOk, IsErrOf};
+ghost use Rattle.std.specs.Prelude.{◌≡◌, ◌≢◌, ◌≤◌, ◌+◌, ◌*◌, ◌/◌, ◌++◌, ℕ, List, length, vec_len, IsTrue, IfOk, OnOk};
+ghost use Rattle.std.specs.Prelude.{IsErrOf};
 ghost use Rattle.outer_io.specs.Files.{bytes_of, SameBut};
 ghost use Rattle.outer_io.specs.declared.file_name.FileName.TheVariants.{Live};
 ghost use Rattle.live_bits.specs.LiveSet.{LiveSet, IsLiveSet};
@@ -29,7 +30,8 @@ pub fn write_live<F: Folder>(
     generation: u64,
     live: &LiveBits,
 ) -> Result<(), SegFault>
-    ensures written { IsTrue F.told → OnOk result (IsLiveFile id generation (bytes_of (F.files folder.new (Live id generation))) live.now) }
+    ensures written { IsTrue F.told
+        → OnOk result (IsLiveFile id generation (bytes_of (F.files folder.new (Live id generation))) live.now) }
     ensures others { IsTrue F.told → SameBut (Live id generation) (F.files folder.old) (F.files folder.new) }
     ensures reads { F.reads folder.new ≡ F.reads folder.old }
     ensures cause { HasSegCause (F.faults folder.old) (F.faults folder.new) result }
@@ -64,10 +66,12 @@ pub fn read_live<F: Pages>(
     generation: u64,
 ) -> Result<LiveBits, PageFault>
     ensures files { IsTrue F.told → F.files folder.new ≡ F.files folder.old }
-    ensures live { IsTrue F.told → IfOk result (IsLiveFile id generation (bytes_of (F.files folder.old (Live id generation)))) }
+    ensures live { IsTrue F.told
+        → IfOk result (IsLiveFile id generation (bytes_of (F.files folder.old (Live id generation)))) }
     ensures set { IfOk result IsLiveSet }
     // a file that has a set is read page by page once, whatever is answered
-    ensures reads { IsTrue F.told → (live : LiveSet) → IsLiveFile id generation (bytes_of (F.files folder.old (Live id generation))) live
+    ensures reads { IsTrue F.told → (live : LiveSet)
+        → IsLiveFile id generation (bytes_of (F.files folder.old (Live id generation))) live
         → F.reads folder.new ≤ F.reads folder.old + length (bytes_of (F.files folder.old (Live id generation))) / 4096 }
     // and so is any other
     ensures once { IsTrue F.told
@@ -75,7 +79,8 @@ pub fn read_live<F: Pages>(
     ensures cause { HasPageCause (F.faults folder.old) (F.faults folder.new) result }
     ensures shown { OnDamage result (IsLiveDamage id generation) }
     ensures damage { IsTrue F.told → OnDamage result (IsLiveDamageOf (F.files folder.old)) }
-    ensures whole { IsTrue F.told → (live : LiveSet) → IsLiveFile id generation (bytes_of (F.files folder.old (Live id generation))) live → NotDamaged result }
+    ensures whole { IsTrue F.told → (live : LiveSet)
+        → IsLiveFile id generation (bytes_of (F.files folder.old (Live id generation))) live → NotDamaged result }
 {
     let name = FileName::Live {
         segment: id,
@@ -92,7 +97,9 @@ pub fn read_live<F: Pages>(
 /// How long the body is that the first page begins. Where no body begins so, the damage carries the payload.
 fn said_len(alloc: Global, id: u64, generation: u64, payload: &[u8]) -> Result<u32, PageFault>
     requires long { length payload.now ≡ 4064 }
-    ensures len { IfOk result (λ n. (s : LiveSet) (body x y : List ℕ) → IsLiveBody id generation s body → payload.now ++ x ≡ body ++ y → length body ≡ n) }
+    ensures len { IfOk result
+        (λ n. (s : LiveSet) (body x y : List ℕ) → IsLiveBody id generation s body → payload.now ++ x ≡ body ++ y
+        → length body ≡ n) }
     ensures said { IfOk result (SaysLength id generation payload.now) }
     ensures few { IfOk result (λ n. (36 ≤ n) × (n ≤ 2097188)) }
     ensures shown { OnDamage result (IsLiveDamage id generation) }
@@ -134,7 +141,9 @@ fn set_of(
 ) -> Result<LiveBits, PageFault>
     requires few { (36 ≤ len) × (len ≤ 2097188) }
     requires long { vec_len payloads ≡ 4064 * pages_for_body len }
-    requires said { (s : LiveSet) (body x y : List ℕ) → IsLiveBody id generation s body → payloads.items ++ x ≡ body ++ y → length body ≡ len }
+    requires said { (s : LiveSet) (body x y : List ℕ) → IsLiveBody id generation s body
+        → payloads.items ++ x ≡ body ++ y
+        → length body ≡ len }
     ensures set { IfOk result (IsSetOf id generation payloads.items) }
     ensures long { OnOk result (length payloads.items ≡ 4064 * pages_for_body len) }
     ensures shown { OnDamage result (IsLiveDamage id generation) }

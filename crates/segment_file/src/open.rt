@@ -1,6 +1,7 @@
 //! Opening a segment.
 
-ghost use Rattle.std.specs.Prelude.{◌≡◌, ◌≢◌, ◌≤◌, ◌+◌, ◌*◌, ◌++◌, ◌↔◌, ℕ, List, length, vec_len, IsTrue, IsOk, IfOk, OnOk, IsErrOf};
+ghost use Rattle.std.specs.Prelude.{◌≡◌, ◌≢◌, ◌≤◌, ◌+◌, ◌*◌, ◌++◌, ◌↔◌, ℕ, List, length, vec_len, IsTrue, IsOk, IfOk};
+ghost use Rattle.std.specs.Prelude.{OnOk, IsErrOf};
 ghost use Rattle.outer_io.specs.Files.{Files, bytes_of};
 ghost use Rattle.outer_io.specs.declared.file_name.FileName.TheVariants.{Segment};
 ghost use Rattle.inner_pack.specs.Bodies.{IsSpelled};
@@ -50,7 +51,8 @@ pub fn open_segment<const D: usize, F: Pages>(
     ensures head { IsTrue F.told → IfOk result (IsHeadOf D (bytes_of (F.files folder.old (Segment id)))) }
     ensures shown { OnDamage result (IsHeadDamage id) }
     ensures damage { IsTrue F.told → OnDamage result (IsHeadDamageOf D (F.files folder.old)) }
-    ensures whole { IsTrue F.told → (h : Head) → h.id ≡ id → IsHeadOf D (bytes_of (F.files folder.old (Segment id))) h → NotDamaged result }
+    ensures whole { IsTrue F.told → (h : Head) → h.id ≡ id → IsHeadOf D (bytes_of (F.files folder.old (Segment id))) h
+        → NotDamaged result }
 {
     let (first, fields) = read_head::<D, F>(alloc, folder, id)?;
     let index = read_index::<D, F>(alloc, folder, id, first.payload(), fields)?;
@@ -84,7 +86,8 @@ fn read_head<const D: usize, F: Pages>(
     ensures size { IfOk result (λ r. first_size r.0 ≡ 4096 * (1 + pages_for_body r.1.index_length + r.1.leaf_pages)) }
     ensures shown { OnDamage result (IsHeadDamage id) }
     ensures damage { IsTrue F.told → OnDamage result (IsHeadDamageOf D (F.files folder.old)) }
-    ensures whole { IsTrue F.told → (h : Head) → h.id ≡ id → IsHeadOf D (bytes_of (F.files folder.old (Segment id))) h → NotDamaged result }
+    ensures whole { IsTrue F.told → (h : Head) → h.id ≡ id → IsHeadOf D (bytes_of (F.files folder.old (Segment id))) h
+        → NotDamaged result }
 {
     let first = FirstPage::read(alloc, folder, &FileName::Segment(id))?;
     let fields = fields_of(alloc, id, first.payload())?;
@@ -144,9 +147,11 @@ fn agree(id: u64, said: u64, found: u64) -> Result<(), PageFault>
 /// Whether the file has just the pages that the fields say.
 fn check_size(first: &FirstPage, id: u64, fields: HeadFields) -> Result<(), PageFault>
     requires { first_name first.now ≡ Segment id }
-    ensures ok { IsOk result ↔ (first_size first.now ≡ 4096 * (1 + pages_for_body fields.index_length + fields.leaf_pages)) }
+    ensures ok { IsOk result ↔
+        (first_size first.now ≡ 4096 * (1 + pages_for_body fields.index_length + fields.leaf_pages)) }
     ensures shown { OnDamage result (IsHeadDamage id) }
-    ensures damage { (D : ℕ) (files : Files) → IsFirstPage files first.now → HasFields (first_payload first.now) fields → OnDamage result (IsHeadDamageOf D files) }
+    ensures damage { (D : ℕ) (files : Files) → IsFirstPage files first.now → HasFields (first_payload first.now) fields
+        → OnDamage result (IsHeadDamageOf D files) }
     ensures no_fault { IsErrOf result page.Failed → ⊥ }
 {
     let pages = 1 + u64::from(pages_for(fields.index_length)) + u64::from(fields.leaf_pages);
@@ -177,12 +182,20 @@ fn read_index<const D: usize, F: Pages>(
     ensures reads { F.reads folder.new ≤ F.reads folder.old + pages_for_body fields.index_length }
     ensures cause { HasPageCause (F.faults folder.old) (F.faults folder.new) result }
     ensures index { IfOk result (λ i. (payloads : List ℕ) × IsIndexOf D fields payloads i) }
-    ensures payloads { IsTrue F.told → IfOk result (IsIndexOf D fields (payloads_of (bytes_of (F.files folder.old (Segment id))) 1 (pages_for_body fields.index_length))) }
-    ensures pages { IsTrue F.told → OnOk result (ArePages (Segment id) (bytes_of (F.files folder.old (Segment id))) 1 (1 + pages_for_body fields.index_length)) }
+    ensures payloads { IsTrue F.told
+        → IfOk result
+        (IsIndexOf D fields
+        (payloads_of (bytes_of (F.files folder.old (Segment id))) 1 (pages_for_body fields.index_length))) }
+    ensures pages { IsTrue F.told
+        → OnOk result
+        (ArePages (Segment id) (bytes_of (F.files folder.old (Segment id))) 1
+        (1 + pages_for_body fields.index_length)) }
     ensures shown { OnDamage result (IsHeadDamage id) }
     ensures damage { IsTrue F.told → IsFilePage (Segment id) (bytes_of (F.files folder.old (Segment id))) 0
         → payload.now ≡ payload_of (page_at (bytes_of (F.files folder.old (Segment id))) 0)
-        → length (bytes_of (F.files folder.old (Segment id))) ≡ 4096 * (1 + pages_for_body fields.index_length + fields.leaf_pages) → OnDamage result (IsHeadDamageOf D (F.files folder.old)) }
+        → length (bytes_of (F.files folder.old (Segment id))) ≡ 4096 *
+        (1 + pages_for_body fields.index_length + fields.leaf_pages)
+        → OnDamage result (IsHeadDamageOf D (F.files folder.old)) }
     ensures whole { IsTrue F.told → (h : Head) → h.id ≡ id → IsHeadOf D (bytes_of (F.files folder.old (Segment id))) h
         → payload.now ≡ payload_of (page_at (bytes_of (F.files folder.old (Segment id))) 0) → NotDamaged result }
 {

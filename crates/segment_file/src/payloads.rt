@@ -1,6 +1,7 @@
 //! Payloads in memory.
 
-ghost use Rattle.std.specs.Prelude.{◌≡◌, ◌≤◌, ◌↔◌, ◌++◌, ◌+◌, ◌*◌, ℕ, List, IsTrue, IfOk, OnOk, length, vec_len, replicate};
+ghost use Rattle.std.specs.Prelude.{◌≡◌, ◌≤◌, ◌↔◌, ◌++◌, ◌+◌, ◌*◌, ℕ, List, IsTrue, IfOk, OnOk, length, vec_len};
+ghost use Rattle.std.specs.Prelude.{replicate};
 ghost use Rattle.outer_io.specs.Files.{bytes_of};
 ghost use Rattle.page_cache.specs.Causes.{HasPageCause};
 ghost use Rattle.page_cache.specs.Evidence.{OnDamage, NotDamaged, SizeWithin, IsFileDamage, IsFileDamageOf};
@@ -45,12 +46,15 @@ pub(crate) fn all_payloads<F: Pages>(
     ensures cause { HasPageCause (F.faults folder.old) (F.faults folder.new) result }
     ensures len { IfOk result (λ v. vec_len v ≡ 4064 * pages) }
     ensures front { IfOk result (λ v. (rest : List ℕ) × (v.items ≡ first_payload first.now ++ rest)) }
-    ensures payloads { IsTrue F.told → IsFirstPage (F.files folder.old) first.now → IfOk result (λ v. v.items ≡ payloads_of (bytes_of (F.files folder.old name.now)) 0 pages) }
-    ensures pages { IsTrue F.told → IsFirstPage (F.files folder.old) first.now → OnOk result (ArePages name.now (bytes_of (F.files folder.old name.now)) 0 pages) }
+    ensures payloads { IsTrue F.told → IsFirstPage (F.files folder.old) first.now
+        → IfOk result (λ v. v.items ≡ payloads_of (bytes_of (F.files folder.old name.now)) 0 pages) }
+    ensures pages { IsTrue F.told → IsFirstPage (F.files folder.old) first.now
+        → OnOk result (ArePages name.now (bytes_of (F.files folder.old name.now)) 0 pages) }
     ensures shown { OnDamage result (IsFileDamage name.now) }
     ensures within { OnDamage result (SizeWithin (4096 * pages)) }
     ensures damage { IsTrue F.told → OnDamage result (IsFileDamageOf (F.files folder.old)) }
-    ensures whole { IsTrue F.told → ArePages name.now (bytes_of (F.files folder.old name.now)) 1 pages → NotDamaged result }
+    ensures whole { IsTrue F.told → ArePages name.now (bytes_of (F.files folder.old name.now)) 1 pages
+        → NotDamaged result }
 {
     let rest = read_payloads(alloc, folder, name, pages - 1)?;
     Ok(joined(alloc, first.payload(), rest.as_slice())?)

@@ -48,9 +48,12 @@ impl Pieces {
         ensures id { piece_id self.new ≡ piece_id self.old }
         ensures pages { OnOk result (piece_pages self.new ≡ piece_pages self.old + pages_for_body (length body.now)) }
         ensures put { IsTrue F.told → OnOk result ((payloads : List ℕ)
-            → IsPaged (Segment (piece_id self.old)) (piece_pages self.old) payloads (so_far (bytes_of (F.files folder.old (Segment (piece_id self.old)))) self.old)
-            → IsPaged (Segment (piece_id self.old)) (piece_pages self.new) (payloads ++ filled body.now) (so_far (bytes_of (F.files folder.new (Segment (piece_id self.old)))) self.new)) }
-        ensures others { IsTrue F.told → SameBut (Segment (piece_id self.old)) (F.files folder.old) (F.files folder.new) }
+            → IsPaged (Segment (piece_id self.old)) (piece_pages self.old) payloads
+            (so_far (bytes_of (F.files folder.old (Segment (piece_id self.old)))) self.old)
+            → IsPaged (Segment (piece_id self.old)) (piece_pages self.new) (payloads ++ filled body.now)
+            (so_far (bytes_of (F.files folder.new (Segment (piece_id self.old)))) self.new)) }
+        ensures others { IsTrue F.told
+            → SameBut (Segment (piece_id self.old)) (F.files folder.old) (F.files folder.new) }
         ensures reads { F.reads folder.new ≡ F.reads folder.old }
         ensures cause { HasSegCause (F.faults folder.old) (F.faults folder.new) result }
     {
@@ -67,8 +70,11 @@ impl Pieces {
         requires room { piece_pages self.old + pages_for_body (length body.now) < 2 ^ 32 }
         ensures id { piece_id self.new ≡ piece_id self.old }
         ensures pages { OnOk result (piece_pages self.new ≡ piece_pages self.old + pages_for_body (length body.now)) }
-        ensures put { OnOk result ((files payloads : List ℕ) → IsPaged (Segment (piece_id self.old)) (piece_pages self.old) payloads (so_far files self.old)
-            → IsPaged (Segment (piece_id self.old)) (piece_pages self.new) (payloads ++ filled body.now) (so_far files self.new)) }
+        ensures put { OnOk result
+            ((files payloads : List ℕ)
+            → IsPaged (Segment (piece_id self.old)) (piece_pages self.old) payloads (so_far files self.old)
+            → IsPaged (Segment (piece_id self.old)) (piece_pages self.new) (payloads ++ filled body.now)
+            (so_far files self.new)) }
     {
         put_pages(&mut self.out, &FileName::Segment(self.id), self.pages, body)?;
         self.pages += pages_for(body.len() as u32);
@@ -79,10 +85,15 @@ impl Pieces {
     pub(crate) fn hand_over<F: Folder>(&mut self, folder: &mut F) -> Result<(), SegFault>
         ensures id { piece_id self.new ≡ piece_id self.old }
         ensures pages { piece_pages self.new ≡ piece_pages self.old }
-        ensures same { IsTrue F.told → OnOk result (so_far (bytes_of (F.files folder.new (Segment (piece_id self.old)))) self.new
+        ensures same { IsTrue F.told
+            → OnOk result (so_far (bytes_of (F.files folder.new (Segment (piece_id self.old)))) self.new
             ≡ so_far (bytes_of (F.files folder.old (Segment (piece_id self.old)))) self.old) }
-        ensures file { IsTrue F.told → OnOk result (bytes_of (F.files folder.new (Segment (piece_id self.old))) ≡ so_far (bytes_of (F.files folder.old (Segment (piece_id self.old)))) self.old) }
-        ensures others { IsTrue F.told → SameBut (Segment (piece_id self.old)) (F.files folder.old) (F.files folder.new) }
+        ensures file { IsTrue F.told
+            → OnOk result
+            (bytes_of (F.files folder.new (Segment (piece_id self.old))) ≡ so_far
+            (bytes_of (F.files folder.old (Segment (piece_id self.old)))) self.old) }
+        ensures others { IsTrue F.told
+            → SameBut (Segment (piece_id self.old)) (F.files folder.old) (F.files folder.new) }
         ensures reads { F.reads folder.new ≡ F.reads folder.old }
         ensures cause { HasSegCause (F.faults folder.old) (F.faults folder.new) result }
     {

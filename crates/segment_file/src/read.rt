@@ -1,6 +1,7 @@
 //! All live entries of a segment.
 
-ghost use Rattle.std.specs.Prelude.{◌≡◌, ◌≤◌, ◌+◌, ◌⊎◌, ◌++◌, ◌∷◌, ◌<◌, ℕ, List, [], Some, length, slice_get, filter, true, All, IsTrue, IfOk, OnOk};
+ghost use Rattle.std.specs.Prelude.{◌≡◌, ◌≤◌, ◌+◌, ◌⊎◌, ◌++◌, ◌∷◌, ◌<◌, ℕ, List, [], Some, length, slice_get, filter};
+ghost use Rattle.std.specs.Prelude.{true, All, IsTrue, IfOk, OnOk};
 ghost use Rattle.outer_io.specs.Files.{bytes_of};
 ghost use Rattle.outer_io.specs.declared.file_name.FileName.TheVariants.{Segment};
 ghost use Rattle.point_codec.specs.Points.{Item, Region};
@@ -39,7 +40,8 @@ pub fn read_entries<const D: usize, F: Pages>(
     live: &LiveBits,
 ) -> Result<Vec<Entry<D>>, PageFault>
     ensures files { IsTrue F.told → F.files folder.new ≡ F.files folder.old }
-    ensures reads { (root : Region) (t : IndexTree) → HasTree D head.now.index root t → F.reads folder.new ≤ F.reads folder.old + head.now.index.leaves }
+    ensures reads { (root : Region) (t : IndexTree) → HasTree D head.now.index root t
+        → F.reads folder.new ≤ F.reads folder.old + head.now.index.leaves }
     // each leaf page once at most, whatever the cache held
     ensures pages { (root : Region) (t : IndexTree) → HasTree D head.now.index root t
         → F.reads folder.new ≤ F.reads folder.old + pages_of t }
@@ -51,16 +53,22 @@ pub fn read_entries<const D: usize, F: Pages>(
         → (root : Region) (t : IndexTree) → HasTree D head.now.index root t
         → IfOk result (λ v. Gathers D (bytes_of (F.files folder.old (Segment head.now.id))) head.now 0 front t
         live.now [] (items_of v.items)) }
-    ensures spelled { IsTrue F.told → Agrees (F.files folder.old) cache.old → IsHeadOf D (bytes_of (F.files folder.old (Segment head.now.id))) head.now
-        → IfOk result (λ v. (items : List Item) × IsSegment D (bytes_of (F.files folder.old (Segment head.now.id))) head.now items
+    ensures spelled { IsTrue F.told → Agrees (F.files folder.old) cache.old
+        → IsHeadOf D (bytes_of (F.files folder.old (Segment head.now.id))) head.now
+        → IfOk result
+        (λ v. (items : List Item) × IsSegment D (bytes_of (F.files folder.old (Segment head.now.id))) head.now items
         × (items_of v.items ≡ filter (λ x. is_live live.now x.doc) items)) }
-    ensures entries { IsTrue F.told → Agrees (F.files folder.old) cache.old → (items : List Item) → IsSegment D (bytes_of (F.files folder.old (Segment head.now.id))) head.now items
+    ensures entries { IsTrue F.told → Agrees (F.files folder.old) cache.old → (items : List Item)
+        → IsSegment D (bytes_of (F.files folder.old (Segment head.now.id))) head.now items
         → IfOk result (λ v. items_of v.items ≡ filter (λ x. is_live live.now x.doc) items) }
     // whatever the folder gives
     ensures live { IfOk result (λ v. All (λ x. is_live live.now x.doc ≡ true) (items_of v.items)) }
-    ensures shown { (root : Region) (t : IndexTree) → HasTree D head.now.index root t → OnDamage result (IsLeafDamage D head.now 0 front t) }
-    ensures damage { IsTrue F.told → Agrees (F.files folder.old) cache.old → OnDamage result (IsLeafDamageOf (F.files folder.old)) }
-    ensures whole { IsTrue F.told → Agrees (F.files folder.old) cache.old → (items : List Item) → IsSegment D (bytes_of (F.files folder.old (Segment head.now.id))) head.now items
+    ensures shown { (root : Region) (t : IndexTree) → HasTree D head.now.index root t
+        → OnDamage result (IsLeafDamage D head.now 0 front t) }
+    ensures damage { IsTrue F.told → Agrees (F.files folder.old) cache.old
+        → OnDamage result (IsLeafDamageOf (F.files folder.old)) }
+    ensures whole { IsTrue F.told → Agrees (F.files folder.old) cache.old → (items : List Item)
+        → IsSegment D (bytes_of (F.files folder.old (Segment head.now.id))) head.now items
         → NotDamaged result }
 {
     let mut entries = Vec::new(alloc);
@@ -80,7 +88,8 @@ fn gather<const D: usize, F: Pages>(
     entries: &mut Vec<Entry<D>>,
 ) -> Result<(), PageFault>
     ensures files { IsTrue F.told → F.files folder.new ≡ F.files folder.old }
-    ensures reads { (first : ℕ) (s : Spot) (path : Region) (t : IndexTree) → IsAt node.now first s path t → F.reads folder.new ≤ F.reads folder.old + leaf_count t }
+    ensures reads { (first : ℕ) (s : Spot) (path : Region) (t : IndexTree) → IsAt node.now first s path t
+        → F.reads folder.new ≤ F.reads folder.old + leaf_count t }
     ensures pages { (first : ℕ) (s : Spot) (path : Region) (t : IndexTree) → IsAt node.now first s path t
         → ReadsEach (F.reads folder.old) (F.reads folder.new) cache.old head.now s t }
     ensures last { (first : ℕ) (s : Spot) (path : Region) (t : IndexTree) → IsAt node.now first s path t
@@ -88,13 +97,24 @@ fn gather<const D: usize, F: Pages>(
     ensures cause { HasPageCause (F.faults folder.old) (F.faults folder.new) result }
     ensures others { (i : ℕ) → KeepsFile cache.new i → KeepsFile cache.old i ⊎ (i ≡ head.now.id) }
     ensures agrees { IsTrue F.told → Agrees (F.files folder.old) cache.old → Agrees (F.files folder.old) cache.new }
-    ensures gathers { IsTrue F.told → Agrees (F.files folder.old) cache.old → (first : ℕ) (s : Spot) (path : Region) (t : IndexTree) → IsAt node.now first s path t
-        → OnOk result (Gathers D (bytes_of (F.files folder.old (Segment head.now.id))) head.now first s t live.now (items_of entries.old.items) (items_of entries.new.items)) }
-    ensures live { All (λ x. is_live live.now x.doc ≡ true) (items_of entries.old.items) → All (λ x. is_live live.now x.doc ≡ true) (items_of entries.new.items) }
-    ensures shown { (first : ℕ) (s : Spot) (path : Region) (t : IndexTree) → IsAt node.now first s path t → OnDamage result (IsLeafDamage D head.now first s t) }
-    ensures damage { IsTrue F.told → Agrees (F.files folder.old) cache.old → OnDamage result (IsLeafDamageOf (F.files folder.old)) }
-    ensures whole { IsTrue F.told → Agrees (F.files folder.old) cache.old → (first : ℕ) (s : Spot) (path : Region) (t : IndexTree) → IsAt node.now first s path t
-        → (items : List Item) → HoldsTree D (bytes_of (F.files folder.old (Segment head.now.id))) head.now first s t items → NotDamaged result }
+    ensures gathers { IsTrue F.told → Agrees (F.files folder.old) cache.old
+        → (first : ℕ) (s : Spot) (path : Region) (t : IndexTree)
+        → IsAt node.now first s path t
+        → OnOk result
+        (Gathers D (bytes_of (F.files folder.old (Segment head.now.id))) head.now first s t live.now
+        (items_of entries.old.items) (items_of entries.new.items)) }
+    ensures live { All (λ x. is_live live.now x.doc ≡ true) (items_of entries.old.items)
+        → All (λ x. is_live live.now x.doc ≡ true) (items_of entries.new.items) }
+    ensures shown { (first : ℕ) (s : Spot) (path : Region) (t : IndexTree) → IsAt node.now first s path t
+        → OnDamage result (IsLeafDamage D head.now first s t) }
+    ensures damage { IsTrue F.told → Agrees (F.files folder.old) cache.old
+        → OnDamage result (IsLeafDamageOf (F.files folder.old)) }
+    ensures whole { IsTrue F.told → Agrees (F.files folder.old) cache.old
+        → (first : ℕ) (s : Spot) (path : Region) (t : IndexTree)
+        → IsAt node.now first s path t
+        → (items : List Item)
+        → HoldsTree D (bytes_of (F.files folder.old (Segment head.now.id))) head.now first s t items
+        → NotDamaged result }
 {
     match node.children() {
         Some((left, right)) => {
@@ -117,7 +137,8 @@ fn gather_leaf<const D: usize, F: Pages>(
 ) -> Result<(), PageFault>
     requires { node.now.leaves ≡ 1 }
     ensures files { IsTrue F.told → F.files folder.new ≡ F.files folder.old }
-    ensures reads { (first : ℕ) (s : Spot) (path : Region) (t : IndexTree) → IsAt node.now first s path t → F.reads folder.new ≤ F.reads folder.old + leaf_count t }
+    ensures reads { (first : ℕ) (s : Spot) (path : Region) (t : IndexTree) → IsAt node.now first s path t
+        → F.reads folder.new ≤ F.reads folder.old + leaf_count t }
     ensures pages { (first : ℕ) (s : Spot) (path : Region) (t : IndexTree) → IsAt node.now first s path t
         → ReadsEach (F.reads folder.old) (F.reads folder.new) cache.old head.now s t }
     ensures last { (first : ℕ) (s : Spot) (path : Region) (t : IndexTree) → IsAt node.now first s path t
@@ -125,13 +146,24 @@ fn gather_leaf<const D: usize, F: Pages>(
     ensures cause { HasPageCause (F.faults folder.old) (F.faults folder.new) result }
     ensures others { (i : ℕ) → KeepsFile cache.new i → KeepsFile cache.old i ⊎ (i ≡ head.now.id) }
     ensures agrees { IsTrue F.told → Agrees (F.files folder.old) cache.old → Agrees (F.files folder.old) cache.new }
-    ensures gathers { IsTrue F.told → Agrees (F.files folder.old) cache.old → (first : ℕ) (s : Spot) (path : Region) (t : IndexTree) → IsAt node.now first s path t
-        → OnOk result (Gathers D (bytes_of (F.files folder.old (Segment head.now.id))) head.now first s t live.now (items_of entries.old.items) (items_of entries.new.items)) }
-    ensures live { All (λ x. is_live live.now x.doc ≡ true) (items_of entries.old.items) → All (λ x. is_live live.now x.doc ≡ true) (items_of entries.new.items) }
-    ensures shown { (first : ℕ) (s : Spot) (path : Region) (t : IndexTree) → IsAt node.now first s path t → OnDamage result (IsLeafDamage D head.now first s t) }
-    ensures damage { IsTrue F.told → Agrees (F.files folder.old) cache.old → OnDamage result (IsLeafDamageOf (F.files folder.old)) }
-    ensures whole { IsTrue F.told → Agrees (F.files folder.old) cache.old → (first : ℕ) (s : Spot) (path : Region) (t : IndexTree) → IsAt node.now first s path t
-        → (items : List Item) → HoldsTree D (bytes_of (F.files folder.old (Segment head.now.id))) head.now first s t items → NotDamaged result }
+    ensures gathers { IsTrue F.told → Agrees (F.files folder.old) cache.old
+        → (first : ℕ) (s : Spot) (path : Region) (t : IndexTree)
+        → IsAt node.now first s path t
+        → OnOk result
+        (Gathers D (bytes_of (F.files folder.old (Segment head.now.id))) head.now first s t live.now
+        (items_of entries.old.items) (items_of entries.new.items)) }
+    ensures live { All (λ x. is_live live.now x.doc ≡ true) (items_of entries.old.items)
+        → All (λ x. is_live live.now x.doc ≡ true) (items_of entries.new.items) }
+    ensures shown { (first : ℕ) (s : Spot) (path : Region) (t : IndexTree) → IsAt node.now first s path t
+        → OnDamage result (IsLeafDamage D head.now first s t) }
+    ensures damage { IsTrue F.told → Agrees (F.files folder.old) cache.old
+        → OnDamage result (IsLeafDamageOf (F.files folder.old)) }
+    ensures whole { IsTrue F.told → Agrees (F.files folder.old) cache.old
+        → (first : ℕ) (s : Spot) (path : Region) (t : IndexTree)
+        → IsAt node.now first s path t
+        → (items : List Item)
+        → HoldsTree D (bytes_of (F.files folder.old (Segment head.now.id))) head.now first s t items
+        → NotDamaged result }
 {
     let place = load_leaf(alloc, folder, cache, head, node)?;
     let Some(view) = leaf_in(cache, head, node, place) else {
@@ -147,8 +179,10 @@ fn push_live<const D: usize>(
     live: &LiveBits,
     entries: &mut Vec<Entry<D>>,
 ) -> Result<(), Memory>
-    ensures all { OnOk result (items_of entries.new.items ≡ items_of entries.old.items ++ filter (λ x. is_live live.now x.doc) view.now) }
-    ensures live { All (λ x. is_live live.now x.doc ≡ true) (items_of entries.old.items) → All (λ x. is_live live.now x.doc ≡ true) (items_of entries.new.items) }
+    ensures all { OnOk result
+        (items_of entries.new.items ≡ items_of entries.old.items ++ filter (λ x. is_live live.now x.doc) view.now) }
+    ensures live { All (λ x. is_live live.now x.doc ≡ true) (items_of entries.old.items)
+        → All (λ x. is_live live.now x.doc ≡ true) (items_of entries.new.items) }
 {
     for i in 0..view.count() {
         push_if_live(view, i, live, entries)?;
@@ -165,8 +199,10 @@ fn push_if_live<const D: usize>(
 ) -> Result<(), Memory>
     requires { i < length view.now }
     ensures one { (x : Item) → slice_get view.now i ≡ Some x
-        → OnOk result (items_of entries.new.items ≡ items_of entries.old.items ++ filter (λ y. is_live live.now y.doc) (x ∷ [])) }
-    ensures live { All (λ x. is_live live.now x.doc ≡ true) (items_of entries.old.items) → All (λ x. is_live live.now x.doc ≡ true) (items_of entries.new.items) }
+        → OnOk result
+        (items_of entries.new.items ≡ items_of entries.old.items ++ filter (λ y. is_live live.now y.doc) (x ∷ [])) }
+    ensures live { All (λ x. is_live live.now x.doc ≡ true) (items_of entries.old.items)
+        → All (λ x. is_live live.now x.doc ≡ true) (items_of entries.new.items) }
 {
     let doc = view.doc(i);
     if !live.is_live(doc) {

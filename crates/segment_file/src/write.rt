@@ -74,7 +74,8 @@ fn put_segment<F: Folder>(
     requires leaves { All (λ b. length b ≤ 4064) leaves.now }
     requires few { length leaves.now ≤ 8388608 }
     ensures written { IsTrue F.told → OnOk result ((count : ℕ) × IsPaged (Segment id) count
-        (filled (fields_bytes (fields_said fields)) ++ filled index.now ++ laid [] leaves.now) (bytes_of (F.files folder.new (Segment id)))) }
+        (filled (fields_bytes (fields_said fields)) ++ filled index.now ++ laid [] leaves.now)
+        (bytes_of (F.files folder.new (Segment id)))) }
     ensures others { IsTrue F.told → SameBut (Segment id) (F.files folder.old) (F.files folder.new) }
     ensures reads { F.reads folder.new ≡ F.reads folder.old }
     ensures cause { HasSegCause (F.faults folder.old) (F.faults folder.new) result }
@@ -100,8 +101,10 @@ fn put_leaves<F: Folder>(
     requires room { piece_pages pieces.old + length leaves.now + 1 < 2 ^ 32 }
     ensures id { piece_id pieces.new ≡ piece_id pieces.old }
     ensures put { IsTrue F.told → OnOk result ((payloads : List ℕ)
-        → IsPaged (Segment (piece_id pieces.old)) (piece_pages pieces.old) payloads (so_far (bytes_of (F.files folder.old (Segment (piece_id pieces.old)))) pieces.old)
-        → IsPaged (Segment (piece_id pieces.old)) (piece_pages pieces.new) (payloads ++ laid [] leaves.now) (so_far (bytes_of (F.files folder.new (Segment (piece_id pieces.old)))) pieces.new)) }
+        → IsPaged (Segment (piece_id pieces.old)) (piece_pages pieces.old) payloads
+        (so_far (bytes_of (F.files folder.old (Segment (piece_id pieces.old)))) pieces.old)
+        → IsPaged (Segment (piece_id pieces.old)) (piece_pages pieces.new) (payloads ++ laid [] leaves.now)
+        (so_far (bytes_of (F.files folder.new (Segment (piece_id pieces.old)))) pieces.new)) }
     ensures others { IsTrue F.told → SameBut (Segment (piece_id pieces.old)) (F.files folder.old) (F.files folder.new) }
     ensures reads { F.reads folder.new ≡ F.reads folder.old }
     ensures cause { HasSegCause (F.faults folder.old) (F.faults folder.new) result }
@@ -128,8 +131,11 @@ fn make_room<F: Folder>(
     ensures pages { OnOk result (piece_pages pieces.new ≤ piece_pages pieces.old + 1) }
     ensures fits { OnOk result (length page.new.items + length leaf.now ≤ 4064) }
     ensures put { IsTrue F.told → OnOk result ((payloads : List ℕ) (leaves : List (List ℕ))
-        → IsPaged (Segment (piece_id pieces.old)) (piece_pages pieces.old) payloads (so_far (bytes_of (F.files folder.old (Segment (piece_id pieces.old)))) pieces.old)
-        → (more : List ℕ) × IsPaged (Segment (piece_id pieces.old)) (piece_pages pieces.new) more (so_far (bytes_of (F.files folder.new (Segment (piece_id pieces.old)))) pieces.new)
+        → IsPaged (Segment (piece_id pieces.old)) (piece_pages pieces.old) payloads
+        (so_far (bytes_of (F.files folder.old (Segment (piece_id pieces.old)))) pieces.old)
+        → (more : List ℕ)
+        × IsPaged (Segment (piece_id pieces.old)) (piece_pages pieces.new) more
+        (so_far (bytes_of (F.files folder.new (Segment (piece_id pieces.old)))) pieces.new)
         × (payloads ++ laid page.old.items (leaf.now ∷ leaves) ≡ more ++ laid (page.new.items ++ leaf.now) leaves)) }
     ensures others { IsTrue F.told → SameBut (Segment (piece_id pieces.old)) (F.files folder.old) (F.files folder.new) }
     ensures reads { F.reads folder.new ≡ F.reads folder.old }

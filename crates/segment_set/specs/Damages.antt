@@ -4,7 +4,8 @@ use Rattle.outer_io.specs.declared.file_name.FileName.TheVariants.{Commit, Segme
 use Rattle.outer_io.specs.Files.{Files}
 use Rattle.point_codec.specs.Points.{Item}
 use Rattle.page_cache.specs.declared.faults.Damage.{Damage}
-use Rattle.page_cache.specs.declared.faults.Damage.TheVariants.{Page, Leaf, Body, Missing, Size, Unequal, Beyond, Doubled}
+use Rattle.page_cache.specs.declared.faults.Damage.TheVariants.{Page, Leaf, Body, Missing, Size, Unequal, Beyond}
+use Rattle.page_cache.specs.declared.faults.Damage.TheVariants.{Doubled}
 use Rattle.segment_file.specs.Heads.{Head}
 use Rattle.segment_file.specs.Damages.{IsLeafDamageOf}
 use Rattle.segment_view.specs.Parts.{Part}
@@ -14,9 +15,11 @@ use Rattle.file_names.specs.Names.{NameList, is_named}
 
 -- ---- merges
 
--- entries from which a segment was to be built are more than the points given, or a number has more than 16 of them or one twice
+-- entries from which a segment was to be built are more than the points given, or a number has more than 16 of them or
+-- one twice
 abbrev pub IsDoubt : (given : ℕ) → List Item → Damage → Type 0
-IsDoubt given items (Unequal file said found) = (file ≡ Commit) × (said ≡ given) × (given < found) × (found ≤ length items)
+IsDoubt given items (Unequal file said found) = (file ≡ Commit) × (said ≡ given) × (given < found)
+    × (found ≤ length items)
 IsDoubt given items (Doubled doc) = IsCrowded doc items
 IsDoubt given items (Page file number bytes) = ⊥
 IsDoubt given items (Leaf file number offset len bytes) = ⊥
@@ -25,11 +28,12 @@ IsDoubt given items (Missing file) = ⊥
 IsDoubt given items (Size file size needed) = ⊥
 IsDoubt given items (Beyond doc next) = ⊥
 
--- Merging these segments, or such as the call wrote itself under names that the list didn't have, shows a leaf to be damaged, or live entries
--- to be none of documents.
+-- Merging these segments, or such as the call wrote itself under names that the list didn't have, shows a leaf to be
+-- damaged, or live entries to be none of documents.
 pub data IsMergeDamage (D given : ℕ) (names : NameList) (parts : List Part) (d : Damage) : Type 0 where
   Read : (p : Part) → Contains parts p → IsReadDamage D p.head d → IsMergeDamage D given names parts d
-  New : (head : Head) → is_named names.names (Segment head.id) ≡ false → IsReadDamage D head d → IsMergeDamage D given names parts d
+  New : (head : Head) → is_named names.names (Segment head.id) ≡ false → IsReadDamage D head d
+      → IsMergeDamage D given names parts d
   Doubt : (items : List Item) → IsDoubt given items d → IsMergeDamage D given names parts d
 
 -- and it is true of the files

@@ -48,7 +48,8 @@ OnEndDamage (Err end.Failed) P = Unit {0}
 OnEndDamage (Err end.Memory) P = Unit {0}
 OnEndDamage (Ok _) P = Unit {0}
 
--- faults are never forgotten; a call that is done raised none; one that answers this error, that the folder failed, raised some
+-- faults are never forgotten; a call that is done raised none; one that answers this error, that the folder failed,
+-- raised some
 pub record HasCauseOf {T E : Type 0} (failed_is : E) (before now : ℕ) (result : Result T E) : Type 0 where
   pub later : before ≤ now
   pub fine : OnOk result (now ≡ before)

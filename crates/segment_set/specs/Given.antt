@@ -4,7 +4,8 @@ use Rattle.outer_io.specs.declared.file_name.FileName.{FileName}
 use Rattle.outer_io.specs.declared.file_name.FileName.TheVariants.{Commit, CommitNew, Segment, Live}
 use Rattle.file_names.specs.Names.{NameList, IsNextGeneration, IsNextId, is_named}
 
--- the name is the next one of its kind, and joined the list: a segment has the next id, and live bits have the next generation of their segment
+-- the name is the next one of its kind, and joined the list: a segment has the next id, and live bits have the next
+-- generation of their segment
 abbrev pub IsNextName : NameList → FileName → NameList → Type 0
 IsNextName old (Segment id) new = IsNextId old id new.next_segment × (new.names ≡ old.names ++ Segment id ∷ [])
 IsNextName old (Live segment generation) new =

@@ -17,8 +17,8 @@ use Rattle.file_names.specs.Names.{NameList, is_named}
 use Rattle.segment_set.specs.Given.{AreNext}
 use Rattle.segment_set.specs.Sets.{NamedView, SetData, is_live_in, sizes_of}
 
--- Names are only added, each the one that its rule gives, and a file that is changed has a name that was added: no named file is, and not the
--- Commit file.
+-- Names are only added, each the one that its rule gives, and a file that is changed has a name that was added: no
+-- named file is, and not the Commit file.
 pub record KeepsNamed (told : Type 0) (old new : NameList) (before after : Files) : Type 0 where
   pub given : (names : List FileName) × AreNext old names new
   pub more : (m : FileName) → is_named old.names m ≡ true → is_named new.names m ≡ true
@@ -42,7 +42,8 @@ ViewNeeds parts name = (p : Part) × Contains parts p × (name ≡ Segment p.hea
 
 -- a view needs the file, or the commit lists it. A begun merge needs its inputs alone, which are segments of now
 abbrev pub IsNeeded : SetData → CommitData → FileName → Type 0
-IsNeeded s c name = ListsFile c name ⊎ ViewNeeds s.parts name ⊎ ((v : NamedView) × Contains s.snapshots v × ViewNeeds v.parts name)
+IsNeeded s c name = ListsFile c name ⊎ ViewNeeds s.parts name
+    ⊎ ((v : NamedView) × Contains s.snapshots v × ViewNeeds v.parts name)
 
 -- no number is live in the first that isn't in the second; base and span are the same
 pub record IsWithin (s t : LiveSet) : Type 0 where
@@ -52,18 +53,23 @@ pub record IsWithin (s t : LiveSet) : Type 0 where
 
 -- each segment of now is one of before, with no number more live, or its file has a name that wasn't in the list
 pub record Follows (names : NameList) (old new : List Part) : Type 0 where
-  pub each : (p : Part) → Contains new p → (is_named names.names (Segment p.head.id) ≡ false) ⊎ ((q : Part) × Contains old q × (p.head ≡ q.head) × IsWithin p.live q.live)
+  pub each : (p : Part) → Contains new p → (is_named names.names (Segment p.head.id) ≡ false)
+      ⊎ ((q : Part) × Contains old q × (p.head ≡ q.head) × IsWithin p.live q.live)
 
--- the file of this head has entries of which it is the canonical tree, with the index in form 3, and which are such as documents have
+-- the file of this head has entries of which it is the canonical tree, with the index in form 3, and which are such as
+-- documents have
 abbrev pub HasCanonical : ℕ → Files → Head → Type 0
 HasCanonical D files head =
-    ∥ ((items : List Item) × IsSegment D (bytes_of (files (Segment head.id))) head items × IsCanonical D head items × AreUncrowded items) ∥₁
+    ∥ ((items : List Item) × IsSegment D (bytes_of (files (Segment head.id))) head items × IsCanonical D head items
+    × AreUncrowded items) ∥₁
 
 -- each segment whose file has a name that wasn't in the list is canonical
 abbrev pub AreCanonical : ℕ → Files → NameList → List Part → Type 0
-AreCanonical D files names parts = (p : Part) → Contains parts p → is_named names.names (Segment p.head.id) ≡ false → HasCanonical D files p.head
+AreCanonical D files names parts = (p : Part) → Contains parts p → is_named names.names (Segment p.head.id) ≡ false
+    → HasCanonical D files p.head
 
--- the set is as the commit says: its numbers, its segments with as many live numbers each, and nothing waits in the buffer
+-- the set is as the commit says: its numbers, its segments with as many live numbers each, and nothing waits in the
+-- buffer
 pub record IsAsCommitted (s : SetData) (c : CommitData) : Type 0 where
   pub next : s.next ≡ c.next
   pub given : s.given ≡ c.given
@@ -71,21 +77,24 @@ pub record IsAsCommitted (s : SetData) (c : CommitData) : Type 0 where
   pub counts : map (λ p. length p.live.live) s.parts ≡ map (λ l. l.live) c.listed
   pub empty : s.buffer ≡ []
 
--- the commit lists just the segments of now, each with its entries and its number of live numbers, and all its files are named
+-- the commit lists just the segments of now, each with its entries and its number of live numbers, and all its files
+-- are named
 pub record IsCommitOf (D : ℕ) (s : SetData) (c : CommitData) : Type 0 where
   pub dims : c.dims ≡ D
   pub leaf : c.leaf ≡ s.leaf
   pub next : c.next ≡ s.next
   pub given : c.given ≡ s.given
   pub next_segment : c.next_segment ≡ s.names.next_segment
-  pub lists : AllZip (λ l p. (l.segment ≡ p.head.id) × (l.entries ≡ p.head.entries) × (l.live ≡ length p.live.live)) c.listed s.parts
+  pub lists : AllZip
+      (λ l p. (l.segment ≡ p.head.id) × (l.entries ≡ p.head.entries) × (l.live ≡ length p.live.live)) c.listed s.parts
   pub named : (m : FileName) → ListsFile c m → is_named s.names.names m ≡ true
 
 -- all but the cache is as before
 pub record StaysButCache (old new : SetData) : Type 0 where
   pub is : new ≡ record old { cache = new.cache }
 
--- all but the list of names and the cache is as before: so a call leaves the set that was refused, or failed after it had named a file
+-- all but the list of names and the cache is as before: so a call leaves the set that was refused, or failed after it
+-- had named a file
 pub record IsAsBefore (old new : SetData) : Type 0 where
   pub is : new ≡ record old { names = new.names; cache = new.cache }
 

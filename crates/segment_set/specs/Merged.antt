@@ -1,5 +1,6 @@
 -- What merges do to the segments of now.
-use Rattle.std.specs.Prelude.{◌≡◌, ◌≢◌, ◌≤◌, ◌⊎◌, ℕ, true, false, not, nat_eq, nat_lt, List, [], ◌∷◌, length, map, filter, take, slice_index, All, Option, None, Some}
+use Rattle.std.specs.Prelude.{◌≡◌, ◌≢◌, ◌≤◌, ◌⊎◌, ℕ, true, false, not, nat_eq, nat_lt, List, [], ◌∷◌, length, map}
+use Rattle.std.specs.Prelude.{filter, take, slice_index, All, Option, None, Some}
 use Rattle.outer_io.specs.Files.{Files}
 use Rattle.segment_file.specs.Written.{head_of}
 use Rattle.live_bits.specs.LiveSet.{IsLiveSet}
@@ -28,7 +29,8 @@ IsWritten n p = (p.head ≡ head_of p.head.id n.entries n.leaf n.index) × (p.li
 -- the segment that was built came to the others where something of it is live, and else nothing came
 abbrev pub HasCome : Option NewSegmentData → (others new : List Part) → Type 0
 HasCome None others new = new ≡ others
-HasCome (Some n) others new = ((n.live.live ≡ []) × (new ≡ others)) ⊎ ((n.live.live ≢ []) × ((p : Part) × IsWritten n p × IsPlaced p others new))
+HasCome (Some n) others new = ((n.live.live ≡ []) × (new ≡ others))
+    ⊎ ((n.live.live ≢ []) × ((p : Part) × IsWritten n p × IsPlaced p others new))
 
 -- the begun merge is ended: its inputs went, and what it has built came
 abbrev pub IsEnded : BegunMerge → (old new : List Part) → Type 0
@@ -56,8 +58,8 @@ pub record IsApart (ids inputs : List ℕ) (parts : List Part) : Type 0 where
   pub among : (id : ℕ) → is_among ids id ≡ true → is_among (ids_of parts) id ≡ true
   pub apart : (id : ℕ) → is_among ids id ≡ true → is_among inputs id ≡ false
 
--- The documents of a set are arranged anew in segments: with the files now it is seen as it was. Names were only added; each segment was there
--- or has a new name, and those of new names are canonical.
+-- The documents of a set are arranged anew in segments: with the files now it is seen as it was. Names were only
+-- added; each segment was there or has a new name, and those of new names are canonical.
 pub record Rearranges (D : ℕ) (told : Type 0) (files new_files : Files) (s t : SetData) : Type 0 where
   pub seen : told → (i : Index) → Sees D files s i → Sees D new_files t i
   pub stays : StaysAlone s t

@@ -9,7 +9,8 @@ use Rattle.page_cache.specs.declared.cache.PageCache.{PageCache}
 use Rattle.page_cache.specs.Cache.{Agrees}
 use Rattle.segment_file.specs.Segments.{IsSegment}
 use Rattle.segment_file.specs.Written.{head_of}
-use Rattle.segment_view.specs.Parts.{Part, Contents, AreRead, part_of, parts_among, parts_but, live_in_parts, has_live, IsPlaced}
+use Rattle.segment_view.specs.Parts.{Part, Contents, AreRead, part_of, parts_among, parts_but, live_in_parts, has_live}
+use Rattle.segment_view.specs.Parts.{IsPlaced}
 use Rattle.segment_build.specs.NewSegments.{NewSegmentData, HasEntries}
 use Rattle.file_names.specs.Names.{NameList, is_named}
 use Rattle.segment_set.specs.Sets.{HasUncrowded}
@@ -27,7 +28,8 @@ abbrev pub MakesLive : ℕ → List Item → Option NewSegmentData → Type 0
 MakesLive D entries None = entries ≡ []
 MakesLive D entries (Some n) = HoldsLive D entries n
 
--- a segment was built with this leaf size: it is the canonical tree of some entries, and has some live numbers, no more than entries
+-- a segment was built with this leaf size: it is the canonical tree of some entries, and has some live numbers, no more
+-- than entries
 pub record IsMade (D leaf : ℕ) (n : NewSegmentData) : Type 0 where
   pub leaf_size : n.leaf ≡ leaf
   pub has : ∥ HasUncrowded D n ∥₁
@@ -38,18 +40,21 @@ pub record IsMade (D leaf : ℕ) (n : NewSegmentData) : Type 0 where
 abbrev pub part_at : ℕ → NewSegmentData → Part
 part_at id n = part_of (head_of id n.entries n.leaf n.index) n.live
 
--- The segment was written under the next id, whose name wasn't in the list and is in it now, and stands in the place of its id among those that are not
--- of these ids, which went.
-pub record IsPut (D : ℕ) (told : Type 0) (before after : NameList) (files : Files) (ids : List ℕ) (n : NewSegmentData) (old new : List Part) : Type 0 where
+-- The segment was written under the next id, whose name wasn't in the list and is in it now, and stands in the place
+-- of its id among those that are not of these ids, which went.
+pub record IsPut (D : ℕ) (told : Type 0) (before after : NameList) (files : Files) (ids : List ℕ) (n : NewSegmentData)
+    (old new : List Part) : Type 0 where
   pub id : ℕ
   pub fresh : is_named before.names (Segment id) ≡ false
   pub named : is_named after.names (Segment id) ≡ true
   pub next : IsNextName before (Segment id) after
   pub placed : IsPlaced (part_at id n) (parts_but ids old) new
-  pub written : told → (items : List Item) → HasEntries D items n → IsSegment D (bytes_of (files (Segment id))) (part_at id n).head items
+  pub written : told → (items : List Item) → HasEntries D items n
+      → IsSegment D (bytes_of (files (Segment id))) (part_at id n).head items
 
 -- what was built took the place of the segments of these ids; where nothing was, they only went
-abbrev pub Replaces : (D : ℕ) (told : Type 0) (before after : NameList) → Files → (ids : List ℕ) → Option NewSegmentData → (old new : List Part) → Type 0
+abbrev pub Replaces : (D : ℕ) (told : Type 0) (before after : NameList) → Files → (ids : List ℕ) → Option NewSegmentData
+    → (old new : List Part) → Type 0
 Replaces D told before after files ids None old new = new ≡ parts_but ids old
 Replaces D told before after files ids (Some n) old new = IsPut D told before after files ids n old new
 
@@ -65,14 +70,16 @@ pub record IsGathered (D leaf : ℕ) (inputs : List Part) (n : NewSegmentData) :
   pub all : ∥ HasLiveEntries D n ∥₁
   pub within : (number : ℕ) → is_live n.live number ≡ true → has_live number inputs ≡ true
 
--- The live entries of the segments of these ids were read and a segment was built of them, which took their place; where there were none,
--- the segments only went.
-pub record IsMerged (D : ℕ) (told : Type 0) (leaf : ℕ) (before after : NameList) (files new_files : Files) (cache : PageCache) (ids : List ℕ) (old new : List Part) : Type 0 where
+-- The live entries of the segments of these ids were read and a segment was built of them, which took their place;
+-- where there were none, the segments only went.
+pub record IsMerged (D : ℕ) (told : Type 0) (leaf : ℕ) (before after : NameList) (files new_files : Files)
+    (cache : PageCache) (ids : List ℕ) (old new : List Part) : Type 0 where
   pub built : Option NewSegmentData
   pub replaces : Replaces D told before after new_files ids built old new
   pub unnamed : built ≡ None → after ≡ before
   pub gathered : (n : NewSegmentData) → built ≡ Some n → IsGathered D leaf (parts_among ids old) n
-  pub makes : told → Agrees files cache → (c : Contents) → AreRead D files c old → MakesLive D (live_in_parts c (parts_among ids old)) built
+  pub makes : told → Agrees files cache → (c : Contents) → AreRead D files c old
+      → MakesLive D (live_in_parts c (parts_among ids old)) built
 
 -- what was built, where any number of it is live
 abbrev pub with_live : List ℕ → NewSegmentData → Option NewSegmentData
@@ -84,7 +91,8 @@ living None = None
 living (Some n) = with_live n.live.live n
 
 -- the buffer went to a segment, all of whose entries are live
-pub record IsSpilled (D : ℕ) (told : Type 0) (leaf : ℕ) (before after : NameList) (new_files : Files) (buffer : List Item) (old new : List Part) : Type 0 where
+pub record IsSpilled (D : ℕ) (told : Type 0) (leaf : ℕ) (before after : NameList) (new_files : Files)
+    (buffer : List Item) (old new : List Part) : Type 0 where
   pub n : NewSegmentData
   pub made : IsMade D leaf n
   pub put : IsPut D told before after new_files [] n old new

@@ -13,8 +13,8 @@ use Rattle.segment_set.specs.Sets.{SetData}
 abbrev pub HasNextGeneration : NameList → Listed → Type 0
 HasNextGeneration names l = IsNextGeneration (λ n. is_named names.names (Live l.segment n)) l.generation
 
--- A commit may list the segment so: its live bits are in a file of their own, under the next generation, whose name wasn't in the list and is in
--- it now.
+-- A commit may list the segment so: its live bits are in a file of their own, under the next generation, whose name
+-- wasn't in the list and is in it now.
 pub record IsSaved (told : Type 0) (before after : NameList) (files : Files) (l : Listed) (p : Part) : Type 0 where
   pub segment : l.segment ≡ p.head.id
   pub entries : l.entries ≡ p.head.entries

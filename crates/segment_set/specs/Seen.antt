@@ -30,8 +30,9 @@ abbrev pub BegunStands : ℕ → Contents → List Part → Option BegunMerge �
 BegunStands D c parts None = Unit {0}
 BegunStands D c parts (Some b) = MergesInto D c (parts_among b.inputs parts) b.built
 
--- The set stands over the files, whose segments have these entries: each segment of each view is read from its file, each of its live numbers is that of
--- one of its entries, a begun merge has built what its inputs have, and the kept pages are those of the files.
+-- The set stands over the files, whose segments have these entries: each segment of each view is read from its file,
+-- each of its live numbers is that of one of its entries, a begun merge has built what its inputs have, and the kept
+-- pages are those of the files.
 pub record StandsOver (D : ℕ) (files : Files) (c : Contents) (s : SetData) : Type 0 where
   pub now : AreRead D files c s.parts
   pub kept : All (λ v. AreRead D files c v.parts) s.snapshots
@@ -43,7 +44,8 @@ pub record ShowsSnapshot (c : Contents) (next : ℕ) (v : NamedView) (t : Snapsh
   pub name : v.name ≡ t.name
   pub docs : AreDocs next (entries_seen c v.parts v.buffer) t.docs
 
--- The set stands over the files, and with them it is seen as this index: its documents are those of the live entries. It is seen as one index only.
+-- The set stands over the files, and with them it is seen as this index: its documents are those of the live entries.
+-- It is seen as one index only.
 pub record Sees (D : ℕ) (files : Files) (s : SetData) (i : Index) : Type 0 where
   pub contents : Contents
   pub stands : StandsOver D files contents s

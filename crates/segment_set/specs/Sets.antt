@@ -1,5 +1,6 @@
 -- What contracts see of a set of segments.
-use Rattle.std.specs.Prelude.{◌≡◌, ◌≤◌, ◌<◌, ◌+◌, ◌^◌, ℕ, Bool, true, false, if◌then◌else◌, List, [], ◌++◌, length, map, find, All, Option, None, Some, ℤ}
+use Rattle.std.specs.Prelude.{◌≡◌, ◌≤◌, ◌<◌, ◌+◌, ◌^◌, ℕ, Bool, true, false, if◌then◌else◌, List, [], ◌++◌, length, map}
+use Rattle.std.specs.Prelude.{find, All, Option, None, Some, ℤ}
 use Rattle.std.specs.List.{list_any}
 use Rattle.std.specs.List.Sorted.{IsNonDecreasingBy}
 use Rattle.std.specs.Str.{bytes_eq}
@@ -25,13 +26,14 @@ pub record NamedView : Type 0 where
   pub parts : List Part
   pub buffer : List Item
 
--- a merge that is begun: the ids of its inputs, and the segment that is built of their live entries; None, where there was none
+-- a merge that is begun: the ids of its inputs, and the segment that is built of their live entries; None, where there
+-- was none
 pub record BegunMerge : Type 0 where
   pub inputs : List ℕ
   pub built : Option NewSegmentData
 
--- a set: the leaf size, the next number, the points given, its list of names, the segments and the buffer of now, the snapshots, the begun merge,
--- its cache, and the commit that the last save answered
+-- a set: the leaf size, the next number, the points given, its list of names, the segments and the buffer of now, the
+-- snapshots, the begun merge, its cache, and the commit that the last save answered
 pub record SetData : Type 0 where
   pub leaf : ℕ
   pub next : ℕ
@@ -70,7 +72,8 @@ IsSettled s = (level : ℕ) → free_count level (sizes_of s.parts) (pins_of s.b
 abbrev pub is_live_in : SetData → ℕ → Bool
 is_live_in s number = if list_any (λ p. is_live p.live number) s.parts then true else has_entry number s.buffer
 
--- the set without the document of this number: it is live in no segment, has no entry in the buffer, and is live in no segment that is built
+-- the set without the document of this number: it is live in no segment, has no entry in the buffer, and is live in no
+-- segment that is built
 abbrev pub built_but : ℕ → Option NewSegmentData → Option NewSegmentData
 built_but number None = None
 built_but number (Some n) = Some (record n { live = without number n.live })
@@ -86,7 +89,12 @@ set_but number s =
 -- the set with one more document, of the next number, which waits in the buffer
 abbrev pub set_with : List (List ℤ) → SetData → SetData
 set_with points s =
-    record s { next = s.next + 1; given = s.given + length points; buffer = s.buffer ++ entries_of (record { number = s.next; points = points }) }
+    record s {
+      next = s.next + 1;
+      given = s.given + length points;
+      buffer = s.buffer ++ entries_of
+          (record { number = s.next; points = points });
+    }
 
 -- ---- what a query looks at: what is live now, or what a snapshot keeps
 
@@ -151,8 +159,8 @@ pub record HasUncrowded (D : ℕ) (n : NewSegmentData) : Type 0 where
   pub has : HasEntries D items n
   pub uncrowded : AreUncrowded items
 
--- a segment was built with the leaf size: it is the canonical tree of some entries, has no more live numbers than entries, and each of them is live
--- in an input
+-- a segment was built with the leaf size: it is the canonical tree of some entries, has no more live numbers than
+-- entries, and each of them is live in an input
 pub record IsBuiltOf (D leaf : ℕ) (inputs : List Part) (n : NewSegmentData) : Type 0 where
   pub leaf_size : n.leaf ≡ leaf
   pub has : ∥ HasUncrowded D n ∥₁
@@ -181,5 +189,6 @@ pub record IsWell (D : ℕ) (s : SetData) : Type 0 where
   pub rooms : All (λ v. length v.buffer ≤ 16384) s.snapshots
   pub inputs : All (λ id. is_among (ids_of s.parts) id ≡ true) (inputs_of s.begun)
   pub few_inputs : length (inputs_of s.begun) ≤ 64
-  pub built : (n : NewSegmentData) → built_of s.begun ≡ Some n → IsBuiltOf D s.leaf (parts_among (inputs_of s.begun) s.parts) n
+  pub built : (n : NewSegmentData) → built_of s.begun ≡ Some n
+      → IsBuiltOf D s.leaf (parts_among (inputs_of s.begun) s.parts) n
   pub cached : (id : ℕ) → KeepsFile s.cache id → is_named s.names.names (Segment id) ≡ true

@@ -17,7 +17,8 @@ spot files set = record { files = files; set = set }
 
 -- the segments of these ids were merged into one at most
 pub record MergesParts (D : ℕ) (told : Type 0) (ids : List ℕ) (old new : Spot) : Type 0 where
-  pub merged : IsMerged D told old.set.leaf old.set.names new.set.names old.files new.files old.set.cache ids old.set.parts new.set.parts
+  pub merged : IsMerged D told old.set.leaf old.set.names new.set.names old.files new.files old.set.cache ids
+      old.set.parts new.set.parts
   pub alone : StaysButParts old.set new.set
 
 -- those that the policy chooses
@@ -38,7 +39,8 @@ pub record Settles (D : ℕ) (told : Type 0) (old new : Spot) : Type 0 where
 
 -- what waited in the buffer went to a segment
 pub record Spills (D : ℕ) (told : Type 0) (old new : Spot) : Type 0 where
-  pub spilled : IsSpilled D told old.set.leaf old.set.names new.set.names new.files old.set.buffer old.set.parts new.set.parts
+  pub spilled : IsSpilled D told old.set.leaf old.set.names new.set.names new.files old.set.buffer old.set.parts
+      new.set.parts
   pub alone : new.set ≡ record old.set { names = new.set.names; parts = new.set.parts; buffer = [] }
 
 -- and then the buffer went to a segment, or it stayed

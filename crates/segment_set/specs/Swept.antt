@@ -36,4 +36,5 @@ pub record IsSwept (told : Type 0) (c : CommitData) (old new : SetData) (before 
   pub needed : told → (m : FileName) → IsNeeded old c m → after m ≡ before m
   pub others : told → (m : FileName) → is_named old.names.names m ≡ false → after m ≡ before m
   pub commit : told → after Commit ≡ before Commit
-  pub gone : told → (m : FileName) → is_named old.names.names m ≡ true → is_named new.names.names m ≡ false → after m ≡ None
+  pub gone : told → (m : FileName) → is_named old.names.names m ≡ true → is_named new.names.names m ≡ false
+      → after m ≡ None

@@ -35,8 +35,8 @@ impl<const D: usize> SegmentSet<D> {
     ghost use Rattle.segment_set.specs.Faithful.{IsFaithful};
     ghost use Rattle.index_opening.specs.Evidence.{IsEvident};
 
-    /// The set of a commit's segments. It reads their heads, indexes and live bits, no leaf, and answers Unequal, Beyond or Doubled where
-    /// these show it.
+    /// The set of a commit's segments. It reads their heads, indexes and live bits, no leaf, and answers Unequal,
+    /// Beyond or Doubled where these show it.
     pub fn attach<F: Folder>(
         alloc: Global,
         folder: &mut F,
@@ -44,7 +44,8 @@ impl<const D: usize> SegmentSet<D> {
         settings: Settings,
     ) -> Result<SegmentSet<D>, PageFault>
         requires { c.now.dims ≡ D }
-        ensures seen { IsTrue F.told → IsCommitFile (bytes_of (F.files folder.old CommitName)) c.now → (i : Index) → IsStored (F.files folder.old) (Some i)
+        ensures seen { IsTrue F.told → IsCommitFile (bytes_of (F.files folder.old CommitName)) c.now → (i : Index)
+            → IsStored (F.files folder.old) (Some i)
             → IfOk result (λ s. Sees D (F.files folder.old) s i) }
         // the set is as the commit says, and its list of names has just the files that this lists
         ensures commit { IfOk result (λ s. IsAtRest s c.now) }
@@ -53,15 +54,21 @@ impl<const D: usize> SegmentSet<D> {
         ensures live { IsTrue F.told → IfOk result (λ s. HaveLive (F.files folder.old) c.now (lives_of s.parts)) }
         ensures faithful { IsTrue F.told → IfOk result (IsFaithful D (F.files folder.old)) }
         ensures files { IsTrue F.told → F.files folder.new ≡ F.files folder.old }
-        ensures reads { IsTrue F.told → (heads : List Head) (sets : List LiveSet) → HaveHeads (F.files folder.old) c.now heads → HaveLive (F.files folder.old) c.now sets
+        ensures reads { IsTrue F.told → (heads : List Head) (sets : List LiveSet)
+            → HaveHeads (F.files folder.old) c.now heads
+            → HaveLive (F.files folder.old) c.now sets
             → F.reads folder.new ≤ F.reads folder.old + segments_pages (F.files folder.old) c.now.listed heads }
         // what an error says: where a state is stored there is no damage, and where there is one none is
         ensures cause { HasPageCause (F.faults folder.old) (F.faults folder.new) result }
-        ensures whole { IsTrue F.told → IsCommitFile (bytes_of (F.files folder.old CommitName)) c.now → (state : State) → IsStored (F.files folder.old) state → NotDamaged result }
-        ensures undefined { IsTrue F.told → IsCommitFile (bytes_of (F.files folder.old CommitName)) c.now → OnDamage result (λ _. IsUndefined (F.files folder.old)) }
+        ensures whole { IsTrue F.told → IsCommitFile (bytes_of (F.files folder.old CommitName)) c.now → (state : State)
+            → IsStored (F.files folder.old) state → NotDamaged result }
+        ensures undefined { IsTrue F.told → IsCommitFile (bytes_of (F.files folder.old CommitName)) c.now
+            → OnDamage result (λ _. IsUndefined (F.files folder.old)) }
         ensures shown { OnDamage result (IsAttachDamage c.now) }
         ensures damage { IsTrue F.told → OnDamage result (IsAttachDamageOf (F.files folder.old) c.now) }
-        ensures evident { OnDamage result (IsEvident (IsTrue F.told × IsCommitFile (bytes_of (F.files folder.old CommitName)) c.now) (F.files folder.old)) }
+        ensures evident { OnDamage result
+            (IsEvident (IsTrue F.told × IsCommitFile (bytes_of (F.files folder.old CommitName)) c.now)
+            (F.files folder.old)) }
     {
         let names = names_of(alloc, c)?;
         let segments = open_all::<D, F>(alloc, folder, c)?;

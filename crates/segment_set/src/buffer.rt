@@ -16,7 +16,9 @@ pub(crate) fn put_document<const D: usize>(
     number: u32,
     points: &Points<D>,
 ) -> Result<(), AllocError>
-    ensures put { OnOk result (items_of buffer.new.items ≡ items_of buffer.old.items ++ entries_of (record { number = number; points = points.now })) }
+    ensures put { OnOk result
+        (items_of buffer.new.items ≡ items_of buffer.old.items ++ entries_of
+        (record { number = number; points = points.now })) }
     ensures refused { OnErr result (buffer.new.items ≡ buffer.old.items) }
 {
     let points = points.as_slice();

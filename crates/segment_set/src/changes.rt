@@ -1,6 +1,7 @@
 //! Documents that come and go.
 
-ghost use Rattle.std.specs.Prelude.{◌≡◌, ◌≤◌, ◌<◌, ◌+◌, ◌^◌, ◌++◌, ◌∷◌, ◌&&◌, ◌↔◌, ℕ, [], not, nat_eq, length, filter, All, IsTrue, IsOk, IfOk, OnOk, OnErr, IsErrOf};
+ghost use Rattle.std.specs.Prelude.{◌≡◌, ◌≤◌, ◌<◌, ◌+◌, ◌^◌, ◌++◌, ◌∷◌, ◌&&◌, ◌↔◌, ℕ, [], not, nat_eq, length, filter};
+ghost use Rattle.std.specs.Prelude.{All, IsTrue, IsOk, IfOk, OnOk, OnErr, IsErrOf};
 ghost use Rattle.outer_io.specs.Files.{Files};
 ghost use Rattle.point_codec.specs.Points.{ArePoints, in_box};
 ghost use Rattle.cell_relate.specs.Boxes.{crosses};
@@ -44,8 +45,9 @@ impl<const D: usize> SegmentSet<D> {
     ghost use Rattle.index_opening.specs.Evidence.{IsEvident, IsEvidentIn};
     ghost use Rattle.segment_set.specs.declared.faults.AddFault.TheVariants.{Full, Failed};
 
-    /// Adds a document with these points, and answers its number. Full exactly where more than 16,777,216 points would be given. Where the
-    /// buffer would hold more than 16,384 entries it is flushed first. All points of a document go into one segment.
+    /// Adds a document with these points, and answers its number. Full exactly where more than 16,777,216 points
+    /// would be given. Where the buffer would hold more than 16,384 entries it is flushed first. All points of a
+    /// document go into one segment.
     pub fn add<R: Threads + Sync, F: Folder, G: Gate>(
         &mut self,
         rt: &R,
@@ -54,42 +56,61 @@ impl<const D: usize> SegmentSet<D> {
         points: &Points<D>,
         gate: &G,
     ) -> Result<u32, AddFault>
-        ensures seen { IsTrue F.told → (i : Index) → Sees D (F.files folder.old) self.old i → OnOk result (Sees D (F.files folder.new) self.new
-            (record i { next = i.next + 1; given = i.given + length points.now; docs = i.docs ++ record { number = i.next; points = points.now } ∷ [] })) }
-        ensures refused { IsTrue F.told → (i : Index) → Sees D (F.files folder.old) self.old i → OnErr result (Sees D (F.files folder.new) self.new i) }
+        ensures seen { IsTrue F.told → (i : Index) → Sees D (F.files folder.old) self.old i
+            → OnOk result (Sees D (F.files folder.new) self.new
+            (record i {
+              next = i.next + 1;
+              given = i.given + length points.now;
+              docs = i.docs ++ record
+                  { number = i.next; points = points.now } ∷ [];
+            })) }
+        ensures refused { IsTrue F.told → (i : Index) → Sees D (F.files folder.old) self.old i
+            → OnErr result (Sees D (F.files folder.new) self.new i) }
         ensures number { IfOk result (λ n. n ≡ self.old.next) }
-        ensures given { OnOk result ((self.new.next ≡ self.old.next + 1) × (self.new.given ≡ self.old.given + length points.now)) }
+        ensures given { OnOk result
+            ((self.new.next ≡ self.old.next + 1) × (self.new.given ≡ self.old.given + length points.now)) }
         ensures full { IsErrOf result Full ↔ (2 ^ 24 < self.old.given + length points.now) }
         // what stays: where it is full everything, and after a fault what whole merges of the policy left
         ensures kept_full { IsErrOf result Full → (self.new ≡ self.old) × (F.reads folder.new ≡ F.reads folder.old) }
         ensures files_full { IsTrue F.told → IsErrOf result Full → F.files folder.new ≡ F.files folder.old }
-        ensures added { OnOk result ((s : Spot) × Flushes D (IsTrue F.told) (spot (F.files folder.old) self.old) s × (self.new ≡ set_with points.now s.set)) }
+        ensures added { OnOk result
+            ((s : Spot) × Flushes D (IsTrue F.told) (spot (F.files folder.old) self.old) s
+            × (self.new ≡ set_with points.now s.set)) }
         ensures left { OnErr result (IsLeft (Flushes D (IsTrue F.told) (spot (F.files folder.old) self.old)) self.new) }
         ensures stays { OnErr result (StaysAlone self.old self.new) }
-        ensures kept { KeepsNamed (IsTrue F.told) self.old.names self.new.names (F.files folder.old) (F.files folder.new) }
+        ensures kept { KeepsNamed (IsTrue F.told) self.old.names self.new.names (F.files folder.old)
+            (F.files folder.new) }
         ensures follows { Follows self.old.names self.old.parts self.new.parts }
         ensures saved { self.new.saved ≡ self.old.saved }
         ensures begun { self.new.begun ≡ self.old.begun }
         ensures snapshots { self.new.snapshots ≡ self.old.snapshots }
         ensures leaf { self.new.leaf ≡ self.old.leaf }
         ensures canon { IsTrue F.told → AreCanonical D (F.files folder.new) self.old.names self.new.parts }
-        ensures faithful { IsTrue F.told → IsFaithful D (F.files folder.old) self.old → IsFaithful D (F.files folder.new) self.new }
+        ensures faithful { IsTrue F.told → IsFaithful D (F.files folder.old) self.old
+            → IsFaithful D (F.files folder.new) self.new }
         // where the buffer has room nothing is read or written
         ensures unread { length self.old.buffer + length points.now ≤ 16384 → F.reads folder.new ≡ F.reads folder.old }
-        ensures files { IsTrue F.told → length self.old.buffer + length points.now ≤ 16384 → F.files folder.new ≡ F.files folder.old }
+        ensures files { IsTrue F.told → length self.old.buffer + length points.now ≤ 16384
+            → F.files folder.new ≡ F.files folder.old }
         ensures room { length self.old.buffer + length points.now ≤ 16384 → OnAddDamage result (λ _. ⊥) }
         ensures parts { length self.old.buffer + length points.now ≤ 16384
-            → (self.new.parts ≡ self.old.parts) × (length self.new.buffer ≤ length self.old.buffer + length points.now) }
+            → (self.new.parts ≡ self.old.parts)
+            × (length self.new.buffer ≤ length self.old.buffer + length points.now) }
         // and where the policy chooses nothing, nothing is read
         ensures rested { IsSettled self.old → F.reads folder.new ≡ F.reads folder.old }
         // what an error says
         ensures cause { HasCauseOf Failed (F.faults folder.old) (F.faults folder.new) result }
-        ensures whole { IsTrue F.told → (i : Index) → Sees D (F.files folder.old) self.old i → OnAddDamage result (λ _. ⊥) }
+        ensures whole { IsTrue F.told → (i : Index) → Sees D (F.files folder.old) self.old i
+            → OnAddDamage result (λ _. ⊥) }
         ensures shown { OnAddDamage result (IsMergeDamage D self.old.given self.old.names self.old.parts) }
-        ensures damage { IsTrue F.told → Agrees (F.files folder.old) self.old.cache → OnAddDamage result (IsMergeDamageOf (F.files folder.new) self.old.given) }
-        ensures doubled { IsTrue F.told → Agrees (F.files folder.old) self.old.cache → (c : Contents) → AreRead D (F.files folder.old) c self.old.parts
+        ensures damage { IsTrue F.told → Agrees (F.files folder.old) self.old.cache
+            → OnAddDamage result (IsMergeDamageOf (F.files folder.new) self.old.given) }
+        ensures doubled { IsTrue F.told → Agrees (F.files folder.old) self.old.cache → (c : Contents)
+            → AreRead D (F.files folder.old) c self.old.parts
             → OnAddDamage result (IsDoubt self.old.given (live_in_parts c self.old.parts)) }
-        ensures evident { OnAddDamage result (IsEvidentIn D self.old.parts (IsTrue F.told × IsFaithful D (F.files folder.old) self.old) (F.files folder.new)) }
+        ensures evident { OnAddDamage result
+            (IsEvidentIn D self.old.parts (IsTrue F.told × IsFaithful D (F.files folder.old) self.old)
+            (F.files folder.new)) }
     {
         let count = points.as_slice().len() as u32;
         if self.is_full(count) {
@@ -99,7 +120,8 @@ impl<const D: usize> SegmentSet<D> {
         Ok(self.put(points)?)
     }
 
-    /// Puts a document of the next number at the end of the buffer, and answers the number. For want of memory nothing changes.
+    /// Puts a document of the next number at the end of the buffer, and answers the number. For want of memory nothing
+    /// changes.
     fn put(&mut self, points: &Points<D>) -> Result<u32, AllocError>
         requires room { length self.old.buffer + length points.now ≤ 16384 }
         requires given { self.old.given + length points.now ≤ 2 ^ 24 }
@@ -127,28 +149,38 @@ impl<const D: usize> SegmentSet<D> {
     ) -> Result<(), PageFault>
         requires { count ≤ 16 }
         ensures room { OnOk result (length self.new.buffer + count ≤ 16384) }
-        ensures roomy { length self.old.buffer + count ≤ 16384 → IsOk result × (self.new ≡ self.old) × (F.reads folder.new ≡ F.reads folder.old) }
-        ensures files { IsTrue F.told → length self.old.buffer + count ≤ 16384 → F.files folder.new ≡ F.files folder.old }
+        ensures roomy { length self.old.buffer + count ≤ 16384 → IsOk result × (self.new ≡ self.old)
+            × (F.reads folder.new ≡ F.reads folder.old) }
+        ensures files { IsTrue F.told → length self.old.buffer + count ≤ 16384
+            → F.files folder.new ≡ F.files folder.old }
         ensures rested { IsSettled self.old → F.reads folder.new ≡ F.reads folder.old }
-        ensures seen { IsTrue F.told → (i : Index) → Sees D (F.files folder.old) self.old i → Sees D (F.files folder.new) self.new i }
+        ensures seen { IsTrue F.told → (i : Index) → Sees D (F.files folder.old) self.old i
+            → Sees D (F.files folder.new) self.new i }
         // what stays
-        ensures flushed { OnOk result (Flushes D (IsTrue F.told) (spot (F.files folder.old) self.old) (spot (F.files folder.new) self.new)) }
+        ensures flushed { OnOk result
+            (Flushes D (IsTrue F.told) (spot (F.files folder.old) self.old) (spot (F.files folder.new) self.new)) }
         ensures left { OnErr result (IsLeft (Settles D (IsTrue F.told) (spot (F.files folder.old) self.old)) self.new) }
         ensures stays { StaysAlone self.old self.new }
-        ensures kept { KeepsNamed (IsTrue F.told) self.old.names self.new.names (F.files folder.old) (F.files folder.new) }
+        ensures kept { KeepsNamed (IsTrue F.told) self.old.names self.new.names (F.files folder.old)
+            (F.files folder.new) }
         ensures follows { Follows self.old.names self.old.parts self.new.parts }
         ensures saved { self.new.saved ≡ self.old.saved }
         ensures begun { self.new.begun ≡ self.old.begun }
         ensures canon { IsTrue F.told → AreCanonical D (F.files folder.new) self.old.names self.new.parts }
-        ensures faithful { IsTrue F.told → IsFaithful D (F.files folder.old) self.old → IsFaithful D (F.files folder.new) self.new }
+        ensures faithful { IsTrue F.told → IsFaithful D (F.files folder.old) self.old
+            → IsFaithful D (F.files folder.new) self.new }
         // what an error says
         ensures cause { HasPageCause (F.faults folder.old) (F.faults folder.new) result }
         ensures whole { IsTrue F.told → (i : Index) → Sees D (F.files folder.old) self.old i → NotDamaged result }
         ensures shown { OnDamage result (IsMergeDamage D self.old.given self.old.names self.old.parts) }
-        ensures damage { IsTrue F.told → Agrees (F.files folder.old) self.old.cache → OnDamage result (IsMergeDamageOf (F.files folder.new) self.old.given) }
-        ensures doubled { IsTrue F.told → Agrees (F.files folder.old) self.old.cache → (c : Contents) → AreRead D (F.files folder.old) c self.old.parts
+        ensures damage { IsTrue F.told → Agrees (F.files folder.old) self.old.cache
+            → OnDamage result (IsMergeDamageOf (F.files folder.new) self.old.given) }
+        ensures doubled { IsTrue F.told → Agrees (F.files folder.old) self.old.cache → (c : Contents)
+            → AreRead D (F.files folder.old) c self.old.parts
             → OnDamage result (IsDoubt self.old.given (live_in_parts c self.old.parts)) }
-        ensures evident { OnDamage result (IsEvidentIn D self.old.parts (IsTrue F.told × IsFaithful D (F.files folder.old) self.old) (F.files folder.new)) }
+        ensures evident { OnDamage result
+            (IsEvidentIn D self.old.parts (IsTrue F.told × IsFaithful D (F.files folder.old) self.old)
+            (F.files folder.new)) }
     {
         if self.has_room(count) {
             return Ok(());
@@ -177,7 +209,8 @@ impl<const D: usize> SegmentSet<D> {
     /// Takes a document out. True exactly where it was live. It takes no memory and no folder.
     pub fn delete(&mut self, doc: u32) -> bool
         ensures answer { result ≡ is_live_in self.old doc }
-        ensures seen { (files : Files) (i : Index) → Sees D files self.old i → Sees D files self.new (record i { docs = deleted doc i.docs }) }
+        ensures seen { (files : Files) (i : Index) → Sees D files self.old i
+            → Sees D files self.new (record i { docs = deleted doc i.docs }) }
         ensures live { (files : Files) (i : Index) → Sees D files self.old i → result ≡ is_live doc i.docs }
         ensures alone { self.new ≡ set_but doc self.old }
         ensures faithful { (files : Files) → IsFaithful D files self.old → IsFaithful D files self.new }
@@ -199,10 +232,13 @@ impl<const D: usize> SegmentSet<D> {
         hi: &Point<D>,
     ) -> Result<u32, PageFault>
         ensures seen { IsTrue F.told → (i : Index) → Sees D (F.files folder.old) self.old i
-            → OnOk result (Sees D (F.files folder.new) self.new (record i { docs = without (in_box (record { lo = lo.now.c; hi = hi.now.c })) i.docs })) }
+            → OnOk result
+            (Sees D (F.files folder.new) self.new
+            (record i { docs = without (in_box (record { lo = lo.now.c; hi = hi.now.c })) i.docs })) }
         ensures count { IsTrue F.told → (i : Index) → Sees D (F.files folder.old) self.old i
             → IfOk result (λ n. n ≡ length (hits (in_box (record { lo = lo.now.c; hi = hi.now.c })) i.docs)) }
-        ensures refused { IsTrue F.told → (i : Index) → Sees D (F.files folder.old) self.old i → OnErr result (Sees D (F.files folder.new) self.new i) }
+        ensures refused { IsTrue F.told → (i : Index) → Sees D (F.files folder.old) self.old i
+            → OnErr result (Sees D (F.files folder.new) self.new i) }
         // what stays
         ensures files { IsTrue F.told → F.files folder.new ≡ F.files folder.old }
         ensures alone { OnErr result (StaysButCache self.old self.new) }
@@ -210,15 +246,19 @@ impl<const D: usize> SegmentSet<D> {
         ensures follows { Follows self.old.names self.old.parts self.new.parts }
         ensures names { self.new.names ≡ self.old.names }
         ensures saved { self.new.saved ≡ self.old.saved }
-        ensures faithful { IsTrue F.told → IsFaithful D (F.files folder.old) self.old → IsFaithful D (F.files folder.new) self.new }
+        ensures faithful { IsTrue F.told → IsFaithful D (F.files folder.old) self.old
+            → IsFaithful D (F.files folder.new) self.new }
         // what it costs, and what an error says
-        ensures reads { (n : ℕ) → AreTouched D (in_box (record { lo = lo.now.c; hi = hi.now.c })) (crosses (record { lo = lo.now.c; hi = hi.now.c })) (heads_of self.old.parts) n
+        ensures reads { (n : ℕ) → AreTouched D (in_box (record { lo = lo.now.c; hi = hi.now.c }))
+            (crosses (record { lo = lo.now.c; hi = hi.now.c })) (heads_of self.old.parts) n
             → F.reads folder.new ≤ F.reads folder.old + n }
         ensures cause { HasPageCause (F.faults folder.old) (F.faults folder.new) result }
         ensures whole { IsTrue F.told → (i : Index) → Sees D (F.files folder.old) self.old i → NotDamaged result }
         ensures shown { OnDamage result (IsPartDamage D self.old.parts) }
-        ensures damage { IsTrue F.told → Agrees (F.files folder.old) self.old.cache → OnDamage result (IsLeafDamageOf (F.files folder.old)) }
-        ensures evident { OnDamage result (IsEvident (IsTrue F.told × IsFaithful D (F.files folder.old) self.old) (F.files folder.new)) }
+        ensures damage { IsTrue F.told → Agrees (F.files folder.old) self.old.cache
+            → OnDamage result (IsLeafDamageOf (F.files folder.old)) }
+        ensures evident { OnDamage result
+            (IsEvident (IsTrue F.told × IsFaithful D (F.files folder.old) self.old) (F.files folder.new)) }
     {
         let mut shape = BoxShape::new(*lo, *hi);
         let hits = self.visit(alloc, folder, &View::Now, &mut shape)?;

@@ -1,6 +1,7 @@
 //! Which segments are merged.
 
-ghost use Rattle.std.specs.Prelude.{◌≡◌, ◌≤◌, ◌<◌, ◌+◌, ◌↔◌, ℕ, List, true, false, not, nat_lt, length, map, filter, take, slice_index, count_by, All, IsTrue, IfOk, IfNone, IfSome};
+ghost use Rattle.std.specs.Prelude.{◌≡◌, ◌≤◌, ◌<◌, ◌+◌, ◌↔◌, ℕ, List, true, false, not, nat_lt, length, map, filter};
+ghost use Rattle.std.specs.Prelude.{take, slice_index, count_by, All, IsTrue, IfOk, IfNone, IfSome};
 ghost use Rattle.std.specs.List.Sorted.{IsStrictlyIncreasing};
 ghost use Rattle.documents.specs.Entries.{is_among};
 ghost use Rattle.merge_policy.specs.Choice.{IsChoice, free_count};
@@ -27,7 +28,8 @@ pub(crate) fn inputs_of<const D: usize>(begun: &Option<Begun<D>>) -> &[u64]
     }
 }
 
-/// The ids of the segments that the policy chooses, of which none is an input of the begun merge; None where it chooses none.
+/// The ids of the segments that the policy chooses, of which none is an input of the begun merge; None where it chooses
+/// none.
 pub(crate) fn chosen<const D: usize>(
     alloc: Global,
     segments: &Segments<D>,
@@ -35,13 +37,17 @@ pub(crate) fn chosen<const D: usize>(
 ) -> Result<Option<Vec<u64>>, Memory>
     requires dims { D ≤ 8 }
     requires few { length segments.now ≤ 65535 }
-    ensures none { IfOk result (λ o. IfNone o ((level : ℕ) → free_count level (sizes_of segments.now) (map (λ p. is_among inputs.now p.head.id) segments.now) < 10)) }
+    ensures none { IfOk result
+        (λ o. IfNone o
+        ((level : ℕ) → free_count level (sizes_of segments.now)
+        (map (λ p. is_among inputs.now p.head.id) segments.now) < 10)) }
     ensures apart { IfOk result (λ o. IfSome o (λ ids. IsApart ids.items inputs.now segments.now)) }
     ensures some { IfOk result (λ o. IfSome o (λ ids. 2 ≤ length (parts_among ids.items segments.now))) }
     ensures ten { IfOk result (λ o. IfSome o (λ ids. (level : ℕ)
         × (10 ≤ free_count level (sizes_of segments.now) (map (λ p. is_among inputs.now p.head.id) segments.now)))) }
     ensures choice { IfOk result (λ o. IfSome o (λ ids. (positions : List ℕ)
-        × IsChoice (sizes_of segments.now) (map (λ p. is_among inputs.now p.head.id) segments.now) positions × (ids.items ≡ map (slice_index (ids_of segments.now)) positions))) }
+        × IsChoice (sizes_of segments.now) (map (λ p. is_among inputs.now p.head.id) segments.now) positions
+        × (ids.items ≡ map (slice_index (ids_of segments.now)) positions))) }
     // where nothing is chosen there are few segments: nine of a level at most are no inputs
     ensures room { length inputs.now ≤ 64 → IfOk result (λ o. IfNone o (length segments.now < 200)) }
 {

@@ -1,6 +1,7 @@
 //! The buffer goes to a segment, and segments are merged.
 
-ghost use Rattle.std.specs.Prelude.{◌≡◌, ◌≤◌, ◌<◌, ◌+◌, ◌↔◌, ◌⊎◌, ℕ, List, true, false, [], None, Some, is_some, length, map, slice_index, All, IsTrue, IfOk, IfNone, IfSome, OnOk, OnErr, IsErrOf};
+ghost use Rattle.std.specs.Prelude.{◌≡◌, ◌≤◌, ◌<◌, ◌+◌, ◌↔◌, ◌⊎◌, ℕ, List, true, false, [], None, Some, is_some};
+ghost use Rattle.std.specs.Prelude.{length, map, slice_index, All, IsTrue, IfOk, IfNone, IfSome, OnOk, OnErr, IsErrOf};
 ghost use Rattle.live_bits.specs.LiveSet.{is_live};
 ghost use Rattle.page_cache.specs.Cache.{Agrees};
 ghost use Rattle.page_cache.specs.Causes.{HasPageCause};
@@ -25,8 +26,10 @@ impl<const D: usize> SegmentSet<D> {
     ghost use Rattle.segment_set.specs.Faults.{HasCauseOf, OnBeginDamage, OnEndDamage};
     ghost use Rattle.segment_set.specs.Sets.{BegunMerge, IsSettled, IsWell, inputs_of, pins_of, sizes_of};
     ghost use Rattle.segment_set.specs.Seen.{Sees, StandsOver};
-    ghost use Rattle.segment_set.specs.Kept.{AreCanonical, Follows, IsAsBefore, KeepsNamed, StaysAlone, StaysButCache, StaysButMerge, StaysButParts};
-    ghost use Rattle.segment_set.specs.Merged.{IsApart, IsEnded, IsTidy, IsWhole, KeepsEntries, Rearranges, chosen_ids, free_ids, free_parts};
+    ghost use Rattle.segment_set.specs.Kept.{AreCanonical, Follows, IsAsBefore, KeepsNamed, StaysAlone, StaysButCache};
+    ghost use Rattle.segment_set.specs.Kept.{StaysButMerge, StaysButParts};
+    ghost use Rattle.segment_set.specs.Merged.{IsApart, IsEnded, IsTidy, IsWhole, KeepsEntries, Rearranges, chosen_ids};
+    ghost use Rattle.segment_set.specs.Merged.{free_ids, free_parts};
     ghost use Rattle.segment_set.specs.Merges.{IsGathered, IsMerged, Replaces, living};
     ghost use Rattle.segment_set.specs.Settles.{Flushes, IsLeft, MergesParts, Settles, Spills, spot};
     ghost use Rattle.segment_set.specs.Damages.{IsDoubt, IsMergeDamage, IsMergeDamageOf};
@@ -43,30 +46,39 @@ impl<const D: usize> SegmentSet<D> {
         folder: &mut F,
         gate: &G,
     ) -> Result<(), PageFault>
-        ensures seen { IsTrue F.told → (i : Index) → Sees D (F.files folder.old) self.old i → Sees D (F.files folder.new) self.new i }
+        ensures seen { IsTrue F.told → (i : Index) → Sees D (F.files folder.old) self.old i
+            → Sees D (F.files folder.new) self.new i }
         ensures emptied { OnOk result (self.new.buffer ≡ []) }
-        ensures levels { OnOk result ((level : ℕ) → free_count level (sizes_of self.new.parts) (pins_of self.new.begun self.new.parts) ≤ 10) }
+        ensures levels { OnOk result
+            ((level : ℕ) → free_count level (sizes_of self.new.parts) (pins_of self.new.begun self.new.parts) ≤ 10) }
         // what is done, and after a fault what was done before: merges of the policy, each whole
-        ensures flushed { OnOk result (Flushes D (IsTrue F.told) (spot (F.files folder.old) self.old) (spot (F.files folder.new) self.new)) }
+        ensures flushed { OnOk result
+            (Flushes D (IsTrue F.told) (spot (F.files folder.old) self.old) (spot (F.files folder.new) self.new)) }
         ensures left { OnErr result (IsLeft (Settles D (IsTrue F.told) (spot (F.files folder.old) self.old)) self.new) }
         // what stays
         ensures stays { StaysAlone self.old self.new }
-        ensures kept { KeepsNamed (IsTrue F.told) self.old.names self.new.names (F.files folder.old) (F.files folder.new) }
+        ensures kept { KeepsNamed (IsTrue F.told) self.old.names self.new.names (F.files folder.old)
+            (F.files folder.new) }
         ensures follows { Follows self.old.names self.old.parts self.new.parts }
         ensures saved { self.new.saved ≡ self.old.saved }
         ensures begun { self.new.begun ≡ self.old.begun }
         ensures canon { IsTrue F.told → AreCanonical D (F.files folder.new) self.old.names self.new.parts }
-        ensures faithful { IsTrue F.told → IsFaithful D (F.files folder.old) self.old → IsFaithful D (F.files folder.new) self.new }
+        ensures faithful { IsTrue F.told → IsFaithful D (F.files folder.old) self.old
+            → IsFaithful D (F.files folder.new) self.new }
         // where the policy chooses nothing, nothing is read
         ensures rested { IsSettled self.old → F.reads folder.new ≡ F.reads folder.old }
         // what an error says
         ensures cause { HasPageCause (F.faults folder.old) (F.faults folder.new) result }
         ensures whole { IsTrue F.told → (i : Index) → Sees D (F.files folder.old) self.old i → NotDamaged result }
         ensures shown { OnDamage result (IsMergeDamage D self.old.given self.old.names self.old.parts) }
-        ensures damage { IsTrue F.told → Agrees (F.files folder.old) self.old.cache → OnDamage result (IsMergeDamageOf (F.files folder.new) self.old.given) }
-        ensures doubled { IsTrue F.told → Agrees (F.files folder.old) self.old.cache → (c : Contents) → AreRead D (F.files folder.old) c self.old.parts
+        ensures damage { IsTrue F.told → Agrees (F.files folder.old) self.old.cache
+            → OnDamage result (IsMergeDamageOf (F.files folder.new) self.old.given) }
+        ensures doubled { IsTrue F.told → Agrees (F.files folder.old) self.old.cache → (c : Contents)
+            → AreRead D (F.files folder.old) c self.old.parts
             → OnDamage result (IsDoubt self.old.given (live_in_parts c self.old.parts)) }
-        ensures evident { OnDamage result (IsEvidentIn D self.old.parts (IsTrue F.told × IsFaithful D (F.files folder.old) self.old) (F.files folder.new)) }
+        ensures evident { OnDamage result
+            (IsEvidentIn D self.old.parts (IsTrue F.told × IsFaithful D (F.files folder.old) self.old)
+            (F.files folder.new)) }
     {
         self.merge_settle(rt, alloc, folder, gate)?;
         self.spill(rt, alloc, folder, gate)
@@ -80,21 +92,26 @@ impl<const D: usize> SegmentSet<D> {
         folder: &mut F,
         gate: &G,
     ) -> Result<(), PageFault>
-        ensures seen { IsTrue F.told → (i : Index) → Sees D (F.files folder.old) self.old i → Sees D (F.files folder.new) self.new i }
+        ensures seen { IsTrue F.told → (i : Index) → Sees D (F.files folder.old) self.old i
+            → Sees D (F.files folder.new) self.new i }
         ensures buffer { self.new.buffer ≡ self.old.buffer }
-        ensures levels { OnOk result ((level : ℕ) → free_count level (sizes_of self.new.parts) (pins_of self.new.begun self.new.parts) < 10) }
+        ensures levels { OnOk result
+            ((level : ℕ) → free_count level (sizes_of self.new.parts) (pins_of self.new.begun self.new.parts) < 10) }
         ensures room { OnOk result (length self.new.parts < 200) }
         // what is done, and after a fault what was done before: merges of the policy, each whole
-        ensures settled { OnOk result (Settles D (IsTrue F.told) (spot (F.files folder.old) self.old) (spot (F.files folder.new) self.new)) }
+        ensures settled { OnOk result
+            (Settles D (IsTrue F.told) (spot (F.files folder.old) self.old) (spot (F.files folder.new) self.new)) }
         ensures left { OnErr result (IsLeft (Settles D (IsTrue F.told) (spot (F.files folder.old) self.old)) self.new) }
         // what stays
         ensures stays { StaysAlone self.old self.new }
-        ensures kept { KeepsNamed (IsTrue F.told) self.old.names self.new.names (F.files folder.old) (F.files folder.new) }
+        ensures kept { KeepsNamed (IsTrue F.told) self.old.names self.new.names (F.files folder.old)
+            (F.files folder.new) }
         ensures follows { Follows self.old.names self.old.parts self.new.parts }
         ensures saved { self.new.saved ≡ self.old.saved }
         ensures begun { self.new.begun ≡ self.old.begun }
         ensures canon { IsTrue F.told → AreCanonical D (F.files folder.new) self.old.names self.new.parts }
-        ensures faithful { IsTrue F.told → IsFaithful D (F.files folder.old) self.old → IsFaithful D (F.files folder.new) self.new }
+        ensures faithful { IsTrue F.told → IsFaithful D (F.files folder.old) self.old
+            → IsFaithful D (F.files folder.new) self.new }
         // where the policy chooses nothing, nothing is done
         ensures rested { IsSettled self.old → F.reads folder.new ≡ F.reads folder.old }
         ensures still { IsSettled self.old → self.new ≡ self.old }
@@ -102,10 +119,14 @@ impl<const D: usize> SegmentSet<D> {
         ensures cause { HasPageCause (F.faults folder.old) (F.faults folder.new) result }
         ensures whole { IsTrue F.told → (i : Index) → Sees D (F.files folder.old) self.old i → NotDamaged result }
         ensures shown { OnDamage result (IsMergeDamage D self.old.given self.old.names self.old.parts) }
-        ensures damage { IsTrue F.told → Agrees (F.files folder.old) self.old.cache → OnDamage result (IsMergeDamageOf (F.files folder.new) self.old.given) }
-        ensures doubled { IsTrue F.told → Agrees (F.files folder.old) self.old.cache → (c : Contents) → AreRead D (F.files folder.old) c self.old.parts
+        ensures damage { IsTrue F.told → Agrees (F.files folder.old) self.old.cache
+            → OnDamage result (IsMergeDamageOf (F.files folder.new) self.old.given) }
+        ensures doubled { IsTrue F.told → Agrees (F.files folder.old) self.old.cache → (c : Contents)
+            → AreRead D (F.files folder.old) c self.old.parts
             → OnDamage result (IsDoubt self.old.given (live_in_parts c self.old.parts)) }
-        ensures evident { OnDamage result (IsEvidentIn D self.old.parts (IsTrue F.told × IsFaithful D (F.files folder.old) self.old) (F.files folder.new)) }
+        ensures evident { OnDamage result
+            (IsEvidentIn D self.old.parts (IsTrue F.told × IsFaithful D (F.files folder.old) self.old)
+            (F.files folder.new)) }
     {
         while let Some(ids) = self.next_merge(alloc)? {
             self.merge(rt, alloc, folder, ids.as_slice(), gate)?;
@@ -113,8 +134,9 @@ impl<const D: usize> SegmentSet<D> {
         Ok(())
     }
 
-    /// Merges all segments that are no inputs of a begun merge into one. On a single such segment it does nothing exactly where that has index
-    /// form 3 and as many live numbers as entries. A merge whose entries are all dead leaves no segment.
+    /// Merges all segments that are no inputs of a begun merge into one. On a single such segment it does nothing
+    /// exactly where that has index form 3 and as many live numbers as entries. A merge whose entries are all dead
+    /// leaves no segment.
     pub fn merge_all<R: Threads + Sync, F: Folder, G: Gate>(
         &mut self,
         rt: &R,
@@ -122,34 +144,45 @@ impl<const D: usize> SegmentSet<D> {
         folder: &mut F,
         gate: &G,
     ) -> Result<(), PageFault>
-        ensures seen { IsTrue F.told → (i : Index) → Sees D (F.files folder.old) self.old i → Sees D (F.files folder.new) self.new i }
+        ensures seen { IsTrue F.told → (i : Index) → Sees D (F.files folder.old) self.old i
+            → Sees D (F.files folder.new) self.new i }
         ensures buffer { self.new.buffer ≡ self.old.buffer }
         // of the segments that are no inputs one is left at most, without dead entries
-        ensures one { OnOk result ((length (free_parts self.new) ≤ 1) × All (λ p. p.head.index.form ≡ 3) (free_parts self.new)) }
+        ensures one { OnOk result
+            ((length (free_parts self.new) ≤ 1) × All (λ p. p.head.index.form ≡ 3) (free_parts self.new)) }
         ensures all_live { IsTrue F.told → (i : Index) → Sees D (F.files folder.old) self.old i
             → OnOk result ((c : Contents) → StandsOver D (F.files folder.new) c self.new
             → All (λ p. All (λ x. is_live p.live x.doc ≡ true) (c p.head.id)) (free_parts self.new)) }
-        ensures merged { OnOk result (IsTidy self.old ⊎ MergesParts D (IsTrue F.told) (free_ids self.old) (spot (F.files folder.old) self.old) (spot (F.files folder.new) self.new)) }
+        ensures merged { OnOk result
+            (IsTidy self.old
+            ⊎ MergesParts D (IsTrue F.told) (free_ids self.old) (spot (F.files folder.old) self.old)
+            (spot (F.files folder.new) self.new)) }
         // where this is so already nothing is done
         ensures still { IsTidy self.old → (self.new ≡ self.old) × (F.reads folder.new ≡ F.reads folder.old) }
         ensures unwritten { IsTrue F.told → IsTidy self.old → F.files folder.new ≡ F.files folder.old }
         ensures refused { OnErr result (IsAsBefore self.old self.new) }
         // what stays
         ensures stays { StaysAlone self.old self.new }
-        ensures kept { KeepsNamed (IsTrue F.told) self.old.names self.new.names (F.files folder.old) (F.files folder.new) }
+        ensures kept { KeepsNamed (IsTrue F.told) self.old.names self.new.names (F.files folder.old)
+            (F.files folder.new) }
         ensures follows { Follows self.old.names self.old.parts self.new.parts }
         ensures saved { self.new.saved ≡ self.old.saved }
         ensures begun { self.new.begun ≡ self.old.begun }
         ensures canon { IsTrue F.told → AreCanonical D (F.files folder.new) self.old.names self.new.parts }
-        ensures faithful { IsTrue F.told → IsFaithful D (F.files folder.old) self.old → IsFaithful D (F.files folder.new) self.new }
+        ensures faithful { IsTrue F.told → IsFaithful D (F.files folder.old) self.old
+            → IsFaithful D (F.files folder.new) self.new }
         // what an error says
         ensures cause { HasPageCause (F.faults folder.old) (F.faults folder.new) result }
         ensures whole { IsTrue F.told → (i : Index) → Sees D (F.files folder.old) self.old i → NotDamaged result }
         ensures shown { OnDamage result (IsMergeDamage D self.old.given self.old.names self.old.parts) }
-        ensures damage { IsTrue F.told → Agrees (F.files folder.old) self.old.cache → OnDamage result (IsMergeDamageOf (F.files folder.new) self.old.given) }
-        ensures doubled { IsTrue F.told → Agrees (F.files folder.old) self.old.cache → (c : Contents) → AreRead D (F.files folder.old) c self.old.parts
+        ensures damage { IsTrue F.told → Agrees (F.files folder.old) self.old.cache
+            → OnDamage result (IsMergeDamageOf (F.files folder.new) self.old.given) }
+        ensures doubled { IsTrue F.told → Agrees (F.files folder.old) self.old.cache → (c : Contents)
+            → AreRead D (F.files folder.old) c self.old.parts
             → OnDamage result (IsDoubt self.old.given (live_in_parts c self.old.parts)) }
-        ensures evident { OnDamage result (IsEvidentIn D self.old.parts (IsTrue F.told × IsFaithful D (F.files folder.old) self.old) (F.files folder.new)) }
+        ensures evident { OnDamage result
+            (IsEvidentIn D self.old.parts (IsTrue F.told × IsFaithful D (F.files folder.old) self.old)
+            (F.files folder.new)) }
     {
         let ids = self.unpinned(alloc)?;
         if self.is_settled(ids.as_slice()) {
@@ -158,9 +191,9 @@ impl<const D: usize> SegmentSet<D> {
         self.merge(rt, alloc, folder, ids.as_slice(), gate)
     }
 
-    /// Begins a merge of the segments at these positions, counted from 0 in ascending order of their ids. Positions that name no segment,
-    /// repeats and all after the first 64 that count are ignored. Begun exactly where one is begun. The merged segment is built now of what is
-    /// live now.
+    /// Begins a merge of the segments at these positions, counted from 0 in ascending order of their ids. Positions
+    /// that name no segment, repeats and all after the first 64 that count are ignored. Begun exactly where one is
+    /// begun. The merged segment is built now of what is live now.
     pub fn merge_begin<R: Threads + Sync, F: Folder, G: Gate>(
         &mut self,
         rt: &R,
@@ -171,9 +204,12 @@ impl<const D: usize> SegmentSet<D> {
     ) -> Result<(), BeginFault>
         ensures seen { IsTrue F.told → (i : Index) → Sees D (F.files folder.old) self.old i
             → OnOk result (Sees D (F.files folder.new) self.new (record i { begun = true })) }
-        ensures refused { IsTrue F.told → (i : Index) → Sees D (F.files folder.old) self.old i → OnErr result (Sees D (F.files folder.new) self.new i) }
+        ensures refused { IsTrue F.told → (i : Index) → Sees D (F.files folder.old) self.old i
+            → OnErr result (Sees D (F.files folder.new) self.new i) }
         ensures begun { IsErrOf result begin.Begun ↔ (is_some self.old.begun ≡ true) }
-        ensures inputs { OnOk result ((b : BegunMerge) × (self.new.begun ≡ Some b) × (b.inputs ≡ chosen_ids which.now (ids_of self.old.parts))) }
+        ensures inputs { OnOk result
+            ((b : BegunMerge) × (self.new.begun ≡ Some b)
+            × (b.inputs ≡ chosen_ids which.now (ids_of self.old.parts))) }
         // what is built has no dead entry
         ensures built { OnOk result ((b : BegunMerge) (n : NewSegmentData) → self.new.begun ≡ Some b → b.built ≡ Some n
             → IsGathered D self.old.leaf (parts_among b.inputs self.old.parts) n) }
@@ -181,15 +217,21 @@ impl<const D: usize> SegmentSet<D> {
         ensures files { IsTrue F.told → F.files folder.new ≡ F.files folder.old }
         ensures alone { StaysButMerge self.old self.new }
         ensures stays { OnErr result (StaysButCache self.old self.new) }
-        ensures faithful { IsTrue F.told → IsFaithful D (F.files folder.old) self.old → IsFaithful D (F.files folder.new) self.new }
+        ensures faithful { IsTrue F.told → IsFaithful D (F.files folder.old) self.old
+            → IsFaithful D (F.files folder.new) self.new }
         // what an error says
         ensures cause { HasCauseOf begin.Failed (F.faults folder.old) (F.faults folder.new) result }
-        ensures whole { IsTrue F.told → (i : Index) → Sees D (F.files folder.old) self.old i → OnBeginDamage result (λ _. ⊥) }
+        ensures whole { IsTrue F.told → (i : Index) → Sees D (F.files folder.old) self.old i
+            → OnBeginDamage result (λ _. ⊥) }
         ensures shown { OnBeginDamage result (IsMergeDamage D self.old.given self.old.names self.old.parts) }
-        ensures damage { IsTrue F.told → Agrees (F.files folder.old) self.old.cache → OnBeginDamage result (IsMergeDamageOf (F.files folder.new) self.old.given) }
-        ensures doubled { IsTrue F.told → Agrees (F.files folder.old) self.old.cache → (c : Contents) → AreRead D (F.files folder.old) c self.old.parts
+        ensures damage { IsTrue F.told → Agrees (F.files folder.old) self.old.cache
+            → OnBeginDamage result (IsMergeDamageOf (F.files folder.new) self.old.given) }
+        ensures doubled { IsTrue F.told → Agrees (F.files folder.old) self.old.cache → (c : Contents)
+            → AreRead D (F.files folder.old) c self.old.parts
             → OnBeginDamage result (IsDoubt self.old.given (live_in_parts c self.old.parts)) }
-        ensures evident { OnBeginDamage result (IsEvidentIn D self.old.parts (IsTrue F.told × IsFaithful D (F.files folder.old) self.old) (F.files folder.new)) }
+        ensures evident { OnBeginDamage result
+            (IsEvidentIn D self.old.parts (IsTrue F.told × IsFaithful D (F.files folder.old) self.old)
+            (F.files folder.new)) }
     {
         if self.begun.is_some() {
             return Err(BeginFault::Begun);
@@ -211,27 +253,34 @@ impl<const D: usize> SegmentSet<D> {
         Ok(())
     }
 
-    /// Ends the begun merge: the merged segment replaces its inputs, and deletions since the begin are carried over. Where none of its entries
-    /// is live any more the inputs only go. NotBegun exactly where none is begun. Nothing is read, so it answers no damage.
+    /// Ends the begun merge: the merged segment replaces its inputs, and deletions since the begin are carried over.
+    /// Where none of its entries is live any more the inputs only go. NotBegun exactly where none is begun. Nothing
+    /// is read, so it answers no damage.
     pub fn merge_end<F: Folder>(&mut self, alloc: Global, folder: &mut F) -> Result<(), EndFault>
         ensures seen { IsTrue F.told → (i : Index) → Sees D (F.files folder.old) self.old i
             → OnOk result (Sees D (F.files folder.new) self.new (record i { begun = false })) }
-        ensures refused { IsTrue F.told → (i : Index) → Sees D (F.files folder.old) self.old i → OnErr result (Sees D (F.files folder.new) self.new i) }
+        ensures refused { IsTrue F.told → (i : Index) → Sees D (F.files folder.old) self.old i
+            → OnErr result (Sees D (F.files folder.new) self.new i) }
         ensures not_begun { IsErrOf result end.NotBegun ↔ (is_some self.old.begun ≡ false) }
         ensures ended { OnOk result (self.new.begun ≡ None) }
-        ensures parts { (b : BegunMerge) → self.old.begun ≡ Some b → OnOk result (IsEnded b self.old.parts self.new.parts) }
+        ensures parts { (b : BegunMerge) → self.old.begun ≡ Some b
+            → OnOk result (IsEnded b self.old.parts self.new.parts) }
         ensures replaced { (b : BegunMerge) → self.old.begun ≡ Some b
-            → OnOk result (Replaces D (IsTrue F.told) self.old.names self.new.names (F.files folder.new) b.inputs (living b.built) self.old.parts self.new.parts) }
+            → OnOk result
+            (Replaces D (IsTrue F.told) self.old.names self.new.names (F.files folder.new) b.inputs
+            (living b.built) self.old.parts self.new.parts) }
         ensures alone { OnErr result (IsAsBefore self.old self.new) }
         ensures buffer { self.new.buffer ≡ self.old.buffer }
         // what stays
         ensures stays { StaysAlone self.old (record self.new { begun = self.old.begun }) }
         ensures begun { OnErr result (self.new.begun ≡ self.old.begun) }
-        ensures kept { KeepsNamed (IsTrue F.told) self.old.names self.new.names (F.files folder.old) (F.files folder.new) }
+        ensures kept { KeepsNamed (IsTrue F.told) self.old.names self.new.names (F.files folder.old)
+            (F.files folder.new) }
         ensures follows { Follows self.old.names self.old.parts self.new.parts }
         ensures saved { self.new.saved ≡ self.old.saved }
         ensures canon { IsTrue F.told → AreCanonical D (F.files folder.new) self.old.names self.new.parts }
-        ensures faithful { IsTrue F.told → IsFaithful D (F.files folder.old) self.old → IsFaithful D (F.files folder.new) self.new }
+        ensures faithful { IsTrue F.told → IsFaithful D (F.files folder.old) self.old
+            → IsFaithful D (F.files folder.new) self.new }
         ensures unread { F.reads folder.new ≡ F.reads folder.old }
         // what an error says
         ensures cause { HasCauseOf end.Failed (F.faults folder.old) (F.faults folder.new) result }
@@ -266,12 +315,19 @@ impl<const D: usize> SegmentSet<D> {
 
     /// The ids of the segments that the policy chooses for the next merge, if it chooses some.
     fn next_merge(&self, alloc: Global) -> Result<Option<Vec<u64>>, Memory>
-        ensures none { IfOk result (λ o. IfNone o ((level : ℕ) → free_count level (sizes_of self.now.parts) (pins_of self.now.begun self.now.parts) < 10)) }
-        ensures apart { IfOk result (λ o. IfSome o (λ ids. IsApart ids.items (inputs_of self.now.begun) self.now.parts)) }
+        ensures none { IfOk result
+            (λ o. IfNone o
+            ((level : ℕ) → free_count level (sizes_of self.now.parts) (pins_of self.now.begun self.now.parts) < 10)) }
+        ensures apart { IfOk result
+            (λ o. IfSome o (λ ids. IsApart ids.items (inputs_of self.now.begun) self.now.parts)) }
         ensures some { IfOk result (λ o. IfSome o (λ ids. 2 ≤ length (parts_among ids.items self.now.parts))) }
-        ensures ten { IfOk result (λ o. IfSome o (λ ids. (level : ℕ) × (10 ≤ free_count level (sizes_of self.now.parts) (pins_of self.now.begun self.now.parts)))) }
+        ensures ten { IfOk result
+            (λ o. IfSome o
+            (λ ids. (level : ℕ)
+            × (10 ≤ free_count level (sizes_of self.now.parts) (pins_of self.now.begun self.now.parts)))) }
         ensures choice { IfOk result (λ o. IfSome o (λ ids. (positions : List ℕ)
-            × IsChoice (sizes_of self.now.parts) (pins_of self.now.begun self.now.parts) positions × (ids.items ≡ map (slice_index (ids_of self.now.parts)) positions))) }
+            × IsChoice (sizes_of self.now.parts) (pins_of self.now.begun self.now.parts) positions
+            × (ids.items ≡ map (slice_index (ids_of self.now.parts)) positions))) }
         ensures room { IfOk result (λ o. IfNone o (length self.now.parts < 200)) }
         ensures well { IsWell D self.now }
     {
@@ -306,20 +362,28 @@ impl<const D: usize> SegmentSet<D> {
         requires { IsApart ids.now (inputs_of self.old.begun) self.old.parts }
         ensures moves { Rearranges D (IsTrue F.told) (F.files folder.old) (F.files folder.new) self.old self.new }
         ensures entries { KeepsEntries D (IsTrue F.told) (F.files folder.old) (F.files folder.new) self.old self.new }
-        ensures faithful { IsTrue F.told → IsFaithful D (F.files folder.old) self.old → IsFaithful D (F.files folder.new) self.new }
+        ensures faithful { IsTrue F.told → IsFaithful D (F.files folder.old) self.old
+            → IsFaithful D (F.files folder.new) self.new }
         ensures buffer { self.new.buffer ≡ self.old.buffer }
-        ensures merged { OnOk result (IsMerged D (IsTrue F.told) self.old.leaf self.old.names self.new.names (F.files folder.old) (F.files folder.new) self.old.cache ids.now
+        ensures merged { OnOk result
+            (IsMerged D (IsTrue F.told) self.old.leaf self.old.names self.new.names (F.files folder.old)
+            (F.files folder.new) self.old.cache ids.now
             self.old.parts self.new.parts) }
-        ensures fewer { OnOk result (length self.new.parts + length (parts_among ids.now self.old.parts) ≤ length self.old.parts + 1) }
+        ensures fewer { OnOk result
+            (length self.new.parts + length (parts_among ids.now self.old.parts) ≤ length self.old.parts + 1) }
         ensures alone { StaysButParts self.old self.new }
         ensures refused { OnErr result (IsAsBefore self.old self.new) }
         ensures cause { HasPageCause (F.faults folder.old) (F.faults folder.new) result }
         ensures whole { IsTrue F.told → (i : Index) → Sees D (F.files folder.old) self.old i → NotDamaged result }
         ensures shown { OnDamage result (IsMergeDamage D self.old.given self.old.names self.old.parts) }
-        ensures damage { IsTrue F.told → Agrees (F.files folder.old) self.old.cache → OnDamage result (IsMergeDamageOf (F.files folder.new) self.old.given) }
-        ensures doubled { IsTrue F.told → Agrees (F.files folder.old) self.old.cache → (c : Contents) → AreRead D (F.files folder.old) c self.old.parts
+        ensures damage { IsTrue F.told → Agrees (F.files folder.old) self.old.cache
+            → OnDamage result (IsMergeDamageOf (F.files folder.new) self.old.given) }
+        ensures doubled { IsTrue F.told → Agrees (F.files folder.old) self.old.cache → (c : Contents)
+            → AreRead D (F.files folder.old) c self.old.parts
             → OnDamage result (IsDoubt self.old.given (live_in_parts c self.old.parts)) }
-        ensures evident { OnDamage result (IsEvidentIn D self.old.parts (IsTrue F.told × IsFaithful D (F.files folder.old) self.old) (F.files folder.new)) }
+        ensures evident { OnDamage result
+            (IsEvidentIn D self.old.parts (IsTrue F.told × IsFaithful D (F.files folder.old) self.old)
+            (F.files folder.new)) }
     {
         let plan = self.plan();
         merge(
@@ -346,12 +410,14 @@ impl<const D: usize> SegmentSet<D> {
         requires { length self.old.parts < 200 }
         ensures well { IsWell D self.old }
         ensures moves { Rearranges D (IsTrue F.told) (F.files folder.old) (F.files folder.new) self.old self.new }
-        ensures faithful { IsTrue F.told → IsFaithful D (F.files folder.old) self.old → IsFaithful D (F.files folder.new) self.new }
+        ensures faithful { IsTrue F.told → IsFaithful D (F.files folder.old) self.old
+            → IsFaithful D (F.files folder.new) self.new }
         ensures emptied { OnOk result (self.new.buffer ≡ []) }
         ensures spills { OnOk result ((spot (F.files folder.new) self.new ≡ spot (F.files folder.old) self.old)
             ⊎ Spills D (IsTrue F.told) (spot (F.files folder.old) self.old) (spot (F.files folder.new) self.new)) }
         ensures refused { OnErr result (IsAsBefore self.old self.new) }
-        ensures one_more { (level : ℕ) → free_count level (sizes_of self.new.parts) (pins_of self.new.begun self.new.parts)
+        ensures one_more { (level : ℕ)
+            → free_count level (sizes_of self.new.parts) (pins_of self.new.begun self.new.parts)
             ≤ free_count level (sizes_of self.old.parts) (pins_of self.old.begun self.old.parts) + 1 }
         ensures reads { F.reads folder.new ≡ F.reads folder.old }
         ensures cause { HasPageCause (F.faults folder.old) (F.faults folder.new) result }

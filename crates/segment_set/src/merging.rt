@@ -1,6 +1,8 @@
-//! What a merge does with segments: their live entries are gathered, a segment is built of these, and it takes their place.
+//! What a merge does with segments: their live entries are gathered, a segment is built of these, and it takes their
+//! place.
 
-ghost use Rattle.std.specs.Prelude.{◌≡◌, ◌≤◌, ◌<◌, ◌^◌, ◌⊎◌, ℕ, List, Contains, true, false, [], None, Some, length, All, IsTrue, IfOk, OnOk, OnErr, IsErrOf};
+ghost use Rattle.std.specs.Prelude.{◌≡◌, ◌≤◌, ◌<◌, ◌^◌, ◌⊎◌, ℕ, List, Contains, true, false, [], None, Some, length};
+ghost use Rattle.std.specs.Prelude.{All, IsTrue, IfOk, OnOk, OnErr, IsErrOf};
 ghost use Rattle.std.specs.List.Sorted.{IsPermutation};
 ghost use Rattle.std.specs.Option.{option_copied};
 ghost use Rattle.outer_io.specs.declared.file_name.FileName.TheVariants.{Segment};
@@ -38,8 +40,8 @@ use std::alloc::Global;
 use std::marker::Sync;
 use std::thread::Threads;
 
-/// How the segments of a set are built: how many entries a leaf has, in how many levels a build forks, and how many points were given, than
-/// which there are no more entries.
+/// How the segments of a set are built: how many entries a leaf has, in how many levels a build forks, and how many
+/// points were given, than which there are no more entries.
 #[derive(Clone, Copy)]
 pub(crate) struct BuildPlan<const D: usize> {
     pub(crate) leaf: u16,
@@ -52,8 +54,8 @@ pub(crate) struct BuildPlan<const D: usize> {
     ghost most_given: { given ≤ 2 ^ 24 },
 }
 
-/// Looks through entries before a segment is built of them. They are no more than the points given, and of no number there are more than
-/// 16 or one twice; else the files are damaged.
+/// Looks through entries before a segment is built of them. They are no more than the points given, and of no number
+/// there are more than 16 or one twice; else the files are damaged.
 fn check_entries<const D: usize>(
     alloc: Global,
     entries: &[Entry<D>],
@@ -92,13 +94,16 @@ fn build_of<const D: usize, R: Threads + Sync, G: Gate>(
     requires dims { D ≤ 8 }
     requires some { 1 ≤ length entries.old }
     requires numbers { All (λ e. e.doc < 2 ^ 24) entries.old }
-    ensures has { IfOk result (λ n. (items : List Item) × IsPermutation (items_of entries.old) items × HasEntries D items n) }
-    ensures live { IfOk result (λ n. IsLiveSet n.live × (is_live n.live ≡ (λ number. has_entry number (items_of entries.old)))) }
+    ensures has { IfOk result
+        (λ n. (items : List Item) × IsPermutation (items_of entries.old) items × HasEntries D items n) }
+    ensures live { IfOk result
+        (λ n. IsLiveSet n.live × (is_live n.live ≡ (λ number. has_entry number (items_of entries.old)))) }
     ensures leaf { IfOk result (λ n. n.leaf ≡ plan.now.leaf) }
     ensures uncrowded { OnOk result (AreUncrowded (items_of entries.old)) }
     ensures unfailed { IsErrOf result fault.Failed → ⊥ }
     ensures shown { OnDamage result (IsDoubt plan.now.given (items_of entries.old)) }
-    ensures whole { (next : ℕ) → MakeDocs next (items_of entries.old) → length entries.old ≤ plan.now.given → NotDamaged result }
+    ensures whole { (next : ℕ) → MakeDocs next (items_of entries.old) → length entries.old ≤ plan.now.given
+        → NotDamaged result }
 {
     check_entries(alloc, entries, plan.given)?;
     Ok(build_segment(rt, alloc, entries, plan.leaf, plan.forks, gate)?)
@@ -116,19 +121,30 @@ pub(crate) fn gathered<const D: usize, R: Threads + Sync, F: Pages, G: Gate>(
     gate: &G,
 ) -> Result<Option<NewSegment<D>>, PageFault>
     requires { D ≤ 8 }
-    ensures gathered { IfOk result (λ o. (n : NewSegmentData) → o ≡ Some n → IsGathered D plan.now.leaf (parts_among ids.now segments.now) n) }
-    ensures makes { IsTrue F.told → Agrees (F.files folder.old) cache.old → (c : Contents) → AreRead D (F.files folder.old) c segments.now
+    ensures gathered { IfOk result
+        (λ o. (n : NewSegmentData) → o ≡ Some n → IsGathered D plan.now.leaf (parts_among ids.now segments.now) n) }
+    ensures makes { IsTrue F.told → Agrees (F.files folder.old) cache.old → (c : Contents)
+        → AreRead D (F.files folder.old) c segments.now
         → IfOk result (MakesLive D (live_in_parts c (parts_among ids.now segments.now))) }
-    ensures calm { IsCalm F.told (F.files folder.old) (F.files folder.new) cache.old cache.new (ids_of (parts_among ids.now segments.now)) }
+    ensures calm { IsCalm F.told (F.files folder.old) (F.files folder.new) cache.old cache.new
+        (ids_of (parts_among ids.now segments.now)) }
     ensures cause { HasPageCause (F.faults folder.old) (F.faults folder.new) result }
-    ensures whole { IsTrue F.told → Agrees (F.files folder.old) cache.old → (c : Contents) → AreRead D (F.files folder.old) c segments.now
-        → (next : ℕ) → MakeDocs next (live_in_parts c (parts_among ids.now segments.now)) → length (live_in_parts c (parts_among ids.now segments.now)) ≤ plan.now.given
+    ensures whole { IsTrue F.told → Agrees (F.files folder.old) cache.old → (c : Contents)
+        → AreRead D (F.files folder.old) c segments.now
+        → (next : ℕ) → MakeDocs next (live_in_parts c (parts_among ids.now segments.now))
+        → length (live_in_parts c (parts_among ids.now segments.now)) ≤ plan.now.given
         → NotDamaged result }
     ensures shown { (names : NameList) → OnDamage result (IsMergeDamage D plan.now.given names segments.now) }
-    ensures damage { IsTrue F.told → Agrees (F.files folder.old) cache.old → OnDamage result (IsMergeDamageOf (F.files folder.new) plan.now.given) }
-    ensures doubled { IsTrue F.told → Agrees (F.files folder.old) cache.old → (c : Contents) → AreRead D (F.files folder.old) c segments.now
+    ensures damage { IsTrue F.told → Agrees (F.files folder.old) cache.old
+        → OnDamage result (IsMergeDamageOf (F.files folder.new) plan.now.given) }
+    ensures doubled { IsTrue F.told → Agrees (F.files folder.old) cache.old → (c : Contents)
+        → AreRead D (F.files folder.old) c segments.now
         → OnDamage result (IsDoubt plan.now.given (live_in_parts c segments.now)) }
-    ensures evident { OnDamage result (IsEvidentIn D segments.now (IsTrue F.told × Agrees (F.files folder.old) cache.old × All (HasFileHead D (F.files folder.old)) segments.now × AreAlone segments.now) (F.files folder.new)) }
+    ensures evident { OnDamage result
+        (IsEvidentIn D segments.now
+        (IsTrue F.told × Agrees (F.files folder.old) cache.old
+        × All (HasFileHead D (F.files folder.old)) segments.now × AreAlone segments.now)
+        (F.files folder.new)) }
 {
     let mut entries = gather(alloc, segments, ids, cache, folder)?;
     if entries.is_empty() {
@@ -149,7 +165,8 @@ fn put<const D: usize, F: Folder>(
     requires dims { D ≤ 8 }
     requires named { All (IsNamed names.old) segments.old }
     requires among { (id : ℕ) → is_among ids.now id ≡ true → is_named names.old.names (Segment id) ≡ true }
-    ensures put { OnOk result (IsPut D (IsTrue F.told) names.old names.new (F.files folder.new) ids.now new.now segments.old segments.new) }
+    ensures put { OnOk result
+        (IsPut D (IsTrue F.told) names.old names.new (F.files folder.new) ids.now new.now segments.old segments.new) }
     ensures refused { OnErr result (segments.new ≡ segments.old) }
     ensures kept { KeepsNamed (IsTrue F.told) names.old names.new (F.files folder.old) (F.files folder.new) }
     ensures reads { F.reads folder.new ≡ F.reads folder.old }
@@ -164,7 +181,8 @@ fn put<const D: usize, F: Folder>(
     Ok(())
 }
 
-/// Puts what was built in place of the segments of these ids. Where no number of it is live, or nothing was built, these only go.
+/// Puts what was built in place of the segments of these ids. Where no number of it is live, or nothing was built,
+/// these only go.
 pub(crate) fn replace<const D: usize, F: Folder>(
     alloc: Global,
     folder: &mut F,
@@ -177,7 +195,9 @@ pub(crate) fn replace<const D: usize, F: Folder>(
     requires named { All (IsNamed names.old) segments.old }
     requires among { (id : ℕ) → is_among ids.now id ≡ true → is_named names.old.names (Segment id) ≡ true }
     ensures unnamed { OnOk result (living (option_copied built.entry) ≡ None → names.new ≡ names.old) }
-    ensures replaced { OnOk result (Replaces D (IsTrue F.told) names.old names.new (F.files folder.new) ids.now (living (option_copied built.entry)) segments.old segments.new) }
+    ensures replaced { OnOk result
+        (Replaces D (IsTrue F.told) names.old names.new (F.files folder.new) ids.now
+        (living (option_copied built.entry)) segments.old segments.new) }
     ensures refused { OnErr result (segments.new ≡ segments.old) }
     ensures kept { KeepsNamed (IsTrue F.told) names.old names.new (F.files folder.old) (F.files folder.new) }
     ensures reads { F.reads folder.new ≡ F.reads folder.old }
@@ -208,20 +228,31 @@ pub(crate) fn merge<const D: usize, R: Threads + Sync, F: Folder, G: Gate>(
     requires dims { D ≤ 8 }
     requires named { All (IsNamed names.old) segments.old }
     requires among { (id : ℕ) → is_among ids.now id ≡ true → is_named names.old.names (Segment id) ≡ true }
-    ensures merged { OnOk result (IsMerged D (IsTrue F.told) plan.now.leaf names.old names.new (F.files folder.old) (F.files folder.new) cache.old ids.now segments.old segments.new) }
+    ensures merged { OnOk result
+        (IsMerged D (IsTrue F.told) plan.now.leaf names.old names.new (F.files folder.old)
+        (F.files folder.new) cache.old ids.now segments.old segments.new) }
     ensures refused { OnErr result (segments.new ≡ segments.old) }
     ensures kept { KeepsNamed (IsTrue F.told) names.old names.new (F.files folder.old) (F.files folder.new) }
     ensures agrees { IsTrue F.told → Agrees (F.files folder.old) cache.old → Agrees (F.files folder.old) cache.new }
-    ensures others { (id : ℕ) → KeepsFile cache.new id → KeepsFile cache.old id ⊎ Contains (ids_of (parts_among ids.now segments.old)) id }
+    ensures others { (id : ℕ) → KeepsFile cache.new id → KeepsFile cache.old id
+        ⊎ Contains (ids_of (parts_among ids.now segments.old)) id }
     ensures cause { HasPageCause (F.faults folder.old) (F.faults folder.new) result }
-    ensures whole { IsTrue F.told → Agrees (F.files folder.old) cache.old → (c : Contents) → AreRead D (F.files folder.old) c segments.old
-        → (next : ℕ) → MakeDocs next (live_in_parts c (parts_among ids.now segments.old)) → length (live_in_parts c (parts_among ids.now segments.old)) ≤ plan.now.given
+    ensures whole { IsTrue F.told → Agrees (F.files folder.old) cache.old → (c : Contents)
+        → AreRead D (F.files folder.old) c segments.old
+        → (next : ℕ) → MakeDocs next (live_in_parts c (parts_among ids.now segments.old))
+        → length (live_in_parts c (parts_among ids.now segments.old)) ≤ plan.now.given
         → NotDamaged result }
     ensures shown { OnDamage result (IsMergeDamage D plan.now.given names.old segments.old) }
-    ensures damage { IsTrue F.told → Agrees (F.files folder.old) cache.old → OnDamage result (IsMergeDamageOf (F.files folder.new) plan.now.given) }
-    ensures doubled { IsTrue F.told → Agrees (F.files folder.old) cache.old → (c : Contents) → AreRead D (F.files folder.old) c segments.old
+    ensures damage { IsTrue F.told → Agrees (F.files folder.old) cache.old
+        → OnDamage result (IsMergeDamageOf (F.files folder.new) plan.now.given) }
+    ensures doubled { IsTrue F.told → Agrees (F.files folder.old) cache.old → (c : Contents)
+        → AreRead D (F.files folder.old) c segments.old
         → OnDamage result (IsDoubt plan.now.given (live_in_parts c segments.old)) }
-    ensures evident { OnDamage result (IsEvidentIn D segments.old (IsTrue F.told × Agrees (F.files folder.old) cache.old × All (HasFileHead D (F.files folder.old)) segments.old × AreAlone segments.old) (F.files folder.new)) }
+    ensures evident { OnDamage result
+        (IsEvidentIn D segments.old
+        (IsTrue F.told × Agrees (F.files folder.old) cache.old
+        × All (HasFileHead D (F.files folder.old)) segments.old × AreAlone segments.old)
+        (F.files folder.new)) }
 {
     let built = gathered(rt, alloc, segments, ids, cache, folder, plan, gate)?;
     replace(alloc, folder, names, segments, built.as_ref(), ids)
@@ -245,7 +276,9 @@ pub(crate) fn spill<const D: usize, R: Threads + Sync, F: Folder, G: Gate>(
     requires numbers { All (λ e. e.doc < 2 ^ 24) buffer.old.items }
     requires once { NoneTwice (items_of buffer.old.items) }
     requires sixteen { AreFew (items_of buffer.old.items) }
-    ensures spilled { OnOk result (IsSpilled D (IsTrue F.told) plan.now.leaf names.old names.new (F.files folder.new) (items_of buffer.old.items) segments.old segments.new) }
+    ensures spilled { OnOk result
+        (IsSpilled D (IsTrue F.told) plan.now.leaf names.old names.new (F.files folder.new)
+        (items_of buffer.old.items) segments.old segments.new) }
     ensures emptied { OnOk result (buffer.new.items ≡ []) }
     ensures refused { OnErr result ((segments.new ≡ segments.old) × (buffer.new.items ≡ buffer.old.items)) }
     ensures kept { KeepsNamed (IsTrue F.told) names.old names.new (F.files folder.old) (F.files folder.new) }

@@ -34,8 +34,8 @@ impl<const D: usize> SegmentSet<D> {
     ghost use Rattle.segment_set.specs.Faithful.{IsFaithful};
     ghost use Rattle.index_opening.specs.Evidence.{IsEvident};
 
-    /// The numbers of the view's documents that the shape has, ascending. Only leaves whose own cell is not outside are read, and only
-    /// entries of the buffer and of leaves whose own cell the shape crosses are tested.
+    /// The numbers of the view's documents that the shape has, ascending. Only leaves whose own cell is not outside
+    /// are read, and only entries of the buffer and of leaves whose own cell the shape crosses are tested.
     pub fn visit<S: Shape<D>, F: Folder>(
         &mut self,
         alloc: Global,
@@ -44,27 +44,35 @@ impl<const D: usize> SegmentSet<D> {
         shape: &mut S,
     ) -> Result<Vec<u32>, PageFault>
         requires { HasView (viewed view.now) self.old }
-        ensures found { IsTrue F.told → (i : Index) → Sees D (F.files folder.old) self.old i → (docs : List Document) → viewed_docs (viewed view.now) i ≡ Some docs
+        ensures found { IsTrue F.told → (i : Index) → Sees D (F.files folder.old) self.old i → (docs : List Document)
+            → viewed_docs (viewed view.now) i ≡ Some docs
             → IfOk result (λ v. v.items ≡ hits (S.has shape.old) docs) }
         // what stays
-        ensures seen { IsTrue F.told → (i : Index) → Sees D (F.files folder.old) self.old i → Sees D (F.files folder.new) self.new i }
+        ensures seen { IsTrue F.told → (i : Index) → Sees D (F.files folder.old) self.old i
+            → Sees D (F.files folder.new) self.new i }
         ensures alone { StaysButCache self.old self.new }
-        ensures faithful { IsTrue F.told → IsFaithful D (F.files folder.old) self.old → IsFaithful D (F.files folder.new) self.new }
+        ensures faithful { IsTrue F.told → IsFaithful D (F.files folder.old) self.old
+            → IsFaithful D (F.files folder.new) self.new }
         ensures files { IsTrue F.told → F.files folder.new ≡ F.files folder.old }
         ensures has { S.has shape.new ≡ S.has shape.old }
         ensures crosses { S.crosses shape.new ≡ S.crosses shape.old }
         // what it costs, over every folder
-        ensures tests { (n : ℕ) → AreTested D (S.crosses shape.old) (heads_of (viewed_parts (viewed view.now) self.old)) n
+        ensures tests { (n : ℕ)
+            → AreTested D (S.crosses shape.old) (heads_of (viewed_parts (viewed view.now) self.old)) n
             → S.tests shape.new ≤ S.tests shape.old + n + length (viewed_buffer (viewed view.now) self.old) }
-        ensures compares { S.compares shape.new ≤ S.compares shape.old + 2 * leaves_in (heads_of (viewed_parts (viewed view.now) self.old)) }
-        ensures reads { (n : ℕ) → AreTouched D (S.has shape.old) (S.crosses shape.old) (heads_of (viewed_parts (viewed view.now) self.old)) n
+        ensures compares { S.compares shape.new ≤ S.compares shape.old + 2 * leaves_in
+            (heads_of (viewed_parts (viewed view.now) self.old)) }
+        ensures reads { (n : ℕ) → AreTouched D (S.has shape.old) (S.crosses shape.old)
+            (heads_of (viewed_parts (viewed view.now) self.old)) n
             → F.reads folder.new ≤ F.reads folder.old + n }
         // what an error says
         ensures cause { HasPageCause (F.faults folder.old) (F.faults folder.new) result }
         ensures whole { IsTrue F.told → (i : Index) → Sees D (F.files folder.old) self.old i → NotDamaged result }
         ensures shown { OnDamage result (IsPartDamage D (viewed_parts (viewed view.now) self.old)) }
-        ensures damage { IsTrue F.told → Agrees (F.files folder.old) self.old.cache → OnDamage result (IsLeafDamageOf (F.files folder.old)) }
-        ensures evident { OnDamage result (IsEvident (IsTrue F.told × IsFaithful D (F.files folder.old) self.old) (F.files folder.new)) }
+        ensures damage { IsTrue F.told → Agrees (F.files folder.old) self.old.cache
+            → OnDamage result (IsLeafDamageOf (F.files folder.old)) }
+        ensures evident { OnDamage result
+            (IsEvident (IsTrue F.told × IsFaithful D (F.files folder.old) self.old) (F.files folder.new)) }
     {
         let (segments, buffer) = view_of(
             &self.segments,
@@ -75,9 +83,9 @@ impl<const D: usize> SegmentSet<D> {
         segment_view::visit(alloc, segments, buffer, &mut self.cache, folder, shape)
     }
 
-    /// The `k` nearest documents of the view, the nearest first, each with the least squared distance of its points: all, where there are
-    /// fewer than `k`. Of equally near ones the one with the smaller number comes first. Only leaves whose cell is as near as the last
-    /// document found are read. `k` is 1 to 10,000.
+    /// The `k` nearest documents of the view, the nearest first, each with the least squared distance of its points:
+    /// all, where there are fewer than `k`. Of equally near ones the one with the smaller number comes first. Only
+    /// leaves whose cell is as near as the last document found are read. `k` is 1 to 10,000.
     pub fn nearest<F: Folder>(
         &mut self,
         alloc: Global,
@@ -89,24 +97,34 @@ impl<const D: usize> SegmentSet<D> {
         requires view { HasView (viewed view.now) self.old }
         requires some { 1 ≤ k }
         requires few { k ≤ 10000 }
-        ensures found { IsTrue F.told → (i : Index) → Sees D (F.files folder.old) self.old i → (docs : List Document) → viewed_docs (viewed view.now) i ≡ Some docs
+        ensures found { IsTrue F.told → (i : Index) → Sees D (F.files folder.old) self.old i → (docs : List Document)
+            → viewed_docs (viewed view.now) i ≡ Some docs
             → IfOk result (λ v. found_of v.items ≡ nearest k at.now.c docs) }
         // what stays
-        ensures seen { IsTrue F.told → (i : Index) → Sees D (F.files folder.old) self.old i → Sees D (F.files folder.new) self.new i }
+        ensures seen { IsTrue F.told → (i : Index) → Sees D (F.files folder.old) self.old i
+            → Sees D (F.files folder.new) self.new i }
         ensures alone { StaysButCache self.old self.new }
-        ensures faithful { IsTrue F.told → IsFaithful D (F.files folder.old) self.old → IsFaithful D (F.files folder.new) self.new }
+        ensures faithful { IsTrue F.told → IsFaithful D (F.files folder.old) self.old
+            → IsFaithful D (F.files folder.new) self.new }
         ensures files { IsTrue F.told → F.files folder.new ≡ F.files folder.old }
         // what it costs: the leaves as near as the last of those found
         ensures reads { IsTrue F.told → (c : Contents) → StandsOver D (F.files folder.old) c self.old
-            → (found : List Near) → IsNearest k (nears_of at.now.c (entries_seen c (viewed_parts (viewed view.now) self.old) (viewed_buffer (viewed view.now) self.old))) found
-            → (leaves : ℕ) → AreNearLeaves D at.now.c (bound_of k found) (heads_of (viewed_parts (viewed view.now) self.old)) leaves
+            → (found : List Near)
+            → IsNearest k
+            (nears_of at.now.c
+            (entries_seen c (viewed_parts (viewed view.now) self.old) (viewed_buffer (viewed view.now) self.old)))
+            found
+            → (leaves : ℕ)
+            → AreNearLeaves D at.now.c (bound_of k found) (heads_of (viewed_parts (viewed view.now) self.old)) leaves
             → F.reads folder.new ≤ F.reads folder.old + leaves }
         // what an error says
         ensures cause { HasPageCause (F.faults folder.old) (F.faults folder.new) result }
         ensures whole { IsTrue F.told → (i : Index) → Sees D (F.files folder.old) self.old i → NotDamaged result }
         ensures shown { OnDamage result (IsPartDamage D (viewed_parts (viewed view.now) self.old)) }
-        ensures damage { IsTrue F.told → Agrees (F.files folder.old) self.old.cache → OnDamage result (IsLeafDamageOf (F.files folder.old)) }
-        ensures evident { OnDamage result (IsEvident (IsTrue F.told × IsFaithful D (F.files folder.old) self.old) (F.files folder.new)) }
+        ensures damage { IsTrue F.told → Agrees (F.files folder.old) self.old.cache
+            → OnDamage result (IsLeafDamageOf (F.files folder.old)) }
+        ensures evident { OnDamage result
+            (IsEvident (IsTrue F.told × IsFaithful D (F.files folder.old) self.old) (F.files folder.new)) }
     {
         let (segments, buffer) = view_of(
             &self.segments,
@@ -120,11 +138,14 @@ impl<const D: usize> SegmentSet<D> {
     /// What a visit of the view costs at most for this shape. It reads nothing and takes no memory.
     pub fn survey<S: Shape<D>>(&self, view: &View, shape: &mut S) -> Tally
         requires { HasView (viewed view.now) self.now }
-        ensures tested { AreTested D (S.crosses shape.old) (heads_of (viewed_parts (viewed view.now) self.now)) result.tested }
-        ensures touched { AreTouched D (S.has shape.old) (S.crosses shape.old) (heads_of (viewed_parts (viewed view.now) self.now)) result.touched }
+        ensures tested { AreTested D (S.crosses shape.old)
+            (heads_of (viewed_parts (viewed view.now) self.now)) result.tested }
+        ensures touched { AreTouched D (S.has shape.old) (S.crosses shape.old)
+            (heads_of (viewed_parts (viewed view.now) self.now)) result.touched }
         ensures leaves { result.leaves ≡ leaves_in (heads_of (viewed_parts (viewed view.now) self.now)) }
         ensures tests { S.tests shape.new ≡ S.tests shape.old }
-        ensures compares { S.compares shape.new ≤ S.compares shape.old + leaves_in (heads_of (viewed_parts (viewed view.now) self.now)) }
+        ensures compares { S.compares shape.new ≤ S.compares shape.old + leaves_in
+            (heads_of (viewed_parts (viewed view.now) self.now)) }
         ensures has { S.has shape.new ≡ S.has shape.old }
         ensures crosses { S.crosses shape.new ≡ S.crosses shape.old }
     {
@@ -137,7 +158,8 @@ impl<const D: usize> SegmentSet<D> {
         segment_view::survey(segments, shape)
     }
 
-    /// How many leaves of the view have a cell whose least squared distance from the point is at most the bound; all, where there is none.
+    /// How many leaves of the view have a cell whose least squared distance from the point is at most the bound; all,
+    /// where there is none.
     /// It reads nothing and takes no memory.
     pub fn survey_near(&self, view: &View, at: &Point<D>, bound: Option<u128>) -> u64
         requires { HasView (viewed view.now) self.now }

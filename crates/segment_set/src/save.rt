@@ -1,6 +1,7 @@
 //! What is saved.
 
-ghost use Rattle.std.specs.Prelude.{◌≡◌, ◌≤◌, ◌++◌, ◌∷◌, ℕ, true, false, [], Some, length, All, IsTrue, IfOk, OnOk, OnErr};
+ghost use Rattle.std.specs.Prelude.{◌≡◌, ◌≤◌, ◌++◌, ◌∷◌, ℕ, true, false, [], Some, length, All, IsTrue, IfOk, OnOk};
+ghost use Rattle.std.specs.Prelude.{OnErr};
 ghost use Rattle.std.specs.List.{AllZip};
 ghost use Rattle.std.specs.List.Sorted.{IsStrictlyIncreasing};
 ghost use Rattle.outer_io.specs.Files.{Files, bytes_of};
@@ -43,8 +44,8 @@ impl<const D: usize> SegmentSet<D> {
     ghost use Rattle.segment_set.specs.Faithful.{IsFaithful};
     ghost use Rattle.index_opening.specs.Evidence.{IsEvidentIn};
 
-    /// Flushes, writes the live bits of each segment under a generation that the list of names doesn't have, and answers the commit that
-    /// lists the segments of now with them.
+    /// Flushes, writes the live bits of each segment under a generation that the list of names doesn't have, and
+    /// answers the commit that lists the segments of now with them.
     pub fn save<R: Threads + Sync, F: Folder, G: Gate>(
         &mut self,
         rt: &R,
@@ -52,57 +53,72 @@ impl<const D: usize> SegmentSet<D> {
         folder: &mut F,
         gate: &G,
     ) -> Result<Commit, PageFault>
-        ensures seen { IsTrue F.told → (i : Index) → Sees D (F.files folder.old) self.old i → Sees D (F.files folder.new) self.new i }
+        ensures seen { IsTrue F.told → (i : Index) → Sees D (F.files folder.old) self.old i
+            → Sees D (F.files folder.new) self.new i }
         ensures emptied { OnOk result (self.new.buffer ≡ []) }
-        ensures levels { OnOk result ((level : ℕ) → free_count level (sizes_of self.new.parts) (pins_of self.new.begun self.new.parts) ≤ 10) }
+        ensures levels { OnOk result
+            ((level : ℕ) → free_count level (sizes_of self.new.parts) (pins_of self.new.begun self.new.parts) ≤ 10) }
         // the commit: its files are named, and those of its live bits are new and hold what is live
         ensures saved { IfOk result (λ c. self.new.saved ≡ Some c) }
         ensures commit { IfOk result (IsCommitOf D self.new) }
-        ensures fresh { IfOk result (λ c. All (λ l. is_named self.old.names.names (Live l.segment l.generation) ≡ false) c.listed) }
+        ensures fresh { IfOk result
+            (λ c. All (λ l. is_named self.old.names.names (Live l.segment l.generation) ≡ false) c.listed) }
         ensures live { IsTrue F.told → IfOk result (λ c. AllZip (λ l p. IsLiveFile l.segment l.generation
             (bytes_of (F.files folder.new (Live l.segment l.generation))) p.live) c.listed self.new.parts) }
         ensures stored { IsTrue F.told → (i : Index) → Sees D (F.files folder.old) self.old i
             → IfOk result (λ c. (files : Files) → IsCommitFile (bytes_of (files CommitName)) c
             → ((m : FileName) → ListsFile c m → files m ≡ F.files folder.new m) → IsStored files (Some (at_rest i))) }
         // what is done, and after a fault what was done before: merges of the policy and a flush, each whole
-        ensures flushed { IfOk result (λ c. (s : Spot) × Flushes D (IsTrue F.told) (spot (F.files folder.old) self.old) s
+        ensures flushed { IfOk result
+            (λ c. (s : Spot) × Flushes D (IsTrue F.told) (spot (F.files folder.old) self.old) s
             × StaysButSaved s.set self.new × All (HasNextGeneration s.set.names) c.listed) }
         ensures left { OnErr result (IsLeft (Flushes D (IsTrue F.told) (spot (F.files folder.old) self.old)) self.new) }
         // what stays
         ensures stays { StaysAlone self.old self.new }
-        ensures kept { KeepsNamed (IsTrue F.told) self.old.names self.new.names (F.files folder.old) (F.files folder.new) }
+        ensures kept { KeepsNamed (IsTrue F.told) self.old.names self.new.names (F.files folder.old)
+            (F.files folder.new) }
         ensures follows { Follows self.old.names self.old.parts self.new.parts }
         ensures begun { self.new.begun ≡ self.old.begun }
         ensures canon { IsTrue F.told → AreCanonical D (F.files folder.new) self.old.names self.new.parts }
-        ensures faithful { IsTrue F.told → IsFaithful D (F.files folder.old) self.old → IsFaithful D (F.files folder.new) self.new }
+        ensures faithful { IsTrue F.told → IsFaithful D (F.files folder.old) self.old
+            → IsFaithful D (F.files folder.new) self.new }
         // where the policy chooses nothing, nothing is read
         ensures rested { IsSettled self.old → F.reads folder.new ≡ F.reads folder.old }
         // what an error says
         ensures cause { HasPageCause (F.faults folder.old) (F.faults folder.new) result }
         ensures whole { IsTrue F.told → (i : Index) → Sees D (F.files folder.old) self.old i → NotDamaged result }
         ensures shown { OnDamage result (IsMergeDamage D self.old.given self.old.names self.old.parts) }
-        ensures damage { IsTrue F.told → Agrees (F.files folder.old) self.old.cache → OnDamage result (IsMergeDamageOf (F.files folder.new) self.old.given) }
-        ensures doubled { IsTrue F.told → Agrees (F.files folder.old) self.old.cache → (c : Contents) → AreRead D (F.files folder.old) c self.old.parts
+        ensures damage { IsTrue F.told → Agrees (F.files folder.old) self.old.cache
+            → OnDamage result (IsMergeDamageOf (F.files folder.new) self.old.given) }
+        ensures doubled { IsTrue F.told → Agrees (F.files folder.old) self.old.cache → (c : Contents)
+            → AreRead D (F.files folder.old) c self.old.parts
             → OnDamage result (IsDoubt self.old.given (live_in_parts c self.old.parts)) }
-        ensures evident { OnDamage result (IsEvidentIn D self.old.parts (IsTrue F.told × IsFaithful D (F.files folder.old) self.old) (F.files folder.new)) }
+        ensures evident { OnDamage result
+            (IsEvidentIn D self.old.parts (IsTrue F.told × IsFaithful D (F.files folder.old) self.old)
+            (F.files folder.new)) }
     {
         self.flush(rt, alloc, folder, gate)?;
         self.list_segments(alloc, folder)
     }
 
-    /// Writes the live bits of each segment, and answers the commit that lists the segments with them. What waits in the buffer isn't in it.
+    /// Writes the live bits of each segment, and answers the commit that lists the segments with them. What waits in
+    /// the buffer isn't in it.
     fn list_segments<F: Folder>(
         &mut self,
         alloc: Global,
         folder: &mut F,
     ) -> Result<Commit, PageFault>
         ensures alone { StaysButSaved self.old self.new }
-        ensures faithful { IsTrue F.told → IsFaithful D (F.files folder.old) self.old → IsFaithful D (F.files folder.new) self.new }
-        ensures kept { KeepsNamed (IsTrue F.told) self.old.names self.new.names (F.files folder.old) (F.files folder.new) }
+        ensures faithful { IsTrue F.told → IsFaithful D (F.files folder.old) self.old
+            → IsFaithful D (F.files folder.new) self.new }
+        ensures kept { KeepsNamed (IsTrue F.told) self.old.names self.new.names (F.files folder.old)
+            (F.files folder.new) }
         ensures saved { IfOk result (λ c. self.new.saved ≡ Some c) }
         ensures refused { OnErr result (IsAsBefore self.old self.new) }
         ensures commit { IfOk result (IsCommitOf D self.new) }
-        ensures listed { IfOk result (λ c. AllZip (IsSaved (IsTrue F.told) self.old.names self.new.names (F.files folder.new)) c.listed self.old.parts) }
+        ensures listed { IfOk result
+            (λ c. AllZip (IsSaved (IsTrue F.told) self.old.names self.new.names (F.files folder.new)) c.listed
+            self.old.parts) }
         ensures well { IsWell D self.old }
         ensures reads { F.reads folder.new ≡ F.reads folder.old }
         ensures cause { HasPageCause (F.faults folder.old) (F.faults folder.new) result }
@@ -145,7 +161,8 @@ fn write_lives<const D: usize, F: Folder>(
     requires fits { All (λ p. length p.live.live ≤ p.head.entries) segments.now }
     ensures kept { KeepsNamed (IsTrue F.told) names.old names.new (F.files folder.old) (F.files folder.new) }
     ensures next { names.new.next_segment ≡ names.old.next_segment }
-    ensures listed { IfOk result (λ v. AllZip (IsSaved (IsTrue F.told) names.old names.new (F.files folder.new)) v.items segments.now) }
+    ensures listed { IfOk result
+        (λ v. AllZip (IsSaved (IsTrue F.told) names.old names.new (F.files folder.new)) v.items segments.now) }
     ensures reads { F.reads folder.new ≡ F.reads folder.old }
     ensures cause { HasPageCause (F.faults folder.old) (F.faults folder.new) result }
     ensures whole { NotDamaged result }
@@ -171,7 +188,8 @@ fn write_one<const D: usize, F: Folder>(
     requires fits { length live.now.live ≤ head.now.entries }
     ensures kept { KeepsNamed (IsTrue F.told) names.old names.new (F.files folder.old) (F.files folder.new) }
     ensures next { names.new.next_segment ≡ names.old.next_segment }
-    ensures listed { IfOk result (λ l. IsSaved (IsTrue F.told) names.old names.new (F.files folder.new) l (part_of head.now live.now)) }
+    ensures listed { IfOk result
+        (λ l. IsSaved (IsTrue F.told) names.old names.new (F.files folder.new) l (part_of head.now live.now)) }
     ensures joined { IfOk result (λ l. names.new.names ≡ names.old.names ++ Live l.segment l.generation ∷ []) }
     ensures reads { F.reads folder.new ≡ F.reads folder.old }
     ensures cause { HasPageCause (F.faults folder.old) (F.faults folder.new) result }

@@ -19,8 +19,8 @@ use segment_view::Segments;
 use std::alloc::{AllocError, Global};
 use std::marker::Model;
 
-/// A merge that is begun: the ids of its inputs, and the segment that is built of what was live in them, whose live bits follow the
-/// deletions since. Nothing is built where nothing was live.
+/// A merge that is begun: the ids of its inputs, and the segment that is built of what was live in them, whose live
+/// bits follow the deletions since. Nothing is built where nothing was live.
 #[derive(Drop)]
 pub(crate) struct Begun<const D: usize> {
     pub(crate) inputs: Vec<u64>,
@@ -147,8 +147,8 @@ impl<const D: usize> SegmentSet<D> {
         self.begun.is_some()
     }
 
-    /// Whether the set isn't as the commit says: its next number, points given, segments or the number of live numbers of one of them is
-    /// another, or the buffer isn't empty.
+    /// Whether the set isn't as the commit says: its next number, points given, segments or the number of live
+    /// numbers of one of them is another, or the buffer isn't empty.
     pub fn differs(&self, c: &Commit) -> bool
         ensures same { (result ≡ false) ↔ IsAsCommitted self.now c.now }
         ensures sets { result ≡ false → All (λ p. IsLiveSet p.live) self.now.parts }
@@ -172,7 +172,8 @@ fn are_listed<const D: usize>(
     requires { length lives.now ≡ length heads.now }
     ensures sets { result ≡ true → All IsLiveSet lives.now }
     ensures same { (result ≡ true)
-        ↔ ((map (λ h. h.id) heads.now ≡ map (λ l. l.segment) listed.now) × (map (λ s. length s.live) lives.now ≡ map (λ l. l.live) listed.now)) }
+        ↔ ((map (λ h. h.id) heads.now ≡ map (λ l. l.segment) listed.now)
+        × (map (λ s. length s.live) lives.now ≡ map (λ l. l.live) listed.now)) }
 {
     if heads.len() != listed.len() {
         return false;

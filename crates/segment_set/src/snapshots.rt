@@ -1,6 +1,7 @@
 //! Snapshots.
 
-ghost use Rattle.std.specs.Prelude.{◌≡◌, ◌≤◌, ◌<◌, ◌++◌, ◌∷◌, ◌↔◌, ℕ, [], None, Some, false, true, not, length, filter, OnOk, OnErr, IsErrOf};
+ghost use Rattle.std.specs.Prelude.{◌≡◌, ◌≤◌, ◌<◌, ◌++◌, ◌∷◌, ◌↔◌, ℕ, [], None, Some, false, true, not, length, filter};
+ghost use Rattle.std.specs.Prelude.{OnOk, OnErr, IsErrOf};
 ghost use Rattle.std.specs.Str.{bytes_eq};
 ghost use Rattle.outer_io.specs.Files.{Files};
 ghost use Rattle.index_model.specs.State.{Index, at_rest};
@@ -51,16 +52,22 @@ impl<const D: usize> SegmentSet<D> {
         has_name(self.snapshots.as_slice(), name)
     }
 
-    /// Keeps what is live now under a name. Taken exactly where a snapshot has the name; then TooMany exactly where there are 16.
+    /// Keeps what is live now under a name. Taken exactly where a snapshot has the name; then TooMany exactly where
+    /// there are 16.
     pub fn snapshot(&mut self, alloc: Global, name: Name) -> Result<(), SnapFault>
         ensures seen { (files : Files) (i : Index) → Sees D files self.old i
-            → OnOk result (Sees D files self.new (record i { snapshots = i.snapshots ++ record { name = name; docs = i.docs } ∷ [] })) }
+            → OnOk result
+            (Sees D files self.new (record i { snapshots = i.snapshots ++ record { name = name; docs = i.docs } ∷ [] })) }
         ensures faithful { (files : Files) → IsFaithful D files self.old → IsFaithful D files self.new }
         ensures taken { IsErrOf result Taken ↔ (has_name name self.old.snapshots ≡ true) }
-        ensures too_many { IsErrOf result TooMany ↔ ((has_name name self.old.snapshots ≡ false) × (16 ≤ length self.old.snapshots)) }
+        ensures too_many { IsErrOf result TooMany ↔
+            ((has_name name self.old.snapshots ≡ false) × (16 ≤ length self.old.snapshots)) }
         ensures refused { OnErr result (self.new ≡ self.old) }
         ensures kept { OnOk result (self.new
-            ≡ record self.old { snapshots = self.old.snapshots ++ record { name = name; parts = self.old.parts; buffer = self.old.buffer } ∷ [] }) }
+            ≡ record self.old {
+              snapshots = self.old.snapshots ++ record
+                  { name = name; parts = self.old.parts; buffer = self.old.buffer } ∷ [];
+            }) }
     {
         if has_name(self.snapshots.as_slice(), &name) {
             return Err(SnapFault::Taken);
@@ -83,9 +90,11 @@ impl<const D: usize> SegmentSet<D> {
     pub fn release(&mut self, name: &Name) -> bool
         ensures found { result ≡ has_name name.now self.old.snapshots }
         ensures seen { (files : Files) (i : Index) → Sees D files self.old i
-            → Sees D files self.new (record i { snapshots = filter (λ s. not (bytes_eq s.name name.now)) i.snapshots }) }
+            → Sees D files self.new
+            (record i { snapshots = filter (λ s. not (bytes_eq s.name name.now)) i.snapshots }) }
         ensures faithful { (files : Files) → IsFaithful D files self.old → IsFaithful D files self.new }
-        ensures kept { self.new ≡ record self.old { snapshots = filter (λ v. not (bytes_eq v.name name.now)) self.old.snapshots } }
+        ensures kept { self.new ≡ record self.old
+            { snapshots = filter (λ v. not (bytes_eq v.name name.now)) self.old.snapshots } }
     {
         let found = has_name(self.snapshots.as_slice(), name);
         let_go(&mut self.snapshots, name);

@@ -1,6 +1,7 @@
 //! What is swept away.
 
-ghost use Rattle.std.specs.Prelude.{◌≡◌, ◌≢◌, ◌≤◌, ◌<◌, ◌+◌, ◌-◌, ◌^◌, ◌↔◌, ◌⊎◌, ◌&&◌, ℕ, Bool, true, false, nat_eq, take, length, slice_get, All, Contains, Some, None, IsTrue, IfOk, OnOk};
+ghost use Rattle.std.specs.Prelude.{◌≡◌, ◌≢◌, ◌≤◌, ◌<◌, ◌+◌, ◌-◌, ◌^◌, ◌↔◌, ◌⊎◌, ◌&&◌, ℕ, Bool, true, false, nat_eq};
+ghost use Rattle.std.specs.Prelude.{take, length, slice_get, All, Contains, Some, None, IsTrue, IfOk, OnOk};
 ghost use Rattle.std.specs.List.{list_any};
 ghost use Rattle.outer_io.specs.Faults.{HasCause};
 ghost use Rattle.outer_io.specs.Files.{Files};
@@ -29,12 +30,15 @@ impl<const D: usize> SegmentSet<D> {
     /// Removes every file of the list of names but those that the commit lists and those that a view needs. After Ok
     /// only these are in the list, and the others aren't there.
     pub fn sweep<F: Folder>(&mut self, folder: &mut F, c: &Commit) -> Result<(), Failed>
-        ensures seen { IsTrue F.told → (i : Index) → Sees D (F.files folder.old) self.old i → Sees D (F.files folder.new) self.new i }
+        ensures seen { IsTrue F.told → (i : Index) → Sees D (F.files folder.old) self.old i
+            → Sees D (F.files folder.new) self.new i }
         ensures needed { IsTrue F.told → (m : FileName) → IsNeeded self.old c.now m
             → F.files folder.new m ≡ F.files folder.old m }
-        ensures others { IsTrue F.told → (m : FileName) → is_named self.old.names.names m ≡ false → F.files folder.new m ≡ F.files folder.old m }
+        ensures others { IsTrue F.told → (m : FileName) → is_named self.old.names.names m ≡ false
+            → F.files folder.new m ≡ F.files folder.old m }
         ensures commit { IsTrue F.told → F.files folder.new CommitName ≡ F.files folder.old CommitName }
-        ensures fewer { (m : FileName) → is_named self.new.names.names m ≡ true → is_named self.old.names.names m ≡ true }
+        ensures fewer { (m : FileName) → is_named self.new.names.names m ≡ true
+            → is_named self.old.names.names m ≡ true }
         ensures named { (m : FileName) → IsNeeded self.old c.now m → is_named self.old.names.names m ≡ true
             → is_named self.new.names.names m ≡ true }
         ensures swept { OnOk result ((m : FileName) → is_named self.new.names.names m ≡ true
@@ -42,9 +46,11 @@ impl<const D: usize> SegmentSet<D> {
         ensures gone { IsTrue F.told → OnOk result ((m : FileName) → is_named self.old.names.names m ≡ true
             → (IsNeeded self.old c.now m → ⊥) → F.files folder.new m ≡ None) }
         // whatever is answered: what left the list is gone
-        ensures left { IsTrue F.told → (m : FileName) → is_named self.old.names.names m ≡ true → is_named self.new.names.names m ≡ false → F.files folder.new m ≡ None }
+        ensures left { IsTrue F.told → (m : FileName) → is_named self.old.names.names m ≡ true
+            → is_named self.new.names.names m ≡ false → F.files folder.new m ≡ None }
         ensures alone { StaysButFiles self.old self.new }
-        ensures faithful { IsTrue F.told → IsFaithful D (F.files folder.old) self.old → IsFaithful D (F.files folder.new) self.new }
+        ensures faithful { IsTrue F.told → IsFaithful D (F.files folder.old) self.old
+            → IsFaithful D (F.files folder.new) self.new }
         ensures unread { F.reads folder.new ≡ F.reads folder.old }
         ensures cause { HasCause (F.faults folder.old) (F.faults folder.new) result }
     {
@@ -63,9 +69,11 @@ impl<const D: usize> SegmentSet<D> {
         place: usize,
     ) -> Result<usize, Failed>
         requires { place < length self.old.names.names }
-        ensures seen { IsTrue F.told → (i : Index) → Sees D (F.files folder.old) self.old i → Sees D (F.files folder.new) self.new i }
+        ensures seen { IsTrue F.told → (i : Index) → Sees D (F.files folder.old) self.old i
+            → Sees D (F.files folder.new) self.new i }
         ensures swept { IsSwept (IsTrue F.told) c.now self.old self.new (F.files folder.old) (F.files folder.new) }
-        ensures faithful { IsTrue F.told → IsFaithful D (F.files folder.old) self.old → IsFaithful D (F.files folder.new) self.new }
+        ensures faithful { IsTrue F.told → IsFaithful D (F.files folder.old) self.old
+            → IsFaithful D (F.files folder.new) self.new }
         ensures front { All (IsNeeded self.old c.now) (take place self.old.names.names)
             → IfOk result (λ n. All (IsNeeded self.old c.now) (take n self.new.names.names)) }
         ensures next { IfOk result (λ n. length self.new.names.names - n < length self.old.names.names - place) }
@@ -98,10 +106,13 @@ impl<const D: usize> SegmentSet<D> {
     ) -> Result<(), Failed>
         requires named { is_named self.old.names.names name.now ≡ true }
         requires unneeded { IsUnneeded self.old c.now name.now }
-        ensures seen { IsTrue F.told → (i : Index) → Sees D (F.files folder.old) self.old i → Sees D (F.files folder.new) self.new i }
+        ensures seen { IsTrue F.told → (i : Index) → Sees D (F.files folder.old) self.old i
+            → Sees D (F.files folder.new) self.new i }
         ensures swept { IsSwept (IsTrue F.told) c.now self.old self.new (F.files folder.old) (F.files folder.new) }
-        ensures faithful { IsTrue F.told → IsFaithful D (F.files folder.old) self.old → IsFaithful D (F.files folder.new) self.new }
-        ensures names { OnOk result (self.new.names.names ≡ filter (λ n. not (same_name n name.now)) self.old.names.names) }
+        ensures faithful { IsTrue F.told → IsFaithful D (F.files folder.old) self.old
+            → IsFaithful D (F.files folder.new) self.new }
+        ensures names { OnOk result
+            (self.new.names.names ≡ filter (λ n. not (same_name n name.now)) self.old.names.names) }
         ensures unread { F.reads folder.new ≡ F.reads folder.old }
         ensures cause { HasCause (F.faults folder.old) (F.faults folder.new) result }
     {

@@ -14,7 +14,8 @@ leaves_in heads = sum_by (λ h. h.index.leaves) heads
 abbrev pub AreCounted : (D : ℕ) → (count : Head → IndexTree → ℕ) → List Head → ℕ → Type 0
 AreCounted D count [] n = n ≡ 0
 AreCounted D count (h ∷ hs) n =
-    (m : ℕ) × (rest : ℕ) × ((root : Region) (t : IndexTree) → HasTree D h.index root t → m ≡ count h t) × AreCounted D count hs rest × (n ≡ m + rest)
+    (m : ℕ) × (rest : ℕ) × ((root : Region) (t : IndexTree) → HasTree D h.index root t → m ≡ count h t)
+    × AreCounted D count hs rest × (n ≡ m + rest)
 
 -- the entries, live or dead, of leaves whose own cell is crossed
 abbrev pub AreTested : (D : ℕ) → (crosses : Region → Bool) → List Head → ℕ → Type 0

@@ -9,8 +9,8 @@ use Rattle.segment_file.specs.Heads.{Head, HasRanges}
 use Rattle.segment_file.specs.Damages.{IsLeafDamage}
 use Rattle.segment_view.specs.Parts.{Part}
 
--- the head may be one of a segment of so many dimensions, its index has a tree, and a leaf of this isn't spelled in its page, or the file ends before
--- the end of the page of a leaf, or a page is none for its place
+-- the head may be one of a segment of so many dimensions, its index has a tree, and a leaf of this isn't spelled in
+-- its page, or the file ends before the end of the page of a leaf, or a page is none for its place
 pub record HasReadDamage (D : ℕ) (head : Head) (d : Damage) : Type 0 where
   pub ranges : HasRanges D head
   pub root : Region

@@ -11,11 +11,13 @@ use Rattle.segment_view.specs.Parts.{Part}
 abbrev pub HasOwnHead : ℕ → Files → Part → Type 0
 HasOwnHead D files p = IsHeadOf D (bytes_of (files (Segment p.head.id))) p.head
 
--- the file of the segment holds entries of which these are the live ones, or there are none, as none of its numbers is live
+-- the file of the segment holds entries of which these are the live ones, or there are none, as none of its numbers is
+-- live
 abbrev pub IsHeld : ℕ → Files → Part → List Item → Type 0
 IsHeld D files p items =
     ((p.live.live ≡ []) × (items ≡ []))
-    ⊎ ((entries : List Item) × IsSegment D (bytes_of (files (Segment p.head.id))) p.head entries × (items ≡ filter (λ x. is_live p.live x.doc) entries))
+    ⊎ ((entries : List Item) × IsSegment D (bytes_of (files (Segment p.head.id))) p.head entries
+    × (items ≡ filter (λ x. is_live p.live x.doc) entries))
 
 -- the same of several segments, one after another
 abbrev pub AreHeld : ℕ → Files → List Part → List Item → Type 0

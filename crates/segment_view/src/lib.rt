@@ -1,8 +1,8 @@
 //! Segments with their live bits, and what queries and merges read of them.
 //!
-//! A view of an index is a list of segments beside a buffer of entries that are in no segment yet. Here stand the queries over
-//! both, which read leaf pages by way of the cache, and the gathering of the live entries of some segments, from which a merge
-//! builds another.
+//! A view of an index is a list of segments beside a buffer of entries that are in no segment yet. Here stand the
+//! queries over both, which read leaf pages by way of the cache, and the gathering of the live entries of some
+//! segments, from which a merge builds another.
 #![tactic(auto)]
 
 mod gathering;

@@ -21,12 +21,12 @@ use point_codec::{Entry, Near, Point};
 use segment_file::SegmentHead;
 use std::alloc::Global;
 
-/// The `k` numbers that are nearest to a point among the live entries of the segments and those of the buffer, the nearest
-/// first, each with the least squared distance of its entries: all numbers, where there are fewer than `k`. Of equally near
-/// ones the smaller comes first. `k` is 1 to 10,000.
+/// The `k` numbers that are nearest to a point among the live entries of the segments and those of the buffer, the
+/// nearest first, each with the least squared distance of its entries: all numbers, where there are fewer than `k`.
+/// Of equally near ones the smaller comes first. `k` is 1 to 10,000.
 ///
-/// Only leaves whose cell is as near as the last number found are read. The answer may be a damage of a leaf that had to be read, Failed
-/// and Memory.
+/// Only leaves whose cell is as near as the last number found are read. The answer may be a damage of a leaf that had
+/// to be read, Failed and Memory.
 pub fn nearest<const D: usize, F: Pages>(
     alloc: Global,
     segments: &Segments<D>,
@@ -38,17 +38,24 @@ pub fn nearest<const D: usize, F: Pages>(
 ) -> Result<Vec<Near>, PageFault>
     requires some { 1 ≤ k }
     requires few { k ≤ 10000 }
-    ensures answer { IsTrue F.told → Agrees (F.files folder.old) cache.old → (c : Contents) → AreRead D (F.files folder.old) c segments.now
-        → IfOk result (λ v. IsNearest k (nears_of at.now.c (live_in_parts c segments.now ++ items_of buffer.now)) v.items) }
-    ensures reads { IsTrue F.told → Agrees (F.files folder.old) cache.old → (c : Contents) → AreRead D (F.files folder.old) c segments.now
-        → (found : List Near) → IsNearest k (nears_of at.now.c (live_in_parts c segments.now ++ items_of buffer.now)) found
-        → (leaves : ℕ) → AreNearLeaves D at.now.c (bound_of k found) (heads_of segments.now) leaves → F.reads folder.new ≤ F.reads folder.old + leaves }
+    ensures answer { IsTrue F.told → Agrees (F.files folder.old) cache.old → (c : Contents)
+        → AreRead D (F.files folder.old) c segments.now
+        → IfOk result
+        (λ v. IsNearest k (nears_of at.now.c (live_in_parts c segments.now ++ items_of buffer.now)) v.items) }
+    ensures reads { IsTrue F.told → Agrees (F.files folder.old) cache.old → (c : Contents)
+        → AreRead D (F.files folder.old) c segments.now
+        → (found : List Near)
+        → IsNearest k (nears_of at.now.c (live_in_parts c segments.now ++ items_of buffer.now)) found
+        → (leaves : ℕ) → AreNearLeaves D at.now.c (bound_of k found) (heads_of segments.now) leaves
+        → F.reads folder.new ≤ F.reads folder.old + leaves }
     ensures calm { IsCalm F.told (F.files folder.old) (F.files folder.new) cache.old cache.new (ids_of segments.now) }
     // What an error says.
     ensures cause { HasPageCause (F.faults folder.old) (F.faults folder.new) result }
     ensures shown { OnDamage result (IsPartDamage D segments.now) }
-    ensures damage { IsTrue F.told → Agrees (F.files folder.old) cache.old → OnDamage result (IsLeafDamageOf (F.files folder.old)) }
-    ensures whole { IsTrue F.told → Agrees (F.files folder.old) cache.old → (c : Contents) → AreRead D (F.files folder.old) c segments.now → NotDamaged result }
+    ensures damage { IsTrue F.told → Agrees (F.files folder.old) cache.old
+        → OnDamage result (IsLeafDamageOf (F.files folder.old)) }
+    ensures whole { IsTrue F.told → Agrees (F.files folder.old) cache.old → (c : Contents)
+        → AreRead D (F.files folder.old) c segments.now → NotDamaged result }
 {
     have_trees(segments.heads());
     nearest_query::nearest(

@@ -133,7 +133,8 @@ pub(crate) fn take_out<const D: usize>(
 )
     requires dims { D ≤ 8 }
     requires same { length lives.old.items ≡ length heads.old.items }
-    ensures rest { parts_of heads.new.items lives.new.items ≡ parts_but ids.now (parts_of heads.old.items lives.old.items) }
+    ensures rest { parts_of heads.new.items lives.new.items ≡ parts_but ids.now
+        (parts_of heads.old.items lives.old.items) }
     ensures same { length lives.new.items ≡ length heads.new.items }
 {
     for i in (0..heads.len()).rev() {

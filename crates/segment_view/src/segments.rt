@@ -11,8 +11,8 @@ use std::marker::Model;
 /// Want of memory.
 pub type Memory = AllocError;
 
-/// The greatest number of segments. An index has fewer, since each segment has an entry of its own, and no more than 16,777,216
-/// points are ever given.
+/// The greatest number of segments. An index has fewer, since each segment has an entry of its own, and no more than
+/// 16,777,216 points are ever given.
 const MOST_SEGMENTS: usize = 1 << 24;
 
 /// Segments with their live bits, in ascending order of their ids. Contracts see a list of both.
@@ -34,10 +34,12 @@ impl<const D: usize> Model for Segments<D> {
 }
 
 impl<const D: usize> Segments<D> {
-    ghost use Rattle.std.specs.Prelude.{◌≡◌, ◌<◌, ◌≤◌, ◌↔◌, [], Some, false, length, map, slice_get, IsTrue, IfOk, OnOk, OnErr};
+    ghost use Rattle.std.specs.Prelude.{◌≡◌, ◌<◌, ◌≤◌, ◌↔◌, [], Some, false, length, map, slice_get, IsTrue, IfOk};
+    ghost use Rattle.std.specs.Prelude.{OnOk, OnErr};
     ghost use Rattle.std.specs.List.Sorted.{IsStrictlyIncreasing};
     ghost use Rattle.documents.specs.Entries.{is_among};
-    ghost use Rattle.segment_view.specs.Parts.{part_of, heads_of, lives_of, ids_of, parts_but, has_live, cleared, IsPlaced};
+    ghost use Rattle.segment_view.specs.Parts.{part_of, heads_of, lives_of, ids_of, parts_but, has_live, cleared};
+    ghost use Rattle.segment_view.specs.Parts.{IsPlaced};
 
     /// No segments.
     pub fn new(alloc: Global) -> Segments<D>

@@ -11,7 +11,8 @@ use cell_relate::Shape;
 use point_codec::Point;
 use segment_file::SegmentHead;
 
-/// What a visit of the segments costs for this shape, together. It reads no page and takes no memory, and asks of each leaf's own cell alone.
+/// What a visit of the segments costs for this shape, together. It reads no page and takes no memory, and asks of each
+/// leaf's own cell alone.
 pub fn survey<const D: usize, S: Shape<D>>(segments: &Segments<D>, shape: &mut S) -> Tally
     ensures tested { AreTested D (S.crosses shape.old) (heads_of segments.now) result.tested }
     ensures touched { AreTouched D (S.has shape.old) (S.crosses shape.old) (heads_of segments.now) result.touched }
@@ -55,7 +56,8 @@ fn survey_one<const D: usize, S: Shape<D>>(head: &SegmentHead<D>, shape: &mut S)
     bkd_reader::survey(head, shape)
 }
 
-/// How many leaves of the segments have a cell whose least squared distance from the point is at most the bound; all where there is none.
+/// How many leaves of the segments have a cell whose least squared distance from the point is at most the bound; all
+/// where there is none.
 /// Nothing is read, and no memory is taken.
 pub fn survey_near<const D: usize>(
     segments: &Segments<D>,

@@ -25,10 +25,12 @@ use point_codec::Entry;
 use segment_file::SegmentHead;
 use std::alloc::{AllocError, Global};
 
-/// The numbers of the live entries of the segments and of the entries of the buffer that the shape has, each once and ascending.
+/// The numbers of the live entries of the segments and of the entries of the buffer that the shape has, each once and
+/// ascending.
 ///
-/// Only entries of the buffer and of leaves whose own cell the shape crosses are tested, only leaves whose own cell is not outside are read,
-/// and a kept page is found without a read. The answer may be a damage of a leaf that had to be read, Failed and Memory.
+/// Only entries of the buffer and of leaves whose own cell the shape crosses are tested, only leaves whose own cell
+/// is not outside are read, and a kept page is found without a read. The answer may be a damage of a leaf that had to
+/// be read, Failed and Memory.
 pub fn visit<const D: usize, S: Shape<D>, F: Pages>(
     alloc: Global,
     segments: &Segments<D>,
@@ -37,13 +39,16 @@ pub fn visit<const D: usize, S: Shape<D>, F: Pages>(
     folder: &mut F,
     shape: &mut S,
 ) -> Result<Vec<u32>, PageFault>
-    ensures found { IsTrue F.told → Agrees (F.files folder.old) cache.old → (c : Contents) → AreRead D (F.files folder.old) c segments.now
+    ensures found { IsTrue F.told → Agrees (F.files folder.old) cache.old → (c : Contents)
+        → AreRead D (F.files folder.old) c segments.now
         → IfOk result (λ v. AreFound (S.has shape.old) (live_in_parts c segments.now ++ items_of buffer.now) v.items) }
     ensures rises { IfOk result (λ v. IsStrictlyIncreasing v.items) }
     // What it costs, over every folder.
-    ensures tests { (n : ℕ) → AreTested D (S.crosses shape.old) (heads_of segments.now) n → S.tests shape.new ≤ S.tests shape.old + n + length buffer.now }
+    ensures tests { (n : ℕ) → AreTested D (S.crosses shape.old) (heads_of segments.now) n
+        → S.tests shape.new ≤ S.tests shape.old + n + length buffer.now }
     ensures compares { S.compares shape.new ≤ S.compares shape.old + 2 * leaves_in (heads_of segments.now) }
-    ensures reads { (n : ℕ) → AreTouched D (S.has shape.old) (S.crosses shape.old) (heads_of segments.now) n → F.reads folder.new ≤ F.reads folder.old + n }
+    ensures reads { (n : ℕ) → AreTouched D (S.has shape.old) (S.crosses shape.old) (heads_of segments.now) n
+        → F.reads folder.new ≤ F.reads folder.old + n }
     // What stays.
     ensures has { S.has shape.new ≡ S.has shape.old }
     ensures crosses { S.crosses shape.new ≡ S.crosses shape.old }
@@ -51,8 +56,10 @@ pub fn visit<const D: usize, S: Shape<D>, F: Pages>(
     // What an error says.
     ensures cause { HasPageCause (F.faults folder.old) (F.faults folder.new) result }
     ensures shown { OnDamage result (IsPartDamage D segments.now) }
-    ensures damage { IsTrue F.told → Agrees (F.files folder.old) cache.old → OnDamage result (IsLeafDamageOf (F.files folder.old)) }
-    ensures whole { IsTrue F.told → Agrees (F.files folder.old) cache.old → (c : Contents) → AreRead D (F.files folder.old) c segments.now → NotDamaged result }
+    ensures damage { IsTrue F.told → Agrees (F.files folder.old) cache.old
+        → OnDamage result (IsLeafDamageOf (F.files folder.old)) }
+    ensures whole { IsTrue F.told → Agrees (F.files folder.old) cache.old → (c : Contents)
+        → AreRead D (F.files folder.old) c segments.now → NotDamaged result }
 {
     let mut hits = Vec::new(alloc);
     visit_segments(alloc, segments, cache, folder, shape, &mut hits)?;
@@ -69,18 +76,24 @@ fn visit_segments<const D: usize, S: Shape<D>, F: Pages>(
     shape: &mut S,
     hits: &mut Vec<u32>,
 ) -> Result<(), PageFault>
-    ensures found { IsTrue F.told → Agrees (F.files folder.old) cache.old → (c : Contents) → AreRead D (F.files folder.old) c segments.now
-        → OnOk result (hits.new.items ≡ hits.old.items ++ numbers_found (S.has shape.old) (live_in_parts c segments.now)) }
-    ensures tests { (n : ℕ) → AreTested D (S.crosses shape.old) (heads_of segments.now) n → S.tests shape.new ≤ S.tests shape.old + n }
+    ensures found { IsTrue F.told → Agrees (F.files folder.old) cache.old → (c : Contents)
+        → AreRead D (F.files folder.old) c segments.now
+        → OnOk result
+        (hits.new.items ≡ hits.old.items ++ numbers_found (S.has shape.old) (live_in_parts c segments.now)) }
+    ensures tests { (n : ℕ) → AreTested D (S.crosses shape.old) (heads_of segments.now) n
+        → S.tests shape.new ≤ S.tests shape.old + n }
     ensures compares { S.compares shape.new ≤ S.compares shape.old + 2 * leaves_in (heads_of segments.now) }
-    ensures reads { (n : ℕ) → AreTouched D (S.has shape.old) (S.crosses shape.old) (heads_of segments.now) n → F.reads folder.new ≤ F.reads folder.old + n }
+    ensures reads { (n : ℕ) → AreTouched D (S.has shape.old) (S.crosses shape.old) (heads_of segments.now) n
+        → F.reads folder.new ≤ F.reads folder.old + n }
     ensures has { S.has shape.new ≡ S.has shape.old }
     ensures crosses { S.crosses shape.new ≡ S.crosses shape.old }
     ensures calm { IsCalm F.told (F.files folder.old) (F.files folder.new) cache.old cache.new (ids_of segments.now) }
     ensures cause { HasPageCause (F.faults folder.old) (F.faults folder.new) result }
     ensures shown { OnDamage result (IsPartDamage D segments.now) }
-    ensures damage { IsTrue F.told → Agrees (F.files folder.old) cache.old → OnDamage result (IsLeafDamageOf (F.files folder.old)) }
-    ensures whole { IsTrue F.told → Agrees (F.files folder.old) cache.old → (c : Contents) → AreRead D (F.files folder.old) c segments.now → NotDamaged result }
+    ensures damage { IsTrue F.told → Agrees (F.files folder.old) cache.old
+        → OnDamage result (IsLeafDamageOf (F.files folder.old)) }
+    ensures whole { IsTrue F.told → Agrees (F.files folder.old) cache.old → (c : Contents)
+        → AreRead D (F.files folder.old) c segments.now → NotDamaged result }
 {
     for i in 0..segments.len() {
         let (head, live) = segments.part(i);
@@ -99,18 +112,25 @@ fn visit_one<const D: usize, S: Shape<D>, F: Pages>(
     shape: &mut S,
     hits: &mut Vec<u32>,
 ) -> Result<(), PageFault>
-    ensures found { IsTrue F.told → Agrees (F.files folder.old) cache.old → (c : Contents) → IsRead D (F.files folder.old) c (part_of head.now live.now)
-        → OnOk result (hits.new.items ≡ hits.old.items ++ numbers_found (S.has shape.old) (live_in_parts c (part_of head.now live.now ∷ []))) }
-    ensures tests { (n : ℕ) → AreTested D (S.crosses shape.old) (head.now ∷ []) n → S.tests shape.new ≤ S.tests shape.old + n }
+    ensures found { IsTrue F.told → Agrees (F.files folder.old) cache.old → (c : Contents)
+        → IsRead D (F.files folder.old) c (part_of head.now live.now)
+        → OnOk result
+        (hits.new.items ≡ hits.old.items ++ numbers_found (S.has shape.old)
+        (live_in_parts c (part_of head.now live.now ∷ []))) }
+    ensures tests { (n : ℕ) → AreTested D (S.crosses shape.old) (head.now ∷ []) n
+        → S.tests shape.new ≤ S.tests shape.old + n }
     ensures compares { S.compares shape.new ≤ S.compares shape.old + 2 * head.now.index.leaves }
-    ensures reads { (n : ℕ) → AreTouched D (S.has shape.old) (S.crosses shape.old) (head.now ∷ []) n → F.reads folder.new ≤ F.reads folder.old + n }
+    ensures reads { (n : ℕ) → AreTouched D (S.has shape.old) (S.crosses shape.old) (head.now ∷ []) n
+        → F.reads folder.new ≤ F.reads folder.old + n }
     ensures has { S.has shape.new ≡ S.has shape.old }
     ensures crosses { S.crosses shape.new ≡ S.crosses shape.old }
     ensures calm { IsCalm F.told (F.files folder.old) (F.files folder.new) cache.old cache.new (head.now.id ∷ []) }
     ensures cause { HasPageCause (F.faults folder.old) (F.faults folder.new) result }
     ensures shown { OnDamage result (IsReadDamage D head.now) }
-    ensures damage { IsTrue F.told → Agrees (F.files folder.old) cache.old → OnDamage result (IsLeafDamageOf (F.files folder.old)) }
-    ensures whole { IsTrue F.told → Agrees (F.files folder.old) cache.old → (c : Contents) → IsRead D (F.files folder.old) c (part_of head.now live.now) → NotDamaged result }
+    ensures damage { IsTrue F.told → Agrees (F.files folder.old) cache.old
+        → OnDamage result (IsLeafDamageOf (F.files folder.old)) }
+    ensures whole { IsTrue F.told → Agrees (F.files folder.old) cache.old → (c : Contents)
+        → IsRead D (F.files folder.old) c (part_of head.now live.now) → NotDamaged result }
 {
     if live.live_count() == 0 {
         return Ok(());
@@ -125,7 +145,8 @@ fn visit_buffer<const D: usize, S: Shape<D>>(
     shape: &mut S,
     hits: &mut Vec<u32>,
 ) -> Result<(), AllocError>
-    ensures found { OnOk result (hits.new.items ≡ hits.old.items ++ numbers_found (S.has shape.old) (items_of buffer.now)) }
+    ensures found { OnOk result
+        (hits.new.items ≡ hits.old.items ++ numbers_found (S.has shape.old) (items_of buffer.now)) }
     ensures tests { S.tests shape.new ≤ S.tests shape.old + length buffer.now }
     ensures compares { S.compares shape.new ≡ S.compares shape.old }
     ensures has { S.has shape.new ≡ S.has shape.old }

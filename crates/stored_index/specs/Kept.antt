@@ -14,8 +14,9 @@ ListsFile c (Live id generation) = (s : Listed) × Contains c.listed s × (s.seg
 ListsFile c Commit = ⊥
 ListsFile c CommitNew = ⊥
 
--- What is kept is the same: the Commit file's bytes or their absence, and where it says a commit the bytes of each file that this lists. As a
--- value of its own, what is kept is files of which no others matter.
+-- What is kept is the same: the Commit file's bytes or their absence, and where it says a commit the bytes of each
+-- file that this lists. As a value of its own, what is kept is files of which no others matter.
 pub record SameKept (old new : Files) : Type 0 where
   pub commit : new Commit ≡ old Commit
-  pub listed : (c : CommitData) → IsCommitFile (bytes_of (old Commit)) c → (name : FileName) → ListsFile c name → new name ≡ old name
+  pub listed : (c : CommitData) → IsCommitFile (bytes_of (old Commit)) c → (name : FileName) → ListsFile c name
+      → new name ≡ old name

@@ -15,8 +15,8 @@ pub record SegmentData : Type 0 where
   pub entries : List Item
   pub live : LiveSet
 
--- the file of a segment and that of its live bits hold this segment and agree with a commit of these dimensions and this leaf size that lists it
--- so. Each live number is that of an entry
+-- the file of a segment and that of its live bits hold this segment and agree with a commit of these dimensions and
+-- this leaf size that lists it so. Each live number is that of an entry
 pub record HoldsListed (dims leaf : ℕ) (s : Listed) (segment_bytes live_bytes : List ℕ) (d : SegmentData) : Type 0 where
   pub segment : IsSegment dims segment_bytes d.head d.entries
   pub live : IsLiveFile s.segment s.generation live_bytes d.live

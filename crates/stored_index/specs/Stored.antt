@@ -17,7 +17,9 @@ use Rattle.stored_index.specs.Segments.{SegmentData, HoldsListed, all_live_entri
 
 -- the files of the segment that the commit lists so hold this
 abbrev pub HoldsFiles : Files → CommitData → Listed → SegmentData → Type 0
-HoldsFiles files c s d = HoldsListed c.dims c.leaf s (bytes_of (files (Segment s.segment))) (bytes_of (files (Live s.segment s.generation))) d
+HoldsFiles files c s d =
+    HoldsListed c.dims c.leaf s (bytes_of (files (Segment s.segment)))
+    (bytes_of (files (Live s.segment s.generation))) d
 
 -- the segments that the commit lists, in its order, are held by their files
 abbrev pub HoldAll : Files → CommitData → List SegmentData → Type 0
@@ -40,8 +42,9 @@ HaveHeads files c heads = AllZip (HasHead c.dims files) c.listed heads
 abbrev pub HaveLive : Files → CommitData → List LiveSet → Type 0
 HaveLive files c sets = AllZip (HasLive files) c.listed sets
 
--- The files hold an index (this project's rules on what a folder holds): the Commit file says this commit, each segment that it lists is held,
--- no number is live in two of them, their live entries are those of the documents, and they are no more than the points given.
+-- The files hold an index (this project's rules on what a folder holds): the Commit file says this commit, each
+-- segment that it lists is held, no number is live in two of them, their live entries are those of the documents, and
+-- they are no more than the points given.
 pub record HoldsIndex (files : Files) (c : CommitData) (docs : List Document) : Type 0 where
   pub commit : IsCommitFile (bytes_of (files Commit)) c
   pub parts : List SegmentData
@@ -52,7 +55,8 @@ pub record HoldsIndex (files : Files) (c : CommitData) (docs : List Document) : 
 
 -- the index of a commit and its documents: it has no snapshots, and no merge is begun
 abbrev pub index_of : CommitData → List Document → Index
-index_of c docs = record { dims = c.dims; leaf = c.leaf; next = c.next; given = c.given; docs = docs; snapshots = []; begun = false }
+index_of c docs =
+    record { dims = c.dims; leaf = c.leaf; next = c.next; given = c.given; docs = docs; snapshots = []; begun = false }
 
 -- the files hold this index
 pub record HoldsState (files : Files) (i : Index) : Type 0 where
@@ -60,8 +64,8 @@ pub record HoldsState (files : Files) (i : Index) : Type 0 where
   pub holds : HoldsIndex files commit i.docs
   pub is : i ≡ index_of commit i.docs
 
--- The files store this state: no index where there is no Commit file, and else the index that they hold. They store one state at most
--- (`one_stored`).
+-- The files store this state: no index where there is no Commit file, and else the index that they hold. They store
+-- one state at most (`one_stored`).
 abbrev pub IsStored : Files → State → Type 0
 IsStored files None = files Commit ≡ None
 IsStored files (Some i) = HoldsState files i
