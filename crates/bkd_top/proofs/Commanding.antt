@@ -8,7 +8,7 @@ use Rattle.command_words.specs.Commands.{Asked, Run, Load, Explain, Check, Gener
 use Rattle.command_words.specs.declared.Words.{Words}
 use Rattle.drawn_points.specs.Generated.{generated}
 use Rattle.explain_queries.specs.Explained.{IsScope, Scope, silence}
-use Rattle.load_points.specs.Loaded.{loaded}
+use Rattle.load_points.specs.Loaded.{load_answer}
 use Rattle.run_status.specs.Told as telling
 use Rattle.count_queries.specs.Counted as counts
 use Rattle.bkd_top.specs.Calls.{Call, LeavesAsked, OnAsked, TakesInput, WholeLeaves}
@@ -93,7 +93,7 @@ module _ (told : Type 0) (w : Words) (b : Before) (files : Files) (new : List �
   pub run_ends : (cache forks : ℕ) → said w ≡ Run cache forks → Ends (meaning language.Points) told (start b.state (lines_of b.input) b.written) files new s → EndsAsked told (said w) b files new s
   run_ends cache forks is ends = subst (λ (a : Asked). EndsAsked told a b files new s) (sym is) ends
 
-  pub load_ends : (columns : List (List ℕ)) (forks : ℕ) → said w ≡ Load columns forks → EndsWhole told b (loaded b.state b.input columns) files new s → EndsAsked told (said w) b files new s
+  pub load_ends : (columns : List (List ℕ)) (forks : ℕ) → said w ≡ Load columns forks → EndsWhole told b (load_answer b.state b.input columns) files new s → EndsAsked told (said w) b files new s
   load_ends columns forks is ends = subst (λ (a : Asked). EndsAsked told a b files new s) (sym is) ends
 
   pub explain_ends : (cache : ℕ) → said w ≡ Explain cache → ((scope : Scope) → IsScope b.files scope → EndsExplain told scope (lines_of b.input) b.written new s) → EndsAsked told (said w) b files new s

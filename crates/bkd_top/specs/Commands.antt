@@ -10,7 +10,7 @@ use Rattle.index_model.specs.Script.{Answer}
 use Rattle.stored_index.specs.Stored.{IsStored}
 use Rattle.stored_index.specs.Opening.{IsOpening, segments_pages}
 use Rattle.command_words.specs.Commands.{Asked, Run, Load, Explain, Check, Generate, Session, Count, Ranges}
-use Rattle.load_points.specs.Loaded.{loaded}
+use Rattle.load_points.specs.Loaded.{load_answer}
 use Rattle.drawn_points.specs.Generated.{generated}
 use Rattle.explain_queries.specs.Explained.{Scope, IsScope, Told, TellsLine, TellsLines}
 use Rattle.count_queries.specs.Counted as counts
@@ -196,7 +196,7 @@ ReadsFew files lines old new =
 abbrev pub EndsAsked : (told : Type 0) → Asked → Before → Files → List ℕ → Status → Type 0
 EndsAsked told (Run cache forks) b files new s =
     Ends (meaning language.Points) told (start b.state (lines_of b.input) b.written) files new s
-EndsAsked told (Load columns forks) b files new s = EndsWhole told b (loaded b.state b.input columns) files new s
+EndsAsked told (Load columns forks) b files new s = EndsWhole told b (load_answer b.state b.input columns) files new s
 EndsAsked told (Explain cache) b files new s = (scope : Scope) → IsScope b.files scope
     → EndsExplain told scope (lines_of b.input) b.written new s
 EndsAsked told Check b files new s = (files ≡ b.files) × EndsCheck told b.files b.written new s

@@ -3,9 +3,9 @@
 
 mod check;
 mod explain;
+mod loads;
 mod program;
 mod scripts;
-mod whole;
 
 pub use check::run_check;
 pub use explain::run_explain;

@@ -13,8 +13,8 @@ ghost use Rattle.bkd_top.specs.Commands.{EndsAsked, does, is_session, reads_inpu
 
 use crate::check::run_check;
 use crate::explain::run_explain;
+use crate::loads::{run_generate, run_load};
 use crate::scripts::{run_ranges, run_script, run_session};
-use crate::whole::{run_generate, run_load};
 use bkd_build::Gate;
 use command_words::{Words, WordsFault, read_words};
 use count_queries::run_count;

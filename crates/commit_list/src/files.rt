@@ -4,7 +4,7 @@ ghost use Rattle.std.specs.Prelude.{◌≡◌, ◌≤◌, ◌+◌, ◌*◌, ◌/
 ghost use Rattle.std.specs.Prelude.{IfOk, OnSome, OnOk, OnErr, IsErrOf, MatchOption, replicate, ◌↔◌};
 ghost use Rattle.outer_io.specs.Files.{Files, bytes_of, SameButTwo};
 ghost use Rattle.outer_io.specs.declared.file_name.FileName.TheVariants.{Commit as CommitName, CommitNew};
-ghost use Rattle.page_cache.specs.Causes.{HasPageCause, HasSegCause, IsSteady};
+ghost use Rattle.page_cache.specs.Causes.{HasPageCause, HasStoreCause, IsSteady};
 ghost use Rattle.page_cache.specs.Bodies.{pages_for as pages_for_body};
 ghost use Rattle.page_cache.specs.Evidence.{OnDamage, NotDamaged, SizeWithin, IsFileDamage, IsFileDamageOf};
 ghost use Rattle.page_cache.specs.Evidence.{ArePayloadsOf};
@@ -12,7 +12,7 @@ ghost use Rattle.page_cache.specs.FilePages.{ArePages, payloads_of};
 ghost use Rattle.page_cache.specs.declared.faults.Damage.TheVariants.{Body};
 ghost use Rattle.page_cache.specs.FirstPages.{first_name, first_payload, IsFirstPage};
 ghost use Rattle.page_cache.specs.declared.faults.PageFault.TheVariants as page;
-ghost use Rattle.page_cache.specs.declared.faults.SegFault.TheVariants as seg;
+ghost use Rattle.page_cache.specs.declared.faults.StoreFault.TheVariants as store;
 ghost use Rattle.commit_list.specs.Commits.{CommitData};
 ghost use Rattle.commit_list.specs.Layout.{BeginsBody};
 ghost use Rattle.commit_list.specs.CommitFiles.{IsCommitFile, IsWrittenCommit, SpellsFilled, HasNoFilled};
@@ -23,7 +23,7 @@ use crate::reading::{body_length, decode};
 use crate::writing::encode_commit;
 use byte_cursor::{Bytes, Memory};
 use outer_io::{FileName, Folder};
-use page_cache::{Damage, FirstPage, PageFault, SegFault, pages_for, pages_of, read_payloads};
+use page_cache::{Damage, FirstPage, PageFault, StoreFault, pages_for, pages_of, read_payloads};
 use std::alloc::Global;
 
 /// The bytes of a page's payload.
@@ -192,17 +192,17 @@ fn is_zero(bytes: &[u8]) -> bool
 
 /// Makes the commit the folder's: it is written beside the Commit of before, and then put into its place by its
 /// name. After want of memory the Commit is as before; after a failure it is as before or this one.
-pub fn write_commit<F: Folder>(alloc: Global, folder: &mut F, c: &Commit) -> Result<(), SegFault>
+pub fn write_commit<F: Folder>(alloc: Global, folder: &mut F, c: &Commit) -> Result<(), StoreFault>
     ensures written { IsTrue F.told → OnOk result (IsWrittenCommit (bytes_of (F.files folder.new CommitName)) c.now) }
     ensures commit { IsTrue F.told → OnOk result (IsCommitFile (bytes_of (F.files folder.new CommitName)) c.now) }
     ensures gone { IsTrue F.told → OnOk result (F.files folder.new CommitNew ≡ None) }
     ensures kept { IsTrue F.told → OnErr result ((F.files folder.new CommitName ≡ F.files folder.old CommitName)
         ⊎ IsWrittenCommit (bytes_of (F.files folder.new CommitName)) c.now) }
-    ensures memory { IsTrue F.told → IsErrOf result seg.Memory
+    ensures memory { IsTrue F.told → IsErrOf result store.Memory
         → F.files folder.new CommitName ≡ F.files folder.old CommitName }
     ensures others { IsTrue F.told → SameButTwo CommitNew CommitName (F.files folder.old) (F.files folder.new) }
     ensures reads { F.reads folder.new ≡ F.reads folder.old }
-    ensures cause { HasSegCause (F.faults folder.old) (F.faults folder.new) result }
+    ensures cause { HasStoreCause (F.faults folder.old) (F.faults folder.new) result }
 {
     let body = encode_commit(alloc, c)?;
     let pages = pages_of(alloc, &FileName::Commit, body.as_slice())?;
@@ -210,16 +210,16 @@ pub fn write_commit<F: Folder>(alloc: Global, folder: &mut F, c: &Commit) -> Res
 }
 
 /// Makes the bytes the Commit of the folder, whole or not at all.
-fn replace<F: Folder>(folder: &mut F, bytes: &[u8]) -> Result<(), SegFault>
+fn replace<F: Folder>(folder: &mut F, bytes: &[u8]) -> Result<(), StoreFault>
     ensures written { IsTrue F.told → OnOk result (F.files folder.new CommitName ≡ Some bytes.now) }
     ensures gone { IsTrue F.told → OnOk result (F.files folder.new CommitNew ≡ None) }
     ensures kept { IsTrue F.told → OnErr result ((F.files folder.new CommitName ≡ F.files folder.old CommitName)
         ⊎ (F.files folder.new CommitName ≡ Some bytes.now)) }
-    ensures memory { IsTrue F.told → IsErrOf result seg.Memory
+    ensures memory { IsTrue F.told → IsErrOf result store.Memory
         → F.files folder.new CommitName ≡ F.files folder.old CommitName }
     ensures others { IsTrue F.told → SameButTwo CommitNew CommitName (F.files folder.old) (F.files folder.new) }
     ensures reads { F.reads folder.new ≡ F.reads folder.old }
-    ensures cause { HasSegCause (F.faults folder.old) (F.faults folder.new) result }
+    ensures cause { HasStoreCause (F.faults folder.old) (F.faults folder.new) result }
 {
     folder.write_file(&FileName::CommitNew, bytes)?;
     folder.rename(&FileName::CommitNew, &FileName::Commit)?;

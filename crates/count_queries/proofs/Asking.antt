@@ -12,7 +12,7 @@ use Rattle.script_lang.specs.Lines.{lines_of, words_of}
 use Rattle.script_lang.specs.Parts.{Takes, left}
 use Rattle.script_lang.specs.declared.words.Words.{Words}
 use Rattle.point_counts.specs.Grids.{plan_of}
-use Rattle.count_queries.specs.Asks.{Ask, Grid, Reading, Says, Fails, given, read_counts, read_grid, read_points, read_verb, read_words}
+use Rattle.count_queries.specs.Asks.{Ask, Grid, Reading, Says, Fails, on_success, read_counts, read_grid, read_points, read_verb, read_words}
 
 -- a part of a line, and a line, that has no such fault; records, so that what they speak of is found
 record IsPart {X : Type 0} (part : Result X LineFault) : Type 0 where
@@ -44,7 +44,7 @@ if_part false held other = other
 fault_of : {X : Type 0} (f : LineFault) → IsPart {X = X} (Err f) → f ≢ fault.Memory
 fault_of f part = part.other f refl
 
-given_fine : {X : Type 0} {part : Result X LineFault} {next : X → Reading} → IsPart part → ((x : X) → IsFine (next x)) → IsFine (given part next)
+given_fine : {X : Type 0} {part : Result X LineFault} {next : X → Reading} → IsPart part → ((x : X) → IsFine (next x)) → IsFine (on_success part next)
 given_fine {X} {part = Ok x} {next} p fine = fine x
 given_fine {X} {part = Err f} {next} p fine = fails f (fault_of f p)
 
@@ -112,15 +112,15 @@ abbrev pub grid_from : (a b c d : ℕ) → List ℤ × List ℤ → Reading
 grid_from a b c d ends = Says (Grid (plan_of ends.0 ends.1 a b c d))
 
 given_four : (a b c d : Result ℕ LineFault) (w x y z : ℕ) (box : Result (List ℤ × List ℤ) LineFault) → Ok w ≡ a → Ok x ≡ b → Ok y ≡ c → Ok z ≡ d
-    → given a (λ a. given b (λ b. given c (λ c. given d (λ d. given box (grid_from a b c d))))) ≡ given box (grid_from w x y z)
+    → on_success a (λ a. on_success b (λ b. on_success c (λ c. on_success d (λ d. on_success box (grid_from a b c d))))) ≡ on_success box (grid_from w x y z)
 given_four a b c d w x y z box p q r s =
-    sym (λ i. given (p i) (λ a. given (q i) (λ b. given (r i) (λ c. given (s i) (λ d. given box (grid_from a b c d))))))
+    sym (λ i. on_success (p i) (λ a. on_success (q i) (λ b. on_success (r i) (λ c. on_success (s i) (λ d. on_success box (grid_from a b c d))))))
 
 -- all four numbers are read
 pub grid_read : (D place : ℕ) (words : List (List ℕ)) (x step_x y step_y : List ℕ) (ends : List (List ℕ)) (a b c d : ℕ) → words ≡ x ∷ step_x ∷ y ∷ step_y ∷ ends
     → length ends ≡ 2 * D → place ≡ 6
     → Ok a ≡ value_of number 2 x → Ok b ≡ value_of number 3 step_x → Ok c ≡ value_of number 4 y → Ok d ≡ value_of number 5 step_y
-    → read_grid D words ≡ given (box_of D place ends) (grid_from a b c d)
+    → read_grid D words ≡ on_success (box_of D place ends) (grid_from a b c d)
 unfolding read_grid
 grid_read D place words x step_x y step_y ends a b c d is long six p q r s =
     rw (is, six, eq-eqb (length ends) (2 * D) long)

@@ -26,24 +26,24 @@ pub data Reading : Type 0 where
   Fails : (fault : LineFault) → Reading
 
 -- what is read from a part of a line, or that part's fault
-abbrev pub given : {X : Type 0} → Result X LineFault → (X → Reading) → Reading
-given (Ok x) next = next x
-given (Err f) next = Fails f
+abbrev pub on_success : {X : Type 0} → Result X LineFault → (X → Reading) → Reading
+on_success (Ok x) next = next x
+on_success (Err f) next = Fails f
 
 abbrev pub box_from : List ℤ × List ℤ → Region
 box_from ends = record { lo = ends.0; hi = ends.1 }
 
 -- `LO HI`, all coordinates of the lower corner and then those of the upper one
 unfoldable pub read_points : ℕ → List (List ℕ) → Reading
-read_points dims words = given (box_of dims 2 words) (λ ends. Says (Points (box_from ends)))
+read_points dims words = on_success (box_of dims 2 words) (λ ends. Says (Points (box_from ends)))
 
 -- `X STEPX Y STEPY LO HI`
 unfoldable pub read_grid : ℕ → List (List ℕ) → Reading
 read_grid dims (x ∷ step_x ∷ y ∷ step_y ∷ ends) =
     if length ends == 2 * dims then
-    given (value_of number 2 x) (λ x. given (value_of number 3 step_x) (λ step_x.
-    given (value_of number 4 y) (λ y. given (value_of number 5 step_y) (λ step_y.
-    given (box_of dims 6 ends) (λ ends. Says (Grid (plan_of ends.0 ends.1 x step_x y step_y)))))))
+    on_success (value_of number 2 x) (λ x. on_success (value_of number 3 step_x) (λ step_x.
+    on_success (value_of number 4 y) (λ y. on_success (value_of number 5 step_y) (λ step_y.
+    on_success (box_of dims 6 ends) (λ ends. Says (Grid (plan_of ends.0 ends.1 x step_x y step_y)))))))
     else Fails fault.Words
 read_grid dims _ = Fails fault.Words
 
@@ -62,4 +62,4 @@ read_words dims (verb ∷ words) = if slice_index verb 0 == 35 then Says Blank e
 
 -- a line of counts, read where an index of so many dimensions is there, or none
 unfoldable pub read_counts : Option ℕ → List ℕ → Reading
-read_counts dims line = given (text_of line) (λ text. read_words dims (words_of text))
+read_counts dims line = on_success (text_of line) (λ text. read_words dims (words_of text))

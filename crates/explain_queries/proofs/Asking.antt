@@ -9,13 +9,13 @@ use Rattle.polygon_query.specs.Shape as polygons
 use Rattle.index_model.specs.State.{Index}
 use Rattle.index_model.specs.Step.{in_plane_polygon}
 use Rattle.script_lang.specs.Reading.{Reading, read}
-use Rattle.script_lang.specs.Replies.{why_text}
+use Rattle.script_lang.specs.Replies.{refused_text}
 use Rattle.script_lang.specs.Requests.{Request}
 use Rattle.script_lang.specs.Requests as asks
 use Rattle.script_lang.specs.Seen.{request_of}
 use Rattle.script_lang.specs.declared.commands.Command.{Command}
 use Rattle.script_lang.specs.declared.commands.Command.TheVariants as command
-use Rattle.script_lang.specs.declared.faults.Why.TheVariants as why
+use Rattle.script_lang.specs.declared.faults.Refusal.TheVariants as why
 use Rattle.point_codec.specs.declared.names.View.{View}
 use Rattle.point_codec.specs.declared.coordinates.Point.{Point}
 use Rattle.ring_parity.specs.declared.rings.Rings.{Rings}
@@ -91,7 +91,7 @@ module _ (D : ℕ) (files : Files) (set : SetData) (s : Scope) (e : IsExplaining
 -- a command that is neither blank nor a query is refused
 pub other_told : {D : ℕ} (i : Index) (heads : List Head) (line : ℕ) (c : Command D) → (c ≡ command.Blank → ⊥) → ((view : View) (lo hi : Point D) → c ≡ command.InBox view lo hi → ⊥)
     → ((view : View) (rings : Rings) → c ≡ command.Polygon view rings → ⊥) → ((view : View) (k : ℕ) (at : Point D) → c ≡ command.Nearest view k at → ⊥)
-    → TellsOn i heads line (request_of c) (refusal (why_text line why.NotQuery))
+    → TellsOn i heads line (request_of c) (refusal (refused_text line why.NotQuery))
 other_told i heads line command.Blank blank box polygon near = absurd (blank refl)
 other_told i heads line (command.InBox view lo hi) blank box polygon near = absurd (box view lo hi refl)
 other_told i heads line (command.Polygon view rings) blank box polygon near = absurd (polygon view rings refl)

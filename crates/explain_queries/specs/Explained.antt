@@ -16,10 +16,10 @@ use Rattle.commit_list.specs.Commits.{CommitData}
 use Rattle.commit_list.specs.CommitFiles.{IsCommitFile}
 use Rattle.segment_file.specs.Heads.{Head}
 use Rattle.script_lang.specs.Reading.{Reading, Says, Fails, read}
-use Rattle.script_lang.specs.Replies.{ended, line_fault_text, why_text}
+use Rattle.script_lang.specs.Replies.{ended, line_fault_text, refused_text}
 use Rattle.script_lang.specs.Requests.{Request}
 use Rattle.script_lang.specs.Requests as asks
-use Rattle.script_lang.specs.declared.faults.Why.TheVariants as why
+use Rattle.script_lang.specs.declared.faults.Refusal.TheVariants as why
 use Rattle.index_model.specs.State.{Index, State}
 use Rattle.index_model.specs.Step.{in_plane_polygon}
 use Rattle.stored_index.specs.Stored.{HaveHeads, IsStored}
@@ -102,15 +102,15 @@ TellsOn i heads line (asks.InBox None lo hi) t =
 TellsOn i heads line (asks.InPolygon None rings) t =
     TellsShape i.dims heads i.docs (in_plane_polygon i.dims rings) (polygons.crosses i.dims (all_edges rings)) t
 TellsOn i heads line (asks.Nearest None k at) t = TellsNear i.dims heads i.docs k at t
-TellsOn i heads line (asks.InBox (Some name) lo hi) t = t ≡ refusal (why_text line why.UnknownSnapshot)
-TellsOn i heads line (asks.InPolygon (Some name) rings) t = t ≡ refusal (why_text line why.UnknownSnapshot)
-TellsOn i heads line (asks.Nearest (Some name) k at) t = t ≡ refusal (why_text line why.UnknownSnapshot)
-TellsOn i heads line _ t = t ≡ refusal (why_text line why.NotQuery)
+TellsOn i heads line (asks.InBox (Some name) lo hi) t = t ≡ refusal (refused_text line why.UnknownSnapshot)
+TellsOn i heads line (asks.InPolygon (Some name) rings) t = t ≡ refusal (refused_text line why.UnknownSnapshot)
+TellsOn i heads line (asks.Nearest (Some name) k at) t = t ≡ refusal (refused_text line why.UnknownSnapshot)
+TellsOn i heads line _ t = t ≡ refusal (refused_text line why.NotQuery)
 
 -- of a request where no index is there: it is none, or asks for a new one
 abbrev pub TellsFirst : (line : ℕ) → Request → Told → Type 0
 TellsFirst line asks.Blank t = t ≡ silence
-TellsFirst line _ t = t ≡ refusal (why_text line why.NotQuery)
+TellsFirst line _ t = t ≡ refusal (refused_text line why.NotQuery)
 
 abbrev pub TellsIn : State → List Head → (line : ℕ) → Request → Told → Type 0
 TellsIn None heads line request t = TellsFirst line request t

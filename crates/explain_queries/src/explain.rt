@@ -1,7 +1,7 @@
 //! What is told of a line.
 
 ghost use Rattle.std.specs.Prelude.{◌≡◌, ◌≢◌, ◌≤◌, ◌++◌, [], None, true, IsTrue, IfOk, OnErr, IsErrOf};
-ghost use Rattle.script_lang.specs.Replies.{line_fault_text, why_text};
+ghost use Rattle.script_lang.specs.Replies.{line_fault_text, refused_text};
 ghost use Rattle.script_lang.specs.Seen.{IsWithinLimits, request_of};
 ghost use Rattle.documents.specs.Nearest.{found_of};
 ghost use Rattle.ring_parity.specs.Rings.{all_edges};
@@ -17,7 +17,9 @@ use page_cache::PageFault;
 use point_codec::{Near, Point, View};
 use polygon_query::PolygonShape;
 use ring_parity::Rings;
-use script_lang::{Command, First, LineFault, Why, put_line_fault, put_why, read_first, read_line};
+use script_lang::{
+    Command, First, LineFault, Refusal, put_line_fault, put_refusal, read_first, read_line,
+};
 use segment_set::SegmentSet;
 use std::alloc::{AllocError, Global};
 
@@ -63,7 +65,7 @@ pub fn explain_first(number: u64, line: &[u8], reply: &mut Vec<u8>) -> Result<bo
     match read_first(line) {
         Ok(First::Blank) => Ok(false),
         Ok(First::Create { dims: _, leaf: _ }) => {
-            put_why(reply, number, Why::NotQuery)?;
+            put_refusal(reply, number, Refusal::NotQuery)?;
             Ok(true)
         }
         Err(LineFault::Memory) => Err(AllocError),
@@ -118,7 +120,7 @@ fn explain<const D: usize, F: Folder>(
             View::Now => tell_near(alloc, set, folder, *k, at, reply),
             View::Named(_) => refuse_snapshot(number, reply),
         },
-        _ => refuse(number, Why::NotQuery, reply),
+        _ => refuse(number, Refusal::NotQuery, reply),
     }
 }
 
@@ -134,22 +136,23 @@ fn refuse_line(number: u64, fault: &LineFault, reply: &mut Vec<u8>) -> Result<bo
 }
 
 /// Appends why a command is refused.
-fn refuse(number: u64, why: Why, reply: &mut Vec<u8>) -> Result<bool, PageFault>
+fn refuse(number: u64, why: Refusal, reply: &mut Vec<u8>) -> Result<bool, PageFault>
     ensures refused { IfOk result
-        (λ refused. (refused ≡ true) × (reply.new.items ≡ reply.old.items ++ why_text number why)) }
+        (λ refused. (refused ≡ true) × (reply.new.items ≡ reply.old.items ++ refused_text number why)) }
     ensures memory { OnErr result (IsErrOf result PageFault.Memory) }
 {
-    put_why(reply, number, why)?;
+    put_refusal(reply, number, why)?;
     Ok(true)
 }
 
 /// Appends that there is no such snapshot: a stored index has none.
 fn refuse_snapshot(number: u64, reply: &mut Vec<u8>) -> Result<bool, PageFault>
     ensures refused { IfOk result
-        (λ refused. (refused ≡ true) × (reply.new.items ≡ reply.old.items ++ why_text number Why.UnknownSnapshot)) }
+        (λ refused. (refused ≡ true)
+        × (reply.new.items ≡ reply.old.items ++ refused_text number Refusal.UnknownSnapshot)) }
     ensures memory { OnErr result (IsErrOf result PageFault.Memory) }
 {
-    refuse(number, Why::UnknownSnapshot, reply)
+    refuse(number, Refusal::UnknownSnapshot, reply)
 }
 
 /// Appends what a polygon tests and touches of the stored segments, and how many documents it hits.

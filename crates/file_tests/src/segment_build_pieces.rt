@@ -7,7 +7,7 @@ ghost use Rattle.bkd_build.specs.Parts.{AreEntries};
 use crate::asserts::{holds_at, same, same_at};
 use bkd_build::OpenGate;
 use outer_io::{FileName, MemFolder};
-use page_cache::{PageCache, PageFault, SegFault};
+use page_cache::{PageCache, PageFault, StoreFault};
 use point_codec::{Entry, Point};
 use segment_build::{NewSegment, build_segment};
 use segment_file::read_entries;
@@ -83,8 +83,8 @@ fn is_written(
     folder.plan(vec![in alloc; call]?, None);
     match segment.write(alloc, folder, 3) {
         Ok(head) => Ok(head.entries() == MANY && size(folder) > 256 * 4096),
-        Err(SegFault::Failed) => Ok(false),
-        Err(SegFault::Memory) => Err("memory is wanting")?,
+        Err(StoreFault::Failed) => Ok(false),
+        Err(StoreFault::Memory) => Err("memory is wanting")?,
     }
 }
 

@@ -14,7 +14,7 @@ use Rattle.documents.specs.Entries.{has_entry}
 use Rattle.segment_file.specs.Heads.{Head}
 use Rattle.segment_file.specs.Segments.{IsSegment}
 use Rattle.segment_view.specs.Parts.{part_of}
-use Rattle.number_checks.specs.Crowded.{AreFew, IsLeastCrowded}
+use Rattle.document_checks.specs.Crowded.{AreFew, IsLeastCrowded}
 use Rattle.folder_check.specs.declared.findings.Finding.{Finding}
 use Rattle.folder_check.specs.Found.{IsFinding}
 use Rattle.folder_check.proofs.Entries.{live_found}

@@ -26,9 +26,9 @@ use Rattle.stored_index.proofs.Pairwise.{partner_of}
 use Rattle.stored_index.proofs.Parts.{EntriesOnce}
 use Rattle.stored_index.proofs.Places.{some_place}
 use Rattle.segment_view.specs.Parts.{Part, lives_of}
-use Rattle.number_checks.specs.Placed.{IsPlaced}
-use Rattle.number_checks.specs.Crowded.{AreFew, IsLeastCrowded}
-use Rattle.number_checks.proofs.Once.{never_crowded, pairs_from}
+use Rattle.document_checks.specs.Placed.{IsPlaced}
+use Rattle.document_checks.specs.Crowded.{AreFew, IsLeastCrowded}
+use Rattle.document_checks.proofs.Once.{never_crowded, pairs_from}
 use Rattle.index_opening.specs.Opened.{IsOpened}
 use Rattle.folder_check.specs.declared.findings.Finding.{Finding}
 use Rattle.folder_check.specs.Found.{AreFine, IsFinding, Beyond, Crowding, HasAll, IsBeyondGiven, IsCrowding, IsLacking, IsWrong, Lacking, all_entries}

@@ -16,7 +16,7 @@ use Rattle.segment_file.specs.Segments.{IsSegment}
 use Rattle.stored_index.specs.Segments.{SegmentData, live_entries}
 use Rattle.stored_index.proofs.Pairwise.{partner_of}
 use Rattle.segment_view.specs.Parts.{part_of}
-use Rattle.number_checks.specs.Crowded.{IsLeastCrowded}
+use Rattle.document_checks.specs.Crowded.{IsLeastCrowded}
 use Rattle.index_opening.specs.Evidence.{HasNoBody, HoldsEntries, InSegment, IsEvident, IsHeadIn, IsTrueOf, IsTwice, LacksLeaf}
 use Rattle.index_opening.specs.Evidence.{InCommit, InLive, IsFilePair, IsFound, NamesLooked, OfFiles}
 use Rattle.folder_check.specs.declared.findings.Finding.{Finding}

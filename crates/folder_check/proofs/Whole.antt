@@ -26,7 +26,7 @@ use Rattle.stored_index.proofs.Parts.{EntriesOnce}
 use Rattle.stored_index.proofs.Whole.{held_for}
 use Rattle.segment_view.specs.Parts.{Part, lives_of}
 use Rattle.segment_view.specs.Held.{HasOwnHead}
-use Rattle.number_checks.specs.Placed.{IsPlaced}
+use Rattle.document_checks.specs.Placed.{IsPlaced}
 use Rattle.index_opening.specs.Opened.{IsOpened}
 use Rattle.index_opening.specs.Evidence.{IsHeadIn}
 use Rattle.index_opening.specs.Evidence.{IsListed as IsListedFile}

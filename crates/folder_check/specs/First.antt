@@ -8,7 +8,7 @@ use Rattle.commit_list.specs.Commits.{CommitData}
 use Rattle.commit_list.specs.CommitFiles.{IsCommitFile}
 use Rattle.segment_view.specs.Parts.{Part, lives_of}
 use Rattle.segment_view.specs.Damages.{IsReadDamage}
-use Rattle.number_checks.specs.Placed.{IsPlaced}
+use Rattle.document_checks.specs.Placed.{IsPlaced}
 use Rattle.index_opening.specs.Opened.{IsOpened}
 use Rattle.index_opening.specs.First.{IsFirstOpened, IsOfFile}
 use Rattle.folder_check.specs.declared.findings.Finding.{Finding}

@@ -13,7 +13,7 @@ use Rattle.page_cache.specs.declared.faults.Damage.TheVariants.{Unequal, Doubled
 use Rattle.commit_list.specs.declared.listed.Listed.{Listed}
 use Rattle.segment_file.specs.Segments.{IsSegment}
 use Rattle.segment_view.specs.Parts.{Part}
-use Rattle.number_checks.specs.Crowded.{AreFew, IsLeastCrowded}
+use Rattle.document_checks.specs.Crowded.{AreFew, IsLeastCrowded}
 use Rattle.folder_check.specs.declared.findings.Finding.{Finding}
 
 -- the live ones of these entries

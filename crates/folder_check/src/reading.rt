@@ -15,8 +15,8 @@ ghost use Rattle.folder_check.specs.First.{IsFirstLeaf};
 ghost use Rattle.folder_check.specs.Found.{HasSegment, IsFinding};
 
 use crate::findings::Finding;
+use document_checks::{doubled, live_with_entries};
 use live_bits::LiveBits;
-use number_checks::{doubled, live_with_entries};
 use outer_io::Pages;
 use page_cache::{PageCache, PageFault};
 use segment_file::{SegmentHead, read_entries};

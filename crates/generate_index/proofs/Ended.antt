@@ -23,7 +23,7 @@ use Rattle.segment_set.specs.Seen.{Sees}
 use Rattle.index_opening.specs.Evidence.{IsEvident, IsTwice}
 use Rattle.index_opening.proofs.Evident.{on_commit_evident, on_evident_at, on_evident_less}
 use Rattle.index_core.specs.Sessions.{Guards, SessionData}
-use Rattle.index_core.specs.Whole.{DoesWhole, HasNewCanonical, Spot}
+use Rattle.index_core.specs.Whole.{DoesWhole, HasNewCanonical, Moment}
 use Rattle.index_core.proofs.Bringing.{brings_then}
 use Rattle.index_core.proofs.Listed.{new_canonical}
 use Rattle.index_core.proofs.Wholes.{IsCommitted, does_fault}
@@ -32,7 +32,7 @@ use Rattle.drawn_points.specs.Generated.{box_hits, docs_of, documents, generated
 use Rattle.generate_index.specs.Generates.{IsMade, Makes, drawn_index, made_docs}
 
 -- a session that was created over a folder without an index
-pub record IsCreated (seed : ℕ) (a : Spot) : Type 0 where
+pub record IsCreated (seed : ℕ) (a : Moment) : Type 0 where
   pub none : a.files Commit ≡ None
   pub guards : Guards 2 a.files a.session
   pub made : IsMade seed 0 0 a
@@ -53,17 +53,17 @@ other T page.Memory whole = tt
 other T (page.Damaged d) whole = whole
 
 -- nothing is stored yet
-still_none : {T : Type 0} (told : Type 0) (seed n : ℕ) (a b : Spot) (r : Result T PageFault) → Makes told (IsMade seed 0 0) (IsMade seed n n) a b r → told → IsCreated seed a → IsStored b.files None
+still_none : {T : Type 0} (told : Type 0) (seed n : ℕ) (a b : Moment) (r : Result T PageFault) → Makes told (IsMade seed 0 0) (IsMade seed n n) a b r → told → IsCreated seed a → IsStored b.files None
 still_none told seed n a b r makes t new = stored_still a.files b.files None (makes.kept t new.guards) new.none
 
 -- a fault while it was filled
-pub ends_early : {T : Type 0} (told : Type 0) (seed n : ℕ) (a b : Spot) (answer : Answer) (before after : List ℕ) (fault : PageFault) (r : Result Bool PageFault) → r ≡ Err fault
+pub ends_early : {T : Type 0} (told : Type 0) (seed n : ℕ) (a b : Moment) (answer : Answer) (before after : List ℕ) (fault : PageFault) (r : Result Bool PageFault) → r ≡ Err fault
     → Makes {T = T} told (IsMade seed 0 0) (IsMade seed n n) a b (Err fault) → told → IsCreated seed a → DoesWhole b.files None answer before after r
 ends_early {T = T} told seed n a b answer before after fault r is makes t new = subst (DoesWhole b.files None answer before after) (sym is)
     (does_fault b.files None answer before after fault (other T fault (makes.whole t new.made)) (inl (still_none told seed n a b (Err fault) makes t new)))
 
 -- want of memory after that
-pub ends_unsaid : {T : Type 0} (told : Type 0) (seed n : ℕ) (a b : Spot) (x : T) (answer : Answer) (before after : List ℕ) (r : Result Bool PageFault) → r ≡ Err page.Memory
+pub ends_unsaid : {T : Type 0} (told : Type 0) (seed n : ℕ) (a b : Moment) (x : T) (answer : Answer) (before after : List ℕ) (r : Result Bool PageFault) → r ≡ Err page.Memory
     → Makes told (IsMade seed 0 0) (IsMade seed n n) a b (Ok x) → told → IsCreated seed a → DoesWhole b.files None answer before after r
 ends_unsaid told seed n a b x answer before after r is makes t new =
     subst (DoesWhole b.files None answer before after) (sym is) (does_fault b.files None answer before after page.Memory tt (inl (still_none told seed n a b (Ok x) makes t new)))
@@ -77,7 +77,7 @@ pub ends_uncreated : (files : Files) (answer : Answer) (before after : List ℕ)
 ends_uncreated files answer before after r is none = subst (DoesWhole files None answer before after) (sym is) (does_fault files None answer before after page.Memory tt (inl none))
 
 -- a fault of the commit: nothing is stored, or all
-pub ends_uncommitted : {T U : Type 0} (told : Type 0) (seed n : ℕ) (a b c : Spot) (x : U) (before after : List ℕ) (fault : PageFault) (r : Result Bool PageFault) → r ≡ Err fault → made seed n ≡ Some (drawn_index seed n n)
+pub ends_uncommitted : {T U : Type 0} (told : Type 0) (seed n : ℕ) (a b c : Moment) (x : U) (before after : List ℕ) (fault : PageFault) (r : Result Bool PageFault) → r ≡ Err fault → made seed n ≡ Some (drawn_index seed n n)
     → Makes told (IsMade seed 0 0) (IsMade seed n n) a b (Ok x) → IsCommitted {T = T} 2 told b c (Err fault) → told → IsCreated seed a → DoesWhole c.files None (generated None n seed) before after r
 unfolding generated
 ends_uncommitted {T = T} told seed n a b c x before after fault r is law makes commits t new =
@@ -90,7 +90,7 @@ ends_uncommitted {T = T} told seed n a b c x before after fault r is law makes c
     (commits.stored t (drawn_index seed n n) at (makes.guards t new.guards))))
 
 -- all is said, and stored
-pub ends_made : {T U : Type 0} (told : Type 0) (seed n : ℕ) (a b c : Spot) (x : U) (y : T) (docs live hits near : ℕ) (before after : List ℕ) → made seed n ≡ Some (drawn_index seed n n)
+pub ends_made : {T U : Type 0} (told : Type 0) (seed n : ℕ) (a b c : Moment) (x : U) (y : T) (docs live hits near : ℕ) (before after : List ℕ) → made seed n ≡ Some (drawn_index seed n n)
     → after ≡ before ++ (ended (codes "docs " ++ decimal docs ++ codes " live " ++ decimal live) ++ ended (codes "box hits " ++ decimal hits) ++ ended (codes "nearest sum " ++ decimal near))
     → (docs ≡ n) × (live ≡ length (made_docs seed n)) × (hits ≡ box_hits (made_docs seed n) (points seed n 64)) × (near ≡ near_sum (made_docs seed n) (points seed (n + 64) 16))
     → Makes told (IsMade seed 0 0) (IsMade seed n n) a b (Ok x) → IsCommitted 2 told b c (Ok y) → told → IsCreated seed a → DoesWhole c.files None (generated None n seed) before after (Ok false)
@@ -104,7 +104,7 @@ ends_made told seed n a b c x y docs live hits near before after law grew (d, l,
 )
 
 -- each segment is canonical
-pub made_canon : {T U : Type 0} (told : Type 0) (seed n : ℕ) (a b c : Spot) (x : U) (y : T) → Makes told (IsMade seed 0 0) (IsMade seed n n) a b (Ok x) → IsCommitted 2 told b c (Ok y) → told → IsCreated seed a → HasNewCanonical a.files c.files
+pub made_canon : {T U : Type 0} (told : Type 0) (seed n : ℕ) (a b c : Moment) (x : U) (y : T) → Makes told (IsMade seed 0 0) (IsMade seed n n) a b (Ok x) → IsCommitted 2 told b c (Ok y) → told → IsCreated seed a → HasNewCanonical a.files c.files
 made_canon told seed n a b c x y makes commits t new =
     let at = makes.made t new.made in
     let guards = makes.guards t new.guards in

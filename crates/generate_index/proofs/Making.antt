@@ -18,7 +18,7 @@ use Rattle.segment_set.specs.Faithful.{IsFaithful}
 use Rattle.index_opening.proofs.Evident.{on_evident_less}
 use Rattle.index_core.specs.Sessions.{AreTraced, Guards, IsTraced, SessionData, Trusts}
 use Rattle.index_core.specs.Effects.{BringsCanonical}
-use Rattle.index_core.specs.Whole.{Adds, Spot, with_points}
+use Rattle.index_core.specs.Whole.{Adds, Moment, with_points}
 use Rattle.index_core.proofs.Answering.{cause_then, fault_to, no_cause}
 use Rattle.index_core.proofs.Bringing.{brings_same, brings_then}
 use Rattle.drawn_points.specs.Draws.{point}
@@ -26,7 +26,7 @@ use Rattle.drawn_points.specs.Generated.{document, documents, kept}
 use Rattle.generate_index.specs.Generates.{IsMade, Makes, drawn_index}
 
 abbrev pub At : Type 1
-At = Spot → Type 0
+At = Moment → Type 0
 
 on_ok_map : {T E P Q : Type 0} (r : Result T E) → (P → Q) → OnOk r P → OnOk r Q
 on_ok_map (Ok x) h p = h p
@@ -37,7 +37,7 @@ on_ok_any (Ok x) p = p
 on_ok_any (Err e) p = tt
 
 -- nothing was done
-pub makes_none : {T : Type 0} (told : Type 0) (Before : At) (at : Spot) (x : T) → Makes told Before Before at at (Ok x)
+pub makes_none : {T : Type 0} (told : Type 0) (Before : At) (at : Moment) (x : T) → Makes told Before Before at at (Ok x)
 makes_none told Before at x = record {
   made = λ t before. before;
   guards = λ t guards. guards;
@@ -51,7 +51,7 @@ makes_none told Before at x = record {
 }
 
 -- what is trusted before is so after it
-pub makes_trusts : {T : Type 0} (told : Type 0) (Before After : At) (a b : Spot) (r : Result T PageFault) → Makes told Before After a b r → told → Trusts 2 a.files a.session → Trusts 2 b.files b.session
+pub makes_trusts : {T : Type 0} (told : Type 0) (Before After : At) (a b : Moment) (r : Result T PageFault) → Makes told Before After a b r → told → Trusts 2 a.files a.session → Trusts 2 b.files b.session
 makes_trusts told Before After a b r makes t trusts = record { guards = makes.guards t trusts.guards; faithful = makes.faithful t trusts.faithful; traced = makes.traced t trusts }
 
 -- a new session has no segment
@@ -63,7 +63,7 @@ created_trusts files s guards faithful bare = record {
 }
 
 -- some, and then more
-pub makes_then : {T U : Type 0} (told : Type 0) (Before Between After : At) (a b c : Spot) (x : U) (r : Result T PageFault) → Makes told Before Between a b (Ok x) → Makes told Between After b c r → Makes told Before After a c r
+pub makes_then : {T U : Type 0} (told : Type 0) (Before Between After : At) (a b c : Moment) (x : U) (r : Result T PageFault) → Makes told Before Between a b (Ok x) → Makes told Between After b c r → Makes told Before After a c r
 makes_then told Before Between After a b c x r first second = record {
   made = λ t before. second.made t (first.made t before);
   guards = λ t guards. second.guards t (first.guards t guards);
@@ -77,7 +77,7 @@ makes_then told Before Between After a b c x r first second = record {
 }
 
 -- after a fault it says the same of all that was to come
-pub makes_stopped : {T U : Type 0} (told : Type 0) (Before After Later : At) (a b : Spot) (fault : PageFault) (r : Result U PageFault) → r ≡ Err fault → Makes {T = T} told Before After a b (Err fault)
+pub makes_stopped : {T U : Type 0} (told : Type 0) (Before After Later : At) (a b : Moment) (fault : PageFault) (r : Result U PageFault) → r ≡ Err fault → Makes {T = T} told Before After a b (Err fault)
     → Makes told Before Later a b r
 makes_stopped {T = T} {U = U} told Before After Later a b fault r is makes = subst (Makes told Before Later a b) (sym is) (record {
   made = λ t before. tt;
@@ -97,7 +97,7 @@ makes_stopped {T = T} {U = U} told Before After Later a b fault r is makes = sub
     to_other page.Memory whole = tt
 
 -- a drawn document was added
-pub makes_add : {T : Type 0} (told : Type 0) (seed n : ℕ) (p : List ℤ) (a b : Spot) (r : Result T PageFault) → p ≡ point seed n → kept 0 (documents seed n) ≡ documents seed n → kept 0 (documents seed (n + 1)) ≡ documents seed (n + 1)
+pub makes_add : {T : Type 0} (told : Type 0) (seed n : ℕ) (p : List ℤ) (a b : Moment) (r : Result T PageFault) → p ≡ point seed n → kept 0 (documents seed n) ≡ documents seed n → kept 0 (documents seed (n + 1)) ≡ documents seed (n + 1)
     → documents seed (n + 1) ≡ documents seed n ++ document seed n ∷ [] → Adds 2 told (p ∷ []) a b r → Makes told (IsMade seed n 0) (IsMade seed (n + 1) 0) a b r
 makes_add told seed n p a b r drawn all more_all more adds = record {
   made = λ t before. on_ok_map r (subst (Sees 2 b.files b.session.set) one_more) (adds.seen t (drawn_index seed n 0) before);
@@ -118,10 +118,10 @@ makes_add told seed n p a b r drawn all more_all more adds = record {
     one_more = ap (λ (docs : List Document). record (new_index 2 333) { next = n + 1; given = n + 1; docs = docs }) grown
 
 -- a call that only reads
-pub makes_reads : {T : Type 0} (told : Type 0) (i : Index) (a b : Spot) (r : Result T PageFault) → (told → Sees 2 a.files a.session.set i → Sees 2 b.files b.session.set i)
+pub makes_reads : {T : Type 0} (told : Type 0) (i : Index) (a b : Moment) (r : Result T PageFault) → (told → Sees 2 a.files a.session.set i → Sees 2 b.files b.session.set i)
     → (told → Guards 2 a.files a.session → Guards 2 b.files b.session) → (told → b.files ≡ a.files) → b.session.set.parts ≡ a.session.set.parts → HasPageCause a.faults b.faults r
     → (told → Sees 2 a.files a.session.set i → NotDamaged r) → (told → IsFaithful 2 a.files a.session.set → IsFaithful 2 b.files b.session.set)
-    → OnDamage r (IsEvident (told × IsFaithful 2 a.files a.session.set) b.files) → Makes told (λ (at : Spot). Sees 2 at.files at.session.set i) (λ (at : Spot). Sees 2 at.files at.session.set i) a b r
+    → OnDamage r (IsEvident (told × IsFaithful 2 a.files a.session.set) b.files) → Makes told (λ (at : Moment). Sees 2 at.files at.session.set i) (λ (at : Moment). Sees 2 at.files at.session.set i) a b r
 makes_reads told i a b r seen guards files parts cause whole faithful evident = record {
   made = λ t before. on_ok_any r (seen t before);
   guards = guards;
@@ -153,7 +153,7 @@ makes_deletes told seed n files faults s t x made guards faithful traced canon =
 }
 
 -- the value that is handed on is another one
-pub makes_ok : {T U : Type 0} (told : Type 0) (Before After : At) (a b : Spot) (x : T) (y : U) → Makes told Before After a b (Ok x) → Makes told Before After a b (Ok y)
+pub makes_ok : {T U : Type 0} (told : Type 0) (Before After : At) (a b : Moment) (x : T) (y : U) → Makes told Before After a b (Ok x) → Makes told Before After a b (Ok y)
 makes_ok told Before After a b x y makes = record {
   made = makes.made;
   guards = makes.guards;
@@ -167,9 +167,9 @@ makes_ok told Before After a b x y makes = record {
 }
 
 -- by another name of the number of documents
-pub makes_for : {T : Type 0} (told : Type 0) (Before : At) (seed n m : ℕ) (a b : Spot) (r : Result T PageFault) → n ≡ m → Makes told Before (IsMade seed n 0) a b r → Makes told Before (IsMade seed m 0) a b r
+pub makes_for : {T : Type 0} (told : Type 0) (Before : At) (seed n m : ℕ) (a b : Moment) (r : Result T PageFault) → n ≡ m → Makes told Before (IsMade seed n 0) a b r → Makes told Before (IsMade seed m 0) a b r
 makes_for told Before seed n m a b r same makes = subst (λ k. Makes told Before (IsMade seed k 0) a b r) same makes
 
 -- by another name of the seed
-pub makes_by : {T : Type 0} (told : Type 0) (x seed n : ℕ) (a b : Spot) (r : Result T PageFault) → x ≡ seed → Makes told (IsMade x 0 0) (IsMade x n 0) a b r → Makes told (IsMade seed 0 0) (IsMade seed n 0) a b r
+pub makes_by : {T : Type 0} (told : Type 0) (x seed n : ℕ) (a b : Moment) (r : Result T PageFault) → x ≡ seed → Makes told (IsMade x 0 0) (IsMade x n 0) a b r → Makes told (IsMade seed 0 0) (IsMade seed n 0) a b r
 makes_by told x seed n a b r same makes = subst (λ k. Makes told (IsMade k 0 0) (IsMade k n 0) a b r) same makes

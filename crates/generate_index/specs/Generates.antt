@@ -11,7 +11,7 @@ use Rattle.index_opening.specs.Evidence.{IsEvident}
 use Rattle.segment_set.specs.Faithful.{IsFaithful}
 use Rattle.index_core.specs.Effects.{BringsCanonical}
 use Rattle.index_core.specs.Sessions.{AreTraced, Guards, Trusts}
-use Rattle.index_core.specs.Whole.{Spot}
+use Rattle.index_core.specs.Whole.{Moment}
 use Rattle.drawn_points.specs.Generated.{documents, kept}
 
 -- n drawn documents, without those below the bound whose numbers are multiples of 10
@@ -23,12 +23,12 @@ abbrev pub made_docs : (seed n : ℕ) → List Document
 made_docs seed n = kept n (documents seed n)
 
 -- the session is seen as that index
-abbrev pub IsMade : (seed n bound : ℕ) → Spot → Type 0
+abbrev pub IsMade : (seed n bound : ℕ) → Moment → Type 0
 IsMade seed n bound at = Sees 2 at.files at.session.set (drawn_index seed n bound)
 
 -- From the one place to the other the session comes from the one state to the other, where it is done. What is kept
 -- stays, and each segment that is written is canonical.
-pub record Makes {T : Type 0} (told : Type 0) (Before After : Spot → Type 0) (old new : Spot)
+pub record Makes {T : Type 0} (told : Type 0) (Before After : Moment → Type 0) (old new : Moment)
     (result : Result T PageFault) : Type 0 where
   pub made : told → Before old → OnOk result (After new)
   pub guards : told → Guards 2 old.files old.session → Guards 2 new.files new.session

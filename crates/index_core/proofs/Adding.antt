@@ -38,14 +38,14 @@ use Rattle.segment_set.specs.Faults.{HasCauseOf, OnAddDamage}
 use Rattle.segment_set.specs.declared.faults.AddFault.{AddFault}
 use Rattle.segment_set.specs.declared.faults.AddFault.TheVariants as add
 use Rattle.index_core.specs.Sessions.{Guards, SessionData, Trusts}
-use Rattle.index_core.specs.Whole.{Adds, Spot, added, with_point, with_points}
+use Rattle.index_core.specs.Whole.{Adds, Moment, added, with_point, with_points}
 use Rattle.index_core.proofs.Answering.{cause_then, fault_to, memory_cause, no_cause}
 use Rattle.index_core.proofs.Bringing.{brings_same, brings_then, brings_written}
 use Rattle.index_core.proofs.Guarding.{guards_after, kept_after_calls}
 use Rattle.index_core.proofs.Tracing.{traced_by, traced_shows}
 
 -- nothing was added
-pub adds_none : {T : Type 0} (D : ℕ) (told : Type 0) (at : Spot) (x : T) → Adds D told [] at at (Ok x)
+pub adds_none : {T : Type 0} (D : ℕ) (told : Type 0) (at : Moment) (x : T) → Adds D told [] at at (Ok x)
 adds_none D told at x = record {
   seen = λ t i seen. seen;
   given = omega arith;
@@ -60,7 +60,7 @@ adds_none D told at x = record {
 }
 
 -- for want of memory nothing is
-pub adds_no_memory : {T : Type 0} (D : ℕ) (told : Type 0) (points : List (List ℤ)) (at : Spot) → Adds {T = T} D told points at at (Err page.Memory)
+pub adds_no_memory : {T : Type 0} (D : ℕ) (told : Type 0) (points : List (List ℤ)) (at : Moment) → Adds {T = T} D told points at at (Err page.Memory)
 adds_no_memory D told points at = record {
   seen = λ t i seen. tt;
   given = tt;
@@ -79,7 +79,7 @@ on_ok_map (Ok x) h p = h p
 on_ok_map (Err e) h p = tt
 
 -- some, and then more
-pub adds_then : {T U : Type 0} (D : ℕ) (told : Type 0) (xs ys : List (List ℤ)) (a b c : Spot) (x : U) (r : Result T PageFault)
+pub adds_then : {T U : Type 0} (D : ℕ) (told : Type 0) (xs ys : List (List ℤ)) (a b c : Moment) (x : U) (r : Result T PageFault)
     → Adds D told xs a b (Ok x) → Adds D told ys b c r → Adds D told (xs ++ ys) a c r
 adds_then D told xs ys a b c x r first second = record {
   seen = λ t i seen. on_ok_map r (subst (Sees D c.files c.session.set) (sym (fold-append with_point i xs ys))) (second.seen t (with_points i xs) (first.seen t i seen));
@@ -98,7 +98,7 @@ adds_then D told xs ys a b c x r first second = record {
     trusts_then t trusts = record { guards = first.guards t trusts.guards; faithful = first.faithful t trusts.faithful; traced = first.traced t trusts }
 
 -- after a fault it says the same of all that were to come
-pub adds_stopped : {T U : Type 0} (D : ℕ) (told : Type 0) (xs ys : List (List ℤ)) (a b : Spot) (fault : PageFault) (r : Result U PageFault) → r ≡ Err fault
+pub adds_stopped : {T U : Type 0} (D : ℕ) (told : Type 0) (xs ys : List (List ℤ)) (a b : Moment) (fault : PageFault) (r : Result U PageFault) → r ≡ Err fault
     → Adds {T = T} D told xs a b (Err fault) → Adds D told ys a b r
 adds_stopped {T = T} {U = U} D told xs ys a b fault r is adds = subst (Adds D told ys a b) (sym is) (record {
   seen = λ t i seen. tt;
@@ -121,7 +121,7 @@ adds_stopped {T = T} {U = U} D told xs ys a b fault r is adds = subst (Adds D to
 -- ---- one document
 
 -- what the set's call says, in a session whose other parts stay
-pub record IsPut (D : ℕ) (told : Type 0) (point : List ℤ) (old new : Spot) (r : Result ℕ AddFault) : Type 0 where
+pub record IsPut (D : ℕ) (told : Type 0) (point : List ℤ) (old new : Moment) (r : Result ℕ AddFault) : Type 0 where
   pub commit : new.session.commit ≡ old.session.commit
   pub refused : new.session.refused ≡ old.session.refused
   pub leaf : new.session.set.leaf ≡ old.session.set.leaf
@@ -157,7 +157,7 @@ put_ok P (Err add.Failed) p = tt
 put_ok P (Err (add.Damaged d)) p = tt
 put_ok P (Err add.Memory) p = tt
 
-pub adds_one : (D : ℕ) (told : Type 0) (point : List ℤ) (old new : Spot) (r : Result ℕ AddFault) → IsPut D told point old new r → Adds D told (point ∷ []) old new (added r)
+pub adds_one : (D : ℕ) (told : Type 0) (point : List ℤ) (old new : Moment) (r : Result ℕ AddFault) → IsPut D told point old new r → Adds D told (point ∷ []) old new (added r)
 adds_one D told point old new r put = record {
   seen = λ t i seen. put_ok (Sees D new.files new.session.set (with_point i point)) r (put.seen t i seen);
   given = put_ok (new.session.set.given ≡ old.session.set.given + 1) r put.given;
@@ -200,20 +200,20 @@ put_given P point points before now r is given = on_ok_map r (λ (both : P × (n
 
 -- ---- of the session that the code opened
 
-pub adds_seen : {T : Type 0} (D : ℕ) (told : Type 0) (points : List (List ℤ)) (files : Files) (s u : SessionData) (faults : ℕ) (new : Spot) (r : Result T PageFault) → u ≡ s
+pub adds_seen : {T : Type 0} (D : ℕ) (told : Type 0) (points : List (List ℤ)) (files : Files) (s u : SessionData) (faults : ℕ) (new : Moment) (r : Result T PageFault) → u ≡ s
     → Adds D told points (record { files = files; session = u; faults = faults }) new r → Adds D told points (record { files = files; session = s; faults = faults }) new r
 adds_seen D told points files s u faults new r same adds = subst (λ (v : SessionData). Adds D told points (record { files = files; session = v; faults = faults }) new r) same adds
 
-pub adds_memory_as : {T : Type 0} (D : ℕ) (told : Type 0) (points : List (List ℤ)) (at : Spot) (r : Result T PageFault) → r ≡ Err page.Memory → Adds D told points at at r
+pub adds_memory_as : {T : Type 0} (D : ℕ) (told : Type 0) (points : List (List ℤ)) (at : Moment) (r : Result T PageFault) → r ≡ Err page.Memory → Adds D told points at at r
 adds_memory_as D told points at r is = subst (Adds D told points at at) (sym is) (adds_no_memory D told points at)
 
-pub adds_as : {T : Type 0} (D : ℕ) (told : Type 0) (points : List (List ℤ)) (old new : Spot) (r q : Result T PageFault) → q ≡ r → Adds D told points old new r → Adds D told points old new q
+pub adds_as : {T : Type 0} (D : ℕ) (told : Type 0) (points : List (List ℤ)) (old new : Moment) (r q : Result T PageFault) → q ≡ r → Adds D told points old new r → Adds D told points old new q
 adds_as D told points old new r q is adds = subst (Adds D told points old new) (sym is) adds
 
 -- ---- one point after the other
 
 -- one point more of the list
-pub adds_more : {T U : Type 0} (D : ℕ) (told : Type 0) (points : List (Point D)) (k : ℕ) (p : Point D) (a b c : Spot) (x : U) (r : Result T PageFault) → k < length points → p ≡ get_or points k p
+pub adds_more : {T U : Type 0} (D : ℕ) (told : Type 0) (points : List (Point D)) (k : ℕ) (p : Point D) (a b c : Moment) (x : U) (r : Result T PageFault) → k < length points → p ≡ get_or points k p
     → Adds D told (coordinates_of (take k points)) a b (Ok x) → Adds D told (p.c ∷ []) b c r → Adds D told (coordinates_of (take (k + 1) points)) a c r
 adds_more D told points k p a b c x r inside is first second =
     subst (λ (qs : List (List ℤ)). Adds D told qs a c r)
@@ -221,7 +221,7 @@ adds_more D told points k p a b c x r inside is first second =
     (adds_then D told (coordinates_of (take k points)) (p.c ∷ []) a b c x r first second)
 
 -- all of them
-pub adds_all : {T : Type 0} (D : ℕ) (told : Type 0) (points : List (Point D)) (k : ℕ) (a b : Spot) (r : Result T PageFault) → length points ≤ k → Adds D told (coordinates_of (take k points)) a b r
+pub adds_all : {T : Type 0} (D : ℕ) (told : Type 0) (points : List (Point D)) (k : ℕ) (a b : Moment) (r : Result T PageFault) → length points ≤ k → Adds D told (coordinates_of (take k points)) a b r
     → Adds D told (coordinates_of points) a b r
 adds_all D told points k a b r long adds = subst (λ (qs : List (Point D)). Adds D told (coordinates_of qs) a b r) (take_all k points long) adds
 

@@ -13,8 +13,8 @@ use Rattle.index_model.specs.State.{Index}
 use Rattle.index_model.specs.Step.{Outcome, Done, Refused}
 use Rattle.index_model.specs.declared.session.Applied.{Applied}
 use Rattle.index_model.specs.declared.session.Applied.TheVariants as applied
-use Rattle.script_lang.specs.declared.faults.Why.{Why}
-use Rattle.script_lang.specs.declared.faults.Why.TheVariants as why
+use Rattle.script_lang.specs.declared.faults.Refusal.{Refusal}
+use Rattle.script_lang.specs.declared.faults.Refusal.TheVariants as why
 use Rattle.stored_index.proofs.KeptFiles.{kept_itself}
 use Rattle.segment_set.specs.declared.faults.AddFault.{AddFault}
 use Rattle.segment_set.specs.declared.faults.AddFault.TheVariants as add
@@ -261,7 +261,7 @@ applies_done D told outcome old new x text calm does grew cause =
     applies D told outcome old new (Ok applied.Done) calm does (text, grew) (done_cause old.faults new.faults x applied.Done cause) (λ is_told i sees. tt) tt
 
 -- a command that is refused before anything is done
-pub applies_refused : (D : ℕ) (told : Type 0) (outcome : Index → Outcome) (files : Files) (session : SessionData) (text : List ℕ) (faults : ℕ) (cause : Why)
+pub applies_refused : (D : ℕ) (told : Type 0) (outcome : Index → Outcome) (files : Files) (session : SessionData) (text : List ℕ) (faults : ℕ) (cause : Refusal)
     → ((i : Index) → Sees D files session.set i → DoesOver D files (outcome i) i session.set text text (Ok (applied.Refused cause)))
     → Applies D told outcome false (record { files = files; session = session; text = text; faults = faults }) (record { files = files; session = session; text = text; faults = faults }) (Ok (applied.Refused cause))
 applies_refused D told outcome files session text faults cause does =

@@ -14,7 +14,7 @@ use Rattle.documents.proofs.Kept.{among_hits}
 use Rattle.documents.proofs.Lists.{filter_alike}
 use Rattle.script_lang.specs.Requests as asks
 use Rattle.script_lang.specs.Replies.{deleted_text, doc_text, ok_text}
-use Rattle.script_lang.specs.declared.faults.Why.TheVariants as why
+use Rattle.script_lang.specs.declared.faults.Refusal.TheVariants as why
 use Rattle.index_model.specs.State.{Index, Snapshot, snapshot_of, viewed_docs}
 use Rattle.index_model.specs.Step.{Done, Refused, answered, step_on}
 use Rattle.index_model.specs.declared.session.Applied.TheVariants as applied

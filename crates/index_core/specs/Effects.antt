@@ -16,7 +16,7 @@ use Rattle.segment_set.specs.Sets.{BegunMerge, SetData, pins_of, sizes_of}
 use Rattle.segment_set.specs.Seen.{Sees, StandsOver}
 use Rattle.segment_set.specs.Kept.{AreCanonical, HasCanonical, StaysButMerge}
 use Rattle.segment_set.specs.Merged.{IsEnded, IsTidy, chosen_ids, free_ids, free_parts}
-use Rattle.segment_set.specs.Settles.{MergesParts, spot}
+use Rattle.segment_set.specs.Settles.{MergesParts, moment}
 use Rattle.index_core.specs.Sessions.{IsStill, SessionData}
 
 -- P holds where the command is done
@@ -63,7 +63,7 @@ pub record IsMergedAll (D : ℕ) (told : Type 0) (files new_files : Files) (s t 
   pub all_live : told → (i : Index) → Sees D files s i → (c : Contents) → StandsOver D new_files c t
       → All (λ p. All (λ x. is_live p.live x.doc ≡ true) (c p.head.id)) (free_parts t)
   pub still : IsTidy s → t ≡ s
-  pub merged : IsTidy s ⊎ MergesParts D told (free_ids s) (spot files s) (spot new_files t)
+  pub merged : IsTidy s ⊎ MergesParts D told (free_ids s) (moment files s) (moment new_files t)
   pub canon : told → AreCanonical D new_files s.names t.parts
 
 -- a merge is begun of the segments at these positions, and all else is as before

@@ -2,7 +2,7 @@
 use Rattle.std.specs.Prelude.{ℕ, List, take, Result, Ok, Err}
 use Rattle.page_cache.specs.declared.faults.PageFault.{PageFault}
 use Rattle.page_cache.specs.declared.faults.PageFault.TheVariants as page
-use Rattle.script_lang.specs.declared.faults.Why.TheVariants as why
+use Rattle.script_lang.specs.declared.faults.Refusal.TheVariants as why
 use Rattle.index_model.specs.declared.session.Applied.{Applied}
 use Rattle.index_model.specs.declared.session.Applied.TheVariants as applied
 use Rattle.segment_set.specs.declared.faults.AddFault.{AddFault}

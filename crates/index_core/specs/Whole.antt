@@ -39,14 +39,14 @@ abbrev pub with_points : Index → List (List ℤ) → Index
 with_points i points = fold with_point i points
 
 -- a session between two calls: with the files of its folder, and the folder's faults
-pub record Spot : Type 0 where
+pub record Moment : Type 0 where
   pub files : Files
   pub session : SessionData
   pub faults : ℕ
 
 -- From the one place to the other a document came for each point, where it is done; after a fault some of them may
 -- have come. What is kept stays, and each segment that is written is canonical.
-pub record Adds {T : Type 0} (D : ℕ) (told : Type 0) (points : List (List ℤ)) (old new : Spot)
+pub record Adds {T : Type 0} (D : ℕ) (told : Type 0) (points : List (List ℤ)) (old new : Moment)
     (result : Result T PageFault) : Type 0 where
   pub seen : told → (i : Index) → Sees D old.files old.session.set i
       → OnOk result (Sees D new.files new.session.set (with_points i points))

@@ -21,7 +21,7 @@ use index_model::{Applied, MAX_POINTS};
 use outer_io::Folder;
 use page_cache::PageFault;
 use point_codec::{Name, Point, Points, View};
-use script_lang::{Why, put_deleted, put_doc, put_ok};
+use script_lang::{Refusal, put_deleted, put_doc, put_ok};
 use std::alloc::Global;
 use std::marker::Sync;
 use std::thread::Threads;
@@ -65,7 +65,7 @@ impl<const D: usize> Session<D> {
         ensures barred { 2 ^ 24 < self.old.set.given + length points.now → IsOk result }
     {
         if self.is_full(points) {
-            return Ok(Applied::Refused(Why::Full));
+            return Ok(Applied::Refused(Refusal::Full));
         }
         put_doc(out, self.set.next())?;
         add_answer(self.set.add(rt, alloc, folder, points, gate))
@@ -240,7 +240,7 @@ impl<const D: usize> Session<D> {
             (F.files folder.new) self.old self.new result }
     {
         if self.set.is_merging() {
-            return Ok(Applied::Refused(Why::Begun));
+            return Ok(Applied::Refused(Refusal::Begun));
         }
         put_ok(out)?;
         begin_answer(self.set.merge_begin(rt, alloc, folder, which, gate))
@@ -277,7 +277,7 @@ impl<const D: usize> Session<D> {
             (F.files folder.new) self.old self.new result }
     {
         if !self.set.is_merging() {
-            return Ok(Applied::Refused(Why::NotBegun));
+            return Ok(Applied::Refused(Refusal::NotBegun));
         }
         put_ok(out)?;
         end_answer(self.set.merge_end(alloc, folder))
@@ -316,7 +316,7 @@ impl<const D: usize> Session<D> {
         ensures still { (files : Files) → OnRefused result (IsStill (Unit {0}) files files self.old self.new) }
     {
         if !self.set.has_snapshot(name) {
-            return Ok(Applied::Refused(Why::UnknownSnapshot));
+            return Ok(Applied::Refused(Refusal::UnknownSnapshot));
         }
         put_ok(out)?;
         self.set.release(name);

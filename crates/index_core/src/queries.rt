@@ -22,7 +22,7 @@ use page_cache::PageFault;
 use point_codec::{Point, View};
 use polygon_query::PolygonShape;
 use ring_parity::Rings;
-use script_lang::{Why, put_hits, put_near};
+use script_lang::{Refusal, put_hits, put_near};
 use std::alloc::Global;
 
 impl<const D: usize> Session<D> {
@@ -69,7 +69,7 @@ impl<const D: usize> Session<D> {
         ensures unread { OnRefused result (F.reads folder.new ≡ F.reads folder.old) }
     {
         if !self.has_view(view) {
-            return Ok(Applied::Refused(Why::UnknownSnapshot));
+            return Ok(Applied::Refused(Refusal::UnknownSnapshot));
         }
         let hits = self.set.visit(alloc, folder, view, shape)?;
         put_hits(out, hits.as_slice())?;
@@ -146,7 +146,7 @@ impl<const D: usize> Session<D> {
         ensures unread { OnRefused result (F.reads folder.new ≡ F.reads folder.old) }
     {
         if !self.has_view(view) {
-            return Ok(Applied::Refused(Why::UnknownSnapshot));
+            return Ok(Applied::Refused(Refusal::UnknownSnapshot));
         }
         let found = self.set.nearest(alloc, folder, view, at, k)?;
         put_near(out, found.as_slice())?;

@@ -5,7 +5,7 @@ ghost use Rattle.index_core.specs.Replies.{add_answer, begin_answer, end_answer,
 
 use index_model::Applied;
 use page_cache::PageFault;
-use script_lang::Why;
+use script_lang::Refusal;
 use segment_set::{AddFault, BeginFault, EndFault, SnapFault};
 
 /// Of a document to be added.
@@ -14,7 +14,7 @@ pub(crate) fn add_answer(done: Result<u32, AddFault>) -> Result<Applied, PageFau
 {
     match done {
         Ok(_) => Ok(Applied::Done),
-        Err(AddFault::Full) => Ok(Applied::Refused(Why::Full)),
+        Err(AddFault::Full) => Ok(Applied::Refused(Refusal::Full)),
         Err(AddFault::Failed) => Err(PageFault::Failed),
         Err(AddFault::Damaged(damage)) => Err(PageFault::Damaged(damage)),
         Err(AddFault::Memory) => Err(PageFault::Memory),
@@ -27,7 +27,7 @@ pub(crate) fn begin_answer(done: Result<(), BeginFault>) -> Result<Applied, Page
 {
     match done {
         Ok(()) => Ok(Applied::Done),
-        Err(BeginFault::Begun) => Ok(Applied::Refused(Why::Begun)),
+        Err(BeginFault::Begun) => Ok(Applied::Refused(Refusal::Begun)),
         Err(BeginFault::Failed) => Err(PageFault::Failed),
         Err(BeginFault::Damaged(damage)) => Err(PageFault::Damaged(damage)),
         Err(BeginFault::Memory) => Err(PageFault::Memory),
@@ -40,7 +40,7 @@ pub(crate) fn end_answer(done: Result<(), EndFault>) -> Result<Applied, PageFaul
 {
     match done {
         Ok(()) => Ok(Applied::Done),
-        Err(EndFault::NotBegun) => Ok(Applied::Refused(Why::NotBegun)),
+        Err(EndFault::NotBegun) => Ok(Applied::Refused(Refusal::NotBegun)),
         Err(EndFault::Failed) => Err(PageFault::Failed),
         Err(EndFault::Damaged(damage)) => Err(PageFault::Damaged(damage)),
         Err(EndFault::Memory) => Err(PageFault::Memory),
@@ -53,8 +53,8 @@ pub(crate) fn snap_answer(done: Result<(), SnapFault>) -> Result<Applied, PageFa
 {
     match done {
         Ok(()) => Ok(Applied::Done),
-        Err(SnapFault::Taken) => Ok(Applied::Refused(Why::NameTaken)),
-        Err(SnapFault::TooMany) => Ok(Applied::Refused(Why::TooManySnapshots)),
+        Err(SnapFault::Taken) => Ok(Applied::Refused(Refusal::NameTaken)),
+        Err(SnapFault::TooMany) => Ok(Applied::Refused(Refusal::TooManySnapshots)),
         Err(SnapFault::Memory) => Err(PageFault::Memory),
     }
 }

@@ -27,7 +27,7 @@ use commit_list::Commit;
 use index_model::Applied;
 use outer_io::Folder;
 use page_cache::{Memory, PageFault};
-use script_lang::{Command, Why};
+use script_lang::{Command, Refusal};
 use segment_set::{SegmentSet, Settings};
 use std::alloc::Global;
 use std::marker::{Model, Sync};
@@ -249,7 +249,7 @@ impl<const D: usize> Session<D> {
     {
         match c {
             Command::Blank => Ok(Applied::Done),
-            Command::Create { dims: _, leaf: _ } => Ok(Applied::Refused(Why::Exists)),
+            Command::Create { dims: _, leaf: _ } => Ok(Applied::Refused(Refusal::Exists)),
             Command::Add(points) => self.add(rt, alloc, folder, points, out, gate),
             Command::Delete(doc) => self.delete(*doc, out),
             Command::DeleteBox { lo, hi } => self.delete_box(alloc, folder, lo, hi, out),

@@ -1,6 +1,6 @@
 -- What a line of a script answers and leaves.
 use Rattle.std.specs.Prelude.{ℕ, List}
-use Rattle.script_lang.specs.Replies.{why_text}
+use Rattle.script_lang.specs.Replies.{refused_text}
 use Rattle.index_model.specs.State.{State}
 use Rattle.index_model.specs.Step.{Outcome, Done, Refused}
 
@@ -12,4 +12,4 @@ pub record Answer : Type 0 where
 
 abbrev pub answer_to : ℕ → State → Outcome → Answer
 answer_to line state (Done after text) = record { state = after; text = text; refused = 0 }
-answer_to line state (Refused cause) = record { state = state; text = why_text line cause; refused = 1 }
+answer_to line state (Refused cause) = record { state = state; text = refused_text line cause; refused = 1 }

@@ -9,18 +9,18 @@ use Rattle.documents.specs.Nearest.{nearest}
 use Rattle.script_lang.specs.Requests.{Request}
 use Rattle.script_lang.specs.Requests as asks
 use Rattle.script_lang.specs.Replies.{ok_text, doc_text, deleted_text, hits_text, near_text}
-use Rattle.script_lang.specs.declared.faults.Why.{Why}
-use Rattle.script_lang.specs.declared.faults.Why.TheVariants as why
+use Rattle.script_lang.specs.declared.faults.Refusal.{Refusal}
+use Rattle.script_lang.specs.declared.faults.Refusal.TheVariants as why
 use Rattle.index_model.specs.State.{Index, State, new_index, snapshot_of, viewed_docs, at_rest}
 
 -- a request is done, with the state after it and the text of its answer, or refused, which leaves the state
 pub data Outcome : Type 0 where
   Done : (state : State) (text : List ℕ) → Outcome
-  Refused : (cause : Why) → Outcome
+  Refused : (cause : Refusal) → Outcome
 
 -- the index goes on like this, and the answer is `ok`
-abbrev pub fine : Index → Outcome
-fine i = Done (Some i) ok_text
+abbrev pub done_ok : Index → Outcome
+done_ok i = Done (Some i) ok_text
 
 -- a query is answered from the documents that it looks at
 abbrev pub answered : Index → Option (List Document) → (List Document → List ℕ) → Outcome
@@ -45,13 +45,13 @@ abbrev pub snapped : List ℕ → Index → Outcome
 snapped name i =
     if is_some (snapshot_of name i.snapshots) then Refused why.NameTaken
     else if nat_le 16 (length i.snapshots) then Refused why.TooManySnapshots
-    else fine (record i { snapshots = i.snapshots ++ record { name = name; docs = i.docs } ∷ [] })
+    else done_ok (record i { snapshots = i.snapshots ++ record { name = name; docs = i.docs } ∷ [] })
 
 -- the snapshot of this name goes
 abbrev pub released : List ℕ → Index → Outcome
 released name i =
     if is_some (snapshot_of name i.snapshots)
-    then fine (record i { snapshots = filter (λ s. not (bytes_eq s.name name)) i.snapshots })
+    then done_ok (record i { snapshots = filter (λ s. not (bytes_eq s.name name)) i.snapshots })
     else Refused why.UnknownSnapshot
 
 -- p is in the polygon of these rings; in other than two dimensions no point is
@@ -74,17 +74,17 @@ step_on i (asks.InPolygon view rings) =
     answered i (viewed_docs view i) (λ docs. hits_text (hits (in_plane_polygon i.dims rings) docs))
 step_on i (asks.Nearest view k target) =
     answered i (viewed_docs view i) (λ docs. near_text (map (λ found. (found.1, found.0)) (nearest k target docs)))
-step_on i asks.Flush = fine i
-step_on i asks.Merge = fine i
-step_on i (asks.MergeBegin positions) = if i.begun then Refused why.Begun else fine (record i { begun = true })
-step_on i asks.MergeEnd = if i.begun then fine (record i { begun = false }) else Refused why.NotBegun
+step_on i asks.Flush = done_ok i
+step_on i asks.Merge = done_ok i
+step_on i (asks.MergeBegin positions) = if i.begun then Refused why.Begun else done_ok (record i { begun = true })
+step_on i asks.MergeEnd = if i.begun then done_ok (record i { begun = false }) else Refused why.NotBegun
 step_on i (asks.Snapshot name) = snapped name i
 step_on i (asks.Release name) = released name i
-step_on i asks.Commit = fine i
-step_on i asks.Reopen = fine (at_rest i)
+step_on i asks.Commit = done_ok i
+step_on i asks.Reopen = done_ok (at_rest i)
 
 -- what a request does. Without an index a line asks for nothing, or for a new one
 abbrev pub step : State → Request → Outcome
-step None (asks.Create dims leaf) = fine (new_index dims leaf)
+step None (asks.Create dims leaf) = done_ok (new_index dims leaf)
 step None request = Done None []
 step (Some i) request = step_on i request

@@ -6,7 +6,7 @@ ghost use Rattle.script_lang.specs.Replies.{hits_text};
 ghost use Rattle.script_lang.specs.Requests as asks;
 ghost use Rattle.script_lang.specs.Seen.{request_of, viewed};
 ghost use Rattle.index_model.specs.State.{Index, new_index, viewed_docs};
-ghost use Rattle.index_model.specs.Step.{Outcome, Done, step_on, added, snapped, released, fine, answered};
+ghost use Rattle.index_model.specs.Step.{Outcome, Done, step_on, added, snapped, released, done_ok, answered};
 
 use crate::held::{HeldSnapshot, delete, delete_in, is_live, release, snapshot_of};
 use cell_relate::{BoxShape, Shape};
@@ -14,7 +14,7 @@ use documents::{HeldDocument, Memory, scan_hits, scan_nearest};
 use point_codec::{Name, Point, Points, View};
 use polygon_query::PolygonShape;
 use ring_parity::Rings;
-use script_lang::{Command, Why, put_deleted, put_doc, put_hits, put_near, put_ok};
+use script_lang::{Command, Refusal, put_deleted, put_doc, put_hits, put_near, put_ok};
 use std::alloc::Global;
 use std::marker::Model;
 
@@ -22,7 +22,7 @@ use std::marker::Model;
 #[derive(Clone, Copy, PartialEq, Eq, Debug)]
 pub enum Applied {
     Done,
-    Refused(Why),
+    Refused(Refusal),
 }
 
 /// The greatest number of points that are ever given, and so of documents.
@@ -99,7 +99,7 @@ impl<const D: usize> ListSession<D> {
     {
         match c {
             Command::Blank => Ok(Applied::Done),
-            Command::Create { dims: _, leaf: _ } => Ok(Applied::Refused(Why::Exists)),
+            Command::Create { dims: _, leaf: _ } => Ok(Applied::Refused(Refusal::Exists)),
             Command::Add(points) => self.add(alloc, points, out),
             Command::Delete(doc) => self.delete(*doc, out),
             Command::DeleteBox { lo, hi } => self.delete_in(alloc, lo, hi, out),
@@ -111,13 +111,13 @@ impl<const D: usize> ListSession<D> {
             ),
             Command::Polygon { view, rings } => self.find_in(alloc, view, rings, out),
             Command::Nearest { view, k, at } => self.nearest(alloc, view, *k, at, out),
-            Command::Flush => fine(out),
-            Command::Merge => fine(out),
+            Command::Flush => done_ok(out),
+            Command::Merge => done_ok(out),
             Command::MergeBegin(_) => self.merge_begin(out),
             Command::MergeEnd => self.merge_end(out),
             Command::Snapshot(name) => self.snapshot(alloc, name, out),
             Command::Release(name) => self.release(name, out),
-            Command::Commit => fine(out),
+            Command::Commit => done_ok(out),
             Command::Reopen => self.reopen(out),
         }
     }
@@ -133,7 +133,7 @@ impl<const D: usize> ListSession<D> {
     {
         let count = points.as_slice().len() as u32;
         if self.given + count > MAX_POINTS {
-            return Ok(Applied::Refused(Why::Full));
+            return Ok(Applied::Refused(Refusal::Full));
         }
         put_doc(out, self.next)?;
         self.docs
@@ -198,7 +198,7 @@ impl<const D: usize> ListSession<D> {
             self.now self.now out.old.items out.new.items result }
     {
         let Some(docs) = self.viewed(view) else {
-            return Ok(Applied::Refused(Why::UnknownSnapshot));
+            return Ok(Applied::Refused(Refusal::UnknownSnapshot));
         };
         put_hits(out, scan_hits(alloc, docs, shape)?.as_slice())?;
         Ok(Applied::Done)
@@ -235,7 +235,7 @@ impl<const D: usize> ListSession<D> {
             result }
     {
         let Some(docs) = self.viewed(view) else {
-            return Ok(Applied::Refused(Why::UnknownSnapshot));
+            return Ok(Applied::Refused(Refusal::UnknownSnapshot));
         };
         put_near(out, scan_nearest(alloc, docs, at, k)?.as_slice())?;
         Ok(Applied::Done)
@@ -246,7 +246,7 @@ impl<const D: usize> ListSession<D> {
             → Does (step_on self.old (asks.MergeBegin positions)) self.old self.new out.old.items out.new.items result }
     {
         if self.begun {
-            return Ok(Applied::Refused(Why::Begun));
+            return Ok(Applied::Refused(Refusal::Begun));
         }
         put_ok(out)?;
         self.begun = true;
@@ -257,7 +257,7 @@ impl<const D: usize> ListSession<D> {
         ensures { Does (step_on self.old asks.MergeEnd) self.old self.new out.old.items out.new.items result }
     {
         if !self.begun {
-            return Ok(Applied::Refused(Why::NotBegun));
+            return Ok(Applied::Refused(Refusal::NotBegun));
         }
         put_ok(out)?;
         self.begun = false;
@@ -269,10 +269,10 @@ impl<const D: usize> ListSession<D> {
         ensures { Does (snapped name.now self.old) self.old self.new out.old.items out.new.items result }
     {
         if snapshot_of(self.snapshots.as_slice(), name).is_some() {
-            return Ok(Applied::Refused(Why::NameTaken));
+            return Ok(Applied::Refused(Refusal::NameTaken));
         }
         if self.snapshots.len() >= 16 {
-            return Ok(Applied::Refused(Why::TooManySnapshots));
+            return Ok(Applied::Refused(Refusal::TooManySnapshots));
         }
         put_ok(out)?;
         self.snapshots
@@ -284,7 +284,7 @@ impl<const D: usize> ListSession<D> {
         ensures { Does (released name.now self.old) self.old self.new out.old.items out.new.items result }
     {
         if snapshot_of(self.snapshots.as_slice(), name).is_none() {
-            return Ok(Applied::Refused(Why::UnknownSnapshot));
+            return Ok(Applied::Refused(Refusal::UnknownSnapshot));
         }
         put_ok(out)?;
         release(&mut self.snapshots, name);
@@ -304,8 +304,8 @@ impl<const D: usize> ListSession<D> {
 ghost use Rattle.index_model.specs.Sessions.{Does};
 
 /// Answers `ok`, where nothing changes.
-fn fine(out: &mut Vec<u8>) -> Result<Applied, Memory>
-    ensures { (i : Index) → Does (fine i) i i out.old.items out.new.items result }
+fn done_ok(out: &mut Vec<u8>) -> Result<Applied, Memory>
+    ensures { (i : Index) → Does (done_ok i) i i out.old.items out.new.items result }
 {
     put_ok(out)?;
     Ok(Applied::Done)

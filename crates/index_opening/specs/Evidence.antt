@@ -23,7 +23,7 @@ use Rattle.segment_file.specs.Damages.{AreHeadPair, AsksFor, BeginsNoHead, Begin
 use Rattle.stored_index.specs.Segments.{SegmentData, all_live_entries, places}
 use Rattle.stored_index.specs.Stored.{HasLive, HaveLive, HoldAll}
 use Rattle.segment_view.specs.Parts.{Part}
-use Rattle.number_checks.specs.Crowded.{IsCrowded}
+use Rattle.document_checks.specs.Crowded.{IsCrowded}
 use Rattle.index_opening.specs.Damages.{IsPair}
 
 -- ---- by what it carries

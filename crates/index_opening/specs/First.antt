@@ -14,8 +14,8 @@ use Rattle.commit_list.specs.Commits.{CommitData}
 use Rattle.segment_file.specs.Heads.{Head}
 use Rattle.stored_index.specs.Stored.{HasHead}
 use Rattle.segment_view.specs.Parts.{Part, lives_of}
-use Rattle.number_checks.specs.Placed.{IsLeastMisplaced}
-use Rattle.number_checks.specs.declared.told.Misplaced.TheVariants as misplaced
+use Rattle.document_checks.specs.Placed.{IsLeastMisplaced}
+use Rattle.document_checks.specs.declared.told.Misplaced.TheVariants as misplaced
 use Rattle.index_opening.specs.Opened.{IsOpened}
 
 -- the damage is one of this file

@@ -22,8 +22,8 @@ ghost use Rattle.index_opening.specs.First.{IsFirstIn, IsFirstListed, IsOfFile, 
 ghost use Rattle.index_opening.specs.Opened.{IsOpened};
 
 use commit_list::{Commit, Listed};
+use document_checks::{Misplaced, misplaced};
 use live_bits::LiveBits;
-use number_checks::{Misplaced, misplaced};
 use outer_io::{FileName, Folder};
 use page_cache::{Damage, PageFault};
 use segment_file::{SegmentHead, open_segment, read_live};

@@ -12,7 +12,7 @@ ghost use Rattle.segment_file.specs.Heads.{Head};
 ghost use Rattle.stored_index.specs.Opening.{segments_pages};
 ghost use Rattle.stored_index.specs.Stored.{HaveHeads, HaveLive, IsUndefined};
 ghost use Rattle.segment_view.specs.Parts.{lives_of};
-ghost use Rattle.number_checks.specs.Placed.{IsPlaced};
+ghost use Rattle.document_checks.specs.Placed.{IsPlaced};
 ghost use Rattle.index_opening.specs.First.{IsFirstOpened};
 ghost use Rattle.index_opening.specs.Opened.{IsOpened};
 ghost use Rattle.index_opening.specs.Evidence.{IsEvident, IsFound};

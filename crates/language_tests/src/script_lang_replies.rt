@@ -8,8 +8,8 @@ use script_lang::LineFault::{
     BadK, BadName, Dims, Geo, LeafSize, NoIndex, NotTwo, NotUtf8, Number, TooLong, Unknown, Words,
 };
 use script_lang::{
-    First, LineFault, Why, first_line, put_deleted, put_doc, put_hits, put_line_fault, put_near,
-    put_ok, put_why,
+    First, LineFault, Refusal, first_line, put_deleted, put_doc, put_hits, put_line_fault,
+    put_near, put_ok, put_refusal,
 };
 use std::test::Fail;
 
@@ -119,15 +119,15 @@ const EVERY_FAULT: [LineFault; 17] = [
     Geo(GeoFault::NotClosed { ring: 10 }),
 ];
 
-const EVERY_REASON: [Why; 8] = [
-    Why::Exists,
-    Why::Full,
-    Why::Begun,
-    Why::NotBegun,
-    Why::UnknownSnapshot,
-    Why::NameTaken,
-    Why::TooManySnapshots,
-    Why::NotQuery,
+const EVERY_REASON: [Refusal; 8] = [
+    Refusal::Exists,
+    Refusal::Full,
+    Refusal::Begun,
+    Refusal::NotBegun,
+    Refusal::UnknownSnapshot,
+    Refusal::NameTaken,
+    Refusal::TooManySnapshots,
+    Refusal::NotQuery,
 ];
 
 #[test]
@@ -137,7 +137,7 @@ fn refusals(rt: HostRuntime) -> Result<(), Fail> {
         put_line_fault(&mut out, 12, &fault)?;
     }
     for why in EVERY_REASON {
-        put_why(&mut out, 3, why)?;
+        put_refusal(&mut out, 3, why)?;
     }
     same(&rt, out.as_slice(), REFUSALS);
     Ok(())

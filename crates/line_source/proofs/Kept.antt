@@ -4,7 +4,7 @@ use Rattle.std.specs.Prelude.{◌==◌, nat_lt, slice_index}
 use Rattle.std.specs.Str.Lines.{strip_carriage_return}
 use Rattle.std.proofs.lemmas.Bool.Decides.{nat_tests}
 use Rattle.std.proofs.lemmas.List.{length-take-le, take_all}
-use Rattle.script_lang.specs.Reading.{given, read, read_words, text_of}
+use Rattle.script_lang.specs.Reading.{on_success, read, read_words, text_of}
 use Rattle.script_lang.specs.Lines.{words_of}
 use Rattle.script_lang.specs.declared.faults.LineFault.TheVariants as fault
 use Rattle.line_source.specs.Reader.{kept}
@@ -30,4 +30,4 @@ kept_text line = elim (short_or_long (length line) 4194306) as (λ _. text_of (k
 -- it is too long just where the line is, and else it is the line
 pub kept_reads : (dims : Option ℕ) (line : List ℕ) → read dims (kept line) ≡ read dims line
 unfolding read
-kept_reads dims line = ap (λ text. given text (λ words. read_words dims (words_of words) words)) (kept_text line)
+kept_reads dims line = ap (λ text. on_success text (λ words. read_words dims (words_of words) words)) (kept_text line)

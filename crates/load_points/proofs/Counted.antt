@@ -5,11 +5,11 @@ use Rattle.index_model.specs.State.{Index, State, at_rest}
 use Rattle.index_model.specs.Script.{Answer}
 use Rattle.index_model.specs.Step.{Done, Refused, step_on}
 use Rattle.script_lang.specs.Replies.{doc_text}
-use Rattle.script_lang.specs.declared.faults.Why.TheVariants as why
+use Rattle.script_lang.specs.declared.faults.Refusal.TheVariants as why
 use Rattle.index_core.specs.Whole.{with_point, with_points}
 use Rattle.csv_load.specs.Loading.{points_of, records_of}
 use Rattle.csv_load.specs.declared.CsvFault.{CsvFault}
-use Rattle.load_points.specs.Loaded.{added, dims_text, full_text, given_of, left_by, loaded, loaded_by, loaded_text, matched, next_of, opened, refusal, with_document, with_documents}
+use Rattle.load_points.specs.Loaded.{added, dims_text, full_text, given_of, left_by, load_answer, loaded_by, loaded_text, matched, next_of, opened, refusal, with_document, with_documents}
 
 some_inj : {X : Type 0} (x y : X) → Some x ≡ Some y → x ≡ y
 some_inj x y e = cc
@@ -90,10 +90,10 @@ rest_done i points rests = rest_with i points ∙ ap (λ (j : Index). with_point
 -- ---- what the file gives
 
 pub loaded_points : (D : ℕ) (stored : State) (input : List ℕ) (names : List (List ℕ)) (points : List (List ℤ)) → length names ≡ D → points_of names (records_of input) ≡ Ok points
-    → loaded stored input names ≡ matched D stored points
-unfolding loaded
+    → load_answer stored input names ≡ matched D stored points
+unfolding load_answer
 loaded_points D stored input names points named gives = ap (loaded_by names stored) gives ∙ ap (λ n. matched n stored points) named
 
-pub loaded_fault : (stored : State) (input : List ℕ) (names : List (List ℕ)) (fault : CsvFault) → points_of names (records_of input) ≡ Err fault → loaded stored input names ≡ loaded_by names stored (Err fault)
-unfolding loaded
+pub loaded_fault : (stored : State) (input : List ℕ) (names : List (List ℕ)) (fault : CsvFault) → points_of names (records_of input) ≡ Err fault → load_answer stored input names ≡ loaded_by names stored (Err fault)
+unfolding load_answer
 loaded_fault stored input names fault fails = ap (loaded_by names stored) fails

@@ -27,11 +27,11 @@ use Rattle.index_opening.proofs.Evident.{on_commit_evident, on_evident_at, on_ev
 use Rattle.index_core.specs.Sessions.{AreTraced, Guards, IsTraced, IsUnchanged, SessionData, Trusts}
 use Rattle.index_core.specs.Light.{KeepsLevels}
 use Rattle.index_core.specs.Steps.{FaultKeeps, KeepsUndone}
-use Rattle.index_core.specs.Whole.{Adds, DoesWhole, HasNewCanonical, IsNewSegment, Spot, with_point, with_points}
+use Rattle.index_core.specs.Whole.{Adds, DoesWhole, HasNewCanonical, IsNewSegment, Moment, with_point, with_points}
 use Rattle.index_core.proofs.Answering.{cause_then, fault_to, memory_cause, no_cause}
 use Rattle.csv_load.specs.Loading.{points_of, records_of}
 use Rattle.csv_load.specs.declared.CsvFault.{CsvFault}
-use Rattle.load_points.specs.Loaded.{dims_text, full_text, loaded, loaded_by, loaded_text, matched, opened, refusal}
+use Rattle.load_points.specs.Loaded.{dims_text, full_text, load_answer, loaded_by, loaded_text, matched, opened, refusal}
 use Rattle.load_points.specs.Loads.{HasDims, IsLoading, Loads, Place, StartsFrom, StartsNone}
 use Rattle.load_points.proofs.Counted.{added_is, done_answer, full_is, loaded_fault, loaded_points, matched_is, matched_not, rest_done}
 use Rattle.index_core.proofs.Bringing.{brings_then}
@@ -195,7 +195,7 @@ fitting D files s stored points l fits =
     matched_is D stored l.index points l.is l.seen.dims ∙ added_is D stored l.index points l.is (subst (λ n. n + length points ≤ 2 ^ 24) (sym l.seen.given) fits)
 
 -- a fault while they are added: what was stored is
-pub adding_stopped : {T : Type 0} (D : ℕ) (told : Type 0) (answer : State → Answer) (points : List (List ℤ)) (a b : Spot) (before after : List ℕ) (fault : PageFault) (r : Result Bool PageFault) → r ≡ Err fault
+pub adding_stopped : {T : Type 0} (D : ℕ) (told : Type 0) (answer : State → Answer) (points : List (List ℤ)) (a b : Moment) (before after : List ℕ) (fault : PageFault) (r : Result Bool PageFault) → r ≡ Err fault
     → Adds {T = T} D told points a b (Err fault)
     → Loads told (Trusts D a.files a.session) (IsLoading D a.files a.session) answer (record { files = a.files; faults = a.faults; text = before }) (record { files = b.files; faults = b.faults; text = after }) r
 adding_stopped {T = T} D told answer points a b before after fault r is adds = loads_fault told (Trusts D a.files a.session) (IsLoading D a.files a.session) answer _ _ fault r is
@@ -203,7 +203,7 @@ adding_stopped {T = T} D told answer points a b before after fault r is adds = l
     (λ t stored l. adds.whole t l.index l.seen) adds.cause adds.evident (λ t h. fault_kept a.files b.files (adds.kept t h.guards) fault)
 
 -- a fault of the commit after them: what was stored is, or all of it
-pub commit_stopped : {T U : Type 0} (D : ℕ) (told : Type 0) (points : List (List ℤ)) (a b c : Spot) (x : U) (before after : List ℕ) (fault : PageFault) (r : Result Bool PageFault) → r ≡ Err fault
+pub commit_stopped : {T U : Type 0} (D : ℕ) (told : Type 0) (points : List (List ℤ)) (a b c : Moment) (x : U) (before after : List ℕ) (fault : PageFault) (r : Result Bool PageFault) → r ≡ Err fault
     → a.session.set.given + length points ≤ 2 ^ 24 → Adds D told points a b (Ok x) → IsCommitted {T = T} D told b c (Err fault)
     → OnDamage {T = T} (Err fault) (IsEvident (told × Trusts D b.files b.session) c.files)
     → Loads told (Trusts D a.files a.session) (IsLoading D a.files a.session) (λ stored. matched D stored points) (record { files = a.files; faults = a.faults; text = before }) (record { files = c.files; faults = c.faults; text = after }) r
@@ -220,7 +220,7 @@ commit_stopped {T = T} D told points a b c x before after fault r is fits adds c
     (λ t h. undone_after {T = T} a.files b.files c.files (Err fault) (adds.kept t h.guards) (commits.undone t (adds.guards t h.guards)))
 
 -- all came, and are stored
-pub all_loaded : {T U : Type 0} (D : ℕ) (told : Type 0) (points : List (List ℤ)) (a b c : Spot) (x : U) (y : T) (next : ℕ) (before after : List ℕ)
+pub all_loaded : {T U : Type 0} (D : ℕ) (told : Type 0) (points : List (List ℤ)) (a b c : Moment) (x : U) (y : T) (next : ℕ) (before after : List ℕ)
     → a.session.set.given + length points ≤ 2 ^ 24 → next ≡ a.session.set.next → after ≡ before ++ loaded_text (length points) (next + length points)
     → Adds D told points a b (Ok x) → IsCommitted D told b c (Ok y)
     → Loads told (Trusts D a.files a.session) (IsLoading D a.files a.session) (λ stored. matched D stored points) (record { files = a.files; faults = a.faults; text = before }) (record { files = c.files; faults = c.faults; text = after }) (Ok false)
@@ -259,7 +259,7 @@ told_count before after count next many grew counted = grew ∙ ap (λ (n : ℕ)
 pub file_refused : (told trusts : Type 0) (Starts : Starting) (files : Files) (faults : ℕ) (before after : List ℕ) (input : List ℕ) (names : List (List ℕ)) (fault : CsvFault) (r : Result Bool PageFault)
     → ((stored : State) → Starts stored → IsStored files stored) → points_of names (records_of input) ≡ Err fault
     → Loads (Unit {0}) (Unit {0}) (IsStored files) (λ stored. loaded_by names stored (Err fault)) (record { files = files; faults = faults; text = before }) (record { files = files; faults = faults; text = after }) r
-    → Loads told trusts Starts (λ stored. loaded stored input names) (record { files = files; faults = faults; text = before }) (record { files = files; faults = faults; text = after }) r
+    → Loads told trusts Starts (λ stored. load_answer stored input names) (record { files = files; faults = faults; text = before }) (record { files = files; faults = faults; text = after }) r
 file_refused told trusts Starts files faults before after input names fault r keeps fails loads =
     loads_as told trusts (Unit {0}) Starts (IsStored files) _ _ _ _ r (λ h. tt) keeps (λ stored h. loaded_fault stored input names fault fails) (loads_told told (Unit {0}) (IsStored files) _ _ _ r loads)
 
@@ -309,7 +309,7 @@ stored_still_there old new stored same h = subst (λ (f : Files). IsStored f sto
 
 -- as many columns as the index that is there hasn't dimensions
 pub dims_refused : (files : Files) (dims : ℕ) (stored : State) (input : List ℕ) (names : List (List ℕ)) (points : List (List ℤ)) → (length names ≡ dims → ⊥) → points_of names (records_of input) ≡ Ok points → HasDims files dims stored
-    → loaded stored input names ≡ refusal stored (dims_text dims)
+    → load_answer stored input names ≡ refusal stored (dims_text dims)
 dims_refused files dims stored input names points other gives (is_stored, (i, is, has)) =
     loaded_points (length names) stored input names points refl gives
     ∙ ap (λ (o : State). matched (length names) o points) is

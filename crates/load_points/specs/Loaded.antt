@@ -90,5 +90,5 @@ loaded_by names state (Err fault) = refusal state (csv_text names fault)
 
 -- The answer to loading a file by columns of these names. The first refusal counts: a fault of the file, another number
 -- of dimensions, too many points.
-unfoldable pub loaded : State → (input : List ℕ) → (names : List (List ℕ)) → Answer
-loaded state input names = loaded_by names state (points_of names (records_of input))
+unfoldable pub load_answer : State → (input : List ℕ) → (names : List (List ℕ)) → Answer
+load_answer state input names = loaded_by names state (points_of names (records_of input))

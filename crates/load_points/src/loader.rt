@@ -16,7 +16,7 @@ ghost use Rattle.index_core.specs.Sessions.{Trusts};
 ghost use Rattle.index_core.specs.Light.{KeepsLevels};
 ghost use Rattle.index_core.specs.Steps.{KeepsUndone};
 ghost use Rattle.index_core.specs.Whole.{DoesWhole, HasNewCanonical};
-ghost use Rattle.load_points.specs.Loaded.{loaded, loaded_by, matched};
+ghost use Rattle.load_points.specs.Loaded.{load_answer, loaded_by, matched};
 ghost use Rattle.load_points.specs.Loads.{HasDims, IsLoading, Loads, StartsFrom, StartsNone};
 
 use crate::texts::{put_csv_fault, put_dims, put_full, put_loaded};
@@ -50,7 +50,7 @@ pub fn load<R: Threads + Sync, F: Folder, G: Gate>(
     requires few { length columns.now ≤ 8 }
     ensures loads { IsTrue F.told → (state : State) → IsStored (F.files folder.old) state
         → DoesWhole (F.files folder.new) state
-        (loaded state input.now columns.now) text.old.items text.new.items result }
+        (load_answer state input.now columns.now) text.old.items text.new.items result }
     ensures unchanged { IsTrue F.told
         → IfOk result (λ refused. refused ≡ true → F.files folder.new ≡ F.files folder.old) }
     ensures canon { IsTrue F.told → (state : State) → IsStored (F.files folder.old) state
@@ -80,7 +80,7 @@ fn load_first<R: Threads + Sync, F: Folder, G: Gate>(
     requires some { 1 ≤ length columns.now }
     requires few { length columns.now ≤ 8 }
     ensures { Loads (IsTrue F.told) (F.files folder.old CommitName ≡ None) (StartsNone (F.files folder.old))
-        (λ stored. loaded stored input.now columns.now)
+        (λ stored. load_answer stored input.now columns.now)
         (record { files = F.files folder.old; faults = F.faults folder.old; text = text.old.items })
         (record { files = F.files folder.new; faults = F.faults folder.new; text = text.new.items }) result }
 {
@@ -108,7 +108,7 @@ fn load_new<const D: usize, R: Threads + Sync, F: Folder, G: Gate>(
     requires few { D ≤ 8 }
     requires named { length columns.now ≡ D }
     ensures { Loads (IsTrue F.told) (F.files folder.old CommitName ≡ None) (StartsNone (F.files folder.old))
-        (λ stored. loaded stored input.now columns.now)
+        (λ stored. load_answer stored input.now columns.now)
         (record { files = F.files folder.old; faults = F.faults folder.old; text = text.old.items })
         (record { files = F.files folder.new; faults = F.faults folder.new; text = text.new.items }) result }
 {
@@ -130,7 +130,7 @@ fn load_stored<R: Threads + Sync, F: Folder, G: Gate>(
     requires some { 1 ≤ length columns.now }
     requires few { length columns.now ≤ 8 }
     ensures { Loads (IsTrue F.told) (IsCommitFile (bytes_of (F.files folder.old CommitName)) commit)
-        (StartsFrom (F.files folder.old) commit) (λ stored. loaded stored input.now columns.now)
+        (StartsFrom (F.files folder.old) commit) (λ stored. load_answer stored input.now columns.now)
         (record { files = F.files folder.old; faults = F.faults folder.old; text = text.old.items })
         (record { files = F.files folder.new; faults = F.faults folder.new; text = text.new.items }) result }
 {
@@ -161,7 +161,7 @@ fn load_over<const D: usize, R: Threads + Sync, F: Folder, G: Gate>(
     requires some { 1 ≤ length columns.now }
     requires few { length columns.now ≤ 8 }
     ensures { Loads (IsTrue F.told) (IsCommitFile (bytes_of (F.files folder.old CommitName)) commit)
-        (StartsFrom (F.files folder.old) commit) (λ stored. loaded stored input.now columns.now)
+        (StartsFrom (F.files folder.old) commit) (λ stored. load_answer stored input.now columns.now)
         (record { files = F.files folder.old; faults = F.faults folder.old; text = text.old.items })
         (record { files = F.files folder.new; faults = F.faults folder.new; text = text.new.items }) result }
 {
@@ -187,7 +187,7 @@ fn load_open<const D: usize, R: Threads + Sync, F: Folder, G: Gate>(
     requires few { length columns.now ≤ 8 }
     ensures { Loads (IsTrue F.told) (Trusts D (F.files folder.old) session.old)
         (λ stored. IsLoading D (F.files folder.old) session.old stored × HasDims (F.files folder.old) D stored)
-        (λ stored. loaded stored input.now columns.now)
+        (λ stored. load_answer stored input.now columns.now)
         (record { files = F.files folder.old; faults = F.faults folder.old; text = text.old.items })
         (record { files = F.files folder.new; faults = F.faults folder.new; text = text.new.items }) result }
 {
@@ -212,7 +212,7 @@ fn load_into<const D: usize, R: Threads + Sync, F: Folder, G: Gate>(
     requires few { D ≤ 8 }
     requires named { length columns.now ≡ D }
     ensures { Loads (IsTrue F.told) (Trusts D (F.files folder.old) session.old)
-        (IsLoading D (F.files folder.old) session.old) (λ stored. loaded stored input.now columns.now)
+        (IsLoading D (F.files folder.old) session.old) (λ stored. load_answer stored input.now columns.now)
         (record { files = F.files folder.old; faults = F.faults folder.old; text = text.old.items })
         (record { files = F.files folder.new; faults = F.faults folder.new; text = text.new.items }) result }
 {
@@ -292,7 +292,7 @@ fn refuse_dims(
     requires few { length columns.now ≤ 8 }
     requires other { length columns.now ≢ dims }
     ensures { (files : Files) (faults : ℕ)
-        → Loads (Unit {0}) (Unit {0}) (HasDims files dims) (λ stored. loaded stored input.now columns.now)
+        → Loads (Unit {0}) (Unit {0}) (HasDims files dims) (λ stored. load_answer stored input.now columns.now)
         (record { files = files; faults = faults; text = text.old.items })
         (record { files = files; faults = faults; text = text.new.items }) result }
 {

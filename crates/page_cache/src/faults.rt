@@ -10,7 +10,7 @@ pub type Memory = AllocError;
 
 /// Why a file wasn't written.
 #[derive(Clone, Copy, PartialEq, Eq, Debug, Drop)]
-pub enum SegFault {
+pub enum StoreFault {
     /// The folder failed, and counted it.
     Failed,
     /// Memory is wanting, which is no fault of the folder.
@@ -112,52 +112,52 @@ impl From<Damage> for PageFault {
     }
 }
 
-impl From<SegFault> for PageFault {
+impl From<StoreFault> for PageFault {
     ghost use Rattle.std.specs.Prelude.{◌≡◌};
     ghost use Rattle.page_cache.specs.Causes.{page_fault};
 
     ghost from_gives = { λ s e. e ≡ page_fault s };
 
-    fn from(fault: SegFault) -> PageFault {
+    fn from(fault: StoreFault) -> PageFault {
         match fault {
-            SegFault::Failed => PageFault::Failed,
-            SegFault::Memory => PageFault::Memory,
+            StoreFault::Failed => PageFault::Failed,
+            StoreFault::Memory => PageFault::Memory,
         }
     }
 }
 
-impl From<Failed> for SegFault {
+impl From<Failed> for StoreFault {
     ghost use Rattle.std.specs.Prelude.{◌≡◌};
-    ghost use Rattle.page_cache.specs.declared.faults.SegFault.TheVariants as seg;
+    ghost use Rattle.page_cache.specs.declared.faults.StoreFault.TheVariants as store;
 
-    ghost from_gives = { λ _ e. e ≡ seg.Failed };
+    ghost from_gives = { λ _ e. e ≡ store.Failed };
 
-    fn from(_failed: Failed) -> SegFault {
-        SegFault::Failed
+    fn from(_failed: Failed) -> StoreFault {
+        StoreFault::Failed
     }
 }
 
-impl From<AllocError> for SegFault {
+impl From<AllocError> for StoreFault {
     ghost use Rattle.std.specs.Prelude.{◌≡◌};
-    ghost use Rattle.page_cache.specs.declared.faults.SegFault.TheVariants as seg;
+    ghost use Rattle.page_cache.specs.declared.faults.StoreFault.TheVariants as store;
 
-    ghost from_gives = { λ _ e. e ≡ seg.Memory };
+    ghost from_gives = { λ _ e. e ≡ store.Memory };
 
-    fn from(_memory: AllocError) -> SegFault {
-        SegFault::Memory
+    fn from(_memory: AllocError) -> StoreFault {
+        StoreFault::Memory
     }
 }
 
-impl From<WriteFault> for SegFault {
+impl From<WriteFault> for StoreFault {
     ghost use Rattle.std.specs.Prelude.{◌≡◌};
-    ghost use Rattle.page_cache.specs.Causes.{seg_fault};
+    ghost use Rattle.page_cache.specs.Causes.{store_fault};
 
-    ghost from_gives = { λ w e. e ≡ seg_fault w };
+    ghost from_gives = { λ w e. e ≡ store_fault w };
 
-    fn from(fault: WriteFault) -> SegFault {
+    fn from(fault: WriteFault) -> StoreFault {
         match fault {
-            WriteFault::Failed => SegFault::Failed,
-            WriteFault::Memory => SegFault::Memory,
+            WriteFault::Failed => StoreFault::Failed,
+            WriteFault::Memory => StoreFault::Memory,
         }
     }
 }

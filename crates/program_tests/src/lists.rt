@@ -2,7 +2,7 @@
 
 use index_model::{Applied, ListSession};
 use script_lang::{
-    First, LineFault, first_line, put_line_fault, put_ok, put_why, read_first, read_line,
+    First, LineFault, first_line, put_line_fault, put_ok, put_refusal, read_first, read_line,
 };
 use std::alloc::Global;
 use std::test::Fail;
@@ -89,7 +89,7 @@ fn apply_line(
     match session.apply(alloc, &command, answers)? {
         Applied::Done => Ok(true),
         Applied::Refused(why) => {
-            put_why(answers, number, why)?;
+            put_refusal(answers, number, why)?;
             Ok(false)
         }
     }

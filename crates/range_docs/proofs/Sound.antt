@@ -13,7 +13,8 @@ use Rattle.number_text.specs.Number.{coordinate, number}
 use Rattle.point_codec.specs.Points.{Region, ordered}
 use Rattle.script_lang.specs.Requests.{Request, Viewed}
 use Rattle.script_lang.specs.Requests as asks
-use Rattle.script_lang.specs.Reading.{Reading, Says, Fails, greatest_leaf, is_from_to, given, value_of, values_of, onto_values, name_of, alone, created}
+use Rattle.script_lang.specs.Reading.{Reading, Says, Fails, greatest_leaf, is_from_to, on_success, value_of}
+use Rattle.script_lang.specs.Reading.{values_of, onto_values, name_of, word_alone, created}
 use Rattle.script_lang.specs.Reading.{read_add, read_merge, query_of, box_of, pieces, points_of, text_of, read}
 use Rattle.script_lang.specs.Lines.{words_of}
 use Rattle.script_lang.specs.Seen.{IsWithinLimits, first_request_of}
@@ -25,7 +26,7 @@ use Rattle.range_docs.specs.Refusals.{fault_of}
 use Rattle.range_docs.specs.Reading.{RangeRequest, Asks, Finds, RangeReading, as_points, from_part, read_create_ranges, if_ranges, read_delete_number}
 use Rattle.range_docs.specs.Reading.{read_question, read_without_ranges, read_range_command, read_range_words, if_blank, range_read, read_range_text}
 use Rattle.range_docs.proofs.Added.{IsPoint, all_ordered, are_values, box_long, pieces_are}
-use Rattle.range_docs.specs.Seen.{of_points, asked, AgreesOnRanges, AddsRanges, NamesRanges}
+use Rattle.range_docs.specs.Seen.{of_points, request_in, AgreesOnRanges, AddsRanges, NamesRanges}
 use Rattle.range_docs.specs.declared.ranges.Question.{Question}
 use Rattle.range_docs.specs.declared.ranges.Question.TheVariants.{Intersects, Within, Contains}
 use Rattle.range_docs.specs.declared.faults.RangeFault.{RangeFault}
@@ -66,7 +67,7 @@ there x = record { remembers = tt }
 not_there : {X : Type 0} (f : LineFault) → f ≢ line.Memory → IsPart {X = X} (Err f)
 not_there f h = record { remembers = h }
 
-given_fine : {X : Type 0} {part : Result X LineFault} {next : X → Reading} → IsPart part → ((x : X) → IsFine (next x)) → IsFine (given part next)
+given_fine : {X : Type 0} {part : Result X LineFault} {next : X → Reading} → IsPart part → ((x : X) → IsFine (next x)) → IsFine (on_success part next)
 given_fine {X} {part = Ok x} {next} p fine = fine x
 given_fine {X} {part = Err f} {next} p fine = fails f p.remembers
 
@@ -96,7 +97,7 @@ unfolding name_of
 name_part [] = not_there line.Words (λ e. cc)
 name_part (w ∷ ws) = if_part _ (if_part _ (there _) (not_there line.Words (λ e. cc))) (not_there line.BadName (λ e. cc))
 
-alone_fine : (words : List (List ℕ)) (request : Request) → IsFine (Says request) → IsFine (alone words request)
+alone_fine : (words : List (List ℕ)) (request : Request) → IsFine (Says request) → IsFine (word_alone words request)
 alone_fine [] request fine = fine
 alone_fine (w ∷ ws) request fine = wrong
 
@@ -204,7 +205,7 @@ ranges_sound r points are =
 
 added_sound : (r count dims : ℕ) (read : Result (List ℤ) LineFault) → dims ≡ 2 * r
     → ((xs : List ℤ) → read ≡ Ok xs → (length xs ≡ count * dims) × All (λ x. FitsSigned w32 x) xs)
-    → IsSound r (if_ranges r (given (points_of count dims read) (λ points. Says (asks.Add (ordered points)))))
+    → IsSound r (if_ranges r (on_success (points_of count dims read) (λ points. Says (asks.Add (ordered points)))))
 added_sound r count dims (Err f) two are = refused r (fault.Line f)
 added_sound r count dims (Ok xs) two are =
     let all = are xs refl in
@@ -218,7 +219,7 @@ add_sound r dims words two =
   where
     by : (whole few : Bool) → (length words % dims == 0) ≡ whole
         → IsSound r (if_ranges r
-        (cond (whole && few) (given (points_of (length words / dims) dims (values_of coordinate 2 words)) (λ points. Says (asks.Add (ordered points))))
+        (cond (whole && few) (on_success (points_of (length words / dims) dims (values_of coordinate 2 words)) (λ points. Says (asks.Add (ordered points))))
         (Fails line.Words)))
     by true true e = added_sound r (length words / dims) dims (values_of coordinate 2 words) two (λ xs is.
         let values = are_values 2 words xs is in
@@ -276,7 +277,7 @@ line_sound dims bytes = by (dims % 2 == 0) refl
 pub names_ranges : (dims : ℕ) (bytes : List ℕ) (request : RangeRequest) → range_read (Some dims) bytes ≡ Ok request → NamesRanges (dims / 2) request
 names_ranges dims bytes request e = (subst (IsSound (dims / 2)) e (line_sound dims bytes)).sound.1
 
-asked_within : (r : ℕ) (reading : RangeReading) (request : Request) → IsSound r reading → asked reading ≡ Ok request
+asked_within : (r : ℕ) (reading : RangeReading) (request : Request) → IsSound r reading → request_in reading ≡ Ok request
     → IsWithinLimits request × AddsRanges r request
 asked_within r (Err f) request s e = cc
 asked_within r (Ok (Asks asks)) request s e = let same : asks ≡ request = cc in rw (← same) (s.sound.0, s.sound.1)

@@ -10,8 +10,9 @@ use Rattle.point_codec.specs.Points.{Region}
 use Rattle.script_lang.specs.Lines.{words_of}
 use Rattle.script_lang.specs.Requests.{Viewed, Request}
 use Rattle.script_lang.specs.Requests as asks
-use Rattle.script_lang.specs.Reading.{Reading, Says, Fails, given, value_of, created, greatest_leaf, query_of, box_of}
-use Rattle.script_lang.specs.Reading.{name_of, alone, read_add, read_merge, text_of, read}
+use Rattle.script_lang.specs.Reading.{Reading, Says, Fails, on_success, value_of, created, greatest_leaf, query_of}
+use Rattle.script_lang.specs.Reading.{box_of}
+use Rattle.script_lang.specs.Reading.{name_of, word_alone, read_add, read_merge, text_of, read}
 use Rattle.script_lang.specs.declared.faults.LineFault.{LineFault}
 use Rattle.script_lang.specs.declared.faults.LineFault.TheVariants as line
 use Rattle.range_docs.specs.Ranges.{range_of, is_range}
@@ -44,11 +45,11 @@ from_part (Err f) next = Err (fault.Line f)
 -- `create R` or `create R leaf SIZE`, for ranges of R dimensions
 unfoldable pub read_create_ranges : List (List ℕ) → Reading
 read_create_ranges [] = Fails line.Words
-read_create_ranges (w ∷ []) = given (value_of number 2 w) (λ r. created (2 * r) (greatest_leaf (2 * r)))
+read_create_ranges (w ∷ []) = on_success (value_of number 2 w) (λ r. created (2 * r) (greatest_leaf (2 * r)))
 read_create_ranges (w ∷ word ∷ []) = Fails line.Words
 read_create_ranges (w ∷ word ∷ s ∷ []) =
     if bytes_eq word (codes "leaf")
-    then given (value_of number 2 w) (λ r. given (value_of number 4 s) (λ leaf. created (2 * r) leaf))
+    then on_success (value_of number 2 w) (λ r. on_success (value_of number 4 s) (λ leaf. created (2 * r) leaf))
     else Fails line.Words
 read_create_ranges (w ∷ word ∷ s ∷ v ∷ ws) = Fails line.Words
 
@@ -62,7 +63,8 @@ if_ranges r reading = as_points reading
 unfoldable pub read_delete_number : List (List ℕ) → Reading
 read_delete_number [] = Fails line.Words
 read_delete_number (w ∷ []) =
-    if bytes_eq w (codes "box") then Fails line.Words else given (value_of number 2 w) (λ doc. Says (asks.Delete doc))
+    if bytes_eq w (codes "box") then Fails line.Words else on_success (value_of number 2 w)
+    (λ doc. Says (asks.Delete doc))
 read_delete_number (w ∷ v ∷ ws) = Fails line.Words
 
 -- `[@NAME] LO HI`, on ranges of r dimensions
@@ -77,12 +79,12 @@ unfoldable pub read_without_ranges : List ℕ → List (List ℕ) → Reading
 read_without_ranges verb words =
     if bytes_eq verb (codes "create") then read_create_ranges words
     else if bytes_eq verb (codes "delete") then read_delete_number words
-    else if bytes_eq verb (codes "flush") then alone words asks.Flush
+    else if bytes_eq verb (codes "flush") then word_alone words asks.Flush
     else if bytes_eq verb (codes "merge") then read_merge words
-    else if bytes_eq verb (codes "snapshot") then given (name_of words) (λ name. Says (asks.Snapshot name))
-    else if bytes_eq verb (codes "release") then given (name_of words) (λ name. Says (asks.Release name))
-    else if bytes_eq verb (codes "commit") then alone words asks.Commit
-    else if bytes_eq verb (codes "reopen") then alone words asks.Reopen
+    else if bytes_eq verb (codes "snapshot") then on_success (name_of words) (λ name. Says (asks.Snapshot name))
+    else if bytes_eq verb (codes "release") then on_success (name_of words) (λ name. Says (asks.Release name))
+    else if bytes_eq verb (codes "commit") then word_alone words asks.Commit
+    else if bytes_eq verb (codes "reopen") then word_alone words asks.Reopen
     else Fails line.Unknown
 
 -- a line on an index of so many dimensions, an even number, by its first word and the others

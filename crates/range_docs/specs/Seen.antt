@@ -14,17 +14,17 @@ of_points (Asks request) = request
 of_points (Finds question view query) = asks.InBox view (box_for question query).lo (box_for question query).hi
 
 -- what was read, as it is asked of the points
-abbrev pub asked : RangeReading → Result Request RangeFault
-asked (Ok request) = Ok (of_points request)
-asked (Err f) = Err f
+abbrev pub request_in : RangeReading → Result Request RangeFault
+request_in (Ok request) = Ok (of_points request)
+request_in (Err f) = Err f
 
 -- a command asks the points what was read, and a fault is the one that was read, but for want of memory, which says
 -- nothing; the fault of a line is never want of memory
 abbrev pub AgreesOnRanges : {C : Type 0} → (C → Request) → Result C RangeFault → RangeReading → Type 0
-AgreesOnRanges request (Ok c) reading = asked reading ≡ Ok (request c)
+AgreesOnRanges request (Ok c) reading = request_in reading ≡ Ok (request c)
 AgreesOnRanges request (Err fault.Memory) reading = Unit {0}
 AgreesOnRanges request (Err (fault.Line line.Memory)) reading = ⊥
-AgreesOnRanges request (Err f) reading = asked reading ≡ Err f
+AgreesOnRanges request (Err f) reading = request_in reading ≡ Err f
 
 -- each point that a request adds is a range of r dimensions
 abbrev pub AddsRanges : ℕ → Request → Type 0

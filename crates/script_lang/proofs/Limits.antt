@@ -7,7 +7,7 @@ use Rattle.polygon_query.specs.GeoJson.{polygon_of}
 use Rattle.polygon_query.specs.declared.geo_json.GeoFault.{GeoFault}
 use Rattle.script_lang.specs.Requests.{Request}
 use Rattle.script_lang.specs.Requests as asks
-use Rattle.script_lang.specs.Reading.{Reading, Says, Fails, greatest_leaf, is_from_to, given, value_of, values_of, onto_values, points_of, corners_of, box_of, query_of, name_of, alone, created, read_create, read_add, read_delete, read_box, nearest_of, read_nearest, behind_view, polygon_fault, rings_of, read_polygon, read_merge, read_command, text_of}
+use Rattle.script_lang.specs.Reading.{Reading, Says, Fails, greatest_leaf, is_from_to, on_success, value_of, values_of, onto_values, points_of, corners_of, box_of, query_of, name_of, word_alone, created, read_create, read_add, read_delete, read_box, nearest_of, read_nearest, behind_view, polygon_fault, rings_of, read_polygon, read_merge, read_command, text_of}
 use Rattle.script_lang.specs.Seen.{IsWithinLimits, Agrees, request_of, first_request_of}
 use Rattle.script_lang.specs.Parts.{first_reading_of}
 use Rattle.script_lang.specs.declared.commands.Command.{Command}
@@ -51,7 +51,7 @@ if_part : {X : Type 0} (b : Bool) {r s : Result X LineFault} → IsPart r → Is
 if_part true held other = held
 if_part false held other = other
 
-given_fine : {X : Type 0} {part : Result X LineFault} {next : X → Reading} → IsPart part → ((x : X) → IsFine (next x)) → IsFine (given part next)
+given_fine : {X : Type 0} {part : Result X LineFault} {next : X → Reading} → IsPart part → ((x : X) → IsFine (next x)) → IsFine (on_success part next)
 given_fine {X} {part = Ok x} {next} p fine = fine x
 given_fine {X} {part = Err f} {next} p fine = fails f p.remembers
 
@@ -97,7 +97,7 @@ text_part : (line : List ℕ) → IsPart (text_of line)
 unfolding text_of
 text_part line = if_part _ (not_there fault.TooLong (λ e. cc)) (if_part _ (not_there fault.NotUtf8 (λ e. cc)) (there _))
 
-alone_fine : (words : List (List ℕ)) (request : Request) → IsWithinLimits request → IsFine (alone words request)
+alone_fine : (words : List (List ℕ)) (request : Request) → IsWithinLimits request → IsFine (word_alone words request)
 alone_fine [] request fine = says request fine
 alone_fine (w ∷ ws) request fine = wrong
 

@@ -31,9 +31,9 @@ abbrev pub is_from_to : ℕ → ℕ → ℕ → Bool
 is_from_to low high n = nat_le low n && nat_le n high
 
 -- what is read from a part of a line, or that part's fault
-abbrev pub given : {X : Type 0} → Result X LineFault → (X → Reading) → Reading
-given (Ok x) next = next x
-given (Err f) next = Fails f
+abbrev pub on_success : {X : Type 0} → Result X LineFault → (X → Reading) → Reading
+on_success (Ok x) next = next x
+on_success (Err f) next = Fails f
 
 -- a word's value. The word has this place in its line, counted from 1
 abbrev pub value_of : {X : Type 0} → (List ℕ → Option X) → ℕ → List ℕ → Result X LineFault
@@ -90,9 +90,9 @@ name_of [] = Err fault.Words
 name_of (w ∷ ws) = if is_name w then (if length ws == 0 then Ok w else Err fault.Words) else Err fault.BadName
 
 -- no words are left
-abbrev pub alone : List (List ℕ) → Request → Reading
-alone [] request = Says request
-alone (w ∷ ws) request = Fails fault.Words
+abbrev pub word_alone : List (List ℕ) → Request → Reading
+word_alone [] request = Says request
+word_alone (w ∷ ws) request = Fails fault.Words
 
 abbrev pub created : ℕ → ℕ → Reading
 created dims leaf =
@@ -103,11 +103,11 @@ created dims leaf =
 -- `create DIMS` or `create DIMS leaf SIZE`
 unfoldable pub read_create : List (List ℕ) → Reading
 read_create [] = Fails fault.Words
-read_create (d ∷ []) = given (value_of number 2 d) (λ dims. created dims (greatest_leaf dims))
+read_create (d ∷ []) = on_success (value_of number 2 d) (λ dims. created dims (greatest_leaf dims))
 read_create (d ∷ word ∷ []) = Fails fault.Words
 read_create (d ∷ word ∷ s ∷ []) =
     if bytes_eq word (codes "leaf")
-    then given (value_of number 2 d) (λ dims. given (value_of number 4 s) (λ leaf. created dims leaf))
+    then on_success (value_of number 2 d) (λ dims. on_success (value_of number 4 s) (λ leaf. created dims leaf))
     else Fails fault.Words
 read_create (d ∷ word ∷ s ∷ w ∷ ws) = Fails fault.Words
 
@@ -115,7 +115,7 @@ read_create (d ∷ word ∷ s ∷ w ∷ ws) = Fails fault.Words
 unfoldable pub read_add : ℕ → List (List ℕ) → Reading
 read_add dims words =
     if length words % dims == 0 && is_from_to 1 16 (length words / dims)
-    then given (points_of (length words / dims) dims (values_of coordinate 2 words))
+    then on_success (points_of (length words / dims) dims (values_of coordinate 2 words))
     (λ points. Says (asks.Add (ordered points)))
     else Fails fault.Words
 
@@ -123,28 +123,28 @@ read_add dims words =
 unfoldable pub read_delete : ℕ → List (List ℕ) → Reading
 read_delete dims [] = Fails fault.Words
 read_delete dims (w ∷ ws) =
-    if bytes_eq w (codes "box") then given (box_of dims 3 ws) (λ box. Says (asks.DeleteBox box.0 box.1))
-    else if length ws == 0 then given (value_of number 2 w) (λ doc. Says (asks.Delete doc))
+    if bytes_eq w (codes "box") then on_success (box_of dims 3 ws) (λ box. Says (asks.DeleteBox box.0 box.1))
+    else if length ws == 0 then on_success (value_of number 2 w) (λ doc. Says (asks.Delete doc))
     else Fails fault.Words
 
 -- `box [@NAME] LO HI`
 unfoldable pub read_box : ℕ → List (List ℕ) → Reading
 read_box dims words =
-    given (query_of words)
-    (λ query. given (box_of dims query.place query.words) (λ box. Says (asks.InBox query.view box.0 box.1)))
+    on_success (query_of words)
+    (λ query. on_success (box_of dims query.place query.words) (λ box. Says (asks.InBox query.view box.0 box.1)))
 
 -- `K C1 .. CD`
 abbrev pub nearest_of : ℕ → Viewed → ℕ → List (List ℕ) → Reading
 nearest_of dims view place [] = Fails fault.Words
 nearest_of dims view place (w ∷ ws) =
     if length ws == dims then
-    given (value_of number place w) (λ k. given (values_of coordinate (place + 1) ws) (λ cs.
+    on_success (value_of number place w) (λ k. on_success (values_of coordinate (place + 1) ws) (λ cs.
     if is_from_to 1 10000 k then Says (asks.Nearest view k cs) else Fails fault.BadK))
     else Fails fault.Words
 
 -- `nearest [@NAME] K C1 .. CD`
 unfoldable pub read_nearest : ℕ → List (List ℕ) → Reading
-read_nearest dims words = given (query_of words) (λ query. nearest_of dims query.view query.place query.words)
+read_nearest dims words = on_success (query_of words) (λ query. nearest_of dims query.view query.place query.words)
 
 -- what stands behind what a query looks at
 abbrev pub behind_view : Viewed → List ℕ → List ℕ
@@ -163,17 +163,19 @@ rings_of (w ∷ ws) text = polygon_fault (polygon_of text)
 -- `polygon [@NAME] JSON`, by its words and by what stands behind `polygon`: the JSON is the rest of the line
 unfoldable pub read_polygon : ℕ → List (List ℕ) → List ℕ → Reading
 read_polygon dims words text =
-    given (query_of words) (λ query.
+    on_success (query_of words) (λ query.
     if dims == 2
-    then given (rings_of query.words (behind_view query.view text)) (λ rings. Says (asks.InPolygon query.view rings))
+    then on_success (rings_of query.words (behind_view query.view text))
+    (λ rings. Says (asks.InPolygon query.view rings))
     else Fails fault.NotTwo)
 
 -- `merge`, `merge begin` with any positions, or `merge end`
 unfoldable pub read_merge : List (List ℕ) → Reading
 read_merge [] = Says asks.Merge
 read_merge (w ∷ ws) =
-    if bytes_eq w (codes "begin") then given (values_of number 3 ws) (λ positions. Says (asks.MergeBegin positions))
-    else if bytes_eq w (codes "end") then alone ws asks.MergeEnd
+    if bytes_eq w (codes "begin") then on_success (values_of number 3 ws)
+    (λ positions. Says (asks.MergeBegin positions))
+    else if bytes_eq w (codes "end") then word_alone ws asks.MergeEnd
     else Fails fault.Words
 
 -- a line on an index of so many dimensions, by its first word, the other words, and what stands behind the first
@@ -185,12 +187,12 @@ read_command dims verb words rest =
     else if bytes_eq verb (codes "box") then read_box dims words
     else if bytes_eq verb (codes "polygon") then read_polygon dims words rest
     else if bytes_eq verb (codes "nearest") then read_nearest dims words
-    else if bytes_eq verb (codes "flush") then alone words asks.Flush
+    else if bytes_eq verb (codes "flush") then word_alone words asks.Flush
     else if bytes_eq verb (codes "merge") then read_merge words
-    else if bytes_eq verb (codes "snapshot") then given (name_of words) (λ name. Says (asks.Snapshot name))
-    else if bytes_eq verb (codes "release") then given (name_of words) (λ name. Says (asks.Release name))
-    else if bytes_eq verb (codes "commit") then alone words asks.Commit
-    else if bytes_eq verb (codes "reopen") then alone words asks.Reopen
+    else if bytes_eq verb (codes "snapshot") then on_success (name_of words) (λ name. Says (asks.Snapshot name))
+    else if bytes_eq verb (codes "release") then on_success (name_of words) (λ name. Says (asks.Release name))
+    else if bytes_eq verb (codes "commit") then word_alone words asks.Commit
+    else if bytes_eq verb (codes "reopen") then word_alone words asks.Reopen
     else Fails fault.Unknown
 
 -- where no index is there (None), only `create` can be asked
@@ -214,4 +216,4 @@ text_of line =
 
 -- a line of a script, read where an index of so many dimensions is there, or none
 unfoldable pub read : Option ℕ → List ℕ → Reading
-read dims line = given (text_of line) (λ text. read_words dims (words_of text) text)
+read dims line = on_success (text_of line) (λ text. read_words dims (words_of text) text)

@@ -6,8 +6,8 @@ use Rattle.polygon_query.specs.declared.geo_json.GeoFault.{GeoFault}
 use Rattle.polygon_query.specs.declared.geo_json.GeoFault.TheVariants as geo
 use Rattle.script_lang.specs.declared.faults.LineFault.{LineFault}
 use Rattle.script_lang.specs.declared.faults.LineFault.TheVariants as fault
-use Rattle.script_lang.specs.declared.faults.Why.{Why}
-use Rattle.script_lang.specs.declared.faults.Why.TheVariants as why
+use Rattle.script_lang.specs.declared.faults.Refusal.{Refusal}
+use Rattle.script_lang.specs.declared.faults.Refusal.TheVariants as why
 
 abbrev pub ended : List ℕ → List ℕ
 ended text = text ++ codes "\n"
@@ -68,7 +68,7 @@ fault_text fault.Memory = []
 unfoldable pub line_fault_text : ℕ → LineFault → List ℕ
 line_fault_text line f = refusal_text line (fault_text f)
 
-abbrev pub cause_text : Why → List ℕ
+abbrev pub cause_text : Refusal → List ℕ
 cause_text why.Exists = codes "index exists"
 cause_text why.Full = codes "full"
 cause_text why.Begun = codes "merge begun"
@@ -78,5 +78,5 @@ cause_text why.NameTaken = codes "name taken"
 cause_text why.TooManySnapshots = codes "too many snapshots"
 cause_text why.NotQuery = codes "not a query"
 
-unfoldable pub why_text : ℕ → Why → List ℕ
-why_text line w = refusal_text line (cause_text w)
+unfoldable pub refused_text : ℕ → Refusal → List ℕ
+refused_text line w = refusal_text line (cause_text w)

@@ -4,7 +4,8 @@ ghost use Rattle.std.specs.Prelude.{◌≡◌, ◌≤◌, ◌<◌, ◌+◌, ◌*
 ghost use Rattle.number_text.specs.Number.{number, coordinate};
 ghost use Rattle.point_codec.specs.Seen.{coordinates_of};
 ghost use Rattle.script_lang.specs.Parts.{left, IsRead, first_reading_of};
-ghost use Rattle.script_lang.specs.Reading.{read_create, created, read_add, read_delete, read_merge, name_of, alone};
+ghost use Rattle.script_lang.specs.Reading.{read_create, created, read_add, read_delete, read_merge, name_of};
+ghost use Rattle.script_lang.specs.Reading.{word_alone};
 ghost use Rattle.script_lang.specs.Reading.{greatest_leaf, values_of, points_of};
 ghost use Rattle.script_lang.specs.Seen.{request_of, Agrees};
 
@@ -136,7 +137,7 @@ pub fn merge<const D: usize>(alloc: Global, mut words: Words<'_>) -> Result<Comm
         return Ok(Command::MergeBegin(Positions::new(positions)));
     }
     if word == "end" {
-        return alone(words, Command::MergeEnd);
+        return word_alone(words, Command::MergeEnd);
     }
     Err(LineFault::Words)
 }
@@ -171,11 +172,11 @@ pub fn name_at(mut words: Words<'_>) -> Result<Name, LineFault>
 }
 
 /// A command, where no words are left.
-pub fn alone<const D: usize>(
+pub fn word_alone<const D: usize>(
     mut words: Words<'_>,
     command: Command<D>,
 ) -> Result<Command<D>, LineFault>
-    ensures { Agrees request_of result (alone (left words.entry) (request_of command.entry)) }
+    ensures { Agrees request_of result (word_alone (left words.entry) (request_of command.entry)) }
 {
     if words.next().is_some() {
         return Err(LineFault::Words);

@@ -69,7 +69,7 @@ impl From<GeoRefused> for LineFault {
 
 /// Why a line that can be read is refused: what it asks does not fit the index as it is.
 #[derive(Clone, Copy, PartialEq, Eq, Debug)]
-pub enum Why {
+pub enum Refusal {
     /// `create`, and an index is there.
     Exists,
     /// All numbers of documents or all points are given.

@@ -12,7 +12,7 @@ pub mod replies;
 pub mod words;
 
 pub use commands::{Command, First, Positions};
-pub use faults::{LineFault, Memory, Why};
+pub use faults::{LineFault, Memory, Refusal};
 pub use lines::first_line;
 pub use reading::{read_first, read_line};
-pub use replies::{put_deleted, put_doc, put_hits, put_line_fault, put_near, put_ok, put_why};
+pub use replies::{put_deleted, put_doc, put_hits, put_line_fault, put_near, put_ok, put_refusal};

@@ -3,9 +3,9 @@
 ghost use Rattle.std.specs.Prelude.{◌≡◌, ◌++◌, ◌≢◌, OnOk, OnErr, length, take};
 ghost use Rattle.std.specs.List.{flat_map};
 ghost use Rattle.script_lang.specs.Replies.{ok_text, doc_text, deleted_text, hits_text, near_text, line_fault_text};
-ghost use Rattle.script_lang.specs.Replies.{why_text, refusal_text, polygon_text, found_of};
+ghost use Rattle.script_lang.specs.Replies.{refused_text, refusal_text, polygon_text, found_of};
 
-use crate::faults::{LineFault, Memory, Why};
+use crate::faults::{LineFault, Memory, Refusal};
 use itoa::{Buffer, write_digits};
 use point_codec::Near;
 use polygon_query::GeoFault;
@@ -177,20 +177,20 @@ fn put_polygon_fault(out: &mut Vec<u8>, line: u64, f: GeoFault) -> Result<(), Me
 }
 
 /// Appends why a line that can be read is refused.
-#[tactic(auto, unfolding(crate::specs::Replies::why_text))]
-pub fn put_why(out: &mut Vec<u8>, line: u64, w: Why) -> Result<(), Memory>
-    ensures ok { OnOk result (out.new.items ≡ out.old.items ++ why_text line w) }
+#[tactic(auto, unfolding(crate::specs::Replies::refused_text))]
+pub fn put_refusal(out: &mut Vec<u8>, line: u64, w: Refusal) -> Result<(), Memory>
+    ensures ok { OnOk result (out.new.items ≡ out.old.items ++ refused_text line w) }
     ensures memory { OnErr result (out.new.items ≡ out.old.items) }
 {
     let cause: &[u8] = match w {
-        Why::Exists => b"index exists",
-        Why::Full => b"full",
-        Why::Begun => b"merge begun",
-        Why::NotBegun => b"no merge begun",
-        Why::UnknownSnapshot => b"unknown snapshot",
-        Why::NameTaken => b"name taken",
-        Why::TooManySnapshots => b"too many snapshots",
-        Why::NotQuery => b"not a query",
+        Refusal::Exists => b"index exists",
+        Refusal::Full => b"full",
+        Refusal::Begun => b"merge begun",
+        Refusal::NotBegun => b"no merge begun",
+        Refusal::UnknownSnapshot => b"unknown snapshot",
+        Refusal::NameTaken => b"name taken",
+        Refusal::TooManySnapshots => b"too many snapshots",
+        Refusal::NotQuery => b"not a query",
     };
     refuse(out, line, &[cause])
 }

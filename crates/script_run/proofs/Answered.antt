@@ -6,12 +6,12 @@ use Rattle.page_cache.specs.declared.faults.PageFault.TheVariants as page
 use Rattle.page_cache.specs.Evidence.{FaultShows}
 use Rattle.script_lang.specs.Requests.{Request}
 use Rattle.script_lang.specs.Requests as asks
-use Rattle.script_lang.specs.Replies.{why_text}
+use Rattle.script_lang.specs.Replies.{refused_text}
 use Rattle.range_docs.specs.Reading.{RangeReading}
-use Rattle.range_docs.specs.Seen.{AgreesOnRanges, asked}
+use Rattle.range_docs.specs.Seen.{AgreesOnRanges, request_in}
 use Rattle.range_docs.specs.declared.faults.RangeFault.TheVariants as range
 use Rattle.script_lang.specs.declared.faults.LineFault.TheVariants as fault
-use Rattle.script_lang.specs.declared.faults.Why.{Why}
+use Rattle.script_lang.specs.declared.faults.Refusal.{Refusal}
 use Rattle.index_model.specs.State.{Index, State, at_rest}
 use Rattle.index_model.specs.Step.{Outcome, Done, Refused, step_on}
 use Rattle.index_model.specs.Script.{answer_to}
@@ -21,7 +21,7 @@ use Rattle.stored_index.specs.Stored.{IsStored}
 use Rattle.stored_index.proofs.KeptFiles.{stored_still}
 use Rattle.index_core.specs.Sessions.{SessionData, Guards}
 use Rattle.index_core.specs.Steps.{DoesOver, KeepsOver, Stores, is_committing}
-use Rattle.script_run.specs.Answers.{IsAnswered, IsLeft, Replies, Stands}
+use Rattle.script_run.specs.LineAnswers.{IsAnswered, IsLeft, Replies, Stands}
 use Rattle.script_run.proofs.Lined.{line_at}
 use Rattle.script_run.specs.Languages.{Heard, answer, answer_of, asks_commit, commits, heard, meaning}
 use Rattle.script_run.specs.Script.{final, stored_by}
@@ -43,7 +43,7 @@ commits_is lang i dims bytes reading d r = ap (λ n. asks_commit (heard lang (So
 
 -- a fault that is no want of memory is the one that was read
 pub fault_read : {C : Type 0} (request : C → Request) (f : RangeFault) (reading : RangeReading) → f ≢ range.Memory
-    → AgreesOnRanges request (Err f) reading → asked reading ≡ Err f
+    → AgreesOnRanges request (Err f) reading → request_in reading ≡ Err f
 fault_read request range.Memory reading no' h = absurd (no' refl)
 fault_read request range.NotRange reading no' h = h
 fault_read request range.NotRanges reading no' h = h
@@ -186,13 +186,13 @@ by_done D number (Done state text) i new t kept before after h guards stored = (
 )
 by_done D number (Refused cause) i new t kept before after h guards stored = absurd h
 
-by_refused : (D number : ℕ) (o : Outcome) (i : Index) (new : Files) (t : SessionData) (kept : State) (before middle after : List ℕ) (why : Why)
-    → DoesOver D new o i t.set before middle (Ok (applied.Refused why)) → after ≡ middle ++ why_text number why
+by_refused : (D number : ℕ) (o : Outcome) (i : Index) (new : Files) (t : SessionData) (kept : State) (before middle after : List ℕ) (why : Refusal)
+    → DoesOver D new o i t.set before middle (Ok (applied.Refused why)) → after ≡ middle ++ refused_text number why
     → Guards D new t → IsStored new kept → IsAnswered D (answer_to number (Some i) o) kept new t true × (after ≡ before ++ (answer_to number (Some i) o).text)
 by_refused D number (Done state text) i new t kept before middle after why h text' guards stored = absurd h
 by_refused D number (Refused cause) i new t kept before middle after why h text guards stored = (
   record { index = i; state = refl; stands = record { seen = h.1; guards = guards; keeps = stored }; refused = refl },
-  text ∙ (λ j. h.2 j ++ why_text number (h.0 j)),
+  text ∙ (λ j. h.2 j ++ refused_text number (h.0 j)),
 )
 
 -- a line that was read, before a session that does its request
@@ -219,7 +219,7 @@ module _ (lang : Language) (D : ℕ) (old new : Files) (s t : SessionData) (i : 
       subst (λ a. IsAnswered D a (stored_by (meaning lang) number stored (Some i) bytes) new t false × (after ≡ before ++ a.text)) (sym answer_says)
       (by_done D number (step_on i r) i new t (stored_by (meaning lang) number stored (Some i) bytes) before after does guards (kept_done applied.Done keeps stores))
 
-  refused_true : (middle after : List ℕ) (why : Why) → DoesOver D new (step_on i r) i t.set before middle (Ok (applied.Refused why)) → after ≡ middle ++ why_text number why → Guards D new t
+  refused_true : (middle after : List ℕ) (why : Refusal) → DoesOver D new (step_on i r) i t.set before middle (Ok (applied.Refused why)) → after ≡ middle ++ refused_text number why → Guards D new t
       → KeepsOver (is_committing r) old new t (Ok (applied.Refused why)) → (is_committing r ≡ true → Stores old new i t.set (Ok (applied.Refused why)))
       → Replies lang D (line_at number i stored bytes) new t before after (Ok true)
   refused_true middle after why does text guards keeps stores =
@@ -248,9 +248,9 @@ module _ (lang : Language) (D : ℕ) (old new : Files) (s t : SessionData) (i : 
   untold_replies after x keeps stores = left_says
       (stored_untold old new i stored (final (answer_to number (Some i) (step_on i r)).state) t x (is_committing r) h.keeps (rests number i r) keeps stores)
 
-  pub refused_replies : (middle after : List ℕ) (why : Why) → DoesOver D new (step_on i r) i t.set before middle (Ok (applied.Refused why)) → Guards D new t
+  pub refused_replies : (middle after : List ℕ) (why : Refusal) → DoesOver D new (step_on i r) i t.set before middle (Ok (applied.Refused why)) → Guards D new t
       → KeepsOver (is_committing r) old new t (Ok (applied.Refused why)) → (is_committing r ≡ true → Stores old new i t.set (Ok (applied.Refused why)))
-      → (result : Result Bool PageFault) → IfOk result (λ x. (x ≡ true) × (after ≡ middle ++ why_text number why)) → OnErr result (IsErrOf result page.Memory)
+      → (result : Result Bool PageFault) → IfOk result (λ x. (x ≡ true) × (after ≡ middle ++ refused_text number why)) → OnErr result (IsErrOf result page.Memory)
       → Replies lang D (line_at number i stored bytes) new t before after result
   refused_replies middle after why does guards keeps stores (Ok x) ok memory =
       subst (λ y. Replies lang D (line_at number i stored bytes) new t before after (Ok y)) (sym ok.0) (refused_true middle after why does ok.1 guards keeps stores)

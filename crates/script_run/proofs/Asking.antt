@@ -10,9 +10,9 @@ use Rattle.script_lang.specs.Requests.{Request}
 use Rattle.script_lang.specs.Requests as asks
 use Rattle.script_lang.specs.Replies.{doc_text}
 use Rattle.script_lang.specs.declared.faults.LineFault.{LineFault}
-use Rattle.script_lang.specs.declared.faults.Why.TheVariants as why
+use Rattle.script_lang.specs.declared.faults.Refusal.TheVariants as why
 use Rattle.index_model.specs.State.{Index, State, snapshot_of, viewed_docs}
-use Rattle.index_model.specs.Step.{Outcome, Done, Refused, answered, fine, step, step_on}
+use Rattle.index_model.specs.Step.{Outcome, Done, Refused, answered, done_ok, step, step_on}
 use Rattle.index_model.specs.Script.{Answer, answer_to}
 use Rattle.index_core.specs.Light.{is_light, points_in}
 use Rattle.script_run.specs.Costs.{AllAsk, AsksOnly, TouchesLine, TouchesLines, begins_no_merge, given_of, is_query}
@@ -58,10 +58,10 @@ abbrev pub more : List (List ℤ) → Index → Outcome
 more points i = Done (Some (record i { next = i.next + 1; given = i.given + length points; docs = i.docs ++ record { number = i.next; points = points } ∷ [] })) (doc_text i.next)
 
 abbrev pub taken : List ℕ → Index → Outcome
-taken name i = fine (record i { snapshots = i.snapshots ++ record { name = name; docs = i.docs } ∷ [] })
+taken name i = done_ok (record i { snapshots = i.snapshots ++ record { name = name; docs = i.docs } ∷ [] })
 
 abbrev pub let_go : List ℕ → Index → Outcome
-let_go name i = fine (record i { snapshots = filter (λ s. not (bytes_eq s.name name)) i.snapshots })
+let_go name i = done_ok (record i { snapshots = filter (λ s. not (bytes_eq s.name name)) i.snapshots })
 
 abbrev pub is_full : List (List ℤ) → Index → Bool
 is_full points i = nat_lt (2 ^ 24) (i.given + length points)
@@ -96,9 +96,9 @@ request_rests line i (asks.Add points) ask e = either Rested line i (is_full poi
 request_rests line i (asks.InBox view lo hi) ask e = queried Rested line i (viewed_docs view i) _ e
 request_rests line i (asks.InPolygon view rings) ask e = queried Rested line i (viewed_docs view i) _ e
 request_rests line i (asks.Nearest view k at) ask e = queried Rested line i (viewed_docs view i) _ e
-request_rests line i (asks.MergeBegin positions) (inl h) e = begun_rests line i i.begun (fine (record i { begun = true })) e (λ f. f) h
+request_rests line i (asks.MergeBegin positions) (inl h) e = begun_rests line i i.begun (done_ok (record i { begun = true })) e (λ f. f) h
 request_rests line i (asks.MergeBegin positions) (inr t) e = no t
-request_rests line i asks.MergeEnd ask e = either Rested line i i.begun (fine (record i { begun = false })) (Refused why.NotBegun) refl e
+request_rests line i asks.MergeEnd ask e = either Rested line i i.begun (done_ok (record i { begun = false })) (Refused why.NotBegun) refl e
 request_rests line i (asks.Snapshot name) ask e =
     either Rested line i (is_taken name i) (Refused why.NameTaken) (taken_if name i) e (either Rested line i (are_many i) (Refused why.TooManySnapshots) (taken name i) e e)
 request_rests line i (asks.Release name) ask e = either Rested line i (is_taken name i) (let_go name i) (Refused why.UnknownSnapshot) e e
@@ -116,8 +116,8 @@ request_gives line i (asks.Add points) = either (Grows i.given) line i (is_full 
 request_gives line i (asks.InBox view lo hi) = queried (Grows i.given) line i (viewed_docs view i) _ (omega arith)
 request_gives line i (asks.InPolygon view rings) = queried (Grows i.given) line i (viewed_docs view i) _ (omega arith)
 request_gives line i (asks.Nearest view k at) = queried (Grows i.given) line i (viewed_docs view i) _ (omega arith)
-request_gives line i (asks.MergeBegin positions) = either (Grows i.given) line i i.begun (Refused why.Begun) (fine (record i { begun = true })) (omega arith) (omega arith)
-request_gives line i asks.MergeEnd = either (Grows i.given) line i i.begun (fine (record i { begun = false })) (Refused why.NotBegun) (omega arith) (omega arith)
+request_gives line i (asks.MergeBegin positions) = either (Grows i.given) line i i.begun (Refused why.Begun) (done_ok (record i { begun = true })) (omega arith) (omega arith)
+request_gives line i asks.MergeEnd = either (Grows i.given) line i i.begun (done_ok (record i { begun = false })) (Refused why.NotBegun) (omega arith) (omega arith)
 request_gives line i (asks.Snapshot name) =
     either (Grows i.given) line i (is_taken name i) (Refused why.NameTaken) (taken_if name i) (omega arith)
     (either (Grows i.given) line i (are_many i) (Refused why.TooManySnapshots) (taken name i) (omega arith) (omega arith))

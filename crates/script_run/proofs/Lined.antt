@@ -21,7 +21,7 @@ use Rattle.script_run.specs.declared.origin.Origin.TheVariants as origin
 use Rattle.script_run.proofs.Ending.{rose_from}
 use Rattle.script_run.proofs.Opened.{none_stored, some_stored}
 use Rattle.run_status.specs.Sent.{IsCut, IsSent}
-use Rattle.script_run.specs.Answers.{Answers, IsAnswered, IsEnd, Line, Replies, Stands, answer_to_line, stored_by_line}
+use Rattle.script_run.specs.LineAnswers.{Answers, IsAnswered, IsEnd, Line, Replies, Stands, answer_to_line, stored_by_line}
 use Rattle.script_run.specs.Progress.{Place, Progress, start}
 use Rattle.run_status.specs.Ends.{HasStopCause}
 use Rattle.script_run.specs.Runs.{EndsLines, EndsRead, Halts}

@@ -11,7 +11,7 @@ use Rattle.stored_index.specs.Stored.{IsStored, index_of}
 use Rattle.stored_index.proofs.Whole.{held_for}
 use Rattle.segment_set.specs.Seen.{Sees}
 use Rattle.index_core.specs.Sessions.{SessionData, Guards}
-use Rattle.script_run.specs.Answers.{Stands}
+use Rattle.script_run.specs.LineAnswers.{Stands}
 
 -- a folder without a Commit file stores no index
 pub none_stored : (files : Files) (state : State) → files Commit ≡ None → IsStored files state → state ≡ None

@@ -20,7 +20,7 @@ use Rattle.segment_file.specs.Heads.{Head}
 use Rattle.script_lang.specs.Requests.{Request, Viewed}
 use Rattle.script_lang.specs.Requests as asks
 use Rattle.script_lang.specs.declared.faults.LineFault.{LineFault}
-use Rattle.script_lang.specs.declared.faults.Why.{Why}
+use Rattle.script_lang.specs.declared.faults.Refusal.{Refusal}
 use Rattle.point_codec.specs.declared.entries.Near.{Near}
 use Rattle.index_model.specs.State.{Index, Snapshot, snapshot_of, viewed_docs}
 use Rattle.ring_parity.specs.Rings.{all_edges}
@@ -46,7 +46,7 @@ use Rattle.explain_queries.proofs.Explaining.{reach_is}
 use Rattle.explain_queries.proofs.There.{are_nearest, there, there_found}
 use Rattle.index_core.proofs.Undone.{begins_none}
 use Rattle.script_run.specs.Costs.{TouchesOn, TouchesHeard, TouchesView, given_of, is_query}
-use Rattle.script_run.specs.Leads.{HasRoom, Passes, Spot, StaysFew}
+use Rattle.script_run.specs.Leads.{HasRoom, Passes, Moment, StaysFew}
 use Rattle.script_run.proofs.Asking.{Asks, IsRefusal, asked, begin_refused, full_of, full_or_given, light_gives, read_state, refusal_state, unread_state}
 use Rattle.script_run.proofs.Deciding.{idle_still, unchanged_or_not}
 use Rattle.script_run.specs.Languages.{Heard, answer, heard}
@@ -58,7 +58,7 @@ no e = cc
 
 -- ---- what a session did with a request
 
-pub record IsApplied (D : ℕ) (told : Type 0) (i : Index) (r : Request) (old new : Spot) (before after : List ℕ) (result : Result Applied PageFault) : Type 0 where
+pub record IsApplied (D : ℕ) (told : Type 0) (i : Index) (r : Request) (old new : Moment) (before after : List ℕ) (result : Result Applied PageFault) : Type 0 where
   pub does : DoesOver D new.files (step_on i r) i new.session.set before after result
   pub canon : BringsCanonical D old.files new.files old.session.set.parts new.session.set.parts
   pub kept : KeepsOver (is_committing r) old.files new.files new.session result
@@ -77,19 +77,19 @@ module _ (D : ℕ) (files : Files) (i : Index) (set : SetData) (before after : L
   not_done (Done state text) h does = h
   not_done (Refused cause) h does = does
 
-  a_refusal : (o : Outcome) (why : Why) → DoesOver D files o i set before after (Ok (applied.Refused why)) → IsRefusal o
+  a_refusal : (o : Outcome) (why : Refusal) → DoesOver D files o i set before after (Ok (applied.Refused why)) → IsRefusal o
   a_refusal (Done state text) why does = absurd does
   a_refusal (Refused cause) why does = tt
 
   -- a request that commits is never refused
-  commit_done : (r : Request) (why : Why) → is_committing r ≡ true → DoesOver D files (step_on i r) i set before after (Ok (applied.Refused why)) → ⊥
+  commit_done : (r : Request) (why : Refusal) → is_committing r ≡ true → DoesOver D files (step_on i r) i set before after (Ok (applied.Refused why)) → ⊥
   unfolding step_on
   commit_done asks.Commit why e does = does
   commit_done asks.Reopen why e does = does
   commit_done r why e does = no e
 
 -- what is refused leaves all but the kept pages
-refused_still : (told : Type 0) (i : Index) (r : Request) (f g : Files) (s t : SessionData) (why : Why) → IsRefusal (step_on i r) → KeepsStill told r f g s t (Ok (applied.Refused why)) → IsStill told f g s t
+refused_still : (told : Type 0) (i : Index) (r : Request) (f g : Files) (s t : SessionData) (why : Refusal) → IsRefusal (step_on i r) → KeepsStill told r f g s t (Ok (applied.Refused why)) → IsStill told f g s t
 unfolding step_on
 refused_still told i (asks.Delete doc) f g s t why h still = absurd h
 refused_still told i (asks.DeleteBox lo hi) f g s t why h still = absurd h
@@ -117,8 +117,8 @@ buffer_still s t stays = ap (λ (u : SetData). length u.buffer) stays.is
 
 -- ---- levels
 
-module _ (D : ℕ) (told : Type 0) (i : Index) (r : Request) (old new : Spot) (before after : List ℕ) where
-  few_by : (b : Bool) (x : Applied) → ((why : Why) → x ≡ applied.Refused why → b ≡ true → ⊥) → KeepsOver {T = Applied} b old.files new.files new.session (Ok x)
+module _ (D : ℕ) (told : Type 0) (i : Index) (r : Request) (old new : Moment) (before after : List ℕ) where
+  few_by : (b : Bool) (x : Applied) → ((why : Refusal) → x ≡ applied.Refused why → b ≡ true → ⊥) → KeepsOver {T = Applied} b old.files new.files new.session (Ok x)
       → (b ≡ true → IsUnchanged old.session → new.files ≡ old.files) → (b ≡ true → (IsUnchanged old.session → ⊥) → OnDone (Ok x) (CommitsFewOfLevels new.session.commit)) → KeepsLevels old.files new.files
   few_by false x done keeps idle levels = inl keeps.commit
   few_by true applied.Done done keeps idle levels =
@@ -134,7 +134,7 @@ module _ (D : ℕ) (told : Type 0) (i : Index) (r : Request) (old new : Spot) (b
 
 -- ---- files
 
-module _ (D : ℕ) (told : Type 0) (is_told : told) (i : Index) (old new : Spot) (before after : List ℕ) (rested : i.begun ≡ false) (none : old.session.set.begun ≡ None)
+module _ (D : ℕ) (told : Type 0) (is_told : told) (i : Index) (old new : Moment) (before after : List ℕ) (rested : i.begun ≡ false) (none : old.session.set.begun ≡ None)
     (given : i.given ≡ old.session.set.given) where
   -- a request that the definition refuses ends with a fault, and no file changed
   fault_files : (r : Request) (fault : PageFault) → IsRefusal (step_on i r) → length old.session.set.buffer ≤ 16384 → IsApplied D told i r old new before after (Err fault) → new.files ≡ old.files
@@ -254,7 +254,7 @@ module _ (D : ℕ) (files : Files) (s : SetData) (i : Index) (seen : Sees D file
 
 -- ---- reads
 
-module _ (D : ℕ) (told : Type 0) (is_told : told) (i : Index) (old new : Spot) (before after : List ℕ) (seen : Sees D old.files old.session.set i) (rested : i.begun ≡ false)
+module _ (D : ℕ) (told : Type 0) (is_told : told) (i : Index) (old new : Moment) (before after : List ℕ) (seen : Sees D old.files old.session.set i) (rested : i.begun ≡ false)
     (heads : List Head) (looks : LooksAt heads old.session.set) where
   full_reads : (points : List (List ℤ)) (result : Result Applied PageFault) → IsRefusal (step_on i (asks.Add points)) → IsApplied D told i (asks.Add points) old new before after result → new.reads ≡ old.reads
   full_reads points (Ok applied.Done) h a = absurd (not_done D new.files i new.session.set before after (step_on i (asks.Add points)) h a.does)
@@ -297,7 +297,7 @@ module _ (D : ℕ) (told : Type 0) (is_told : told) (i : Index) (old new : Spot)
       let stays = a.light light (omega (arith, room, gives)) in
       record { looks = stays.heads heads looks; waits = omega (arith, gives, stays.waits) }
 
-  refused_few : (line : ℕ) (r : Request) (why : Why) → IsApplied D told i r old new before after (Ok (applied.Refused why))
+  refused_few : (line : ℕ) (r : Request) (why : Refusal) → IsApplied D told i r old new before after (Ok (applied.Refused why))
       → StaysFew heads i (answer_to line (Some i) (step_on i r)).state old.session.set new.session.set
   refused_few line r why a =
       let h = a_refusal D new.files i new.session.set before after (step_on i r) why a.does in
@@ -319,7 +319,7 @@ unchanged_room s u = let none : length s.set.buffer ≡ 0 = ap (λ (xs : List It
 
 -- a line that was read, and whose request the session did
 pub passes_applied : (lang : Language) → (D : ℕ) (told : Type 0) → told
-    → (line : ℕ) (i : Index) (bytes : List ℕ) (r : Request) (old new : Spot) (before after : List ℕ) (result : Result Applied PageFault)
+    → (line : ℕ) (i : Index) (bytes : List ℕ) (r : Request) (old new : Moment) (before after : List ℕ) (result : Result Applied PageFault)
     → Sees D old.files old.session.set i
     → heard lang (Some D) bytes ≡ Ok r → IsApplied D told i r old new before after result → Passes lang D line i bytes old new result
 passes_applied lang D told is_told line i bytes r old new before after result seen says a = record {
@@ -346,7 +346,7 @@ fine_as P r (Err e) fine h = tt
 fine_as P (Ok x) (Ok y) fine h = h
 fine_as P (Err e) (Ok y) fine h = no (fine refl)
 
-pub passes_to : {S T E F : Type 0} (lang : Language) → (D line : ℕ) (i : Index) (bytes : List ℕ) (old new : Spot) (r : Result S E) (q : Result T F)
+pub passes_to : {S T E F : Type 0} (lang : Language) → (D line : ℕ) (i : Index) (bytes : List ℕ) (old new : Moment) (r : Result S E) (q : Result T F)
     → (is_ok q ≡ true → is_ok r ≡ true) → Passes lang D line i bytes old new r → Passes lang D line i bytes old new q
 passes_to lang D line i bytes old new r q fine p = record {
   canon = p.canon;
@@ -362,7 +362,7 @@ on_ok (Ok x) p = p
 on_ok (Err e) p = tt
 
 -- a line that can't be read is refused, and nothing is done
-pub passes_unread : {T E : Type 0} (lang : Language) → (D line : ℕ) (i : Index) (bytes : List ℕ) (f : RangeFault) (old : Spot) (r : Result T E) → i.dims ≡ D
+pub passes_unread : {T E : Type 0} (lang : Language) → (D line : ℕ) (i : Index) (bytes : List ℕ) (f : RangeFault) (old : Moment) (r : Result T E) → i.dims ≡ D
     → heard lang (Some D) bytes ≡ Err f → Passes lang D line i bytes old old r
 passes_unread lang D line i bytes f old r dims fails = record {
   canon = brings_same D old.files old.files old.session.set.parts old.session.set.parts refl refl;
@@ -374,7 +374,7 @@ passes_unread lang D line i bytes f old r dims fails = record {
 }
 
 -- memory was wanting before anything was done
-pub passes_none : {T E : Type 0} (lang : Language) → (D line : ℕ) (i : Index) (bytes : List ℕ) (old : Spot) (e : E)
+pub passes_none : {T E : Type 0} (lang : Language) → (D line : ℕ) (i : Index) (bytes : List ℕ) (old : Moment) (e : E)
     → Passes {T = T} lang D line i bytes old old (Err e)
 passes_none lang D line i bytes old e = record {
   canon = brings_same D old.files old.files old.session.set.parts old.session.set.parts refl refl;

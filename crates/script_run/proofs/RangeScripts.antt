@@ -15,7 +15,7 @@ use Rattle.script_lang.specs.Requests.{Request, Viewed}
 use Rattle.script_lang.specs.Requests as asks
 use Rattle.range_docs.specs.Ranges.{AreEnds, Decides, IsQuery, box_for, range_of}
 use Rattle.range_docs.specs.Reading.{Asks, Finds, RangeReading, if_blank, range_read, read_range_text}
-use Rattle.range_docs.specs.Seen.{asked}
+use Rattle.range_docs.specs.Seen.{request_in}
 use Rattle.range_docs.specs.declared.ranges.Question.{Question}
 use Rattle.range_docs.proofs.Boxes.{box_answers}
 use Rattle.range_docs.proofs.Sound.{names_ranges}
@@ -66,16 +66,16 @@ module _ (test : Test) (decides : Decides test) where
   -- in the box are just the ranges that pass
   box_tests : (question : Question) (r : ℕ) (query : Region) → IsQuery r query → (p : List ℤ) → AreEnds r p
       → in_box (box_for question query) p ≡ test question (range_of r p) query
-  box_tests question r query asked p ends =
-      let boxed = box_answers question r query asked.lo asked.hi asked.ordered p ends in
-      let tested = decides question r p query ends asked in
+  box_tests question r query request_in p ends =
+      let boxed = box_answers question r query request_in.lo request_in.hi request_in.ordered p ends in
+      let tested = decides question r p query ends request_in in
       same_bit _ _ (λ e. tested.1 (boxed.0 e)) (λ e. boxed.1 (tested.0 e))
 
   found_same : (line : ℕ) (i : Index) (question : Question) (view : Viewed) (query : Region) → IsQuery (i.dims / 2) query → i.dims % 2 ≡ 0 → AreRanges (Some i)
       → answer_to line (Some i) (step_on i (asks.InBox view (box_for question query).lo (box_for question query).hi))
       ≡ answer_to line (Some i) (answered i (viewed_docs view i) (λ docs. hits_text (hits (λ p. test question (range_of (i.dims / 2) p) query) docs)))
   unfolding step_on
-  found_same line i question view query asked even h = by (viewed_docs view i) refl
+  found_same line i question view query request_in even h = by (viewed_docs view i) refl
     where
       by : (o : Option (List Document)) → viewed_docs view i ≡ o
           → answer_to line (Some i) (answered i o (λ docs. hits_text (hits (in_box (record { lo = (box_for question query).lo; hi = (box_for question query).hi })) docs)))
@@ -83,7 +83,7 @@ module _ (test : Test) (decides : Decides test) where
       by None is = refl
       by (Some docs) is = ap (λ ns. answer_to line (Some i) (answered i (Some docs) (λ _. hits_text ns)))
           (hits_same (in_box (box_for question query)) (λ p. test question (range_of (i.dims / 2) p) query) (AreEnds (i.dims / 2))
-          (box_tests question (i.dims / 2) query asked) docs (viewed_ranges view i docs even h is))
+          (box_tests question (i.dims / 2) query request_in) docs (viewed_ranges view i docs even h is))
 
   no_find : (reading : Reading) (question : Question) (view : Viewed) (query : Region) → if_blank reading ≡ Ok (Finds question view query) → ⊥
   no_find (Says asks.Blank) question view query e = cc
@@ -105,14 +105,14 @@ module _ (test : Test) (decides : Decides test) where
   unfolding answer read_in range_answer
   line_same line None bytes h = by (range_read None bytes)
     where
-      by : (reading : RangeReading) → answer_of line None (asked reading) ≡ range_answer_of test line None reading
+      by : (reading : RangeReading) → answer_of line None (request_in reading) ≡ range_answer_of test line None reading
       by (Ok (Asks r)) = refl
       by (Ok (Finds question view query)) = refl
       by (Err f) = refl
   line_same line (Some i) bytes h = by (range_read (Some i.dims) bytes) refl
     where
       by : (reading : RangeReading) → range_read (Some i.dims) bytes ≡ reading
-          → answer_of line (Some i) (asked reading) ≡ range_answer_of test line (Some i) reading
+          → answer_of line (Some i) (request_in reading) ≡ range_answer_of test line (Some i) reading
       by (Ok (Asks r)) is = refl
       by (Ok (Finds question view query)) is =
           found_same line i question view query (names_ranges i.dims bytes (Finds question view query) is) (finds_even i.dims bytes question view query is) h

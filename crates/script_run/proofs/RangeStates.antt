@@ -10,13 +10,13 @@ use Rattle.documents.specs.Documents.{Document, passes}
 use Rattle.script_lang.specs.Reading.{read}
 use Rattle.script_lang.specs.Requests.{Request, Viewed}
 use Rattle.script_lang.specs.Requests as asks
-use Rattle.script_lang.specs.declared.faults.Why.TheVariants as why
+use Rattle.script_lang.specs.declared.faults.Refusal.TheVariants as why
 use Rattle.range_docs.specs.Ranges.{AreEnds}
 use Rattle.range_docs.specs.Reading.{Asks, Finds, RangeReading, RangeRequest, if_blank, range_read}
-use Rattle.range_docs.specs.Seen.{AddsRanges, asked, of_points}
+use Rattle.range_docs.specs.Seen.{AddsRanges, request_in, of_points}
 use Rattle.range_docs.proofs.Sound.{names_ranges}
 use Rattle.index_model.specs.State.{Index, Snapshot, State, at_rest, snapshot_of, viewed_docs}
-use Rattle.index_model.specs.Step.{Outcome, Refused, fine, step, step_on}
+use Rattle.index_model.specs.Step.{Outcome, Refused, done_ok, step, step_on}
 use Rattle.index_model.specs.Script.{Answer, answer_to}
 use Rattle.script_run.specs.Languages.{Heard, answer, answer_of, heard, read_in}
 use Rattle.script_run.specs.RangeScript.{AreRanges, HaveRanges}
@@ -43,8 +43,8 @@ module _ (line : ℕ) (i : Index) where
   request_keeps (asks.InBox view lo hi) adds h = queried AreRanges line i (viewed_docs view i) _ h
   request_keeps (asks.InPolygon view rings) adds h = queried AreRanges line i (viewed_docs view i) _ h
   request_keeps (asks.Nearest view k at) adds h = queried AreRanges line i (viewed_docs view i) _ h
-  request_keeps (asks.MergeBegin positions) adds h = either AreRanges line i i.begun (Refused why.Begun) (fine (record i { begun = true })) h h
-  request_keeps asks.MergeEnd adds h = either AreRanges line i i.begun (fine (record i { begun = false })) (Refused why.NotBegun) h h
+  request_keeps (asks.MergeBegin positions) adds h = either AreRanges line i i.begun (Refused why.Begun) (done_ok (record i { begun = true })) h h
+  request_keeps asks.MergeEnd adds h = either AreRanges line i i.begun (done_ok (record i { begun = false })) (Refused why.NotBegun) h h
   request_keeps (asks.Snapshot name) adds h =
       either AreRanges line i (is_taken name i) (Refused why.NameTaken) (taken_if name i) h
       (either AreRanges line i (are_many i) (Refused why.TooManySnapshots) (taken name i) h (λ even.
@@ -71,12 +71,12 @@ pub line_keeps : (line : ℕ) (state : State) (bytes : List ℕ) → AreRanges s
 unfolding answer read_in
 line_keeps line None bytes h = by (range_read None bytes)
   where
-    by : (reading : RangeReading) → AreRanges (answer_of line None (asked reading)).state
+    by : (reading : RangeReading) → AreRanges (answer_of line None (request_in reading)).state
     by (Ok request) = first_keeps line (of_points request)
     by (Err f) = tt
 line_keeps line (Some i) bytes h = by (range_read (Some i.dims) bytes) refl
   where
-    by : (reading : RangeReading) → range_read (Some i.dims) bytes ≡ reading → AreRanges (answer_of line (Some i) (asked reading)).state
+    by : (reading : RangeReading) → range_read (Some i.dims) bytes ≡ reading → AreRanges (answer_of line (Some i) (request_in reading)).state
     by (Ok request) is = request_keeps line i (of_points request) (adds_ranges i.dims bytes request is) h
     by (Err f) is = h
 

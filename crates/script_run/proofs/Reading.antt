@@ -8,16 +8,16 @@ use Rattle.line_source.specs.Reader.{Gives, GivesLine, IsNew, KnowsEnd, kept, li
 use Rattle.line_source.specs.declared.reader.LineReader.{LineReader}
 use Rattle.line_source.proofs.Kept.{kept_reads, kept_text}
 use Rattle.range_docs.specs.Reading.{as_points, from_part, if_blank, range_read, read_range_words}
-use Rattle.range_docs.specs.Seen.{asked}
+use Rattle.range_docs.specs.Seen.{request_in}
 use Rattle.stored_index.specs.Kept.{SameKept}
 use Rattle.stored_index.proofs.KeptFiles.{kept_after, kept_itself}
 use Rattle.run_status.specs.declared.stop.Stop.{Stop}
 use Rattle.run_status.specs.declared.stop.Stop.TheVariants as stop
-use Rattle.script_run.specs.Answers.{Answers, IsEnd, Stands}
+use Rattle.script_run.specs.LineAnswers.{Answers, IsEnd, Stands}
 use Rattle.script_run.specs.Costs.{NoneCommits, asks_commit}
 use Rattle.script_run.specs.Halted.{OfLines, OfSource, halted}
 use Rattle.script_run.specs.declared.halt.Halt.{Halt}
-use Rattle.script_run.specs.Leads.{Closes, Leads, Passes, Spot}
+use Rattle.script_run.specs.Leads.{Closes, Leads, Passes, Moment}
 use Rattle.script_run.specs.Runs.{EndsLines, Halts}
 use Rattle.script_run.proofs.Leading.{Led, led_breaks, led_ends, led_first, led_on, led_stops}
 use Rattle.script_run.proofs.Lined.{Goes, end_lines, ends_then, goes_first, goes_on, halts_at, line_at, memory_at, place_on, stops_at}
@@ -34,8 +34,8 @@ kept_ranges (Some dims) line =
 
 kept_heard : (lang : Language) (dims : Option ℕ) (line : List ℕ) → heard lang dims (kept line) ≡ heard lang dims line
 unfolding read_in
-kept_heard Points dims line = ap (λ r. asked (as_points r)) (kept_reads dims line)
-kept_heard Ranges dims line = ap asked (kept_ranges dims line)
+kept_heard Points dims line = ap (λ r. request_in (as_points r)) (kept_reads dims line)
+kept_heard Ranges dims line = ap request_in (kept_ranges dims line)
 
 -- what is kept of a line reads as it does
 pub reads_alike : (lang : Language) (dims : Option ℕ) (line bytes text : List ℕ) → bytes ≡ kept line → text ≡ bytes
@@ -102,11 +102,11 @@ of_any told r left P h = (lines_left r left, λ t knows. refl, h (lines_left r l
 -- ---- lines in a session
 
 -- from a place on the lines so far were done, and more are left
-pub record Going (lang : Language) (told : Type 0) (D line0 refused0 : ℕ) (i : Index) (stored : State) (written0 : List ℕ) (start : Spot) (lines : List (List ℕ)) (now : Spot) (line refused : ℕ) (more : List (List ℕ)) (written : List ℕ) : Type 0 where
+pub record Going (lang : Language) (told : Type 0) (D line0 refused0 : ℕ) (i : Index) (stored : State) (written0 : List ℕ) (start : Moment) (lines : List (List ℕ)) (now : Moment) (line refused : ℕ) (more : List (List ℕ)) (written : List ℕ) : Type 0 where
   pub goes : Goes lang told D (place_on line0 refused0 i stored lines written0) now.files now.session line refused more written
   pub led : Led lang D line0 i lines start line goes.index more now
 
-pub going_first : (lang : Language) → (told : Type 0) (D line refused : ℕ) (i : Index) (stored : State) (written : List ℕ) (s : Spot) (more : List (List ℕ))
+pub going_first : (lang : Language) → (told : Type 0) (D line refused : ℕ) (i : Index) (stored : State) (written : List ℕ) (s : Moment) (more : List (List ℕ))
     → Stands D s.files s.session i stored
     → Going lang told D line refused i stored written s more s line refused more written
 going_first lang told D line refused i stored written s more h = record {
@@ -114,10 +114,10 @@ going_first lang told D line refused i stored written s more h = record {
   led = led_first lang D line i more s;
 }
 
-module _ (lang : Language) (told : Type 0) (D line0 refused0 : ℕ) (i : Index) (stored : State) (written0 : List ℕ) (start : Spot) (lines : List (List ℕ))
-    (now : Spot) (line refused : ℕ) (written : List ℕ) where
+module _ (lang : Language) (told : Type 0) (D line0 refused0 : ℕ) (i : Index) (stored : State) (written0 : List ℕ) (start : Moment) (lines : List (List ℕ))
+    (now : Moment) (line refused : ℕ) (written : List ℕ) where
   module _ (bytes : List ℕ) (more : List (List ℕ)) (g : Going lang told D line0 refused0 i stored written0 start lines now line refused (bytes ∷ more) written)
-      (new : Spot) (after : List ℕ) where
+      (new : Moment) (after : List ℕ) where
     pub going_on : (is_refused : Bool) (count : ℕ) → count ≡ refused + cond is_refused 1 0
         → Answers lang told D (line_at line g.goes.index g.goes.stored bytes) new.files new.session written after (Ok is_refused)
         → Passes {T = Bool} {E = Stop} lang D line g.goes.index bytes now new (Ok is_refused)
@@ -152,7 +152,7 @@ module _ (lang : Language) (told : Type 0) (D line0 refused0 : ℕ) (i : Index) 
     )
 
   -- no line is left
-  pub going_ends : {E : Type 0} (g : Going lang told D line0 refused0 i stored written0 start lines now line refused [] written) (new : Spot) (done : Result ℕ Stop) (result : Result ℕ E)
+  pub going_ends : {E : Type 0} (g : Going lang told D line0 refused0 i stored written0 start lines now line refused [] written) (new : Moment) (done : Result ℕ Stop) (result : Result ℕ E)
       → IsEnd new.files g.goes.index g.goes.stored refused done → Closes D g.goes.index now new result
       → EndsLines (meaning lang) told (place_on line0 refused0 i stored lines written0) new.files written done × Leads lang line0 i lines start new result
   going_ends g new done result end closes = (
@@ -162,7 +162,7 @@ module _ (lang : Language) (told : Type 0) (D line0 refused0 : ℕ) (i : Index) 
   )
 
 -- what was committed is so for lines that come from a source
-pub closes_halted : {T : Type 0} (D : ℕ) (i : Index) (old new : Spot) (done : Result T Stop) (result : Result T Halt) → result ≡ halted done → Closes D i old new done → Closes D i old new result
+pub closes_halted : {T : Type 0} (D : ℕ) (i : Index) (old new : Moment) (done : Result T Stop) (result : Result T Halt) → result ≡ halted done → Closes D i old new done → Closes D i old new result
 closes_halted {T} D i old new done result is h = subst (Closes D i old new) (sym is) (by_done done h)
   where
     by_done : (done : Result T Stop) → Closes D i old new done → Closes D i old new (halted done)

@@ -27,7 +27,7 @@ use Rattle.index_core.specs.Whole.{HasNewCanonical}
 use Rattle.index_core.proofs.Listed.{attached_listed}
 use Rattle.explain_queries.specs.Explained.{IsScope, Scope}
 use Rattle.script_run.specs.Costs.{AllAsk, AreLight, RunReadsFew, TouchesLines, begins_no_merge, given_of, is_query}
-use Rattle.script_run.specs.Leads.{AreListed, Leads, LeadsAll, LeadsFrom, Opens, Spot}
+use Rattle.script_run.specs.Leads.{AreListed, Leads, LeadsAll, LeadsFrom, Opens, Moment}
 use Rattle.run_status.specs.Ends.{IsAnswer}
 use Rattle.script_run.specs.Origins.{IsFrom}
 use Rattle.run_status.specs.Stops.{status_of}
@@ -138,7 +138,7 @@ module _ {T : Type 0} {E : Type 0} (lang : Language) (o : Origin) (i : Index) (s
   })
 
   -- and the lines are done in it
-  pub open_leads : (s : SessionData) (new : Spot) (result : Result T E) → Opens o i stored old before between (Ok s)
+  pub open_leads : (s : SessionData) (new : Moment) (result : Result T E) → Opens o i stored old before between (Ok s)
       → Leads lang line i lines (record { files = middle; session = s; reads = between }) new result
       → LeadsFrom lang o i stored line lines old new.files before new.reads result
   open_leads s new result opens leads = record {

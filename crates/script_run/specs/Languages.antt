@@ -4,10 +4,10 @@ use Rattle.std.specs.Option.{option_map}
 use Rattle.script_lang.specs.Requests.{Request}
 use Rattle.script_lang.specs.Requests as asks
 use Rattle.script_lang.specs.Reading.{read}
-use Rattle.script_lang.specs.Replies.{why_text}
+use Rattle.script_lang.specs.Replies.{refused_text}
 use Rattle.range_docs.specs.Reading.{RangeReading, as_points, range_read}
 use Rattle.range_docs.specs.Replies.{range_fault_text}
-use Rattle.range_docs.specs.Seen.{asked}
+use Rattle.range_docs.specs.Seen.{request_in}
 use Rattle.range_docs.specs.declared.faults.RangeFault.{RangeFault}
 use Rattle.index_model.specs.State.{State}
 use Rattle.index_model.specs.Step.{Outcome, step}
@@ -26,7 +26,7 @@ read_in Points dims line = as_points (read dims line)
 read_in Ranges dims line = range_read dims line
 
 abbrev pub heard : Language → Option ℕ → List ℕ → Heard
-heard lang dims line = asked (read_in lang dims line)
+heard lang dims line = request_in (read_in lang dims line)
 
 -- what is answered where this was heard: a line that cannot be read is refused, and leaves the state
 abbrev pub answer_of : ℕ → State → Heard → Answer

@@ -22,7 +22,7 @@ use Rattle.script_run.specs.declared.origin.Origin.{Origin}
 use Rattle.script_run.specs.declared.origin.Origin.TheVariants as origin
 
 -- a session between two lines: with the files of its folder, and the folder's reads
-pub record Spot : Type 0 where
+pub record Moment : Type 0 where
   pub files : Files
   pub session : SessionData
   pub reads : ℕ
@@ -41,7 +41,7 @@ pub record StaysFew (heads : List Head) (i : Index) (after : State) (s t : SetDa
 -- From the one spot to the other a line is done, refused or left. Each segment that it writes is canonical. Where no
 -- merge is begun: a commit that is done lists few segments of each level; a query, or a line that is refused, changes
 -- no file; and one that needs no segment to be written reads the leaves that it touches.
-pub record Passes {T E : Type 0} (lang : Language) (D line : ℕ) (i : Index) (bytes : List ℕ) (old new : Spot)
+pub record Passes {T E : Type 0} (lang : Language) (D line : ℕ) (i : Index) (bytes : List ℕ) (old new : Moment)
     (result : Result T E) : Type 0 where
   pub canon : BringsCanonical D old.files new.files old.session.set.parts new.session.set.parts
   pub levels : i.begun ≡ false → OnOk result (KeepsLevels old.files new.files)
@@ -65,7 +65,7 @@ abbrev pub AreListed : Files → SetData → Type 0
 AreListed files s = (p : Part) → Contains s.parts p → IsNewSegment files p.head.id → ⊥
 
 -- what lines left is committed, and no file is left that the commit doesn't list, or that fails
-pub record Closes {T E : Type 0} (D : ℕ) (i : Index) (old new : Spot) (result : Result T E) : Type 0 where
+pub record Closes {T E : Type 0} (D : ℕ) (i : Index) (old new : Moment) (result : Result T E) : Type 0 where
   pub canon : (first : Files) (s : SetData) → AreListed first s
       → BringsCanonical D first old.files s.parts old.session.set.parts → OnOk result (HasNewCanonical first new.files)
   pub levels : i.begun ≡ false → OnOk result (KeepsLevels old.files new.files)
@@ -73,7 +73,7 @@ pub record Closes {T E : Type 0} (D : ℕ) (i : Index) (old new : Spot) (result 
   pub reads : IsUnchanged old.session ⊎ IsSettled old.session.set → new.reads ≡ old.reads
 
 -- lines are done in a session and what they leave is committed, or it stops
-pub record Leads {T E : Type 0} (lang : Language) (line : ℕ) (i : Index) (lines : List (List ℕ)) (old new : Spot)
+pub record Leads {T E : Type 0} (lang : Language) (line : ℕ) (i : Index) (lines : List (List ℕ)) (old new : Moment)
     (result : Result T E) : Type 0 where
   pub canon : AreListed old.files old.session.set → OnOk result (HasNewCanonical old.files new.files)
   pub levels : i.begun ≡ false → AllAsk lang begins_no_merge line (Some i) lines

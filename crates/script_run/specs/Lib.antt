@@ -1,6 +1,6 @@
 pub mod Script
 pub mod Languages
-pub mod Answers
+pub mod LineAnswers
 pub mod Costs
 pub mod Halted
 pub mod Kept

@@ -5,7 +5,7 @@ use Rattle.outer_io.specs.Files.{Files, bytes_of}
 use Rattle.commit_list.specs.CommitFiles.{IsCommitFile}
 use Rattle.index_model.specs.State.{Index, State, new_index}
 use Rattle.stored_index.specs.Stored.{IsStored}
-use Rattle.script_run.specs.Answers.{IsNew}
+use Rattle.script_run.specs.LineAnswers.{IsNew}
 use Rattle.script_run.specs.declared.origin.Origin.{Origin}
 use Rattle.script_run.specs.declared.origin.Origin.TheVariants as origin
 

@@ -8,12 +8,12 @@ ghost use Rattle.page_cache.specs.Evidence.{OnDamage};
 ghost use Rattle.index_opening.specs.Evidence.{IsEvident};
 ghost use Rattle.index_core.specs.Sessions.{Trusts};
 ghost use Rattle.index_core.specs.Steps.{is_committing};
-ghost use Rattle.script_lang.specs.Replies.{why_text};
+ghost use Rattle.script_lang.specs.Replies.{refused_text};
 ghost use Rattle.range_docs.specs.Replies.{range_fault_text};
 ghost use Rattle.script_lang.specs.Seen.{IsWithinLimits, request_of};
 ghost use Rattle.index_model.specs.State.{Index, State};
 ghost use Rattle.run_status.specs.Sent.{IsSent};
-ghost use Rattle.script_run.specs.Answers.{Answers, IsOpening, IsWithin, Replies, Stands};
+ghost use Rattle.script_run.specs.LineAnswers.{Answers, IsOpening, IsWithin, Replies, Stands};
 ghost use Rattle.stored_index.specs.Kept.{SameKept};
 ghost use Rattle.script_run.specs.Costs.{asks_commit};
 ghost use Rattle.script_run.specs.Languages.{answer, heard};
@@ -28,7 +28,7 @@ use outer_io::{Folder, Sink};
 use page_cache::PageFault;
 use range_docs::{RangeFault, put_range_fault};
 use run_status::{Memory, Stop, send, stopped};
-use script_lang::{Command, First, LineFault, Why, put_ok, put_why};
+use script_lang::{Command, First, LineFault, Refusal, put_ok, put_refusal};
 use std::alloc::AllocError;
 use std::marker::Sync;
 use std::thread::Threads;
@@ -168,12 +168,12 @@ fn refuse_line(number: u64, fault: &RangeFault, reply: &mut Vec<u8>) -> Result<b
 }
 
 /// Appends why a command is refused.
-fn refuse(number: u64, why: Why, reply: &mut Vec<u8>) -> Result<bool, PageFault>
+fn refuse(number: u64, why: Refusal, reply: &mut Vec<u8>) -> Result<bool, PageFault>
     ensures refused { IfOk result
-        (λ refused. (refused ≡ true) × (reply.new.items ≡ reply.old.items ++ why_text number why)) }
+        (λ refused. (refused ≡ true) × (reply.new.items ≡ reply.old.items ++ refused_text number why)) }
     ensures memory { OnErr result (IsErrOf result PageFault.Memory) }
 {
-    put_why(reply, number, why)?;
+    put_refusal(reply, number, why)?;
     Ok(true)
 }
 

@@ -5,7 +5,7 @@ ghost use Rattle.index_opening.specs.Evidence.{IsEvident};
 ghost use Rattle.index_core.specs.Sessions.{Trusts};
 ghost use Rattle.index_model.specs.State.{Index, State};
 ghost use Rattle.line_source.specs.Reader.{KnowsEnd};
-ghost use Rattle.script_run.specs.Answers.{IsEnd, Stands};
+ghost use Rattle.script_run.specs.LineAnswers.{IsEnd, Stands};
 ghost use Rattle.script_run.specs.Costs.{NoneCommits};
 ghost use Rattle.script_run.specs.Halted.{HasHaltCause, HasSourceCause, OfLines, OnHaltDamage};
 ghost use Rattle.script_run.specs.Kept.{HaltKeeps, StopKeeps};

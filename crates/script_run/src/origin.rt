@@ -6,7 +6,7 @@ ghost use Rattle.page_cache.specs.Evidence.{NotDamaged, OnDamage};
 ghost use Rattle.index_opening.specs.Evidence.{IsEvident};
 ghost use Rattle.index_core.specs.Sessions.{Trusts};
 ghost use Rattle.index_model.specs.State.{Index, State};
-ghost use Rattle.script_run.specs.Answers.{Stands};
+ghost use Rattle.script_run.specs.LineAnswers.{Stands};
 ghost use Rattle.script_run.specs.Leads.{Opens};
 ghost use Rattle.script_run.specs.Origins.{dims_of, IsFrom, IsMade, IsThere};
 

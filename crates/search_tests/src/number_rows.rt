@@ -4,8 +4,8 @@ ghost use Rattle.std.specs.Prelude.{◌<◌, ◌^◌, All};
 
 use crate::asserts::{same, same_at};
 use byte_cursor::Memory;
+use document_checks::{Misplaced, doubled, live_with_entries, misplaced};
 use live_bits::LiveBits;
-use number_checks::{Misplaced, doubled, live_with_entries, misplaced};
 use point_codec::{Entry, Point};
 use std::alloc::Global;
 use std::test::Fail;

@@ -13,7 +13,7 @@ use Rattle.page_cache.specs.FilePages.{kind_of, number_of, page_at, IsFilePage, 
 use Rattle.page_cache.specs.Bodies.{pages_for, filled}
 use Rattle.page_cache.proofs.PageRuns.{payloads_join, payloads_of_one}
 use Rattle.segment_file.specs.Segments.{part_of}
-use Rattle.segment_file.specs.Pieced.{IsPaged, laid}
+use Rattle.segment_file.specs.Pieced.{IsPaged, laid_pages}
 use Rattle.segment_file.proofs.Lists.{filled_length}
 
 begins_if : (b : Bool) (current leaf fits next : List ℕ) → (rest : List ℕ) × (fits ≡ (current ++ leaf) ++ rest) → (rest : List ℕ) × ((if b then fits else filled current ++ next) ≡ current ++ rest)
@@ -21,15 +21,15 @@ begins_if true current leaf fits next h = (leaf ++ h.0, h.1 ∙ append_assoc cur
 begins_if false current leaf fits next h = (replicate (4064 * pages_for (length current) - length current) 0 ++ next, append_assoc current (replicate (4064 * pages_for (length current) - length current) 0) next)
 
 -- the payloads begin with what stands already
-pub laid_begins : (current : List ℕ) (leaves : List (List ℕ)) → (rest : List ℕ) × (laid current leaves ≡ current ++ rest)
+pub laid_begins : (current : List ℕ) (leaves : List (List ℕ)) → (rest : List ℕ) × (laid_pages current leaves ≡ current ++ rest)
 laid_begins current [] = (replicate (4064 * pages_for (length current) - length current) 0, refl)
-laid_begins current (leaf ∷ leaves) = begins_if (nat_le (length current + length leaf) 4064) current leaf (laid (current ++ leaf) leaves) (laid leaf leaves) (laid_begins (current ++ leaf) leaves)
+laid_begins current (leaf ∷ leaves) = begins_if (nat_le (length current + length leaf) 4064) current leaf (laid_pages (current ++ leaf) leaves) (laid_pages leaf leaves) (laid_begins (current ++ leaf) leaves)
 
-laid_here : (current leaf : List ℕ) (leaves : List (List ℕ)) → length current + length leaf ≤ 4064 → laid current (leaf ∷ leaves) ≡ laid (current ++ leaf) leaves
-laid_here current leaf leaves fits = ap (λ (b : Bool). if b then laid (current ++ leaf) leaves else filled current ++ laid leaf leaves) (le-leb (length current + length leaf) 4064 fits)
+laid_here : (current leaf : List ℕ) (leaves : List (List ℕ)) → length current + length leaf ≤ 4064 → laid_pages current (leaf ∷ leaves) ≡ laid_pages (current ++ leaf) leaves
+laid_here current leaf leaves fits = ap (λ (b : Bool). if b then laid_pages (current ++ leaf) leaves else filled current ++ laid_pages leaf leaves) (le-leb (length current + length leaf) 4064 fits)
 
-laid_next : (current leaf : List ℕ) (leaves : List (List ℕ)) → 4064 < length current + length leaf → laid current (leaf ∷ leaves) ≡ filled current ++ laid leaf leaves
-laid_next current leaf leaves over = ap (λ (b : Bool). if b then laid (current ++ leaf) leaves else filled current ++ laid leaf leaves) (lt-leb (length current + length leaf) 4064 over)
+laid_next : (current leaf : List ℕ) (leaves : List (List ℕ)) → 4064 < length current + length leaf → laid_pages current (leaf ∷ leaves) ≡ filled current ++ laid_pages leaf leaves
+laid_next current leaf leaves over = ap (λ (b : Bool). if b then laid_pages (current ++ leaf) leaves else filled current ++ laid_pages leaf leaves) (lt-leb (length current + length leaf) 4064 over)
 
 -- the bytes stand at this spot of the leaf pages, of which the first is page `base`
 pub record Stands (payloads : List ℕ) (base : ℕ) (s : Spot) (leaf : List ℕ) : Type 0 where
@@ -55,7 +55,7 @@ add_first payloads base e s leaf leaves same here rest = record {
 
 -- the last page holds something already
 pub are_laid : (pre current payloads : List ℕ) (base : ℕ) (e : Spot) (leaves : List (List ℕ)) → length pre ≡ 4064 * (base + e.page) → e.offset ≡ length current → 1 ≤ length current → length current ≤ 4064
-    → AreLengths (map length leaves) → payloads ≡ pre ++ laid current leaves → AreLaid payloads base e leaves
+    → AreLengths (map length leaves) → payloads ≡ pre ++ laid_pages current leaves → AreLaid payloads base e leaves
 are_laid pre current payloads base e [] front_is offset some few lengths same = record {
   all = tt;
   total = (let full = filled_length current in omega (arith, full, front_is, some, few, ap (λ (l : List ℕ). length l) same, length-append pre (filled current)));
@@ -67,14 +67,14 @@ are_laid pre current payloads base e (leaf ∷ leaves) front_is offset some few 
       | inl over ↦
           let s : Spot = record { page = e.page + 1; offset = 0 } in
           let full : length (filled current) ≡ 4064 = (let f = filled_length current in omega arith) in
-          let next : payloads ≡ (pre ++ filled current) ++ laid leaf leaves = same ∙ ap (λ (l : List ℕ). pre ++ l) (laid_next current leaf leaves over) ∙ sym (append_assoc pre (filled current) (laid leaf leaves)) in
+          let next : payloads ≡ (pre ++ filled current) ++ laid_pages leaf leaves = same ∙ ap (λ (l : List ℕ). pre ++ l) (laid_next current leaf leaves over) ∙ sym (append_assoc pre (filled current) (laid_pages leaf leaves)) in
           let begin = laid_begins leaf leaves in
           let len : length (pre ++ filled current) ≡ 4064 * (base + (e.page + 1)) = omega (arith, length-append pre (filled current), full, front_is) in
           add_first payloads base e s leaf leaves (fitted_next e (length leaf) (omega arith))
           (record { here = stand (pre ++ filled current) leaf begin.0 payloads (4064 * (base + (e.page + 1)) + 0) (omega (arith, len)) (next ∙ ap (λ (l : List ℕ). (pre ++ filled current) ++ l) begin.1) })
           (are_laid (pre ++ filled current) leaf payloads base (record { page = e.page + 1; offset = 0 + length leaf }) leaves len (omega arith) n.0 n.1 others next)
       | inr fits ↦
-          let next : payloads ≡ pre ++ laid (current ++ leaf) leaves = same ∙ ap (λ (l : List ℕ). pre ++ l) (laid_here current leaf leaves fits) in
+          let next : payloads ≡ pre ++ laid_pages (current ++ leaf) leaves = same ∙ ap (λ (l : List ℕ). pre ++ l) (laid_here current leaf leaves fits) in
           let begin = laid_begins (current ++ leaf) leaves in
           let parts : payloads ≡ (pre ++ current) ++ (leaf ++ begin.0) =
           next ∙ ap (λ (l : List ℕ). pre ++ l) (begin.1 ∙ append_assoc current leaf begin.0) ∙ sym (append_assoc pre current (leaf ++ begin.0)) in
@@ -85,12 +85,12 @@ are_laid pre current payloads base e (leaf ∷ leaves) front_is offset some few 
     ]
 
 -- the first leaf begins the first page
-pub laid_first : (pre leaf payloads : List ℕ) (base : ℕ) (leaves : List (List ℕ)) → length pre ≡ 4064 * base → AreLengths (length leaf ∷ map length leaves) → payloads ≡ pre ++ laid [] (leaf ∷ leaves)
+pub laid_first : (pre leaf payloads : List ℕ) (base : ℕ) (leaves : List (List ℕ)) → length pre ≡ 4064 * base → AreLengths (length leaf ∷ map length leaves) → payloads ≡ pre ++ laid_pages [] (leaf ∷ leaves)
     → AreLaid payloads base front (leaf ∷ leaves)
 laid_first pre leaf payloads base leaves front_is lengths same =
     let n = head_length (length leaf) (map length leaves) lengths in
     let others = tail_lengths (length leaf) (map length leaves) lengths in
-    let next : payloads ≡ pre ++ laid leaf leaves = same ∙ ap (λ (l : List ℕ). pre ++ l) (laid_here [] leaf leaves (omega arith)) in
+    let next : payloads ≡ pre ++ laid_pages leaf leaves = same ∙ ap (λ (l : List ℕ). pre ++ l) (laid_here [] leaf leaves (omega arith)) in
     let begin = laid_begins leaf leaves in
     add_first payloads base front front leaf leaves (fitted_here front (length leaf) (omega arith))
     (record { here = stand pre leaf begin.0 payloads (4064 * (base + 0) + 0) (omega arith) (next ∙ ap (λ (l : List ℕ). pre ++ l) begin.1) })

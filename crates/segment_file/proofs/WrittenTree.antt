@@ -15,7 +15,7 @@ use Rattle.page_cache.proofs.PageRuns.{payloads_join, payloads_of_one}
 use Rattle.segment_file.specs.Heads.{Head, Fields, HasRanges, fields_bytes, fields_of, index_pages, page_of, count_of}
 use Rattle.segment_file.specs.Segments.{part_of, IsHeadOf, HoldsLeaf, HoldsTree, IsSegment}
 use Rattle.segment_file.specs.Written.{SpellsLeaves, head_of, FitsSegment}
-use Rattle.segment_file.specs.Pieced.{IsPaged, laid}
+use Rattle.segment_file.specs.Pieced.{IsPaged, laid_pages}
 use Rattle.segment_file.proofs.Lists.{fronts_equal, backs_equal, filled_length}
 use Rattle.segment_file.proofs.HeadReads.{first_length as page_length}
 use Rattle.segment_file.proofs.LaidTree.{Stands, AllStand, AreLaid, laid_first, payloads_long, stands_in}
@@ -84,7 +84,7 @@ tree_held D bytes payloads head count first e (Split d x l r) leaves items p len
     }
 
 -- the leaves of a tree are laid from the front on
-leaves_laid : (pre payloads : List ℕ) (base : ℕ) (leaves : List (List ℕ)) (t : IndexTree) → length pre ≡ 4064 * base → map length leaves ≡ lengths_of t → AreLengths (lengths_of t) → payloads ≡ pre ++ laid [] leaves
+leaves_laid : (pre payloads : List ℕ) (base : ℕ) (leaves : List (List ℕ)) (t : IndexTree) → length pre ≡ 4064 * base → map length leaves ≡ lengths_of t → AreLengths (lengths_of t) → payloads ≡ pre ++ laid_pages [] leaves
     → AreLaid payloads base front leaves
 leaves_laid pre payloads base [] t front_is same lengths e = absurd (let some = ap (λ (ns : List ℕ). length ns) (same ∙ lengths_first t) in omega arith)
 leaves_laid pre payloads base (leaf ∷ leaves) t front_is same lengths e = laid_first pre leaf payloads base leaves front_is (subst AreLengths (sym same) lengths) e
@@ -93,7 +93,7 @@ leaves_laid pre payloads base (leaf ∷ leaves) t front_is same lengths e = laid
 
 pub written : (D id leaf entries : ℕ) (index : Body) (leaves : List (List ℕ)) (items : List Item) (bytes : List ℕ) (count : ℕ) (f : Fields) (fits : FitsSegment D id leaf entries index leaves items) → HasRanges D (head_of id entries leaf index)
     → f ≡ fields_of D (head_of id entries leaf index) (pages_of fits.tree) → pages_of fits.tree < 2 ^ 32
-    → IsPaged (Segment id) count (filled (fields_bytes f) ++ filled index.bytes ++ laid [] leaves) bytes → IsSegment D bytes (head_of id entries leaf index) items
+    → IsPaged (Segment id) count (filled (fields_bytes f) ++ filled index.bytes ++ laid_pages [] leaves) bytes → IsSegment D bytes (head_of id entries leaf index) items
 unfolding IsSegment IsHeadOf
 written D id leaf entries index leaves items bytes count f fits ranges fields narrow p =
     let head = head_of id entries leaf index in
@@ -106,24 +106,24 @@ written D id leaf entries index leaves items bytes count f fits ranges fields na
     let one = page_length f in
     let more = filled_length index.bytes in
     let pre_is : length pre ≡ 4064 * (1 + index_pages head) = omega (arith, length-append (filled (fields_bytes f)) (filled index.bytes), one, more) in
-    let laid_is = leaves_laid pre (pre ++ laid [] leaves) (1 + index_pages head) leaves t pre_is same lengths refl in
+    let laid_is = leaves_laid pre (pre ++ laid_pages [] leaves) (1 + index_pages head) leaves t pre_is same lengths refl in
     let total = laid_is.total in
     let end_is : (end_of front (map length leaves)).page ≡ (end_of front (lengths_of t)).page = ap (λ (ns : List ℕ). (end_of front ns).page) same in
     let long = payloads_long (Segment id) bytes 0 count (λ n low high. p.pages n low (omega arith)) in
-    let all : length (pre ++ laid [] leaves) ≡ 4064 * count = sym (ap (λ (l : List ℕ). length l) p.payloads_are) ∙ long in
+    let all : length (pre ++ laid_pages [] leaves) ≡ 4064 * count = sym (ap (λ (l : List ℕ). length l) p.payloads_are) ∙ long in
     let pages_are : count ≡ 1 + index_pages head + pages_of t = omega arith in
     let rest = index_pages head + pages_of t in
     let split : 1 + rest ≡ count = omega arith in
     let I = payloads_of bytes 1 (index_pages head) in
     let L = payloads_of bytes (1 + index_pages head) (pages_of t) in
-    let parts : payloads_of bytes 0 1 ++ (I ++ L) ≡ filled (fields_bytes f) ++ (filled index.bytes ++ laid [] leaves) =
+    let parts : payloads_of bytes 0 1 ++ (I ++ L) ≡ filled (fields_bytes f) ++ (filled index.bytes ++ laid_pages [] leaves) =
     ap (λ (l : List ℕ). payloads_of bytes 0 1 ++ l) (sym (payloads_join bytes 1 (index_pages head) (pages_of t))) ∙ sym (payloads_join bytes 0 1 rest) ∙ ap (λ (n : ℕ). payloads_of bytes 0 n) split ∙ p.payloads_are
-    ∙ append_assoc (filled (fields_bytes f)) (filled index.bytes) (laid [] leaves) in
+    ∙ append_assoc (filled (fields_bytes f)) (filled index.bytes) (laid_pages [] leaves) in
     let first_long = payloads_long (Segment id) bytes 0 1 (λ n low high. p.pages n low (omega arith)) in
     let index_long = payloads_long (Segment id) bytes 1 (index_pages head) (λ n low high. p.pages n (omega arith) (omega arith)) in
-    let first_is : payloads_of bytes 0 1 ≡ filled (fields_bytes f) = fronts_equal (payloads_of bytes 0 1) (filled (fields_bytes f)) (I ++ L) (filled index.bytes ++ laid [] leaves) (omega arith) parts in
-    let behind_is = backs_equal (payloads_of bytes 0 1) (filled (fields_bytes f)) (I ++ L) (filled index.bytes ++ laid [] leaves) (omega arith) parts in
-    let index_is : I ≡ filled index.bytes = fronts_equal I (filled index.bytes) L (laid [] leaves) (omega arith) behind_is in
+    let first_is : payloads_of bytes 0 1 ≡ filled (fields_bytes f) = fronts_equal (payloads_of bytes 0 1) (filled (fields_bytes f)) (I ++ L) (filled index.bytes ++ laid_pages [] leaves) (omega arith) parts in
+    let behind_is = backs_equal (payloads_of bytes 0 1) (filled (fields_bytes f)) (I ++ L) (filled index.bytes ++ laid_pages [] leaves) (omega arith) parts in
+    let index_is : I ≡ filled index.bytes = fronts_equal I (filled index.bytes) L (laid_pages [] leaves) (omega arith) behind_is in
     let room = first_fits t lengths in
     record {
       head_is = record {
@@ -142,7 +142,7 @@ written D id leaf entries index leaves items bytes count f fits ranges fields na
       root = fits.root;
       tree = t;
       has = fits.has;
-      holds = subst (λ (s : Spot). HoldsTree D bytes head 0 s t items) (fitted_here front (first_length t) (omega arith)) (tree_held D bytes (pre ++ laid [] leaves) head count 0 front t leaves items p lengths fits.spells laid_is.all);
+      holds = subst (λ (s : Spot). HoldsTree D bytes head 0 s t items) (fitted_here front (first_length t) (omega arith)) (tree_held D bytes (pre ++ laid_pages [] leaves) head count 0 front t leaves items p lengths fits.spells laid_is.all);
     }
 
 -- ---- what is asked of the leaves

@@ -25,8 +25,8 @@ pub record IsPaged (name : FileName) (count : ℕ) (payloads bytes : List ℕ) :
 
 -- the payloads of leaf pages, on the last of which these bytes stand already: a leaf stands behind the one before
 -- where the page has room for it, and else at the front of the next page
-abbrev pub laid : (current : List ℕ) → List (List ℕ) → List ℕ
-laid current [] = filled current
-laid current (leaf ∷ leaves) =
-    if nat_le (length current + length leaf) 4064 then laid
-    (current ++ leaf) leaves else filled current ++ laid leaf leaves
+abbrev pub laid_pages : (current : List ℕ) → List (List ℕ) → List ℕ
+laid_pages current [] = filled current
+laid_pages current (leaf ∷ leaves) =
+    if nat_le (length current + length leaf) 4064 then laid_pages
+    (current ++ leaf) leaves else filled current ++ laid_pages leaf leaves

@@ -5,10 +5,10 @@ ghost use Rattle.outer_io.specs.Files.{bytes_of, SameBut};
 ghost use Rattle.outer_io.specs.declared.file_name.FileName.TheVariants.{Segment};
 ghost use Rattle.point_codec.specs.Points.{Item};
 ghost use Rattle.page_cache.specs.Bodies.{filled};
-ghost use Rattle.page_cache.specs.Causes.{HasSegCause};
+ghost use Rattle.page_cache.specs.Causes.{HasStoreCause};
 ghost use Rattle.segment_file.specs.Heads.{fields_bytes};
 ghost use Rattle.segment_file.specs.FieldsSeen.{fields_said};
-ghost use Rattle.segment_file.specs.Pieced.{piece_id, piece_pages, so_far, IsPaged, laid};
+ghost use Rattle.segment_file.specs.Pieced.{piece_id, piece_pages, so_far, IsPaged, laid_pages};
 ghost use Rattle.segment_file.specs.Segments.{IsSegment};
 ghost use Rattle.segment_file.specs.Written.{head_of, FitsSegment, CanWrite};
 
@@ -18,7 +18,7 @@ use crate::pieces::Pieces;
 use byte_cursor::Bytes;
 use inner_pack::Index;
 use outer_io::Folder;
-use page_cache::SegFault;
+use page_cache::StoreFault;
 use std::alloc::Global;
 
 /// Writes the file of a segment: its head, its index and its leaves, which spell so many entries, a leaf's each. The
@@ -31,17 +31,17 @@ pub fn write_segment<const D: usize, F: Folder>(
     entries: u32,
     index: Index<D>,
     leaves: &[Bytes],
-) -> Result<SegmentHead<D>, SegFault>
+) -> Result<SegmentHead<D>, StoreFault>
     requires { ∥ CanWrite D id leaf entries index leaves.now ∥₁ }
     ensures head { IfOk result (λ h. h ≡ head_of id entries leaf index.entry) }
     ensures written { IsTrue F.told → (items : List Item) → FitsSegment D id leaf entries index.entry leaves.now items
         → IfOk result (λ h. IsSegment D (bytes_of (F.files folder.new (Segment id))) h items) }
     ensures others { IsTrue F.told → SameBut (Segment id) (F.files folder.old) (F.files folder.new) }
     ensures reads { F.reads folder.new ≡ F.reads folder.old }
-    ensures cause { HasSegCause (F.faults folder.old) (F.faults folder.new) result }
+    ensures cause { HasStoreCause (F.faults folder.old) (F.faults folder.new) result }
 {
     let Ok(index_length) = u32::try_from(index.body().len()) else {
-        return Err(SegFault::Memory);
+        return Err(StoreFault::Memory);
     };
     let fields = HeadFields {
         dims: D as u8,
@@ -69,16 +69,16 @@ fn put_segment<F: Folder>(
     fields: HeadFields,
     index: &[u8],
     leaves: &[Bytes],
-) -> Result<(), SegFault>
+) -> Result<(), StoreFault>
     requires short { length index.now < 2 ^ 32 }
     requires leaves { All (λ b. length b ≤ 4064) leaves.now }
     requires few { length leaves.now ≤ 8388608 }
     ensures written { IsTrue F.told → OnOk result ((count : ℕ) × IsPaged (Segment id) count
-        (filled (fields_bytes (fields_said fields)) ++ filled index.now ++ laid [] leaves.now)
+        (filled (fields_bytes (fields_said fields)) ++ filled index.now ++ laid_pages [] leaves.now)
         (bytes_of (F.files folder.new (Segment id)))) }
     ensures others { IsTrue F.told → SameBut (Segment id) (F.files folder.old) (F.files folder.new) }
     ensures reads { F.reads folder.new ≡ F.reads folder.old }
-    ensures cause { HasSegCause (F.faults folder.old) (F.faults folder.new) result }
+    ensures cause { HasStoreCause (F.faults folder.old) (F.faults folder.new) result }
 {
     let mut pieces = Pieces::new(alloc, id)?;
     let first = fields.write(alloc)?;
@@ -96,18 +96,18 @@ fn put_leaves<F: Folder>(
     folder: &mut F,
     pieces: &mut Pieces,
     leaves: &[Bytes],
-) -> Result<(), SegFault>
+) -> Result<(), StoreFault>
     requires leaves { All (λ b. length b ≤ 4064) leaves.now }
     requires room { piece_pages pieces.old + length leaves.now + 1 < 2 ^ 32 }
     ensures id { piece_id pieces.new ≡ piece_id pieces.old }
     ensures put { IsTrue F.told → OnOk result ((payloads : List ℕ)
         → IsPaged (Segment (piece_id pieces.old)) (piece_pages pieces.old) payloads
         (so_far (bytes_of (F.files folder.old (Segment (piece_id pieces.old)))) pieces.old)
-        → IsPaged (Segment (piece_id pieces.old)) (piece_pages pieces.new) (payloads ++ laid [] leaves.now)
+        → IsPaged (Segment (piece_id pieces.old)) (piece_pages pieces.new) (payloads ++ laid_pages [] leaves.now)
         (so_far (bytes_of (F.files folder.new (Segment (piece_id pieces.old)))) pieces.new)) }
     ensures others { IsTrue F.told → SameBut (Segment (piece_id pieces.old)) (F.files folder.old) (F.files folder.new) }
     ensures reads { F.reads folder.new ≡ F.reads folder.old }
-    ensures cause { HasSegCause (F.faults folder.old) (F.faults folder.new) result }
+    ensures cause { HasStoreCause (F.faults folder.old) (F.faults folder.new) result }
 {
     let mut page = Vec::with_capacity(alloc, 4064)?;
     for leaf in leaves {
@@ -123,7 +123,7 @@ fn make_room<F: Folder>(
     pieces: &mut Pieces,
     page: &mut Vec<u8>,
     leaf: &[u8],
-) -> Result<(), SegFault>
+) -> Result<(), StoreFault>
     requires page { length page.old.items ≤ 4064 }
     requires leaf { length leaf.now ≤ 4064 }
     requires room { piece_pages pieces.old + 1 < 2 ^ 32 }
@@ -136,10 +136,11 @@ fn make_room<F: Folder>(
         → (more : List ℕ)
         × IsPaged (Segment (piece_id pieces.old)) (piece_pages pieces.new) more
         (so_far (bytes_of (F.files folder.new (Segment (piece_id pieces.old)))) pieces.new)
-        × (payloads ++ laid page.old.items (leaf.now ∷ leaves) ≡ more ++ laid (page.new.items ++ leaf.now) leaves)) }
+        × (payloads ++ laid_pages page.old.items (leaf.now ∷ leaves) ≡ more ++ laid_pages
+        (page.new.items ++ leaf.now) leaves)) }
     ensures others { IsTrue F.told → SameBut (Segment (piece_id pieces.old)) (F.files folder.old) (F.files folder.new) }
     ensures reads { F.reads folder.new ≡ F.reads folder.old }
-    ensures cause { HasSegCause (F.faults folder.old) (F.faults folder.new) result }
+    ensures cause { HasStoreCause (F.faults folder.old) (F.faults folder.new) result }
 {
     if page.len() + leaf.len() <= 4064 {
         return Ok(());

@@ -12,7 +12,7 @@ use Rattle.live_bits.proofs.LiveNumbers.{is_live-without}
 use Rattle.documents.proofs.Lists.{cons_cases, of_filter, of_map}
 use Rattle.segment_file.specs.Heads.{Head}
 use Rattle.segment_file.specs.Segments.{IsSegment}
-use Rattle.number_checks.specs.Crowded.{AreUncrowded}
+use Rattle.document_checks.specs.Crowded.{AreUncrowded}
 use Rattle.segment_build.specs.NewSegments.{IsCanonical}
 use Rattle.segment_view.specs.Parts.{Part, IsPlaced, cleared}
 use Rattle.file_names.specs.Names.{NameList, is_named}

@@ -27,7 +27,7 @@ use Rattle.stored_index.proofs.Places.{entry_there}
 use Rattle.index_model.specs.State.{Index}
 use Rattle.segment_view.specs.Parts.{Part, Contents, cleared, has_live, live_in_parts, lives_of, parts_among}
 use Rattle.segment_view.proofs.Living.{live_cleared, live_numbers, read_cleared}
-use Rattle.number_checks.specs.Crowded.{AreFew}
+use Rattle.document_checks.specs.Crowded.{AreFew}
 use Rattle.segment_build.specs.NewSegments.{NewSegmentData}
 use Rattle.segment_set.specs.Sets.{BegunMerge, IsWell, SetData, begun_but, built_but, is_live_in, set_but, set_with}
 use Rattle.segment_set.specs.Kept.{StaysAlone}

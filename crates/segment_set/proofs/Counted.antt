@@ -7,7 +7,7 @@ use Rattle.std.proofs.lemmas.List.Sorted.{sum_by-IsPermutation}
 use Rattle.std.proofs.lemmas.List.Sums.{sum_by-cons}
 use Rattle.point_codec.specs.Points.{Item}
 use Rattle.leaf_codec.specs.LeafOrder.{NoneTwice, same_item}
-use Rattle.number_checks.specs.Crowded.{AreFew, AreUncrowded, IsCrowded}
+use Rattle.document_checks.specs.Crowded.{AreFew, AreUncrowded, IsCrowded}
 
 -- ---- how many of the entries that are kept
 

@@ -21,7 +21,7 @@ use Rattle.documents.specs.Entries.{is_among}
 use Rattle.stored_index.specs.Segments.{places}
 use Rattle.segment_view.specs.Parts.{Part, lives_of, parts_among}
 use Rattle.segment_view.specs.Held.{IsHeld, AreHeld}
-use Rattle.number_checks.specs.Crowded.{IsCrowded}
+use Rattle.document_checks.specs.Crowded.{IsCrowded}
 use Rattle.file_names.specs.Names.{NameList}
 use Rattle.segment_set.specs.Sets.{AreAlone}
 use Rattle.segment_set.specs.Kept.{AreCanonical, Follows, HasCanonical, IsWithin}

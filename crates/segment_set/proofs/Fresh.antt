@@ -19,7 +19,7 @@ use Rattle.documents.proofs.Totals.{permuted, totals}
 use Rattle.stored_index.proofs.Listing.{live_fit}
 use Rattle.stored_index.proofs.Places.{entry_there, some_entry}
 use Rattle.segment_view.specs.Parts.{Part, has_live}
-use Rattle.number_checks.specs.Crowded.{AreUncrowded}
+use Rattle.document_checks.specs.Crowded.{AreUncrowded}
 use Rattle.segment_build.specs.NewSegments.{NewSegmentData, HasEntries}
 use Rattle.segment_set.specs.Merges.{HoldsLive, IsGathered, IsMade}
 use Rattle.segment_set.proofs.Counted.{uncrowded_permuted}

@@ -18,7 +18,7 @@ use Rattle.page_cache.specs.Cache.{Agrees, KeepsFile}
 use Rattle.page_cache.proofs.Agreement.{agrees_other}
 use Rattle.index_model.specs.State.{Index}
 use Rattle.segment_view.specs.Parts.{Part, Contents, has_live, ids_of, live_in_parts, parts_among, parts_but}
-use Rattle.number_checks.specs.Crowded.{AreFew}
+use Rattle.document_checks.specs.Crowded.{AreFew}
 use Rattle.segment_build.specs.NewSegments.{NewSegmentData, HasEntries, IsCanonical}
 use Rattle.file_names.specs.Names.{NameList, is_named}
 use Rattle.segment_set.specs.Sets.{BegunMerge, SetData, IsBuiltOf, IsNamed, IsWell, built_of, inputs_of, is_live_in}

@@ -20,9 +20,9 @@ use Rattle.page_cache.specs.declared.cache.PageCache.{PageCache}
 use Rattle.page_cache.specs.Cache.{Agrees, KeepsFile}
 use Rattle.page_cache.specs.declared.faults.Damage.{Damage}
 use Rattle.page_cache.specs.declared.faults.PageFault.{PageFault}
-use Rattle.page_cache.specs.declared.faults.SegFault.{SegFault}
-use Rattle.page_cache.specs.declared.faults.SegFault.TheVariants as seg
-use Rattle.page_cache.specs.Causes.{HasPageCause, HasSegCause, page_fault}
+use Rattle.page_cache.specs.declared.faults.StoreFault.{StoreFault}
+use Rattle.page_cache.specs.declared.faults.StoreFault.TheVariants as store
+use Rattle.page_cache.specs.Causes.{HasPageCause, HasStoreCause, page_fault}
 use Rattle.page_cache.specs.Evidence.{FaultShows, NotDamaged, OnDamage}
 use Rattle.page_cache.proofs.Damages.{on_damage_weaker}
 use Rattle.commit_list.specs.declared.listed.Listed.{Listed}
@@ -421,13 +421,13 @@ all_written told before after files listed parts others t same all =
 -- ---- what an error says
 
 -- a fault of a write, where a call may meet damage too
-pub seg_cause : {T U : Type 0} (before now : ℕ) (f : SegFault) → HasSegCause {T = U} before now (Err f) → HasPageCause {T = T} before now (Err (page_fault f))
-seg_cause before now seg.Failed cause = record { later = cause.later; fine = tt; failed = λ e. cause.failed refl }
-seg_cause before now seg.Memory cause = record { later = cause.later; fine = tt; failed = λ e. absurd cc }
+pub seg_cause : {T U : Type 0} (before now : ℕ) (f : StoreFault) → HasStoreCause {T = U} before now (Err f) → HasPageCause {T = T} before now (Err (page_fault f))
+seg_cause before now store.Failed cause = record { later = cause.later; fine = tt; failed = λ e. cause.failed refl }
+seg_cause before now store.Memory cause = record { later = cause.later; fine = tt; failed = λ e. absurd cc }
 
-pub seg_whole : (f : SegFault) → FaultShows (λ _. ⊥) (page_fault f)
-seg_whole seg.Failed = tt
-seg_whole seg.Memory = tt
+pub seg_whole : (f : StoreFault) → FaultShows (λ _. ⊥) (page_fault f)
+seg_whole store.Failed = tt
+seg_whole store.Memory = tt
 
 pub done_cause : {T : Type 0} (before now : ℕ) (x : T) → now ≡ before → HasPageCause before now (Ok x)
 done_cause before now x same = record { later = omega (arith, same); fine = same; failed = λ e. absurd cc }

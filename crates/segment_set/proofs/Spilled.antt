@@ -11,7 +11,7 @@ use Rattle.live_bits.specs.LiveSet.{is_live}
 use Rattle.documents.specs.Entries.{SameTotals, has_entry, is_among}
 use Rattle.index_model.specs.State.{Index}
 use Rattle.segment_view.specs.Parts.{Part, live_in_parts, parts_among}
-use Rattle.number_checks.specs.Crowded.{AreFew}
+use Rattle.document_checks.specs.Crowded.{AreFew}
 use Rattle.file_names.specs.Names.{NameList}
 use Rattle.segment_set.specs.Sets.{SetData, IsBuiltOf, IsWell, inputs_of}
 use Rattle.segment_set.specs.Seen.{Sees}

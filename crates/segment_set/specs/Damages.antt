@@ -10,7 +10,7 @@ use Rattle.segment_file.specs.Heads.{Head}
 use Rattle.segment_file.specs.Damages.{IsLeafDamageOf}
 use Rattle.segment_view.specs.Parts.{Part}
 use Rattle.segment_view.specs.Damages.{IsReadDamage}
-use Rattle.number_checks.specs.Crowded.{IsCrowded}
+use Rattle.document_checks.specs.Crowded.{IsCrowded}
 use Rattle.file_names.specs.Names.{NameList, is_named}
 
 -- ---- merges

@@ -11,7 +11,7 @@ use Rattle.stored_index.specs.Kept.{ListsFile}
 use Rattle.segment_file.specs.Heads.{Head}
 use Rattle.segment_file.specs.Segments.{IsSegment}
 use Rattle.segment_view.specs.Parts.{Part, ids_of}
-use Rattle.number_checks.specs.Crowded.{AreUncrowded}
+use Rattle.document_checks.specs.Crowded.{AreUncrowded}
 use Rattle.segment_build.specs.NewSegments.{IsCanonical}
 use Rattle.file_names.specs.Names.{NameList, is_named}
 use Rattle.segment_set.specs.Given.{AreNext}

@@ -16,7 +16,7 @@ use Rattle.commit_list.specs.Commits.{CommitData}
 use Rattle.merge_policy.specs.Choice.{free_count}
 use Rattle.stored_index.specs.Segments.{places}
 use Rattle.segment_view.specs.Parts.{Part, cleared, lives_of, ids_of, parts_among}
-use Rattle.number_checks.specs.Crowded.{AreFew, AreUncrowded}
+use Rattle.document_checks.specs.Crowded.{AreFew, AreUncrowded}
 use Rattle.segment_build.specs.NewSegments.{NewSegmentData, HasEntries}
 use Rattle.file_names.specs.Names.{NameList, is_named}
 

@@ -8,47 +8,47 @@ use Rattle.segment_set.specs.Kept.{IsAsBefore, StaysButParts}
 use Rattle.segment_set.specs.Merges.{IsMerged, IsSpilled}
 
 -- a set with the files of its folder
-pub record Spot : Type 0 where
+pub record Moment : Type 0 where
   pub files : Files
   pub set : SetData
 
-abbrev pub spot : Files → SetData → Spot
-spot files set = record { files = files; set = set }
+abbrev pub moment : Files → SetData → Moment
+moment files set = record { files = files; set = set }
 
 -- the segments of these ids were merged into one at most
-pub record MergesParts (D : ℕ) (told : Type 0) (ids : List ℕ) (old new : Spot) : Type 0 where
+pub record MergesParts (D : ℕ) (told : Type 0) (ids : List ℕ) (old new : Moment) : Type 0 where
   pub merged : IsMerged D told old.set.leaf old.set.names new.set.names old.files new.files old.set.cache ids
       old.set.parts new.set.parts
   pub alone : StaysButParts old.set new.set
 
 -- those that the policy chooses
-pub record MergesChoice (D : ℕ) (told : Type 0) (old new : Spot) : Type 0 where
+pub record MergesChoice (D : ℕ) (told : Type 0) (old new : Moment) : Type 0 where
   pub positions : List ℕ
   pub choice : IsChoice (sizes_of old.set.parts) (pins_of old.set.begun old.set.parts) positions
   pub merges : MergesParts D told (map (slice_index (ids_of old.set.parts)) positions) old new
 
 -- one choice after another
-abbrev pub MergesChoices : ℕ → (told : Type 0) → Spot → List Spot → Spot → Type 0
+abbrev pub MergesChoices : ℕ → (told : Type 0) → Moment → List Moment → Moment → Type 0
 MergesChoices D told old [] new = new ≡ old
 MergesChoices D told old (mid ∷ spots) new = MergesChoice D told old mid × MergesChoices D told mid spots new
 
 -- choices of the policy were merged, one after another; no other segment is changed, and nothing else of the set
-pub record Settles (D : ℕ) (told : Type 0) (old new : Spot) : Type 0 where
-  pub spots : List Spot
+pub record Settles (D : ℕ) (told : Type 0) (old new : Moment) : Type 0 where
+  pub spots : List Moment
   pub merges : MergesChoices D told old spots new
 
 -- what waited in the buffer went to a segment
-pub record Spills (D : ℕ) (told : Type 0) (old new : Spot) : Type 0 where
+pub record WritesBuffer (D : ℕ) (told : Type 0) (old new : Moment) : Type 0 where
   pub spilled : IsSpilled D told old.set.leaf old.set.names new.set.names new.files old.set.buffer old.set.parts
       new.set.parts
   pub alone : new.set ≡ record old.set { names = new.set.names; parts = new.set.parts; buffer = [] }
 
 -- and then the buffer went to a segment, or it stayed
-pub record Flushes (D : ℕ) (told : Type 0) (old new : Spot) : Type 0 where
-  pub mid : Spot
+pub record Flushes (D : ℕ) (told : Type 0) (old new : Moment) : Type 0 where
+  pub mid : Moment
   pub settles : Settles D told old mid
-  pub spills : (new ≡ mid) ⊎ Spills D told mid new
+  pub spills : (new ≡ mid) ⊎ WritesBuffer D told mid new
 
--- the set is as it was at such a spot, but that files may have been named since
-abbrev pub IsLeft : (Spot → Type 0) → SetData → Type 0
-IsLeft P new = (s : Spot) × P s × IsAsBefore s.set new
+-- the set is as it was at such a moment, but that files may have been named since
+abbrev pub IsLeft : (Moment → Type 0) → SetData → Type 0
+IsLeft P new = (s : Moment) × P s × IsAsBefore s.set new

@@ -39,7 +39,7 @@ impl<const D: usize> SegmentSet<D> {
     ghost use Rattle.segment_set.specs.Sets.{IsNamed, IsSettled, is_live_in, set_but, set_with};
     ghost use Rattle.segment_set.specs.Seen.{Sees};
     ghost use Rattle.segment_set.specs.Kept.{AreCanonical, Follows, KeepsNamed, StaysAlone, StaysButCache};
-    ghost use Rattle.segment_set.specs.Settles.{Flushes, IsLeft, Settles, Spot, spot};
+    ghost use Rattle.segment_set.specs.Settles.{Flushes, IsLeft, Settles, Moment, moment};
     ghost use Rattle.segment_set.specs.Damages.{IsDoubt, IsMergeDamage, IsMergeDamageOf};
     ghost use Rattle.segment_set.specs.Faithful.{IsFaithful};
     ghost use Rattle.index_opening.specs.Evidence.{IsEvident, IsEvidentIn};
@@ -74,9 +74,10 @@ impl<const D: usize> SegmentSet<D> {
         ensures kept_full { IsErrOf result Full → (self.new ≡ self.old) × (F.reads folder.new ≡ F.reads folder.old) }
         ensures files_full { IsTrue F.told → IsErrOf result Full → F.files folder.new ≡ F.files folder.old }
         ensures added { OnOk result
-            ((s : Spot) × Flushes D (IsTrue F.told) (spot (F.files folder.old) self.old) s
+            ((s : Moment) × Flushes D (IsTrue F.told) (moment (F.files folder.old) self.old) s
             × (self.new ≡ set_with points.now s.set)) }
-        ensures left { OnErr result (IsLeft (Flushes D (IsTrue F.told) (spot (F.files folder.old) self.old)) self.new) }
+        ensures left { OnErr result
+            (IsLeft (Flushes D (IsTrue F.told) (moment (F.files folder.old) self.old)) self.new) }
         ensures stays { OnErr result (StaysAlone self.old self.new) }
         ensures kept { KeepsNamed (IsTrue F.told) self.old.names self.new.names (F.files folder.old)
             (F.files folder.new) }
@@ -158,8 +159,9 @@ impl<const D: usize> SegmentSet<D> {
             → Sees D (F.files folder.new) self.new i }
         // what stays
         ensures flushed { OnOk result
-            (Flushes D (IsTrue F.told) (spot (F.files folder.old) self.old) (spot (F.files folder.new) self.new)) }
-        ensures left { OnErr result (IsLeft (Settles D (IsTrue F.told) (spot (F.files folder.old) self.old)) self.new) }
+            (Flushes D (IsTrue F.told) (moment (F.files folder.old) self.old) (moment (F.files folder.new) self.new)) }
+        ensures left { OnErr result
+            (IsLeft (Settles D (IsTrue F.told) (moment (F.files folder.old) self.old)) self.new) }
         ensures stays { StaysAlone self.old self.new }
         ensures kept { KeepsNamed (IsTrue F.told) self.old.names self.new.names (F.files folder.old)
             (F.files folder.new) }

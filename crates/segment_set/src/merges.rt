@@ -13,7 +13,7 @@ ghost use Rattle.segment_view.specs.Parts.{Contents, AreRead, ids_of, live_in_pa
 
 use crate::choosing::{chosen, first_places, ids_at, inputs_of, is_settled, unpinned};
 use crate::faults::{BeginFault, EndFault};
-use crate::merging::{BuildPlan, gathered, merge, replace, spill};
+use crate::rewriting::{BuildPlan, gathered, merge, replace, write_buffer};
 use crate::set::{Begun, SegmentSet};
 use bkd_build::Gate;
 use outer_io::Folder;
@@ -31,7 +31,7 @@ impl<const D: usize> SegmentSet<D> {
     ghost use Rattle.segment_set.specs.Merged.{IsApart, IsEnded, IsTidy, IsWhole, KeepsEntries, Rearranges, chosen_ids};
     ghost use Rattle.segment_set.specs.Merged.{free_ids, free_parts};
     ghost use Rattle.segment_set.specs.Merges.{IsGathered, IsMerged, Replaces, living};
-    ghost use Rattle.segment_set.specs.Settles.{Flushes, IsLeft, MergesParts, Settles, Spills, spot};
+    ghost use Rattle.segment_set.specs.Settles.{Flushes, IsLeft, MergesParts, Settles, WritesBuffer, moment};
     ghost use Rattle.segment_set.specs.Damages.{IsDoubt, IsMergeDamage, IsMergeDamageOf};
     ghost use Rattle.segment_set.specs.Faithful.{IsFaithful};
     ghost use Rattle.index_opening.specs.Evidence.{IsEvidentIn};
@@ -53,8 +53,9 @@ impl<const D: usize> SegmentSet<D> {
             ((level : ℕ) → free_count level (sizes_of self.new.parts) (pins_of self.new.begun self.new.parts) ≤ 10) }
         // what is done, and after a fault what was done before: merges of the policy, each whole
         ensures flushed { OnOk result
-            (Flushes D (IsTrue F.told) (spot (F.files folder.old) self.old) (spot (F.files folder.new) self.new)) }
-        ensures left { OnErr result (IsLeft (Settles D (IsTrue F.told) (spot (F.files folder.old) self.old)) self.new) }
+            (Flushes D (IsTrue F.told) (moment (F.files folder.old) self.old) (moment (F.files folder.new) self.new)) }
+        ensures left { OnErr result
+            (IsLeft (Settles D (IsTrue F.told) (moment (F.files folder.old) self.old)) self.new) }
         // what stays
         ensures stays { StaysAlone self.old self.new }
         ensures kept { KeepsNamed (IsTrue F.told) self.old.names self.new.names (F.files folder.old)
@@ -81,7 +82,7 @@ impl<const D: usize> SegmentSet<D> {
             (F.files folder.new)) }
     {
         self.merge_settle(rt, alloc, folder, gate)?;
-        self.spill(rt, alloc, folder, gate)
+        self.write_buffer(rt, alloc, folder, gate)
     }
 
     /// Merges what the policy chooses until it chooses none. Inputs of a begun merge are pinned.
@@ -100,8 +101,9 @@ impl<const D: usize> SegmentSet<D> {
         ensures room { OnOk result (length self.new.parts < 200) }
         // what is done, and after a fault what was done before: merges of the policy, each whole
         ensures settled { OnOk result
-            (Settles D (IsTrue F.told) (spot (F.files folder.old) self.old) (spot (F.files folder.new) self.new)) }
-        ensures left { OnErr result (IsLeft (Settles D (IsTrue F.told) (spot (F.files folder.old) self.old)) self.new) }
+            (Settles D (IsTrue F.told) (moment (F.files folder.old) self.old) (moment (F.files folder.new) self.new)) }
+        ensures left { OnErr result
+            (IsLeft (Settles D (IsTrue F.told) (moment (F.files folder.old) self.old)) self.new) }
         // what stays
         ensures stays { StaysAlone self.old self.new }
         ensures kept { KeepsNamed (IsTrue F.told) self.old.names self.new.names (F.files folder.old)
@@ -155,8 +157,8 @@ impl<const D: usize> SegmentSet<D> {
             → All (λ p. All (λ x. is_live p.live x.doc ≡ true) (c p.head.id)) (free_parts self.new)) }
         ensures merged { OnOk result
             (IsTidy self.old
-            ⊎ MergesParts D (IsTrue F.told) (free_ids self.old) (spot (F.files folder.old) self.old)
-            (spot (F.files folder.new) self.new)) }
+            ⊎ MergesParts D (IsTrue F.told) (free_ids self.old) (moment (F.files folder.old) self.old)
+            (moment (F.files folder.new) self.new)) }
         // where this is so already nothing is done
         ensures still { IsTidy self.old → (self.new ≡ self.old) × (F.reads folder.new ≡ F.reads folder.old) }
         ensures unwritten { IsTrue F.told → IsTidy self.old → F.files folder.new ≡ F.files folder.old }
@@ -400,7 +402,7 @@ impl<const D: usize> SegmentSet<D> {
     }
 
     /// Writes what waits in the buffer as a segment.
-    fn spill<R: Threads + Sync, F: Folder, G: Gate>(
+    fn write_buffer<R: Threads + Sync, F: Folder, G: Gate>(
         &mut self,
         rt: &R,
         alloc: Global,
@@ -413,8 +415,9 @@ impl<const D: usize> SegmentSet<D> {
         ensures faithful { IsTrue F.told → IsFaithful D (F.files folder.old) self.old
             → IsFaithful D (F.files folder.new) self.new }
         ensures emptied { OnOk result (self.new.buffer ≡ []) }
-        ensures spills { OnOk result ((spot (F.files folder.new) self.new ≡ spot (F.files folder.old) self.old)
-            ⊎ Spills D (IsTrue F.told) (spot (F.files folder.old) self.old) (spot (F.files folder.new) self.new)) }
+        ensures spills { OnOk result ((moment (F.files folder.new) self.new ≡ moment (F.files folder.old) self.old)
+            ⊎ WritesBuffer D (IsTrue F.told) (moment (F.files folder.old) self.old)
+            (moment (F.files folder.new) self.new)) }
         ensures refused { OnErr result (IsAsBefore self.old self.new) }
         ensures one_more { (level : ℕ)
             → free_count level (sizes_of self.new.parts) (pins_of self.new.begun self.new.parts)
@@ -427,7 +430,7 @@ impl<const D: usize> SegmentSet<D> {
             return Ok(());
         }
         let plan = self.plan();
-        spill(
+        write_buffer(
             rt,
             alloc,
             folder,

@@ -39,7 +39,7 @@ impl<const D: usize> SegmentSet<D> {
     ghost use Rattle.segment_set.specs.Sets.{IsSettled, IsWell, pins_of, sizes_of};
     ghost use Rattle.segment_set.specs.Seen.{Sees};
     ghost use Rattle.segment_set.specs.Kept.{AreCanonical, Follows, IsAsBefore, IsCommitOf, StaysAlone};
-    ghost use Rattle.segment_set.specs.Settles.{Flushes, IsLeft, Spot, spot};
+    ghost use Rattle.segment_set.specs.Settles.{Flushes, IsLeft, Moment, moment};
     ghost use Rattle.segment_set.specs.Damages.{IsDoubt, IsMergeDamage, IsMergeDamageOf};
     ghost use Rattle.segment_set.specs.Faithful.{IsFaithful};
     ghost use Rattle.index_opening.specs.Evidence.{IsEvidentIn};
@@ -70,9 +70,10 @@ impl<const D: usize> SegmentSet<D> {
             → ((m : FileName) → ListsFile c m → files m ≡ F.files folder.new m) → IsStored files (Some (at_rest i))) }
         // what is done, and after a fault what was done before: merges of the policy and a flush, each whole
         ensures flushed { IfOk result
-            (λ c. (s : Spot) × Flushes D (IsTrue F.told) (spot (F.files folder.old) self.old) s
+            (λ c. (s : Moment) × Flushes D (IsTrue F.told) (moment (F.files folder.old) self.old) s
             × StaysButSaved s.set self.new × All (HasNextGeneration s.set.names) c.listed) }
-        ensures left { OnErr result (IsLeft (Flushes D (IsTrue F.told) (spot (F.files folder.old) self.old)) self.new) }
+        ensures left { OnErr result
+            (IsLeft (Flushes D (IsTrue F.told) (moment (F.files folder.old) self.old)) self.new) }
         // what stays
         ensures stays { StaysAlone self.old self.new }
         ensures kept { KeepsNamed (IsTrue F.told) self.old.names self.new.names (F.files folder.old)

@@ -2,7 +2,7 @@
 use Rattle.std.proofs.Common.{◌≡◌, ◌*◌, length, ap, sym, ◌∙◌, arith}
 use Rattle.std.proofs.lemmas.Result.{err_from_is_err_and}
 use Rattle.script_lang.specs.Parts.{left}
-use Rattle.count_queries.specs.Asks.{given}
+use Rattle.count_queries.specs.Asks.{on_success}
 use Rattle.count_queries.proofs.Asking.{grid_from, grid_read, words_four}
 use Rattle.count_queries.proofs.wanted.grid.Goals as goal
 
@@ -16,4 +16,4 @@ returns-in_err-lo g c =
     (sym (grid_read g.row.D _ _ _ _ _ _ _ c.in_ok-x.x c.in_ok-step_x.step_x c.in_ok-y.y c.in_ok-step_y.step_y
     (words_four c.in-Some.ensures c.in-Some-next.ensures c.in-Some-next-2.ensures c.in-Some-next-3.ensures) long six c.in_ok-x.ensures c.in_ok-step_x.ensures
     c.in_ok-y.ensures c.in_ok-step_y.ensures
-    ∙ ap (λ box. given box (grid_from c.in_ok-x.x c.in_ok-step_x.step_x c.in_ok-y.y c.in_ok-step_y.step_y)) c.in_err-lo.ensures))
+    ∙ ap (λ box. on_success box (grid_from c.in_ok-x.x c.in_ok-step_x.step_x c.in_ok-y.y c.in_ok-step_y.step_y)) c.in_err-lo.ensures))

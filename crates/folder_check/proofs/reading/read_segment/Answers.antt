@@ -5,7 +5,7 @@ use Rattle.std.proofs.lemmas.Result.{err_from_is_err_and}
 use Rattle.point_codec.specs.Seen.{items_of}
 use Rattle.leaf_codec.specs.LeafOrder.{NoneTwice}
 use Rattle.documents.specs.Entries.{has_entry}
-use Rattle.number_checks.specs.Crowded.{AreFew, IsLeastCrowded}
+use Rattle.document_checks.specs.Crowded.{AreFew, IsLeastCrowded}
 use Rattle.segment_view.proofs.Shown.{read_shown}
 use Rattle.folder_check.proofs.Found.{found_of}
 use Rattle.folder_check.proofs.Pages.{leaves_read}

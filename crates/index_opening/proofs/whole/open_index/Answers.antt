@@ -11,7 +11,7 @@ use Rattle.commit_list.specs.declared.listed.Listed.{Listed}
 use Rattle.commit_list.specs.CommitFiles.{IsCommitFile}
 use Rattle.stored_index.specs.Segments.{places}
 use Rattle.segment_view.specs.Parts.{lives_of}
-use Rattle.number_checks.specs.Placed.{IsPlaced}
+use Rattle.document_checks.specs.Placed.{IsPlaced}
 use Rattle.index_opening.specs.Damages.{IsAttachDamage, IsAttachDamageOf, IsListedDamage, IsListedDamageOf, IsMisplaced}
 use Rattle.index_opening.proofs.Listed.{listed_of, listed_shown, misplaced_at, misplaced_of, misplaced_shown, opened_heads, opened_lives, undefined_fault, whole_listed, whole_placed}
 use Rattle.index_opening.proofs.Evident.{on_attach_evident}

@@ -1,7 +1,7 @@
 -- What the line did is known, and its answer was sent.
 use Rattle.std.proofs.Common.{ℕ, List, ◌++◌, None, ap, ◌∙◌, inr, refl}
 use Rattle.std.proofs.lemmas.Result.{err_from_is_err_and}
-use Rattle.script_run.specs.Answers.{IsOpening, IsWithin}
+use Rattle.script_run.specs.LineAnswers.{IsOpening, IsWithin}
 use Rattle.script_run.proofs.Lined.{known_is, only_sink, sent_as}
 use Rattle.script_run.proofs.answers.answer_first.Goals as goal
 use Rattle.script_run.specs.Languages.{answer}

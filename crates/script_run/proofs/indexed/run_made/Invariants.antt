@@ -1,7 +1,7 @@
 use Rattle.std.proofs.Common.{◌≤◌, ◌++◌, ℕ, List, IsTrue}
 use Rattle.index_core.specs.Sessions.{Trusts}
 use Rattle.index_model.specs.State.{Index, State}
-use Rattle.script_run.specs.Answers.{Stands}
+use Rattle.script_run.specs.LineAnswers.{Stands}
 use Rattle.script_run.proofs.Reading.{Going, HasRead, Quiet}
 use Rattle.script_run.proofs.indexed.run_made.Given as goal
 

@@ -1,5 +1,5 @@
 use Rattle.std.proofs.Common.{◌≡◌, ◌+◌, ◌++◌, ℕ, List, [], length, drop, get_or, ap, sym, subst, arith, ◌∙◌, length-append}
-use Rattle.segment_file.specs.Pieced.{laid}
+use Rattle.segment_file.specs.Pieced.{laid_pages}
 use Rattle.segment_file.proofs.Subtrees.{OnOk-weaker}
 use Rattle.segment_file.proofs.Laid.{laid_more, laid_all}
 use Rattle.segment_file.proofs.write.put_leaves.Goals as goal
@@ -21,8 +21,8 @@ loop-leaf-preserved g c =
           let step = c.in_ok-make_room.ensures.put told now.0 (drop (c.loop-leaf.leaf-index + 1) c.args.leaves.now) (rw i.id now.1) in (
             step.0,
             rw (← i.id) step.1,
-            laid_more (payloads ++ laid [] c.args.leaves.now) now.0 step.0 c.loop-leaf.page.items c.extend_from_slice.new.self.items c.as_slice.result.now c.args.leaves.now c.loop-leaf.leaf-index c.loop-leaf-test.true item now.2
-                (step.2 ∙ ap (λ (l : List ℕ). step.0 ++ laid l (drop (c.loop-leaf.leaf-index + 1) c.args.leaves.now)) (sym new_page)),
+            laid_more (payloads ++ laid_pages [] c.args.leaves.now) now.0 step.0 c.loop-leaf.page.items c.extend_from_slice.new.self.items c.as_slice.result.now c.args.leaves.now c.loop-leaf.leaf-index c.loop-leaf-test.true item now.2
+                (step.2 ∙ ap (λ (l : List ℕ). step.0 ++ laid_pages l (drop (c.loop-leaf.leaf-index + 1) c.args.leaves.now)) (sym new_page)),
           );
       others = λ told other ne. c.make_room.ensures.others told other (rw i.id ne) ∙ i.others told other ne;
       reads = c.make_room.ensures.reads ∙ i.reads;
@@ -36,6 +36,6 @@ returns-clause-put g c = λ told.
     (λ f payloads h.
     let now = i.put told payloads h in
     let paged = f now.0 (rw i.id now.1) in
-    let all = laid_all (payloads ++ laid [] c.args.leaves.now) now.0 c.loop-leaf.page.items c.args.leaves.now c.loop-leaf.leaf-index (omega arith) now.2 in
+    let all = laid_all (payloads ++ laid_pages [] c.args.leaves.now) now.0 c.loop-leaf.page.items c.args.leaves.now c.loop-leaf.leaf-index (omega arith) now.2 in
     rw (← i.id, all, ← c.as_slice-2.ensures.value) paged)
     (c.push.ensures.put told)

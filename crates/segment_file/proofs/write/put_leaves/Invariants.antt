@@ -2,7 +2,7 @@ use Rattle.std.proofs.Common.{◌≡◌, ◌≤◌, ◌+◌, ◌++◌, ℕ, List
 use Rattle.std.specs.Prelude.{IsTrue}
 use Rattle.outer_io.specs.Files.{bytes_of, SameBut}
 use Rattle.outer_io.specs.declared.file_name.FileName.TheVariants.{Segment}
-use Rattle.segment_file.specs.Pieced.{piece_id, piece_pages, so_far, IsPaged, laid}
+use Rattle.segment_file.specs.Pieced.{piece_id, piece_pages, so_far, IsPaged, laid_pages}
 use Rattle.segment_file.proofs.write.put_leaves.Given as goal
 
 abbrev pub invariant-loop-leaf : goal.invariant-loop-leaf
@@ -13,7 +13,7 @@ invariant-loop-leaf g l = record {
   put : IsTrue g.F.Pages.told → (payloads : List ℕ)
       → IsPaged (Segment (piece_id l.initial.pieces)) (piece_pages l.initial.pieces) payloads (so_far (bytes_of (g.F.Pages.files l.initial.folder (Segment (piece_id l.initial.pieces)))) l.initial.pieces)
       → (more : List ℕ) × IsPaged (Segment (piece_id l.initial.pieces)) (piece_pages l.pieces) more (so_far (bytes_of (g.F.Pages.files l.folder (Segment (piece_id l.initial.pieces)))) l.pieces)
-      × (payloads ++ laid [] l.leaves ≡ more ++ laid l.page.items (drop l.leaf-index l.leaves));
+      × (payloads ++ laid_pages [] l.leaves ≡ more ++ laid_pages l.page.items (drop l.leaf-index l.leaves));
   others : IsTrue g.F.Pages.told → SameBut (Segment (piece_id l.initial.pieces)) (g.F.Pages.files l.initial.folder) (g.F.Pages.files l.folder);
   reads : g.F.Pages.reads l.folder ≡ g.F.Pages.reads l.initial.folder;
   faults : g.F.Pages.faults l.folder ≡ g.F.Pages.faults l.initial.folder;

@@ -4,7 +4,7 @@ use Rattle.std.proofs.lemmas.Result.{err_from_is_err_and}
 use Rattle.page_cache.specs.declared.faults.PageFault.{PageFault}
 use Rattle.std.proofs.Common.{◌≡◌, ◌+◌, ◌^◌, nat_lt, false}
 use Rattle.script_lang.specs.Replies.{doc_text}
-use Rattle.script_lang.specs.declared.faults.Why.TheVariants as why
+use Rattle.script_lang.specs.declared.faults.Refusal.TheVariants as why
 use Rattle.index_core.specs.Sessions.{SessionData}
 use Rattle.index_core.proofs.Answering.{applies_is, applies_memory, applies_merging, applies_refused, applies_seen, begins_with, cause_add, whole_add}
 use Rattle.index_core.proofs.Changing.{does_add, does_full, not_full}

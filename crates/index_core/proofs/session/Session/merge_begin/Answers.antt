@@ -4,7 +4,7 @@ use Rattle.std.proofs.lemmas.Result.{err_from_is_err_and}
 use Rattle.page_cache.specs.declared.faults.PageFault.{PageFault}
 use Rattle.std.proofs.Common.{is_some}
 use Rattle.std.proofs.lemmas.Bool.{both_ways}
-use Rattle.script_lang.specs.declared.faults.Why.TheVariants as why
+use Rattle.script_lang.specs.declared.faults.Refusal.TheVariants as why
 use Rattle.segment_set.specs.Sets.{SetData}
 use Rattle.segment_set.proofs.Carried.{follows_same}
 use Rattle.index_core.proofs.Answering.{applies_is, applies_memory, applies_merging_calm, applies_refused, applies_seen, begins_with, calm_like, cause_begin, whole_begin}

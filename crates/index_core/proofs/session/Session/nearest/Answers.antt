@@ -5,7 +5,7 @@ use Rattle.page_cache.specs.declared.faults.PageFault.{PageFault}
 use Rattle.std.proofs.Common.{map}
 use Rattle.std.proofs.lemmas.Bool.{both_ways}
 use Rattle.script_lang.specs.Seen.{viewed}
-use Rattle.script_lang.specs.declared.faults.Why.TheVariants as why
+use Rattle.script_lang.specs.declared.faults.Refusal.TheVariants as why
 use Rattle.segment_set.specs.Sets.{HasView}
 use Rattle.index_core.specs.Sessions.{SessionData}
 use Rattle.index_core.proofs.Answering.{applies_done, applies_fault, applies_refused, applies_seen, applies_unsaid, begins_itself, calm_cache}

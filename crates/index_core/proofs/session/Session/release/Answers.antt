@@ -2,7 +2,7 @@
 use Rattle.std.proofs.Common.{Err, refl, sym, ap, ◌∙◌}
 use Rattle.std.proofs.lemmas.Result.{err_from_is_err_and}
 use Rattle.page_cache.specs.declared.faults.PageFault.{PageFault}
-use Rattle.script_lang.specs.declared.faults.Why.TheVariants as why
+use Rattle.script_lang.specs.declared.faults.Refusal.TheVariants as why
 use Rattle.index_model.specs.declared.session.Applied.TheVariants as applied
 use Rattle.segment_set.specs.Sets.{SetData}
 use Rattle.segment_set.proofs.Carried.{follows_same}

@@ -7,15 +7,15 @@ returns-in-DeleteBox g c = rw c.in-DeleteBox.is c.delete_in.ensures
 
 pub returns-in-Flush : goal.returns-in-Flush
 unfolding step_on
-returns-in-Flush g c = rw c.in-Flush.is (c.fine.ensures _)
+returns-in-Flush g c = rw c.in-Flush.is (c.done_ok.ensures _)
 
 pub returns-in-Merge : goal.returns-in-Merge
 unfolding step_on
-returns-in-Merge g c = rw c.in-Merge.is (c.fine-in-Merge.ensures _)
+returns-in-Merge g c = rw c.in-Merge.is (c.done_ok-in-Merge.ensures _)
 
 pub returns-in-MergeBegin : goal.returns-in-MergeBegin
 returns-in-MergeBegin g c = rw c.in-MergeBegin.is (c.merge_begin.ensures _)
 
 pub returns-in-Commit : goal.returns-in-Commit
 unfolding step_on
-returns-in-Commit g c = rw c.in-Commit.is (c.fine-in-Commit.ensures _)
+returns-in-Commit g c = rw c.in-Commit.is (c.done_ok-in-Commit.ensures _)

@@ -14,7 +14,7 @@ use Rattle.segment_set.proofs.Changed.{full_given, index_with, not_full, parts_w
 use Rattle.segment_set.proofs.Refused.{add_cause, add_damage, add_memory_cause, add_memory_damage, add_memory_not_full, add_not_full, added_caused, at_error, full_cause, never_ok, never_value}
 use Rattle.segment_set.proofs.Trusted.{IsTrusted, faithful_with}
 use Rattle.segment_set.proofs.Settled.{before_itself, before_same, flushes_none, left_settled}
-use Rattle.segment_set.specs.Settles.{spot}
+use Rattle.segment_set.specs.Settles.{moment}
 use Rattle.segment_set.proofs.set.SegmentSet.add.Goals as goal
 
 pub returns-then-is_full-clause-seen : goal.returns-then-is_full-clause-seen
@@ -364,7 +364,7 @@ pub returns-then-is_full-clause-added : goal.returns-then-is_full-clause-added
 returns-then-is_full-clause-added g c = tt
 
 pub returns-then-is_full-clause-left : goal.returns-then-is_full-clause-left
-returns-then-is_full-clause-left g c = ((spot (g.F.Pages.files c.args.folder.now) c.args.self.now), flushes_none g.row.D (IsTrue g.F.Pages.told) (spot (g.F.Pages.files c.args.folder.now) c.args.self.now), before_itself c.args.self.now)
+returns-then-is_full-clause-left g c = ((moment (g.F.Pages.files c.args.folder.now) c.args.self.now), flushes_none g.row.D (IsTrue g.F.Pages.told) (moment (g.F.Pages.files c.args.folder.now) c.args.self.now), before_itself c.args.self.now)
 
 pub returns-in_err-make_room-clause-kept_full : goal.returns-in_err-make_room-clause-kept_full
 returns-in_err-make_room-clause-kept_full g c = λ is. absurd (add_not_full c.in_err-make_room.field-0.0 c.from_residual.result c.from_residual.ensures.1 is)
@@ -376,7 +376,7 @@ pub returns-in_err-make_room-clause-added : goal.returns-in_err-make_room-clause
 returns-in_err-make_room-clause-added g c = never_ok _ c.from_residual.result c.from_residual.ensures.1 _
 
 pub returns-in_err-make_room-clause-left : goal.returns-in_err-make_room-clause-left
-returns-in_err-make_room-clause-left g c = at_error _ c.from_residual.result c.from_residual.ensures.1 _ (left_settled g.row.D (IsTrue g.F.Pages.told) (spot (g.F.Pages.files c.args.folder.now) c.args.self.now) c.make_room.new.self c.in_err-make_room.ensures.left)
+returns-in_err-make_room-clause-left g c = at_error _ c.from_residual.result c.from_residual.ensures.1 _ (left_settled g.row.D (IsTrue g.F.Pages.told) (moment (g.F.Pages.files c.args.folder.now) c.args.self.now) c.make_room.new.self c.in_err-make_room.ensures.left)
 
 pub returns-in_err-put-clause-kept_full : goal.returns-in_err-put-clause-kept_full
 returns-in_err-put-clause-kept_full g c = λ is. absurd (add_memory_not_full c.from_residual-in_err-put.result c.from_residual-in_err-put.ensures.1 is)
@@ -389,7 +389,7 @@ returns-in_err-put-clause-added g c = never_ok _ c.from_residual-in_err-put.resu
 
 pub returns-in_err-put-clause-left : goal.returns-in_err-put-clause-left
 returns-in_err-put-clause-left g c = at_error _ c.from_residual-in_err-put.result c.from_residual-in_err-put.ensures.1 _
-    ((spot (g.F.Pages.files c.make_room.new.folder) c.make_room.new.self), c.in_ok-make_room.ensures.flushed, before_same c.make_room.new.self c.put.new.self c.in_err-put.ensures.refused)
+    ((moment (g.F.Pages.files c.make_room.new.folder) c.make_room.new.self), c.in_ok-make_room.ensures.flushed, before_same c.make_room.new.self c.put.new.self c.in_err-put.ensures.refused)
 
 pub returns-clause-kept_full : goal.returns-clause-kept_full
 returns-clause-kept_full g c = λ is. absurd cc
@@ -398,7 +398,7 @@ pub returns-clause-files_full : goal.returns-clause-files_full
 returns-clause-files_full g c = λ told is. absurd cc
 
 pub returns-clause-added : goal.returns-clause-added
-returns-clause-added g c = ((spot (g.F.Pages.files c.make_room.new.folder) c.make_room.new.self), c.in_ok-make_room.ensures.flushed, c.in_ok-put.ensures.put)
+returns-clause-added g c = ((moment (g.F.Pages.files c.make_room.new.folder) c.make_room.new.self), c.in_ok-make_room.ensures.flushed, c.in_ok-put.ensures.put)
 
 pub returns-clause-left : goal.returns-clause-left
 returns-clause-left g c = tt

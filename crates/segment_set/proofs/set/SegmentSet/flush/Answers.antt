@@ -4,7 +4,7 @@ use Rattle.page_cache.specs.Causes.{HasPageCause}
 use Rattle.page_cache.proofs.Damages.{on_damage_weaker}
 use Rattle.segment_view.specs.Parts.{live_in_parts}
 use Rattle.segment_set.specs.Merged.{Rearranges}
-use Rattle.segment_set.specs.Settles.{spot}
+use Rattle.segment_set.specs.Settles.{moment}
 use Rattle.segment_set.specs.Damages.{IsDoubt, IsMergeDamage, IsMergeDamageOf}
 use Rattle.index_opening.specs.Evidence.{IsCrowdedIn, IsEvidentIn}
 use Rattle.segment_set.proofs.Rearranged.{rearranges_then}
@@ -14,21 +14,21 @@ use Rattle.index_opening.proofs.Evident.{none_with}
 use Rattle.segment_set.proofs.set.SegmentSet.flush.Given as given
 use Rattle.segment_set.proofs.set.SegmentSet.flush.Goals as goal
 
-settled : (g : given.Over) (c : goal.After-spill g) → Rearranges g.row.D (IsTrue g.F.Pages.told) (g.F.Pages.files c.args.folder.now) (g.F.Pages.files c.merge_settle.new.folder) c.args.self.now c.merge_settle.new.self
+settled : (g : given.Over) (c : goal.After-write_buffer g) → Rearranges g.row.D (IsTrue g.F.Pages.told) (g.F.Pages.files c.args.folder.now) (g.F.Pages.files c.merge_settle.new.folder) c.args.self.now c.merge_settle.new.self
 settled g c =
     let done = c.in_ok-merge_settle.ensures in
     record { seen = done.seen; stays = done.stays; kept = done.kept; follows = done.follows; canon = done.canon; begun = done.begun; saved = done.saved }
 
-all : (g : given.Over) (c : goal.After-spill g) → Rearranges g.row.D (IsTrue g.F.Pages.told) (g.F.Pages.files c.args.folder.now) (g.F.Pages.files c.spill.new.folder) c.args.self.now c.spill.new.self
+all : (g : given.Over) (c : goal.After-write_buffer g) → Rearranges g.row.D (IsTrue g.F.Pages.told) (g.F.Pages.files c.args.folder.now) (g.F.Pages.files c.write_buffer.new.folder) c.args.self.now c.write_buffer.new.self
 all g c =
-    rearranges_then g.row.D (IsTrue g.F.Pages.told) (g.F.Pages.files c.args.folder.now) (g.F.Pages.files c.merge_settle.new.folder) (g.F.Pages.files c.spill.new.folder) c.args.self.now c.merge_settle.new.self c.spill.new.self
-    c.spill.ensures.well.named (settled g c) c.spill.ensures.moves
+    rearranges_then g.row.D (IsTrue g.F.Pages.told) (g.F.Pages.files c.args.folder.now) (g.F.Pages.files c.merge_settle.new.folder) (g.F.Pages.files c.write_buffer.new.folder) c.args.self.now c.merge_settle.new.self c.write_buffer.new.self
+    c.write_buffer.ensures.well.named (settled g c) c.write_buffer.ensures.moves
 
 pub returns-clause-seen : goal.returns-clause-seen
 returns-clause-seen g c = (all g c).seen
 
 pub returns-clause-levels : goal.returns-clause-levels
-returns-clause-levels g c = on_ok_weaker c.spill.result (λ emptied level. let more = c.spill.ensures.one_more level in let few = c.in_ok-merge_settle.ensures.levels level in omega (arith, more, few)) c.spill.ensures.emptied
+returns-clause-levels g c = on_ok_weaker c.write_buffer.result (λ emptied level. let more = c.write_buffer.ensures.one_more level in let few = c.in_ok-merge_settle.ensures.levels level in omega (arith, more, few)) c.write_buffer.ensures.emptied
 
 pub returns-clause-stays : goal.returns-clause-stays
 returns-clause-stays g c = (all g c).stays
@@ -49,20 +49,20 @@ pub returns-clause-canon : goal.returns-clause-canon
 returns-clause-canon g c = (all g c).canon
 
 pub returns-clause-cause : goal.returns-clause-cause
-returns-clause-cause g c = subst (λ n. HasPageCause n (g.F.Pages.faults c.spill.new.folder) c.spill.result) c.in_ok-merge_settle.ensures.cause.fine c.spill.ensures.cause
+returns-clause-cause g c = subst (λ n. HasPageCause n (g.F.Pages.faults c.write_buffer.new.folder) c.write_buffer.result) c.in_ok-merge_settle.ensures.cause.fine c.write_buffer.ensures.cause
 
 pub returns-clause-whole : goal.returns-clause-whole
-returns-clause-whole g c = λ told i seen. c.spill.ensures.whole
+returns-clause-whole g c = λ told i seen. c.write_buffer.ensures.whole
 
 pub returns-clause-shown : goal.returns-clause-shown
-returns-clause-shown g c = on_damage_weaker c.spill.result (λ _. ⊥) (IsMergeDamage g.row.D c.args.self.now.given c.args.self.now.names c.args.self.now.parts) (λ d h. absurd h) c.spill.ensures.whole
+returns-clause-shown g c = on_damage_weaker c.write_buffer.result (λ _. ⊥) (IsMergeDamage g.row.D c.args.self.now.given c.args.self.now.names c.args.self.now.parts) (λ d h. absurd h) c.write_buffer.ensures.whole
 
 pub returns-clause-damage : goal.returns-clause-damage
-returns-clause-damage g c = λ told agrees. on_damage_weaker c.spill.result (λ _. ⊥) (IsMergeDamageOf (g.F.Pages.files c.spill.new.folder) c.args.self.now.given) (λ d h. absurd h) c.spill.ensures.whole
+returns-clause-damage g c = λ told agrees. on_damage_weaker c.write_buffer.result (λ _. ⊥) (IsMergeDamageOf (g.F.Pages.files c.write_buffer.new.folder) c.args.self.now.given) (λ d h. absurd h) c.write_buffer.ensures.whole
 
 pub returns-clause-doubled : goal.returns-clause-doubled
 returns-clause-doubled g c = λ told agrees contents reads.
-    on_damage_weaker c.spill.result (λ _. ⊥) (IsDoubt c.args.self.now.given (live_in_parts contents c.args.self.now.parts)) (λ d h. absurd h) c.spill.ensures.whole
+    on_damage_weaker c.write_buffer.result (λ _. ⊥) (IsDoubt c.args.self.now.given (live_in_parts contents c.args.self.now.parts)) (λ d h. absurd h) c.write_buffer.ensures.whole
 
 pub returns-in_err-merge_settle-clause-whole : goal.returns-in_err-merge_settle-clause-whole
 returns-in_err-merge_settle-clause-whole g c = λ told i seen.
@@ -78,7 +78,7 @@ pub returns-in_err-merge_settle-clause-rested : goal.returns-in_err-merge_settle
 returns-in_err-merge_settle-clause-rested g c = λ settled. c.in_err-merge_settle.ensures.rested settled
 
 pub returns-clause-rested : goal.returns-clause-rested
-returns-clause-rested g c = λ settled. c.spill.ensures.reads ∙ c.in_ok-merge_settle.ensures.rested settled
+returns-clause-rested g c = λ settled. c.write_buffer.ensures.reads ∙ c.in_ok-merge_settle.ensures.rested settled
 
 pub returns-in_err-merge_settle-clause-seen : goal.returns-in_err-merge_settle-clause-seen
 returns-in_err-merge_settle-clause-seen g c = c.in_err-merge_settle.ensures.seen
@@ -120,7 +120,7 @@ pub returns-in_err-merge_settle-clause-saved : goal.returns-in_err-merge_settle-
 returns-in_err-merge_settle-clause-saved g c = c.in_err-merge_settle.ensures.saved
 
 pub returns-clause-emptied : goal.returns-clause-emptied
-returns-clause-emptied g c = c.spill.ensures.emptied
+returns-clause-emptied g c = c.write_buffer.ensures.emptied
 
 pub returns-in_err-merge_settle-clause-faithful : goal.returns-in_err-merge_settle-clause-faithful
 returns-in_err-merge_settle-clause-faithful g c = c.in_err-merge_settle.ensures.faithful
@@ -130,11 +130,11 @@ returns-in_err-merge_settle-clause-evident g c =
     same_damage (IsEvidentIn g.row.D c.args.self.now.parts (IsTrusted g.F.Pages.told g.row.D (g.F.Pages.files c.args.folder.now) c.args.self.now) (g.F.Pages.files c.merge_settle.new.folder)) c.in_err-merge_settle.field-0.0 c.from_residual.result c.from_residual.ensures.1 c.in_err-merge_settle.ensures.evident
 
 pub returns-clause-faithful : goal.returns-clause-faithful
-returns-clause-faithful g c = λ told faithful. c.spill.ensures.faithful told (c.in_ok-merge_settle.ensures.faithful told faithful)
+returns-clause-faithful g c = λ told faithful. c.write_buffer.ensures.faithful told (c.in_ok-merge_settle.ensures.faithful told faithful)
 
 pub returns-clause-evident : goal.returns-clause-evident
 returns-clause-evident g c =
-    none_with (IsCrowdedIn g.row.D (g.F.Pages.files c.spill.new.folder) c.args.self.now.parts) (IsTrusted g.F.Pages.told g.row.D (g.F.Pages.files c.args.folder.now) c.args.self.now) (g.F.Pages.files c.spill.new.folder) c.spill.result c.spill.ensures.whole
+    none_with (IsCrowdedIn g.row.D (g.F.Pages.files c.write_buffer.new.folder) c.args.self.now.parts) (IsTrusted g.F.Pages.told g.row.D (g.F.Pages.files c.args.folder.now) c.args.self.now) (g.F.Pages.files c.write_buffer.new.folder) c.write_buffer.result c.write_buffer.ensures.whole
 
 pub returns-in_err-merge_settle-clause-flushed : goal.returns-in_err-merge_settle-clause-flushed
 returns-in_err-merge_settle-clause-flushed g c = never_ok _ c.from_residual.result c.from_residual.ensures.1 _
@@ -143,7 +143,7 @@ pub returns-in_err-merge_settle-clause-left : goal.returns-in_err-merge_settle-c
 returns-in_err-merge_settle-clause-left g c = at_error _ c.from_residual.result c.from_residual.ensures.1 _ c.in_err-merge_settle.ensures.left
 
 pub returns-clause-flushed : goal.returns-clause-flushed
-returns-clause-flushed g c = on_ok_weaker c.spill.result (λ spills. record { mid = (spot (g.F.Pages.files c.merge_settle.new.folder) c.merge_settle.new.self); settles = c.in_ok-merge_settle.ensures.settled; spills = spills }) c.spill.ensures.spills
+returns-clause-flushed g c = on_ok_weaker c.write_buffer.result (λ spills. record { mid = (moment (g.F.Pages.files c.merge_settle.new.folder) c.merge_settle.new.self); settles = c.in_ok-merge_settle.ensures.settled; spills = spills }) c.write_buffer.ensures.spills
 
 pub returns-clause-left : goal.returns-clause-left
-returns-clause-left g c = on_err_weaker c.spill.result (λ same. ((spot (g.F.Pages.files c.merge_settle.new.folder) c.merge_settle.new.self), c.in_ok-merge_settle.ensures.settled, same)) c.spill.ensures.refused
+returns-clause-left g c = on_err_weaker c.write_buffer.result (λ same. ((moment (g.F.Pages.files c.merge_settle.new.folder) c.merge_settle.new.self), c.in_ok-merge_settle.ensures.settled, same)) c.write_buffer.ensures.refused

@@ -5,7 +5,7 @@ use Rattle.std.proofs.lemmas.Bool.{both_ways}
 use Rattle.std.proofs.lemmas.Result.{on_ok_weaker}
 use Rattle.segment_set.proofs.Saving.{done_cause}
 use Rattle.segment_set.proofs.Settled.{flushes_none}
-use Rattle.segment_set.specs.Settles.{spot}
+use Rattle.segment_set.specs.Settles.{moment}
 use Rattle.segment_set.proofs.set.SegmentSet.make_room.Goals as goal
 
 pub returns-then-has_room-clause-canon : goal.returns-then-has_room-clause-canon
@@ -120,7 +120,7 @@ pub returns-clause-evident : goal.returns-clause-evident
 returns-clause-evident g c = c.flush.ensures.evident
 
 pub returns-then-has_room-clause-flushed : goal.returns-then-has_room-clause-flushed
-returns-then-has_room-clause-flushed g c = flushes_none g.row.D (IsTrue g.F.Pages.told) (spot (g.F.Pages.files c.args.folder.now) c.args.self.now)
+returns-then-has_room-clause-flushed g c = flushes_none g.row.D (IsTrue g.F.Pages.told) (moment (g.F.Pages.files c.args.folder.now) c.args.self.now)
 
 pub returns-then-has_room-clause-left : goal.returns-then-has_room-clause-left
 returns-then-has_room-clause-left g c = tt

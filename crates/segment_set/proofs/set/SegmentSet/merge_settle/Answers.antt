@@ -9,7 +9,7 @@ use Rattle.segment_set.proofs.Rearranged.{damage_before, doubt_same, entries_non
 use Rattle.segment_set.proofs.Refused.{at_error, memory_caused, memory_damage, never_ok, same_cause, same_damage}
 use Rattle.segment_set.proofs.Saving.{cause_after, done_cause}
 use Rattle.segment_set.proofs.Settled.{before_itself, merges_chosen, settles_none, settles_one}
-use Rattle.segment_set.specs.Settles.{spot}
+use Rattle.segment_set.specs.Settles.{moment}
 use Rattle.page_cache.specs.Evidence.{OnDamage}
 use Rattle.segment_set.proofs.Trusted.{IsTrusted, on_evident_before}
 use Rattle.segment_set.proofs.set.SegmentSet.merge_settle.Goals as goal
@@ -18,7 +18,7 @@ pub loop-ids-init : goal.loop-ids-init
 loop-ids-init g c = record {
   moves = λ well. rearranges_none g.row.D (IsTrue g.F.Pages.told) (g.F.Pages.files c.args.folder.now) c.args.self.now well.named;
   entries = entries_none g.row.D (IsTrue g.F.Pages.told) (g.F.Pages.files c.args.folder.now) c.args.self.now;
-  settles = settles_none g.row.D (IsTrue g.F.Pages.told) (spot (g.F.Pages.files c.args.folder.now) c.args.self.now);
+  settles = settles_none g.row.D (IsTrue g.F.Pages.told) (moment (g.F.Pages.files c.args.folder.now) c.args.self.now);
   buffer = refl;
   faults = refl;
   rested = λ settled. (refl, refl);
@@ -29,8 +29,8 @@ pub loop-ids-preserved : goal.loop-ids-preserved
 loop-ids-preserved g c = record {
   moves = λ well. rearranges_then g.row.D (IsTrue g.F.Pages.told) (g.F.Pages.files c.args.folder.now) (g.F.Pages.files c.loop-ids.folder) (g.F.Pages.files c.merge.new.folder) c.args.self.now c.loop-ids.self c.merge.new.self c.next_merge.ensures.well.named (c.loop-ids.invariant.moves c.next_merge.ensures.well) c.merge.ensures.moves;
   entries = entries_then g.row.D (IsTrue g.F.Pages.told) (g.F.Pages.files c.args.folder.now) (g.F.Pages.files c.loop-ids.folder) (g.F.Pages.files c.merge.new.folder) c.args.self.now c.loop-ids.self c.merge.new.self c.loop-ids.invariant.entries c.merge.ensures.entries;
-  settles = settles_one g.row.D (IsTrue g.F.Pages.told) (spot (g.F.Pages.files c.args.folder.now) c.args.self.now) (spot (g.F.Pages.files c.loop-ids.folder) c.loop-ids.self) (spot (g.F.Pages.files c.merge.new.folder) c.merge.new.self) c.loop-ids.invariant.settles
-      (merges_chosen g.row.D (IsTrue g.F.Pages.told) (spot (g.F.Pages.files c.loop-ids.folder) c.loop-ids.self) (spot (g.F.Pages.files c.merge.new.folder) c.merge.new.self) c.in-Some.ids.items c.as_slice.result.now c.as_slice.ensures.value (rw c.in-Some.is at c.in_ok-ids.ensures.choice) c.in_ok-merge.ensures.merged c.merge.ensures.alone);
+  settles = settles_one g.row.D (IsTrue g.F.Pages.told) (moment (g.F.Pages.files c.args.folder.now) c.args.self.now) (moment (g.F.Pages.files c.loop-ids.folder) c.loop-ids.self) (moment (g.F.Pages.files c.merge.new.folder) c.merge.new.self) c.loop-ids.invariant.settles
+      (merges_chosen g.row.D (IsTrue g.F.Pages.told) (moment (g.F.Pages.files c.loop-ids.folder) c.loop-ids.self) (moment (g.F.Pages.files c.merge.new.folder) c.merge.new.self) c.in-Some.ids.items c.as_slice.result.now c.as_slice.ensures.value (rw c.in-Some.is at c.in_ok-ids.ensures.choice) c.in_ok-merge.ensures.merged c.merge.ensures.alone);
   buffer = c.merge.ensures.buffer ∙ c.loop-ids.invariant.buffer;
   faults = c.in_ok-merge.ensures.cause.fine ∙ c.loop-ids.invariant.faults;
   rested = λ settled. absurd (unsettled c.args.self.now c.loop-ids.self (c.loop-ids.invariant.rested settled).0 settled (rw c.in-Some.is at c.in_ok-ids.ensures.ten));
@@ -249,13 +249,13 @@ pub returns-in_err-ids-clause-settled : goal.returns-in_err-ids-clause-settled
 returns-in_err-ids-clause-settled g c = never_ok _ c.from_residual.result c.from_residual.ensures.1 _
 
 pub returns-in_err-ids-clause-left : goal.returns-in_err-ids-clause-left
-returns-in_err-ids-clause-left g c = at_error _ c.from_residual.result c.from_residual.ensures.1 _ ((spot (g.F.Pages.files c.loop-ids.folder) c.loop-ids.self), c.loop-ids.invariant.settles, before_itself c.loop-ids.self)
+returns-in_err-ids-clause-left g c = at_error _ c.from_residual.result c.from_residual.ensures.1 _ ((moment (g.F.Pages.files c.loop-ids.folder) c.loop-ids.self), c.loop-ids.invariant.settles, before_itself c.loop-ids.self)
 
 pub returns-in_err-merge-clause-settled : goal.returns-in_err-merge-clause-settled
 returns-in_err-merge-clause-settled g c = never_ok _ c.from_residual-in_err-merge.result c.from_residual-in_err-merge.ensures.1 _
 
 pub returns-in_err-merge-clause-left : goal.returns-in_err-merge-clause-left
-returns-in_err-merge-clause-left g c = at_error _ c.from_residual-in_err-merge.result c.from_residual-in_err-merge.ensures.1 _ ((spot (g.F.Pages.files c.loop-ids.folder) c.loop-ids.self), c.loop-ids.invariant.settles, c.in_err-merge.ensures.refused)
+returns-in_err-merge-clause-left g c = at_error _ c.from_residual-in_err-merge.result c.from_residual-in_err-merge.ensures.1 _ ((moment (g.F.Pages.files c.loop-ids.folder) c.loop-ids.self), c.loop-ids.invariant.settles, c.in_err-merge.ensures.refused)
 
 pub returns-clause-settled : goal.returns-clause-settled
 returns-clause-settled g c = c.loop-ids.invariant.settles

@@ -1,7 +1,7 @@
 use Rattle.std.proofs.Common.{◌≡◌, IsTrue, length}
 use Rattle.segment_set.specs.Sets.{IsSettled, IsWell}
 use Rattle.segment_set.specs.Merged.{KeepsEntries, Rearranges}
-use Rattle.segment_set.specs.Settles.{Settles, spot}
+use Rattle.segment_set.specs.Settles.{Settles, moment}
 use Rattle.segment_set.specs.Faithful.{IsFaithful}
 use Rattle.segment_set.proofs.set.SegmentSet.merge_settle.Given as goal
 
@@ -9,7 +9,7 @@ abbrev pub invariant-loop-ids : goal.invariant-loop-ids
 invariant-loop-ids g l = record {
   moves : IsWell g.row.D l.self → Rearranges g.row.D (IsTrue g.F.Pages.told) (g.F.Pages.files l.initial.folder) (g.F.Pages.files l.folder) l.initial.self l.self;
   entries : KeepsEntries g.row.D (IsTrue g.F.Pages.told) (g.F.Pages.files l.initial.folder) (g.F.Pages.files l.folder) l.initial.self l.self;
-  settles : Settles g.row.D (IsTrue g.F.Pages.told) (spot (g.F.Pages.files l.initial.folder) l.initial.self) (spot (g.F.Pages.files l.folder) l.self);
+  settles : Settles g.row.D (IsTrue g.F.Pages.told) (moment (g.F.Pages.files l.initial.folder) l.initial.self) (moment (g.F.Pages.files l.folder) l.self);
   buffer : l.self.buffer ≡ l.initial.self.buffer;
   faults : g.F.Pages.faults l.folder ≡ g.F.Pages.faults l.initial.folder;
   rested : IsSettled l.initial.self → (l.self ≡ l.initial.self) × (g.F.Pages.reads l.folder ≡ g.F.Pages.reads l.initial.folder);

@@ -25,7 +25,7 @@ use Rattle.segment_set.proofs.Carried.{keeps_then, stays_then}
 use Rattle.segment_set.proofs.Saving.{all_fresh, all_next, all_written, canon_saved, cause_after, if_ok_both, if_ok_map, no_damage, ok_always, saved_is_stored, sees_saved, stays_saved, well_saved}
 use Rattle.segment_set.proofs.Refused.{at_error, never_ok, never_value, same_cause, same_damage}
 use Rattle.segment_set.proofs.Settled.{left_settled}
-use Rattle.segment_set.specs.Settles.{Flushes, Spot, spot}
+use Rattle.segment_set.specs.Settles.{Flushes, Moment, moment}
 use Rattle.segment_set.proofs.set.SegmentSet.save.Goals as goal
 
 pub returns-in_err-flush-clause-whole : goal.returns-in_err-flush-clause-whole
@@ -202,7 +202,7 @@ pub returns-in_err-flush-clause-flushed : goal.returns-in_err-flush-clause-flush
 returns-in_err-flush-clause-flushed g c = never_value _ c.from_residual.result c.from_residual.ensures.1 _
 
 pub returns-in_err-flush-clause-left : goal.returns-in_err-flush-clause-left
-returns-in_err-flush-clause-left g c = at_error _ c.from_residual.result c.from_residual.ensures.1 _ (left_settled g.row.D (IsTrue g.F.Pages.told) (spot (g.F.Pages.files c.args.folder.now) c.args.self.now) c.flush.new.self c.in_err-flush.ensures.left)
+returns-in_err-flush-clause-left g c = at_error _ c.from_residual.result c.from_residual.ensures.1 _ (left_settled g.row.D (IsTrue g.F.Pages.told) (moment (g.F.Pages.files c.args.folder.now) c.args.self.now) c.flush.new.self c.in_err-flush.ensures.left)
 
 pub returns-clause-flushed : goal.returns-clause-flushed
 returns-clause-flushed g c =
@@ -210,8 +210,8 @@ returns-clause-flushed g c =
     let t = c.list_segments.new.self in
     let files = g.F.Pages.files c.list_segments.new.folder in
     if_ok_map c.list_segments.result (λ (k : CommitData). AllZip (IsSaved (IsTrue g.F.Pages.told) s.names t.names files) k.listed s.parts)
-    (λ (k : CommitData). (u : Spot) × Flushes g.row.D (IsTrue g.F.Pages.told) (spot (g.F.Pages.files c.args.folder.now) c.args.self.now) u × StaysButSaved u.set t × All (HasNextGeneration u.set.names) k.listed)
-    (λ k all. (spot (g.F.Pages.files c.flush.new.folder) s, c.in_ok-flush.ensures.flushed, c.list_segments.ensures.alone, all_next (IsTrue g.F.Pages.told) s.names t.names files k.listed s.parts all)) c.list_segments.ensures.listed
+    (λ (k : CommitData). (u : Moment) × Flushes g.row.D (IsTrue g.F.Pages.told) (moment (g.F.Pages.files c.args.folder.now) c.args.self.now) u × StaysButSaved u.set t × All (HasNextGeneration u.set.names) k.listed)
+    (λ k all. (moment (g.F.Pages.files c.flush.new.folder) s, c.in_ok-flush.ensures.flushed, c.list_segments.ensures.alone, all_next (IsTrue g.F.Pages.told) s.names t.names files k.listed s.parts all)) c.list_segments.ensures.listed
 
 pub returns-clause-left : goal.returns-clause-left
-returns-clause-left g c = on_err_weaker c.list_segments.result (λ same. ((spot (g.F.Pages.files c.flush.new.folder) c.flush.new.self), c.in_ok-flush.ensures.flushed, same)) c.list_segments.ensures.refused
+returns-clause-left g c = on_err_weaker c.list_segments.result (λ same. ((moment (g.F.Pages.files c.flush.new.folder) c.flush.new.self), c.in_ok-flush.ensures.flushed, same)) c.list_segments.ensures.refused

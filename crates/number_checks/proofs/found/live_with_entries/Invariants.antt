@@ -1,7 +1,0 @@
--- The numbers that are left are those without an entry among the ones passed.
-use Rattle.std.proofs.Common.{◌≡◌, take}
-use Rattle.number_checks.proofs.WithEntries.{bare}
-use Rattle.number_checks.proofs.found.live_with_entries.Given as goal
-
-abbrev pub invariant-loop-entry : goal.invariant-loop-entry
-invariant-loop-entry g l = l.left.live ≡ bare (take l.entry-index l.entries) l.live.live

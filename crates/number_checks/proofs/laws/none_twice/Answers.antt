@@ -1,5 +1,0 @@
-use Rattle.number_checks.proofs.Once.{once_from, pairs_from}
-use Rattle.number_checks.proofs.laws.none_twice.Goals as goal
-
-pub returns : goal.returns
-returns c xs = (pairs_from xs, once_from xs)

@@ -1,6 +1,0 @@
-use Rattle.std.proofs.Common.{◌+◌, ◌*◌}
-use Rattle.number_checks.proofs.LivePlaces.{AreDead}
-use Rattle.number_checks.proofs.placing.first_live.Given as goal
-
-abbrev pub invariant-loop-i : goal.invariant-loop-i
-invariant-loop-i l = AreDead l.live l.from (l.first + 64 * l.i)

@@ -1,6 +1,0 @@
-use Rattle.std.proofs.Common.{take}
-use Rattle.number_checks.proofs.LivePlaces.{IsBeyond}
-use Rattle.number_checks.proofs.placing.least_beyond.Given as goal
-
-abbrev pub invariant-loop-live : goal.invariant-loop-live
-invariant-loop-live l = IsBeyond (take l.live-index l.lives) l.next l.limit
