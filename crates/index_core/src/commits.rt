@@ -1,7 +1,7 @@
 //! Commits, and sessions anew over one.
 
-ghost use Rattle.std.specs.Prelude.{◌≡◌, ◌↔◌, ◌⊎◌, ℕ, [], None, Some, true, false, All, Contains, IsTrue, IsSome, IsOk};
-ghost use Rattle.std.specs.Prelude.{IfOk, OnOk};
+ghost use Rattle.std.specs.Prelude.{◌≡◌, ◌↔◌, ◌⊎◌, [], None, Some, true, false, All, Contains, IsTrue, IsSome, IsOk};
+ghost use Rattle.std.specs.Prelude.{OnOk};
 ghost use Rattle.std.specs.List.{AllZip};
 ghost use Rattle.outer_io.specs.Files.{Files, SameButTwo, bytes_of};
 ghost use Rattle.outer_io.specs.declared.file_name.FileName.{FileName};
@@ -13,7 +13,7 @@ ghost use Rattle.commit_list.specs.Commits.{CommitData};
 ghost use Rattle.commit_list.specs.CommitFiles.{IsCommitFile};
 ghost use Rattle.script_lang.specs.Requests as asks;
 ghost use Rattle.segment_file.specs.LiveFiles.{IsLiveFile};
-ghost use Rattle.index_model.specs.State.{Index, State, at_rest};
+ghost use Rattle.index_model.specs.State.{Index, at_rest};
 ghost use Rattle.index_model.specs.Step.{step_on};
 ghost use Rattle.stored_index.specs.Stored.{IsStored};
 ghost use Rattle.stored_index.specs.Kept.{ListsFile, SameKept};
@@ -21,10 +21,9 @@ ghost use Rattle.segment_set.specs.Seen.{Sees};
 ghost use Rattle.index_opening.specs.Evidence.{IsEvident};
 ghost use Rattle.segment_set.specs.Faithful.{IsFaithful};
 ghost use Rattle.segment_view.specs.Parts.{Part};
-ghost use Rattle.index_opening.specs.Damages.{IsAttachDamage, IsAttachDamageOf};
 ghost use Rattle.segment_set.specs.Sets.{IsNamed, IsSettled};
 ghost use Rattle.file_names.specs.Names.{is_named};
-ghost use Rattle.segment_set.specs.Kept.{IsAsCommitted, IsCommitOf, IsNeeded, StaysButFiles};
+ghost use Rattle.segment_set.specs.Kept.{IsCommitOf, IsNeeded, StaysButFiles};
 ghost use Rattle.index_core.specs.Sessions.{AreTraced, Guards, GuardsSet, IsCommitAnew, IsSound, IsUnchanged, Trusts};
 ghost use Rattle.index_core.specs.Closed.{IsClosed, IsIdle, IsTracked, NamesOnlyListed};
 ghost use Rattle.index_core.specs.Costs.{ReadsAtMost};
@@ -40,7 +39,6 @@ use index_model::Applied;
 use outer_io::{Failed, Folder};
 use page_cache::PageFault;
 use script_lang::put_ok;
-use segment_set::SegmentSet;
 use std::alloc::Global;
 use std::marker::Sync;
 use std::thread::Threads;
@@ -282,78 +280,5 @@ impl<const D: usize> Session<D> {
         self.commit(rt, alloc, folder, gate)?;
         put_ok(out)?;
         Ok(Applied::Done)
-    }
-
-    /// Commits and attaches anew, which lets snapshots and a begun merge go. The set of before stays until all that can
-    /// fail is done, and its list of names stays: the next sweep removes the files that only they needed.
-    pub(crate) fn reopen<R: Threads + Sync, F: Folder, G: Gate>(
-        &mut self,
-        rt: &R,
-        alloc: Global,
-        folder: &mut F,
-        out: &mut Vec<u8>,
-        gate: &G,
-    ) -> Result<Applied, PageFault>
-        ensures applies { Applies D (IsTrue F.told) (λ i. step_on i asks.Reopen) true
-            (record {
-              files = F.files folder.old;
-              session = self.old;
-              text = out.old.items;
-              faults = F.faults folder.old;
-            })
-            (record {
-              files = F.files folder.new;
-              session = self.new;
-              text = out.new.items;
-              faults = F.faults folder.new;
-            }) result }
-        ensures damage { ShowsDamage D (IsTrue F.told) asks.Reopen (F.files folder.old)
-            (F.files folder.new) self.old self.new result }
-        ensures unread { OnRefused result (F.reads folder.new ≡ F.reads folder.old) }
-    {
-        self.commit(rt, alloc, folder, gate)?;
-        let set = self.attach_anew(alloc, folder)?;
-        put_ok(out)?;
-        // the files of its segments are in the list
-        let _leaf = self.set.leaf();
-        self.set.renew(set);
-        Ok(Applied::Done)
-    }
-
-    /// A set anew over the session's own commit.
-    fn attach_anew<F: Folder>(
-        &self,
-        alloc: Global,
-        folder: &mut F,
-    ) -> Result<SegmentSet<D>, PageFault>
-        requires { IsSome self.now.commit }
-        ensures seen { IsTrue F.told → self.now.refused ≡ false → Guards D (F.files folder.old) self.now → (i : Index)
-            → IsStored (F.files folder.old) (Some i)
-            → IfOk result (λ s. Sees D (F.files folder.old) s i) }
-        ensures guards { IsTrue F.told → self.now.refused ≡ false → Guards D (F.files folder.old) self.now
-            → IfOk result (λ s. Guards D (F.files folder.old) (record self.now { set = s })) }
-        ensures faithful { IsTrue F.told → IfOk result (IsFaithful D (F.files folder.old)) }
-        ensures traced { IsTrue F.told → self.now.refused ≡ false → Guards D (F.files folder.old) self.now
-            → IfOk result (λ s. AreTraced D (F.files folder.old) s.parts) }
-        ensures emptied { IfOk result (λ s. s.buffer ≡ []) }
-        ensures names { (c : CommitData) → self.now.commit ≡ Some c
-            → IfOk result (λ s. (m : FileName) → is_named s.names.names m ≡ true → ListsFile c m) }
-        ensures unchanged { (c : CommitData) → self.now.commit ≡ Some c → IfOk result (λ s. IsAsCommitted s c) }
-        ensures files { IsTrue F.told → F.files folder.new ≡ F.files folder.old }
-        ensures cause { HasPageCause (F.faults folder.old) (F.faults folder.new) result }
-        ensures whole { IsTrue F.told → self.now.refused ≡ false → Guards D (F.files folder.old) self.now
-            → (state : State)
-            → IsStored (F.files folder.old) state → NotDamaged result }
-        ensures shown { (c : CommitData) → self.now.commit ≡ Some c → OnDamage result (IsAttachDamage c) }
-        ensures damage { IsTrue F.told → (c : CommitData) → self.now.commit ≡ Some c
-            → OnDamage result (IsAttachDamageOf (F.files folder.old) c) }
-        ensures evident { OnDamage result
-            (IsEvident (IsTrue F.told × (self.now.refused ≡ false) × Guards D (F.files folder.old) self.now)
-            (F.files folder.old)) }
-    {
-        let Some(commit) = &self.commit else {
-            unreachable!()
-        };
-        SegmentSet::attach(alloc, folder, commit, self.settings)
     }
 }

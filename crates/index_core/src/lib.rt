@@ -8,7 +8,9 @@
 mod changes;
 mod commits;
 mod direct;
+mod merges;
 mod queries;
+mod reopening;
 mod replies;
 mod session;
 mod work;

@@ -3,6 +3,7 @@
 #![tactic(auto)]
 
 mod held;
+mod queries;
 mod session;
 
 pub use session::{Applied, ListSession, MAX_POINTS};

@@ -1,20 +1,17 @@
 //! A session over a list in memory.
 
-ghost use Rattle.std.specs.Prelude.{◌≡◌, ◌≤◌, ◌<◌, ◌+◌, ◌^◌, length, nat_lt, Some, None, List, ℕ, MatchOption};
+ghost use Rattle.std.specs.Prelude.{◌≡◌, ◌≤◌, ◌<◌, ◌+◌, List, ℕ};
 ghost use Rattle.documents.specs.Documents.{hits};
-ghost use Rattle.script_lang.specs.Replies.{hits_text};
 ghost use Rattle.script_lang.specs.Requests as asks;
-ghost use Rattle.script_lang.specs.Seen.{request_of, viewed};
-ghost use Rattle.index_model.specs.State.{Index, new_index, viewed_docs};
-ghost use Rattle.index_model.specs.Step.{Outcome, Done, step_on, added, snapped, released, done_ok, answered};
+ghost use Rattle.script_lang.specs.Seen.{request_of};
+ghost use Rattle.index_model.specs.State.{Index, new_index};
+ghost use Rattle.index_model.specs.Step.{Done, step_on, added, snapped, released, done_ok};
 
 use crate::held::{HeldSnapshot, delete, delete_in, is_live, release, snapshot_of};
-use cell_relate::{BoxShape, Shape};
-use documents::{HeldDocument, Memory, scan_hits, scan_nearest};
-use point_codec::{Name, Point, Points, View};
-use polygon_query::PolygonShape;
-use ring_parity::Rings;
-use script_lang::{Command, Refusal, put_deleted, put_doc, put_hits, put_near, put_ok};
+use cell_relate::BoxShape;
+use documents::{HeldDocument, Memory, scan_hits};
+use point_codec::{Name, Point, Points};
+use script_lang::{Command, Refusal, put_deleted, put_doc, put_ok};
 use std::alloc::Global;
 use std::marker::Model;
 
@@ -166,78 +163,6 @@ impl<const D: usize> ListSession<D> {
         let hits = scan_hits(alloc, self.docs.as_slice(), &mut BoxShape::new(*lo, *hi))?;
         put_deleted(out, hits.as_slice().len() as u32)?;
         delete_in(&mut self.docs, lo, hi);
-        Ok(Applied::Done)
-    }
-
-    /// The documents that a query looks at, or None where no snapshot has the name.
-    fn viewed(&self, view: &View) -> Option<&[HeldDocument<D>]>
-        requires { D ≤ 8 }
-        ensures { MatchOption result (viewed_docs (viewed view.now) self.now ≡ None)
-            (λ docs. viewed_docs (viewed view.now) self.now ≡ Some docs.now) }
-    {
-        match view {
-            View::Now => Some(self.docs.as_slice()),
-            View::Named(name) => match snapshot_of(self.snapshots.as_slice(), name) {
-                Some(snapshot) => Some(snapshot.docs()),
-                None => None,
-            },
-        }
-    }
-
-    fn find<S: Shape<D>>(
-        &self,
-        alloc: Global,
-        view: &View,
-        shape: &mut S,
-        out: &mut Vec<u8>,
-    ) -> Result<Applied, Memory>
-        requires { D ≤ 8 }
-        ensures { Does
-            (answered self.now (viewed_docs (viewed view.now) self.now)
-            (λ docs. hits_text (hits (S.has shape.old) docs)))
-            self.now self.now out.old.items out.new.items result }
-    {
-        let Some(docs) = self.viewed(view) else {
-            return Ok(Applied::Refused(Refusal::UnknownSnapshot));
-        };
-        put_hits(out, scan_hits(alloc, docs, shape)?.as_slice())?;
-        Ok(Applied::Done)
-    }
-
-    fn find_in(
-        &self,
-        alloc: Global,
-        view: &View,
-        rings: &Rings,
-        out: &mut Vec<u8>,
-    ) -> Result<Applied, Memory>
-        requires { D ≤ 8 }
-        ensures { Does
-            (step_on self.now (asks.InPolygon (viewed view.now) rings.now)) self.now self.now out.old.items
-            out.new.items result }
-    {
-        let _ = &self.leaf;
-        let mut shape = PolygonShape::new(alloc, rings)?;
-        self.find(alloc, view, &mut shape, out)
-    }
-
-    fn nearest(
-        &self,
-        alloc: Global,
-        view: &View,
-        k: u16,
-        at: &Point<D>,
-        out: &mut Vec<u8>,
-    ) -> Result<Applied, Memory>
-        requires { D ≤ 8 }
-        ensures { Does
-            (step_on self.now (asks.Nearest (viewed view.now) k at.now.c)) self.now self.now out.old.items out.new.items
-            result }
-    {
-        let Some(docs) = self.viewed(view) else {
-            return Ok(Applied::Refused(Refusal::UnknownSnapshot));
-        };
-        put_near(out, scan_nearest(alloc, docs, at, k)?.as_slice())?;
         Ok(Applied::Done)
     }
 

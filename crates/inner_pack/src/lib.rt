@@ -6,6 +6,7 @@
 //! The bytes are a function of the tree, and spell no other one (`one_tree`).
 #![tactic(auto)]
 
+mod cells;
 mod check;
 mod fields;
 mod head;

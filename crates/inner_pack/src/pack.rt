@@ -4,16 +4,16 @@
 //! both of its children, the right one first, and each with its last byte first. All of them are turned once at the
 //! end. So a node is written as soon as its parts are known, into one vector that is reserved once.
 
-ghost use Rattle.std.specs.Prelude.{◌≡◌, ◌≤◌, ◌<◌, ◌+◌, ◌*◌, ◌^◌, ◌++◌, length, List, map, reverse, take, drop, All};
-ghost use Rattle.std.specs.Prelude.{IfOk, OnOk, ℕ, [], slice_index_or};
-ghost use Rattle.std.specs.List.{flat_map};
+ghost use Rattle.std.specs.Prelude.{◌≡◌, ◌≤◌, ◌<◌, ◌+◌, ◌*◌, ◌^◌, ◌++◌, length, map, reverse, take, drop, All};
+ghost use Rattle.std.specs.Prelude.{IfOk, OnOk};
 ghost use Rattle.point_codec.specs.Keys.{key};
 ghost use Rattle.point_codec.specs.Seen.{region_of};
 ghost use Rattle.inner_pack.specs.Places.{Spot, front, placed, fitted, end_of};
 ghost use Rattle.inner_pack.specs.Trees.{IndexTree};
-ghost use Rattle.inner_pack.specs.Bodies.{body_bytes, head_bytes, leaf_bytes, node_bytes, cell_bytes};
+ghost use Rattle.inner_pack.specs.Bodies.{body_bytes, head_bytes, leaf_bytes, node_bytes};
 ghost use Rattle.inner_pack.specs.Packs.{placed_of, end_at, AppendsTurned, IsPart};
 
+use crate::cells::put_cell;
 use crate::fields::shared_length;
 use crate::index::{Index, keys_of};
 use crate::place::LeafPlace;
@@ -271,27 +271,6 @@ fn put_leaf<const D: usize>(out: &mut Vec<u8>, size: u16, own: &Cell<D>) -> Resu
     put_vint(out, u32::from(size))?;
     put_cell(out, own)?;
     turn(out, from);
-    Ok(())
-}
-
-/// Appends the keys of a cell's least coordinates, then those of its greatest.
-fn put_cell<const D: usize>(out: &mut Vec<u8>, cell: &Cell<D>) -> Result<(), Memory>
-    ensures spelled { OnOk result (out.new.items ≡ out.old.items ++ cell_bytes (region_of cell.now)) }
-    ensures room { OnOk result (length out.new.items ≡ length out.old.items + 8 * D) }
-{
-    put_keys(out, &cell.lo.c)?;
-    put_keys(out, &cell.hi.c)?;
-    Ok(())
-}
-
-/// Appends the keys of some coordinates.
-fn put_keys(out: &mut Vec<u8>, coordinates: &[i32]) -> Result<(), Memory>
-    ensures spelled { OnOk result (out.new.items ≡ out.old.items ++ flat_map key coordinates.now) }
-    ensures room { OnOk result (length out.new.items ≡ length out.old.items + 4 * length coordinates.now) }
-{
-    for x in coordinates {
-        put_slice(out, &sortable(*x))?;
-    }
     Ok(())
 }
 

@@ -2,6 +2,7 @@
 #![tactic(auto)]
 
 mod loader;
+mod refusals;
 mod texts;
 
 pub use loader::load;

@@ -1,14 +1,13 @@
 //! The points of a file go into the index of a folder.
 
-ghost use Rattle.std.specs.Prelude.{◌≡◌, ◌≢◌, ◌≤◌, ◌<◌, ◌+◌, ◌^◌, MatchOption, ℕ, true, length, None, Ok, Err, IsTrue};
-ghost use Rattle.std.specs.Prelude.{IfOk, IfErr, OnOk, List, ℤ};
-ghost use Rattle.outer_io.specs.Files.{Files, bytes_of};
+ghost use Rattle.std.specs.Prelude.{◌≡◌, ◌≤◌, ◌<◌, ◌+◌, ◌^◌, MatchOption, true, length, None, Ok, Err, IsTrue};
+ghost use Rattle.std.specs.Prelude.{IfOk, OnOk};
+ghost use Rattle.outer_io.specs.Files.{bytes_of};
 ghost use Rattle.outer_io.specs.declared.file_name.FileName.TheVariants.{Commit as CommitName};
 ghost use Rattle.point_codec.specs.Seen.{coordinates_of};
 ghost use Rattle.page_cache.specs.Causes.{HasPageCause};
 ghost use Rattle.page_cache.specs.Evidence.{OnDamage};
 ghost use Rattle.commit_list.specs.CommitFiles.{IsCommitFile};
-ghost use Rattle.csv_load.specs.Loading.{points_of, records_of};
 ghost use Rattle.index_model.specs.State.{State};
 ghost use Rattle.stored_index.specs.Stored.{IsStored};
 ghost use Rattle.index_opening.specs.Evidence.{IsEvident};
@@ -16,10 +15,11 @@ ghost use Rattle.index_core.specs.Sessions.{Trusts};
 ghost use Rattle.index_core.specs.Light.{KeepsLevels};
 ghost use Rattle.index_core.specs.Steps.{KeepsUndone};
 ghost use Rattle.index_core.specs.Whole.{DoesWhole, HasNewCanonical};
-ghost use Rattle.load_points.specs.Loaded.{load_answer, loaded_by, matched};
+ghost use Rattle.load_points.specs.Loaded.{load_answer, matched};
 ghost use Rattle.load_points.specs.Loads.{HasDims, IsLoading, Loads, StartsFrom, StartsNone};
 
-use crate::texts::{put_csv_fault, put_dims, put_full, put_loaded};
+use crate::refusals::{refuse_dims, refuse_file};
+use crate::texts::{put_full, put_loaded};
 use bkd_build::Gate;
 use byte_cursor::Bytes;
 use commit_list::{Commit, read_commit};
@@ -29,7 +29,7 @@ use leaf_codec::greatest_leaf;
 use outer_io::Folder;
 use page_cache::PageFault;
 use point_codec::Point;
-use std::alloc::{AllocError, Global};
+use std::alloc::AllocError;
 use std::marker::Sync;
 use std::thread::Threads;
 
@@ -278,77 +278,4 @@ fn add_fitting<const D: usize, R: Threads + Sync, F: Folder, G: Gate>(
     session.add_points(work.rt, work.alloc, folder, points, work.gate)?;
     session.commit(work.rt, work.alloc, folder, work.gate)?;
     Ok(false)
-}
-
-/// Refuses a file whose columns are not as many as the dimensions, or for its own fault, which comes first.
-fn refuse_dims(
-    alloc: Global,
-    dims: u8,
-    columns: &[Bytes],
-    input: &[u8],
-    text: &mut Vec<u8>,
-) -> Result<bool, PageFault>
-    requires some { 1 ≤ length columns.now }
-    requires few { length columns.now ≤ 8 }
-    requires other { length columns.now ≢ dims }
-    ensures { (files : Files) (faults : ℕ)
-        → Loads (Unit {0}) (Unit {0}) (HasDims files dims) (λ stored. load_answer stored input.now columns.now)
-        (record { files = files; faults = faults; text = text.old.items })
-        (record { files = files; faults = faults; text = text.new.items }) result }
-{
-    match look_through(alloc, columns, input) {
-        Ok(()) => {
-            put_dims(text, dims)?;
-            Ok(true)
-        }
-        Err(CsvFault::Memory) => Err(PageFault::Memory),
-        Err(fault) => refuse_file(text, columns, &fault),
-    }
-}
-
-/// Refuses a file for its fault.
-fn refuse_file(text: &mut Vec<u8>, columns: &[Bytes], fault: &CsvFault) -> Result<bool, PageFault>
-    requires { fault.now ≢ CsvFault.Memory }
-    ensures { (files : Files) (faults : ℕ)
-        → Loads (Unit {0}) (Unit {0}) (IsStored files) (λ stored. loaded_by columns.now stored (Err fault.now))
-        (record { files = files; faults = faults; text = text.old.items })
-        (record { files = files; faults = faults; text = text.new.items }) result }
-{
-    put_csv_fault(text, columns, fault)?;
-    Ok(true)
-}
-
-/// Reads all records for their faults alone.
-fn look_through(alloc: Global, columns: &[Bytes], input: &[u8]) -> Result<(), CsvFault>
-    requires some { 1 ≤ length columns.now }
-    requires few { length columns.now ≤ 8 }
-    ensures fine { OnOk result ((points : List (List ℤ)) × (points_of columns.now (records_of input.now) ≡ Ok points)) }
-    ensures fault { IfErr result
-        (λ fault. fault ≢ CsvFault.Memory → points_of columns.now (records_of input.now) ≡ Err fault) }
-{
-    match columns.len() {
-        1 => look::<1>(alloc, columns, input),
-        2 => look::<2>(alloc, columns, input),
-        3 => look::<3>(alloc, columns, input),
-        4 => look::<4>(alloc, columns, input),
-        5 => look::<5>(alloc, columns, input),
-        6 => look::<6>(alloc, columns, input),
-        7 => look::<7>(alloc, columns, input),
-        _ => look::<8>(alloc, columns, input),
-    }
-}
-
-/// Reads all records of `D` columns for their faults alone.
-fn look<const D: usize>(alloc: Global, columns: &[Bytes], input: &[u8]) -> Result<(), CsvFault>
-    requires some { 1 ≤ D }
-    requires few { D ≤ 8 }
-    requires named { length columns.now ≡ D }
-    ensures fine { OnOk result ((points : List (List ℤ)) × (points_of columns.now (records_of input.now) ≡ Ok points)) }
-    ensures fault { IfErr result
-        (λ fault. fault ≢ CsvFault.Memory → points_of columns.now (records_of input.now) ≡ Err fault) }
-{
-    match read_points::<D>(alloc, input, columns) {
-        Ok(_) => Ok(()),
-        Err(fault) => Err(fault),
-    }
 }

@@ -1,19 +1,18 @@
 //! The buffer goes to a segment, and segments are merged.
 
-ghost use Rattle.std.specs.Prelude.{◌≡◌, ◌≤◌, ◌<◌, ◌+◌, ◌↔◌, ◌⊎◌, ℕ, List, true, false, [], None, Some, is_some};
-ghost use Rattle.std.specs.Prelude.{length, map, slice_index, All, IsTrue, IfOk, IfNone, IfSome, OnOk, OnErr, IsErrOf};
+ghost use Rattle.std.specs.Prelude.{◌≡◌, ◌≤◌, ◌<◌, ◌+◌, ◌↔◌, ◌⊎◌, true, false, None, Some, is_some};
+ghost use Rattle.std.specs.Prelude.{length, All, IsTrue, IfOk, OnOk, OnErr, IsErrOf};
 ghost use Rattle.live_bits.specs.LiveSet.{is_live};
 ghost use Rattle.page_cache.specs.Cache.{Agrees};
 ghost use Rattle.page_cache.specs.Causes.{HasPageCause};
 ghost use Rattle.page_cache.specs.Evidence.{OnDamage, NotDamaged};
-ghost use Rattle.merge_policy.specs.Choice.{IsChoice, free_count};
 ghost use Rattle.index_model.specs.State.{Index};
 ghost use Rattle.segment_build.specs.NewSegments.{NewSegmentData};
 ghost use Rattle.segment_view.specs.Parts.{Contents, AreRead, ids_of, live_in_parts, parts_among};
 
-use crate::choosing::{chosen, first_places, ids_at, inputs_of, is_settled, unpinned};
+use crate::choosing::{first_places, ids_at, inputs_of, is_settled, unpinned};
 use crate::faults::{BeginFault, EndFault};
-use crate::rewriting::{BuildPlan, gathered, merge, replace, write_buffer};
+use crate::rewriting::{BuildPlan, gathered, merge, replace};
 use crate::set::{Begun, SegmentSet};
 use bkd_build::Gate;
 use outer_io::Folder;
@@ -24,117 +23,19 @@ use std::thread::Threads;
 
 impl<const D: usize> SegmentSet<D> {
     ghost use Rattle.segment_set.specs.Faults.{HasCauseOf, OnBeginDamage, OnEndDamage};
-    ghost use Rattle.segment_set.specs.Sets.{BegunMerge, IsSettled, IsWell, inputs_of, pins_of, sizes_of};
+    ghost use Rattle.segment_set.specs.Sets.{BegunMerge, IsWell, inputs_of};
     ghost use Rattle.segment_set.specs.Seen.{Sees, StandsOver};
     ghost use Rattle.segment_set.specs.Kept.{AreCanonical, Follows, IsAsBefore, KeepsNamed, StaysAlone, StaysButCache};
     ghost use Rattle.segment_set.specs.Kept.{StaysButMerge, StaysButParts};
     ghost use Rattle.segment_set.specs.Merged.{IsApart, IsEnded, IsTidy, IsWhole, KeepsEntries, Rearranges, chosen_ids};
     ghost use Rattle.segment_set.specs.Merged.{free_ids, free_parts};
     ghost use Rattle.segment_set.specs.Merges.{IsGathered, IsMerged, Replaces, living};
-    ghost use Rattle.segment_set.specs.Settles.{Flushes, IsLeft, MergesParts, Settles, WritesBuffer, moment};
+    ghost use Rattle.segment_set.specs.Settles.{MergesParts, moment};
     ghost use Rattle.segment_set.specs.Damages.{IsDoubt, IsMergeDamage, IsMergeDamageOf};
     ghost use Rattle.segment_set.specs.Faithful.{IsFaithful};
     ghost use Rattle.index_opening.specs.Evidence.{IsEvidentIn};
     ghost use Rattle.segment_set.specs.declared.faults.BeginFault.TheVariants as begin;
     ghost use Rattle.segment_set.specs.declared.faults.EndFault.TheVariants as end;
-
-    /// Settles, then writes the buffer as a new segment unless it is empty.
-    pub fn flush<R: Threads + Sync, F: Folder, G: Gate>(
-        &mut self,
-        rt: &R,
-        alloc: Global,
-        folder: &mut F,
-        gate: &G,
-    ) -> Result<(), PageFault>
-        ensures seen { IsTrue F.told → (i : Index) → Sees D (F.files folder.old) self.old i
-            → Sees D (F.files folder.new) self.new i }
-        ensures emptied { OnOk result (self.new.buffer ≡ []) }
-        ensures levels { OnOk result
-            ((level : ℕ) → free_count level (sizes_of self.new.parts) (pins_of self.new.begun self.new.parts) ≤ 10) }
-        // what is done, and after a fault what was done before: merges of the policy, each whole
-        ensures flushed { OnOk result
-            (Flushes D (IsTrue F.told) (moment (F.files folder.old) self.old) (moment (F.files folder.new) self.new)) }
-        ensures left { OnErr result
-            (IsLeft (Settles D (IsTrue F.told) (moment (F.files folder.old) self.old)) self.new) }
-        // what stays
-        ensures stays { StaysAlone self.old self.new }
-        ensures kept { KeepsNamed (IsTrue F.told) self.old.names self.new.names (F.files folder.old)
-            (F.files folder.new) }
-        ensures follows { Follows self.old.names self.old.parts self.new.parts }
-        ensures saved { self.new.saved ≡ self.old.saved }
-        ensures begun { self.new.begun ≡ self.old.begun }
-        ensures canon { IsTrue F.told → AreCanonical D (F.files folder.new) self.old.names self.new.parts }
-        ensures faithful { IsTrue F.told → IsFaithful D (F.files folder.old) self.old
-            → IsFaithful D (F.files folder.new) self.new }
-        // where the policy chooses nothing, nothing is read
-        ensures rested { IsSettled self.old → F.reads folder.new ≡ F.reads folder.old }
-        // what an error says
-        ensures cause { HasPageCause (F.faults folder.old) (F.faults folder.new) result }
-        ensures whole { IsTrue F.told → (i : Index) → Sees D (F.files folder.old) self.old i → NotDamaged result }
-        ensures shown { OnDamage result (IsMergeDamage D self.old.given self.old.names self.old.parts) }
-        ensures damage { IsTrue F.told → Agrees (F.files folder.old) self.old.cache
-            → OnDamage result (IsMergeDamageOf (F.files folder.new) self.old.given) }
-        ensures doubled { IsTrue F.told → Agrees (F.files folder.old) self.old.cache → (c : Contents)
-            → AreRead D (F.files folder.old) c self.old.parts
-            → OnDamage result (IsDoubt self.old.given (live_in_parts c self.old.parts)) }
-        ensures evident { OnDamage result
-            (IsEvidentIn D self.old.parts (IsTrue F.told × IsFaithful D (F.files folder.old) self.old)
-            (F.files folder.new)) }
-    {
-        self.merge_settle(rt, alloc, folder, gate)?;
-        self.write_buffer(rt, alloc, folder, gate)
-    }
-
-    /// Merges what the policy chooses until it chooses none. Inputs of a begun merge are pinned.
-    pub fn merge_settle<R: Threads + Sync, F: Folder, G: Gate>(
-        &mut self,
-        rt: &R,
-        alloc: Global,
-        folder: &mut F,
-        gate: &G,
-    ) -> Result<(), PageFault>
-        ensures seen { IsTrue F.told → (i : Index) → Sees D (F.files folder.old) self.old i
-            → Sees D (F.files folder.new) self.new i }
-        ensures buffer { self.new.buffer ≡ self.old.buffer }
-        ensures levels { OnOk result
-            ((level : ℕ) → free_count level (sizes_of self.new.parts) (pins_of self.new.begun self.new.parts) < 10) }
-        ensures room { OnOk result (length self.new.parts < 200) }
-        // what is done, and after a fault what was done before: merges of the policy, each whole
-        ensures settled { OnOk result
-            (Settles D (IsTrue F.told) (moment (F.files folder.old) self.old) (moment (F.files folder.new) self.new)) }
-        ensures left { OnErr result
-            (IsLeft (Settles D (IsTrue F.told) (moment (F.files folder.old) self.old)) self.new) }
-        // what stays
-        ensures stays { StaysAlone self.old self.new }
-        ensures kept { KeepsNamed (IsTrue F.told) self.old.names self.new.names (F.files folder.old)
-            (F.files folder.new) }
-        ensures follows { Follows self.old.names self.old.parts self.new.parts }
-        ensures saved { self.new.saved ≡ self.old.saved }
-        ensures begun { self.new.begun ≡ self.old.begun }
-        ensures canon { IsTrue F.told → AreCanonical D (F.files folder.new) self.old.names self.new.parts }
-        ensures faithful { IsTrue F.told → IsFaithful D (F.files folder.old) self.old
-            → IsFaithful D (F.files folder.new) self.new }
-        // where the policy chooses nothing, nothing is done
-        ensures rested { IsSettled self.old → F.reads folder.new ≡ F.reads folder.old }
-        ensures still { IsSettled self.old → self.new ≡ self.old }
-        // what an error says
-        ensures cause { HasPageCause (F.faults folder.old) (F.faults folder.new) result }
-        ensures whole { IsTrue F.told → (i : Index) → Sees D (F.files folder.old) self.old i → NotDamaged result }
-        ensures shown { OnDamage result (IsMergeDamage D self.old.given self.old.names self.old.parts) }
-        ensures damage { IsTrue F.told → Agrees (F.files folder.old) self.old.cache
-            → OnDamage result (IsMergeDamageOf (F.files folder.new) self.old.given) }
-        ensures doubled { IsTrue F.told → Agrees (F.files folder.old) self.old.cache → (c : Contents)
-            → AreRead D (F.files folder.old) c self.old.parts
-            → OnDamage result (IsDoubt self.old.given (live_in_parts c self.old.parts)) }
-        ensures evident { OnDamage result
-            (IsEvidentIn D self.old.parts (IsTrue F.told × IsFaithful D (F.files folder.old) self.old)
-            (F.files folder.new)) }
-    {
-        while let Some(ids) = self.next_merge(alloc)? {
-            self.merge(rt, alloc, folder, ids.as_slice(), gate)?;
-        }
-        Ok(())
-    }
 
     /// Merges all segments that are no inputs of a begun merge into one. On a single such segment it does nothing
     /// exactly where that has index form 3 and as many live numbers as entries. A merge whose entries are all dead
@@ -304,7 +205,7 @@ impl<const D: usize> SegmentSet<D> {
     }
 
     /// How segments are built.
-    fn plan(&self) -> BuildPlan<D>
+    pub(crate) fn plan(&self) -> BuildPlan<D>
         ensures leaf { result.leaf ≡ self.now.leaf }
         ensures given { result.given ≡ self.now.given }
     {
@@ -313,27 +214,6 @@ impl<const D: usize> SegmentSet<D> {
             forks: self.forks,
             given: self.given,
         }
-    }
-
-    /// The ids of the segments that the policy chooses for the next merge, if it chooses some.
-    fn next_merge(&self, alloc: Global) -> Result<Option<Vec<u64>>, Memory>
-        ensures none { IfOk result
-            (λ o. IfNone o
-            ((level : ℕ) → free_count level (sizes_of self.now.parts) (pins_of self.now.begun self.now.parts) < 10)) }
-        ensures apart { IfOk result
-            (λ o. IfSome o (λ ids. IsApart ids.items (inputs_of self.now.begun) self.now.parts)) }
-        ensures some { IfOk result (λ o. IfSome o (λ ids. 2 ≤ length (parts_among ids.items self.now.parts))) }
-        ensures ten { IfOk result
-            (λ o. IfSome o
-            (λ ids. (level : ℕ)
-            × (10 ≤ free_count level (sizes_of self.now.parts) (pins_of self.now.begun self.now.parts)))) }
-        ensures choice { IfOk result (λ o. IfSome o (λ ids. (positions : List ℕ)
-            × IsChoice (sizes_of self.now.parts) (pins_of self.now.begun self.now.parts) positions
-            × (ids.items ≡ map (slice_index (ids_of self.now.parts)) positions))) }
-        ensures room { IfOk result (λ o. IfNone o (length self.now.parts < 200)) }
-        ensures well { IsWell D self.now }
-    {
-        chosen(alloc, &self.segments, inputs_of(&self.begun))
     }
 
     /// The ids of the segments that are no inputs of a begun merge.
@@ -353,7 +233,7 @@ impl<const D: usize> SegmentSet<D> {
     }
 
     /// Merges the segments of these ids into one.
-    fn merge<R: Threads + Sync, F: Folder, G: Gate>(
+    pub(crate) fn merge<R: Threads + Sync, F: Folder, G: Gate>(
         &mut self,
         rt: &R,
         alloc: Global,
@@ -396,47 +276,6 @@ impl<const D: usize> SegmentSet<D> {
             &mut self.segments,
             &mut self.cache,
             ids,
-            &plan,
-            gate,
-        )
-    }
-
-    /// Writes what waits in the buffer as a segment.
-    fn write_buffer<R: Threads + Sync, F: Folder, G: Gate>(
-        &mut self,
-        rt: &R,
-        alloc: Global,
-        folder: &mut F,
-        gate: &G,
-    ) -> Result<(), PageFault>
-        requires { length self.old.parts < 200 }
-        ensures well { IsWell D self.old }
-        ensures moves { Rearranges D (IsTrue F.told) (F.files folder.old) (F.files folder.new) self.old self.new }
-        ensures faithful { IsTrue F.told → IsFaithful D (F.files folder.old) self.old
-            → IsFaithful D (F.files folder.new) self.new }
-        ensures emptied { OnOk result (self.new.buffer ≡ []) }
-        ensures spills { OnOk result ((moment (F.files folder.new) self.new ≡ moment (F.files folder.old) self.old)
-            ⊎ WritesBuffer D (IsTrue F.told) (moment (F.files folder.old) self.old)
-            (moment (F.files folder.new) self.new)) }
-        ensures refused { OnErr result (IsAsBefore self.old self.new) }
-        ensures one_more { (level : ℕ)
-            → free_count level (sizes_of self.new.parts) (pins_of self.new.begun self.new.parts)
-            ≤ free_count level (sizes_of self.old.parts) (pins_of self.old.begun self.old.parts) + 1 }
-        ensures reads { F.reads folder.new ≡ F.reads folder.old }
-        ensures cause { HasPageCause (F.faults folder.old) (F.faults folder.new) result }
-        ensures whole { NotDamaged result }
-    {
-        if self.buffer.is_empty() {
-            return Ok(());
-        }
-        let plan = self.plan();
-        write_buffer(
-            rt,
-            alloc,
-            folder,
-            &mut self.names,
-            &mut self.segments,
-            &mut self.buffer,
             &plan,
             gate,
         )

@@ -1,5 +1,4 @@
-//! What a merge does with segments: their live entries are gathered, a segment is built of these, and it takes their
-//! place.
+//! Live entries of segments are gathered, a segment is built of them, and it takes their place.
 
 ghost use Rattle.std.specs.Prelude.{◌≡◌, ◌≤◌, ◌<◌, ◌^◌, ◌⊎◌, ℕ, List, Contains, true, false, [], None, Some, length};
 ghost use Rattle.std.specs.Prelude.{All, IsTrue, IfOk, OnOk, OnErr, IsErrOf};
@@ -54,8 +53,7 @@ pub(crate) struct BuildPlan<const D: usize> {
     ghost most_given: { given ≤ 2 ^ 24 },
 }
 
-/// Looks through entries before a segment is built of them. They are no more than the points given, and of no number
-/// there are more than 16 or one twice; else the files are damaged.
+/// Looks for more entries than points were given, and for a number with more than 16 or one twice: a damage.
 fn check_entries<const D: usize>(
     alloc: Global,
     entries: &[Entry<D>],

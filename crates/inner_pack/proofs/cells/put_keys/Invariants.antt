@@ -1,7 +1,7 @@
 use Rattle.std.proofs.Common.{◌≡◌, ◌+◌, ◌*◌, ◌++◌, length, take}
 use Rattle.std.specs.List.{flat_map}
 use Rattle.point_codec.specs.Keys.{key}
-use Rattle.inner_pack.proofs.pack.put_keys.Given as goal
+use Rattle.inner_pack.proofs.cells.put_keys.Given as goal
 
 abbrev pub invariant-loop-x : goal.invariant-loop-x
 invariant-loop-x l = record {

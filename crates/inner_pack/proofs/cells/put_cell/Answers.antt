@@ -1,6 +1,6 @@
 use Rattle.point_codec.specs.Seen.{region_of}
 use Rattle.inner_pack.proofs.PackBytes.{cell_written}
-use Rattle.inner_pack.proofs.pack.put_cell.Goals as goal
+use Rattle.inner_pack.proofs.cells.put_cell.Goals as goal
 
 pub returns-clause-spelled : goal.returns-clause-spelled
 returns-clause-spelled g c =

@@ -4,7 +4,7 @@ use Rattle.std.proofs.lemmas.Result.{err_from_is_err_and}
 use Rattle.page_cache.specs.declared.faults.PageFault.{PageFault}
 use Rattle.load_points.specs.Loaded.{csv_text}
 use Rattle.load_points.proofs.Loading.{loads_no_memory, loads_refused}
-use Rattle.load_points.proofs.loader.refuse_file.Goals as goal
+use Rattle.load_points.proofs.refusals.refuse_file.Goals as goal
 
 pub returns-in_err-put_csv_fault : goal.returns-in_err-put_csv_fault
 returns-in_err-put_csv_fault c files faults =

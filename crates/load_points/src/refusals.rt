@@ -1,0 +1,92 @@
+//! Files that are refused.
+
+ghost use Rattle.std.specs.Prelude.{◌≡◌, ◌≢◌, ◌≤◌, ◌<◌, ℕ, true, length, Ok, Err};
+ghost use Rattle.std.specs.Prelude.{IfErr, OnOk, List, ℤ};
+ghost use Rattle.outer_io.specs.Files.{Files};
+ghost use Rattle.csv_load.specs.Loading.{points_of, records_of};
+ghost use Rattle.stored_index.specs.Stored.{IsStored};
+ghost use Rattle.load_points.specs.Loaded.{load_answer, loaded_by};
+ghost use Rattle.load_points.specs.Loads.{HasDims, Loads};
+
+use crate::texts::{put_csv_fault, put_dims};
+use byte_cursor::Bytes;
+use csv_load::{CsvFault, read_points};
+use page_cache::PageFault;
+use std::alloc::Global;
+
+/// Refuses a file whose columns are not as many as the dimensions, or for its own fault, which comes first.
+pub(crate) fn refuse_dims(
+    alloc: Global,
+    dims: u8,
+    columns: &[Bytes],
+    input: &[u8],
+    text: &mut Vec<u8>,
+) -> Result<bool, PageFault>
+    requires some { 1 ≤ length columns.now }
+    requires few { length columns.now ≤ 8 }
+    requires other { length columns.now ≢ dims }
+    ensures { (files : Files) (faults : ℕ)
+        → Loads (Unit {0}) (Unit {0}) (HasDims files dims) (λ stored. load_answer stored input.now columns.now)
+        (record { files = files; faults = faults; text = text.old.items })
+        (record { files = files; faults = faults; text = text.new.items }) result }
+{
+    match look_through(alloc, columns, input) {
+        Ok(()) => {
+            put_dims(text, dims)?;
+            Ok(true)
+        }
+        Err(CsvFault::Memory) => Err(PageFault::Memory),
+        Err(fault) => refuse_file(text, columns, &fault),
+    }
+}
+
+/// Refuses a file for its fault.
+pub(crate) fn refuse_file(
+    text: &mut Vec<u8>,
+    columns: &[Bytes],
+    fault: &CsvFault,
+) -> Result<bool, PageFault>
+    requires { fault.now ≢ CsvFault.Memory }
+    ensures { (files : Files) (faults : ℕ)
+        → Loads (Unit {0}) (Unit {0}) (IsStored files) (λ stored. loaded_by columns.now stored (Err fault.now))
+        (record { files = files; faults = faults; text = text.old.items })
+        (record { files = files; faults = faults; text = text.new.items }) result }
+{
+    put_csv_fault(text, columns, fault)?;
+    Ok(true)
+}
+
+/// Reads all records for their faults alone.
+fn look_through(alloc: Global, columns: &[Bytes], input: &[u8]) -> Result<(), CsvFault>
+    requires some { 1 ≤ length columns.now }
+    requires few { length columns.now ≤ 8 }
+    ensures fine { OnOk result ((points : List (List ℤ)) × (points_of columns.now (records_of input.now) ≡ Ok points)) }
+    ensures fault { IfErr result
+        (λ fault. fault ≢ CsvFault.Memory → points_of columns.now (records_of input.now) ≡ Err fault) }
+{
+    match columns.len() {
+        1 => look::<1>(alloc, columns, input),
+        2 => look::<2>(alloc, columns, input),
+        3 => look::<3>(alloc, columns, input),
+        4 => look::<4>(alloc, columns, input),
+        5 => look::<5>(alloc, columns, input),
+        6 => look::<6>(alloc, columns, input),
+        7 => look::<7>(alloc, columns, input),
+        _ => look::<8>(alloc, columns, input),
+    }
+}
+
+/// Reads all records of `D` columns for their faults alone.
+fn look<const D: usize>(alloc: Global, columns: &[Bytes], input: &[u8]) -> Result<(), CsvFault>
+    requires some { 1 ≤ D }
+    requires few { D ≤ 8 }
+    requires named { length columns.now ≡ D }
+    ensures fine { OnOk result ((points : List (List ℤ)) × (points_of columns.now (records_of input.now) ≡ Ok points)) }
+    ensures fault { IfErr result
+        (λ fault. fault ≢ CsvFault.Memory → points_of columns.now (records_of input.now) ≡ Err fault) }
+{
+    match read_points::<D>(alloc, input, columns) {
+        Ok(_) => Ok(()),
+        Err(fault) => Err(fault),
+    }
+}
