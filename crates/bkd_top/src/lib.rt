@@ -12,4 +12,4 @@ pub use explain::run_explain;
 pub use program::run;
 pub use run_status::{MAX_INPUT, Memory, Status, code, status_line};
 pub use scripts::{run_ranges, run_script, run_session};
-pub use whole::{run_generate, run_load};
+pub use loads::{run_generate, run_load};

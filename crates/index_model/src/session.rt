@@ -28,11 +28,11 @@ pub const MAX_POINTS: u32 = 1 << 24;
 /// An index of `D` dimensions, kept as a list of documents in memory. A query scans the list.
 #[derive(Drop)]
 pub struct ListSession<const D: usize> {
-    leaf: u16,
+    pub(crate) leaf: u16,
     next: u32,
     given: u32,
-    docs: Vec<HeldDocument<D>>,
-    snapshots: Vec<HeldSnapshot<D>>,
+    pub(crate) docs: Vec<HeldDocument<D>>,
+    pub(crate) snapshots: Vec<HeldSnapshot<D>>,
     begun: bool,
 }
 

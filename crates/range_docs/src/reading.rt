@@ -11,7 +11,7 @@ use crate::changes::{add, create, delete};
 use crate::faults::RangeFault;
 use crate::queries::find;
 use crate::ranges::Question;
-use script_lang::changes::{alone, merge, name_at};
+use script_lang::changes::{word_alone, merge, name_at};
 use script_lang::lines::words_of;
 use script_lang::reading::is_note;
 use script_lang::words::Words;
@@ -115,7 +115,7 @@ fn without_ranges<const D: usize>(
         return delete(words);
     }
     if verb == "flush" {
-        return alone(words, Command::Flush);
+        return word_alone(words, Command::Flush);
     }
     if verb == "merge" {
         return merge(alloc, words);
@@ -127,10 +127,10 @@ fn without_ranges<const D: usize>(
         return Ok(Command::Release(name_at(words)?));
     }
     if verb == "commit" {
-        return alone(words, Command::Commit);
+        return word_alone(words, Command::Commit);
     }
     if verb == "reopen" {
-        return alone(words, Command::Reopen);
+        return word_alone(words, Command::Reopen);
     }
     Err(LineFault::Unknown)
 }

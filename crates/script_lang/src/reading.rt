@@ -5,7 +5,7 @@ ghost use Rattle.script_lang.specs.Parts.{left};
 ghost use Rattle.script_lang.specs.Reading.{read, read_command};
 ghost use Rattle.script_lang.specs.Seen.{request_of, first_request_of, Agrees, IsWithinLimits};
 
-use crate::changes::{add, alone, create, delete, merge, name_at};
+use crate::changes::{add, word_alone, create, delete, merge, name_at};
 use crate::commands::{Command, First};
 use crate::faults::LineFault;
 use crate::lines::words_of;
@@ -89,7 +89,7 @@ fn read_command<const D: usize>(
         return nearest(words);
     }
     if verb == "flush" {
-        return alone(words, Command::Flush);
+        return word_alone(words, Command::Flush);
     }
     if verb == "merge" {
         return merge(alloc, words);
@@ -101,10 +101,10 @@ fn read_command<const D: usize>(
         return Ok(Command::Release(name_at(words)?));
     }
     if verb == "commit" {
-        return alone(words, Command::Commit);
+        return word_alone(words, Command::Commit);
     }
     if verb == "reopen" {
-        return alone(words, Command::Reopen);
+        return word_alone(words, Command::Reopen);
     }
     Err(LineFault::Unknown)
 }
