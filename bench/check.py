@@ -2,9 +2,11 @@
 """Times `check` over a million points of two dimensions, beside what reading and digesting every page costs.
 
 usage: bench/check.py [COUNT]
+       bench/check.py --digest FOLDER     the floor alone: its wall time and its processor time in seconds
 
 bkd      `check` over the points in one segment, and over the segments that `load` leaves
-floor    every page of the same files read, and its payload digested with its place by OpenSSL's SHA-256 (hashlib)
+floor    every page of the same files read, and its payload digested with its place by OpenSSL's SHA-256 (hashlib):
+         without the processor's own instructions for SHA-256, which the kit's digest can't use, and with them
 SQLite   `rtreecheck` over an R*Tree of the same points (Debian's sqlite3)
 Lucene   `CheckIndex` over the same points (Debian's liblucene8-java and a JDK), and over one point: the machine's start
 
@@ -15,6 +17,7 @@ import glob
 import hashlib
 import os
 import shutil
+import subprocess
 import sys
 import time
 
@@ -23,6 +26,8 @@ from program import COUNT, Data, Run, bkd, java, jars, milliseconds, rtree, writ
 TURNS = 5
 PAGE, PAYLOAD = 4096, 4064
 CHECK = "org.apache.lucene.index.CheckIndex"
+# bit 29 of the second word of OpenSSL's mask: the processor's instructions for SHA
+PLAIN = {"OPENSSL_ia32cap": ":~0x20000000"}
 
 
 class Times:
@@ -67,6 +72,13 @@ def digested(folder):
     return time.perf_counter() - wall, time.process_time() - processor
 
 
+def plainly_digested(folder):
+    """The same in plain instructions."""
+    words = [sys.executable, os.path.abspath(__file__), "--digest", folder]
+    said = subprocess.run(words, env={**os.environ, **PLAIN}, check=True, capture_output=True, text=True).stdout
+    return tuple(map(float, said.split()))
+
+
 def checked(run, wanted):
     """The times of a run that says what is wanted."""
     run = run.done()
@@ -99,12 +111,16 @@ def add_lucene(times, data):
 
 
 def main():
+    if sys.argv[1:2] == ["--digest"]:
+        print(*digested(sys.argv[2]))
+        return
     data, times = Data(int(sys.argv[1]) if len(sys.argv) > 1 else COUNT), Times()
     folders = {"one segment": data.merged(), "as loaded": loaded(data)}
     for name, folder in folders.items():
         wanted = "live %d" % data.count
         times.add("bkd check, " + name, lambda folder=folder, w=wanted: checked(bkd(folder, "check", keep=True), w))
-        times.add("reading and digesting, " + name, lambda folder=folder: digested(folder))
+        times.add("reading and digesting, " + name, lambda folder=folder: plainly_digested(folder))
+        times.add("with SHA instructions, " + name, lambda folder=folder: digested(folder))
     if shutil.which("sqlite3"):
         add_sqlite(times, data)
     if shutil.which("java") and jars():
