@@ -135,8 +135,9 @@ class Gate:
             return
         check.edit = self.edit(f"{self.folder}/crates/{check.crate}", folder)
         kept = words[words.index("--incremental") + 1] if "--incremental" in words else None
-        # what is tried first over a folder fills it, be it the crate itself or its first edit
-        is_seed = kept and kept not in self.seeded
+        # what is tried first over a folder fills it, be it the crate itself or its first edit; in kit 13f an edit has a
+        # folder of its own, which begins as a copy of the seed's and is named by a number
+        is_seed = kept and kept not in self.seeded and not (check.edit and os.path.basename(kept).isdigit())
         self.seeded.add(kept)
         check.kind = SEED if is_seed else EDITS if check.edit else SOUND
 
