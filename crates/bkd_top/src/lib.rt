@@ -9,7 +9,7 @@ mod scripts;
 
 pub use check::run_check;
 pub use explain::run_explain;
+pub use loads::{run_generate, run_load};
 pub use program::run;
 pub use run_status::{MAX_INPUT, Memory, Status, code, status_line};
 pub use scripts::{run_ranges, run_script, run_session};
-pub use loads::{run_generate, run_load};

@@ -8,8 +8,8 @@ ghost use Rattle.script_lang.specs.Seen.{viewed};
 ghost use Rattle.index_model.specs.State.{viewed_docs};
 ghost use Rattle.index_model.specs.Step.{Done, step_on, answered};
 
-use crate::session::{Applied, ListSession};
 use crate::held::snapshot_of;
+use crate::session::{Applied, ListSession};
 use cell_relate::Shape;
 use documents::{HeldDocument, Memory, scan_hits, scan_nearest};
 use point_codec::{Point, View};

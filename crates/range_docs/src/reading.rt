@@ -11,7 +11,7 @@ use crate::changes::{add, create, delete};
 use crate::faults::RangeFault;
 use crate::queries::find;
 use crate::ranges::Question;
-use script_lang::changes::{word_alone, merge, name_at};
+use script_lang::changes::{merge, name_at, word_alone};
 use script_lang::lines::words_of;
 use script_lang::reading::is_note;
 use script_lang::words::Words;

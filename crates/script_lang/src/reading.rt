@@ -5,7 +5,7 @@ ghost use Rattle.script_lang.specs.Parts.{left};
 ghost use Rattle.script_lang.specs.Reading.{read, read_command};
 ghost use Rattle.script_lang.specs.Seen.{request_of, first_request_of, Agrees, IsWithinLimits};
 
-use crate::changes::{add, word_alone, create, delete, merge, name_at};
+use crate::changes::{add, create, delete, merge, name_at, word_alone};
 use crate::commands::{Command, First};
 use crate::faults::LineFault;
 use crate::lines::words_of;
