@@ -8,11 +8,13 @@ use Rattle.index_model.specs.State.{State}
 use Rattle.index_model.specs.Script.{Answer}
 use Rattle.stored_index.specs.Stored.{IsStored}
 use Rattle.stored_index.specs.Opening.{IsOpening, segments_pages}
-use Rattle.command_words.specs.Commands.{Asked, Run, Load, Explain, Check, Generate, Session, Count}
+use Rattle.command_words.specs.Commands.{Asked, Run, Load, Explain, Check, Generate, Session, Count, Batch}
 use Rattle.load_points.specs.Loaded.{loaded}
 use Rattle.drawn_points.specs.Generated.{generated}
 use Rattle.explain_queries.specs.Explained.{Scope, IsScope, Told, TellsLine, TellsLines}
 use Rattle.count_queries.specs.Counted as counts
+use Rattle.batch_queries.specs.Batched.{TellsBatch}
+use Rattle.batch_queries.specs.Ends.{EndsBatch}
 use Rattle.script_run.specs.Progress.{start}
 use Rattle.script_run.specs.Runs.{Ends, EndsSession}
 use Rattle.bkd_top.specs.Checking.{EndsCheck}
@@ -33,6 +35,7 @@ reads_input Check = false
 reads_input (Generate docs seed forks) = false
 reads_input (Session cache forks) = true
 reads_input (Count cache) = true
+reads_input (Batch forks) = true
 
 -- its lines are done as they come, and no input is too large
 abbrev pub is_session : Asked → Bool
@@ -179,7 +182,7 @@ ReadsFew files lines old new =
 
 -- ---- the program
 
--- Explaining, checking and counting leave what is stored.
+-- Explaining, checking, counting and answering a batch leave what is stored.
 abbrev pub EndsAsked : (told : Type 0) → Asked → Before → Files → List ℕ → Status → Type 0
 EndsAsked told (Run cache forks) b files new s = Ends told (start b.state (lines_of b.input) b.written) files new s
 EndsAsked told (Load columns forks) b files new s = EndsWhole told b (loaded b.state b.input columns) files new s
@@ -190,3 +193,4 @@ EndsAsked told (Session cache forks) b files new s = EndsSession told (start b.s
 EndsAsked told (Count cache) b files new s =
     (scope : counts.Scope) → counts.IsScope b.files scope
     → telling.EndsTold told (counts.TellsCount scope) (lines_of b.input) b.written new s
+EndsAsked told (Batch forks) b files new s = EndsBatch told (TellsBatch b.state) (lines_of b.input) b.written new s

@@ -19,6 +19,7 @@ ghost use Rattle.bkd_top.specs.Commands.{EndsAsked, does, is_session, reads_inpu
 use crate::check::run_check;
 use crate::explain::run_explain;
 use crate::whole::{run_generate, run_load};
+use batch_queries::run_batch;
 use bkd_build::Gate;
 use command_words::{Words, WordsFault, read_words};
 use count_queries::run_count;
@@ -42,6 +43,7 @@ use std::thread::Threads;
 /// | `generate` | makes an index of drawn documents, commits, and says what drawn queries find in it |
 /// | `session` | does the lines of a script as `run` does, each as soon as it has come, before the input is asked for more |
 /// | `count` | reads lines, and says of each how many live points lie in a box, or in each bucket of a grid |
+/// | `batch` | reads queries, and answers them all from a copy of the index in memory, parts of the list beside each other |
 ///
 /// **The headline.** On a folder that stores an index, or none, what `run` writes is, line for line, what a scan of the live documents
 /// answers to the script's adds, deletes and queries, whatever flushes, merges, snapshots and reopenings stand between, and the folder
@@ -159,6 +161,7 @@ fn run_command<S: Source, F: Folder, K: Sink, R: Threads + Sync, G: Gate>(
             run_session(rt, alloc, settings, input, folder, out, gate)
         }
         Words::Count { cache_pages } => run_count(alloc, cache_pages, input, folder, out),
+        Words::Batch { forks } => run_batch(rt, alloc, forks, input, folder, out, gate),
     }
 }
 

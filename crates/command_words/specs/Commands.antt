@@ -17,6 +17,7 @@ pub data Asked : Type 0 where
   Generate : (docs seed forks : ℕ) → Asked
   Session : (cache forks : ℕ) → Asked
   Count : (cache : ℕ) → Asked
+  Batch : (forks : ℕ) → Asked
 
 -- ---- the options
 
@@ -133,8 +134,15 @@ count = record {
   asks = λ found. Some (Count (cache_by found));
 }
 
+abbrev pub batch : Form
+batch = record {
+  name = codes "batch";
+  options = forks ∷ [];
+  asks = λ found. Some (Batch (forks_by found));
+}
+
 abbrev pub forms : List Form
-forms = run ∷ load ∷ explain ∷ check ∷ generate ∷ session ∷ count ∷ []
+forms = run ∷ load ∷ explain ∷ check ∷ generate ∷ session ∷ count ∷ batch ∷ []
 
 -- ---- the words
 
@@ -171,6 +179,7 @@ said words.Check = Check
 said (words.Generate docs seed forks) = Generate docs seed forks
 said (words.Session cache_pages forks) = Session cache_pages forks
 said (words.Count cache_pages) = Count cache_pages
+said (words.Batch forks) = Batch forks
 
 -- ---- the ranges
 
@@ -186,3 +195,4 @@ IsWithin words.Check = Unit {0}
 IsWithin (words.Generate docs seed forks) = (1 ≤ docs) × (docs ≤ 1000000) × (1 ≤ seed) × (seed ≤ 2147483646) × (forks ≤ 6)
 IsWithin (words.Session cache_pages forks) = (1 ≤ cache_pages) × (cache_pages ≤ 65536) × (forks ≤ 6)
 IsWithin (words.Count cache_pages) = (1 ≤ cache_pages) × (cache_pages ≤ 65536)
+IsWithin (words.Batch forks) = forks ≤ 6

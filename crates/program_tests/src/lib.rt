@@ -9,6 +9,8 @@ mod answers;
 #[cfg(test)]
 mod asked_calls;
 #[cfg(test)]
+mod batching;
+#[cfg(test)]
 mod checked_entries;
 #[cfg(test)]
 mod checked_folders;
