@@ -8,6 +8,7 @@
 mod answers;
 mod batches;
 mod copying;
+mod loading;
 mod pages;
 mod queries;
 mod resident;

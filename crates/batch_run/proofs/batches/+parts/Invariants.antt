@@ -7,8 +7,8 @@ decreases-batch g l = 4 * l.forks + 3
 abbrev pub decreases-both : goal.decreases-both
 decreases-both g l = 4 * l.forks + 2
 
-abbrev pub decreases-both-join-f : goal.decreases-both-join-f
-decreases-both-join-f g l = 4 * l.forks + 1
+abbrev pub decreases-both-join+arg2 : goal.decreases-both-join+arg2
+decreases-both-join+arg2 g l = 4 * l.forks + 1
 
-abbrev pub decreases-both-join-g : goal.decreases-both-join-g
-decreases-both-join-g g l = 4 * l.forks + 1
+abbrev pub decreases-both-join+arg3 : goal.decreases-both-join+arg3
+decreases-both-join+arg3 g l = 4 * l.forks + 1

@@ -9,7 +9,7 @@ use Rattle.commit_list.specs.CommitFiles.{IsCommitFile}
 use Rattle.stored_index.specs.Stored.{HoldsIndex}
 use Rattle.batch_run.proofs.Held.{opened_hold}
 use Rattle.batch_run.proofs.Whole.{held_whole, shows_itself}
-use Rattle.batch_run.proofs.resident.open_copy.Goals as goal
+use Rattle.batch_run.proofs.loading.open_copy.Goals as goal
 
 pub returns-in_err-check_index-clause-whole : goal.returns-in_err-check_index-clause-whole
 returns-in_err-check_index-clause-whole g c = λ docs h.
@@ -37,8 +37,13 @@ returns-in_err-segments-clause-shown g c =
 pub invariant_of-result : goal.invariant_of-result
 invariant_of-result g c =
     let held = c.in_ok-check_index.ensures.holds refl c.requires.commit in
-    record { held = merely (held.0, opened_hold g.row.D _ _ _ c.args.c.now c.in_ok-segments.segments held.0 c.requires.dims
-        (c.in_ok-check_index.ensures.files refl) (c.in_ok-segments.ensures.files refl) c.in_ok-segments.ensures.opened held.1) }
+    record {
+      held = merely (
+        held.0,
+        opened_hold g.row.D _ _ _ c.args.c.now c.in_ok-segments.segments held.0 c.requires.dims
+            (c.in_ok-check_index.ensures.files refl) (c.in_ok-segments.ensures.files refl) c.in_ok-segments.ensures.opened held.1,
+      );
+    }
 
 pub returns-clause-holds : goal.returns-clause-holds
 returns-clause-holds g c = λ docs h.

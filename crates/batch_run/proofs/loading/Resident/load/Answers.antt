@@ -7,7 +7,7 @@ use Rattle.commit_list.specs.CommitFiles.{IsCommitFile}
 use Rattle.stored_index.specs.Stored.{HoldsIndex}
 use Rattle.batch_run.proofs.CopiedFiles.{copy_holds}
 use Rattle.batch_run.proofs.Whole.{evident_before}
-use Rattle.batch_run.proofs.resident.Resident.load.Goals as goal
+use Rattle.batch_run.proofs.loading.Resident.load.Goals as goal
 
 pub returns-in-Ok-clause-holds : goal.returns-in-Ok-clause-holds
 returns-in-Ok-clause-holds g c = λ told docs h.
