@@ -3,7 +3,7 @@
 use Rattle.std.specs.Prelude.{ℕ, ◌≡◌, ◌⊎◌, Bool, IsTrue, List, [], Option, None, Some}
 use Rattle.outer_io.specs.Files.{Files}
 use Rattle.script_lang.specs.Lines.{lines_of}
-use Rattle.command_words.specs.Commands.{Asked, Run, Load, Explain, Check, Generate, Session, Count, Ranges}
+use Rattle.command_words.specs.Commands.{Asked, Run, Load, Explain, Check, Generate, Session, Count, Ranges, Batch}
 use Rattle.index_model.specs.State.{State}
 use Rattle.stored_index.specs.Stored.{IsStored}
 use Rattle.index_opening.specs.Evidence.{IsEvident}
@@ -39,6 +39,7 @@ TakesInput (Explain cache) left now s = ReadsInput left now s
 TakesInput (Session cache forks) left now s = IsAnswer s → now ≡ []
 TakesInput (Count cache) left now s = ReadsInput left now s
 TakesInput (Ranges cache forks) left now s = ReadsInput left now s
+TakesInput (Batch forks) left now s = ReadsInput left now s
 TakesInput Check left now s = Unit {0}
 TakesInput (Generate docs seed forks) left now s = Unit {0}
 
@@ -92,4 +93,5 @@ LeavesAsked (Explain cache) c s = ExplainCosts (IsTrue c.source) (lines_of c.inp
 LeavesAsked (Load columns forks) c s = WholeLeaves c.old c.new s
 LeavesAsked (Generate docs seed forks) c s = WholeLeaves c.old c.new s
 LeavesAsked (Count cache) c s = CountCosts (IsTrue c.source) (lines_of c.input) c.old c.new c.before c.now
+LeavesAsked (Batch forks) c s = c.new ≡ c.old
 LeavesAsked Check c s = Checks (IsTrue c.sink) c.old c.new c.written c.written_now c.before c.now s

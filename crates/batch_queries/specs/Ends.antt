@@ -1,0 +1,24 @@
+-- How a batch ends over a folder that stores a state: its text goes out whole, or a prefix of it where the sink fails, or
+-- nothing.
+use Rattle.std.specs.Prelude.{ℕ, ◌≡◌, ◌≤◌, List}
+use Rattle.outer_io.specs.Parts.{WritesPart}
+use Rattle.run_status.specs.Told.{Teller, TellsAll, TellsLines, Told}
+use Rattle.run_status.specs.declared.status.Status.{Status}
+use Rattle.run_status.specs.declared.status.Status.TheVariants as status
+
+-- a prefix of what is told of all lines went out
+pub record CutsAll (told : Type 0) (tells : Teller) (lines : List (List ℕ)) (old new : List ℕ) : Type 0 where
+  pub of_lines : Told
+  pub all : TellsLines tells 1 lines of_lines
+  pub text : told → WritesPart old new of_lines.text
+
+abbrev pub EndsBatch : (told : Type 0) → Teller → List (List ℕ) → (old new : List ℕ) → Status → Type 0
+EndsBatch told tells lines old new status.Done = TellsAll told tells 1 lines old new 0
+EndsBatch told tells lines old new (status.SomeRefused count) = (1 ≤ count) × TellsAll told tells 1 lines old new count
+EndsBatch told tells lines old new status.SinkFault = CutsAll told tells lines old new
+EndsBatch told tells lines old new status.FolderFault = told → new ≡ old
+EndsBatch told tells lines old new status.Memory = told → new ≡ old
+EndsBatch told tells lines old new status.Usage = told → new ≡ old
+EndsBatch told tells lines old new status.SourceFault = told → new ≡ old
+EndsBatch told tells lines old new status.TooLarge = told → new ≡ old
+EndsBatch told tells lines old new (status.Damaged damage) = ⊥

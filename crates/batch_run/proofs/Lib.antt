@@ -1,0 +1,5 @@
+mod PartsRead
+mod CopiedFiles
+mod Held
+mod Whole
+mod Replied
