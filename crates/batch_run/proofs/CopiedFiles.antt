@@ -1,7 +1,8 @@
 -- Files that are copied one after the other.
-use Rattle.std.proofs.Common.{◌≡◌, ℕ, List, Bool, true, false, refl, sym, ap, subst, ◌∙◌}
+use Rattle.std.proofs.Common.{◌≡◌, ℕ, ◌+◌, ◌<◌, ◌≤◌, List, true, false, get_or, length, take, refl, sym, ap, subst, ◌∙◌}
+use Rattle.std.proofs.lemmas.List.{take_all}
 use Rattle.std.specs.List.{All}
-use Rattle.std.proofs.lemmas.List.Elements.{All-contains, All-weaker}
+use Rattle.std.proofs.lemmas.List.Elements.{All-contains, All-more, All-weaker}
 use Rattle.outer_io.specs.declared.file_name.FileName.{FileName}
 use Rattle.outer_io.specs.declared.file_name.FileName.TheVariants.{Commit, Live, Segment}
 use Rattle.outer_io.specs.Files.{Files, SameBut, bytes_of}
@@ -43,11 +44,36 @@ both_copied files before between after s first others second more done so = (
     later n h = stays_copied files between after (Live s.segment s.generation) second more n
         (stays_copied files before between (Segment s.segment) first others n h)
 
+-- with one segment more
+pub copied_next : (start here mid before between after : Files) (listed items : List Listed) (i : ℕ) (d : Listed) → items ≡ listed → i < length items
+    → here ≡ start → mid ≡ here
+    → bytes_of (between (Segment (get_or items i d).segment)) ≡ bytes_of (here (Segment (get_or items i d).segment))
+    → SameBut (Segment (get_or items i d).segment) before between
+    → bytes_of (after (Live (get_or items i d).segment (get_or items i d).generation)) ≡ bytes_of (mid (Live (get_or items i d).segment (get_or items i d).generation))
+    → SameBut (Live (get_or items i d).segment (get_or items i d).generation) between after
+    → All (IsCopied start before) (take i listed) → All (IsCopied start after) (take (i + 1) listed)
+copied_next start here mid before between after listed items i d same lt stood stays first others second more done =
+    let s : Listed = get_or items i d in
+    let segment = first ∙ ap (λ (f : Files). bytes_of (f (Segment s.segment))) stood in
+    let live = second ∙ ap (λ (f : Files). bytes_of (f (Live s.segment s.generation))) (stays ∙ stood) in
+    let both = both_copied start before between after s segment others live more (take i items) (subst (λ (ls : List Listed). All (IsCopied start before) (take i ls)) (sym same) done) in
+    subst (λ (ls : List Listed). All (IsCopied start after) (take (i + 1) ls)) same (All-more (IsCopied start after) items i d lt both.0 both.1)
+
+-- with the last one all
+pub all_copied : (start copy : Files) (listed items : List Listed) (i : ℕ) → items ≡ listed → length items ≤ i
+    → All (IsCopied start copy) (take i listed) → All (IsCopied start copy) listed
+all_copied start copy listed items i same le done =
+    subst (λ (ls : List Listed). All (IsCopied start copy) ls) (take_all i listed (subst (λ (ls : List Listed). length ls ≤ i) same le)) done
+
 -- the file of the commit stays
 pub commit_stays : (before between after : Files) (a b : FileName) (c : CommitData) → (a ≡ Commit → ⊥) → (b ≡ Commit → ⊥)
     → SameBut a before between → SameBut b between after → IsCommitFile (bytes_of (before Commit)) c → IsCommitFile (bytes_of (after Commit)) c
 commit_stays before between after a b c not_a not_b first second =
     subst (λ xs. IsCommitFile xs c) (ap bytes_of (sym (second Commit (λ e. not_b (sym e)) ∙ first Commit (λ e. not_a (sym e)))))
+
+-- the files have what the copy has
+pub copied_back : (files copy : Files) (listed : List Listed) → All (IsCopied files copy) listed → All (IsCopied copy files) listed
+copied_back files copy listed all = All-weaker (IsCopied files copy) (IsCopied copy files) (λ s h. record { segment = sym h.segment; live = sym h.live }) listed all
 
 -- the copy of an index holds it
 pub copy_holds : (files copy : Files) (c : CommitData) (docs : List Document) → IsCommitFile (bytes_of (copy Commit)) c

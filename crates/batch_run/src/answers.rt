@@ -8,7 +8,7 @@ ghost use Rattle.page_cache.specs.declared.faults.PageFault.TheVariants as page;
 ghost use Rattle.page_cache.specs.Cache.{Agrees};
 ghost use Rattle.page_cache.specs.Evidence.{NotDamaged};
 ghost use Rattle.batch_run.specs.Held.{Holds};
-ghost use Rattle.batch_run.specs.Residents.{IsCopyOf};
+ghost use Rattle.batch_run.specs.Residents.{AreReplies};
 ghost use Rattle.batch_run.specs.Queries.{IsInRange, near_of, reply_of};
 
 use crate::Memory;
@@ -33,13 +33,16 @@ pub(crate) fn answer_all<const D: usize>(
     queries: &[Query<D>],
 ) -> Result<Vec<Reply>, Memory>
     requires { All (IsInRange D) queries.now }
-    ensures { (docs : List Document) → IsCopyOf docs resident.now → IfOk result (λ v. v.items ≡ map (reply_of D docs) queries.now) }
+    ensures { IfOk result (λ v. AreReplies resident.now queries.now v.items) }
 {
     let mut cache = PageCache::new(alloc, KEPT_PAGES)?;
     let mut pages = resident.pages();
+    let segments = resident.segments();
+    // there are at most 8 dimensions, so that a query is small
+    let _parts = segments.len();
     let mut replies = Vec::with_capacity(alloc, queries.len())?;
     for query in queries {
-        let reply = answer(alloc, resident.segments(), &mut cache, &mut pages, query)?;
+        let reply = answer(alloc, segments, &mut cache, &mut pages, query)?;
         replies.push(reply)?;
     }
     Ok(replies)
@@ -55,7 +58,7 @@ fn answer<const D: usize>(
 ) -> Result<Reply, Memory>
     requires range { IsInRange D query.now }
     requires agrees { Agrees (folder_files pages.old.files.now) cache.old }
-    requires held { ∥ (docs : List Document) × Holds D (folder_files pages.old.files.now) segments.now docs ∥₁ }
+    requires held { ∥ ((docs : List Document) × Holds D (folder_files pages.old.files.now) segments.now docs) ∥₁ }
     ensures reply { (docs : List Document) → Holds D (folder_files pages.old.files.now) segments.now docs → IfOk result (λ r. r ≡ reply_of D docs query.now) }
     ensures files { folder_files pages.new.files.now ≡ folder_files pages.old.files.now }
     ensures agrees { Agrees (folder_files pages.old.files.now) cache.new }
@@ -82,12 +85,14 @@ fn find<const D: usize, S: Shape<D>>(
     shape: &mut S,
 ) -> Result<Reply, Memory>
     requires agrees { Agrees (folder_files pages.old.files.now) cache.old }
-    requires held { ∥ (docs : List Document) × Holds D (folder_files pages.old.files.now) segments.now docs ∥₁ }
+    requires held { ∥ ((docs : List Document) × Holds D (folder_files pages.old.files.now) segments.now docs) ∥₁ }
     ensures reply { (docs : List Document) → Holds D (folder_files pages.old.files.now) segments.now docs → IfOk result (λ r. r ≡ Reply.Hits (hits (S.has shape.old) docs)) }
     ensures files { folder_files pages.new.files.now ≡ folder_files pages.old.files.now }
     ensures agrees { Agrees (folder_files pages.old.files.now) cache.new }
 {
     docs_hits();
+    // there are at most 8 dimensions, so that an entry is small
+    let _parts = segments.len();
     let found = visit(alloc, segments, &[], cache, pages, shape);
     let found = of_whole(found)?;
     Ok(Reply::Hits(Docs::new(found)))
@@ -105,7 +110,7 @@ fn find_near<const D: usize>(
     requires some { 1 ≤ k }
     requires few { k ≤ 10000 }
     requires agrees { Agrees (folder_files pages.old.files.now) cache.old }
-    requires held { ∥ (docs : List Document) × Holds D (folder_files pages.old.files.now) segments.now docs ∥₁ }
+    requires held { ∥ ((docs : List Document) × Holds D (folder_files pages.old.files.now) segments.now docs) ∥₁ }
     ensures reply { (docs : List Document) → Holds D (folder_files pages.old.files.now) segments.now docs → IfOk result (λ r. r ≡ Reply.Near (map near_of (nearest k at.now.c docs))) }
     ensures files { folder_files pages.new.files.now ≡ folder_files pages.old.files.now }
     ensures agrees { Agrees (folder_files pages.old.files.now) cache.new }

@@ -1,10 +1,9 @@
 //! The replies to a list of queries, by one thread or several.
 
-ghost use Rattle.std.specs.Prelude.{◌≡◌, ◌<◌, ◌++◌, List, All, map, IfOk};
+ghost use Rattle.std.specs.Prelude.{◌<◌, All, IfOk};
 ghost use Rattle.std.specs.Thread.{IsSync};
-ghost use Rattle.documents.specs.Documents.{Document};
-ghost use Rattle.batch_run.specs.Residents.{IsCopyOf};
-ghost use Rattle.batch_run.specs.Queries.{IsInRange, reply_of};
+ghost use Rattle.batch_run.specs.Residents.{AreReplies};
+ghost use Rattle.batch_run.specs.Queries.{IsInRange};
 
 use crate::Memory;
 use crate::answers::answer_all;
@@ -30,7 +29,7 @@ pub fn batch<const D: usize, R: Threads + Sync, G: Gate>(
     gate: &G,
 ) -> Result<Vec<Reply>, Memory>
     requires { All (IsInRange D) queries.now }
-    ensures { (docs : List Document) → IsCopyOf docs resident.now → IfOk result (λ v. v.items ≡ map (reply_of D docs) queries.now) }
+    ensures { IfOk result (λ v. AreReplies resident.now queries.now v.items) }
 {
     if forks == 0 || queries.len() < 2 {
         return answer_all(alloc, resident, queries);
@@ -57,21 +56,21 @@ fn both<const D: usize, R: Threads + Sync, G: Gate>(
     requires forks { 0 < forks }
     requires left { All (IsInRange D) left.now }
     requires right { All (IsInRange D) right.now }
-    ensures left { (docs : List Document) → IsCopyOf docs resident.now → IfOk result.0 (λ v. v.items ≡ map (reply_of D docs) left.now) }
-    ensures right { (docs : List Document) → IsCopyOf docs resident.now → IfOk result.1 (λ v. v.items ≡ map (reply_of D docs) right.now) }
+    ensures left { IfOk result.0 (λ v. AreReplies resident.now left.now v.items) }
+    ensures right { IfOk result.1 (λ v. AreReplies resident.now right.now v.items) }
 {
     join(
         rt,
         || -> Result<Vec<Reply>, Memory>
             requires { IsSync R.row × IsSync G.row × (0 < forks) × All (IsInRange D) left.now }
-            ensures { (docs : List Document) → IsCopyOf docs resident.entry.now → IfOk result (λ v. v.items ≡ map (reply_of D docs) left.entry.now) }
+            ensures { IfOk result (λ v. AreReplies resident.entry.now left.entry.now v.items) }
         {
             gate.pass(0);
             batch(rt, alloc, resident, left, forks - 1, gate)
         },
         || -> Result<Vec<Reply>, Memory>
             requires { IsSync R.row × IsSync G.row × (0 < forks) × All (IsInRange D) right.now }
-            ensures { (docs : List Document) → IsCopyOf docs resident.entry.now → IfOk result (λ v. v.items ≡ map (reply_of D docs) right.entry.now) }
+            ensures { IfOk result (λ v. AreReplies resident.entry.now right.entry.now v.items) }
         {
             gate.pass(1);
             batch(rt, alloc, resident, right, forks - 1, gate)

@@ -1,17 +1,15 @@
 //! Loading the resident copy of an index.
 
 ghost use Rattle.std.specs.Prelude.{◌≡◌, List, IsTrue, IfOk};
-ghost use Rattle.outer_io.specs.Files.{bytes_of};
 ghost use Rattle.outer_io.specs.MemFolder.{folder_files};
-ghost use Rattle.outer_io.specs.declared.file_name.FileName.TheVariants.{Commit as CommitName};
 ghost use Rattle.documents.specs.Documents.{Document};
 ghost use Rattle.page_cache.specs.Causes.{HasPageCause};
 ghost use Rattle.page_cache.specs.Evidence.{NotDamaged, OnDamage};
-ghost use Rattle.commit_list.specs.CommitFiles.{IsCommitFile};
 ghost use Rattle.segment_file.specs.Heads.{HasRanges};
 ghost use Rattle.stored_index.specs.Stored.{HoldsIndex, IsUndefined};
-ghost use Rattle.index_opening.specs.Evidence.{IsEvident, IsFound, ShowsItself};
-ghost use Rattle.batch_run.specs.Residents.{IsCopyOf};
+ghost use Rattle.index_opening.specs.Evidence.{IsEvident, ShowsItself};
+ghost use Rattle.batch_run.specs.Copies.{IsCommitIn};
+ghost use Rattle.batch_run.specs.Residents.{IsCopyIn};
 
 use crate::copying::copy_index;
 use crate::resident::Resident;
@@ -31,11 +29,13 @@ impl<const D: usize> Resident<D> {
         c: &Commit,
     ) -> Result<Resident<D>, PageFault>
         requires { c.now.dims ≡ D }
-        ensures holds { IsTrue F.told → (docs : List Document) → HoldsIndex (F.files folder.old) c.now docs → IfOk result (IsCopyOf docs) }
+        ensures copy { IsTrue F.told → IfOk result (IsCopyIn (F.files folder.old) c.now) }
         ensures files { IsTrue F.told → F.files folder.new ≡ F.files folder.old }
         ensures cause { HasPageCause (F.faults folder.old) (F.faults folder.new) result }
-        ensures undefined { IsTrue F.told → IsCommitFile (bytes_of (F.files folder.old CommitName)) c.now → OnDamage result (λ _. IsUndefined (F.files folder.old)) }
-        ensures evident { OnDamage result (IsEvident (IsTrue F.told × IsCommitFile (bytes_of (F.files folder.old CommitName)) c.now) (F.files folder.old)) }
+        ensures undefined { IsTrue F.told → IsCommitIn (F.files folder.old) c.now
+            → OnDamage result (λ _. IsUndefined (F.files folder.old)) }
+        ensures evident { OnDamage result
+            (IsEvident (IsTrue F.told × IsCommitIn (F.files folder.old) c.now) (F.files folder.old)) }
     {
         let copy = copy_index(alloc, folder, c)?;
         match open_copy(alloc, copy, c) {
@@ -58,9 +58,10 @@ fn open_copy<const D: usize>(
     c: &Commit,
 ) -> Result<Resident<D>, PageFault>
     requires dims { c.now.dims ≡ D }
-    requires commit { IsCommitFile (bytes_of (folder_files copy CommitName)) c.now }
-    ensures holds { (docs : List Document) → HoldsIndex (folder_files copy) c.now docs → IfOk result (IsCopyOf docs) }
-    ensures whole { (docs : List Document) → HoldsIndex (folder_files copy) c.now docs → NotDamaged result }
+    requires commit { IsCommitIn (folder_files copy) c.now }
+    ensures copy { IfOk result (IsCopyIn (folder_files copy) c.now) }
+    ensures whole { (docs : List Document) → HoldsIndex (folder_files copy) c.now docs
+        → NotDamaged result }
     ensures shown { OnDamage result (ShowsItself HasRanges) }
 {
     check_index::<D, MemFolder>(alloc, &mut copy, c)?;

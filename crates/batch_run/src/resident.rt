@@ -15,7 +15,7 @@ use segment_view::Segments;
 pub struct Resident<const D: usize> {
     pub(crate) segments: Segments<D>,
     pub(crate) files: MemFolder,
-    ghost held: { ∥ (docs : List Document) × Holds D (folder_files files) segments docs ∥₁ },
+    ghost held: { ∥ ((docs : List Document) × Holds D (folder_files files) segments docs) ∥₁ },
 }
 
 impl<const D: usize> Resident<D> {

@@ -1,10 +1,9 @@
 -- The copy holds what was checked.
-use Rattle.std.proofs.Common.{IsTrue, true, refl, subst, sym}
+use Rattle.std.proofs.Common.{refl, subst, sym}
 use Rattle.std.proofs.lemmas.Grind.{merely}
 use Rattle.std.proofs.lemmas.Result.{err_from_is_err_and}
 use Rattle.outer_io.specs.declared.file_name.FileName.TheVariants.{Commit}
 use Rattle.outer_io.specs.Files.{Files, bytes_of}
-use Rattle.outer_io.specs.MemFolder.{folder_files}
 use Rattle.commit_list.specs.CommitFiles.{IsCommitFile}
 use Rattle.stored_index.specs.Stored.{HoldsIndex}
 use Rattle.batch_run.proofs.Held.{opened_hold}
@@ -45,7 +44,10 @@ invariant_of-result g c =
       );
     }
 
-pub returns-clause-holds : goal.returns-clause-holds
-returns-clause-holds g c = λ docs h.
-    opened_hold g.row.D _ _ _ c.args.c.now c.in_ok-segments.segments docs c.requires.dims
-    (c.in_ok-check_index.ensures.files refl) (c.in_ok-segments.ensures.files refl) c.in_ok-segments.ensures.opened h
+pub returns-clause-copy : goal.returns-clause-copy
+returns-clause-copy g c = record {
+  stored = c.in_ok-check_index.ensures.holds refl;
+  held = λ docs h.
+      opened_hold g.row.D _ _ _ c.args.c.now c.in_ok-segments.segments docs c.requires.dims
+      (c.in_ok-check_index.ensures.files refl) (c.in_ok-segments.ensures.files refl) c.in_ok-segments.ensures.opened h;
+}
