@@ -1,5 +1,5 @@
 -- What was found is what is replied.
-use Rattle.std.proofs.Common.{◌≡◌, ℕ, ◌+◌, ◌<◌, List, [], ◌∷◌, ◌++◌, drop, get_or, length, map, sym, take, ◌∙◌, Result, Ok, Err, refl, ap}
+use Rattle.std.proofs.Common.{◌≡◌, ℕ, ◌+◌, ◌<◌, List, [], ◌∷◌, ◌++◌, drop, get_or, length, length-append, map, sym, take, ◌∙◌, Result, Ok, Err, refl, ap}
 use Rattle.std.proofs.lemmas.Grind.{not_there}
 use Rattle.std.proofs.lemmas.List.{map-append, take-append-drop, take_more}
 use Rattle.point_codec.specs.declared.entries.Near.{Near}
@@ -34,3 +34,9 @@ pub halves_replied : {Q R : Type 0} (f : Q → R) (xs left right : List Q) (n : 
 halves_replied f xs left right n first second all front back one two is =
     is ∙ ap (λ ys. ys ++ second) (one ∙ ap (map f) front) ∙ ap (λ ys. map f (take n xs) ++ ys) (two ∙ ap (map f) back)
     ∙ sym (map-append f (take n xs) (drop n xs)) ∙ ap (map f) (take-append-drop n xs)
+
+pub halves_counted : {Q R : Type 0} (xs left right : List Q) (n : ℕ) (first second all : List R) → left ≡ take n xs → right ≡ drop n xs
+    → length first ≡ length left → length second ≡ length right → all ≡ first ++ second → length all ≡ length xs
+halves_counted xs left right n first second all front back one two is =
+    ap length is ∙ length-append first second ∙ ap (λ k. k + length second) (one ∙ ap length front) ∙ ap (λ k. length (take n xs) + k) (two ∙ ap length back)
+    ∙ sym (length-append (take n xs) (drop n xs)) ∙ ap length (take-append-drop n xs)

@@ -1,5 +1,5 @@
 -- Which documents a resident copy is one of.
-use Rattle.std.specs.Prelude.{ℕ, ◌≡◌, List, map}
+use Rattle.std.specs.Prelude.{ℕ, ◌≡◌, List, length, map}
 use Rattle.outer_io.specs.Files.{Files}
 use Rattle.outer_io.specs.MemFolder.{folder_files}
 use Rattle.documents.specs.Documents.{Document}
@@ -21,6 +21,7 @@ pub record IsCopyIn {D : ℕ} (files : Files) (c : CommitData) (r : Resident D) 
   pub stored : IsCommitIn files c → (docs : List Document) × HoldsIndex files c docs
   pub held : (docs : List Document) → HoldsIndex files c docs → IsCopyOf docs r
 
--- the replies to queries, in their order: what the documents that the copy holds are asked
-abbrev pub AreReplies : {D : ℕ} → Resident D → List (Query D) → List Reply → Type 0
-AreReplies {D} r queries replies = (docs : List Document) → IsCopyOf docs r → replies ≡ map (reply_of D docs) queries
+-- a reply to each query, in their order: what is asked of the documents that the copy holds
+pub record AreReplies {D : ℕ} (r : Resident D) (queries : List (Query D)) (replies : List Reply) : Type 0 where
+  pub each : length replies ≡ length queries
+  pub said : (docs : List Document) → IsCopyOf docs r → replies ≡ map (reply_of D docs) queries

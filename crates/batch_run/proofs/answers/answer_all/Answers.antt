@@ -1,6 +1,6 @@
 -- One query after the other is replied.
-use Rattle.std.proofs.Common.{List, ap, arith, map, subst, sym, ◌∙◌}
-use Rattle.std.proofs.lemmas.List.{take_all}
+use Rattle.std.proofs.Common.{◌+◌, List, ap, arith, length, map, subst, sym, ◌∙◌}
+use Rattle.std.proofs.lemmas.List.{length_push, take_all}
 use Rattle.outer_io.specs.Files.{Files}
 use Rattle.outer_io.specs.MemFolder.{folder_files}
 use Rattle.documents.specs.Documents.{Document}
@@ -37,11 +37,15 @@ loop-query-preserved g c = record {
       (c.in_ok-reply.ensures.reply docs
       (subst (λ (f : Files). Holds g.row.D f c.segments-segments.result.now docs) (sym c.loop-query.invariant.files)
       (subst (λ (ps : List Part). Holds g.row.D (folder_files c.args.resident.now.files) ps docs) (sym c.segments-segments.ensures) h)));
+  each = ap length c.in_ok-push.ensures.items ∙ length_push c.loop-query.replies.items c.in_ok-reply.reply ∙ ap (λ n. n + 1) c.loop-query.invariant.each;
   files = c.in_ok-reply.ensures.files ∙ c.loop-query.invariant.files;
   agrees = subst (λ (f : Files). Agrees f c.answer.new.cache) c.loop-query.invariant.files c.in_ok-reply.ensures.agrees;
 }
 
 pub returns : goal.returns
-returns g c = λ docs h.
-    c.loop-query.invariant.replied docs h
-    ∙ ap (λ (qs : List (Query g.row.D)). map (reply_of g.row.D docs) qs) (take_all c.loop-query.query-index c.args.queries.now c.loop-query-test.false)
+returns g c = record {
+  each = omega (arith, c.loop-query.invariant.each);
+  said = λ docs h.
+      c.loop-query.invariant.replied docs h
+      ∙ ap (λ (qs : List (Query g.row.D)). map (reply_of g.row.D docs) qs) (take_all c.loop-query.query-index c.args.queries.now c.loop-query-test.false);
+}
