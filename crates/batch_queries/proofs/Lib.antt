@@ -1,1 +1,4 @@
 mod Lines
+mod Sizes
+mod Asks
+mod Tells

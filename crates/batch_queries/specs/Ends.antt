@@ -1,7 +1,10 @@
 -- How a batch ends over a folder that stores a state: its text goes out whole, or a prefix of it where the sink fails, or
 -- nothing.
 use Rattle.std.specs.Prelude.{ℕ, ◌≡◌, ◌≤◌, List}
+use Rattle.outer_io.specs.Files.{Files}
 use Rattle.outer_io.specs.Parts.{WritesPart}
+use Rattle.index_model.specs.State.{State}
+use Rattle.stored_index.specs.Stored.{IsStored}
 use Rattle.run_status.specs.Told.{Teller, TellsAll, TellsLines, Told}
 use Rattle.run_status.specs.declared.status.Status.{Status}
 use Rattle.run_status.specs.declared.status.Status.TheVariants as status
@@ -22,3 +25,19 @@ EndsBatch told tells lines old new status.Usage = told → new ≡ old
 EndsBatch told tells lines old new status.SourceFault = told → new ≡ old
 EndsBatch told tells lines old new status.TooLarge = told → new ≡ old
 EndsBatch told tells lines old new (status.Damaged damage) = ⊥
+
+-- It ends before anything is written: all is answered before that, so that only an answer or a failing sink leaves a text.
+abbrev pub LeavesNoText : Status → Type 0
+LeavesNoText status.Usage = Unit {0}
+LeavesNoText status.SourceFault = Unit {0}
+LeavesNoText status.TooLarge = Unit {0}
+LeavesNoText status.FolderFault = Unit {0}
+LeavesNoText (status.Damaged damage) = Unit {0}
+LeavesNoText status.Memory = Unit {0}
+LeavesNoText status.SinkFault = ⊥
+LeavesNoText status.Done = ⊥
+LeavesNoText (status.SomeRefused count) = ⊥
+
+-- the files store a state
+abbrev pub StoresSome : Files → Type 0
+StoresSome files = (state : State) × IsStored files state

@@ -1,21 +1,20 @@
 //! The command `batch`.
 
-ghost use Rattle.std.specs.Prelude.{◌≡◌, ◌≤◌, ◌^◌, ℕ, Bool, List, [], length, IsTrue, IfOk};
+ghost use Rattle.std.specs.Prelude.{◌≡◌, ◌≤◌, ◌^◌, ℕ, Bool, List, [], length, IsTrue, IfOk, IsOk};
 ghost use Rattle.outer_io.specs.Faults.{Rose};
-ghost use Rattle.outer_io.specs.Files.{Files, bytes_of};
-ghost use Rattle.outer_io.specs.declared.file_name.FileName.TheVariants.{Commit as CommitName};
+ghost use Rattle.outer_io.specs.Files.{Files};
 ghost use Rattle.page_cache.specs.Causes.{HasPageCause};
 ghost use Rattle.page_cache.specs.Evidence.{NotDamaged, OnDamage};
-ghost use Rattle.commit_list.specs.CommitFiles.{IsCommitFile};
 ghost use Rattle.script_lang.specs.Lines.{lines_of};
 ghost use Rattle.index_model.specs.State.{State};
 ghost use Rattle.stored_index.specs.Stored.{IsStored};
 ghost use Rattle.index_opening.specs.Evidence.{IsEvident};
 ghost use Rattle.run_status.specs.Causes.{HasCauses, ReadsInput};
-ghost use Rattle.run_status.specs.Ends.{DoesNothing, IsDamaged, OnStatusDamage};
+ghost use Rattle.run_status.specs.Ends.{DoesNothing, IsAnswer, IsDamaged, OnStatusDamage};
 ghost use Rattle.run_status.specs.Told.{TellsAll};
+ghost use Rattle.batch_run.specs.Copies.{IsCommitIn};
 ghost use Rattle.batch_queries.specs.Batched.{TellsBatch};
-ghost use Rattle.batch_queries.specs.Ends.{EndsBatch};
+ghost use Rattle.batch_queries.specs.Ends.{EndsBatch, LeavesNoText, StoresSome};
 
 use crate::asking::collect;
 use crate::telling::{Text, tell_all, tell_bare};
@@ -45,9 +44,11 @@ pub fn run_batch<S: Source, F: Folder, K: Sink, R: Threads + Sync, G: Gate>(
     ensures ends { IsTrue S.told → IsTrue F.told → (state : State) → IsStored (F.files folder.old) state
         → EndsBatch (IsTrue K.told) (TellsBatch state) (lines_of (S.left input.old)) (K.written out.old) (K.written out.new)
         result }
+    ensures stored { IsTrue F.told → IsAnswer result → StoresSome (F.files folder.old) }
     ensures files { IsTrue F.told → F.files folder.new ≡ F.files folder.old }
     ensures input { IsTrue S.told → ReadsInput (S.left input.old) (S.left input.new) result }
     ensures untouched { DoesNothing result → (folder.new ≡ folder.old) × (out.new ≡ out.old) }
+    ensures unwritten { LeavesNoText result → out.new ≡ out.old }
     ensures whole { IsTrue F.told → (state : State) → IsStored (F.files folder.old) state → IsDamaged result → ⊥ }
     ensures evident { OnStatusDamage result (IsEvident (IsTrue F.told) (F.files folder.new)) }
     ensures causes { HasCauses (record {
@@ -72,6 +73,8 @@ pub fn run_batch<S: Source, F: Folder, K: Sink, R: Threads + Sync, G: Gate>(
 /// Sends the text of a batch, and says how it ended.
 fn tell<K: Sink>(out: &mut K, done: Result<Text, PageFault>) -> Status
     ensures done { DoesNothing result → ⊥ }
+    ensures answered { IsAnswer result → IsOk done }
+    ensures unwritten { LeavesNoText result → out.new ≡ out.old }
     ensures ends { (state : State) (lines : List (List ℕ)) → NotDamaged done
         → IfOk done (λ t. TellsAll (Unit {0}) (TellsBatch state) 1 lines [] t.bytes.items t.refused)
         → EndsBatch (IsTrue K.told) (TellsBatch state) lines (K.written out.old) (K.written out.new) result }
@@ -99,6 +102,7 @@ fn answer<F: Folder, R: Threads + Sync, G: Gate>(
     requires { length lines.now ≤ 2 ^ 32 }
     ensures text { IsTrue F.told → (state : State) → IsStored (F.files folder.old) state
         → IfOk result (λ t. TellsAll (Unit {0}) (TellsBatch state) 1 (lines_of lines.now) [] t.bytes.items t.refused) }
+    ensures stored { IsTrue F.told → IfOk result (λ _. StoresSome (F.files folder.old)) }
     ensures files { IsTrue F.told → F.files folder.new ≡ F.files folder.old }
     ensures cause { HasPageCause (F.faults folder.old) (F.faults folder.new) result }
     ensures whole { IsTrue F.told → (state : State) → IsStored (F.files folder.old) state → NotDamaged result }
@@ -121,16 +125,17 @@ fn answer_stored<F: Folder, R: Threads + Sync, G: Gate>(
     gate: &G,
 ) -> Result<Text, PageFault>
     requires { length lines.now ≤ 2 ^ 32 }
-    ensures text { IsTrue F.told → IsCommitFile (bytes_of (F.files folder.old CommitName)) commit.now
+    ensures text { IsTrue F.told → IsCommitIn (F.files folder.old) commit.now
         → (state : State) → IsStored (F.files folder.old) state
         → IfOk result (λ t. TellsAll (Unit {0}) (TellsBatch state) 1 (lines_of lines.now) [] t.bytes.items t.refused) }
+    ensures stored { IsTrue F.told → IsCommitIn (F.files folder.old) commit.now
+        → IfOk result (λ _. StoresSome (F.files folder.old)) }
     ensures files { IsTrue F.told → F.files folder.new ≡ F.files folder.old }
     ensures cause { HasPageCause (F.faults folder.old) (F.faults folder.new) result }
-    ensures whole { IsTrue F.told → IsCommitFile (bytes_of (F.files folder.old CommitName)) commit.now
+    ensures whole { IsTrue F.told → IsCommitIn (F.files folder.old) commit.now
         → (state : State) → IsStored (F.files folder.old) state → NotDamaged result }
     ensures evident { OnDamage result
-        (IsEvident (IsTrue F.told × IsCommitFile (bytes_of (F.files folder.old CommitName)) commit.now)
-        (F.files folder.old)) }
+        (IsEvident (IsTrue F.told × IsCommitIn (F.files folder.old) commit.now) (F.files folder.old)) }
 {
     match commit.dims() {
         1 => answer_over::<1, F, R, G>(rt, alloc, forks, commit, lines, folder, gate),
@@ -158,16 +163,17 @@ fn answer_over<const D: usize, F: Folder, R: Threads + Sync, G: Gate>(
     requires few { D ≤ 8 }
     requires dims { commit.now.dims ≡ D }
     requires lines { length lines.now ≤ 2 ^ 32 }
-    ensures text { IsTrue F.told → IsCommitFile (bytes_of (F.files folder.old CommitName)) commit.now
+    ensures text { IsTrue F.told → IsCommitIn (F.files folder.old) commit.now
         → (state : State) → IsStored (F.files folder.old) state
         → IfOk result (λ t. TellsAll (Unit {0}) (TellsBatch state) 1 (lines_of lines.now) [] t.bytes.items t.refused) }
+    ensures stored { IsTrue F.told → IsCommitIn (F.files folder.old) commit.now
+        → IfOk result (λ _. StoresSome (F.files folder.old)) }
     ensures files { IsTrue F.told → F.files folder.new ≡ F.files folder.old }
     ensures cause { HasPageCause (F.faults folder.old) (F.faults folder.new) result }
-    ensures whole { IsTrue F.told → IsCommitFile (bytes_of (F.files folder.old CommitName)) commit.now
+    ensures whole { IsTrue F.told → IsCommitIn (F.files folder.old) commit.now
         → (state : State) → IsStored (F.files folder.old) state → NotDamaged result }
     ensures evident { OnDamage result
-        (IsEvident (IsTrue F.told × IsCommitFile (bytes_of (F.files folder.old CommitName)) commit.now)
-        (F.files folder.old)) }
+        (IsEvident (IsTrue F.told × IsCommitIn (F.files folder.old) commit.now) (F.files folder.old)) }
 {
     let resident = Resident::<D>::load(alloc, folder, commit)?;
     let queries = collect(alloc, lines)?;

@@ -59,9 +59,7 @@ pub(crate) fn tell_all<const D: usize>(
         let (line, behind) = first_line(rest);
         rest = behind;
         let told = tell_line::<D>(alloc, number, line, left, &mut bytes)?;
-        if told.asks {
-            left = &left[1..];
-        }
+        left = &left[usize::from(told.asks)..];
         refused += u64::from(told.refused);
         number += 1;
     }
