@@ -2,3 +2,4 @@ mod Lines
 mod Sizes
 mod Asks
 mod Tells
+mod Replying

@@ -38,7 +38,8 @@ fn collect_line<const D: usize>(
 ) -> Result<(), Memory>
     requires some { 1 ≤ D }
     requires few { D ≤ 8 }
-    ensures asked { OnOk result (map request_of queries.new.items ≡ map request_of queries.old.items ++ asked_in D line.now) }
+    ensures asked { OnOk result
+        (map request_of queries.new.items ≡ map request_of queries.old.items ++ asked_in D line.now) }
     ensures range { All (IsInRange D) queries.old.items → OnOk result (All (IsInRange D) queries.new.items) }
 {
     match read_line::<D>(alloc, line) {
@@ -56,7 +57,8 @@ fn collect_line<const D: usize>(
 /// The query that a command is, where it is one of the documents live now.
 fn query_of<const D: usize>(command: Command<D>) -> Option<Query<D>>
     requires { IsWithinLimits (command_request command) }
-    ensures asked { MatchOption result (now_of (command_request command) ≡ []) (λ q. now_of (command_request command) ≡ request_of q ∷ []) }
+    ensures asked { MatchOption result (now_of (command_request command.entry) ≡ [])
+        (λ q. now_of (command_request command.entry) ≡ request_of q ∷ []) }
     ensures range { IfSome result (IsInRange D) }
 {
     match command {

@@ -6,7 +6,7 @@ use Rattle.batch_queries.proofs.telling.tell_bare.Given as goal
 
 -- the lines so far were told; what is written is the text
 abbrev pub invariant-lines : goal.invariant-lines
-invariant-lines g l = record {
+invariant-lines l = record {
   going : Tellings (Unit {0}) (TellsBatch None)
       (record { line = l.initial.number; refused = l.initial.refused; rest = lines_of l.initial.rest; written = l.initial.bytes.items })
       (record { line = l.number; refused = l.refused; rest = lines_of l.rest; written = l.bytes.items });
@@ -15,4 +15,4 @@ invariant-lines g l = record {
 }
 
 abbrev pub decreases-lines : goal.decreases-lines
-decreases-lines g l = length l.rest
+decreases-lines l = length l.rest
