@@ -4,8 +4,8 @@
 usage: bench/batch.py [--points COUNT] [--queries COUNT]
 
 The queries are small and of three kinds in turn: a box, ten nearest, and a triangle. The text of each batch is compared
-with that of the run. A time is the least of three on the wall; that of a batch of one query, which loads the copy, is told
-beside it.
+with that of the run. A time is the least of three on the wall; that of a batch of one query, which loads the copy, is
+told beside it.
 """
 import argparse
 import random
@@ -53,7 +53,8 @@ def main():
         loading = timed(folder, one, *words)[1]
         text, wall = timed(folder, lines, *words)
         compare(text, expected)
-        print(f"| batch, forks {forks} | {wall:.2f} | {loading:.2f} | {asked.queries / wall:,.0f} | {run / wall:.1f} |", flush=True)
+        each = f"{asked.queries / wall:,.0f} | {run / wall:.1f}"
+        print(f"| batch, forks {forks} | {wall:.2f} | {loading:.2f} | {each} |", flush=True)
 
 
 if __name__ == "__main__":

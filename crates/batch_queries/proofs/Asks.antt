@@ -23,7 +23,8 @@ pub asked_none : (D : ℕ) (line : List ℕ) (f : LineFault) → read (Some D) l
 asked_none D line f is = ap (λ (r : Reading). asked_by r) is
 
 -- a fault but want of memory is the one that is read
-pub fault_read : {C : Type 0} (request : C → Request) (f : LineFault) (reading : Reading) → f ≢ fault.Memory → Agrees request (Err f) reading → reading ≡ Fails f
+pub fault_read : {C : Type 0} (request : C → Request) (f : LineFault) (reading : Reading)
+    → f ≢ fault.Memory → Agrees request (Err f) reading → reading ≡ Fails f
 fault_read request fault.Memory reading other agrees = absurd (other refl)
 fault_read request fault.TooLong reading other agrees = agrees
 fault_read request fault.NotUtf8 reading other agrees = agrees

@@ -1,5 +1,6 @@
 -- What is told of lines, and of their replies.
-use Rattle.std.proofs.Common.{◌≡◌, ◌≤◌, ℕ, Bool, true, false, cond, List, [], ◌∷◌, ◌++◌, None, Some, map, drop, get_or, length, ap, refl, subst, sym, ◌∙◌, arith}
+use Rattle.std.proofs.Common.{◌≡◌, ◌≤◌, ℕ, Bool, true, false, cond, List, [], ◌∷◌, ◌++◌, None, Some, map, drop, get_or, length}
+use Rattle.std.proofs.Common.{ap, refl, subst, sym, ◌∙◌, arith}
 use Rattle.std.proofs.Common.{append-nil, length-append, length-drop, zero-add}
 use mir.Val.{bool_byte}
 use Rattle.outer_io.specs.declared.file_name.FileName.TheVariants.{Commit}
@@ -58,7 +59,8 @@ asks_byte false asked n is byte = is ∙ sym byte
 
 -- after the last line all are told
 pub all_told : (T : Teller) (lines rest : List (List ℕ)) (line refused : ℕ) (first now : List ℕ)
-    → Tellings (Unit {0}) T (record { line = 1; refused = 0; rest = lines; written = first }) (record { line = line; refused = refused; rest = rest; written = now })
+    → Tellings (Unit {0}) T (record { line = 1; refused = 0; rest = lines; written = first })
+    (record { line = line; refused = refused; rest = rest; written = now })
     → rest ≡ [] → first ≡ [] → TellsAll (Unit {0}) T 1 lines [] now refused
 all_told T lines rest line refused first now p none empty = record {
   of_lines = p.of_done;

@@ -1,5 +1,5 @@
--- How a batch ends over a folder that stores a state: its text goes out whole, or a prefix of it where the sink fails, or
--- nothing.
+-- How a batch ends over a folder that stores a state: its text goes out whole, or a prefix of it where the sink fails,
+-- or nothing.
 use Rattle.std.specs.Prelude.{ℕ, ◌≡◌, ◌≤◌, List}
 use Rattle.outer_io.specs.Files.{Files}
 use Rattle.outer_io.specs.Parts.{WritesPart}
@@ -26,7 +26,8 @@ EndsBatch told tells lines old new status.SourceFault = told → new ≡ old
 EndsBatch told tells lines old new status.TooLarge = told → new ≡ old
 EndsBatch told tells lines old new (status.Damaged damage) = ⊥
 
--- It ends before anything is written: all is answered before that, so that only an answer or a failing sink leaves a text.
+-- It ends before anything is written. All is answered before that, so that only an answer or a failing sink leaves a
+-- text.
 abbrev pub LeavesNoText : Status → Type 0
 LeavesNoText status.Usage = Unit {0}
 LeavesNoText status.SourceFault = Unit {0}

@@ -28,9 +28,9 @@ use std::alloc::Global;
 use std::marker::Sync;
 use std::thread::Threads;
 
-/// The command `batch`: answers a list of queries from a resident copy of the index, the upper `forks` levels of the list in
-/// halves beside each other. The whole input is read before anything is done, and all is answered before anything is written.
-/// No file changes, whatever the status.
+/// The command `batch`: answers a list of queries from a resident copy of the index, the upper `forks` levels of the
+/// list in halves beside each other. The whole input is read before anything is done, and all is answered before
+/// anything is written. No file changes, whatever the status.
 pub fn run_batch<S: Source, F: Folder, K: Sink, R: Threads + Sync, G: Gate>(
     rt: &R,
     alloc: Global,
@@ -42,8 +42,8 @@ pub fn run_batch<S: Source, F: Folder, K: Sink, R: Threads + Sync, G: Gate>(
 ) -> Status
     ensures never_usage { result ≡ Status.Usage → ⊥ }
     ensures ends { IsTrue S.told → IsTrue F.told → (state : State) → IsStored (F.files folder.old) state
-        → EndsBatch (IsTrue K.told) (TellsBatch state) (lines_of (S.left input.old)) (K.written out.old) (K.written out.new)
-        result }
+        → EndsBatch (IsTrue K.told) (TellsBatch state) (lines_of (S.left input.old))
+        (K.written out.old) (K.written out.new) result }
     ensures stored { IsTrue F.told → IsAnswer result → StoresSome (F.files folder.old) }
     ensures files { IsTrue F.told → F.files folder.new ≡ F.files folder.old }
     ensures input { IsTrue S.told → ReadsInput (S.left input.old) (S.left input.new) result }

@@ -1,6 +1,7 @@
 //! The text of a batch.
 
-ghost use Rattle.std.specs.Prelude.{◌≡◌, ◌≢◌, ◌≤◌, ◌<◌, ◌^◌, ◌++◌, List, [], None, Some, cond, false, true, length, map, IfOk, OnOk};
+ghost use Rattle.std.specs.Prelude.{◌≡◌, ◌≤◌, ◌^◌, ◌++◌, List, [], None, Some, cond, false, true, length, map};
+ghost use Rattle.std.specs.Prelude.{IfOk, OnOk};
 ghost use Rattle.std.specs.List.{flat_map};
 ghost use Rattle.script_lang.specs.Lines.{lines_of};
 ghost use Rattle.script_lang.specs.Replies.{line_fault_text, why_text};
@@ -48,7 +49,8 @@ pub(crate) fn tell_all<const D: usize>(
     requires each { length replies.now ≡ length (flat_map (asked_in D) (lines_of lines.now)) }
     ensures { (i : Index) → i.dims ≡ D
         → map text_of_reply replies.now ≡ map (reply_text i) (flat_map (asked_in D) (lines_of lines.now))
-        → IfOk result (λ t. TellsAll (Unit {0}) (TellsBatch (Some i)) 1 (lines_of lines.now) [] t.bytes.items t.refused) }
+        → IfOk result (λ t. TellsAll (Unit {0}) (TellsBatch (Some i)) 1 (lines_of lines.now)
+        [] t.bytes.items t.refused) }
 {
     let mut bytes = Vec::new(alloc);
     let mut rest = lines;
@@ -95,7 +97,8 @@ fn tell_line<const D: usize>(
     }
 }
 
-/// Appends what is told of a command: its reply where it is a query of the documents live now, and else why it is refused.
+/// Appends what is told of a command: its reply where it is a query of the documents live now, and else why it is
+/// refused.
 fn tell<const D: usize>(
     number: u64,
     command: &Command<D>,
@@ -105,7 +108,8 @@ fn tell<const D: usize>(
     requires { length (now_of (command_request command.now)) ≤ length replies.now }
     ensures told { (i : Index) → (more : List Request)
         → map text_of_reply replies.now ≡ map (reply_text i) (now_of (command_request command.now) ++ more)
-        → IfOk result (λ l. IsTold (λ t. t ≡ told_on i number (command_request command.now)) text.old.items text.new.items l.refused) }
+        → IfOk result (λ l. IsTold (λ t. t ≡ told_on i number (command_request command.now))
+        text.old.items text.new.items l.refused) }
     ensures asks { IfOk result (λ l. length (now_of (command_request command.now)) ≡ cond l.asks 1 0) }
 {
     match command {
@@ -159,7 +163,8 @@ fn put_refusal(number: u64, why: Why, text: &mut Vec<u8>) -> Result<Line, Memory
 /// The text of lines where no index is there.
 pub(crate) fn tell_bare(alloc: Global, lines: &[u8]) -> Result<Text, Memory>
     requires { length lines.now ≤ 2 ^ 32 }
-    ensures { IfOk result (λ t. TellsAll (Unit {0}) (TellsBatch None) 1 (lines_of lines.now) [] t.bytes.items t.refused) }
+    ensures { IfOk result (λ t. TellsAll (Unit {0}) (TellsBatch None) 1 (lines_of lines.now)
+        [] t.bytes.items t.refused) }
 {
     let mut bytes = Vec::new(alloc);
     let mut rest = lines;

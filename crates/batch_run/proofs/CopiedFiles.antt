@@ -49,14 +49,16 @@ pub copied_next : (start here mid before between after : Files) (listed items : 
     → here ≡ start → mid ≡ here
     → bytes_of (between (Segment (get_or items i d).segment)) ≡ bytes_of (here (Segment (get_or items i d).segment))
     → SameBut (Segment (get_or items i d).segment) before between
-    → bytes_of (after (Live (get_or items i d).segment (get_or items i d).generation)) ≡ bytes_of (mid (Live (get_or items i d).segment (get_or items i d).generation))
+    → bytes_of (after (Live (get_or items i d).segment (get_or items i d).generation)) ≡
+    bytes_of (mid (Live (get_or items i d).segment (get_or items i d).generation))
     → SameBut (Live (get_or items i d).segment (get_or items i d).generation) between after
     → All (IsCopied start before) (take i listed) → All (IsCopied start after) (take (i + 1) listed)
 copied_next start here mid before between after listed items i d same lt stood stays first others second more done =
     let s : Listed = get_or items i d in
     let segment = first ∙ ap (λ (f : Files). bytes_of (f (Segment s.segment))) stood in
     let live = second ∙ ap (λ (f : Files). bytes_of (f (Live s.segment s.generation))) (stays ∙ stood) in
-    let both = both_copied start before between after s segment others live more (take i items) (subst (λ (ls : List Listed). All (IsCopied start before) (take i ls)) (sym same) done) in
+    let both = both_copied start before between after s segment others live more (take i items)
+    (subst (λ (ls : List Listed). All (IsCopied start before) (take i ls)) (sym same) done) in
     subst (λ (ls : List Listed). All (IsCopied start after) (take (i + 1) ls)) same (All-more (IsCopied start after) items i d lt both.0 both.1)
 
 -- with the last one all
@@ -73,7 +75,8 @@ commit_stays before between after a b c not_a not_b first second =
 
 -- the files have what the copy has
 pub copied_back : (files copy : Files) (listed : List Listed) → All (IsCopied files copy) listed → All (IsCopied copy files) listed
-copied_back files copy listed all = All-weaker (IsCopied files copy) (IsCopied copy files) (λ s h. record { segment = sym h.segment; live = sym h.live }) listed all
+copied_back files copy listed all =
+    All-weaker (IsCopied files copy) (IsCopied copy files) (λ s h. record { segment = sym h.segment; live = sym h.live }) listed all
 
 -- the copy of an index holds it
 pub copy_holds : (files copy : Files) (c : CommitData) (docs : List Document) → IsCommitFile (bytes_of (copy Commit)) c

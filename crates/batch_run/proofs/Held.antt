@@ -69,4 +69,5 @@ opened_hold D start mid now c parts docs dims first second opened h =
     here = subst (λ (f : Files). HoldsIndex f c docs) (sym first) h
 
     same : parts ≡ map as_part here.parts
-    same = parts_held mid c parts here.parts (opened_heads (IsTrue true) mid c parts refl opened) (opened_lives (IsTrue true) mid c parts refl opened) here.segments
+    same = parts_held mid c parts here.parts (opened_heads (IsTrue true) mid c parts refl opened)
+        (opened_lives (IsTrue true) mid c parts refl opened) here.segments

@@ -59,7 +59,8 @@ fn answer<const D: usize>(
     requires range { IsInRange D query.now }
     requires agrees { Agrees (folder_files pages.old.files.now) cache.old }
     requires held { ∥ ((docs : List Document) × Holds D (folder_files pages.old.files.now) segments.now docs) ∥₁ }
-    ensures reply { (docs : List Document) → Holds D (folder_files pages.old.files.now) segments.now docs → IfOk result (λ r. r ≡ reply_of D docs query.now) }
+    ensures reply { (docs : List Document) → Holds D (folder_files pages.old.files.now) segments.now docs
+        → IfOk result (λ r. r ≡ reply_of D docs query.now) }
     ensures files { folder_files pages.new.files.now ≡ folder_files pages.old.files.now }
     ensures agrees { Agrees (folder_files pages.old.files.now) cache.new }
 {
@@ -86,7 +87,8 @@ fn find<const D: usize, S: Shape<D>>(
 ) -> Result<Reply, Memory>
     requires agrees { Agrees (folder_files pages.old.files.now) cache.old }
     requires held { ∥ ((docs : List Document) × Holds D (folder_files pages.old.files.now) segments.now docs) ∥₁ }
-    ensures reply { (docs : List Document) → Holds D (folder_files pages.old.files.now) segments.now docs → IfOk result (λ r. r ≡ Reply.Hits (hits (S.has shape.old) docs)) }
+    ensures reply { (docs : List Document) → Holds D (folder_files pages.old.files.now) segments.now docs
+        → IfOk result (λ r. r ≡ Reply.Hits (hits (S.has shape.old) docs)) }
     ensures files { folder_files pages.new.files.now ≡ folder_files pages.old.files.now }
     ensures agrees { Agrees (folder_files pages.old.files.now) cache.new }
 {
@@ -111,7 +113,8 @@ fn find_near<const D: usize>(
     requires few { k ≤ 10000 }
     requires agrees { Agrees (folder_files pages.old.files.now) cache.old }
     requires held { ∥ ((docs : List Document) × Holds D (folder_files pages.old.files.now) segments.now docs) ∥₁ }
-    ensures reply { (docs : List Document) → Holds D (folder_files pages.old.files.now) segments.now docs → IfOk result (λ r. r ≡ Reply.Near (map near_of (nearest k at.now.c docs))) }
+    ensures reply { (docs : List Document) → Holds D (folder_files pages.old.files.now) segments.now docs
+        → IfOk result (λ r. r ≡ Reply.Near (map near_of (nearest k at.now.c docs))) }
     ensures files { folder_files pages.new.files.now ≡ folder_files pages.old.files.now }
     ensures agrees { Agrees (folder_files pages.old.files.now) cache.new }
 {

@@ -14,11 +14,12 @@ use std::alloc::Global;
 use std::marker::Sync;
 use std::thread::{Threads, join};
 
-/// The replies to queries, in their order: what the documents that the copy holds are asked. A query for the nearest asks for
-/// 1 to 10,000.
+/// The replies to queries, in their order: what the documents that the copy holds are asked. A query for the nearest
+/// asks for 1 to 10,000.
 ///
-/// The upper `forks` levels cut the list in two halves, which are answered in threads of their own, where these can be made.
-/// The left half then first calls `gate.pass(0)`, and the right one `gate.pass(1)`. No reply depends on `forks` or the gate.
+/// The upper `forks` levels cut the list in two halves, which are answered in threads of their own, where these can be
+/// made. The left half then first calls `gate.pass(0)`, and the right one `gate.pass(1)`. No reply depends on `forks`
+/// or the gate.
 #[cycle(parts)]
 pub fn batch<const D: usize, R: Threads + Sync, G: Gate>(
     rt: &R,

@@ -25,7 +25,8 @@ pub(crate) fn copy_index<F: Pages>(
     c: &Commit,
 ) -> Result<MemFolder, PageFault>
     ensures commit { IfOk result (λ copy. IsCommitFile (bytes_of (folder_files copy CommitName)) c.now) }
-    ensures copied { IsTrue F.told → IfOk result (λ copy. All (IsCopied (F.files folder.old) (folder_files copy)) c.now.listed) }
+    ensures copied { IsTrue F.told
+        → IfOk result (λ copy. All (IsCopied (F.files folder.old) (folder_files copy)) c.now.listed) }
     ensures files { IsTrue F.told → F.files folder.new ≡ F.files folder.old }
     ensures cause { HasPageCause (F.faults folder.old) (F.faults folder.new) result }
     ensures undamaged { NotDamaged result }
@@ -58,7 +59,8 @@ fn copy_file<F: Pages>(
     name: FileName,
     copy: &mut MemFolder,
 ) -> Result<(), PageFault>
-    ensures copied { IsTrue F.told → OnOk result (bytes_of (folder_files copy.new name) ≡ bytes_of (F.files folder.old name)) }
+    ensures copied { IsTrue F.told
+        → OnOk result (bytes_of (folder_files copy.new name) ≡ bytes_of (F.files folder.old name)) }
     ensures others { SameBut name (folder_files copy.old) (folder_files copy.new) }
     ensures files { IsTrue F.told → F.files folder.new ≡ F.files folder.old }
     ensures cause { HasPageCause (F.faults folder.old) (F.faults folder.new) result }
@@ -95,7 +97,8 @@ fn append_page<F: Pages>(
     bytes: &mut Vec<u8>,
 ) -> Result<(), PageFault>
     requires { 4096 * page < 2 ^ 64 }
-    ensures page { IsTrue F.told → OnOk result (bytes.new.items ≡ bytes.old.items ++ take 4096 (drop (4096 * page) (bytes_of (F.files folder.old name.now)))) }
+    ensures page { IsTrue F.told → OnOk result (bytes.new.items
+        ≡ bytes.old.items ++ take 4096 (drop (4096 * page) (bytes_of (F.files folder.old name.now)))) }
     ensures files { IsTrue F.told → F.files folder.new ≡ F.files folder.old }
     ensures cause { HasPageCause (F.faults folder.old) (F.faults folder.new) result }
     ensures undamaged { NotDamaged result }

@@ -21,8 +21,8 @@ use page_cache::PageFault;
 use std::alloc::Global;
 
 impl<const D: usize> Resident<D> {
-    /// The index that a commit lists, copied from its folder. Each page of its files is read once, and each leaf is verified.
-    /// A damage is answered as the check of a folder answers it.
+    /// The index that a commit lists, copied from its folder. Each page of its files is read once, and each leaf is
+    /// verified. A damage is answered as the check of a folder answers it.
     pub fn load<F: Folder>(
         alloc: Global,
         folder: &mut F,

@@ -9,8 +9,8 @@ use crate::pages::SharedPages;
 use outer_io::MemFolder;
 use segment_view::Segments;
 
-/// An index in memory: its files, and its segments opened from them. All its leaves were verified. It never changes, and any
-/// number of threads read it.
+/// An index in memory: its files, and its segments opened from them. All its leaves were verified. It never changes,
+/// and any number of threads read it.
 #[derive(Drop)]
 pub struct Resident<const D: usize> {
     pub(crate) segments: Segments<D>,

@@ -1,5 +1,7 @@
-//! The command `batch`: what it tells of folders that scripts and files leave, and that its halves run beside each other.
+//! The command `batch`: what it tells of folders that scripts and files leave, and that its halves run beside each
+//! other.
 
+use crate::asserts::{holds, holds_at, same, same_at};
 use crate::fixtures::called;
 use crate::gates::{Counting, Meeting, run_gated};
 use bkd_top::{Status, code};
@@ -58,8 +60,8 @@ fn answers_what_scripts_leave(rt: HostRuntime) -> Result<(), Fail> {
         called(&rt, rt.alloc(), &[".", "run"], script, &mut folder)?;
         for words in FORKS {
             let (status, text) = called(&rt, rt.alloc(), words, lines, &mut folder)?;
-            assert_eq!(&rt; text.as_str(), told, "after {script:?}");
-            assert_eq!(&rt; code(&status), number);
+            same_at(&rt, text.as_str(), told, &script);
+            same(&rt, code(&status), number);
         }
     }
     Ok(())
@@ -74,6 +76,9 @@ const OF_CITIES: &str = "box 0 45000000 15000000 55000000\nnearest 1 12000000 42
 polygon {\"type\":\"Polygon\",\"coordinates\":[[[0,40000000],[20000000,40000000],[20000000,50000000],\
 [0,50000000],[0,40000000]]]}\n";
 
+/// What is told of them.
+const OF_CITIES_TOLD: &str = "hits 2\n0\n1\nnear 1\n2 255830545480\nhits 2\n1\n2\n";
+
 /// The folder of the three cities.
 fn cities<R: Threads + Sync>(rt: &R, alloc: Global) -> Result<MemFolder, Fail> {
     let mut folder = MemFolder::new(alloc, Vec::new(alloc));
@@ -87,15 +92,13 @@ fn answers_of_cities(rt: HostRuntime) -> Result<(), Fail> {
     let mut folder = cities(&rt, rt.alloc())?;
     for words in FORKS {
         let (status, text) = called(&rt, rt.alloc(), words, OF_CITIES, &mut folder)?;
-        assert_eq!(&rt;
-            text.as_str(),
-            "hits 2\n0\n1\nnear 1\n2 255830545480\nhits 2\n1\n2\n"
-        );
-        assert_eq!(&rt; code(&status), 0);
+        same(&rt, text.as_str(), OF_CITIES_TOLD);
+        same(&rt, code(&status), 0);
         let (_, text) = called(&rt, rt.alloc(), &[".", "check"], "", &mut folder)?;
-        assert_eq!(&rt;
+        same(
+            &rt,
             text.as_str(),
-            "ok dims 2 leaf 333 next 3 live 3 segments 1\n"
+            "ok dims 2 leaf 333 next 3 live 3 segments 1\n",
         );
     }
     Ok(())
@@ -171,7 +174,7 @@ fn answers_as_run_does(rt: HostRuntime) -> Result<(), Fail> {
         let (_, expected) = called(&rt, rt.alloc(), &[".", "run"], lines.as_str(), &mut folder)?;
         for words in FORKS {
             let (_, text) = called(&rt, rt.alloc(), words, lines.as_str(), &mut folder)?;
-            assert_eq!(&rt; text.as_str(), expected.as_str(), "of {lines:?}");
+            same_at(&rt, text.as_str(), expected.as_str(), &lines);
         }
     }
     Ok(())
@@ -184,11 +187,11 @@ fn damage_comes_before_the_text(rt: HostRuntime) -> Result<(), Fail> {
     let mut folder = cities(&rt, alloc)?;
     let name = FileName::Segment(0);
     let mut bytes = folder.get(&name).ok_or("no segment")?.to_vec(alloc)?;
-    assert_eq!(rt; bytes.len(), 3 * 4096);
+    same(&rt, bytes.len(), 3 * 4096);
     bytes[2 * 4096 + 100] ^= 1;
     folder.put(name, bytes)?;
     let (status, text) = called(&rt, alloc, &[".", "batch"], "box 9 9 9 9\n", &mut folder)?;
-    assert!(&rt; code(&status) == 6 && text.is_empty());
+    holds(&rt, code(&status) == 6 && text.is_empty());
     Ok(())
 }
 
@@ -204,7 +207,7 @@ fn other_words_are_refused(rt: HostRuntime) -> Result<(), Fail> {
     for words in OTHER_WORDS {
         let mut folder = MemFolder::new(rt.alloc(), Vec::new(rt.alloc()));
         let (status, text) = called(&rt, rt.alloc(), words, "box 1 2\n", &mut folder)?;
-        assert!(&rt; code(&status) == 1 && text.is_empty(), "{words:?}");
+        holds_at(&rt, code(&status) == 1 && text.is_empty(), &words);
     }
     Ok(())
 }
@@ -218,8 +221,8 @@ fn halves_run_beside_each_other(rt: HostRuntime) -> Result<(), Fail> {
     let gate = Meeting::new();
     let words = [".", "batch", "--forks", "1"];
     let status = run_gated(&rt, rt.alloc(), &words, TWO.as_bytes(), &mut folder, &gate)?;
-    assert_eq!(&rt; code(&status), 0);
-    assert_eq!(&rt; gate.met(), (1, 1));
+    same(&rt, code(&status), 0);
+    same(&rt, gate.met(), (1, 1));
     Ok(())
 }
 
@@ -239,7 +242,7 @@ fn passes_by_levels_of_forks(rt: HostRuntime) -> Result<(), Fail> {
             let gate = Counting::new();
             run_gated(&rt, rt.alloc(), words, lines.as_bytes(), &mut folder, &gate)?;
             let passes = gate.passes.load(Ordering::SeqCst);
-            assert_eq!(&rt; passes, expected, "{words:?}");
+            same_at(&rt, passes, expected, &words);
         }
     }
     Ok(())

@@ -19,7 +19,8 @@ returns-clause-text g c = λ told says state stored.
     let held = held_for (g.F.Pages.files c.args.folder.now) c.args.commit.now state stored says in
     let i = index_of c.args.commit.now held.0 in
     let said = c.in_ok-replies.ensures.said held.0 ((c.in_ok-resident.ensures.copy told).held held.0 held.1) in
-    subst (λ (s : State). TellsAll (Unit {0}) (TellsBatch s) 1 (lines_of c.args.lines.now) [] c.in_ok-tell_all.field-0.bytes.items c.in_ok-tell_all.field-0.refused)
+    subst (λ (s : State). TellsAll (Unit {0}) (TellsBatch s) 1 (lines_of c.args.lines.now) [] c.in_ok-tell_all.field-0.bytes.items
+    c.in_ok-tell_all.field-0.refused)
     (sym held.2)
     (c.in_ok-tell_all.ensures i c.requires.dims
     (replies_told D i c.in_ok-queries.queries.items c.as_slice-2.result.now (flat_map (asked_in D) (lines_of c.args.lines.now)) c.requires.dims

@@ -27,7 +27,8 @@ lines-preserved g c =
           (refused_more c.lines.refused c.in_ok-told.told.refused told.told.refused c.from-refused.result told.refused c.from-refused.ensures) (λ t. told.text);
       left = λ i dims said.
           rw (take_rest c.lines.left.now c.from.result)
-          (replies_left (reply_text i) c.lines.left.now (asked_in D line) (flat_map (asked_in D) behind) _ c.from.result long split (c.lines.invariant.left i dims said));
+          (replies_left (reply_text i) c.lines.left.now (asked_in D line) (flat_map (asked_in D) behind) _ c.from.result long split
+          (c.lines.invariant.left i dims said));
       each = rw (take_rest c.lines.left.now c.from.result)
           (left_counted c.lines.left.now (asked_in D line) (flat_map (asked_in D) behind) _ c.from.result long split c.lines.invariant.each);
       room = omega (arith, c.lines.invariant.room, c.first_line.ensures.shorter);
@@ -37,5 +38,6 @@ lines-preserved g c =
 pub returns : goal.returns
 returns g c = λ i dims said.
     let none : length c.lines.rest.now ≡ 0 = grind (arith, nat_tests) in
-    all_told (TellsBatch (Some i)) (lines_of c.args.lines.now) (lines_of c.lines.rest.now) c.lines.number c.lines.refused c.new-bytes.result.items c.lines.bytes.items
+    all_told (TellsBatch (Some i)) (lines_of c.args.lines.now) (lines_of c.lines.rest.now) c.lines.number c.lines.refused
+    c.new-bytes.result.items c.lines.bytes.items
     (c.lines.invariant.going i dims said) (no_lines c.lines.rest.now none) c.new-bytes.ensures.items

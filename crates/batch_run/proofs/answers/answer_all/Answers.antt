@@ -23,7 +23,8 @@ answer-requires g c = (
       (
         subst (λ (f : Files). Agrees f c.loop-query.cache) (sym c.loop-query.invariant.files) c.loop-query.invariant.agrees,
         subst (λ (f : Files). ∥ ((docs : List Document) × Holds g.row.D f c.segments-segments.result.now docs) ∥₁) (sym c.loop-query.invariant.files)
-            (subst (λ (ps : List Part). ∥ ((docs : List Document) × Holds g.row.D (folder_files c.args.resident.now.files) ps docs) ∥₁) (sym c.segments-segments.ensures) c.args.resident.now.held),
+            (subst (λ (ps : List Part). ∥ ((docs : List Document) × Holds g.row.D (folder_files c.args.resident.now.files) ps docs) ∥₁)
+            (sym c.segments-segments.ensures) c.args.resident.now.held),
       ),
     ),
   ),
@@ -32,7 +33,8 @@ answer-requires g c = (
 pub loop-query-preserved : goal.loop-query-preserved
 loop-query-preserved g c = record {
   replied = λ docs h.
-      replied_next (reply_of g.row.D docs) c.args.queries.now c.loop-query.query-index c.query-item.result c.loop-query.replies.items c.push.new.self.items c.in_ok-reply.reply
+      replied_next (reply_of g.row.D docs) c.args.queries.now c.loop-query.query-index c.query-item.result c.loop-query.replies.items c.push.new.self.items
+      c.in_ok-reply.reply
       c.loop-query-test.true c.query-item.is (c.loop-query.invariant.replied docs h) c.in_ok-push.ensures.items
       (c.in_ok-reply.ensures.reply docs
       (subst (λ (f : Files). Holds g.row.D f c.segments-segments.result.now docs) (sym c.loop-query.invariant.files)

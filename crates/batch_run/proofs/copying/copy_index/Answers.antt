@@ -10,7 +10,8 @@ loop-s-preserved g c = record {
       (λ e. cc) (λ e. cc) c.in_ok-copy_file.ensures.others c.in_ok-copy_file-2.ensures.others c.loop-s.invariant.commit;
   copied = λ told.
       copied_next (g.F.Pages.files c.args.folder.now) (g.F.Pages.files c.loop-s.folder) (g.F.Pages.files c.copy_file.new.folder)
-      (folder_files c.loop-s.copy) (folder_files c.copy_file.new.copy) (folder_files c.copy_file-in-loop-s.new.copy) c.args.c.now.listed c.listed-s-items.result.now c.loop-s.s-index _
+      (folder_files c.loop-s.copy) (folder_files c.copy_file.new.copy) (folder_files c.copy_file-in-loop-s.new.copy)
+      c.args.c.now.listed c.listed-s-items.result.now c.loop-s.s-index _
       c.listed-s-items.ensures.value c.loop-s-test.true (c.loop-s.invariant.files told) (c.in_ok-copy_file.ensures.files told)
       (c.in_ok-copy_file.ensures.copied told) c.in_ok-copy_file.ensures.others
       (c.in_ok-copy_file-2.ensures.copied told) c.in_ok-copy_file-2.ensures.others (c.loop-s.invariant.copied told);

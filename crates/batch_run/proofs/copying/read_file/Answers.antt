@@ -7,8 +7,10 @@ use Rattle.batch_run.proofs.copying.read_file.Goals as goal
 pub loop-page-preserved : goal.loop-page-preserved
 loop-page-preserved g c = record {
   read = λ told.
-      parts_read (bytes_of (g.F.Pages.files c.size.new.self c.args.name.now)) c.loop-page.bytes.items c.append_page.new.bytes.items c.loop-page.page (c.loop-page.invariant.read told)
-      (subst (λ (f : Files). c.append_page.new.bytes.items ≡ c.loop-page.bytes.items ++ take 4096 (drop (4096 * c.loop-page.page) (bytes_of (f c.args.name.now))))
+      parts_read (bytes_of (g.F.Pages.files c.size.new.self c.args.name.now)) c.loop-page.bytes.items c.append_page.new.bytes.items
+      c.loop-page.page (c.loop-page.invariant.read told)
+      (subst (λ (f : Files). c.append_page.new.bytes.items
+      ≡ c.loop-page.bytes.items ++ take 4096 (drop (4096 * c.loop-page.page) (bytes_of (f c.args.name.now))))
       (c.loop-page.invariant.files told) (c.in_ok-append_page.ensures.page told));
   files = λ told. c.in_ok-append_page.ensures.files told ∙ c.loop-page.invariant.files told;
   faults = c.in_ok-append_page.ensures.cause.fine ∙ c.loop-page.invariant.faults;

@@ -25,7 +25,8 @@ returns-in_ok-check_index-in-Err-Damaged-clause-undefined g c = λ told says sta
     let held = c.in_ok-check_index-in-Err-Damaged.ensures.holds told (subst (λ (f : Files). IsCommitIn f c.args.c.now) (sym same) says) in
     rw c.in-Err-Damaged.field-0-is at
     (c.in-Err-Damaged.ensures.whole held.0
-    (copy_holds (g.F.Pages.files c.args.folder.now) (folder_files c.in_ok-copy.copy) c.args.c.now held.0 c.in_ok-copy.ensures.commit (c.in_ok-copy.ensures.copied told)
+    (copy_holds (g.F.Pages.files c.args.folder.now) (folder_files c.in_ok-copy.copy) c.args.c.now held.0 c.in_ok-copy.ensures.commit
+    (c.in_ok-copy.ensures.copied told)
     (subst (λ (f : Files). HoldsIndex f c.args.c.now held.0) same held.1)))
 
 pub returns-in_ok-check_index-in-Err-Damaged-clause-evident : goal.returns-in_ok-check_index-in-Err-Damaged-clause-evident
@@ -37,6 +38,7 @@ returns-in_ok-check_index-in-Err-Damaged-clause-evident g c = record {
       absurd
       (rw c.in-Err-Damaged.field-0-is at
       (c.in-Err-Damaged.ensures.whole held.0
-      (copy_holds (g.F.Pages.files c.args.folder.now) (folder_files c.in_ok-copy.copy) c.args.c.now held.0 c.in_ok-copy.ensures.commit (c.in_ok-copy.ensures.copied t.0)
+      (copy_holds (g.F.Pages.files c.args.folder.now) (folder_files c.in_ok-copy.copy) c.args.c.now held.0 c.in_ok-copy.ensures.commit
+      (c.in_ok-copy.ensures.copied t.0)
       (subst (λ (f : Files). HoldsIndex f c.args.c.now held.0) same held.1))));
 }
