@@ -1,7 +1,10 @@
 -- How a batch ends over a folder that stores a state: its text goes out whole, or a prefix of it where the sink fails,
 -- or nothing.
-use Rattle.std.specs.Prelude.{ℕ, ◌≡◌, ◌≤◌, List}
-use Rattle.outer_io.specs.Files.{Files}
+use Rattle.std.specs.Prelude.{ℕ, ◌≡◌, ◌≤◌, ◌+◌, ◌/◌, List, length, sum_by}
+use Rattle.outer_io.specs.declared.file_name.FileName.TheVariants.{Commit}
+use Rattle.outer_io.specs.Files.{Files, bytes_of}
+use Rattle.commit_list.specs.Commits.{CommitData}
+use Rattle.batch_run.specs.Copies.{IsCommitIn, copied_pages}
 use Rattle.outer_io.specs.Parts.{WritesPart}
 use Rattle.index_model.specs.State.{State}
 use Rattle.stored_index.specs.Stored.{IsStored}
@@ -42,3 +45,9 @@ LeavesNoText (status.SomeRefused count) = ⊥
 -- the files store a state
 abbrev pub StoresSome : Files → Type 0
 StoresSome files = (state : State) × IsStored files state
+
+-- the pages of the Commit file and of the files that it lists were read once at most
+abbrev pub ReadsOnce : Files → (before now : ℕ) → Type 0
+ReadsOnce files before now =
+    (c : CommitData) → IsCommitIn files c
+    → now ≤ before + length (bytes_of (files Commit)) / 4096 + sum_by (copied_pages files) c.listed

@@ -1,6 +1,6 @@
 //! The command `batch`.
 
-ghost use Rattle.std.specs.Prelude.{◌≡◌, ◌≤◌, ◌^◌, ℕ, Bool, List, [], length, IsTrue, IfOk, IsOk};
+ghost use Rattle.std.specs.Prelude.{◌≡◌, ◌≤◌, ◌+◌, ◌^◌, ℕ, Bool, List, [], length, sum_by, IsTrue, IfOk, OnOk, IsOk};
 ghost use Rattle.outer_io.specs.Faults.{Rose};
 ghost use Rattle.outer_io.specs.Files.{Files};
 ghost use Rattle.page_cache.specs.Causes.{HasPageCause};
@@ -12,9 +12,9 @@ ghost use Rattle.index_opening.specs.Evidence.{IsEvident};
 ghost use Rattle.run_status.specs.Causes.{HasCauses, ReadsInput};
 ghost use Rattle.run_status.specs.Ends.{DoesNothing, IsAnswer, IsDamaged, OnStatusDamage};
 ghost use Rattle.run_status.specs.Told.{TellsAll};
-ghost use Rattle.batch_run.specs.Copies.{IsCommitIn};
+ghost use Rattle.batch_run.specs.Copies.{IsCommitIn, copied_pages};
 ghost use Rattle.batch_queries.specs.Batched.{TellsBatch};
-ghost use Rattle.batch_queries.specs.Ends.{EndsBatch, LeavesNoText, StoresSome};
+ghost use Rattle.batch_queries.specs.Ends.{EndsBatch, LeavesNoText, ReadsOnce, StoresSome};
 
 use crate::asking::collect;
 use crate::telling::{Text, tell_all, tell_bare};
@@ -46,6 +46,8 @@ pub fn run_batch<S: Source, F: Folder, K: Sink, R: Threads + Sync, G: Gate>(
         (K.written out.old) (K.written out.new) result }
     ensures stored { IsTrue F.told → IsAnswer result → StoresSome (F.files folder.old) }
     ensures files { IsTrue F.told → F.files folder.new ≡ F.files folder.old }
+    ensures reads { IsTrue F.told → IsAnswer result
+        → ReadsOnce (F.files folder.old) (F.reads folder.old) (F.reads folder.new) }
     ensures input { IsTrue S.told → ReadsInput (S.left input.old) (S.left input.new) result }
     ensures untouched { DoesNothing result → (folder.new ≡ folder.old) × (out.new ≡ out.old) }
     ensures unwritten { LeavesNoText result → out.new ≡ out.old }
@@ -104,6 +106,8 @@ fn answer<F: Folder, R: Threads + Sync, G: Gate>(
         → IfOk result (λ t. TellsAll (Unit {0}) (TellsBatch state) 1 (lines_of lines.now) [] t.bytes.items t.refused) }
     ensures stored { IsTrue F.told → IfOk result (λ _. StoresSome (F.files folder.old)) }
     ensures files { IsTrue F.told → F.files folder.new ≡ F.files folder.old }
+    ensures reads { IsTrue F.told
+        → OnOk result (ReadsOnce (F.files folder.old) (F.reads folder.old) (F.reads folder.new)) }
     ensures cause { HasPageCause (F.faults folder.old) (F.faults folder.new) result }
     ensures whole { IsTrue F.told → (state : State) → IsStored (F.files folder.old) state → NotDamaged result }
     ensures evident { OnDamage result (IsEvident (IsTrue F.told) (F.files folder.old)) }
@@ -131,6 +135,8 @@ fn answer_stored<F: Folder, R: Threads + Sync, G: Gate>(
     ensures stored { IsTrue F.told → IsCommitIn (F.files folder.old) commit.now
         → IfOk result (λ _. StoresSome (F.files folder.old)) }
     ensures files { IsTrue F.told → F.files folder.new ≡ F.files folder.old }
+    ensures reads { IsTrue F.told → OnOk result
+        (F.reads folder.new ≤ F.reads folder.old + sum_by (copied_pages (F.files folder.old)) commit.now.listed) }
     ensures cause { HasPageCause (F.faults folder.old) (F.faults folder.new) result }
     ensures whole { IsTrue F.told → IsCommitIn (F.files folder.old) commit.now
         → (state : State) → IsStored (F.files folder.old) state → NotDamaged result }
@@ -169,6 +175,8 @@ fn answer_over<const D: usize, F: Folder, R: Threads + Sync, G: Gate>(
     ensures stored { IsTrue F.told → IsCommitIn (F.files folder.old) commit.now
         → IfOk result (λ _. StoresSome (F.files folder.old)) }
     ensures files { IsTrue F.told → F.files folder.new ≡ F.files folder.old }
+    ensures reads { IsTrue F.told → OnOk result
+        (F.reads folder.new ≤ F.reads folder.old + sum_by (copied_pages (F.files folder.old)) commit.now.listed) }
     ensures cause { HasPageCause (F.faults folder.old) (F.faults folder.new) result }
     ensures whole { IsTrue F.told → IsCommitIn (F.files folder.old) commit.now
         → (state : State) → IsStored (F.files folder.old) state → NotDamaged result }

@@ -1,6 +1,7 @@
 -- Files that are copied one after the other.
-use Rattle.std.proofs.Common.{◌≡◌, ℕ, ◌+◌, ◌<◌, ◌≤◌, List, true, false, get_or, length, take, refl, sym, ap, subst, ◌∙◌}
-use Rattle.std.proofs.lemmas.List.{take_all}
+use Rattle.std.proofs.Common.{◌≡◌, ℕ, ◌+◌, ◌<◌, ◌≤◌, List, true, false, get_or, length, take, refl, sym, ap, subst, sum_by, ◌∙◌, arith}
+use Rattle.std.proofs.lemmas.List.{take_all, take_more}
+use Rattle.std.proofs.lemmas.List.Sums.{sum_by_push}
 use Rattle.std.specs.List.{All}
 use Rattle.std.proofs.lemmas.List.Elements.{All-contains, All-more, All-weaker}
 use Rattle.outer_io.specs.declared.file_name.FileName.{FileName}
@@ -15,7 +16,7 @@ use Rattle.commit_list.specs.CommitFiles.{IsCommitFile}
 use Rattle.stored_index.specs.Segments.{HoldsListed}
 use Rattle.stored_index.specs.Stored.{HoldsFiles, HoldsIndex}
 use Rattle.stored_index.proofs.Pairwise.{zip_moved}
-use Rattle.batch_run.specs.Copies.{IsCopied}
+use Rattle.batch_run.specs.Copies.{IsCopied, copied_pages, pages_in}
 
 -- what was copied stays so where a file is copied
 pub stays_copied : (files before after : Files) (name : FileName) → bytes_of (after name) ≡ bytes_of (files name) → SameBut name before after
@@ -66,6 +67,31 @@ pub all_copied : (start copy : Files) (listed items : List Listed) (i : ℕ) →
     → All (IsCopied start copy) (take i listed) → All (IsCopied start copy) listed
 all_copied start copy listed items i same le done =
     subst (λ (ls : List Listed). All (IsCopied start copy) ls) (take_all i listed (subst (λ (ls : List Listed). length ls ≤ i) same le)) done
+
+-- what was read is within the pages of the segments so far
+pub reads_next : (start here mid : Files) (listed items : List Listed) (i : ℕ) (d : Listed) (first before between after : ℕ)
+    → items ≡ listed → i < length items → here ≡ start → mid ≡ here
+    → before ≤ first + sum_by (copied_pages start) (take i listed)
+    → between ≤ before + pages_in (bytes_of (here (Segment (get_or items i d).segment)))
+    → after ≤ between + pages_in (bytes_of (mid (Live (get_or items i d).segment (get_or items i d).generation)))
+    → after ≤ first + sum_by (copied_pages start) (take (i + 1) listed)
+reads_next start here mid listed items i d first before between after same lt stood stays so segment live =
+    let s : Listed = get_or items i d in
+    let one : between ≤ before + pages_in (bytes_of (start (Segment s.segment))) =
+    subst (λ (f : Files). between ≤ before + pages_in (bytes_of (f (Segment s.segment)))) stood segment in
+    let two : after ≤ between + pages_in (bytes_of (start (Live s.segment s.generation))) =
+    subst (λ (f : Files). after ≤ between + pages_in (bytes_of (f (Live s.segment s.generation)))) (stays ∙ stood) live in
+    let sum : sum_by (copied_pages start) (take (i + 1) items) ≡ sum_by (copied_pages start) (take i items) + copied_pages start s =
+    ap (sum_by (copied_pages start)) (take_more items i d lt) ∙ sum_by_push (copied_pages start) (take i items) s in
+    let begun : before ≤ first + sum_by (copied_pages start) (take i items) =
+    subst (λ (ls : List Listed). before ≤ first + sum_by (copied_pages start) (take i ls)) (sym same) so in
+    subst (λ (ls : List Listed). after ≤ first + sum_by (copied_pages start) (take (i + 1) ls)) same (omega (arith, one, two, sum, begun))
+
+pub reads_all : (start : Files) (listed items : List Listed) (i : ℕ) (first now : ℕ) → items ≡ listed → length items ≤ i
+    → now ≤ first + sum_by (copied_pages start) (take i listed) → now ≤ first + sum_by (copied_pages start) listed
+reads_all start listed items i first now same le so =
+    subst (λ (ls : List Listed). now ≤ first + sum_by (copied_pages start) ls)
+    (take_all i listed (subst (λ (ls : List Listed). length ls ≤ i) same le)) so
 
 -- the file of the commit stays
 pub commit_stays : (before between after : Files) (a b : FileName) (c : CommitData) → (a ≡ Commit → ⊥) → (b ≡ Commit → ⊥)

@@ -1,13 +1,14 @@
 //! Copying the files of an index into memory.
 
-ghost use Rattle.std.specs.Prelude.{◌≡◌, ◌<◌, ◌*◌, ◌^◌, ◌++◌, All, take, drop, IsTrue, IfOk, OnOk};
+ghost use Rattle.std.specs.Prelude.{◌≡◌, ◌<◌, ◌≤◌, ◌+◌, ◌*◌, ◌^◌, ◌++◌, All, sum_by, take, drop};
+ghost use Rattle.std.specs.Prelude.{IsTrue, IfOk, OnOk};
 ghost use Rattle.outer_io.specs.Files.{bytes_of, SameBut};
 ghost use Rattle.outer_io.specs.MemFolder.{folder_files};
 ghost use Rattle.outer_io.specs.declared.file_name.FileName.TheVariants.{Commit as CommitName};
 ghost use Rattle.page_cache.specs.Causes.{HasPageCause};
 ghost use Rattle.page_cache.specs.Evidence.{NotDamaged};
 ghost use Rattle.commit_list.specs.CommitFiles.{IsCommitFile};
-ghost use Rattle.batch_run.specs.Copies.{IsCopied};
+ghost use Rattle.batch_run.specs.Copies.{IsCopied, copied_pages, pages_in};
 
 use crate::Memory;
 use commit_list::{Commit, encode_commit};
@@ -28,6 +29,8 @@ pub(crate) fn copy_index<F: Pages>(
     ensures copied { IsTrue F.told
         → IfOk result (λ copy. All (IsCopied (F.files folder.old) (folder_files copy)) c.now.listed) }
     ensures files { IsTrue F.told → F.files folder.new ≡ F.files folder.old }
+    ensures reads { IsTrue F.told → OnOk result
+        (F.reads folder.new ≤ F.reads folder.old + sum_by (copied_pages (F.files folder.old)) c.now.listed) }
     ensures cause { HasPageCause (F.faults folder.old) (F.faults folder.new) result }
     ensures undamaged { NotDamaged result }
 {
@@ -63,6 +66,8 @@ fn copy_file<F: Pages>(
         → OnOk result (bytes_of (folder_files copy.new name) ≡ bytes_of (F.files folder.old name)) }
     ensures others { SameBut name (folder_files copy.old) (folder_files copy.new) }
     ensures files { IsTrue F.told → F.files folder.new ≡ F.files folder.old }
+    ensures reads { IsTrue F.told → OnOk result
+        (F.reads folder.new ≤ F.reads folder.old + pages_in (bytes_of (F.files folder.old name))) }
     ensures cause { HasPageCause (F.faults folder.old) (F.faults folder.new) result }
     ensures undamaged { NotDamaged result }
 {
@@ -75,6 +80,8 @@ fn copy_file<F: Pages>(
 fn read_file<F: Pages>(alloc: Global, folder: &mut F, name: &FileName) -> Result<Vec<u8>, PageFault>
     ensures bytes { IsTrue F.told → IfOk result (λ v. v.items ≡ bytes_of (F.files folder.old name.now)) }
     ensures files { IsTrue F.told → F.files folder.new ≡ F.files folder.old }
+    ensures reads { IsTrue F.told → OnOk result
+        (F.reads folder.new ≤ F.reads folder.old + pages_in (bytes_of (F.files folder.old name.now))) }
     ensures cause { HasPageCause (F.faults folder.old) (F.faults folder.new) result }
     ensures undamaged { NotDamaged result }
 {
@@ -100,6 +107,7 @@ fn append_page<F: Pages>(
     ensures page { IsTrue F.told → OnOk result (bytes.new.items
         ≡ bytes.old.items ++ take 4096 (drop (4096 * page) (bytes_of (F.files folder.old name.now)))) }
     ensures files { IsTrue F.told → F.files folder.new ≡ F.files folder.old }
+    ensures reads { F.reads folder.new ≤ F.reads folder.old + 1 }
     ensures cause { HasPageCause (F.faults folder.old) (F.faults folder.new) result }
     ensures undamaged { NotDamaged result }
 {

@@ -1,5 +1,5 @@
 -- Each page is what the file has of it.
-use Rattle.std.proofs.Common.{◌++◌, ◌*◌, take, drop, ◌∙◌, subst, ◌≡◌}
+use Rattle.std.proofs.Common.{arith, ◌++◌, ◌*◌, take, drop, ◌∙◌, subst, ◌≡◌}
 use Rattle.outer_io.specs.Files.{Files, bytes_of}
 use Rattle.batch_run.proofs.PartsRead.{parts_read}
 use Rattle.batch_run.proofs.copying.read_file.Goals as goal
@@ -13,5 +13,6 @@ loop-page-preserved g c = record {
       ≡ c.loop-page.bytes.items ++ take 4096 (drop (4096 * c.loop-page.page) (bytes_of (f c.args.name.now))))
       (c.loop-page.invariant.files told) (c.in_ok-append_page.ensures.page told));
   files = λ told. c.in_ok-append_page.ensures.files told ∙ c.loop-page.invariant.files told;
+  reads = omega (arith, c.in_ok-append_page.ensures.reads, c.loop-page.invariant.reads);
   faults = c.in_ok-append_page.ensures.cause.fine ∙ c.loop-page.invariant.faults;
 }

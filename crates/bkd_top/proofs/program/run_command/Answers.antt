@@ -373,4 +373,4 @@ returns-in-Batch-clause-leaves g c = λ told.
     left_by c.args.words _
     (called g.S.Source.told g.K.Sink.told (g.S.Source.left c.args.input.now) (g.F.Pages.files c.args.folder.now) (g.F.Pages.files c.run_batch.new.folder)
     (g.K.Sink.written c.args.out.now) (g.K.Sink.written c.run_batch.new.out) (g.F.Pages.reads c.args.folder.now) (g.F.Pages.reads c.run_batch.new.folder))
-    c.run_batch.result (ap said c.in-Batch.is) (c.run_batch.ensures.files told)
+    c.run_batch.result (ap said c.in-Batch.is) (record { files = c.run_batch.ensures.files told; reads = c.run_batch.ensures.reads told })
