@@ -1,5 +1,3 @@
 mod Lines
-mod Sizes
-mod Asks
 mod Tells
 mod Replying

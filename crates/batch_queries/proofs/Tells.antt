@@ -1,37 +1,21 @@
 -- What is told of lines, and of their replies.
-use Rattle.std.proofs.Common.{◌≡◌, ◌≤◌, ℕ, Bool, true, false, cond, List, [], ◌∷◌, ◌++◌, None, Some, map, drop, get_or, length}
-use Rattle.std.proofs.Common.{ap, refl, subst, sym, ◌∙◌, arith}
-use Rattle.std.proofs.Common.{append-nil, length-append, length-drop, zero-add}
+use Rattle.std.proofs.Common.{◌≡◌, ◌≤◌, ℕ, Bool, true, false, cond, List, [], ◌∷◌, ◌++◌, None, Some, map, drop, length}
+use Rattle.std.proofs.Common.{◌+◌, ◌/◌, ap, refl, subst, sum_by, sym, ◌∙◌, arith}
+use Rattle.std.proofs.Common.{OnOk, Result, Ok, Err, append-nil, length-append, length-drop, zero-add}
 use mir.Val.{bool_byte}
 use Rattle.outer_io.specs.declared.file_name.FileName.TheVariants.{Commit}
 use Rattle.outer_io.specs.Files.{Files, bytes_of}
 use Rattle.commit_list.specs.Commits.{CommitData}
 use Rattle.commit_list.specs.CommitFiles.{IsCommitFile}
-use Rattle.commit_list.proofs.CommitPages.{file_there}
-use Rattle.script_lang.specs.Reading.{Reading, read}
+use Rattle.commit_list.proofs.CommitPages.{file_there, one_file}
 use Rattle.script_lang.specs.Requests.{Request}
-use Rattle.index_model.specs.State.{Index, State}
+use Rattle.index_model.specs.State.{State}
 use Rattle.stored_index.specs.Stored.{IsStored}
-use Rattle.run_status.specs.Told.{IsTold, Teller, Tellings, TellsAll, TellsLines, Told}
+use Rattle.run_status.specs.Told.{Teller, Tellings, TellsAll, TellsLines}
+use Rattle.batch_run.specs.Copies.{IsCommitIn, copied_pages}
 use Rattle.batch_run.specs.declared.queries.Reply.{Reply}
 use Rattle.batch_queries.specs.Asked.{text_of_reply}
-use Rattle.batch_queries.specs.Batched.{TellsBatch, reply_text, told_of}
-
--- what is told of a reading is told of its line
-pub reading_told : (D : ℕ) (i : Index) (number : ℕ) (line : List ℕ) (reading : Reading) (t : Told) → i.dims ≡ D → read (Some D) line ≡ reading
-    → t ≡ told_of (Some i) number reading → TellsBatch (Some i) number line t
-reading_told D i number line reading t dims is told =
-    told ∙ ap (λ (r : Reading). told_of (Some i) number r) (sym (ap (λ (d : ℕ). read (Some d) line) dims ∙ is))
-
-pub told_weaker : (P Q : Told → Type 0) (before after : List ℕ) (is_refused : Bool) → ((t : Told) → P t → Q t) → IsTold P before after is_refused
-    → IsTold Q before after is_refused
-told_weaker P Q before after is_refused more h = record { told = h.told; tells = more h.told h.tells; text = h.text; refused = h.refused }
-
--- the first reply is that to the first request
-pub first_reply : (i : Index) (request : Request) (more : List Request) (replies : List Reply) (r : Reply) → r ≡ get_or replies 0 r
-    → 1 ≤ length replies → map text_of_reply replies ≡ map (reply_text i) (request ∷ more) → text_of_reply r ≡ reply_text i request
-first_reply i request more [] r is some same = absurd (omega (arith, some))
-first_reply i request more (x ∷ xs) r is some same = ap (λ (y : Reply). text_of_reply y) is ∙ cc
+use Rattle.batch_queries.specs.Ends.{ReadsOnce}
 
 -- the replies behind those to the requests of one line
 pub replies_left : (f : Request → List ℕ) (left : List Reply) (asked more all : List Request) (n : ℕ) → length asked ≡ n → all ≡ asked ++ more
@@ -79,3 +63,17 @@ pub not_damaged : {P : Type 0} (files : Files) (state : State) → IsStored file
     → ((c : CommitData) → IsCommitFile (bytes_of (files Commit)) c → P) → P
 not_damaged files None h absent whole = absent h
 not_damaged files (Some i) h absent whole = whole h.commit h.holds.commit
+
+-- reading the commit and then what it lists reads each page once
+pub reads_once : (files : Files) (c : CommitData) (before mid now : ℕ) → IsCommitIn files c
+    → ((d : CommitData) → IsCommitIn files d → mid ≤ before + length (bytes_of (files Commit)) / 4096)
+    → now ≤ mid + sum_by (copied_pages files) c.listed → ReadsOnce files before now
+reads_once files c before mid now says first then d again =
+    let few = first c says in
+    let same : c ≡ d = one_file (bytes_of (files Commit)) c d says again in
+    subst (λ (e : CommitData). now ≤ before + length (bytes_of (files Commit)) / 4096 + sum_by (copied_pages files) e.listed) same (omega (arith, few, then))
+
+-- what follows where the call is done
+pub on_ok_weaker : {T E : Type 0} (r : Result T E) (P Q : Type 0) → (P → Q) → OnOk r P → OnOk r Q
+on_ok_weaker (Ok x) P Q more h = more h
+on_ok_weaker (Err e) P Q more h = tt

@@ -23,7 +23,3 @@ pub parts_read : (file before now : List ℕ) (page : ℕ) → before ≡ take (
 parts_read file before now page so more =
     let next : 4096 * (page + 1) ≡ 4096 * page + 4096 = omega arith in
     more ∙ ap (λ xs. xs ++ take 4096 (drop (4096 * page) file)) so ∙ sym (take-add (4096 * page) 4096 file) ∙ ap (λ n. take n file) (sym next)
-
--- all pages
-pub all_read : (file now : List ℕ) (pages : ℕ) → now ≡ take (4096 * pages) file → length file ≤ 4096 * pages → now ≡ file
-all_read file now pages so long = so ∙ take_all (4096 * pages) file long

@@ -21,9 +21,3 @@ held_whole files c docs fault h = fault_weaker fault (λ _. IsUndefined files) (
 -- a damage of a copy is shown by what it carries
 pub shows_itself : (told : Type 0) (files : Files) (fault : PageFault) → FaultShows (IsEvident told files) fault → FaultShows (ShowsItself HasRanges) fault
 shows_itself told files fault = fault_weaker fault (IsEvident told files) (ShowsItself HasRanges) (λ d h. h.shows)
-
--- the evidence is that of the files before
-pub evident_before : (S T : Type 0) (old new : Files) (fault : PageFault) → (T → S) → (T → new ≡ old) → FaultShows (IsEvident S new) fault
-    → FaultShows (IsEvident T old) fault
-evident_before S T old new fault back same = fault_weaker fault (IsEvident S new) (IsEvident T old)
-    (λ d h. evident_at IsTwice S T new old d back (λ t. sym (same t)) h)
