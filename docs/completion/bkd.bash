@@ -9,7 +9,7 @@ _bkd() {
         return
     fi
     if [ "$COMP_CWORD" -eq 2 ]; then
-        mapfile -t COMPREPLY < <(compgen -W 'run load explain check generate session count ranges' -- "$word")
+        mapfile -t COMPREPLY < <(compgen -W 'run load explain check generate session count ranges batch' -- "$word")
         return
     fi
     case $before in
@@ -20,6 +20,7 @@ _bkd() {
         run | session | ranges) options='--cache --forks' ;;
         load) options='--columns --forks' ;;
         explain | count) options='--cache' ;;
+        batch) options='--forks' ;;
         generate) options='--docs --seed --forks' ;;
     esac
     # each option stands at most once

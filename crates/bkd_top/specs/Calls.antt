@@ -3,7 +3,7 @@
 use Rattle.std.specs.Prelude.{ℕ, ◌≡◌, ◌⊎◌, Bool, IsTrue, List, [], Option, None, Some}
 use Rattle.outer_io.specs.Files.{Files}
 use Rattle.script_lang.specs.Lines.{lines_of}
-use Rattle.command_words.specs.Commands.{Asked, Run, Load, Explain, Check, Generate, Session, Count, Ranges}
+use Rattle.command_words.specs.Commands.{Asked, Run, Load, Explain, Check, Generate, Session, Count, Ranges, Batch}
 use Rattle.index_model.specs.State.{State}
 use Rattle.stored_index.specs.Stored.{IsStored}
 use Rattle.index_opening.specs.Evidence.{IsEvident}
@@ -15,6 +15,7 @@ use Rattle.script_run.specs.Kept.{RunCosts, StatusKeeps}
 use Rattle.script_run.specs.declared.language.Language.TheVariants as language
 use Rattle.run_status.specs.Causes.{ReadsInput}
 use Rattle.count_queries.specs.Counts as counts
+use Rattle.batch_queries.specs.Ends.{ReadsOnce}
 use Rattle.bkd_top.specs.Checking.{Checks}
 use Rattle.bkd_top.specs.Commands.{ReadsFew}
 
@@ -39,6 +40,7 @@ TakesInput (Explain cache) left now s = ReadsInput left now s
 TakesInput (Session cache forks) left now s = IsAnswer s → now ≡ []
 TakesInput (Count cache) left now s = ReadsInput left now s
 TakesInput (Ranges cache forks) left now s = ReadsInput left now s
+TakesInput (Batch forks) left now s = ReadsInput left now s
 TakesInput Check left now s = Unit {0}
 TakesInput (Generate docs seed forks) left now s = Unit {0}
 
@@ -59,6 +61,11 @@ pub record ExplainCosts (source : Type 0) (lines : List (List ℕ)) (old new : F
 pub record CountCosts (source : Type 0) (lines : List (List ℕ)) (old new : Files) (before now : ℕ) : Type 0 where
   pub files : new ≡ old
   pub reads : source → counts.ReadsFew old lines before now
+
+-- answering a batch changes no file, and where it is done each page was read once at most
+pub record BatchCosts (old new : Files) (before now : ℕ) (s : Status) : Type 0 where
+  pub files : new ≡ old
+  pub reads : IsAnswer s → ReadsOnce old before now
 
 -- a command that is done as a whole leaves few segments of each level, and where it isn't done it loses nothing that is
 -- kept, whatever the folder holds
@@ -92,4 +99,5 @@ LeavesAsked (Explain cache) c s = ExplainCosts (IsTrue c.source) (lines_of c.inp
 LeavesAsked (Load columns forks) c s = WholeLeaves c.old c.new s
 LeavesAsked (Generate docs seed forks) c s = WholeLeaves c.old c.new s
 LeavesAsked (Count cache) c s = CountCosts (IsTrue c.source) (lines_of c.input) c.old c.new c.before c.now
+LeavesAsked (Batch forks) c s = BatchCosts c.old c.new c.before c.now s
 LeavesAsked Check c s = Checks (IsTrue c.sink) c.old c.new c.written c.written_now c.before c.now s

@@ -9,12 +9,14 @@ use Rattle.index_model.specs.State.{State}
 use Rattle.index_model.specs.Script.{Answer}
 use Rattle.stored_index.specs.Stored.{IsStored}
 use Rattle.stored_index.specs.Opening.{IsOpening, segments_pages}
-use Rattle.command_words.specs.Commands.{Asked, Run, Load, Explain, Check, Generate, Session, Count, Ranges}
+use Rattle.command_words.specs.Commands.{Asked, Run, Load, Explain, Check, Generate, Session, Count, Ranges, Batch}
 use Rattle.load_points.specs.Loaded.{load_answer}
 use Rattle.drawn_points.specs.Generated.{generated}
 use Rattle.explain_queries.specs.Explained.{Scope, IsScope, Told, TellsLine, TellsLines}
 use Rattle.count_queries.specs.Counted as counts
 use Rattle.script_run.specs.Languages.{meaning}
+use Rattle.batch_queries.specs.Batched.{TellsBatch}
+use Rattle.batch_queries.specs.Ends.{EndsBatch}
 use Rattle.script_run.specs.Progress.{start}
 use Rattle.script_run.specs.RangeScript.{AreRanges, EndsRanges}
 use Rattle.script_run.specs.Runs.{Ends, EndsSession}
@@ -38,6 +40,7 @@ reads_input (Generate docs seed forks) = false
 reads_input (Session cache forks) = true
 reads_input (Count cache) = true
 reads_input (Ranges cache forks) = true
+reads_input (Batch forks) = true
 
 -- its lines are done as they come, and no input is too large
 abbrev pub is_session : Asked → Bool
@@ -192,7 +195,8 @@ ReadsFew files lines old new =
 
 -- ---- the program
 
--- Explaining, checking and counting leave what is stored. Of a script of ranges it is said over points that are ranges.
+-- Explaining, checking, counting and answering a batch leave what is stored. Of a script of ranges it is said over points
+-- that are ranges.
 abbrev pub EndsAsked : (told : Type 0) → Asked → Before → Files → List ℕ → Status → Type 0
 EndsAsked told (Run cache forks) b files new s =
     Ends (meaning language.Points) told (start b.state (lines_of b.input) b.written) files new s
@@ -208,3 +212,4 @@ EndsAsked told (Count cache) b files new s =
     → telling.EndsTold told (counts.TellsCount scope) (lines_of b.input) b.written new s
 EndsAsked told (Ranges cache forks) b files new s =
     AreRanges b.state → EndsRanges told (start b.state (lines_of b.input) b.written) files new s
+EndsAsked told (Batch forks) b files new s = EndsBatch told (TellsBatch b.state) (lines_of b.input) b.written new s

@@ -6,7 +6,7 @@ use Rattle.std.proofs.lemmas.Slice.Eq.{bytes_eq-Decides}
 use Rattle.clap.specs.Words.{App, HasKind, Kinds, Row, fault_of, kind_of, matches_of}
 use Rattle.clap.specs.declared.error.Error.{Error}
 use Rattle.clap.specs.declared.error.kind.ErrorKind.TheVariants.{OutOfMemory}
-use Rattle.command_words.specs.Commands.{asked, check, count, explain, found_by, generate, load, run, unless_refused, ranges, session}
+use Rattle.command_words.specs.Commands.{asked, batch, check, count, explain, found_by, generate, load, run, unless_refused, ranges, session}
 
 pub rows_found : (command : App) (words : List (List ℕ)) (rows : List Row) → fault_of command words ≡ []
     → rows ≡ matches_of command words → found_by command words ≡ Some rows
@@ -25,12 +25,13 @@ refused command words e has other = refused_by (fault_of command words) e (match
 
 -- where the second word is the name of no command, nothing is asked for
 pub unknown : (texts : List (List ℕ)) (name : List ℕ) → 2 ≤ length texts → get_or texts 1 name ≡ name
-    → (name ≡ run.name → ⊥) → (name ≡ load.name → ⊥) → (name ≡ explain.name → ⊥) → (name ≡ check.name → ⊥) → (name ≡ generate.name → ⊥) → (name ≡ session.name → ⊥) → (name ≡ count.name → ⊥) → (name ≡ ranges.name → ⊥)
+    → (name ≡ run.name → ⊥) → (name ≡ load.name → ⊥) → (name ≡ explain.name → ⊥) → (name ≡ check.name → ⊥) → (name ≡ generate.name → ⊥) → (name ≡ session.name → ⊥) → (name ≡ count.name → ⊥)
+    → (name ≡ ranges.name → ⊥) → (name ≡ batch.name → ⊥)
     → asked texts ≡ None
-unknown [] name two second no_run no_load no_explain no_check no_generate no_session no_count no_ranges = absurd (omega arith)
-unknown (folder ∷ []) name two second no_run no_load no_explain no_check no_generate no_session no_count no_ranges = absurd (omega arith)
-unknown (folder ∷ word ∷ options) name two second no_run no_load no_explain no_check no_generate no_session no_count no_ranges =
-    rw (differs run.name no_run, differs load.name no_load, differs explain.name no_explain, differs check.name no_check, differs generate.name no_generate, differs session.name no_session, differs count.name no_count, differs ranges.name no_ranges) refl
+unknown [] name two second no_run no_load no_explain no_check no_generate no_session no_count no_ranges no_batch = absurd (omega arith)
+unknown (folder ∷ []) name two second no_run no_load no_explain no_check no_generate no_session no_count no_ranges no_batch = absurd (omega arith)
+unknown (folder ∷ word ∷ options) name two second no_run no_load no_explain no_check no_generate no_session no_count no_ranges no_batch =
+    rw (differs run.name no_run, differs load.name no_load, differs explain.name no_explain, differs check.name no_check, differs generate.name no_generate, differs session.name no_session, differs count.name no_count, differs ranges.name no_ranges, differs batch.name no_batch) refl
   where
     differs : (form : List ℕ) → (name ≡ form → ⊥) → bytes_eq word form ≡ false
     differs form other = false_from_ne_true _ (λ same. other (sym second ∙ (bytes_eq-Decides word form).0 same))

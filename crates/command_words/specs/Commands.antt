@@ -20,6 +20,7 @@ pub data Asked : Type 0 where
   Session : (cache forks : ℕ) → Asked
   Count : (cache : ℕ) → Asked
   Ranges : (cache forks : ℕ) → Asked
+  Batch : (forks : ℕ) → Asked
 
 -- ---- the options
 
@@ -145,8 +146,15 @@ ranges = record {
   asks = λ found. Some (Ranges (cache_by found) (forks_by found));
 }
 
+abbrev pub batch : Form
+batch = record {
+  name = codes "batch";
+  options = forks ∷ [];
+  asks = λ found. Some (Batch (forks_by found));
+}
+
 abbrev pub forms : List Form
-forms = run ∷ load ∷ explain ∷ check ∷ generate ∷ session ∷ count ∷ ranges ∷ []
+forms = run ∷ load ∷ explain ∷ check ∷ generate ∷ session ∷ count ∷ ranges ∷ batch ∷ []
 
 -- ---- the words
 
@@ -184,6 +192,7 @@ said (words.Generate docs seed forks) = Generate docs seed forks
 said (words.Session cache_pages forks) = Session cache_pages forks
 said (words.Count cache_pages) = Count cache_pages
 said (words.Ranges cache_pages forks) = Ranges cache_pages forks
+said (words.Batch forks) = Batch forks
 
 -- ---- the ranges
 
@@ -201,3 +210,4 @@ IsWithin (words.Generate docs seed forks) = (1 ≤ docs) × (docs ≤ 1000000) �
 IsWithin (words.Session cache_pages forks) = (1 ≤ cache_pages) × (cache_pages ≤ 65536) × (forks ≤ 6)
 IsWithin (words.Count cache_pages) = (1 ≤ cache_pages) × (cache_pages ≤ 65536)
 IsWithin (words.Ranges cache_pages forks) = (1 ≤ cache_pages) × (cache_pages ≤ 65536) × (forks ≤ 6)
+IsWithin (words.Batch forks) = forks ≤ 6

@@ -11,8 +11,8 @@ ghost use Rattle.command_words.specs.Commands.{IsWithin, asked, said};
 
 use byte_cursor::Bytes;
 use reading::{
-    read_check, read_count, read_explain, read_generate, read_load, read_ranges, read_run,
-    read_session,
+    read_batch, read_check, read_count, read_explain, read_generate, read_load, read_ranges,
+    read_run, read_session,
 };
 use std::alloc::{AllocError, AllocFailed, Global};
 
@@ -35,6 +35,8 @@ pub enum Words {
     Count { cache_pages: u32 },
     /// Does the lines of a script of ranges, with the options of `Run`.
     Ranges { cache_pages: u32, forks: u8 },
+    /// Answers a list of queries at once: levels of the list that fork, 0 to 6.
+    Batch { forks: u8 },
 }
 
 /// Why words are no command.
@@ -79,6 +81,7 @@ impl<T: Drop> From<AllocFailed<T>> for WordsFault {
 /// | `FOLDER session [--cache N] [--forks N]` | cache 1,024; forks 1 |
 /// | `FOLDER count [--cache N]` | cache 1,024 |
 /// | `FOLDER ranges [--cache N] [--forks N]` | cache 1,024; forks 1 |
+/// | `FOLDER batch [--forks N]` | forks 1 |
 pub fn read_words(alloc: Global, words: &[String]) -> Result<Words, WordsFault>
     ensures words { IfOk result (λ w. asked (map string_bytes words.now) ≡ Some (said w)) }
     ensures usage { result ≡ Err WordsFault.Usage → asked (map string_bytes words.now) ≡ None }
@@ -97,6 +100,7 @@ pub fn read_words(alloc: Global, words: &[String]) -> Result<Words, WordsFault>
         "session" => read_session(alloc, command),
         "count" => read_count(alloc, command),
         "ranges" => read_ranges(alloc, command),
+        "batch" => read_batch(alloc, command),
         _ => Err(WordsFault::Usage),
     }
 }

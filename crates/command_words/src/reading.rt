@@ -3,7 +3,7 @@
 ghost use Rattle.std.specs.Prelude.{◌≡◌, ◌≢◌, Some, None, true, IfOk, Err, map, string_bytes};
 ghost use Rattle.clap.specs.Words.{app_of, found_of, kind_of, rows_of};
 ghost use Rattle.command_words.specs.Commands.{IsWithin, asked_by, command_of, said, found_by, run, load, explain};
-ghost use Rattle.command_words.specs.Commands.{check, generate, session, count, ranges};
+ghost use Rattle.command_words.specs.Commands.{check, generate, session, count, ranges, batch};
 ghost use Rattle.command_words.specs.Found.{AreFound, is_plain};
 
 use crate::options::{CACHE, COLUMNS, DOCS, FORKS, SEED, columns_by, text_option};
@@ -124,6 +124,19 @@ pub(crate) fn read_ranges(alloc: Global, words: &[String]) -> Result<Words, Word
     })
 }
 
+/// `batch [--forks N]`
+pub(crate) fn read_batch(alloc: Global, words: &[String]) -> Result<Words, WordsFault>
+    ensures words { IfOk result (λ w. asked_by batch (map string_bytes words.now) ≡ Some (said w)) }
+    ensures usage { result ≡ Err WordsFault.Usage → asked_by batch (map string_bytes words.now) ≡ None }
+    ensures ranges { IfOk result IsWithin }
+{
+    let command = batch_command(alloc)?;
+    let matches = parse(command, words)?;
+    Ok(Words::Batch {
+        forks: FORKS.read(&matches).unwrap_or(FORK_LEVELS) as u8,
+    })
+}
+
 fn run_command<'a>(alloc: Global) -> Result<Command<'a>, AllocError>
     ensures { IfOk result (λ c. app_of c ≡ command_of run) }
 {
@@ -175,6 +188,12 @@ fn ranges_command<'a>(alloc: Global) -> Result<Command<'a>, AllocError>
     Command::new(alloc, "ranges")
         .arg(CACHE.arg(alloc))?
         .arg(FORKS.arg(alloc))
+}
+
+fn batch_command<'a>(alloc: Global) -> Result<Command<'a>, AllocError>
+    ensures { IfOk result (λ c. app_of c ≡ command_of batch) }
+{
+    Command::new(alloc, "batch").arg(FORKS.arg(alloc))
 }
 
 /// What the command finds in the words.

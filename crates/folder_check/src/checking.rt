@@ -114,7 +114,7 @@ fn check_commit<F: Folder>(alloc: Global, folder: &mut F, c: &Commit) -> Result<
 
 /// Looks at the segments that a commit of `D` dimensions lists: opens them all, then reads the leaves of all, and
 /// then looks through what was found.
-fn check_index<const D: usize, F: Folder>(
+pub fn check_index<const D: usize, F: Folder>(
     alloc: Global,
     folder: &mut F,
     c: &Commit,

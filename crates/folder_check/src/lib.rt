@@ -7,4 +7,4 @@ mod findings;
 mod reading;
 mod texts;
 
-pub use checking::check;
+pub use checking::{check, check_index};

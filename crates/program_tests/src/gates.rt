@@ -4,7 +4,7 @@ use crate::asserts::{same, same_at};
 use crate::runs::{check_said, empty_folder, words_of};
 use bkd_build::Gate;
 use bkd_top::{Status, run};
-use outer_io::{MemSink, MemSource};
+use outer_io::{MemFolder, MemSink, MemSource};
 use std::alloc::Global;
 use std::marker::Sync;
 use std::sync::atomic::{AtomicU64, Ordering};
@@ -16,9 +16,26 @@ const TURNS: u32 = 200_000_000;
 
 /// A gate that waits a while for the other half.
 #[derive(Drop)]
-struct Meeting {
+pub(crate) struct Meeting {
     came: [AtomicU64; 2],
     met: [AtomicU64; 2],
+}
+
+impl Meeting {
+    /// Neither half came yet.
+    pub(crate) fn new() -> Meeting {
+        Meeting {
+            came: [AtomicU64::new(0), AtomicU64::new(0)],
+            met: [AtomicU64::new(0), AtomicU64::new(0)],
+        }
+    }
+
+    /// Whether the left half saw the right one, and the right the left.
+    pub(crate) fn met(&self) -> (u64, u64) {
+        let left = self.met[0].load(Ordering::SeqCst);
+        let right = self.met[1].load(Ordering::SeqCst);
+        (left, right)
+    }
 }
 
 impl Gate for Meeting {
@@ -36,8 +53,17 @@ impl Gate for Meeting {
 
 /// A gate that counts how often it is passed.
 #[derive(Drop)]
-struct Counting {
-    passes: AtomicU64,
+pub(crate) struct Counting {
+    pub(crate) passes: AtomicU64,
+}
+
+impl Counting {
+    /// It was not passed yet.
+    pub(crate) fn new() -> Counting {
+        Counting {
+            passes: AtomicU64::new(0),
+        }
+    }
 }
 
 impl Gate for Counting {
@@ -53,24 +79,24 @@ const ONE_BUILD: &[u8] = b"create 1 leaf 2\nadd 5\nadd 7\nadd 7\nadd 7\nadd 7\nf
 const THREE_BUILDS: &[u8] =
     b"create 1 leaf 2\nadd 5\nadd 7\nadd 7\nadd 7\nadd 7\nflush\nadd 9\nflush\nmerge\n";
 
-/// Runs a script as the program does with these words, and this gate.
-fn run_gated<R: Threads + Sync, G: Gate>(
+/// Runs the program with these words over a folder, and this gate.
+pub(crate) fn run_gated<R: Threads + Sync, G: Gate>(
     rt: &R,
     alloc: Global,
     words: &[&str],
     script: &[u8],
+    folder: &mut MemFolder,
     gate: &G,
 ) -> Result<Status, Fail> {
     let words = words_of(alloc, words)?;
     let mut input = MemSource::new(script.to_vec(alloc)?, Vec::new(alloc));
-    let mut folder = empty_folder(alloc);
     let mut output = MemSink::new(alloc, 1000, Vec::new(alloc))?;
     Ok(run(
         rt,
         alloc,
         words.as_slice(),
         &mut input,
-        &mut folder,
+        folder,
         &mut output,
         gate,
     ))
@@ -78,21 +104,17 @@ fn run_gated<R: Threads + Sync, G: Gate>(
 
 #[test]
 fn halves_run_beside_each_other(rt: HostRuntime) -> Result<(), Fail> {
-    let gate = Meeting {
-        came: [AtomicU64::new(0), AtomicU64::new(0)],
-        met: [AtomicU64::new(0), AtomicU64::new(0)],
-    };
+    let gate = Meeting::new();
     let status = run_gated(
         &rt,
         rt.alloc(),
         &[".", "run", "--forks", "1"],
         ONE_BUILD,
+        &mut empty_folder(rt.alloc()),
         &gate,
     )?;
     check_said(&rt, rt.alloc(), &status, "")?;
-    let left = gate.met[0].load(Ordering::SeqCst);
-    let right = gate.met[1].load(Ordering::SeqCst);
-    same(&rt, (left, right), (1, 1));
+    same(&rt, gate.met(), (1, 1));
     Ok(())
 }
 
@@ -108,10 +130,9 @@ const PASSES: [(&[&str], u64); 5] = [
 #[test]
 fn passes_by_levels_of_forks(rt: HostRuntime) -> Result<(), Fail> {
     for (words, expected) in PASSES {
-        let gate = Counting {
-            passes: AtomicU64::new(0),
-        };
-        let status = run_gated(&rt, rt.alloc(), words, THREE_BUILDS, &gate)?;
+        let gate = Counting::new();
+        let mut folder = empty_folder(rt.alloc());
+        let status = run_gated(&rt, rt.alloc(), words, THREE_BUILDS, &mut folder, &gate)?;
         check_said(&rt, rt.alloc(), &status, "")?;
         let passes = gate.passes.load(Ordering::SeqCst);
         same_at(&rt, passes, expected, &words);

@@ -11,6 +11,8 @@ mod asked_calls;
 #[cfg(test)]
 mod asserts;
 #[cfg(test)]
+mod batching;
+#[cfg(test)]
 mod checked_entries;
 #[cfg(test)]
 mod checked_folders;

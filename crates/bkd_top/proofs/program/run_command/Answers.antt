@@ -3,7 +3,7 @@ use Rattle.std.proofs.Common.{IsTrue, refl, sym, ap, subst, inl, inr}
 use Rattle.command_words.specs.Commands.{Asked, said}
 use Rattle.bkd_top.specs.Commands.{is_session, reads_input, reads_whole}
 use Rattle.run_status.specs.Ends.{DoesNothing}
-use Rattle.bkd_top.proofs.Commanding.{called, check_ends, count_ends, explain_ends, generate_ends, is_so, left_by, load_ends, ranges_ends, run_ends}
+use Rattle.bkd_top.proofs.Commanding.{batch_ends, called, check_ends, count_ends, explain_ends, generate_ends, is_so, left_by, load_ends, ranges_ends, run_ends}
 use Rattle.bkd_top.proofs.Commanding.{session_asked, taken_by}
 use Rattle.script_run.proofs.Starting.{canonical_still}
 use Rattle.bkd_top.proofs.program.run_command.Goals as goal
@@ -337,3 +337,40 @@ returns-in-Ranges-clause-leaves g c = λ told.
       now = g.F.Pages.reads c.run_ranges.new.folder;
     })
     c.run_ranges.result (ap said c.in-Ranges.is) (λ source. c.run_ranges.ensures.costs source told)
+
+pub returns-in-Batch-clause-ends : goal.returns-in-Batch-clause-ends
+returns-in-Batch-clause-ends g c = λ told state h source.
+    batch_ends (IsTrue g.K.Sink.told) c.args.words
+    (record { state = state; files = g.F.Pages.files c.args.folder.now; input = g.S.Source.left c.args.input.now; written = g.K.Sink.written c.args.out.now })
+    (g.F.Pages.files c.run_batch.new.folder) (g.K.Sink.written c.run_batch.new.out) c.run_batch.result
+    _ (ap said c.in-Batch.is) (c.run_batch.ensures.ends (source (ap (λ (a : Asked). reads_input a) (ap said c.in-Batch.is))) told state h)
+
+pub returns-in-Batch-clause-canon : goal.returns-in-Batch-clause-canon
+returns-in-Batch-clause-canon g c = λ told state h a. canonical_still _ _ (c.run_batch.ensures.files told)
+
+pub returns-in-Batch-clause-unread : goal.returns-in-Batch-clause-unread
+returns-in-Batch-clause-unread g c = is_so (λ a. reads_input a) c.args.words _ (ap said c.in-Batch.is) refl
+
+pub returns-in-Batch-clause-large : goal.returns-in-Batch-clause-large
+returns-in-Batch-clause-large g c = λ e. ap (λ (a : Asked). reads_whole a) (ap said c.in-Batch.is)
+
+pub returns-in-Batch-clause-untouched : goal.returns-in-Batch-clause-untouched
+returns-in-Batch-clause-untouched g c = λ other. c.run_batch.ensures.untouched
+
+pub returns-in-Batch-clause-never_usage : goal.returns-in-Batch-clause-never_usage
+returns-in-Batch-clause-never_usage g c = λ e. c.run_batch.ensures.never_usage e
+
+pub returns-in-Batch-clause-input : goal.returns-in-Batch-clause-input
+returns-in-Batch-clause-input g c = λ told.
+    taken_by c.args.words _ (g.S.Source.left c.args.input.now) (g.S.Source.left c.run_batch.new.input) c.run_batch.result
+    (ap said c.in-Batch.is) (c.run_batch.ensures.input told)
+
+pub returns-in-Batch-clause-damage : goal.returns-in-Batch-clause-damage
+returns-in-Batch-clause-damage g c = record { never = c.run_batch.ensures.whole; evident = c.run_batch.ensures.evident }
+
+pub returns-in-Batch-clause-leaves : goal.returns-in-Batch-clause-leaves
+returns-in-Batch-clause-leaves g c = λ told.
+    left_by c.args.words _
+    (called g.S.Source.told g.K.Sink.told (g.S.Source.left c.args.input.now) (g.F.Pages.files c.args.folder.now) (g.F.Pages.files c.run_batch.new.folder)
+    (g.K.Sink.written c.args.out.now) (g.K.Sink.written c.run_batch.new.out) (g.F.Pages.reads c.args.folder.now) (g.F.Pages.reads c.run_batch.new.folder))
+    c.run_batch.result (ap said c.in-Batch.is) (record { files = c.run_batch.ensures.files told; reads = c.run_batch.ensures.reads told })

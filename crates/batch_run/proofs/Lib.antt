@@ -1,0 +1,6 @@
+mod PartsRead
+mod CopiedFiles
+mod Held
+mod Whole
+mod Replied
+mod Sizes

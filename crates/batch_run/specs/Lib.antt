@@ -1,0 +1,4 @@
+pub mod Queries
+pub mod Copies
+pub mod Held
+pub mod Residents
