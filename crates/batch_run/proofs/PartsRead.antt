@@ -1,6 +1,6 @@
 -- What reads of 4,096 bytes say of a file.
-use Rattle.std.proofs.Common.{◌≡◌, ◌≤◌, ℕ, ◌+◌, ◌*◌, List, ◌++◌, Option, length, min, take, drop, sym, ap, ◌∙◌, arith, length-take}
-use Rattle.std.proofs.lemmas.List.{take_all, take_min}
+use Rattle.std.proofs.Common.{◌≡◌, ℕ, ◌+◌, ◌*◌, List, ◌++◌, Option, length, min, take, drop, sym, ap, ◌∙◌, arith, length-take}
+use Rattle.std.proofs.lemmas.List.{take_min}
 use Rattle.std.proofs.Math.Seq.{take-add, take-append_seam}
 use Rattle.outer_io.specs.Files.{bytes_of, IsReadAt}
 

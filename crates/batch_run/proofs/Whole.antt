@@ -9,9 +9,7 @@ use Rattle.page_cache.proofs.Damages.{fault_weaker}
 use Rattle.commit_list.specs.Commits.{CommitData}
 use Rattle.segment_file.specs.Heads.{HasRanges}
 use Rattle.stored_index.specs.Stored.{HoldsIndex, IsUndefined, index_of}
-use Rattle.index_opening.specs.Evidence.{IsEvident, IsTwice, ShowsItself}
-use Rattle.index_opening.proofs.Evident.{evident_at}
-use Rattle.std.proofs.Common.{◌≡◌, sym}
+use Rattle.index_opening.specs.Evidence.{IsEvident, ShowsItself}
 
 pub held_whole : (files : Files) (c : CommitData) (docs : List Document) (fault : PageFault) → HoldsIndex files c docs
     → FaultShows (λ _. IsUndefined files) fault → FaultShows (λ _. ⊥) fault

@@ -195,8 +195,8 @@ ReadsFew files lines old new =
 
 -- ---- the program
 
--- Explaining, checking, counting and answering a batch leave what is stored. Of a script of ranges it is said over points
--- that are ranges.
+-- Explaining, checking, counting and answering a batch leave what is stored. Of a script of ranges it is said over
+-- points that are ranges.
 abbrev pub EndsAsked : (told : Type 0) → Asked → Before → Files → List ℕ → Status → Type 0
 EndsAsked told (Run cache forks) b files new s =
     Ends (meaning language.Points) told (start b.state (lines_of b.input) b.written) files new s

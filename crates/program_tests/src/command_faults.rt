@@ -1,4 +1,4 @@
-//! Loading, explaining, generating and checking where a call on the folder or a stream fails: one table.
+//! Commands that are done as a whole, and queries, where a call on the folder or a stream fails: one table.
 
 use crate::asserts::{holds, holds_at, same};
 use crate::fixtures::{called, faulty};
@@ -80,7 +80,23 @@ const CHECKED: Row = Row {
     after: "hits 1\n1\n",
 };
 
-const ROWS: [&Row; 5] = [&FIRST_LOAD, &SECOND_LOAD, &GENERATED, &EXPLAINED, &CHECKED];
+const BATCHED: Row = Row {
+    script: "create 1\nadd 1\nadd 2\nflush\ndelete 0\n",
+    words: &[".", "batch"],
+    input: "box 0 9\nnearest 1 1\n",
+    text: "hits 1\n1\nnear 1\n1 1\n",
+    before: "hits 1\n1\n",
+    after: "hits 1\n1\n",
+};
+
+const ROWS: [&Row; 6] = [
+    &FIRST_LOAD,
+    &SECOND_LOAD,
+    &GENERATED,
+    &EXPLAINED,
+    &CHECKED,
+    &BATCHED,
+];
 
 /// Each call on the folder fails in turn, or the program stops before it. Nothing of a command that is done at once
 /// goes out then, and of queries what is told of the first ones.
@@ -134,6 +150,11 @@ fn checking_fails(rt: HostRuntime) -> Result<(), Fail> {
     fails_in_turn(&rt, rt.alloc(), &CHECKED)
 }
 
+#[test]
+fn a_batch_fails(rt: HostRuntime) -> Result<(), Fail> {
+    fails_in_turn(&rt, rt.alloc(), &BATCHED)
+}
+
 /// Whether a text is nothing, or what is told of the first query.
 fn is_begun(row: &Row, text: &str) -> bool {
     text.is_empty() || row.text.starts_with("tested") && text == "tested 0 touched 1 hits 1\n"
@@ -143,7 +164,7 @@ fn is_begun(row: &Row, text: &str) -> bool {
 #[test]
 fn an_output_without_room(rt: HostRuntime) -> Result<(), Fail> {
     let alloc = rt.alloc();
-    for row in [&FIRST_LOAD, &EXPLAINED] {
+    for row in [&FIRST_LOAD, &EXPLAINED, &BATCHED] {
         for room in 0..=row.text.len() {
             let mut folder = MemFolder::new(alloc, Vec::new(alloc));
             called(&rt, alloc, &[".", "run"], row.script, &mut folder)?;

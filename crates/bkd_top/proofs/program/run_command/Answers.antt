@@ -107,24 +107,6 @@ returns-in-Session-clause-large g c = λ e. absurd (c.run_session.ensures.never 
 pub returns-in-Session-clause-untouched : goal.returns-in-Session-clause-untouched
 returns-in-Session-clause-untouched g c = is_so is_session c.args.words _ (ap said c.in-Session.is) refl
 
-pub returns-in-Run-clause-never_usage : goal.returns-in-Run-clause-never_usage
-returns-in-Run-clause-never_usage g c = λ e. c.run_script.ensures.never_usage e
-
-pub returns-in-Load-clause-never_usage : goal.returns-in-Load-clause-never_usage
-returns-in-Load-clause-never_usage g c = λ e. c.run_load.ensures.never_usage e
-
-pub returns-in-Explain-clause-never_usage : goal.returns-in-Explain-clause-never_usage
-returns-in-Explain-clause-never_usage g c = λ e. c.run_explain.ensures.never_usage e
-
-pub returns-in-Session-clause-never_usage : goal.returns-in-Session-clause-never_usage
-returns-in-Session-clause-never_usage g c = λ e. c.run_session.ensures.never (inl e)
-
-pub returns-in-Generate-clause-never_usage : goal.returns-in-Generate-clause-never_usage
-returns-in-Generate-clause-never_usage g c = λ e. c.run_generate.ensures.done (subst DoesNothing (sym e) tt)
-
-pub returns-in-Check-clause-never_usage : goal.returns-in-Check-clause-never_usage
-returns-in-Check-clause-never_usage g c = λ e. c.run_check.ensures.done (subst DoesNothing (sym e) tt)
-
 pub returns-in-Run-clause-input : goal.returns-in-Run-clause-input
 returns-in-Run-clause-input g c = λ told.
     taken_by c.args.words _ (g.S.Source.left c.args.input.now) (g.S.Source.left c.run_script.new.input) c.run_script.result (ap said c.in-Run.is) (c.run_script.ensures.input told)
@@ -152,81 +134,36 @@ returns-in-Check-clause-input g c = λ told.
 pub returns-in-Run-clause-leaves : goal.returns-in-Run-clause-leaves
 returns-in-Run-clause-leaves g c = λ told.
     left_by c.args.words _
-    (record {
-      source = g.S.Source.told;
-      sink = g.K.Sink.told;
-      input = g.S.Source.left c.args.input.now;
-      old = g.F.Pages.files c.args.folder.now;
-      new = g.F.Pages.files c.run_script.new.folder;
-      written = g.K.Sink.written c.args.out.now;
-      written_now = g.K.Sink.written c.run_script.new.out;
-      before = g.F.Pages.reads c.args.folder.now;
-      now = g.F.Pages.reads c.run_script.new.folder;
-    })
+    (called g.S.Source.told g.K.Sink.told (g.S.Source.left c.args.input.now) (g.F.Pages.files c.args.folder.now) (g.F.Pages.files c.run_script.new.folder)
+    (g.K.Sink.written c.args.out.now) (g.K.Sink.written c.run_script.new.out) (g.F.Pages.reads c.args.folder.now) (g.F.Pages.reads c.run_script.new.folder))
     c.run_script.result (ap said c.in-Run.is) (λ source. c.run_script.ensures.costs source told)
 
 pub returns-in-Session-clause-leaves : goal.returns-in-Session-clause-leaves
 returns-in-Session-clause-leaves g c = λ told.
     left_by c.args.words _
-    (record {
-      source = g.S.Source.told;
-      sink = g.K.Sink.told;
-      input = g.S.Source.left c.args.input.now;
-      old = g.F.Pages.files c.args.folder.now;
-      new = g.F.Pages.files c.run_session.new.folder;
-      written = g.K.Sink.written c.args.out.now;
-      written_now = g.K.Sink.written c.run_session.new.out;
-      before = g.F.Pages.reads c.args.folder.now;
-      now = g.F.Pages.reads c.run_session.new.folder;
-    })
+    (called g.S.Source.told g.K.Sink.told (g.S.Source.left c.args.input.now) (g.F.Pages.files c.args.folder.now) (g.F.Pages.files c.run_session.new.folder)
+    (g.K.Sink.written c.args.out.now) (g.K.Sink.written c.run_session.new.out) (g.F.Pages.reads c.args.folder.now) (g.F.Pages.reads c.run_session.new.folder))
     c.run_session.result (ap said c.in-Session.is) (λ source. c.run_session.ensures.costs source told)
 
 pub returns-in-Explain-clause-leaves : goal.returns-in-Explain-clause-leaves
 returns-in-Explain-clause-leaves g c = λ told.
     left_by c.args.words _
-    (record {
-      source = g.S.Source.told;
-      sink = g.K.Sink.told;
-      input = g.S.Source.left c.args.input.now;
-      old = g.F.Pages.files c.args.folder.now;
-      new = g.F.Pages.files c.run_explain.new.folder;
-      written = g.K.Sink.written c.args.out.now;
-      written_now = g.K.Sink.written c.run_explain.new.out;
-      before = g.F.Pages.reads c.args.folder.now;
-      now = g.F.Pages.reads c.run_explain.new.folder;
-    })
+    (called g.S.Source.told g.K.Sink.told (g.S.Source.left c.args.input.now) (g.F.Pages.files c.args.folder.now) (g.F.Pages.files c.run_explain.new.folder)
+    (g.K.Sink.written c.args.out.now) (g.K.Sink.written c.run_explain.new.out) (g.F.Pages.reads c.args.folder.now) (g.F.Pages.reads c.run_explain.new.folder))
     c.run_explain.result (ap said c.in-Explain.is) (record { files = c.run_explain.ensures.files told; reads = λ source. c.run_explain.ensures.reads source told })
 
 pub returns-in-Load-clause-leaves : goal.returns-in-Load-clause-leaves
 returns-in-Load-clause-leaves g c = λ told.
     left_by c.args.words _
-    (record {
-      source = g.S.Source.told;
-      sink = g.K.Sink.told;
-      input = g.S.Source.left c.args.input.now;
-      old = g.F.Pages.files c.args.folder.now;
-      new = g.F.Pages.files c.run_load.new.folder;
-      written = g.K.Sink.written c.args.out.now;
-      written_now = g.K.Sink.written c.run_load.new.out;
-      before = g.F.Pages.reads c.args.folder.now;
-      now = g.F.Pages.reads c.run_load.new.folder;
-    })
+    (called g.S.Source.told g.K.Sink.told (g.S.Source.left c.args.input.now) (g.F.Pages.files c.args.folder.now) (g.F.Pages.files c.run_load.new.folder)
+    (g.K.Sink.written c.args.out.now) (g.K.Sink.written c.run_load.new.out) (g.F.Pages.reads c.args.folder.now) (g.F.Pages.reads c.run_load.new.folder))
     c.run_load.result (ap said c.in-Load.is) (c.run_load.ensures.whole told)
 
 pub returns-in-Generate-clause-leaves : goal.returns-in-Generate-clause-leaves
 returns-in-Generate-clause-leaves g c = λ told.
     left_by c.args.words _
-    (record {
-      source = g.S.Source.told;
-      sink = g.K.Sink.told;
-      input = g.S.Source.left c.args.input.now;
-      old = g.F.Pages.files c.args.folder.now;
-      new = g.F.Pages.files c.run_generate.new.folder;
-      written = g.K.Sink.written c.args.out.now;
-      written_now = g.K.Sink.written c.run_generate.new.out;
-      before = g.F.Pages.reads c.args.folder.now;
-      now = g.F.Pages.reads c.run_generate.new.folder;
-    })
+    (called g.S.Source.told g.K.Sink.told (g.S.Source.left c.args.input.now) (g.F.Pages.files c.args.folder.now) (g.F.Pages.files c.run_generate.new.folder)
+    (g.K.Sink.written c.args.out.now) (g.K.Sink.written c.run_generate.new.out) (g.F.Pages.reads c.args.folder.now) (g.F.Pages.reads c.run_generate.new.folder))
     c.run_generate.result (ap said c.in-Generate.is) (c.run_generate.ensures.whole told)
 
 pub returns-in-Check-clause-leaves : goal.returns-in-Check-clause-leaves
@@ -278,9 +215,6 @@ returns-in-Count-clause-large g c = λ e. ap (λ (a : Asked). reads_whole a) (ap
 pub returns-in-Count-clause-untouched : goal.returns-in-Count-clause-untouched
 returns-in-Count-clause-untouched g c = λ other. c.run_count.ensures.untouched
 
-pub returns-in-Count-clause-never_usage : goal.returns-in-Count-clause-never_usage
-returns-in-Count-clause-never_usage g c = λ e. c.run_count.ensures.never_usage e
-
 pub returns-in-Count-clause-input : goal.returns-in-Count-clause-input
 returns-in-Count-clause-input g c = λ told.
     taken_by c.args.words _ (g.S.Source.left c.args.input.now) (g.S.Source.left c.run_count.new.input) c.run_count.result
@@ -315,27 +249,16 @@ returns-in-Ranges-clause-large g c = λ e. ap (λ (a : Asked). reads_whole a) (a
 pub returns-in-Ranges-clause-untouched : goal.returns-in-Ranges-clause-untouched
 returns-in-Ranges-clause-untouched g c = λ other. c.run_ranges.ensures.untouched
 
-pub returns-in-Ranges-clause-never_usage : goal.returns-in-Ranges-clause-never_usage
-returns-in-Ranges-clause-never_usage g c = λ e. c.run_ranges.ensures.never_usage e
-
 pub returns-in-Ranges-clause-input : goal.returns-in-Ranges-clause-input
 returns-in-Ranges-clause-input g c = λ told.
-    taken_by c.args.words _ (g.S.Source.left c.args.input.now) (g.S.Source.left c.run_ranges.new.input) c.run_ranges.result (ap said c.in-Ranges.is) (c.run_ranges.ensures.input told)
+    taken_by c.args.words _ (g.S.Source.left c.args.input.now) (g.S.Source.left c.run_ranges.new.input)
+    c.run_ranges.result (ap said c.in-Ranges.is) (c.run_ranges.ensures.input told)
 
 pub returns-in-Ranges-clause-leaves : goal.returns-in-Ranges-clause-leaves
 returns-in-Ranges-clause-leaves g c = λ told.
     left_by c.args.words _
-    (record {
-      source = g.S.Source.told;
-      sink = g.K.Sink.told;
-      input = g.S.Source.left c.args.input.now;
-      old = g.F.Pages.files c.args.folder.now;
-      new = g.F.Pages.files c.run_ranges.new.folder;
-      written = g.K.Sink.written c.args.out.now;
-      written_now = g.K.Sink.written c.run_ranges.new.out;
-      before = g.F.Pages.reads c.args.folder.now;
-      now = g.F.Pages.reads c.run_ranges.new.folder;
-    })
+    (called g.S.Source.told g.K.Sink.told (g.S.Source.left c.args.input.now) (g.F.Pages.files c.args.folder.now) (g.F.Pages.files c.run_ranges.new.folder)
+    (g.K.Sink.written c.args.out.now) (g.K.Sink.written c.run_ranges.new.out) (g.F.Pages.reads c.args.folder.now) (g.F.Pages.reads c.run_ranges.new.folder))
     c.run_ranges.result (ap said c.in-Ranges.is) (λ source. c.run_ranges.ensures.costs source told)
 
 pub returns-in-Batch-clause-ends : goal.returns-in-Batch-clause-ends
@@ -356,9 +279,6 @@ returns-in-Batch-clause-large g c = λ e. ap (λ (a : Asked). reads_whole a) (ap
 
 pub returns-in-Batch-clause-untouched : goal.returns-in-Batch-clause-untouched
 returns-in-Batch-clause-untouched g c = λ other. c.run_batch.ensures.untouched
-
-pub returns-in-Batch-clause-never_usage : goal.returns-in-Batch-clause-never_usage
-returns-in-Batch-clause-never_usage g c = λ e. c.run_batch.ensures.never_usage e
 
 pub returns-in-Batch-clause-input : goal.returns-in-Batch-clause-input
 returns-in-Batch-clause-input g c = λ told.
