@@ -156,8 +156,8 @@ impl Story {
             .iter()
             .filter(|(_, place)| {
                 is_in(corners, &place[..], dims)
-                    && is_step(place[0], corners.lo[0], at.0, steps.0)
-                    && is_step(place[last], corners.lo[last], at.1, steps.1)
+                    && lies(corners, &place[..], 0, at.0, steps.0)
+                    && lies(corners, &place[..], last, at.1, steps.1)
             })
             .count()
     }
@@ -180,6 +180,14 @@ fn is_in(corners: &Corners, place: &[u8], dims: usize) -> bool {
         .zip(place.iter())
         .take(dims);
     ends.all(|((lo, hi), at)| lo <= at && at <= hi)
+}
+
+/// Whether a point lies in the step with this number of a dimension.
+fn lies(corners: &Corners, place: &[u8], dimension: usize, number: u8, step: u8) -> bool {
+    match (place.get(dimension), corners.lo[..].get(dimension)) {
+        (Some(at), Some(from)) => is_step(*at, *from, number, step),
+        _ => false,
+    }
 }
 
 /// Whether a coordinate lies in the step with this number, of which step 0 begins at `from`.
