@@ -9,7 +9,7 @@ use Rattle.script_lang.specs.Requests as asks
 use Rattle.script_lang.specs.declared.faults.Refusal.TheVariants as why
 use Rattle.index_model.specs.State.{Index, State}
 use Rattle.index_model.specs.Step.{Outcome, Done, Refused, step_on}
-use Rattle.run_status.specs.Told.{Told, silence, refusal}
+use Rattle.run_status.specs.Told.{TellsAll, Told, silence, refusal}
 
 -- the text of an answer
 abbrev pub text_of : Outcome → List ℕ
@@ -50,3 +50,7 @@ told_of state line (Fails fault) = refusal (line_fault_text line fault)
 -- of a line with this number
 abbrev pub TellsBatch : State → (line : ℕ) → List ℕ → Told → Type 0
 TellsBatch state line bytes t = t ≡ told_of state line (read (option_map (λ i. i.dims) state) bytes)
+
+-- the text of all lines over a state, and how many of them are refused
+abbrev pub IsBatchText : State → List (List ℕ) → (text : List ℕ) (refused : ℕ) → Type 0
+IsBatchText state lines text refused = TellsAll (Unit {0}) (TellsBatch state) 1 lines [] text refused

@@ -1,6 +1,6 @@
 //! The command `batch`.
 
-ghost use Rattle.std.specs.Prelude.{◌≡◌, ◌≤◌, ◌+◌, ◌^◌, ℕ, Bool, List, [], length, sum_by, IsTrue, IfOk, OnOk, IsOk};
+ghost use Rattle.std.specs.Prelude.{◌≡◌, ◌≤◌, ◌^◌, ℕ, Bool, List, length, IsTrue, IfOk, OnOk, IsOk};
 ghost use Rattle.outer_io.specs.Faults.{Rose};
 ghost use Rattle.outer_io.specs.Files.{Files};
 ghost use Rattle.page_cache.specs.Causes.{HasPageCause};
@@ -11,9 +11,8 @@ ghost use Rattle.stored_index.specs.Stored.{IsStored};
 ghost use Rattle.index_opening.specs.Evidence.{IsEvident};
 ghost use Rattle.run_status.specs.Causes.{HasCauses, ReadsInput};
 ghost use Rattle.run_status.specs.Ends.{DoesNothing, IsAnswer, IsDamaged, OnStatusDamage};
-ghost use Rattle.run_status.specs.Told.{TellsAll};
-ghost use Rattle.batch_run.specs.Copies.{IsCommitIn, copied_pages};
-ghost use Rattle.batch_queries.specs.Batched.{TellsBatch};
+ghost use Rattle.batch_run.specs.Copies.{IsCommitIn, ReadsListed};
+ghost use Rattle.batch_queries.specs.Batched.{IsBatchText, TellsBatch};
 ghost use Rattle.batch_queries.specs.Ends.{EndsBatch, LeavesNoText, ReadsOnce, StoresSome};
 
 use crate::asking::collect;
@@ -78,7 +77,7 @@ fn tell<K: Sink>(out: &mut K, done: Result<Text, PageFault>) -> Status
     ensures answered { IsAnswer result → IsOk done }
     ensures unwritten { LeavesNoText result → out.new ≡ out.old }
     ensures ends { (state : State) (lines : List (List ℕ)) → NotDamaged done
-        → IfOk done (λ t. TellsAll (Unit {0}) (TellsBatch state) 1 lines [] t.bytes.items t.refused)
+        → IfOk done (λ t. IsBatchText state lines t.bytes.items t.refused)
         → EndsBatch (IsTrue K.told) (TellsBatch state) lines (K.written out.old) (K.written out.new) result }
     ensures damaged { NotDamaged done → IsDamaged result → ⊥ }
     ensures evident { (told : Bool) (files : Files) → OnDamage done (IsEvident (IsTrue told) files)
@@ -103,7 +102,7 @@ fn answer<F: Folder, R: Threads + Sync, G: Gate>(
 ) -> Result<Text, PageFault>
     requires { length lines.now ≤ 2 ^ 32 }
     ensures text { IsTrue F.told → (state : State) → IsStored (F.files folder.old) state
-        → IfOk result (λ t. TellsAll (Unit {0}) (TellsBatch state) 1 (lines_of lines.now) [] t.bytes.items t.refused) }
+        → IfOk result (λ t. IsBatchText state (lines_of lines.now) t.bytes.items t.refused) }
     ensures stored { IsTrue F.told → IfOk result (λ _. StoresSome (F.files folder.old)) }
     ensures files { IsTrue F.told → F.files folder.new ≡ F.files folder.old }
     ensures reads { IsTrue F.told
@@ -131,12 +130,12 @@ fn answer_stored<F: Folder, R: Threads + Sync, G: Gate>(
     requires { length lines.now ≤ 2 ^ 32 }
     ensures text { IsTrue F.told → IsCommitIn (F.files folder.old) commit.now
         → (state : State) → IsStored (F.files folder.old) state
-        → IfOk result (λ t. TellsAll (Unit {0}) (TellsBatch state) 1 (lines_of lines.now) [] t.bytes.items t.refused) }
+        → IfOk result (λ t. IsBatchText state (lines_of lines.now) t.bytes.items t.refused) }
     ensures stored { IsTrue F.told → IsCommitIn (F.files folder.old) commit.now
         → IfOk result (λ _. StoresSome (F.files folder.old)) }
     ensures files { IsTrue F.told → F.files folder.new ≡ F.files folder.old }
     ensures reads { IsTrue F.told → OnOk result
-        (F.reads folder.new ≤ F.reads folder.old + sum_by (copied_pages (F.files folder.old)) commit.now.listed) }
+        (ReadsListed (F.files folder.old) commit.now (F.reads folder.old) (F.reads folder.new)) }
     ensures cause { HasPageCause (F.faults folder.old) (F.faults folder.new) result }
     ensures whole { IsTrue F.told → IsCommitIn (F.files folder.old) commit.now
         → (state : State) → IsStored (F.files folder.old) state → NotDamaged result }
@@ -171,12 +170,12 @@ fn answer_over<const D: usize, F: Folder, R: Threads + Sync, G: Gate>(
     requires lines { length lines.now ≤ 2 ^ 32 }
     ensures text { IsTrue F.told → IsCommitIn (F.files folder.old) commit.now
         → (state : State) → IsStored (F.files folder.old) state
-        → IfOk result (λ t. TellsAll (Unit {0}) (TellsBatch state) 1 (lines_of lines.now) [] t.bytes.items t.refused) }
+        → IfOk result (λ t. IsBatchText state (lines_of lines.now) t.bytes.items t.refused) }
     ensures stored { IsTrue F.told → IsCommitIn (F.files folder.old) commit.now
         → IfOk result (λ _. StoresSome (F.files folder.old)) }
     ensures files { IsTrue F.told → F.files folder.new ≡ F.files folder.old }
     ensures reads { IsTrue F.told → OnOk result
-        (F.reads folder.new ≤ F.reads folder.old + sum_by (copied_pages (F.files folder.old)) commit.now.listed) }
+        (ReadsListed (F.files folder.old) commit.now (F.reads folder.old) (F.reads folder.new)) }
     ensures cause { HasPageCause (F.faults folder.old) (F.faults folder.new) result }
     ensures whole { IsTrue F.told → IsCommitIn (F.files folder.old) commit.now
         → (state : State) → IsStored (F.files folder.old) state → NotDamaged result }

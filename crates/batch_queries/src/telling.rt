@@ -1,6 +1,6 @@
 //! The text of a batch.
 
-ghost use Rattle.std.specs.Prelude.{◌≡◌, ◌≤◌, ◌^◌, ◌++◌, List, [], None, Some, cond, false, true, length, map};
+ghost use Rattle.std.specs.Prelude.{◌≡◌, ◌≤◌, ◌^◌, ◌++◌, List, None, Some, cond, false, true, length, map};
 ghost use Rattle.std.specs.Prelude.{IfOk, OnOk};
 ghost use Rattle.std.specs.List.{flat_map};
 ghost use Rattle.script_lang.specs.Lines.{lines_of};
@@ -8,9 +8,9 @@ ghost use Rattle.script_lang.specs.Replies.{line_fault_text, refused_text};
 ghost use Rattle.script_lang.specs.Requests.{Request};
 ghost use Rattle.script_lang.specs.Seen.{request_of as command_request};
 ghost use Rattle.index_model.specs.State.{Index};
-ghost use Rattle.run_status.specs.Told.{IsTold, TellsAll};
+ghost use Rattle.run_status.specs.Told.{IsTold};
 ghost use Rattle.batch_queries.specs.Asked.{asked_in, now_of, text_of_reply};
-ghost use Rattle.batch_queries.specs.Batched.{TellsBatch, reply_text, told_on};
+ghost use Rattle.batch_queries.specs.Batched.{IsBatchText, TellsBatch, reply_text, told_on};
 
 use crate::Memory;
 use batch_run::Reply;
@@ -49,8 +49,7 @@ pub(crate) fn tell_all<const D: usize>(
     requires each { length replies.now ≡ length (flat_map (asked_in D) (lines_of lines.now)) }
     ensures { (i : Index) → i.dims ≡ D
         → map text_of_reply replies.now ≡ map (reply_text i) (flat_map (asked_in D) (lines_of lines.now))
-        → IfOk result (λ t. TellsAll (Unit {0}) (TellsBatch (Some i)) 1 (lines_of lines.now)
-        [] t.bytes.items t.refused) }
+        → IfOk result (λ t. IsBatchText (Some i) (lines_of lines.now) t.bytes.items t.refused) }
 {
     let mut bytes = Vec::new(alloc);
     let mut rest = lines;
@@ -163,8 +162,7 @@ fn refuse(number: u64, why: Refusal, text: &mut Vec<u8>) -> Result<Line, Memory>
 /// The text of lines where no index is there.
 pub(crate) fn tell_bare(alloc: Global, lines: &[u8]) -> Result<Text, Memory>
     requires { length lines.now ≤ 2 ^ 32 }
-    ensures { IfOk result (λ t. TellsAll (Unit {0}) (TellsBatch None) 1 (lines_of lines.now)
-        [] t.bytes.items t.refused) }
+    ensures { IfOk result (λ t. IsBatchText None (lines_of lines.now) t.bytes.items t.refused) }
 {
     let mut bytes = Vec::new(alloc);
     let mut rest = lines;

@@ -1,5 +1,5 @@
 -- What a copy of the files that a commit lists has of them.
-use Rattle.std.specs.Prelude.{ℕ, ◌≡◌, ◌+◌, ◌/◌, ◌%◌, List, length, min}
+use Rattle.std.specs.Prelude.{ℕ, ◌≡◌, ◌≤◌, ◌+◌, ◌/◌, ◌%◌, List, length, min, sum_by}
 use Rattle.outer_io.specs.declared.file_name.FileName.TheVariants.{Commit, Live, Segment}
 use Rattle.outer_io.specs.Files.{Files, bytes_of}
 use Rattle.commit_list.specs.declared.listed.Listed.{Listed}
@@ -23,3 +23,7 @@ pages_in bytes = length bytes / 4096 + min 1 (length bytes % 4096)
 abbrev pub copied_pages : Files → Listed → ℕ
 copied_pages files s =
     pages_in (bytes_of (files (Segment s.segment))) + pages_in (bytes_of (files (Live s.segment s.generation)))
+
+-- the files that a commit lists were read once at most
+abbrev pub ReadsListed : Files → CommitData → (before now : ℕ) → Type 0
+ReadsListed files c before now = now ≤ before + sum_by (copied_pages files) c.listed

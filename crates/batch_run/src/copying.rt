@@ -1,6 +1,6 @@
 //! Copying the files of an index into memory.
 
-ghost use Rattle.std.specs.Prelude.{◌≡◌, ◌<◌, ◌≤◌, ◌+◌, ◌*◌, ◌^◌, ◌++◌, All, sum_by, take, drop};
+ghost use Rattle.std.specs.Prelude.{◌≡◌, ◌<◌, ◌≤◌, ◌+◌, ◌*◌, ◌^◌, ◌++◌, All, take, drop};
 ghost use Rattle.std.specs.Prelude.{IsTrue, IfOk, OnOk};
 ghost use Rattle.outer_io.specs.Files.{bytes_of, SameBut};
 ghost use Rattle.outer_io.specs.MemFolder.{folder_files};
@@ -8,7 +8,7 @@ ghost use Rattle.outer_io.specs.declared.file_name.FileName.TheVariants.{Commit 
 ghost use Rattle.page_cache.specs.Causes.{HasPageCause};
 ghost use Rattle.page_cache.specs.Evidence.{NotDamaged};
 ghost use Rattle.commit_list.specs.CommitFiles.{IsCommitFile};
-ghost use Rattle.batch_run.specs.Copies.{IsCopied, copied_pages, pages_in};
+ghost use Rattle.batch_run.specs.Copies.{IsCopied, ReadsListed, pages_in};
 
 use crate::Memory;
 use commit_list::{Commit, encode_commit};
@@ -29,8 +29,8 @@ pub(crate) fn copy_index<F: Pages>(
     ensures copied { IsTrue F.told
         → IfOk result (λ copy. All (IsCopied (F.files folder.old) (folder_files copy)) c.now.listed) }
     ensures files { IsTrue F.told → F.files folder.new ≡ F.files folder.old }
-    ensures reads { IsTrue F.told → OnOk result
-        (F.reads folder.new ≤ F.reads folder.old + sum_by (copied_pages (F.files folder.old)) c.now.listed) }
+    ensures reads { IsTrue F.told
+        → OnOk result (ReadsListed (F.files folder.old) c.now (F.reads folder.old) (F.reads folder.new)) }
     ensures cause { HasPageCause (F.faults folder.old) (F.faults folder.new) result }
     ensures undamaged { NotDamaged result }
 {

@@ -1,6 +1,6 @@
 //! Loading the resident copy of an index.
 
-ghost use Rattle.std.specs.Prelude.{◌≡◌, ◌≤◌, ◌+◌, List, sum_by, IsTrue, IfOk, OnOk};
+ghost use Rattle.std.specs.Prelude.{◌≡◌, List, IsTrue, IfOk, OnOk};
 ghost use Rattle.outer_io.specs.MemFolder.{folder_files};
 ghost use Rattle.documents.specs.Documents.{Document};
 ghost use Rattle.page_cache.specs.Causes.{HasPageCause};
@@ -8,7 +8,7 @@ ghost use Rattle.page_cache.specs.Evidence.{NotDamaged, OnDamage};
 ghost use Rattle.segment_file.specs.Heads.{HasRanges};
 ghost use Rattle.stored_index.specs.Stored.{HoldsIndex, IsUndefined};
 ghost use Rattle.index_opening.specs.Evidence.{IsEvident, ShowsItself};
-ghost use Rattle.batch_run.specs.Copies.{IsCommitIn, copied_pages};
+ghost use Rattle.batch_run.specs.Copies.{IsCommitIn, ReadsListed};
 ghost use Rattle.batch_run.specs.Residents.{IsCopyIn};
 
 use crate::copying::copy_index;
@@ -32,7 +32,7 @@ impl<const D: usize> Resident<D> {
         ensures copy { IsTrue F.told → IfOk result (IsCopyIn (F.files folder.old) c.now) }
         ensures files { IsTrue F.told → F.files folder.new ≡ F.files folder.old }
         ensures reads { IsTrue F.told → OnOk result
-            (F.reads folder.new ≤ F.reads folder.old + sum_by (copied_pages (F.files folder.old)) c.now.listed) }
+            (ReadsListed (F.files folder.old) c.now (F.reads folder.old) (F.reads folder.new)) }
         ensures cause { HasPageCause (F.faults folder.old) (F.faults folder.new) result }
         ensures undefined { IsTrue F.told → IsCommitIn (F.files folder.old) c.now
             → OnDamage result (λ _. IsUndefined (F.files folder.old)) }

@@ -2,6 +2,7 @@
 //! other.
 
 use crate::asserts::{holds, holds_at, same, same_at};
+use crate::draws::Draws;
 use crate::fixtures::called;
 use crate::gates::{Counting, Meeting, run_gated};
 use bkd_top::{Status, code};
@@ -104,29 +105,10 @@ fn answers_of_cities(rt: HostRuntime) -> Result<(), Fail> {
     Ok(())
 }
 
-/// Numbers that look drawn, each from the one before it.
-#[derive(Drop)]
-struct Draws {
-    last: u64,
-}
-
-impl Draws {
-    /// A number below the bound.
-    fn below(&mut self, bound: u64) -> u64
-        requires { 0 < bound }
-    {
-        self.last = self
-            .last
-            .wrapping_mul(6_364_136_223_846_793_005)
-            .wrapping_add(1_442_695_040_888_963_407);
-        (self.last >> 33) % bound
-    }
-}
-
 /// A script that leaves documents of one to three points in several segments, some of them dead.
 fn drawn_script(alloc: Global, draws: &mut Draws) -> Result<String, AllocError> {
     let mut script = String::from_str(alloc, "create 2 leaf 4\n")?;
-    for i in 0..90_u64 {
+    for i in 0..60_u64 {
         let x = draws.below(100);
         let y = draws.below(100);
         match draws.below(4) {
@@ -144,7 +126,7 @@ fn drawn_script(alloc: Global, draws: &mut Draws) -> Result<String, AllocError> 
 /// Queries of them, with some lines that are none.
 fn drawn_queries(alloc: Global, draws: &mut Draws) -> Result<String, AllocError> {
     let mut lines = String::new(alloc);
-    for _ in 0..30 {
+    for _ in 0..16 {
         let x = draws.below(100);
         let y = draws.below(100);
         let side = draws.below(40);
@@ -165,8 +147,8 @@ fn drawn_queries(alloc: Global, draws: &mut Draws) -> Result<String, AllocError>
 
 #[test]
 fn answers_as_run_does(rt: HostRuntime) -> Result<(), Fail> {
-    let mut draws = Draws { last: 1 };
-    for _ in 0..3 {
+    let mut draws = Draws { seed: 1 };
+    for _ in 0..2 {
         let script = drawn_script(rt.alloc(), &mut draws)?;
         let lines = drawn_queries(rt.alloc(), &mut draws)?;
         let mut folder = MemFolder::new(rt.alloc(), Vec::new(rt.alloc()));

@@ -42,7 +42,7 @@ pub struct Draws {
 
 impl Draws {
     /// A number below `bound`, which is not 0.
-    fn below(&mut self, bound: u64) -> u64
+    pub fn below(&mut self, bound: u64) -> u64
         requires { 0 < bound }
         ensures { result < bound }
     {
