@@ -43,7 +43,7 @@ pub fn run_batch<S: Source, F: Folder, K: Sink, R: Threads + Sync, G: Gate>(
     ensures ends { IsTrue S.told → IsTrue F.told → (state : State) → IsStored (F.files folder.old) state
         → EndsBatch (IsTrue K.told) (TellsBatch state) (lines_of (S.left input.old))
         (K.written out.old) (K.written out.new) result }
-    ensures stored { IsTrue F.told → IsAnswer result → StoresSome (F.files folder.old) }
+    ensures stored { IsTrue F.told → (LeavesNoText result → ⊥) → StoresSome (F.files folder.old) }
     ensures files { IsTrue F.told → F.files folder.new ≡ F.files folder.old }
     ensures reads { IsTrue F.told → IsAnswer result
         → ReadsOnce (F.files folder.old) (F.reads folder.old) (F.reads folder.new) }
@@ -74,7 +74,7 @@ pub fn run_batch<S: Source, F: Folder, K: Sink, R: Threads + Sync, G: Gate>(
 /// Sends the text of a batch, and says how it ended.
 fn tell<K: Sink>(out: &mut K, done: Result<Text, PageFault>) -> Status
     ensures done { DoesNothing result → ⊥ }
-    ensures answered { IsAnswer result → IsOk done }
+    ensures told { (LeavesNoText result → ⊥) → IsOk done }
     ensures unwritten { LeavesNoText result → out.new ≡ out.old }
     ensures ends { (state : State) (lines : List (List ℕ)) → NotDamaged done
         → IfOk done (λ t. IsBatchText state lines t.bytes.items t.refused)

@@ -15,7 +15,7 @@ use Rattle.script_run.specs.Kept.{RunCosts, StatusKeeps}
 use Rattle.script_run.specs.declared.language.Language.TheVariants as language
 use Rattle.run_status.specs.Causes.{ReadsInput}
 use Rattle.count_queries.specs.Counts as counts
-use Rattle.batch_queries.specs.Ends.{ReadsOnce}
+use Rattle.batch_queries.specs.Ends.{LeavesNoText, ReadsOnce, StoresSome}
 use Rattle.bkd_top.specs.Checking.{Checks}
 use Rattle.bkd_top.specs.Commands.{ReadsFew}
 
@@ -62,11 +62,6 @@ pub record CountCosts (source : Type 0) (lines : List (List ℕ)) (old new : Fil
   pub files : new ≡ old
   pub reads : source → counts.ReadsFew old lines before now
 
--- answering a batch changes no file, and where it is done each page was read once at most
-pub record BatchCosts (old new : Files) (before now : ℕ) (s : Status) : Type 0 where
-  pub files : new ≡ old
-  pub reads : IsAnswer s → ReadsOnce old before now
-
 -- a command that is done as a whole leaves few segments of each level, and where it isn't done it loses nothing that is
 -- kept, whatever the folder holds
 pub record WholeLeaves (old new : Files) (s : Status) : Type 0 where
@@ -88,6 +83,14 @@ pub record Call : Type 0 where
   pub before : ℕ
   pub now : ℕ
 
+-- Answering a batch changes no file, and where it is done each page was read once at most. Something is written only
+-- over files that store a state, and nothing where it ends before all is answered.
+pub record BatchLeaves (c : Call) (s : Status) : Type 0 where
+  pub files : c.new ≡ c.old
+  pub reads : IsAnswer s → ReadsOnce c.old c.before c.now
+  pub stored : (LeavesNoText s → ⊥) → StoresSome c.old
+  pub unwritten : LeavesNoText s → c.written_now ≡ c.written
+
 abbrev pub LeavesAsked : Asked → Call → Status → Type 0
 LeavesAsked (Run cache forks) c s = IsTrue c.source
     → RunCosts language.Points (lines_of c.input) c.old c.new c.before c.now s
@@ -99,5 +102,5 @@ LeavesAsked (Explain cache) c s = ExplainCosts (IsTrue c.source) (lines_of c.inp
 LeavesAsked (Load columns forks) c s = WholeLeaves c.old c.new s
 LeavesAsked (Generate docs seed forks) c s = WholeLeaves c.old c.new s
 LeavesAsked (Count cache) c s = CountCosts (IsTrue c.source) (lines_of c.input) c.old c.new c.before c.now
-LeavesAsked (Batch forks) c s = BatchCosts c.old c.new c.before c.now s
+LeavesAsked (Batch forks) c s = BatchLeaves c s
 LeavesAsked Check c s = Checks (IsTrue c.sink) c.old c.new c.written c.written_now c.before c.now s

@@ -293,4 +293,9 @@ returns-in-Batch-clause-leaves g c = λ told.
     left_by c.args.words _
     (called g.S.Source.told g.K.Sink.told (g.S.Source.left c.args.input.now) (g.F.Pages.files c.args.folder.now) (g.F.Pages.files c.run_batch.new.folder)
     (g.K.Sink.written c.args.out.now) (g.K.Sink.written c.run_batch.new.out) (g.F.Pages.reads c.args.folder.now) (g.F.Pages.reads c.run_batch.new.folder))
-    c.run_batch.result (ap said c.in-Batch.is) (record { files = c.run_batch.ensures.files told; reads = c.run_batch.ensures.reads told })
+    c.run_batch.result (ap said c.in-Batch.is) (record {
+      files = c.run_batch.ensures.files told;
+      reads = c.run_batch.ensures.reads told;
+      stored = c.run_batch.ensures.stored told;
+      unwritten = λ none. ap g.K.Sink.written (c.run_batch.ensures.unwritten none);
+    })
