@@ -169,7 +169,7 @@ fn damage_comes_before_the_text(rt: HostRuntime) -> Result<(), Fail> {
     let mut folder = cities(&rt, alloc)?;
     let name = FileName::Segment(0);
     let mut bytes = folder.get(&name).ok_or("no segment")?.to_vec(alloc)?;
-    same(&rt, bytes.len(), 3 * 4096);
+    assert_eq!(rt; bytes.len(), 3 * 4096);
     bytes[2 * 4096 + 100] ^= 1;
     folder.put(name, bytes)?;
     let (status, text) = called(&rt, alloc, &[".", "batch"], "box 9 9 9 9\n", &mut folder)?;
@@ -208,19 +208,23 @@ fn halves_run_beside_each_other(rt: HostRuntime) -> Result<(), Fail> {
     Ok(())
 }
 
-/// Words, and how often the gate is passed with them for two queries, and for the three.
-const PASSES: [(&[&str], u64, u64); 4] = [
-    (&[".", "batch", "--forks", "0"], 0, 0),
-    (&[".", "batch"], 2, 2),
-    (&[".", "batch", "--forks", "2"], 2, 4),
-    (&[".", "batch", "--forks", "6"], 2, 4),
+/// Four queries, so that both halves can be cut again.
+const FOUR: &str =
+    "box 0 45000000 15000000 55000000\nnearest 1 12000000 42000000\nbox 0 0 1 1\nnearest 2 0 0\n";
+
+/// Words, and how often the gate is passed with them for two queries, for the three, and for four.
+const PASSES: [(&[&str], [u64; 3]); 4] = [
+    (&[".", "batch", "--forks", "0"], [0, 0, 0]),
+    (&[".", "batch"], [2, 2, 2]),
+    (&[".", "batch", "--forks", "2"], [2, 4, 6]),
+    (&[".", "batch", "--forks", "6"], [2, 4, 6]),
 ];
 
 #[test]
 fn passes_by_levels_of_forks(rt: HostRuntime) -> Result<(), Fail> {
     let mut folder = cities(&rt, rt.alloc())?;
-    for (words, of_two, of_three) in PASSES {
-        for (lines, expected) in [(TWO, of_two), (OF_CITIES, of_three)] {
+    for (words, [of_two, of_three, of_four]) in PASSES {
+        for (lines, expected) in [(TWO, of_two), (OF_CITIES, of_three), (FOUR, of_four)] {
             let gate = Counting::new();
             run_gated(&rt, rt.alloc(), words, lines.as_bytes(), &mut folder, &gate)?;
             let passes = gate.passes.load(Ordering::SeqCst);

@@ -131,22 +131,30 @@ impl Story {
     fn ask_grid(&mut self) -> Result<(), Fail> {
         let corners = self.corners();
         let steps = (1 + self.draws.byte() % 8, 1 + self.draws.byte() % 8);
-        let last = self.dims.saturating_sub(1).min(3);
+        let last = self.dims.saturating_sub(1);
         write!(self.lines, "grid 0 {} {last} {}", steps.0, steps.1)?;
         self.put_corners(&corners)?;
+        let answer = self.grid(&corners, last, steps)?;
+        Ok(self.answers.push_str(answer.as_str())?)
+    }
+
+    /// What a scan answers to a grid.
+    fn grid(&self, corners: &Corners, last: usize, steps: (u8, u8)) -> Result<String, Fail> {
         let mut buckets = 0u32;
         let mut told = String::new(self.lines.allocator());
         for i in 0..16 {
             for j in 0..16 {
-                let points = self.bucket(&corners, last, (i, j), steps);
+                let points = self.bucket(corners, last, (i, j), steps);
                 if points > 0 {
                     buckets = buckets.wrapping_add(1);
                     writeln!(told, "{i} {j} {points}")?;
                 }
             }
         }
-        writeln!(self.answers, "buckets {buckets}")?;
-        Ok(self.answers.push_str(told.as_str())?)
+        let mut answer = String::new(self.lines.allocator());
+        writeln!(answer, "buckets {buckets}")?;
+        answer.push_str(told.as_str())?;
+        Ok(answer)
     }
 
     /// How many points of the box lie in the bucket with these numbers, counted from its least corner.
