@@ -28,6 +28,7 @@ struct Corners {
 /// A script, lines about the folder that it leaves, and what a scan of the live points answers to them.
 #[derive(Drop)]
 struct Story {
+    alloc: Global,
     dims: usize,
     draws: Draws,
     next: u32,
@@ -141,7 +142,7 @@ impl Story {
     /// What a scan answers to a grid.
     fn grid(&self, corners: &Corners, last: usize, steps: (u8, u8)) -> Result<String, Fail> {
         let mut buckets = 0u32;
-        let mut told = String::new(self.lines.allocator());
+        let mut told = String::new(self.alloc);
         for i in 0..16 {
             for j in 0..16 {
                 let points = self.bucket(corners, last, (i, j), steps);
@@ -151,7 +152,7 @@ impl Story {
                 }
             }
         }
-        let mut answer = String::new(self.lines.allocator());
+        let mut answer = String::new(self.alloc);
         writeln!(answer, "buckets {buckets}")?;
         answer.push_str(told.as_str())?;
         Ok(answer)
@@ -207,6 +208,7 @@ fn is_step(at: u8, from: u8, number: u8, step: u8) -> bool {
 
 fn drawn_story(alloc: Global, dims: usize) -> Result<Story, Fail> {
     let mut story = Story {
+        alloc,
         dims,
         draws: Draws { seed: 20_261_129 },
         next: 0,
