@@ -5,6 +5,7 @@ import pytest
 
 import bkd
 from bkd import commands, requests
+from bkd.formats import open_stored
 from conftest import STAND_IN, need
 
 

@@ -52,11 +52,8 @@ pub const ROWS: &[Row] = &[
         refused: 0,
     },
     Row {
-        script: "create 9\ncreate 2 leaf 334\nadd 1 2\ncreate 2\nadd 1\nadd 1 x\nadd 1 2147483648\nnear 1 0 0\nnearest 0
-            0 0\ncreate 2\nsnapshot a.b\n",
-        answers: "line 1: dims\nline 2: leaf size\nline 3: no index\nok\nline 5: wrong words\nline 6: bad number in word
-            3\nline 7: bad number in word 3\nline 8: unknown command\nline 9: bad k\nline 10: index exists\nline 11: bad
-                name\n",
+        script: "create 9\ncreate 2 leaf 334\nadd 1 2\ncreate 2\nadd 1\nadd 1 x\nadd 1 2147483648\nnear 1 0 0\nnearest 0 0 0\ncreate 2\nsnapshot a.b\n",
+        answers: "line 1: dims\nline 2: leaf size\nline 3: no index\nok\nline 5: wrong words\nline 6: bad number in word 3\nline 7: bad number in word 3\nline 8: unknown command\nline 9: bad k\nline 10: index exists\nline 11: bad name\n",
         refused: 10,
     },
     Row {
@@ -76,8 +73,7 @@ pub const ROWS: &[Row] = &[
         refused: 1,
     },
     Row {
-        script: "create 1\nadd 5\nadd 6\nadd 9\nmerge end\nmerge begin\nmerge begin 7\nmerge end\ndelete box 5 6\nbox 0
-            9\n",
+        script: "create 1\nadd 5\nadd 6\nadd 9\nmerge end\nmerge begin\nmerge begin 7\nmerge end\ndelete box 5 6\nbox 0 9\n",
         answers: "ok\ndoc 0\ndoc 1\ndoc 2\nline 5: no merge begun\nok\nline 7: merge begun\nok\ndeleted 2\nhits 1\n2\n",
         refused: 2,
     },
@@ -87,9 +83,7 @@ pub const ROWS: &[Row] = &[
         refused: 3,
     },
     Row {
-        script: "create 1\nsnapshot s1\nsnapshot s2\nsnapshot s3\nsnapshot s4\nsnapshot s5\nsnapshot s6\nsnapshot
-            s7\nsnapshot s8\nsnapshot s9\nsnapshot s10\nsnapshot s11\nsnapshot s12\nsnapshot s13\nsnapshot s14\nsnapshot
-                s15\nsnapshot s16\nsnapshot s17\n",
+        script: "create 1\nsnapshot s1\nsnapshot s2\nsnapshot s3\nsnapshot s4\nsnapshot s5\nsnapshot s6\nsnapshot s7\nsnapshot s8\nsnapshot s9\nsnapshot s10\nsnapshot s11\nsnapshot s12\nsnapshot s13\nsnapshot s14\nsnapshot s15\nsnapshot s16\nsnapshot s17\n",
         answers: "ok\nok\nok\nok\nok\nok\nok\nok\nok\nok\nok\nok\nok\nok\nok\nok\nok\nline 18: too many snapshots\n",
         refused: 1,
     },
@@ -110,11 +104,7 @@ pub const ROWS: &[Row] = &[
         refused: 0,
     },
     Row {
-        script: "create 8\nadd 2147483647 2147483647 2147483647 2147483647 2147483647 2147483647 2147483647
-            2147483647\nnearest 1 -2147483648 -2147483648 -2147483648 -2147483648 -2147483648 -2147483648 -2147483648
-                -2147483648\nnearest 10001 -2147483648 -2147483648 -2147483648 -2147483648 -2147483648 -2147483648
-                    -2147483648 -2147483648\nnearest 10000 -2147483648 -2147483648 -2147483648 -2147483648 -2147483648
-                        -2147483648 -2147483648 -2147483648\n",
+        script: "create 8\nadd 2147483647 2147483647 2147483647 2147483647 2147483647 2147483647 2147483647 2147483647\nnearest 1 -2147483648 -2147483648 -2147483648 -2147483648 -2147483648 -2147483648 -2147483648 -2147483648\nnearest 10001 -2147483648 -2147483648 -2147483648 -2147483648 -2147483648 -2147483648 -2147483648 -2147483648\nnearest 10000 -2147483648 -2147483648 -2147483648 -2147483648 -2147483648 -2147483648 -2147483648 -2147483648\n",
         answers: "ok\ndoc 0\nnear 1\n0 147573952520956936200\nline 4: bad k\nnear 1\n0 147573952520956936200\n",
         refused: 1,
     },
@@ -135,30 +125,23 @@ pub const ROWS: &[Row] = &[
     },
     // polygons
     Row {
-        script: "create 2\nadd -6 0\nadd 0 0\nadd 5 0\npolygon
-            {\"type\":\"Polygon\",\"coordinates\":[[[0,-5],[5,0],[0,5],[-5,0],[0,-5]]]}\n",
+        script: "create 2\nadd -6 0\nadd 0 0\nadd 5 0\npolygon {\"type\":\"Polygon\",\"coordinates\":[[[0,-5],[5,0],[0,5],[-5,0],[0,-5]]]}\n",
         answers: "ok\ndoc 0\ndoc 1\ndoc 2\nhits 2\n1\n2\n",
         refused: 0,
     },
     Row {
-        script: "create 2\nadd 5 5\nadd 4 5\nadd 1 1\nadd 11 5\npolygon
-            {\"type\":\"Polygon\",\"coordinates\":[[[0,0],[10,0],[10,10],[0,10],[0,0]],[[4,4],[6,4],[6,6],[4,6],[4,4]]]}\n",
+        script: "create 2\nadd 5 5\nadd 4 5\nadd 1 1\nadd 11 5\npolygon {\"type\":\"Polygon\",\"coordinates\":[[[0,0],[10,0],[10,10],[0,10],[0,0]],[[4,4],[6,4],[6,6],[4,6],[4,4]]]}\n",
         answers: "ok\ndoc 0\ndoc 1\ndoc 2\ndoc 3\nhits 2\n1\n2\n",
         refused: 0,
     },
     Row {
-        script: "create 2\nadd 2000000000 0\nadd 0 2000000000\nadd -2000000000 0\npolygon
-            {\"type\":\"Polygon\",\"coordinates\":[[[-2147483648,-2147483648],[2147483647,2147483647],[2147483647,-2147483648],[-2147483648,2147483647],[-2147483648,-2147483648]]]}\n",
+        script: "create 2\nadd 2000000000 0\nadd 0 2000000000\nadd -2000000000 0\npolygon {\"type\":\"Polygon\",\"coordinates\":[[[-2147483648,-2147483648],[2147483647,2147483647],[2147483647,-2147483648],[-2147483648,2147483647],[-2147483648,-2147483648]]]}\n",
         answers: "ok\ndoc 0\ndoc 1\ndoc 2\nhits 2\n0\n2\n",
         refused: 0,
     },
     Row {
-        script: "create 2\npolygon {\"type\":\"Polygon\",\"coordinates\":[[[0,0],[4,0],[4,4],[0,4]]]}\npolygon
-            {\"type\":\"Polygon\",\"coordinates\":[[[0,0],[1.5,0],[4,4],[0,0]]]}\npolygon
-                {\"type\":\"Polygon\",\"coordinates\":[[[0,0],[4,0],[0,0]]]}\npolygon
-                    {\"type\":\"Point\",\"coordinates\":[0,0]}\npolygon {\n",
-        answers: "ok\nline 2: polygon ring 0 is not closed\nline 3: polygon ring 0 position 1 is not whole\nline 4:
-            polygon ring 0 has too few positions\nline 5: not a polygon\nline 6: polygon is not json\n",
+        script: "create 2\npolygon {\"type\":\"Polygon\",\"coordinates\":[[[0,0],[4,0],[4,4],[0,4]]]}\npolygon {\"type\":\"Polygon\",\"coordinates\":[[[0,0],[1.5,0],[4,4],[0,0]]]}\npolygon {\"type\":\"Polygon\",\"coordinates\":[[[0,0],[4,0],[0,0]]]}\npolygon {\"type\":\"Point\",\"coordinates\":[0,0]}\npolygon {\n",
+        answers: "ok\nline 2: polygon ring 0 is not closed\nline 3: polygon ring 0 position 1 is not whole\nline 4: polygon ring 0 has too few positions\nline 5: not a polygon\nline 6: polygon is not json\n",
         refused: 5,
     },
     Row {
