@@ -53,10 +53,11 @@ def completed(*words):
 @pytest.mark.parametrize("words, wanted", [
     (("bkd", "doc"), ["docs"]),
     (("bkd", ".", ""), ["run", "load", "explain", "check", "generate", "session", "count",
-                      "ranges"]),
+                      "ranges", "batch"]),
     (("bkd", ".", "ge"), ["generate"]),
     (("bkd", ".", "run", "--"), ["--cache", "--forks"]),
     (("bkd", ".", "session", "--"), ["--cache", "--forks"]),
+    (("bkd", ".", "batch", "--"), ["--forks"]),
     (("bkd", ".", "run", "--cache", "5", "--"), ["--forks"]),
     (("bkd", ".", "run", "--forks", ""), ["0", "1", "2", "3", "4", "5", "6"]),
     (("bkd", ".", "generate", "--d"), ["--docs"]),
