@@ -5,7 +5,8 @@ usage: bench/wrap.py COLUMNS FILE..     then `rt fmt` in the crates, whose proof
 
 A line is broken where the fewest brackets are open, and in no text: before an arrow or a sign between parts, else
 behind `=`, else before a bracket or a word. Where nothing is left to break it stays, as does a row of a table in a
-comment. Proofs by hand may need their layout, and the rest of a comment's paragraph isn't filled anew: look at both.
+comment. Proofs by hand may need their layout, and the rest of a comment's paragraph isn't filled anew: look at both. A
+text that goes over several lines isn't known as one: leave out files with such texts.
 """
 import re
 import sys
