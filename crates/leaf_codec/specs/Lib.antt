@@ -6,3 +6,4 @@ pub mod Entries
 pub mod Words
 pub mod Raw
 pub mod Views
+pub mod Ascending

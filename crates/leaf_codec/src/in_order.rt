@@ -39,7 +39,7 @@ pub fn are_in_order<const D: usize>(
 }
 
 /// The dimension that leads in leaf order.
-fn leading<const D: usize>(parts: &Parts) -> usize
+pub fn leading<const D: usize>(parts: &Parts) -> usize
     requires { 1 ≤ D }
     ensures value { result ≡ if nat_lt parts.now.sorted D then parts.now.sorted else 0 }
     ensures within { result < D }

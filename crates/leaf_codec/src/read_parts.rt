@@ -6,7 +6,7 @@ ghost use Rattle.leaf_codec.specs.Dimensions.{told_of};
 ghost use Rattle.leaf_codec.specs.Raw.{RawKeys, AreRawKeys, MaySort, keys_bytes, sorted_raw, start_of, gap_of};
 ghost use Rattle.leaf_codec.specs.Raw.{place_of, key_at, point_at};
 ghost use Rattle.leaf_codec.specs.Views.{BeginsWithKeys, IsParts, AreSlots, raw_keys_of};
-ghost use Rattle.leaf_codec.specs.Words.{number_of, AreBytes};
+ghost use Rattle.leaf_codec.specs.Words.{number_of, coordinate, AreBytes};
 
 use crate::read_sorted::{Table, take_sorted};
 use crate::words::{mask, word};
@@ -221,9 +221,21 @@ impl<const D: usize> Slots<D> {
     {
         let mut c = [0; D];
         for d in 0..D {
-            c[d] = from_sortable(self.rank(parts, i, d).to_be_bytes());
+            c[d] = self.coordinate(parts, i, d);
         }
         Point { c }
+    }
+
+    /// The coordinate of entry `i` in dimension `d`.
+    pub fn coordinate(&self, parts: &Parts, i: usize, d: usize) -> i32
+        requires dims { (1 ≤ D) × (D ≤ 8) }
+        requires parts { IsParts D parts.now }
+        requires slots { AreSlots D parts.now self.now }
+        requires within { i < parts.now.count }
+        requires dimension { d < D }
+        ensures { result ≡ coordinate (key_at D (raw_keys_of parts.now) i d) }
+    {
+        from_sortable(self.rank(parts, i, d).to_be_bytes())
     }
 
     /// The key of entry `i` in dimension `d`, as a number.

@@ -1,10 +1,12 @@
 //! Reading a leaf in place.
 
 ghost use Rattle.std.specs.Prelude.{◌≡◌, ◌≤◌, ◌<◌, ◌^◌, ◌+◌, ◌*◌, ◌↔◌, ℕ, List, length, All, IfSome, IfNone, IsSomeAnd};
-ghost use Rattle.std.specs.Prelude.{IsTrue, slice_get, slice_index, nat_lt, if◌then◌else◌, ◌==◌};
+ghost use Rattle.std.specs.Prelude.{IsTrue, slice_get, slice_index, nat_lt, if◌then◌else◌, ◌==◌, true, take, drop};
+ghost use Rattle.std.specs.Prelude.{int_lt, int_le};
 ghost use Rattle.std.specs.List.{list_any, range_with_len};
 ghost use Rattle.point_codec.specs.Points.{Item};
 ghost use Rattle.point_codec.specs.Seen.{region_of};
+ghost use Rattle.leaf_codec.specs.Ascending.{AscendIn, coordinate};
 ghost use Rattle.leaf_codec.specs.Dimensions.{count_values, different};
 ghost use Rattle.leaf_codec.specs.LeafOrder.{item_of};
 ghost use Rattle.leaf_codec.specs.Leaves.{SpellsLeafIn, SpellsSomeIn};
@@ -14,7 +16,7 @@ ghost use Rattle.leaf_codec.specs.Views.{raw_numbers_of, raw_keys_of};
 
 use crate::byte_set::ByteSet;
 use crate::dimensions::narrowest;
-use crate::in_order::are_in_order;
+use crate::in_order::{are_in_order, leading};
 use crate::read_numbers::Numbers;
 use crate::read_parts::{Parts, Slots};
 use crate::size::greatest_leaf;
@@ -28,6 +30,7 @@ pub struct LeafView<'a, const D: usize> {
     parts: Parts<'a>,
     slots: Slots<D>,
     ghost readable: { IsReadable D numbers parts slots },
+    ghost ascending: { AscendIn (if nat_lt parts.sorted D then parts.sorted else 0) (items_said D numbers parts) },
 }
 
 impl<'a, const D: usize> Model for LeafView<'a, D> {
@@ -108,6 +111,45 @@ impl<'a, const D: usize> LeafView<'a, D> {
         ensures { IsSomeAnd (slice_get self.now i) (λ x. result.c ≡ x.at) }
     {
         self.slots.point(&self.parts, i as usize)
+    }
+
+    /// The dimension by which the entries are sorted; 0 where all points are equal.
+    pub fn sorted_dimension(&self) -> usize
+        ensures within { result < D }
+        ensures ascends { AscendIn result self.now }
+    {
+        leading::<D>(&self.parts)
+    }
+
+    /// The coordinate of entry `i` in dimension `d`.
+    pub fn coordinate(&self, i: u16, d: usize) -> i32
+        requires within { i < length self.now }
+        requires dimension { d < D }
+        ensures { IsSomeAnd (slice_get self.now i) (λ x. result ≡ coordinate d x) }
+    {
+        self.slots.coordinate(&self.parts, i as usize, d)
+    }
+
+    /// How many entries have a coordinate below `x` in dimension `d`, along which the coordinates ascend. It looks by
+    /// halves, so at few of them.
+    pub fn count_below(&self, d: usize, x: &i32) -> u16
+        requires dimension { d < D }
+        requires ascends { AscendIn d self.now }
+        ensures within { result ≤ length self.now }
+        ensures below { All (λ y. int_lt (coordinate d y) x.now ≡ true) (take result self.now) }
+        ensures above { All (λ y. int_le x.now (coordinate d y) ≡ true) (drop result self.now) }
+    {
+        let mut from = 0;
+        let mut end = self.count();
+        while from < end {
+            let half = from + (end - from) / 2;
+            if self.coordinate(half, d) < *x {
+                from = half + 1;
+            } else {
+                end = half;
+            }
+        }
+        from
     }
 }
 
