@@ -1,3 +1,4 @@
 pub mod Corners
 pub mod BoxRelation
 pub mod RelationLemmas
+pub mod Reach

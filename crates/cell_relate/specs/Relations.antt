@@ -1,6 +1,6 @@
 -- How a cell lies to a shape (Apache Lucene's points: PointValues.Relation). A shape is the test of which points it
 -- has, beside the test of which cells it crosses.
-use Rattle.std.specs.Prelude.{◌≡◌, Bool, true, false, not, ◌&&◌, List, ℤ}
+use Rattle.std.specs.Prelude.{◌≡◌, ℕ, Bool, true, false, not, ◌&&◌, List, ℤ, pos, int_le, slice_index_or}
 use Rattle.point_codec.specs.Points.{Region, in_box}
 use Rattle.cell_relate.specs.declared.shape.Relation.{Relation}
 use Rattle.cell_relate.specs.declared.shape.Relation.TheVariants.{Inside, Outside, Crosses}
@@ -25,3 +25,8 @@ RelatesTo has crosses cell Crosses = crosses cell ≡ true
 -- corner tells which
 abbrev pub is_outside : (List ℤ → Bool) → (Region → Bool) → Region → Bool
 is_outside has crosses cell = not (crosses cell) && not (has cell.lo)
+
+-- a point that the shape has lies from low to high in dimension d
+abbrev pub IsReach : (List ℤ → Bool) → ℕ → (low high : ℤ) → Type 0
+IsReach has d low high = (p : List ℤ) → has p ≡ true
+    → (int_le low (slice_index_or p d (pos 0)) ≡ true) × (int_le (slice_index_or p d (pos 0)) high ≡ true)

@@ -75,6 +75,10 @@ impl<const D: usize> Shape<D> for BoxShape<D> {
         self.compares = self.compares.saturating_add(1);
         relation_of(&self.lo, &self.hi, c)
     }
+
+    fn reach(&self, d: usize) -> Option<(i32, i32)> {
+        Some((self.lo.c[d], self.hi.c[d]))
+    }
 }
 
 /// How the cell lies to the box from `lo` to `hi`.

@@ -1,9 +1,9 @@
 //! What a walk over cells asks of a shape.
 
-ghost use Rattle.std.specs.Prelude.{◌≡◌, ℕ, ◌+◌, ◌-◌, ◌^◌, min, List, ℤ, Bool};
+ghost use Rattle.std.specs.Prelude.{◌≡◌, ℕ, ◌+◌, ◌-◌, ◌^◌, ◌<◌, min, List, ℤ, Bool, IfSome};
 ghost use Rattle.point_codec.specs.Points.{Region};
 ghost use Rattle.point_codec.specs.Seen.{region_of};
-ghost use Rattle.cell_relate.specs.Relations.{RelatesTo};
+ghost use Rattle.cell_relate.specs.Relations.{RelatesTo, IsReach};
 
 use point_codec::{Cell, Point};
 
@@ -48,4 +48,13 @@ pub trait Shape<const D: usize> {
         ensures tests { tests self.new ≡ tests self.old }
         ensures has { has self.new ≡ has self.old }
         ensures crosses { crosses self.new ≡ crosses self.old };
+
+    /// The least and the greatest coordinate in dimension `d` between which all points of the shape lie. None where the
+    /// shape doesn't know, and so of a shape that tells nothing here.
+    fn reach(&self, d: usize) -> Option<(i32, i32)>
+        requires { d < D }
+        ensures { IfSome result (λ ends. IsReach (has self.now) d ends.0 ends.1) }
+    {
+        None
+    }
 }
