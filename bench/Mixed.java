@@ -1,6 +1,6 @@
-// Apache Lucene 8 on the mixed queries of bench/batch.py, answered by several threads that share one searcher: boxes over a
-// field of two whole numbers (IntPoint), the nearest over two floats, which hold these coordinates exactly, and triangles
-// over XYPointField.
+// Apache Lucene 8 on the mixed queries of bench/batch.py, answered by several threads that share one searcher: boxes
+// over a field of two whole numbers (IntPoint), the nearest over two floats, which hold these coordinates exactly, and
+// triangles over XYPointField.
 //
 // index POINTS FOLDER                 indexes the points of a file, one `X Y` a line, into one segment
 // ask FOLDER QUERIES ROUNDS THREADS   answers lines as `bkd batch` reads them; no text is written
