@@ -166,9 +166,14 @@ def fresh_reading(root, text):
     total = (sum(f[2] for f in everything), len(everything), sum(f[1] for f in everything))
     at = 0
     while at < len(lines):
-        chapter = CHAPTER.match(lines[at])
-        out.append(ALL.sub("**%d definitions in %d files, %d lines**" % total, lines[at]))
+        opens = lines[at]
+        out.append(ALL.sub("**%d definitions in %d files, %d lines**" % total, opens))
         at += 1
+        if opens.startswith("<!-- opens: ") and not opens.endswith("-->"):
+            opens += " " + lines[at]
+            out.append(lines[at])
+            at += 1
+        chapter = CHAPTER.match(opens)
         if not chapter:
             continue
         start = words_of_call(root, *TOP) if chapter.group(1) == "the top call" else start_of(chapter.group(1))
