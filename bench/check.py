@@ -5,8 +5,10 @@ usage: bench/check.py [COUNT]
        bench/check.py --digest FOLDER     the floor alone: its wall time and its processor time in seconds
 
 bkd      `check` over the points in one segment, and over the segments that `load` leaves
-floor    every page of the same files read, and its payload digested with its place by OpenSSL's SHA-256 (hashlib):
-         without the processor's own instructions for SHA-256, which the kit's digest can't use, and with them
+floor    every page of the same files read, and as many digested as the program digests them, by the kit's SHA-256
+         (`pages` of crates/bench, which has to be built: rt run there)
+OpenSSL  the same pages read, and each payload digested with its place by OpenSSL's SHA-256 (hashlib): without the
+         processor's own instructions for SHA-256, which the kit's digest can't use, and with them
 SQLite   `rtreecheck` over an R*Tree of the same points (Debian's sqlite3)
 Lucene   `CheckIndex` over the same points (Debian's liblucene8-java and a JDK), and over one point: the machine's start
 
@@ -21,9 +23,10 @@ import subprocess
 import sys
 import time
 
-from program import COUNT, Data, Run, bkd, java, jars, milliseconds, rtree, write
+from program import COUNT, PROGRAM, Data, Run, bkd, java, jars, milliseconds, rtree, write
 
 TURNS = 5
+BENCH = os.path.join(os.path.dirname(PROGRAM), "..", "..", "bench", "out", "bench")
 PAGE, PAYLOAD = 4096, 4064
 CHECK = "org.apache.lucene.index.CheckIndex"
 # bit 29 of the second word of OpenSSL's mask: the processor's instructions for SHA
@@ -52,7 +55,7 @@ class Times:
     def show(self, name, floor):
         wall, processor = self.least(name)
         ratio = processor / self.least(floor)[1]
-        print("  %-35s %s, processor %s, ratio %5.2f" % (name, milliseconds(wall), milliseconds(processor), ratio))
+        print("  %-39s %s, processor %s, ratio %5.2f" % (name, milliseconds(wall), milliseconds(processor), ratio))
 
 
 def digested(folder):
@@ -77,6 +80,21 @@ def plainly_digested(folder):
     words = [sys.executable, os.path.abspath(__file__), "--digest", folder]
     said = subprocess.run(words, env={**os.environ, **PLAIN}, check=True, capture_output=True, text=True).stdout
     return tuple(map(float, said.split()))
+
+
+def floor_of(folder):
+    """Wall time and processor time of reading each page, and of digesting as many with the kit's digest."""
+    wall, processor = time.perf_counter(), time.process_time()
+    pages = 0
+    for path in glob.glob(os.path.join(folder, "*.bkd")):
+        with open(path, "rb", buffering=0) as file:
+            while file.read(PAGE):
+                pages += 1
+    read = time.perf_counter() - wall, time.process_time() - processor
+    run = Run([BENCH, "pages", str(pages)], keep=True).done()
+    if run.text != "whole 1\n":
+        sys.exit("%r of the bench" % run.text)
+    return read[0] + run.wall, read[1] + run.processor
 
 
 def checked(run, wanted):
@@ -119,8 +137,9 @@ def main():
     for name, folder in folders.items():
         wanted = "live %d" % data.count
         times.add("bkd check, " + name, lambda folder=folder, w=wanted: checked(bkd(folder, "check", keep=True), w))
-        times.add("reading and digesting, " + name, lambda folder=folder: plainly_digested(folder))
-        times.add("with SHA instructions, " + name, lambda folder=folder: digested(folder))
+        times.add("reading and digesting, " + name, lambda folder=folder: floor_of(folder))
+        times.add("OpenSSL, plain, " + name, lambda folder=folder: plainly_digested(folder))
+        times.add("OpenSSL, SHA instructions, " + name, lambda folder=folder: digested(folder))
     if shutil.which("sqlite3"):
         add_sqlite(times, data)
     if shutil.which("java") and jars():

@@ -116,7 +116,8 @@ class Specs:
 
 # ---- the chapters of docs/READING.md
 
-CHAPTER = re.compile(r"^<!-- opens: (.*?)(?:; of: (.*?))? -->$")
+# what a chapter opens; of these crates alone, or of all but these
+CHAPTER = re.compile(r"^<!-- opens: (.*?)(?:; (of|but): (.*?))? -->$")
 ROW = re.compile(r"^\| `([^`]+)` \| *\d+ \|(.*)$")
 SUM = re.compile(r"\*\*\d+ files, \d+ lines\*\*")
 ALL = re.compile(r"\*\*\d+ definitions in \d+ files, \d+ lines\*\*")
@@ -165,15 +166,21 @@ def fresh_reading(root, text):
     total = (sum(f[2] for f in everything), len(everything), sum(f[1] for f in everything))
     at = 0
     while at < len(lines):
-        chapter = CHAPTER.match(lines[at])
-        out.append(ALL.sub("**%d definitions in %d files, %d lines**" % total, lines[at]))
+        opens = lines[at]
+        out.append(ALL.sub("**%d definitions in %d files, %d lines**" % total, opens))
         at += 1
+        if opens.startswith("<!-- opens: ") and not opens.endswith("-->"):
+            opens += " " + lines[at]
+            out.append(lines[at])
+            at += 1
+        chapter = CHAPTER.match(opens)
         if not chapter:
             continue
         start = words_of_call(root, *TOP) if chapter.group(1) == "the top call" else start_of(chapter.group(1))
         found = [d for d in specs.unfold(start) if d not in known]
         if chapter.group(2):
-            found = [d for d in found if d[0] in chapter.group(2).split()]
+            named, wanted = chapter.group(3).split(), chapter.group(2) == "of"
+            found = [d for d in found if (d[0] in named) == wanted]
         known.update(found)
         files = specs.by_file(found)
         count = "**%d files, %d lines**" % (len(files), sum(f[1] for f in files))

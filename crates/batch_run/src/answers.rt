@@ -23,19 +23,19 @@ use polygon_query::PolygonShape;
 use segment_view::{Segments, nearest, visit};
 use std::alloc::{AllocError, Global};
 
-/// How many pages of the copy are kept with what is known of them, by each part of a batch that is cut no further.
-const KEPT_PAGES: u32 = 64;
-
-/// The replies to queries, one after the other.
+/// The replies to queries, one after the other. So many pages of the copy are kept, with what is known of them.
 pub(crate) fn answer_all<const D: usize>(
     alloc: Global,
     resident: &Resident<D>,
     queries: &[Query<D>],
+    kept: u32,
 ) -> Result<Vec<Reply>, Memory>
-    requires { All (IsInRange D) queries.now }
+    requires range { All (IsInRange D) queries.now }
+    requires some { 1 ≤ kept }
+    requires few { kept ≤ 65536 }
     ensures { IfOk result (λ v. AreReplies resident.now queries.now v.items) }
 {
-    let mut cache = PageCache::new(alloc, KEPT_PAGES)?;
+    let mut cache = PageCache::new(alloc, kept)?;
     let mut pages = resident.pages();
     let segments = resident.segments();
     // there are at most 8 dimensions, so that a query is small

@@ -6,6 +6,7 @@ mod builds;
 mod crossed;
 mod draws;
 mod leaves;
+mod pages;
 mod partition;
 mod queries;
 mod rings;
@@ -23,7 +24,7 @@ use std::thread::Threads;
 use std::{env, io};
 
 /// What there is to do.
-const COMMANDS: &str = "csv, rings, leaves, build, partition, walk or near, with their words";
+const COMMANDS: &str = "csv, rings, leaves, pages, build, partition, walk or near, with their words";
 
 fn main(rt: HostRuntime) -> io::Result<()> {
     let mut words = Vec::new(rt.alloc());
@@ -48,6 +49,7 @@ fn answer<R: Threads + Sync>(
         "csv" => csv(rt, alloc, words),
         "rings" => edges(alloc, words),
         "leaves" => leaf(rt, alloc, words),
+        "pages" => page(alloc, words),
         "build" => build(threads, alloc, words),
         "partition" => parts(alloc, words),
         "walk" => walk(threads, alloc, words),
@@ -87,6 +89,15 @@ fn leaf(rt: &HostRuntime, alloc: Global, words: &[String]) -> Option<String> {
     let count = count_of(count).min(500) as u16;
     let (found, sum) = leaves::read_over(leaf.as_slice(), count, count_of(times));
     format!(in alloc; "leaves {found} sum {sum}").ok()
+}
+
+/// `pages TIMES` checks the digest of a page so many times, and says how often it was whole.
+fn page(alloc: Global, words: &[String]) -> Option<String> {
+    let [times] = words else {
+        return None;
+    };
+    let found = pages::checked_over(count_of(times));
+    format!(in alloc; "whole {found}").ok()
 }
 
 /// `build FORKS COUNT ROUNDS` draws so many entries and builds their tree so many times, the upper levels by two

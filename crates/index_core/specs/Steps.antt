@@ -94,10 +94,14 @@ pub record Place : Type 0 where
   pub text : List ℕ
   pub faults : ℕ
 
+-- what commits rests on the session's guarding of the files; nothing else does
+abbrev pub GuardsFor : (committing : Bool) → ℕ → Place → Type 0
+GuardsFor committing D place = committing ≡ true → Guards D place.files place.session
+
 -- from the one place to the other the session does what this outcome says, committing or not
 pub record Applies (D : ℕ) (told : Type 0) (outcome : Index → Outcome) (committing : Bool) (old new : Place)
     (result : Result Applied PageFault) : Type 0 where
-  pub does : told → (i : Index) → Sees D old.files old.session.set i → Guards D old.files old.session
+  pub does : told → (i : Index) → Sees D old.files old.session.set i → GuardsFor committing D old
       → DoesOver D new.files (outcome i) i new.session.set old.text new.text result
   pub begins : Begins old.text new.text
   pub guards : told → Guards D old.files old.session → Guards D new.files new.session
@@ -105,7 +109,7 @@ pub record Applies (D : ℕ) (told : Type 0) (outcome : Index → Outcome) (comm
   pub stored : told → (i : Index) → Sees D old.files old.session.set i → Guards D old.files old.session
       → committing ≡ true → Stores old.files new.files i new.session.set result
   pub cause : HasPageCause old.faults new.faults result
-  pub whole : told → (i : Index) → Sees D old.files old.session.set i → Guards D old.files old.session
+  pub whole : told → (i : Index) → Sees D old.files old.session.set i → GuardsFor committing D old
       → NotDamaged result
   pub faithful : told → IsFaithful D old.files old.session.set → IsFaithful D new.files new.session.set
   pub traced : told → Trusts D old.files old.session → AreTraced D new.files new.session.set.parts

@@ -142,7 +142,7 @@ impl<const D: usize> Session<D> {
     ) -> Result<Applied, PageFault>
         requires { IsWithinLimits (request_of c.now) }
         ensures does { IsTrue F.told → (i : Index) → Sees D (F.files folder.old) self.old.set i
-            → Guards D (F.files folder.old) self.old
+            → (is_committing (request_of c.now) ≡ true → Guards D (F.files folder.old) self.old)
             → DoesOver D (F.files folder.new)
             (step_on i (request_of c.now)) i self.new.set out.old.items out.new.items result }
         ensures begins { Begins out.old.items out.new.items }
@@ -160,7 +160,7 @@ impl<const D: usize> Session<D> {
             (F.files folder.new) self.old.set self.new.set) }
         ensures cause { HasPageCause (F.faults folder.old) (F.faults folder.new) result }
         ensures whole { IsTrue F.told → (i : Index) → Sees D (F.files folder.old) self.old.set i
-            → Guards D (F.files folder.old) self.old → NotDamaged result }
+            → (is_committing (request_of c.now) ≡ true → Guards D (F.files folder.old) self.old) → NotDamaged result }
         // a request that commits changes no file where nothing changed, and else writes the commit anew; once it is
         // done nothing is changed
         ensures idle { IsTrue F.told → is_committing (request_of c.now) ≡ true → IsUnchanged self.old

@@ -33,6 +33,8 @@ mod drawn_ranges;
 #[cfg(test)]
 mod draws;
 #[cfg(test)]
+mod eight_dimensions;
+#[cfg(test)]
 mod embedded_sessions;
 #[cfg(test)]
 mod explaining;

@@ -1,7 +1,7 @@
 //! All live entries of a segment.
 
 ghost use Rattle.std.specs.Prelude.{◌≡◌, ◌≤◌, ◌+◌, ◌⊎◌, ◌++◌, ◌∷◌, ◌<◌, ℕ, List, [], Some, length, slice_get, filter};
-ghost use Rattle.std.specs.Prelude.{true, All, IsTrue, IfOk, OnOk};
+ghost use Rattle.std.specs.Prelude.{true, All, IsTrue, IfOk, OnOk, vec_capacity, vec_len};
 ghost use Rattle.outer_io.specs.Files.{bytes_of};
 ghost use Rattle.outer_io.specs.declared.file_name.FileName.TheVariants.{Segment};
 ghost use Rattle.point_codec.specs.Points.{Item, Region};
@@ -184,33 +184,49 @@ fn push_live<const D: usize>(
     ensures live { All (λ x. is_live live.now x.doc ≡ true) (items_of entries.old.items)
         → All (λ x. is_live live.now x.doc ≡ true) (items_of entries.new.items) }
 {
-    for i in 0..view.count() {
-        push_if_live(view, i, live, entries)?;
-    }
+    entries.reserve(view.count() as usize)?;
+    push_reserved(view, live, entries);
     Ok(())
 }
 
-/// Appends entry `i` of the leaf where it is live.
+/// Appends those of the leaf's entries that are live, for all of which there is room.
+fn push_reserved<const D: usize>(
+    view: &LeafView<'_, D>,
+    live: &LiveBits,
+    entries: &mut Vec<Entry<D>>,
+)
+    requires { vec_len entries.old + length view.now ≤ vec_capacity entries.old }
+    ensures all { items_of entries.new.items
+        ≡ items_of entries.old.items ++ filter (λ x. is_live live.now x.doc) view.now }
+    ensures live { All (λ x. is_live live.now x.doc ≡ true) (items_of entries.old.items)
+        → All (λ x. is_live live.now x.doc ≡ true) (items_of entries.new.items) }
+{
+    for i in 0..view.count() {
+        push_if_live(view, i, live, entries);
+    }
+}
+
+/// Appends entry `i` of the leaf where it is live. There is room for it.
 fn push_if_live<const D: usize>(
     view: &LeafView<'_, D>,
     i: u16,
     live: &LiveBits,
     entries: &mut Vec<Entry<D>>,
-) -> Result<(), Memory>
-    requires { i < length view.now }
+)
+    requires within { i < length view.now }
+    requires room { vec_len entries.old < vec_capacity entries.old }
     ensures one { (x : Item) → slice_get view.now i ≡ Some x
-        → OnOk result
-        (items_of entries.new.items ≡ items_of entries.old.items ++ filter (λ y. is_live live.now y.doc) (x ∷ [])) }
+        → items_of entries.new.items ≡ items_of entries.old.items ++ filter (λ y. is_live live.now y.doc) (x ∷ []) }
+    ensures room { (vec_len entries.new ≤ vec_len entries.old + 1)
+        × (vec_capacity entries.new ≡ vec_capacity entries.old) }
     ensures live { All (λ x. is_live live.now x.doc ≡ true) (items_of entries.old.items)
         → All (λ x. is_live live.now x.doc ≡ true) (items_of entries.new.items) }
 {
     let doc = view.doc(i);
-    if !live.is_live(doc) {
-        return Ok(());
+    if live.is_live(doc) {
+        entries.push_reserved(Entry {
+            doc,
+            point: view.point(i),
+        });
     }
-    entries.push(Entry {
-        doc,
-        point: view.point(i),
-    })?;
-    Ok(())
 }

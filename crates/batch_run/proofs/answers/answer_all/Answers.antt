@@ -19,7 +19,7 @@ answer-requires g c = (
   (
     query_fits g.row.D c.len-parts.ensures.dims,
     (
-      subst (IsInRange g.row.D) (sym c.query-item.is) (c.requires c.loop-query.query-index c.query-item.result c.loop-query-test.true),
+      subst (IsInRange g.row.D) (sym c.query-item.is) (c.requires.range c.loop-query.query-index c.query-item.result c.loop-query-test.true),
       (
         subst (λ (f : Files). Agrees f c.loop-query.cache) (sym c.loop-query.invariant.files) c.loop-query.invariant.agrees,
         subst (λ (f : Files). ∥ ((docs : List Document) × Holds g.row.D f c.segments-segments.result.now docs) ∥₁) (sym c.loop-query.invariant.files)

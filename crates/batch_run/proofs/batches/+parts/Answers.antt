@@ -4,8 +4,8 @@ use Rattle.batch_run.specs.Residents.{AreReplies}
 use Rattle.batch_run.proofs.Replied.{halves_counted, halves_replied}
 use Rattle.batch_run.proofs.batches.+parts.Goals as goal
 
-pub batch-returns : goal.batch-returns
-batch-returns g t c =
+pub answer_part-returns : goal.answer_part-returns
+answer_part-returns g t c =
     let left : AreReplies c.args.resident.now c.split_at.result.0.now c.in_ok-replies.replies.items = rw c.in_ok-replies.was at c.both-first.ensures.left in
     let right : AreReplies c.args.resident.now c.split_at.result.1.now c.in_ok-others.others.items = rw c.in_ok-others.was at c.both-first.ensures.right in
     record {

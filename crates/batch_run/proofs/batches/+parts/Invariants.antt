@@ -1,8 +1,8 @@
 use Rattle.std.proofs.Common.{◌+◌, ◌*◌}
 use Rattle.batch_run.proofs.batches.+parts.Given as goal
 
-abbrev pub decreases-batch : goal.decreases-batch
-decreases-batch g l = 4 * l.forks + 3
+abbrev pub decreases-answer_part : goal.decreases-answer_part
+decreases-answer_part g l = 4 * l.forks + 3
 
 abbrev pub decreases-both : goal.decreases-both
 decreases-both g l = 4 * l.forks + 2

@@ -1,5 +1,5 @@
 -- What is stored is attached anew.
-use Rattle.std.proofs.Common.{◌≡◌, Err, Some, sym, ap, subst, ◌∙◌, ◌⊎◌, inr}
+use Rattle.std.proofs.Common.{◌≡◌, Err, Some, refl, sym, ap, subst, ◌∙◌, ◌⊎◌, inr}
 use Rattle.std.proofs.lemmas.Result.{err_from_is_err_and}
 use Rattle.page_cache.specs.declared.faults.PageFault.{PageFault}
 use Rattle.outer_io.specs.Files.{Files}
@@ -66,7 +66,7 @@ returns-in_err-set-clause-applies g c =
       kept = λ told guards. subst (λ (f : Files). SameKept (g.F.Pages.files c.args.folder.now) f ⊎ SaysCommit f c.commit.new.self.set.saved) (sym (c.attach_anew.ensures.files told)) (c.commit.ensures.flight told guards);
       stored = λ told i seen guards e. inr (subst (λ (f : Files). IsStored f (Some (at_rest i))) (sym (c.attach_anew.ensures.files told)) (c.in_ok-commit.ensures.stored told i seen guards).0);
       cause = fault_to _ _ c.in_err-set.field-0.0 (cause_then _ _ _ _ c.in_ok-commit.ensures.cause.fine c.in_err-set.ensures.cause);
-      whole = λ told i seen guards. c.in_err-set.ensures.whole told c.in_ok-commit.ensures.committed.1 (c.commit.ensures.guards told guards) (Some (at_rest i)) (c.in_ok-commit.ensures.stored told i seen guards).0;
+      whole = λ told i seen owed. let guards = owed refl in c.in_err-set.ensures.whole told c.in_ok-commit.ensures.committed.1 (c.commit.ensures.guards told guards) (Some (at_rest i)) (c.in_ok-commit.ensures.stored told i seen guards).0;
       faithful = λ told faithful. subst (λ (f : Files). IsFaithful g.row.D f c.commit.new.self.set) (sym (c.attach_anew.ensures.files told)) (c.commit.ensures.faithful told faithful);
       traced = λ told trusts. subst (λ (f : Files). AreTraced g.row.D f c.commit.new.self.set.parts) (sym (c.attach_anew.ensures.files told)) (c.commit.ensures.traced told trusts);
       evident = on_evident_at {X = Unit {0}} IsTwice _ _ _ _ (Err c.in_err-set.field-0.0) (λ (told, trusts). (told, c.in_ok-commit.ensures.committed.1, c.commit.ensures.guards told trusts.guards))
@@ -117,7 +117,7 @@ renew-requires g c = (
 pub returns-clause-applies : goal.returns-clause-applies
 unfolding step_on
 returns-clause-applies g c = record {
-  does = λ told i seen guards. does_done _ _ i (at_rest i) _ ok_text _ _
+  does = λ told i seen owed. let guards = owed refl in does_done _ _ i (at_rest i) _ ok_text _ _
       (subst (λ (f : Files). Sees g.row.D f c.renew.new.self (at_rest i)) (sym (c.attach_anew.ensures.files told))
       (c.renew.ensures.seen _ _ (c.in_ok-set.ensures.seen told c.in_ok-commit.ensures.committed.1 (c.commit.ensures.guards told guards) (at_rest i)
       (c.in_ok-commit.ensures.stored told i seen guards).0)))
