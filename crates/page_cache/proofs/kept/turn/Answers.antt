@@ -17,5 +17,6 @@ returns-else-key-id-clause-turned c = λ front last e.
     let same : c.in-Some.last.now ≡ last.0 =
     kept.key_of_last (option_map deref_pair c.peek_lru.result) c.in-Some.last.now c.in-Some.field-0-1.now c.args.pages.now.entries front last
     c.peek_lru.ensures (ap (option_map deref_pair) c.in-Some.is) e in
-    kept.turn_round c.args.id c.args.pages.now.entries c.promote.new.self.entries front last c.in-Some.last.now (ap (λ p. p.entries) c.promote.ensures.entries) same e
+    kept.turn_round c.args.id c.args.pages.now.entries c.promote.new.self.entries front last c.in-Some.last.now (ap (λ p. p.entries) c.promote.ensures.entries)
+    same e
     c.len-kept.ensures.valid.0 (λ own. c.if-key-id.false (ap (λ (k : PageKey). k.id) same ∙ own))

@@ -8,7 +8,8 @@ use Rattle.page_cache.proofs.cache.PageCache.forget.Goals as goal
 
 pub returns-clause-gone : goal.returns-clause-gone
 unfolding Keeps IsKept KeepsFile
-returns-clause-gone c = λ k. others_gone c.args.id c.args.self.now.pages.entries c.take_file_out.new.pages.entries c.take_file_out.ensures.others k.0 k.1.1.0 k.1.1.1
+returns-clause-gone c = λ k.
+    others_gone c.args.id c.args.self.now.pages.entries c.take_file_out.new.pages.entries c.take_file_out.ensures.others k.0 k.1.1.0 k.1.1.1
 
 pub returns-clause-order : goal.returns-clause-order
 unfolding order_of
