@@ -12,5 +12,7 @@ returns g c root t h =
     let here = subst (λ (b : Body). HasTree g.row.D b root t) (sym c.self.view_is) h in
     elim (cases_eq i.pages (pages_of t)) [
       | inl same ↦ same
-      | inr apart ↦ absurd (not_there i.valid (λ v. apart (v.pages_are ∙ ap pages_of (one_index g.row.D i.form i.leaves i.bytes.items (region_of i.root) root v.tree t v.spelled here).1)))
+      | inr apart ↦ absurd
+          (not_there i.valid
+          (λ v. apart (v.pages_are ∙ ap pages_of (one_index g.row.D i.form i.leaves i.bytes.items (region_of i.root) root v.tree t v.spelled here).1)))
     ]
