@@ -1,10 +1,12 @@
 -- Lists in order of number and coordinates: equal entries are neighbours, and those of one number stand in a row.
-use Rattle.std.proofs.Common.{◌≡◌, ◌≢◌, ℕ, zero, suc, ◌+◌, ◌-◌, ◌<◌, ◌≤◌, Bool, true, false, ◌&&◌, ◌||◌, eqb, leb, cond, List, [], ◌∷◌, length, map, get_or, take, drop, refl, sym, ap, subst, ◌∙◌, inl, inr, arith, Ordering, Less, Equal, Greater}
+use Rattle.std.proofs.Common.{◌≡◌, ◌≢◌, ℕ, zero, suc, ◌+◌, ◌-◌, ◌<◌, ◌≤◌, Bool, true, false, ◌&&◌, ◌||◌, eqb, leb, cond, List, [], ◌∷◌}
+use Rattle.std.proofs.Common.{length, map, get_or, take, drop, refl, sym, ap, subst, ◌∙◌, inl, inr, arith, Ordering, Less, Equal, Greater}
 use Rattle.std.specs.List.{All, AllPairs, count_by}
 use Rattle.std.specs.List.Sorted.{IsSorted, IsStrictlySortedBy}
 use Rattle.std.specs.Ordering.{int_cmp, nat_cmp, is_eq, is_lt, ordering_reverse, ordering_then}
 use Rattle.std.specs.Cmp.Lexicographic.{slice_cmp}
-use Rattle.std.proofs.lemmas.Bool.{cases_Bool, cases_eq, cases_lt, eq-eqb, eqb-true, ne_eqb, le-leb, leb-true, or_parts, or_cases, and_parts, and_from, true≢false, false≢true}
+use Rattle.std.proofs.lemmas.Bool.{cases_Bool, cases_eq, cases_lt, eq-eqb, eqb-true, ne_eqb, le-leb}
+use Rattle.std.proofs.lemmas.Bool.{leb-true, or_parts, or_cases, and_parts, and_from, true≢false, false≢true}
 use Rattle.std.proofs.lemmas.Cmp.{by_ranked, ranked, tied_itself}
 use Rattle.std.proofs.lemmas.List.{get_or-map, length-map, get_or-take, get_or-drop, get_or_default, length-drop, length-take-le, take-map}
 use Rattle.std.proofs.lemmas.List.Elements.{All-cons, All-head, All-tail, All-weaker}
@@ -81,7 +83,8 @@ absent : (n : ℕ) (x : Item) (xs : List Item) → Rises (x ∷ xs) → n < x.do
 absent n x xs up above =
     none_above n (x ∷ xs)
     (All-cons (λ (y : Item). n < y.doc) x xs above
-    (All-weaker (λ (y : Item). x.doc ≤ y.doc) (λ (y : Item). n < y.doc) (λ y le. omega (arith, le, above)) xs (pairs_after (λ (a b : Item). a.doc ≤ b.doc) x xs up)))
+    (All-weaker (λ (y : Item). x.doc ≤ y.doc) (λ (y : Item). n < y.doc) (λ y le. omega (arith, le, above)) xs
+    (pairs_after (λ (a b : Item). a.doc ≤ b.doc) x xs up)))
 
 one_more : (n : ℕ) (x : Item) (xs : List Item) → x.doc ≡ n → count_of n (x ∷ xs) ≡ 1 + count_of n xs
 one_more n x xs e = count-cons (has n) x xs ∙ ap (λ (b : Bool). one_if b + count_of n xs) (eq-eqb x.doc n e)
@@ -89,13 +92,15 @@ one_more n x xs e = count-cons (has n) x xs ∙ ap (λ (b : Bool). one_if b + co
 from_first : (n : ℕ) (x : Item) (xs : List Item) → Rises (x ∷ xs) → n ≤ x.doc → All (λ (y : Item). n ≤ y.doc) (x ∷ xs)
 from_first n x xs up low =
     All-cons (λ (y : Item). n ≤ y.doc) x xs low
-    (All-weaker (λ (y : Item). x.doc ≤ y.doc) (λ (y : Item). n ≤ y.doc) (λ y le. omega (arith, le, low)) xs (pairs_after (λ (a b : Item). a.doc ≤ b.doc) x xs up))
+    (All-weaker (λ (y : Item). x.doc ≤ y.doc) (λ (y : Item). n ≤ y.doc) (λ y le. omega (arith, le, low)) xs
+    (pairs_after (λ (a b : Item). a.doc ≤ b.doc) x xs up))
 
 tail_rises : (x : Item) (xs : List Item) → Rises (x ∷ xs) → Rises xs
 tail_rises x xs up = pairs_tail (λ (a b : Item). a.doc ≤ b.doc) x xs up
 
 -- of a list that rises from n on, those of number n come first
-in_front : (n k : ℕ) (xs : List Item) → Rises xs → All (λ (x : Item). n ≤ x.doc) xs → k < count_of n xs → (d : Item) → (k < length xs) × ((get_or xs k d).doc ≡ n)
+in_front : (n k : ℕ) (xs : List Item) → Rises xs → All (λ (x : Item). n ≤ x.doc) xs → k < count_of n xs → (d : Item)
+    → (k < length xs) × ((get_or xs k d).doc ≡ n)
 in_front n k [] up from lt d = absurd (omega (arith, lt))
 in_front n zero (x ∷ xs) up from lt d = elim (cases_eq x.doc n) [
   | inl here ↦ (omega arith, here)
@@ -196,7 +201,8 @@ module _ {D : ℕ} (xs : List (Entry D)) (up : IsSorted by_number (items_of xs))
           ∙ same
           ∙ ap (λ (x : Item). x.doc) (at (k + 16) d e within) in
           let shared : shares d xs (k + 16 - 16) (k + 16) ≡ true =
-          and_from (leb 16 (k + 16)) (eqb (get_or xs (k + 16 - 16) d).doc (get_or xs (k + 16) d).doc) (le-leb 16 (k + 16) (omega arith)) (eq-eqb (get_or xs (k + 16 - 16) d).doc (get_or xs (k + 16) d).doc docs) in
+          and_from (leb 16 (k + 16)) (eqb (get_or xs (k + 16 - 16) d).doc (get_or xs (k + 16) d).doc) (le-leb 16 (k + 16) (omega arith))
+          (eq-eqb (get_or xs (k + 16 - 16) d).doc (get_or xs (k + 16) d).doc docs) in
           false≢true (sym (neither (k + 16) (omega arith) within).1 ∙ shared)
 
   some_crowded : (d : Entry D) (k : ℕ) → 1 ≤ k → k < length xs → repeats_at d xs k ≡ true → IsCrowded (get_or xs k d).doc (items_of xs)
@@ -218,8 +224,10 @@ module _ {D : ℕ} (xs : List (Entry D)) (up : IsSorted by_number (items_of xs))
         let behind : 16 ≤ k = leb-true 16 k parts.0 in
         let y : Item = item_of (get_or xs k d) in
         let back : k - 16 + 16 ≡ k = omega arith in
-        let first : (get_or (items_of xs) (k - 16) y).doc ≡ n = ap (λ (z : Item). z.doc) (at (k - 16) d y (omega arith)) ∙ eqb-true (get_or xs (k - 16) d).doc n parts.1 in
-        let last : (get_or (items_of xs) (k - 16 + 16) y).doc ≡ n = ap (λ (j : ℕ). (get_or (items_of xs) j y).doc) back ∙ ap (λ (z : Item). z.doc) (at k d y lt) in
+        let first : (get_or (items_of xs) (k - 16) y).doc ≡ n =
+        ap (λ (z : Item). z.doc) (at (k - 16) d y (omega arith)) ∙ eqb-true (get_or xs (k - 16) d).doc n parts.1 in
+        let last : (get_or (items_of xs) (k - 16 + 16) y).doc ≡ n =
+        ap (λ (j : ℕ). (get_or (items_of xs) j y).doc) back ∙ ap (λ (z : Item). z.doc) (at k d y lt) in
         inl (run n 16 (k - 16) (items_of xs) y (rises (items_of xs) up) (omega (arith, long, lt)) first last)
   ]
 
@@ -231,7 +239,8 @@ stand_once (x ∷ xs) up none = none_crowded (x ∷ xs) up x (λ k. none k x)
 
 one_crowded : {D : ℕ} (xs : List (Entry D)) (n : ℕ) → IsSorted by_number (items_of xs) → IsFirstRepeat xs n → IsCrowded n (items_of xs)
 one_crowded [] n up h = absurd (omega (arith, h.within))
-one_crowded (x ∷ xs) n up h = subst (λ (m : ℕ). IsCrowded m (items_of (x ∷ xs))) (h.repeats x).1 (some_crowded (x ∷ xs) up x h.place h.some h.within (h.repeats x).0)
+one_crowded (x ∷ xs) n up h =
+    subst (λ (m : ℕ). IsCrowded m (items_of (x ∷ xs))) (h.repeats x).1 (some_crowded (x ∷ xs) up x h.place h.some h.within (h.repeats x).0)
 
 -- ---- of those in front of a place, and from it on
 
@@ -243,7 +252,8 @@ no_lesser k m xs d up less = none_above m (drop k xs) above
     above i e lt = elim (cases_eq i 0) [
       | inl first ↦
           let long : k < length xs = omega (arith, lt, length-drop k xs) in
-          let here : get_or (drop k xs) i e ≡ get_or xs k d = get_or-drop k xs i e ∙ ap (λ (j : ℕ). get_or xs j e) (omega (arith, first)) ∙ get_or_default xs k e d long in
+          let here : get_or (drop k xs) i e ≡ get_or xs k d =
+          get_or-drop k xs i e ∙ ap (λ (j : ℕ). get_or xs j e) (omega (arith, first)) ∙ get_or_default xs k e d long in
           subst (λ (x : Item). m < x.doc) (sym here) less
       | inr later ↦
           let long : k + i < length xs = omega (arith, lt, length-drop k xs) in
@@ -257,7 +267,8 @@ crowded_before : (k m : ℕ) (xs : List Item) (d : Item) → Rises xs → m < (g
 crowded_before k m xs d up less (inl many) = inl (omega (arith, many, sum_by-take-drop (λ (x : Item). one_if (has m x)) xs k, no_lesser k m xs d up less))
 crowded_before k m xs d up less (inr (x, is, two)) =
     let none = no_lesser k m xs d up less in
-    let few : count_by (same_item x) (drop k xs) ≤ count_of m (drop k xs) = subst (λ (n : ℕ). count_by (same_item x) (drop k xs) ≤ count_of n (drop k xs)) is (no_more x (drop k xs)) in
+    let few : count_by (same_item x) (drop k xs) ≤ count_of m (drop k xs) =
+    subst (λ (n : ℕ). count_by (same_item x) (drop k xs) ≤ count_of n (drop k xs)) is (no_more x (drop k xs)) in
     inr (x, is, omega (arith, two, sum_by-take-drop (λ (y : Item). one_if (same_item x y)) xs k, few, none))
 
 not_crowded : (n : ℕ) (xs : List Item) → NoneTwice xs × AreFew xs → IsCrowded n xs → ⊥
@@ -280,7 +291,8 @@ least_crowded {D} (x ∷ xs) n up h = record { crowded = one_crowded (x ∷ xs) 
         let items = items_of (x ∷ xs) in
         let all : length items ≡ length (x ∷ xs) = length-map (x ∷ xs) (item_of {D = D}) in
         let inside : k + 1 < h.place = omega (arith, lt, length-take-le h.place items (omega (arith, h.within, all))) in
-        rw (get_or-take h.place items (k + 1) d inside, get_or-take h.place items k d (omega (arith, inside))) (up k d low (omega (arith, inside, h.within, all)))
+        rw (get_or-take h.place items (k + 1) d inside, get_or-take h.place items k d (omega (arith, inside)))
+        (up k d low (omega (arith, inside, h.within, all)))
 
     in_order : IsSorted by_number (items_of front)
     in_order = subst (IsSorted by_number) (sym fronts) front_sorted
@@ -288,7 +300,11 @@ least_crowded {D} (x ∷ xs) n up h = record { crowded = one_crowded (x ∷ xs) 
     none : (k : ℕ) (d : Entry D) → 1 ≤ k → k < length front → repeats_at d front k ≡ false
     none k d some lt =
         let inside : k < h.place = omega (arith, lt, length-take-le h.place (x ∷ xs) (omega (arith, h.within))) in
-        rw (get_or-take h.place (x ∷ xs) k d inside, get_or-take h.place (x ∷ xs) (k - 1) d (omega (arith, inside)), get_or-take h.place (x ∷ xs) (k - 16) d (omega (arith, inside))) (h.before k d some inside)
+        rw (
+          get_or-take h.place (x ∷ xs) k d inside,
+          get_or-take h.place (x ∷ xs) (k - 1) d (omega (arith, inside)),
+          get_or-take h.place (x ∷ xs) (k - 16) d (omega (arith, inside)),
+        ) (h.before k d some inside)
 
     here : (get_or (items_of (x ∷ xs)) h.place (item_of x)).doc ≡ n
     here = ap (λ (y : Item). y.doc) (get_or-map (λ (y : Entry D). item_of y) (x ∷ xs) h.place x (item_of x) h.within) ∙ (h.repeats x).1
@@ -296,4 +312,5 @@ least_crowded {D} (x ∷ xs) n up h = record { crowded = one_crowded (x ∷ xs) 
     least : (m : ℕ) → m < n → IsCrowded m (items_of (x ∷ xs)) → ⊥
     least m lt crowd =
         not_crowded m (items_of front) (stand_once front in_order none)
-        (subst (IsCrowded m) (sym fronts) (crowded_before h.place m (items_of (x ∷ xs)) (item_of x) (rises (items_of (x ∷ xs)) up) (omega (arith, lt, here)) crowd))
+        (subst (IsCrowded m) (sym fronts)
+        (crowded_before h.place m (items_of (x ∷ xs)) (item_of x) (rises (items_of (x ∷ xs)) up) (omega (arith, lt, here)) crowd))

@@ -1,5 +1,6 @@
 -- The numbers of a set, word by word, and the sets one after another.
-use Rattle.std.proofs.Common.{◌≡◌, ◌<◌, ◌≤◌, ◌+◌, ◌-◌, ◌*◌, ◌/◌, ◌%◌, ◌^◌, ℕ, min, max, Bool, true, false, ◌&&◌, ◌||◌, cond, nat_eq, nat_lt, List, [], ◌∷◌, length, get_or, take, refl, sym, ap, subst, ◌∙◌, ◌⊎◌, arith, inl, inr}
+use Rattle.std.proofs.Common.{◌≡◌, ◌<◌, ◌≤◌, ◌+◌, ◌-◌, ◌*◌, ◌/◌, ◌%◌, ◌^◌, ℕ, min, max, Bool, true, false, ◌&&◌, ◌||◌, cond}
+use Rattle.std.proofs.Common.{nat_eq, nat_lt, List, [], ◌∷◌, length, get_or, take, refl, sym, ap, subst, ◌∙◌, ◌⊎◌, arith, inl, inr}
 use Rattle.std.specs.Int.{w64, trailing_zeros}
 use Rattle.std.proofs.Math.Bool.{or-false, and-false}
 use Rattle.std.proofs.lemmas.Bool.{cases_Bool, cases_eq, cases_lt, eq-eqb, ne_eqb, lt-ltb, le-ltb, and_parts, and_right, and_left}
@@ -146,7 +147,8 @@ module _ (old marks : List ℕ) (s : LiveSet) (at : ℕ) (h : IsMarked old marks
 pub marked_none : (old : List ℕ) (s : LiveSet) → IsLiveSet s → IsMarked old old s (64 * (s.base / 64))
 marked_none old s are = record {
   joined = λ n. sym (elim (cases_lt n (64 * (s.base / 64))) [
-    | inl low ↦ ap (λ (b : Bool). is_marked old n || (nat_lt n (64 * (s.base / 64)) && b)) (dead s n are (inl (omega arith))) ∙ none (is_marked old n) (nat_lt n (64 * (s.base / 64)))
+    | inl low ↦ ap (λ (b : Bool). is_marked old n || (nat_lt n (64 * (s.base / 64)) && b)) (dead s n are (inl (omega arith)))
+        ∙ none (is_marked old n) (nat_lt n (64 * (s.base / 64)))
     | inr high ↦ ap (λ (b : Bool). is_marked old n || (b && is_live s n)) (le-ltb n (64 * (s.base / 64)) high) ∙ or-false (is_marked old n)
   ]);
   once = λ n lt. and_right (is_marked old n) (is_live s n) (dead s n are (inl (omega arith)));
@@ -158,7 +160,8 @@ marked_none old s are = record {
     none false false = refl
 
 -- and past the last one neither
-module _ (old new : List ℕ) (s : LiveSet) (at limit : ℕ) (are : IsLiveSet s) (h : IsMarked old new s (64 * at)) (end : min limit (s.base + s.span) ≤ 64 * at) where
+module _ (old new : List ℕ) (s : LiveSet) (at limit : ℕ) (are : IsLiveSet s) (h : IsMarked old new s (64 * at))
+    (end : min limit (s.base + s.span) ≤ 64 * at) where
   pub once_all : (n : ℕ) → n < limit → (is_marked old n && is_live s n) ≡ false
   once_all n lt = elim (cases_lt n (64 * at)) [
     | inl low ↦ h.once n low
@@ -188,7 +191,8 @@ dead_more s from at word h is none n le lt = elim (cases_lt n at) [
   | inr high ↦ live_at s at word n is high lt ∙ no_bit word (n - at) none
 ]
 
-pub dead_before : (s : LiveSet) (from at word : ℕ) → AreDead s from at → IsWord s at word → 0 < word → word < 2 ^ 64 → AreDead s from (at + trailing_zeros w64 word)
+pub dead_before : (s : LiveSet) (from at word : ℕ) → AreDead s from at → IsWord s at word → 0 < word → word < 2 ^ 64
+    → AreDead s from (at + trailing_zeros w64 word)
 dead_before s from at word h is some fits n le lt = elim (cases_lt n at) [
   | inl low ↦ h n le low
   | inr high ↦
@@ -211,7 +215,8 @@ dead_all s from to limit are h end n le lt = elim (cases_lt n to) [
 abbrev one_if : Bool → ℕ
 one_if b = cond b 1 0
 
-pub places_more : (n : ℕ) (sets : List LiveSet) (i : ℕ) (s : LiveSet) → i < length sets → s ≡ get_or sets i s → places n (take (i + 1) sets) ≡ places n (take i sets) + cond (is_live s n) 1 0
+pub places_more : (n : ℕ) (sets : List LiveSet) (i : ℕ) (s : LiveSet) → i < length sets → s ≡ get_or sets i s
+    → places n (take (i + 1) sets) ≡ places n (take i sets) + cond (is_live s n) 1 0
 places_more n sets i s lt is =
     sum_by_more (λ (t : LiveSet). cond (is_live t n) 1 0) sets i s lt
     ∙ ap (λ (t : LiveSet). places n (take i sets) + cond (is_live t n) 1 0) (sym is)
@@ -234,7 +239,8 @@ both_once true true e = absurd cc
 both_once true false e = refl
 both_once false b e = omega arith
 
-pub counted_more : (sets : List LiveSet) (i next limit r : ℕ) (s : LiveSet) (old new : List ℕ) → i < length sets → s ≡ get_or sets i s → IsCounted (take i sets) next limit old
+pub counted_more : (sets : List LiveSet) (i next limit r : ℕ) (s : LiveSet) (old new : List ℕ) → i < length sets → s ≡ get_or sets i s
+    → IsCounted (take i sets) next limit old
     → r ≤ limit → ((n : ℕ) → n < r → (is_marked old n && is_live s n) ≡ false) → (r < limit → (is_marked old r && is_live s r) ≡ true)
     → ((n : ℕ) → n < r → is_marked new n ≡ (is_marked old n || is_live s n)) → IsCounted (take (i + 1) sets) next r new
 counted_more sets i next limit r s old new lt is h le once found after = record {
@@ -278,7 +284,8 @@ beyond_none next = record {
 }
 
 pub beyond_more : (sets : List LiveSet) (i next limit r : ℕ) (s : LiveSet) → i < length sets → s ≡ get_or sets i s → IsBeyond (take i sets) next limit
-    → r ≤ limit → AreDead s next r → (r < limit → (next ≤ r) × (is_live s r ≡ true)) → ((n : ℕ) → 2 ^ 24 ≤ n → is_live s n ≡ false) → IsBeyond (take (i + 1) sets) next r
+    → r ≤ limit → AreDead s next r → (r < limit → (next ≤ r) × (is_live s r ≡ true)) → ((n : ℕ) → 2 ^ 24 ≤ n → is_live s n ≡ false)
+    → IsBeyond (take (i + 1) sets) next r
 beyond_more sets i next limit r s lt is h le none found above = record {
   within = let within = h.within in omega arith;
   before = λ n high low. places_more n sets i s lt is ∙ (λ j. h.before n high (omega arith) j + cond (none n high low j) 1 0);

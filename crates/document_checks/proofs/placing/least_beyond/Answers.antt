@@ -8,7 +8,8 @@ use Rattle.document_checks.proofs.placing.least_beyond.Goals as goal
 pub loop-live-preserved : goal.loop-live-preserved
 loop-live-preserved c =
     let told = c.first_live-limit.ensures in
-    beyond_more c.args.lives.now c.loop-live.live-index c.args.next c.loop-live.limit c.first_live-limit.result c.live-item.result c.loop-live-test.true c.live-item.is
+    beyond_more c.args.lives.now c.loop-live.live-index c.args.next c.loop-live.limit c.first_live-limit.result c.live-item.result c.loop-live-test.true
+    c.live-item.is
     c.loop-live.invariant told.within told.before told.found told.above
 
 pub returns-clause-before : goal.returns-clause-before
