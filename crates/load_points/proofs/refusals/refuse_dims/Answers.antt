@@ -21,4 +21,5 @@ returns-in-Err-Memory c files faults = loads_no_memory _ _ _ _ files faults _ _ 
 
 pub returns-in-Err : goal.returns-in-Err
 returns-in-Err c files faults =
-    file_refused _ _ _ files faults _ _ c.args.input.now c.args.columns.now c.in-Err.fault c.refuse_file.result (λ stored h. h.0) (c.in-Err.ensures.fault (search rules)) (c.refuse_file.ensures files faults)
+    file_refused _ _ _ files faults _ _ c.args.input.now c.args.columns.now c.in-Err.fault c.refuse_file.result (λ stored h. h.0)
+    (c.in-Err.ensures.fault (search rules)) (c.refuse_file.ensures files faults)
