@@ -1,5 +1,6 @@
 pub mod Marking
 pub mod LivePlaces
+pub mod MarkedSets
 pub mod Once
 pub mod InOrder
 pub mod Rising

@@ -2,7 +2,7 @@ use Rattle.std.proofs.Common.{◌≡◌, ℕ, List, take, ap, subst, ◌∙◌, 
 use Rattle.std.proofs.lemmas.List.{take_all}
 use Rattle.live_bits.specs.LiveSet.{LiveSet}
 use Rattle.stored_index.specs.Segments.{places}
-use Rattle.document_checks.proofs.LivePlaces.{IsBeyond, beyond_more}
+use Rattle.document_checks.proofs.MarkedSets.{IsBeyond, beyond_more}
 use Rattle.document_checks.proofs.placing.least_beyond.Goals as goal
 
 pub loop-live-preserved : goal.loop-live-preserved

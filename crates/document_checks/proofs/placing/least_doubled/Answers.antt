@@ -2,7 +2,7 @@ use Rattle.std.proofs.Common.{◌≡◌, ◌≤◌, List, take, subst, arith}
 use Rattle.std.proofs.lemmas.List.{take_all}
 use Rattle.live_bits.specs.LiveSet.{LiveSet}
 use Rattle.stored_index.specs.Segments.{places}
-use Rattle.document_checks.proofs.LivePlaces.{counted_one}
+use Rattle.document_checks.proofs.MarkedSets.{counted_one}
 use Rattle.document_checks.proofs.placing.least_doubled.Goals as goal
 
 pub returns-clause-before : goal.returns-clause-before
