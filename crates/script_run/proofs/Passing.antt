@@ -43,7 +43,7 @@ use Rattle.index_core.specs.Sessions.{IsStill, IsUnchanged, SessionData}
 use Rattle.index_core.specs.Steps.{DoesOver, KeepsOver, is_committing}
 use Rattle.index_core.proofs.Bringing.{brings_same}
 use Rattle.explain_queries.specs.Explained.{reach}
-use Rattle.explain_queries.proofs.Explaining.{reach_is}
+use Rattle.explain_queries.proofs.Reaches.{reach_is}
 use Rattle.explain_queries.proofs.There.{are_nearest, there, there_found}
 use Rattle.index_core.proofs.Undone.{begins_none}
 use Rattle.script_run.specs.Costs.{TouchesOn, TouchesHeard, TouchesView, given_of, is_query}
