@@ -7,7 +7,8 @@ use Rattle.point_codec.specs.Seen.{coordinates_of}
 use Rattle.point_codec.specs.declared.coordinates.Point.{Point}
 use Rattle.segment_set.proofs.Sizes.{point_fits}
 use Rattle.index_core.proofs.Sizes.{session_fits}
-use Rattle.load_points.proofs.Loading.{adding_stopped, all_loaded, commit_stopped, loads_no_memory, told_count}
+use Rattle.load_points.proofs.Loading.{adding_stopped, all_loaded, commit_stopped, loads_no_memory}
+use Rattle.load_points.proofs.LoadAnswers.{told_count}
 use Rattle.load_points.proofs.loader.add_fitting.Goals as goal
 
 pub next-requires : goal.next-requires

@@ -6,7 +6,8 @@ use Rattle.commit_list.specs.CommitFiles.{IsCommitFile}
 use Rattle.stored_index.specs.Stored.{IsStored}
 use Rattle.load_points.specs.Loaded.{load_answer}
 use Rattle.index_core.proofs.Wholes.{state_undamaged}
-use Rattle.load_points.proofs.Loading.{evident_all, loads_after, none_stored, some_stored, stored_still_there, unread_commit}
+use Rattle.load_points.proofs.Loading.{loads_after, none_stored, some_stored}
+use Rattle.load_points.proofs.LoadAnswers.{evident_all, stored_still_there, unread_commit}
 use Rattle.load_points.proofs.loader.load.Goals as goal
 
 -- the clauses are those of one record

@@ -4,7 +4,8 @@ use Rattle.point_codec.specs.Seen.{coordinates_of}
 use Rattle.segment_set.proofs.Sizes.{point_fits}
 use Rattle.index_core.proofs.Sizes.{session_fits}
 use Rattle.load_points.proofs.Counted.{loaded_points}
-use Rattle.load_points.proofs.Loading.{file_refused, loads_as, loads_no_memory}
+use Rattle.load_points.proofs.Loading.{loads_as, loads_no_memory}
+use Rattle.load_points.proofs.LoadAnswers.{file_refused}
 use Rattle.load_points.proofs.loader.load_into.Goals as goal
 
 pub add_all-requires-after_bounds : goal.add_all-requires-after_bounds

@@ -2,7 +2,8 @@
 use Rattle.std.proofs.Common.{Some, refl, inl}
 use Rattle.index_core.proofs.Sizes.{session_fits}
 use Rattle.index_core.proofs.Undone.{fault_kept, kept_equal}
-use Rattle.load_points.proofs.Loading.{attached_loading, evident_still, has_dims, loads_after, loads_fault, starts_keeps, starts_still, trusts_still}
+use Rattle.load_points.proofs.Loading.{attached_loading, loads_after, loads_fault}
+use Rattle.load_points.proofs.LoadAnswers.{evident_still, has_dims, starts_keeps, starts_still, trusts_still}
 use Rattle.load_points.proofs.loader.load_over.Goals as goal
 
 pub attach-requires : goal.attach-requires

@@ -3,7 +3,8 @@ use Rattle.std.proofs.Common.{Err, rules, refl, ap, ◌∙◌}
 use Rattle.std.proofs.lemmas.Result.{err_from_is_err_and}
 use Rattle.page_cache.specs.declared.faults.PageFault.{PageFault}
 use Rattle.load_points.specs.Loaded.{dims_text}
-use Rattle.load_points.proofs.Loading.{dims_refused, file_refused, loads_no_memory, loads_refused}
+use Rattle.load_points.proofs.Loading.{loads_no_memory, loads_refused}
+use Rattle.load_points.proofs.LoadAnswers.{dims_refused, file_refused}
 use Rattle.load_points.proofs.refusals.refuse_dims.Goals as goal
 
 pub returns-in_err-put_dims-in-Ok : goal.returns-in_err-put_dims-in-Ok
