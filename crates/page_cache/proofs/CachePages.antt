@@ -11,7 +11,7 @@ use Rattle.page_file.specs.Page.{IsPage}
 use Rattle.page_cache.specs.declared.key.PageKey.{PageKey}
 use Rattle.page_cache.specs.Keys.{Kept, page_key, AllValid, KeepsIn, KeepsNoMore, KeepsOneMore, is_of_other}
 use Rattle.page_cache.specs.Evidence.{IsPageOf}
-use Rattle.page_cache.proofs.KeptPages.{in_filter, into_filter}
+use Rattle.page_cache.proofs.TakenOut.{in_filter, into_filter}
 
 -- what is kept agrees with the files
 abbrev pub AgreesIn : Files → Kept → Type 0

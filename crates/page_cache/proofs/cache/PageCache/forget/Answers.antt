@@ -2,7 +2,7 @@ use Rattle.std.proofs.Common.{◌∙◌, ap}
 use Rattle.std.specs.Map.{keys_of}
 use Rattle.page_cache.specs.Cache.{Keeps, IsKept, KeepsFile, Agrees, order_of}
 use Rattle.page_cache.specs.Keys.{Kept, page_key}
-use Rattle.page_cache.proofs.KeptPages.{keys_filtered}
+use Rattle.page_cache.proofs.TakenOut.{keys_filtered}
 use Rattle.page_cache.proofs.CachePages.{keeps_fewer, agrees_fewer, valid_fewer, others_fewer, others_gone, others_stay}
 use Rattle.page_cache.proofs.cache.PageCache.forget.Goals as goal
 
