@@ -21,8 +21,10 @@ use Rattle.index_core.proofs.Bringing.{brings_same, brings_then}
 use Rattle.index_core.proofs.Listed.{new_canonical}
 use Rattle.script_run.specs.Costs.{AllAsk, AreLight, HasRoomInLevels, TouchesLines, begins_no_merge, given_of, is_query}
 use Rattle.script_run.specs.Leads.{AreListed, Closes, HasRoom, Leads, Passes, Moment}
-use Rattle.script_run.proofs.Asking.{Rested, all_first, all_rest, all_weaker, light_begins, line_rests}
-use Rattle.script_run.proofs.Asking.{lines_give, queries_stay, query_light, state_rest, touches_parts}
+use Rattle.script_run.proofs.Asking.{Rested, light_begins, line_rests}
+use Rattle.script_run.proofs.AskingLines.{all_first, all_rest, all_weaker}
+use Rattle.script_run.proofs.Asking.{lines_give, query_light}
+use Rattle.script_run.proofs.AskingLines.{queries_stay, state_rest, touches_parts}
 use Rattle.index_core.proofs.Undone.{begins_none}
 use Rattle.script_run.specs.Languages.{answer, meaning}
 use Rattle.script_run.specs.Script.{state_after}

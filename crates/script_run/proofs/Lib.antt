@@ -7,6 +7,7 @@ pub mod Sizes
 pub mod Calling
 pub mod Scoped
 pub mod Asking
+pub mod AskingLines
 pub mod Deciding
 pub mod Passing
 pub mod Leading

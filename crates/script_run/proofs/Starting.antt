@@ -36,7 +36,8 @@ use Rattle.run_status.specs.declared.stop.Stop.{Stop}
 use Rattle.run_status.specs.declared.stop.Stop.TheVariants as stop
 use Rattle.script_run.specs.declared.origin.Origin.{Origin}
 use Rattle.script_run.specs.declared.origin.Origin.TheVariants as origin
-use Rattle.script_run.proofs.Asking.{all_first, all_rest, query_stays, state_rest, touches_parts}
+use Rattle.script_run.proofs.Asking.{query_stays}
+use Rattle.script_run.proofs.AskingLines.{all_first, all_rest, state_rest, touches_parts}
 use Rattle.script_run.proofs.Leading.{levels_still}
 use Rattle.script_run.proofs.Passing.{on_ok}
 use Rattle.script_run.proofs.Opened.{none_stored, some_stored}
