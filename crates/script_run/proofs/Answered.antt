@@ -23,7 +23,7 @@ use Rattle.stored_index.proofs.KeptFiles.{stored_still}
 use Rattle.index_core.specs.Sessions.{SessionData, Guards}
 use Rattle.index_core.specs.Steps.{DoesOver, KeepsOver, Stores, is_committing}
 use Rattle.script_run.specs.LineAnswers.{IsAnswered, IsLeft, Replies, Stands}
-use Rattle.script_run.proofs.Lined.{line_at}
+use Rattle.script_run.proofs.SoFar.{line_at}
 use Rattle.script_run.specs.Languages.{Heard, answer, answer_of, asks_commit, commits, heard, meaning}
 use Rattle.script_run.specs.Script.{final, stored_by}
 use Rattle.script_run.specs.declared.language.Language.{Language}

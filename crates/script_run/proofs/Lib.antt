@@ -2,6 +2,7 @@ pub mod Answered
 pub mod Ending
 pub mod Going
 pub mod Lined
+pub mod SoFar
 pub mod Opened
 pub mod Sizes
 pub mod Calling

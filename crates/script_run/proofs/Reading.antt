@@ -21,7 +21,7 @@ use Rattle.script_run.specs.declared.halt.Halt.{Halt}
 use Rattle.script_run.specs.Leads.{Closes, Leads, Passes, Moment}
 use Rattle.script_run.specs.Runs.{EndsLines, Halts}
 use Rattle.script_run.proofs.Leading.{Led, led_breaks, led_ends, led_first, led_on, led_stops}
-use Rattle.script_run.proofs.Lined.{Goes, end_lines, ends_then, goes_first, goes_on, halts_at, line_at, memory_at, place_on, stops_at}
+use Rattle.script_run.proofs.SoFar.{Goes, end_lines, ends_then, goes_first, goes_on, halts_at, line_at, memory_at, place_on, stops_at}
 use Rattle.script_run.specs.Languages.{heard, meaning, read_in}
 use Rattle.script_run.specs.declared.language.Language.{Language}
 use Rattle.script_run.specs.declared.language.Language.TheVariants.{Points, Ranges}

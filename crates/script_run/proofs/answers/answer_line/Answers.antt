@@ -2,7 +2,8 @@
 use Rattle.std.proofs.Common.{Bool, Err, IsTrue, Ok, ap, refl, sym, ◌∙◌}
 use Rattle.std.specs.Prelude.{is_ok}
 use Rattle.index_core.proofs.Sizes.{session_fits}
-use Rattle.script_run.proofs.Lined.{line_at, sent_answers, sent_as, left_answers, send_cause, fault_cause}
+use Rattle.script_run.proofs.Lined.{sent_answers, sent_as, left_answers, send_cause, fault_cause}
+use Rattle.script_run.proofs.SoFar.{line_at}
 use Rattle.script_run.proofs.Passing.{passes_to}
 use Rattle.script_run.proofs.Shown.{fault_shows, sink_shows}
 use Rattle.script_run.proofs.answers.answer_line.Goals as goal

@@ -8,7 +8,8 @@ use Rattle.script_run.specs.Halted.{halted}
 use Rattle.script_run.specs.Kept.{HaltKeeps}
 use Rattle.script_run.proofs.Calling.{fault_stops}
 use Rattle.script_run.proofs.Halting.{halt_cause_from, halt_less, halted_no_source, no_source, halted_cause, halted_ends, halted_keeps, halted_shows}
-use Rattle.script_run.proofs.Lined.{place_on, unopened, fault_cause, origin_keeps}
+use Rattle.script_run.proofs.Lined.{unopened, fault_cause, origin_keeps}
+use Rattle.script_run.proofs.SoFar.{place_on}
 use Rattle.script_run.proofs.Reading.{of_any, of_same}
 use Rattle.script_run.proofs.Shown.{fault_shows}
 use Rattle.script_run.proofs.Starting.{open_fails, open_leads}
