@@ -11,6 +11,7 @@ pub mod Asking
 pub mod AskingLines
 pub mod Deciding
 pub mod Passing
+pub mod RequestsDone
 pub mod Leading
 pub mod Starting
 pub mod Halting
