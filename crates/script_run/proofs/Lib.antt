@@ -14,6 +14,7 @@ pub mod Passing
 pub mod RequestsDone
 pub mod Leading
 pub mod Starting
+pub mod StartStored
 pub mod Halting
 pub mod Reading
 pub mod Shown

@@ -1,5 +1,5 @@
 -- What a run does on its way from the opening on.
-use Rattle.std.proofs.Common.{◌≡◌, ◌≤◌, ◌+◌, ◌/◌, ℕ, Bool, false, List, [], ◌∷◌, ◌++◌, length, map, None, Some}
+use Rattle.std.proofs.Common.{◌≡◌, ◌≤◌, ◌+◌, ℕ, Bool, false, List, [], ◌∷◌, ◌++◌, length, map, None, Some}
 use Rattle.std.proofs.Common.{Result, Ok, Err, IfOk, OnOk, refl, sym, ap, subst, ◌∙◌, ◌⊎◌, inl, inr, arith}
 use Rattle.std.specs.List.{All, AllZip, Contains}
 use Rattle.std.proofs.lemmas.List.Elements.{All-nil}
@@ -15,7 +15,7 @@ use Rattle.commit_list.proofs.CommitPages.{one_file}
 use Rattle.segment_file.specs.Heads.{Head}
 use Rattle.script_lang.specs.Requests.{Request}
 use Rattle.index_model.specs.State.{Index, Snapshot, State, new_index}
-use Rattle.stored_index.specs.Stored.{HasHead, HaveHeads, HaveLive, IsStored}
+use Rattle.stored_index.specs.Stored.{HasHead, HaveHeads, HaveLive}
 use Rattle.stored_index.specs.Opening.{segments_pages}
 use Rattle.stored_index.proofs.Parts.{heads_once}
 use Rattle.segment_view.specs.Parts.{Contents, Part, heads_of, live_in_parts}
@@ -27,7 +27,7 @@ use Rattle.index_core.specs.Sessions.{Guards, IsLast, IsUnchanged, SessionData}
 use Rattle.index_core.specs.Whole.{HasNewCanonical}
 use Rattle.index_core.proofs.Listed.{attached_listed}
 use Rattle.explain_queries.specs.Explained.{IsScope, Scope}
-use Rattle.script_run.specs.Costs.{AllAsk, AreLight, RunReadsFew, TouchesLines, begins_no_merge, given_of, is_query}
+use Rattle.script_run.specs.Costs.{AllAsk, AreLight, TouchesLines, begins_no_merge, given_of, is_query}
 use Rattle.script_run.specs.Leads.{AreListed, Leads, LeadsAll, LeadsFrom, Opens, Moment}
 use Rattle.run_status.specs.Ends.{IsAnswer}
 use Rattle.script_run.specs.Origins.{IsFrom}
@@ -40,8 +40,7 @@ use Rattle.script_run.proofs.Asking.{query_stays}
 use Rattle.script_run.proofs.AskingLines.{all_first, all_rest, state_rest, touches_parts}
 use Rattle.script_run.proofs.Leading.{levels_still}
 use Rattle.script_run.proofs.Passing.{on_ok}
-use Rattle.script_run.proofs.Opened.{none_stored, some_stored}
-use Rattle.script_run.proofs.Scoped.{commit_few, heads_zip, none_scope, opening_is, scope_holds}
+use Rattle.script_run.proofs.Scoped.{heads_zip, none_scope, scope_holds}
 use Rattle.script_run.specs.Languages.{answer, meaning}
 use Rattle.script_run.specs.Script.{state_after}
 use Rattle.script_run.specs.declared.language.Language.{Language}
@@ -249,67 +248,6 @@ leads_none lang state lines old new before now result same unread = record {
   levels = λ asks. on_ok result (levels_still old new same);
   still = λ asks. same;
   reads = λ s scope pages opening which n touches. omega (arith, unread);
-}
-
--- ---- what the folder stores
-
-module _ {T E : Type 0} (lang : Language) (state : State) (lines : List (List ℕ)) (old middle new : Files) (before between now : ℕ) (result : Result T E)
-    (same : middle ≡ old) (stored : IsStored old state) where
-  -- no commit was found
-  pub leads_first : old Commit ≡ None → between ≡ before → (middle Commit ≡ None → LeadsAll lang None lines middle new between now result)
-      → LeadsAll lang state lines old new before now result
-  leads_first none unread leads =
-      subst (λ (s : State). LeadsAll lang s lines old new before now result) (sym (none_stored old state none stored))
-      (subst (λ (f : Files). LeadsAll lang None lines f new before now result) same
-      (subst (λ (n : ℕ). LeadsAll lang None lines middle new n now result) unread (leads (ap (λ (f : Files). f Commit) same ∙ none))))
-
-  module _ (commit : CommitData) (says : IsCommitFile (bytes_of (old Commit)) commit) (most : between ≤ before + length (bytes_of (old Commit)) / 4096)
-      (leads : (i : Index) (s : State) → IsFrom middle (origin.Stored commit) i s
-      → LeadsFrom lang (origin.Stored commit) i s 1 lines middle new between now result) where
-    -- for whichever state is stored
-    leads_at : (s : State) → IsStored old s → (i : Index) × (s ≡ Some i) × LeadsFrom lang (origin.Stored commit) i (Some i) 1 lines old new between now result
-    leads_at s is =
-        let some = some_stored old commit s says is in (
-          some.0,
-          some.1,
-          subst (λ (f : Files). LeadsFrom lang (origin.Stored commit) some.0 (Some some.0) 1 lines f new between now result) same
-              (leads some.0 (Some some.0) (subst (λ (f : Files). IsFrom f (origin.Stored commit) some.0 (Some some.0)) (sym same) (says, some.2, refl))),
-        )
-
-    by_which : (s : Scope) (i : Index) → AllAsk lang is_query 1 (Some i) lines ⊎ AreLight lang s.heads 1 (Some i) lines
-        → ((Some i ≡ Some i) × AllAsk lang is_query 1 (Some i) lines) ⊎ AreLight lang s.heads 1 (Some i) lines
-    by_which s i (inl asks) = inl (refl, asks)
-    by_which s i (inr light) = inr light
-
-    stored_reads : RunReadsFew lang old lines before now
-    stored_reads s scope pages opening which n touches =
-        let at = leads_at s.state scope.stored in
-        let few = at.2.reads s scope (by_which s at.0 (subst (λ (o : State). AllAsk lang is_query 1 o lines ⊎ AreLight lang s.heads 1 o lines) at.1 which)) n
-        (subst (λ (o : State). TouchesLines lang s.heads 1 o lines n) at.1 touches) in
-        let pages_are = opening_is old commit s pages says scope opening in
-        omega (arith, few, most, pages_are)
-
-    -- this one was
-    pub leads_some : LeadsAll lang state lines old new before now result
-    leads_some =
-        let at = leads_at state stored in
-        record {
-          canon = at.2.canon;
-          levels = λ asks. at.2.levels (subst (λ (o : State). AllAsk lang begins_no_merge 1 o lines) at.1 asks);
-          still = λ asks. at.2.still refl (subst (λ (o : State). AllAsk lang is_query 1 o lines) at.1 asks);
-          reads = stored_reads;
-        }
-
--- reading the commit failed
-pub leads_unread : {T E : Type 0} (lang : Language) → (state : State) (lines : List (List ℕ)) (old new : Files) (before now : ℕ) (result : Result T E) (e : E)
-    → new ≡ old → (old Commit ≡ None → now ≡ before)
-    → ((c : CommitData) → IsCommitFile (bytes_of (old Commit)) c → now ≤ before + length (bytes_of (old Commit)) / 4096) → result ≡ Err e
-    → LeadsAll lang state lines old new before now result
-leads_unread lang state lines old new before now result e same unread most is = record {
-  canon = on_ok result (canonical_still old new same);
-  levels = λ asks. on_ok result (levels_still old new same);
-  still = λ asks. same;
-  reads = λ s scope pages opening which n touches. let few = commit_few old s pages before now scope opening unread most in omega (arith, few);
 }
 
 -- ---- the status
