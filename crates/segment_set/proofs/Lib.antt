@@ -4,6 +4,7 @@ pub mod Counted
 pub mod Well
 pub mod Buffered
 pub mod Changed
+pub mod DocumentEntries
 pub mod Snapped
 pub mod Viewed
 pub mod Sizes

@@ -3,7 +3,8 @@ use Rattle.std.proofs.Common.{◌≡◌, ◌+◌, ◌≤◌, ◌^◌, length, re
 use Rattle.std.proofs.lemmas.List.{length-map}
 use Rattle.point_codec.specs.Seen.{items_of}
 use Rattle.segment_set.specs.Sets.{IsWell, SetData}
-use Rattle.segment_set.proofs.Changed.{set_with_is, well_with}
+use Rattle.segment_set.proofs.Changed.{set_with_is}
+use Rattle.segment_set.proofs.DocumentEntries.{well_with}
 use Rattle.segment_set.proofs.set.SegmentSet.put.Goals as goal
 
 pub invariant_of-self-2 : goal.invariant_of-self-2
