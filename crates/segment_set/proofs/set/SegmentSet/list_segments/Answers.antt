@@ -7,7 +7,8 @@ use Rattle.segment_set.specs.Sets.{IsWell, SetData}
 use Rattle.segment_set.specs.Kept.{IsCommitOf, KeepsNamed}
 use Rattle.segment_set.specs.Saved.{IsSaved}
 use Rattle.segment_set.specs.Faithful.{IsFaithful}
-use Rattle.segment_set.proofs.Saving.{IsLine, but_saved, commit_of_set, is_commit, saved_lines, well_names}
+use Rattle.segment_set.proofs.Saving.{but_saved, well_names}
+use Rattle.segment_set.proofs.SavedCommit.{IsLine, commit_of_set, is_commit, saved_lines}
 use Rattle.segment_set.proofs.Faithful.{faithful_saved}
 use Rattle.segment_set.proofs.Refused.{at_error}
 use Rattle.segment_set.proofs.Settled.{before_moved}

@@ -23,7 +23,8 @@ use Rattle.segment_set.specs.Faithful.{IsFaithful}
 use Rattle.index_opening.specs.Evidence.{IsEvidentIn}
 use Rattle.segment_set.proofs.Carried.{keeps_then, stays_then}
 use Rattle.segment_set.proofs.Saving.{all_fresh, all_next, all_written, canon_saved, cause_after, if_ok_both, if_ok_map}
-use Rattle.segment_set.proofs.Saving.{no_damage, ok_always, saved_is_stored, sees_saved, stays_saved, well_saved}
+use Rattle.segment_set.proofs.Saving.{no_damage, ok_always, sees_saved, stays_saved, well_saved}
+use Rattle.segment_set.proofs.SavedCommit.{saved_is_stored}
 use Rattle.segment_set.proofs.Refused.{at_error, never_ok, never_value, same_cause, same_damage}
 use Rattle.segment_set.proofs.Settled.{left_settled}
 use Rattle.segment_set.specs.Settles.{Flushes, Moment, moment}
