@@ -37,7 +37,7 @@ use Rattle.segment_set.specs.Sets.{IsNamed, IsWell, NamedView, SetData}
 use Rattle.segment_set.specs.Seen.{Sees}
 use Rattle.segment_set.specs.Kept.{IsAtRest}
 use Rattle.index_opening.specs.Opened.{IsOpened}
-use Rattle.segment_set.proofs.Saving.{take_whole, zip_length}
+use Rattle.segment_set.proofs.SavedSegments.{take_whole, zip_length}
 use Rattle.index_opening.proofs.Listed.{as_part, parts_held}
 use Rattle.index_opening.proofs.Ordered.{zip_right}
 

@@ -22,6 +22,7 @@ pub mod Ended
 pub mod Causes
 pub mod Places
 pub mod Saving
+pub mod SavedSegments
 pub mod SavedCommit
 pub mod Sweeping
 pub mod Attaching

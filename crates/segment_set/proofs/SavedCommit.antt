@@ -27,7 +27,7 @@ use Rattle.segment_set.specs.Sets.{IsNamed, IsWell, SetData}
 use Rattle.segment_set.specs.Seen.{Sees}
 use Rattle.segment_set.specs.Kept.{IsCommitOf}
 use Rattle.segment_set.specs.Saved.{IsSaved}
-use Rattle.segment_set.proofs.Saving.{zip_length, zip_left, zip_beside}
+use Rattle.segment_set.proofs.SavedSegments.{zip_length, zip_left, zip_beside}
 
 -- ---- the commit
 

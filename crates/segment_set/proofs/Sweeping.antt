@@ -27,7 +27,8 @@ use Rattle.segment_set.specs.Sets.{IsNamed, IsWell, NamedView, SetData}
 use Rattle.segment_set.specs.Seen.{Sees}
 use Rattle.segment_set.specs.Kept.{IsNeeded, StaysButFiles, ViewNeeds}
 use Rattle.segment_set.specs.Swept.{IsShown, IsSwept, IsUnneeded, shows_file}
-use Rattle.segment_set.proofs.Saving.{take_whole, well_other}
+use Rattle.segment_set.proofs.Saving.{well_other}
+use Rattle.segment_set.proofs.SavedSegments.{take_whole}
 use Rattle.segment_set.proofs.Standing.{IsLike, sees_like, stands_alike}
 
 -- ---- which files a view needs

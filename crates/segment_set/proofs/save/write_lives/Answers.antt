@@ -12,7 +12,7 @@ use Rattle.segment_view.proofs.Living.{part_in, parts_more}
 use Rattle.segment_set.specs.Sets.{IsNamed}
 use Rattle.segment_set.specs.Saved.{IsSaved}
 use Rattle.segment_set.proofs.Carried.{keeps_then}
-use Rattle.segment_set.proofs.Saving.{later_among, later_id, other_live, saved_more, take_whole}
+use Rattle.segment_set.proofs.SavedSegments.{later_among, later_id, other_live, saved_more, take_whole}
 use Rattle.segment_set.proofs.save.write_lives.Goals as goal
 
 pub write_one-requires : goal.write_one-requires
