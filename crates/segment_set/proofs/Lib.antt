@@ -25,6 +25,7 @@ pub mod Saving
 pub mod SavedSegments
 pub mod SavedCommit
 pub mod Sweeping
+pub mod Needed
 pub mod Attaching
 pub mod Leveled
 pub mod Listed

@@ -4,7 +4,8 @@ use Rattle.std.proofs.lemmas.List.Elements.{All-nil}
 use Rattle.segment_set.specs.Sets.{SetData}
 use Rattle.segment_set.specs.Kept.{IsNeeded}
 use Rattle.segment_set.proofs.Sizes.{set_fits}
-use Rattle.segment_set.proofs.Sweeping.{all_needed, front_before, front_still, gone_all, needed_still, swept_none, swept_then}
+use Rattle.segment_set.proofs.Sweeping.{all_needed, front_before, front_still, gone_all, swept_none, swept_then}
+use Rattle.segment_set.proofs.Needed.{needed_still}
 use Rattle.segment_set.proofs.set.SegmentSet.sweep.Goals as goal
 
 pub names-init : goal.names-init

@@ -1,7 +1,8 @@
 use Rattle.std.proofs.Common.{rules}
 use Rattle.std.specs.Prelude.{IsTrue}
 use Rattle.segment_set.specs.Kept.{IsNeeded}
-use Rattle.segment_set.proofs.Sweeping.{front_left, front_more, named_at, not_needed, shorter_at, swept_none}
+use Rattle.segment_set.proofs.Sweeping.{front_left, front_more, named_at, shorter_at, swept_none}
+use Rattle.segment_set.proofs.Needed.{not_needed}
 use Rattle.segment_set.proofs.set.SegmentSet.sweep_at.Goals as goal
 
 pub returns-then-needs-clause-swept : goal.returns-then-needs-clause-swept
