@@ -10,7 +10,7 @@ told beside it.
 import argparse
 import random
 
-from program import COUNT, Data, bkd, compare, write
+from runs import COUNT, Data, bkd, compare, write
 
 FORKS = (0, 1, 2)
 

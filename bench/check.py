@@ -21,7 +21,8 @@ import subprocess
 import sys
 import time
 
-from program import COUNT, Data, Run, bkd, java, jars, milliseconds, rtree, write
+from program import java, jars, rtree
+from runs import COUNT, Data, Run, bkd, milliseconds, write
 
 TURNS = 5
 PAGE, PAYLOAD = 4096, 4064

@@ -24,11 +24,12 @@ RATTLE = os.environ.get("RATTLE", "/opt/rattle/bin/rattle")
 COLUMNS, PASSES = 160, 60
 CLOSED_BY = {"(": ")", "[": "]", "{": "}"}
 # signs by how loosely they bind
-SIGNS = [{"→"}, {"×", "⊎", "↔"}, {"∙", "∙∙"}, {"≡", "≤", "<", "≢", "≃"}, {"∷", "++", "&&", "||"}, {"+", "-", "*", "/", "%"}]
+SIGNS = [{"→"}, {"×", "⊎", "↔"}, {"∙", "∙∙"}, {"≡", "≤", "<", "≢", "≃"}, {"∷", "++", "&&", "||"},
+         {"+", "-", "*", "/", "%"}]
 HEADS = {"=": 1, "↦": 1, "in": 0}
 ARGUMENT, LIST = 8, 9
-NEVER_BEHIND = {"", "λ", ":", "let", "elim", "as", "at", "where", "do", "record", "use", "pub", "module", "_", "|", "¬", "data",
-                "abbrev", "unfoldable", "unfolding", "open"}
+NEVER_BEHIND = {"", "λ", ":", "let", "elim", "as", "at", "where", "do", "record", "use", "pub", "module", "_", "|",
+                "¬", "data", "abbrev", "unfoldable", "unfolding", "open"}
 NEVER_BEFORE = {"=", ":", "↦", "in", "as", "at", "where", "0"}
 FIRST, FAR, SMALL = 12, 24, 100
 
@@ -40,8 +41,8 @@ class Group:
 
 
 def words_of(line):
-    """The words of a line with the bracket that each begins in and its depth, and all brackets. None where a text doesn't
-    end or a comment begins."""
+    """The words of a line with the bracket that each begins in and its depth, and all brackets. None where a text
+    doesn't end or a comment begins."""
     words, groups, around, closed = [], [], None, 0
     at = len(line) - len(line.lstrip())
     while at < len(line):
@@ -205,7 +206,8 @@ def tokens(text):
 
 def heads(text):
     """The first words of the lines at the left, which are the declarations."""
-    return [line.split()[0] for line in text.split("\n") if line[:1].strip() and not line.startswith(("use", "pub use")) and line[0] not in ")]}"]
+    return [line.split()[0] for line in text.split("\n")
+            if line[:1].strip() and not line.startswith(("use", "pub use")) and line[0] not in ")]}"]
 
 
 def wrap(path):
