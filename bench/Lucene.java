@@ -1,9 +1,11 @@
-// Apache Lucene 8 on the points and queries of bench/program.py: a field of two whole numbers (IntPoint) for boxes, and one of two
-// floats, which hold these coordinates exactly, for the nearest.
+// Apache Lucene 8 on the points and queries of bench/program.py: a field of two whole numbers (IntPoint) for boxes, and
+// one of two floats, which hold these coordinates exactly, for the nearest.
 //
-// index POINTS FOLDER merge|apart      indexes the points of a file, one `X Y` a line, and commits; `merge` leaves one segment
+// index POINTS FOLDER merge|apart      indexes the points of a file, one `X Y` a line, and commits; `merge` leaves one
+//                                      segment
 // boxes FOLDER QUERIES ROUNDS          answers boxes, one `X0 Y0 X1 Y1` a line
-// near FOLDER QUERIES ROUNDS K POINTS  finds the K nearest to each `X Y`; the distances are reckoned from the file of the points
+// near FOLDER QUERIES ROUNDS K POINTS  finds the K nearest to each `X Y`; the distances are reckoned from the file of
+//                                      the points
 //
 // Answers are printed as bkd prints them; standard error has the microseconds of a query of the best round.
 import java.io.BufferedReader;
@@ -106,9 +108,11 @@ public final class Lucene {
         }
     }
 
-    private static void near(IndexSearcher searcher, List<int[]> queries, int k, List<int[]> points, PrintStream out) throws IOException {
+    private static void near(IndexSearcher searcher, List<int[]> queries, int k, List<int[]> points, PrintStream out)
+            throws IOException {
         for (int[] q : queries) {
-            ScoreDoc[] found = FloatPointNearestNeighbor.nearest(searcher, "float", k, (float) q[0], (float) q[1]).scoreDocs;
+            ScoreDoc[] found =
+                FloatPointNearestNeighbor.nearest(searcher, "float", k, (float) q[0], (float) q[1]).scoreDocs;
             if (out != null) {
                 out.println("near " + found.length);
                 for (ScoreDoc one : found) {
@@ -128,7 +132,8 @@ public final class Lucene {
         }
         List<int[]> queries = read(Paths.get(words[2]));
         int rounds = Integer.parseInt(words[3]);
-        try (Directory directory = new MMapDirectory(Paths.get(words[1])); DirectoryReader reader = DirectoryReader.open(directory)) {
+        try (Directory directory = new MMapDirectory(Paths.get(words[1]));
+             DirectoryReader reader = DirectoryReader.open(directory)) {
             IndexSearcher searcher = new IndexSearcher(reader);
             searcher.setQueryCache(null);
             boolean isNear = words[0].equals("near");

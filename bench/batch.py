@@ -13,7 +13,8 @@ import os
 import random
 import subprocess
 
-from program import COUNT, HERE, Data, Run, bkd, compare, jars, write
+from program import jars
+from runs import COUNT, HERE, Data, Run, bkd, compare, write
 
 FORKS = (0, 1, 2)
 

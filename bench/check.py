@@ -23,7 +23,8 @@ import subprocess
 import sys
 import time
 
-from program import COUNT, PROGRAM, Data, Run, bkd, java, jars, milliseconds, rtree, write
+from program import java, jars, rtree
+from runs import COUNT, PROGRAM, Data, Run, bkd, milliseconds, write
 
 TURNS = 5
 BENCH = os.path.join(os.path.dirname(PROGRAM), "..", "..", "bench", "out", "bench")

@@ -15,7 +15,8 @@ import os
 import shutil
 import subprocess
 
-from program import COUNT, HERE, Data, Run, bkd, compare, rtree, write
+from program import rtree
+from runs import COUNT, HERE, Data, Run, bkd, compare, write
 
 # half the side of a square, and how many lines of each kind are timed
 SQUARES = ((500, 2000, 2000), (31_623, 500, 100), (100_000, 500, 20))

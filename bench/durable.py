@@ -4,10 +4,11 @@
 usage: bench/durable.py order | cuts [FOLDERS] | cost [COMMITS]
 
 order    the calls on files that a script with some commits makes, as strace (Debian's strace) tells them
-cuts     these calls cut off at every point: what was synced is there, of the rest any part is; each folder that can be left so is
-         opened, and its answer has to be that of the last commit that was answered, or of the one in flight. Where more than FOLDERS
-         (1000) could be left by a cut a tenth as many are drawn, beside those where one call alone is missing, or alone was done
-cost     what a commit takes with its syncs, without them, and beside SQLite's (Python's sqlite3), for COMMITS commits (200)
+cuts     these calls cut off at every point: what was synced is there, of the rest any part is; each folder that can be
+         left so is opened, and its answer has to be that of the last commit that was answered, or of the one in flight.
+         Where more than FOLDERS (1000) could be left by a cut a tenth as many are drawn, beside those where one call
+         alone is missing, or alone was done
+cost     what each of COMMITS commits (200) takes with its syncs, without them, and beside SQLite's (Python's sqlite3)
 BKD names the program where it is not crates/bkd/out/bkd.
 """
 import itertools
@@ -23,7 +24,8 @@ import time
 
 HERE = os.path.dirname(os.path.abspath(__file__))
 PROGRAM = os.environ.get("BKD", os.path.join(HERE, "..", "crates", "bkd", "out", "bkd"))
-TRACED = "open,openat,creat,close,write,writev,pwrite64,fsync,fdatasync,ftruncate,rename,renameat,renameat2,unlink,unlinkat,link,symlink"
+TRACED = ("open,openat,creat,close,write,writev,pwrite64,fsync,fdatasync,ftruncate,"
+          "rename,renameat,renameat2,unlink,unlinkat,link,symlink")
 
 # the lines of the script, and after a commit the numbers of the documents that a box over everything finds
 SCRIPT = [
@@ -45,7 +47,8 @@ def answer(numbers):
 
 def run(folder, text):
     """The answers of the program to a script over a folder."""
-    return subprocess.run([PROGRAM, folder, "run", "--forks", "0"], input=text.encode(), stdout=subprocess.PIPE, stderr=subprocess.DEVNULL).stdout.decode()
+    return subprocess.run([PROGRAM, folder, "run", "--forks", "0"], input=text.encode(), stdout=subprocess.PIPE,
+                          stderr=subprocess.DEVNULL).stdout.decode()
 
 
 class Call:
@@ -55,7 +58,8 @@ class Call:
         self.kind, self.names, self.file, self.at, self.data = kind, names, file, at, data
 
     def __str__(self):
-        return " ".join([self.kind, *self.names, *(["%d bytes at %d" % (len(self.data), self.at)] if self.kind == "write" else [])])
+        return " ".join([self.kind, *self.names,
+                         *(["%d bytes at %d" % (len(self.data), self.at)] if self.kind == "write" else [])])
 
 
 def unquoted(text):
@@ -132,8 +136,9 @@ def traced(folder):
     """The calls that the script makes over an empty folder, and its text out."""
     text = "".join(line + "\n" for line, _ in SCRIPT)
     with tempfile.NamedTemporaryFile("r") as log:
-        words = ["strace", "-o", log.name, "-xx", "-s", str(1 << 24), "-e", "trace=" + TRACED, PROGRAM, folder, "run", "--forks", "0"]
-        said = subprocess.run(words, input=text.encode(), stdout=subprocess.PIPE, stderr=subprocess.PIPE, check=True).stdout
+        words = ["strace", "-o", log.name, "-xx", "-s", str(1 << 24), "-e", "trace=" + TRACED]
+        words += [PROGRAM, folder, "run", "--forks", "0"]
+        said = subprocess.run(words, input=text.encode(), capture_output=True, check=True).stdout
         trace = Trace(os.path.abspath(folder))
         for line in log:
             trace.line(line)
@@ -145,8 +150,8 @@ def is_change(call):
 
 
 def is_sure(calls, at, cut):
-    """Whether what the call at this place did is on the disk when the power goes before the call `cut`: a file's bytes are where the
-    file was synced behind them, its name is where the directory was."""
+    """Whether what the call at this place did is on the disk when the power goes before the call `cut`: a file's bytes
+    are where the file was synced behind them, its name is where the directory was."""
     call = calls[at]
     file = call.file if call.kind in ("write", "truncate") else None
     return any(later.kind == "sync" and later.file == file for later in calls[at + 1:cut])
@@ -176,9 +181,10 @@ def left(calls, parts):
 
 
 def choices(calls, cut, most):
-    """What may have been done of each call before the cut: all combinations, or where they are too many none, all, each alone, all but
-    each, and a sample."""
-    ranges = [(2,) if not is_change(calls[i]) or is_sure(calls, i, cut) else (0, 2, 1) if calls[i].kind == "write" else (0, 2) for i in range(cut)]
+    """What may have been done of each call before the cut: all combinations, or where they are too many none, all, each
+    alone, all but each, and a sample."""
+    ranges = [(2,) if not is_change(calls[i]) or is_sure(calls, i, cut) else (0, 2, 1) if calls[i].kind == "write"
+              else (0, 2) for i in range(cut)]
     count = 1
     for options in ranges:
         count *= len(options)
@@ -197,7 +203,7 @@ def choices(calls, cut, most):
 
 
 def allowed(calls, cut):
-    """The answers that a folder may give after a cut: of the last commit that was answered, and of the one in flight."""
+    """The answers that a folder may give after a cut: of the last commit answered, and of the one in flight."""
     lines = b"".join(call.data for call in calls[:cut] if call.kind == "answer").count(b"\n")
     done = [numbers for _, numbers in SCRIPT[:lines] if numbers is not None]
     coming = [numbers for _, numbers in SCRIPT[lines:] if numbers is not None]
@@ -227,7 +233,8 @@ def cuts(most):
             if asked[key] not in wanted:
                 wrong += 1
                 if wrong <= 5:
-                    print("wrong: cut before call %d (%s): %r, where %r may be" % (cut, calls[cut] if cut < len(calls) else "end", asked[key], sorted(wanted)))
+                    at = calls[cut] if cut < len(calls) else "end"
+                    print("wrong: cut before call %d (%s): %r, where %r may be" % (cut, at, asked[key], sorted(wanted)))
     shutil.rmtree(work)
     print("cuts: %d calls, %d different folders opened, %d wrong" % (len(calls), len(asked), wrong))
     return wrong == 0
@@ -251,11 +258,11 @@ NO_SYNC = "int fsync(int f) { return 0; }\nint fdatasync(int f) { return 0; }\n"
 
 def timed(commits, library=None):
     """Seconds a commit, of a script that adds a document and commits, again and again."""
-    text = "create 2\n" + "".join("add %d %d\ncommit\n" % (i, i) for i in range(commits))
+    text = ("create 2\n" + "".join("add %d %d\ncommit\n" % (i, i) for i in range(commits))).encode()
     environment = dict(os.environ, **({"LD_PRELOAD": library} if library else {}))
     with tempfile.TemporaryDirectory(prefix="durable-", dir=os.getcwd()) as folder:
         begun = time.perf_counter()
-        subprocess.run([PROGRAM, folder, "run"], input=text.encode(), stdout=subprocess.DEVNULL, env=environment, check=True)
+        subprocess.run([PROGRAM, folder, "run"], input=text, stdout=subprocess.DEVNULL, env=environment, check=True)
         return (time.perf_counter() - begun) / commits
 
 
@@ -278,7 +285,7 @@ def cost(commits):
         library = os.path.join(folder, "no_sync.so")
         subprocess.run(["cc", "-shared", "-fPIC", "-x", "c", "-o", library, "-"], input=NO_SYNC.encode(), check=True)
         rows = [("with syncs", timed(commits)), ("without syncs", timed(commits, library))]
-        rows += [("SQLite, journal %s, synchronous full" % mode, timed_sqlite(commits, mode)) for mode in ("delete", "wal")]
+        rows += [(f"SQLite, journal {it}, synchronous full", timed_sqlite(commits, it)) for it in ("delete", "wal")]
     for name, spent in rows:
         print("%-42s %8.3f ms a commit" % (name, spent * 1000))
     return True

@@ -1,14 +1,17 @@
 #!/usr/bin/env python3
 """Measures what the gate costs, crate by crate, in processor seconds, and writes it as a Markdown table.
 
-usage: bench/gate.py [--out FILE]                       clones HEAD into a temporary folder and runs rt ci there, from nothing
-       bench/gate.py --follow PID|FOLDER [--out FILE]   watches a gate that runs already: rt ci itself or what started it, or the clone it runs in
+usage: bench/gate.py [--out FILE]                       clones HEAD into a temporary folder and runs rt ci there, from
+                                                        nothing
+       bench/gate.py --follow PID|FOLDER [--out FILE]   watches a gate that runs already: rt ci itself or what started
+                                                        it, or the clone it runs in
 
-FILE (gate.md in the folder for temporary files, where it is left out) is written anew each minute, and once more at the end; the end's
-goes to standard output too. What rt ci of the clone says is kept beside it, in FILE.log.
+FILE (gate.md in the folder for temporary files, where it is left out) is written anew each minute, and once more at the
+end; the end's goes to standard output too. What rt ci of the clone says is kept beside it, in FILE.log.
 
-Nothing of the kit is changed: once a second this reads from /proc which checks rt has started and what each has used. The last bit
-of each, between the last look and its end, is in what the system has counted for rt's ended children, so that no sum lacks it.
+Nothing of the kit is changed: once a second this reads from /proc which checks rt has started and what each has used.
+The last bit of each, between the last look and its end, is in what the system has counted for rt's ended children, so
+that no sum lacks it.
 """
 import argparse
 import os
@@ -103,7 +106,8 @@ def run_anew(file):
     with tempfile.TemporaryDirectory(prefix="gate-") as room, open(f"{file}.log", "w", encoding="utf-8") as log:
         clone = f"{room}/clone"
         subprocess.run(["git", "clone", "-q", os.path.dirname(HERE), clone], check=True)
-        begun = subprocess.Popen(["rt", "ci"], cwd=clone, stdin=subprocess.DEVNULL, stdout=log, stderr=subprocess.STDOUT)
+        begun = subprocess.Popen(["rt", "ci"], cwd=clone, stdin=subprocess.DEVNULL, stdout=log,
+                                 stderr=subprocess.STDOUT)
         try:
             # (asking for its end takes it off the list of processes)
             text = follow(begun.pid, file, begun.poll)

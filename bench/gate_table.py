@@ -17,7 +17,8 @@ def crates_in(folder):
 
 
 def longest_chain(rows, gate):
-    """Returns the seconds of the longest chain and its links: a crate's proof comes after those below it, its edits after its proof and its tests."""
+    """Returns the seconds of the longest chain and its links: a crate's proof comes after those below it,
+    its edits after its proof and its tests."""
     proved, ends = {}, {}
 
     def prove(name):
@@ -27,7 +28,8 @@ def longest_chain(rows, gate):
             edits = gate.seconds(name, SEED, EDITS, SOUND)
             proved[name] = (seconds + own, [*links, f"{name} {own:.0f}"])
             last = [f"{name}, its tests {tests:.0f}"] if tests > own else proved[name][1][-1:]
-            ends[name] = (seconds + max(own, tests) + edits, [*links, *last, *([f"its edits {edits:.0f}"] if edits else [])])
+            ends[name] = (seconds + max(own, tests) + edits,
+                          [*links, *last, *([f"its edits {edits:.0f}"] if edits else [])])
         return proved[name]
 
     for name in rows:
@@ -42,7 +44,8 @@ def minutes(seconds):
 def table(rows, gate, is_done):
     """Returns the table: a row for each crate, the sums, and the longest chain."""
     cell = lambda name, kind: f"{gate.seconds(name, kind):,.0f}" if gate.has(name, kind) else "–"
-    lines = ["| Crate | Proof | Tests | Seed | Edits | Their number | Sound | Sum |", "|---|---|---|---|---|---|---|---|"]
+    lines = ["| Crate | Proof | Tests | Seed | Edits | Their number | Sound | Sum |",
+             "|---|---|---|---|---|---|---|---|"]
     for name in rows:
         if gate.has(name, *KINDS):
             cells = [cell(name, it) for it in KINDS]
@@ -56,10 +59,13 @@ def table(rows, gate, is_done):
     state = "" if is_done else f" so far, with {len([it for it in gate.live.values() if it.crate])} checks under way"
     lines += [
         "",
-        f"Processor seconds{state}, after {minutes(time.time() - gate.began)} by the clock. A seed is the first check over a crate's kept work: in a kit that",
-        "doesn't begin with the crate itself, that of its first edit. Sound: the crate once more over what its edits kept.",
+        f"Processor seconds{state}, after {minutes(time.time() - gate.began)} by the clock. "
+        "A seed is the first check over a crate's kept work: in a kit that",
+        "doesn't begin with the crate itself, that of its first edit. Sound: the crate once more over what its edits "
+        "kept.",
         "",
-        f"- All checks: {minutes(sum(sums.values()))}. Besides, rt itself, layouts, links and runs: {minutes(gate.other + gate.own)}.",
+        f"- All checks: {minutes(sum(sums.values()))}. "
+        f"Besides, rt itself, layouts, links and runs: {minutes(gate.other + gate.own)}.",
         f"- The longest chain: {minutes(seconds)}: {', '.join(links)}.",
     ]
     dear = sorted((it for it in gate.checks if it.edit and it.kind == EDITS), key=lambda it: -it.seconds)[:DEAREST]

@@ -8,7 +8,8 @@ PROOF, TESTS, SEED, EDITS, SOUND, OTHER = "proof", "tests", "seed", "edits", "so
 
 
 def stat(pid):
-    """Returns the process's own processor seconds, those of its ended children, and when it began; none where it is gone."""
+    """Returns the process's own processor seconds, those of its ended children, and when it began;
+    none where it is gone."""
     try:
         with open(f"/proc/{pid}/stat", "rb") as it:
             said = it.read().rpartition(b")")[2].split()

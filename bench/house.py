@@ -128,12 +128,14 @@ def code_faults(numbers):
 
 def page_faults():
     """The pages for people: how long they are, and how wide the cells of README's tables."""
-    for path, most in (("README.md", README_LINES), ("docs/STATUS.md", STATUS_LINES), ("CONTRIBUTING.md", CONTRIBUTING_LINES)):
+    for path, most in (("README.md", README_LINES), ("docs/STATUS.md", STATUS_LINES),
+                       ("CONTRIBUTING.md", CONTRIBUTING_LINES)):
         count = len(read(path).splitlines())
         print("%-24s %4d lines of %d" % (path, count, most))
         if count > most:
             yield "%s has %d lines, and %d are the most" % (path, count, most)
-    cells = [cell for line in read("README.md").splitlines() if line.startswith("|") for cell in line.strip("|").split("|")]
+    cells = [cell for line in read("README.md").splitlines() if line.startswith("|")
+             for cell in line.strip("|").split("|")]
     widest = max((len(cell.split()) for cell in cells), default=0)
     print("%-24s %4d words of %d in a cell" % ("README.md", widest, CELL_WORDS))
     if widest > CELL_WORDS:
@@ -171,7 +173,8 @@ def reading_faults():
 
 def write_exceptions():
     lines = ["# What of the code is beyond a bound of bench/house.py: no number here may rise.", "#"]
-    lines += ["%5d %s %s" % (number, kind, path) for (kind, path), number in sorted(code_numbers().items()) if is_code(path)]
+    lines += ["%5d %s %s" % (number, kind, path) for (kind, path), number in sorted(code_numbers().items())
+              if is_code(path)]
     write(EXCEPTIONS, "\n".join(lines + [""]))
 
 

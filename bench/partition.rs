@@ -1,5 +1,5 @@
-// The partition of entries into leaves with the selection and the sort of Rust's std, on the same entries and with the same
-// rules as crates/bench (`partition draw|tree COUNT ROUNDS`), and the same sum over the order.
+// The partition of entries into leaves with the selection and the sort of Rust's std, on the same entries and with the
+// same rules as crates/bench (`partition draw|tree COUNT ROUNDS`), and the same sum over the order.
 use std::cmp::Ordering;
 
 const D: usize = 2;

@@ -3,8 +3,8 @@
 
 usage: bench/plots.py [FILE.png]
 
-Each table is a panel and each of its rows a group of bars, one for each column that has times; where they differ much the scale
-is in powers of ten.
+Each table is a panel and each of its rows a group of bars, one for each column that has times; where they differ much
+the scale is in powers of ten.
 """
 import os
 import re
@@ -43,7 +43,8 @@ def tables(text):
 
 def timed(names, rows):
     """The columns that have times, each as (name, times by row), and the rows' names."""
-    columns = [(names[at], [seconds(row[at]) if at < len(row) else None for row in rows]) for at in range(1, len(names))]
+    columns = [(names[at], [seconds(row[at]) if at < len(row) else None for row in rows])
+               for at in range(1, len(names))]
     return [row[0].replace("`", "") for row in rows], [(name or "time", times) for name, times in columns if any(times)]
 
 
@@ -51,12 +52,14 @@ def panel(axes, heading, names, columns):
     height = 0.8 / len(columns)
     for at, (name, times) in enumerate(columns):
         places = [row + at * height for row, time in enumerate(times) if time]
-        axes.barh(places, [time for time in times if time], height=height * 0.9, label=name, color=COLOURS[at % len(COLOURS)])
+        axes.barh(places, [time for time in times if time], height=height * 0.9, label=name,
+                  color=COLOURS[at % len(COLOURS)])
     drawn = [time for _, times in columns for time in times if time]
     if max(drawn) > FAR * min(drawn):
         axes.set_xscale("log")
         axes.set_xlim(left=min(drawn) / 3)
-    axes.set_yticks([row + 0.4 - height / 2 for row in range(len(names))], [name if len(name) < 60 else name[:57] + ".." for name in names])
+    axes.set_yticks([row + 0.4 - height / 2 for row in range(len(names))],
+                    [name if len(name) < 60 else name[:57] + ".." for name in names])
     axes.invert_yaxis()
     axes.set_title(heading, loc="left", fontsize=10)
     axes.set_xlabel("seconds", fontsize=8)

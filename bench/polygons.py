@@ -24,8 +24,7 @@ import subprocess
 import sys
 import tempfile
 
-import program
-from program import COUNT, HERE, Draws, Run, bkd, compare, in_order, write
+from runs import COUNT, HERE, PROGRAM, Draws, Run, bkd, compare, in_order, write
 
 WIDTH = 100_000
 LIMIT = 300
@@ -124,7 +123,7 @@ class Bench:
 
     def answer(self, line):
         """What the line answers; None where it takes too long."""
-        words = ["timeout", str(LIMIT), program.PROGRAM, self.folder, "run"]
+        words = ["timeout", str(LIMIT), PROGRAM, self.folder, "run"]
         run = Run(words, write(self.path("lines"), [line]), keep=True)
         return None if run.status == 124 else run.done().text
 

@@ -5,14 +5,14 @@ usage: bench/program.py add | lines | tree | open | load | memory | sqlite | luc
 
 add      a script adds COUNT documents (a million where it is left out) of two dimensions, and merges them
 lines    small boxes and queries for the ten nearest over those documents, on pages that are kept, a line
-tree     the same queries, and boxes that hold 10 to 100,000 documents, beside a plain k-d tree in flat arrays (bench/tree.rs, which wants
-         rustc): the same lines in, the same text out, which is compared
+tree     the same queries, and boxes that hold 10 to 100,000 documents, beside a plain k-d tree in flat arrays
+         (bench/tree.rs, which wants rustc): the same lines in, the same text out, which is compared
 open     a run without a line over them
 load     the same points loaded from a CSV file, for several levels of forks
 memory   what loading takes at most beside its input
 sqlite   the same points and boxes in SQLite's R*Tree (Debian's sqlite3), the answers compared
-lucene   the same points and queries in Apache Lucene 8 (Debian's liblucene8-java and a JDK), the answers compared; LUCENE names the
-         folder of its jars where it is not /usr/share/java
+lucene   the same points and queries in Apache Lucene 8 (Debian's liblucene8-java and a JDK), the answers compared;
+         LUCENE names the folder of its jars where it is not /usr/share/java
 limits   inputs of 536,870,912 bytes and of one more: not timed, only what is answered
 BKD names the program where it is not crates/bkd/out/bkd.
 """
@@ -20,121 +20,11 @@ import glob
 import os
 import subprocess
 import sys
-import tempfile
-import time
 
-HERE = os.path.dirname(os.path.abspath(__file__))
-PROGRAM = os.environ.get("BKD", os.path.join(HERE, "..", "crates", "bkd", "out", "bkd"))
-COUNT = 1_000_000
-QUERIES = 20_000
-COMPARED = 2_000
-HALF = 500
-NEAREST = 10
+from runs import (COMPARED, COUNT, HALF, HERE, NEAREST, PROGRAM, QUERIES, Data, Run, best, bkd, compare, in_order,
+                  milliseconds, write)
+
 LIMIT = 536_870_912
-
-
-class Run:
-    """A run of a program: its wall time in seconds, its processor time, its status and what it wrote."""
-
-    def __init__(self, words, source=None, keep=False):
-        with tempfile.TemporaryFile() as kept, open(source or os.devnull, "rb") as text:
-            begun = time.perf_counter()
-            child = subprocess.Popen(words, stdin=text, stdout=kept if keep else subprocess.DEVNULL, stderr=subprocess.PIPE)
-            said = child.stderr.read()
-            _, status, used = os.wait4(child.pid, 0)
-            self.wall = time.perf_counter() - begun
-            child.returncode = os.waitstatus_to_exitcode(status)
-            self.status = child.returncode
-            self.processor = used.ru_utime + used.ru_stime
-            self.said = said.decode()
-            kept.seek(0)
-            self.text = kept.read().decode() if keep else ""
-
-    def done(self):
-        if self.status != 0:
-            sys.exit("status %d: %s" % (self.status, self.said))
-        return self
-
-
-def bkd(folder, *words, source=None, keep=False):
-    return Run([PROGRAM, folder, *words], source, keep)
-
-
-def best(run, times=5):
-    """The run of the least wall time; `run` is called for each."""
-    return min((run().done() for _ in range(times)), key=lambda it: it.wall)
-
-
-class Draws:
-    """The points that `bkd generate` draws."""
-
-    def __init__(self, seed):
-        self.x = seed
-
-    def coordinate(self):
-        self.x = 48271 * self.x % 2147483647
-        return self.x % 200_001 - 100_000
-
-    def point(self):
-        x = self.coordinate()
-        return x, self.coordinate()
-
-    def points(self, count):
-        return [self.point() for _ in range(count)]
-
-
-def write(path, lines):
-    with open(path, "w") as file:
-        file.write("\n".join(lines) + "\n")
-    return path
-
-
-class Data:
-    """The points and queries in a folder that goes at the end, in the form that each program reads."""
-
-    def __init__(self, count):
-        self.temporary = tempfile.TemporaryDirectory(prefix="bkd-bench-")
-        self.folder = self.temporary.name
-        self.count = count
-        self.points = Draws(1).points(count)
-        self.centres = Draws(7).points(QUERIES)
-
-    def path(self, name):
-        return os.path.join(self.folder, name)
-
-    def empty(self, name):
-        """An empty folder of this name."""
-        path = self.path(name)
-        subprocess.run(["rm", "-rf", path], check=True)
-        os.mkdir(path)
-        return path
-
-    def csv(self, count=None):
-        count = count or self.count
-        points = self.points if count <= self.count else self.points * -(-count // self.count)
-        return write(self.path("points.csv"), ["x,y"] + ["%d,%d" % p for p in points[:count]])
-
-    def boxes(self, count=QUERIES):
-        return [(x - HALF, y - HALF, x + HALF, y + HALF) for x, y in self.centres[:count]]
-
-    def box_lines(self, count=QUERIES, rounds=1):
-        return write(self.path("boxes"), ["box %d %d %d %d" % b for b in self.boxes(count)] * rounds)
-
-    def near_lines(self, count=QUERIES, rounds=1):
-        return write(self.path("near"), ["nearest %d %d %d" % (NEAREST, x, y) for x, y in self.centres[:count]] * rounds)
-
-    def merged(self):
-        """A folder with all points in one segment."""
-        folder = self.path("merged")
-        if not os.path.exists(folder):
-            self.empty("merged")
-            bkd(folder, "load", "--columns", "x,y", source=self.csv()).done()
-            bkd(folder, "run", source=write(self.path("merge"), ["merge"])).done()
-        return folder
-
-
-def milliseconds(seconds):
-    return "%8.1f ms" % (seconds * 1000)
 
 
 def add(data):
@@ -147,7 +37,8 @@ def add(data):
         both = best(lambda: bkd(data.empty("added"), "run", "--forks", forks, source=merging), 3)
         alone = alone or spent.wall
         print("  forks %s added and committed %s, processor %s, ratio %4.2f; with merge %s" % (
-            forks, milliseconds(spent.wall), milliseconds(spent.processor), spent.wall / alone, milliseconds(both.wall)))
+            forks, milliseconds(spent.wall), milliseconds(spent.processor), spent.wall / alone,
+            milliseconds(both.wall)))
 
 
 def each_line(data, write_lines):
@@ -159,7 +50,8 @@ def each_line(data, write_lines):
 
 
 def lines(data):
-    print("lines: over %d documents in one segment, pages kept; reading the line and writing its answer counted in" % data.count)
+    print("lines: over %d documents in one segment, pages kept; reading the line and writing its answer counted in"
+          % data.count)
     print("  a box of a width of %d  %7.2f us" % (2 * HALF, each_line(data, data.box_lines) * 1e6))
     print("  the %d nearest          %7.2f us" % (NEAREST, each_line(data, data.near_lines) * 1e6))
 
@@ -170,11 +62,13 @@ def box_of(data, wanted):
 
 
 def tree(data):
-    """Each kind of query: what a line takes here and in the plain tree, in one run, as the difference of three rounds and one."""
+    """Each kind of query: what a line takes here and in the plain tree, in one run,
+    as the difference of three rounds and one."""
     plain, points = data.path("plain"), write(data.path("plain_points"), ["%d %d" % p for p in data.points])
     subprocess.run(["rustc", "-O", "-o", plain, os.path.join(HERE, "tree.rs")], check=True)
     folder = data.merged()
-    print("tree: over %d documents in one segment, pages kept, beside a plain tree; a line, its answer written" % data.count)
+    print("tree: over %d documents in one segment, pages kept, beside a plain tree; a line, its answer written"
+          % data.count)
 
     def lines_of(count, rounds, ask):
         return write(data.path("tree_lines_%d" % rounds), [ask(x, y) for x, y in data.centres[:count]] * rounds)
@@ -235,23 +129,6 @@ def memory(data):
         print("  %9d points %7.1f MB, %5.1f bytes a point" % (count, beside / 1e6, beside / count))
 
 
-def in_order(text):
-    """The answers to boxes with the numbers of each in order."""
-    answers, count = [], 0
-    for line in text.splitlines():
-        if line.startswith("hits "):
-            answers.append([])
-        else:
-            answers[-1].append(int(line))
-    return [sorted(numbers) for numbers in answers]
-
-
-def compare(ours, theirs):
-    if ours != theirs:
-        at = next((i for i, (a, b) in enumerate(zip(ours, theirs)) if a != b), "the length")
-        sys.exit("the answers differ at %s" % at)
-
-
 def rtree(data):
     """The run that makes SQLite's R*Tree of the points, in the file `base/points`."""
     rows = write(data.path("rows"), ["%d,%d,%d,%d,%d" % (i, x, x, y, y) for i, (x, y) in enumerate(data.points)])
@@ -263,12 +140,14 @@ def rtree(data):
 def sqlite(data):
     theirs, base = best(lambda: rtree(data), 2), data.path("base/points")
     ours = best(lambda: bkd(data.empty("loaded"), "load", "--columns", "x,y", source=data.csv()), 3)
-    print("sqlite: %d points, %d boxes; SQLite %s" % (data.count, QUERIES, Run(["sqlite3", "-version"], keep=True).text.split()[0]))
+    print("sqlite: %d points, %d boxes; SQLite %s"
+          % (data.count, QUERIES, Run(["sqlite3", "-version"], keep=True).text.split()[0]))
     print("  loading: bkd load %s, R*Tree by .import %s, ratio %5.1f" % (
         milliseconds(ours.wall), milliseconds(theirs.wall), theirs.wall / ours.wall))
 
     def queries(count, rounds=1, between=()):
-        asked = ["select id from points where x0 >= %d and x1 <= %d and y0 >= %d and y1 <= %d;" % (b[0], b[2], b[1], b[3]) for b in data.boxes(count)]
+        asked = ["select id from points where x0 >= %d and x1 <= %d and y0 >= %d and y1 <= %d;"
+                 % (b[0], b[2], b[1], b[3]) for b in data.boxes(count)]
         texts = ["pragma mmap_size = 1000000000;", "pragma cache_size = -1000000;"]
         return write(data.path("asked.sql"), texts + [line for one in asked for line in (*between, one)] * rounds)
 
@@ -278,8 +157,8 @@ def sqlite(data):
     once = best(lambda: Run(["sqlite3", "-batch", base], queries(QUERIES)), 3)
     thrice = best(lambda: Run(["sqlite3", "-batch", base], queries(QUERIES, 3)), 3)
     each, mine = (thrice.wall - once.wall) / (2 * QUERIES), each_line(data, data.box_lines)
-    print("  a box, read as a line and its numbers written: bkd %.2f us, R*Tree %.2f us, ratio %5.1f; %d answers compared" % (
-        mine * 1e6, each * 1e6, each / mine, COMPARED))
+    print("  a box, read as a line and its numbers written: bkd %.2f us, R*Tree %.2f us, ratio %5.1f; "
+          "%d answers compared" % (mine * 1e6, each * 1e6, each / mine, COMPARED))
 
 
 def jars():
@@ -311,12 +190,14 @@ def lucene(data):
     # in the program's own time, after rounds that warm the virtual machine
     boxed = java(data, "Lucene", "boxes", data.path("together"), boxes, "20", keep=True).done()
     nearest = java(data, "Lucene", "near", data.path("together"), near, "20", str(NEAREST), points, keep=True).done()
-    compare(in_order(bkd(data.merged(), "run", source=data.box_lines(COMPARED), keep=True).done().text), in_order(boxed.text))
-    compare(distances(bkd(data.merged(), "run", source=data.near_lines(COMPARED), keep=True).done().text), distances(nearest.text))
+    compare(in_order(bkd(data.merged(), "run", source=data.box_lines(COMPARED), keep=True).done().text),
+            in_order(boxed.text))
+    compare(distances(bkd(data.merged(), "run", source=data.near_lines(COMPARED), keep=True).done().text),
+            distances(nearest.text))
     for name, run, write_lines in (("a box      ", boxed, data.box_lines), ("the nearest", nearest, data.near_lines)):
         each, mine = float(run.said.split()[-1]) / 1e6, each_line(data, write_lines)
-        print("  %s: bkd, read as a line and its answer written, %.2f us; Lucene, warm and without texts, %.2f us, ratio %5.1f; %d answers compared" % (
-            name, mine * 1e6, each * 1e6, each / mine, COMPARED))
+        print("  %s: bkd, read as a line and its answer written, %.2f us; Lucene, warm and without texts, %.2f us, "
+              "ratio %5.1f; %d answers compared" % (name, mine * 1e6, each * 1e6, each / mine, COMPARED))
 
 
 def distances(text):
@@ -327,7 +208,8 @@ def distances(text):
 def limits(data):
     print("limits: what is answered to inputs that are as long as they may be, and longer")
     path = data.path("long")
-    for size, wanted in ((LIMIT, {"run": 2, "explain": 2, "load": 2}), (LIMIT + 1, {"run": 8, "explain": 8, "load": 8})):
+    for size, wanted in ((LIMIT, {"run": 2, "explain": 2, "load": 2}),
+                         (LIMIT + 1, {"run": 8, "explain": 8, "load": 8})):
         with open(path, "wb") as file:
             file.truncate(size)
         for command, status in wanted.items():
@@ -340,7 +222,8 @@ def limits(data):
                 sys.exit("wanted status %d and an empty folder" % status)
 
 
-KINDS = {"add": add, "lines": lines, "tree": tree, "open": opening, "load": load, "memory": memory, "sqlite": sqlite, "lucene": lucene, "limits": limits}
+KINDS = {"add": add, "lines": lines, "tree": tree, "open": opening, "load": load, "memory": memory, "sqlite": sqlite,
+         "lucene": lucene, "limits": limits}
 
 
 if __name__ == "__main__":

@@ -86,7 +86,8 @@ fn main() {
     let mut sum = 0u64;
     for _ in 0..times {
         let centre = point(&mut at);
-        sum = sum.wrapping_add(if words[1] == "near" { near(&points, centre) } else { boxed(&points, centre, &mut hits) });
+        let found = if words[1] == "near" { near(&points, centre) } else { boxed(&points, centre, &mut hits) };
+        sum = sum.wrapping_add(found);
     }
     println!("{} {}", if words[1] == "near" { "near" } else { "hits" }, sum);
 }

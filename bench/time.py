@@ -115,7 +115,8 @@ def partition():
     if said[PROGRAM, "tree"] != said[plain, "tree"]:
         sys.exit("the orders differ: %s, %s" % (said[PROGRAM, "tree"], said[plain, "tree"]))
     ours, theirs = ((parted[program] - drawn[program]) / 5 for program in (PROGRAM, plain))
-    print("partition: a million drawn entries of two dimensions into leaves of 333; drawing taken off, %s" % said[PROGRAM, "tree"])
+    print("partition: a million drawn entries of two dimensions into leaves of 333; drawing taken off, %s"
+          % said[PROGRAM, "tree"])
     print("  cut and arrange                        %6.1f ms" % (ours * 1000))
     print("  select_nth_unstable_by and sort (Rust) %6.1f ms" % (theirs * 1000))
     print("  ratio                                  %6.2f" % (ours / theirs))
@@ -126,7 +127,8 @@ def key(x):
 
 
 def spelled(entries):
-    """The leaf of entries with numbers in no row and below 65,536 apart, of which no point is twice: see docs/FORMATS.md."""
+    """The leaf of entries with numbers in no row and below 65,536 apart, of which no point is twice:
+    see docs/FORMATS.md."""
     dims, least = len(entries[0][1]), min(doc for doc, _ in entries)
     prefixes, spreads = [], []
     for d in range(dims):
@@ -209,7 +211,8 @@ def walks():
         plain = os.path.join(folder, "scan")
         subprocess.run(["rustc", "-O", "-o", plain, os.path.join(HERE, "scan.rs")], check=True)
         ours = {"inside": 100, "tested": 50, "boxes": 100_000, "near": 100_000}
-        runs = [([PROGRAM] + (["walk"] if kind != "near" else []) + [kind, str(count)], times) for kind, times in ours.items()]
+        runs = [([PROGRAM] + (["walk"] if kind != "near" else []) + [kind, str(count)], times)
+                for kind, times in ours.items()]
         runs += [([plain, kind, str(count)], scanned) for kind in ("boxes", "near")]
         spent, said = {}, {}
         # in turns, so that all meet the same spells of the machine
@@ -220,14 +223,16 @@ def walks():
                     seconds, said[kind, program, rounds] = processor_time(words + [str(rounds)])
                     spent[kind, program, rounds] = min(spent.get((kind, program, rounds), seconds), seconds)
     each = {kind: (spent[kind, PROGRAM, times] - spent[kind, PROGRAM, 0]) / times for kind, times in ours.items()}
-    print("walks: a million drawn entries of two dimensions in memory, leaves of 333, all pages kept; processor time, the building taken off")
+    print("walks: a million drawn entries of two dimensions in memory, leaves of 333, all pages kept; processor time, "
+          "the building taken off")
     for kind, name in (("inside", "a walk that takes all leaves  "), ("tested", "a walk that tests all entries")):
         print("  %s %7.2f ns an entry" % (name, each[kind] / count * 1e9))
     for kind, name in (("boxes", "a box of a width of 1,000     "), ("near", "the ten nearest              ")):
         if said[kind, PROGRAM, scanned] != said[kind, plain, scanned]:
             sys.exit("the answers differ: %s, %s" % (said[kind, PROGRAM, scanned], said[kind, plain, scanned]))
         scan = (spent[kind, plain, scanned] - spent[kind, plain, 0]) / scanned
-        print("  %s %7.2f us, a plain scan (Rust) %.0f us, ratio %.0f" % (name, each[kind] * 1e6, scan * 1e6, scan / each[kind]))
+        print("  %s %7.2f us, a plain scan (Rust) %.0f us, ratio %.0f"
+              % (name, each[kind] * 1e6, scan * 1e6, scan / each[kind]))
 
 
 if __name__ == "__main__":

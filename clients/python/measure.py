@@ -80,7 +80,8 @@ def shard(count):
     os.environ["PYTHONPATH"] = os.path.dirname(os.path.abspath(__file__))
     points = drawn(count)
     with tempfile.TemporaryDirectory() as top, \
-            LocalCluster(n_workers=WORKERS, threads_per_worker=1, dashboard_address=None) as cluster, Client(cluster) as client:
+            LocalCluster(n_workers=WORKERS, threads_per_worker=1,
+                         dashboard_address=None) as cluster, Client(cluster) as client:
         path = os.path.join(top, "layout.json")
         shards.create(path, [os.path.join(top, str(i)) for i in range(4)], by="cells")
         with shards.open(path, client, program=bkd.find().words) as index:
@@ -97,9 +98,11 @@ def shard(count):
                 index.box((0, 0), (1000, 1000))
             inside = ((points[:, 0] >= 0) & (points[:, 0] <= 1000) & (points[:, 1] >= 0) & (points[:, 1] <= 1000)).sum()
             assert len(index.box((0, 0), (1000, 1000))) == inside
-    print(f"shards: {count} points over four folders, by cells, {WORKERS} workers on this machine with {os.cpu_count()} processors")
+    print(f"shards: {count} points over four folders, by cells, {WORKERS} workers on this machine "
+          f"with {os.cpu_count()} processors")
     print(f"  added and committed {added.seconds:6.1f} s")
-    print(f"  a thousand boxes at once {boxed.seconds:6.2f} s ({hits} hits), a thousand times the ten nearest {neared.seconds:6.2f} s")
+    print(f"  a thousand boxes at once {boxed.seconds:6.2f} s ({hits} hits), "
+          f"a thousand times the ten nearest {neared.seconds:6.2f} s")
     print(f"  one box alone {alone.seconds * 1000:6.1f} ms")
 
 

@@ -7,8 +7,8 @@
         index.nearest(1, (12000000, 42000000))
 
 The client talks with the program over its streams; nothing of it is proved, and it is tested against the program.
-`bkd.geo` scales decimal degrees, `bkd.export` and `bkd.clean` read the index's files, `bkd.shards` spreads an index over
-folders, `bkd.plot` draws, `python -m bkd.view FOLDER` shows an index in a page.
+`bkd.geo` scales decimal degrees, `bkd.export` and `bkd.clean` read the index's files, `bkd.shards` spreads an index
+over folders, `bkd.plot` draws, `python -m bkd.view FOLDER` shows an index in a page.
 """
 from . import geo, requests
 from .answers import Explained
@@ -25,6 +25,7 @@ from .ranges import Ranges, open_ranges
 __all__ = [
     "BadAnswer", "Checked", "Closed", "Damage", "Damaged", "Died", "Error", "Explained", "Fault", "FolderFault", "Hung",
     "Index", "Locked", "NoIndex", "NotFound", "OutOfMemory", "Program", "Ranges", "Refused", "SinkFault", "Snapshot",
-    "SourceFault", "TooLarge", "Unsupported", "WorkerLost", "batch", "check", "clean", "explain", "export", "export_csv", "find",
+    "SourceFault", "TooLarge", "Unsupported", "WorkerLost", "batch", "check", "clean", "explain", "export",
+    "export_csv", "find",
     "generate", "geo", "load", "open", "open_ranges", "requests",
 ]

@@ -1,8 +1,8 @@
 """The program's commands that run once over a folder.
 
-Each takes `program` as `bkd.open` does, and the folder's lock, but where `held` is a descriptor that holds it. A command
-that the program doesn't list raises `Unsupported`. `timeout` is for how many seconds the program may run, or, where it
-reads lines, take and give nothing, before it is killed and `Hung` raised; None for ever.
+Each takes `program` as `bkd.open` does, and the folder's lock, but where `held` is a descriptor that holds it. A
+command that the program doesn't list raises `Unsupported`. `timeout` is for how many seconds the program may run, or,
+where it reads lines, take and give nothing, before it is killed and `Hung` raised; None for ever.
 """
 from __future__ import annotations
 
@@ -76,7 +76,8 @@ def _told(program: Program, folder: Folder, words: Sequence[str], timeout: float
     return text
 
 
-def check(folder: Folder, *, program: Which = None, timeout: float | None = None, held: int | None = None) -> Checked | None:
+def check(folder: Folder, *, program: Which = None, timeout: float | None = None,
+          held: int | None = None) -> Checked | None:
     """Reads every page that the folder's commit needs. None where there is no index; `Damaged` where it isn't whole."""
     text = _told(find(program), folder, ["check"], timeout, held=held)
     if text == "no index\n":
@@ -106,7 +107,8 @@ def explain(folder: Folder, queries: Iterable[Request], cache: int = 1024, *, pr
 
 def batch(folder: Folder, queries: Iterable[Request], forks: int = 1, *, program: Which = None,
           timeout: float | None = None, held: int | None = None) -> list[Any]:
-    """The answers to queries, in order, from a copy of the stored index in memory, by `forks` levels of two threads each.
+    """The answers to queries, in order, from a copy of the stored index in memory, by `forks` levels of two threads
+    each.
 
     The place of a query that is refused has its `Refused`.
     """
@@ -119,7 +121,8 @@ def points_in(lo: Point, hi: Point) -> Request:
 
 
 def grid_over(x: int, step_x: int, y: int, step_y: int, lo: Point, hi: Point) -> Request:
-    """Asks `count` for the filled buckets of a grid over the dimensions `x` and `y` of a box, counted from its lower corner."""
+    """Asks `count` for the filled buckets of a grid over the dimensions `x` and `y` of a box,
+    counted from its lower corner."""
     return Request(f"grid {x:d} {step_x:d} {y:d} {step_y:d}" + _spelled(lo, hi), BUCKETS)
 
 

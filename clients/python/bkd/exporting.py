@@ -1,4 +1,5 @@
-"""All live documents out of an index's files, so that an index that is full, or of another leaf size, can be built anew."""
+"""All live documents out of an index's files, so that an index that is full, or of another leaf size,
+can be built anew."""
 from __future__ import annotations
 
 import csv

@@ -59,12 +59,14 @@ def point(lon: Degrees, lat: Degrees, rounding: str | None = None) -> tuple[int,
 
 
 def box(west: Degrees, south: Degrees, east: Degrees, north: Degrees) -> tuple[tuple[int, int], tuple[int, int]]:
-    """The corners `lo`, `hi` of a box: the whole numbers in it, so its lower sides are rounded up and its upper ones down."""
+    """The corners `lo`, `hi` of a box: the whole numbers in it,
+    so its lower sides are rounded up and its upper ones down."""
     return (whole(west, "up"), whole(south, "up")), (whole(east, "down"), whole(north, "down"))
 
 
 def points(table: Any, rounding: str | None = None) -> Any:
-    """An array of degrees, of any shape and a float type of 64 bits, as an array of int32 of that shape; wants numpy."""
+    """An array of degrees, of any shape and a float type of 64 bits, as an array of int32 of that shape;
+    wants numpy."""
     import numpy
     given = numpy.asarray(table, dtype=numpy.float64)
     if not numpy.isfinite(given).all() or (abs(given) > 215).any():

@@ -32,14 +32,15 @@ class Queries:
         return values
 
     def box(self, lo: Point, hi: Point) -> Numbers:
-        """The numbers, ascending, of the documents that have a point `p` with `lo[i] <= p[i] <= hi[i]` in each dimension."""
+        """The numbers, ascending, of the documents that have a point `p` with `lo[i] <= p[i] <=
+        hi[i]` in each dimension."""
         return self._numbers(self._one(requests.box(lo, hi, self._of)))
 
     def polygon(self, shape: Any) -> Numbers:
         """The numbers, ascending, of the documents that have a point in a polygon, its edges among it.
 
-        `shape` is a GeoJSON Polygon as a dict, a list of closed rings of positions, or what has `__geo_interface__`; its
-        positions are whole numbers. A point is in where it lies on an edge, or by the even-odd rule over all rings.
+        `shape` is a GeoJSON Polygon as a dict, a list of closed rings of positions, or what has `__geo_interface__`;
+        its positions are whole numbers. A point is in where it lies on an edge, or by the even-odd rule over all rings.
         """
         return self._numbers(self._one(requests.polygon(shape, self._of)))
 
@@ -98,7 +99,8 @@ class Index(Queries):
         self.close()
 
     def close(self) -> None:
-        """Commits what isn't committed, ends the program and gives the folder's lock back. A second call does nothing."""
+        """Commits what isn't committed, ends the program and gives the folder's lock back.
+        A second call does nothing."""
         self._transport.close()
 
     def abandon(self) -> None:

@@ -96,13 +96,15 @@ def nearest(axes: Axes, at: Sequence[int], near: Sequence[tuple[int, int]]) -> A
     """The point of a query for the nearest, and the circle through the farthest of what it answered."""
     axes.scatter([at[0]], [at[1]], marker="+", c=_QUERY, zorder=4)
     if near:
-        axes.add_patch(Circle((at[0], at[1]), near[-1][1] ** 0.5, fill=False, edgecolor=_QUERY, linewidth=1.5, zorder=4))
+        axes.add_patch(Circle((at[0], at[1]), near[-1][1] ** 0.5, fill=False, edgecolor=_QUERY, linewidth=1.5,
+                              zorder=4))
     return axes
 
 
 def picture(folder: Folder, path: str | os.PathLike[str], dims: Side = (0, 1), *,
             query: tuple[Sequence[int], Sequence[int]] | None = None, hits: Iterable[int] = ()) -> None:
-    """Writes a picture of an index: cells, points, a box `query` as (lo, hi) and its `hits`. The path's ending is the format."""
+    """Writes a picture of an index: cells, points, a box `query` as (lo, hi) and its `hits`.
+    The path's ending is the format."""
     stored = open_stored(folder)
     figure = Figure(figsize=(8, 8), layout="constrained")
     axes = figure.add_subplot()

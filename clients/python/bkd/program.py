@@ -55,7 +55,8 @@ class Program:
     def require(self, command: str) -> None:
         """Raises `Unsupported` where the program's list doesn't have this command."""
         if command not in self.commands:
-            raise Unsupported(f"{' '.join(self.words)} has no command {command}; it has {', '.join(sorted(self.commands))}")
+            raise Unsupported(f"{' '.join(self.words)} has no command {command}; "
+                              f"it has {', '.join(sorted(self.commands))}")
 
     def start(self, folder: str, words: Sequence[str], timeout: float | None, held: int | None = None) -> Coprocess:
         """Starts a command, whose name is the first word. `held` is the folder's lock, which the program inherits."""
@@ -65,7 +66,8 @@ class Program:
         except OSError as error:
             raise NotFound(f"{self.words[0]}: {error.strerror}") from error
 
-    def run(self, folder: str, words: Sequence[str], talk: Talk, timeout: float | None, held: int | None = None) -> None:
+    def run(self, folder: str, words: Sequence[str], talk: Talk, timeout: float | None,
+            held: int | None = None) -> None:
         """Runs a command over a talk to its end. Without `held` it takes the folder's lock."""
         self.require(words[0])
         with _locked(folder, words, held) as kept:

@@ -83,7 +83,8 @@ def delete_box(lo: Point, hi: Point) -> Request:
 
 
 def box(lo: Point, hi: Point, of: str | None = None) -> Request:
-    """Asks for the documents that have a point from `lo` to `hi`, both among them; answered by their numbers, ascending."""
+    """Asks for the documents that have a point from `lo` to `hi`, both among them; answered by their numbers,
+    ascending."""
     return Request(f"box{_viewed(of)}" + _words((coordinates(lo), coordinates(hi))), HITS)
 
 
@@ -93,7 +94,8 @@ def polygon(shape: Any, of: str | None = None) -> Request:
 
 
 def nearest(k: SupportsIndex, at: Point, of: str | None = None) -> Request:
-    """Asks for the `k` nearest documents; answered by pairs of number and squared distance, ascending by distance, number."""
+    """Asks for the `k` nearest documents; answered by pairs of number and squared distance, ascending by distance,
+    number."""
     return Request(f"nearest{_viewed(of)} {operator.index(k)}" + _words((coordinates(at),)), NEAR)
 
 

@@ -24,8 +24,8 @@ def _whole(array: Any) -> Any:
 def added(documents: Any, dims: int) -> Iterator[tuple[bytes, int]]:
     """Lines that add documents, as pairs of a text and its number of lines.
 
-    `documents` is an array of whole numbers of shape (n, dims), or (n,) where `dims` is 1, a document of one point each;
-    or any iterable of what `requests.add` takes.
+    `documents` is an array of whole numbers of shape (n, dims), or (n,) where `dims` is 1, a document of one point
+    each; or any iterable of what `requests.add` takes.
     """
     if _is_array(documents):
         yield from _added_rows(_whole(documents), dims)
@@ -48,13 +48,15 @@ def _added_points(documents: Sequence[Any], dims: int) -> bytes | None:
     try:
         if any(len(point) != dims for point in documents):
             return None
-        return _spelled("add" + " %d" * dims + "\n", len(documents), map(operator.index, chain.from_iterable(documents)))
+        return _spelled("add" + " %d" * dims + "\n", len(documents),
+                        map(operator.index, chain.from_iterable(documents)))
     except TypeError:
         return None
 
 
 def deleted(numbers: Any) -> Iterator[tuple[bytes, int]]:
-    """Lines that delete documents, as pairs of a text and its number of lines. An array has whole numbers in one row."""
+    """Lines that delete documents, as pairs of a text and its number of lines.
+    An array has whole numbers in one row."""
     rest: Iterator[SupportsIndex] = iter(_whole(numbers).ravel().tolist() if _is_array(numbers) else numbers)
     while some := list(islice(rest, _LINES)):
         yield _spelled("delete %d\n", len(some), map(operator.index, some)), len(some)

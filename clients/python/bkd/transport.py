@@ -27,7 +27,8 @@ class Transport(Protocol):
         """The answers to requests in order, a `Refused` in the place of each that was refused."""
 
     def many(self, pieces: Pieces, answer: Answer) -> tuple[list[int], list[Refused]]:
-        """The numbers that lines of one form are answered by, and the refusals. Pieces are texts and their lines' counts."""
+        """The numbers that lines of one form are answered by, and the refusals.
+        Pieces are texts and their lines' counts."""
 
     def close(self) -> None:
         """Ends what runs, which commits, and gives the lock back. A second call does nothing."""

@@ -13,7 +13,8 @@ POINTS = 1 << 24
 _NUMBER = re.compile(r"[0-9]+", re.ASCII)
 _COORDINATE = re.compile(r"-?[0-9]+", re.ASCII)
 _NAME = re.compile(r"[A-Za-z0-9_-]{1,32}", re.ASCII)
-VERBS = ("create", "add", "delete", "box", "polygon", "nearest", "flush", "merge", "snapshot", "release", "commit", "reopen")
+VERBS = ("create", "add", "delete", "box", "polygon", "nearest", "flush", "merge", "snapshot", "release", "commit",
+         "reopen")
 
 
 class Fault(Exception):

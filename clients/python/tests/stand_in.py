@@ -1,5 +1,6 @@
 #!/usr/bin/python3
-"""A program that talks as `bkd` does, over the model of its language: `session`, `run`, and what else it is told to have.
+"""A program that talks as `bkd` does, over the model of its language: `session`, `run`, and what else it is told to
+have.
 
 It keeps its documents in `model.json`, and writes a commit file that lists no segments, so that a client finds the
 dimensions; with STAND_IN_FILES there are segments too, which hold the documents. The environment tells how it differs:

@@ -16,12 +16,15 @@ def anywhere(dims):
     return (LOW,) * dims, (HIGH,) * dims
 
 
-@pytest.mark.parametrize("value, spelled", [(LOW, "00000000"), (-1, "7fffffff"), (0, "80000000"), (5, "80000005"), (HIGH, "ffffffff")])
+@pytest.mark.parametrize("value, spelled",
+                         [(LOW, "00000000"), (-1, "7fffffff"), (0, "80000000"), (5, "80000005"), (HIGH, "ffffffff")])
 def test_keys(value, spelled):
     assert key(value).hex() == spelled and coordinate(bytes.fromhex(spelled)) == value
 
 
-@pytest.mark.parametrize("value, spelled", [(0, "00"), (127, "7f"), (128, "8001"), (300, "ac02"), (333, "cd02"), (2**32 - 1, "ffffffff0f")])
+@pytest.mark.parametrize("value, spelled",
+                         [(0, "00"), (127, "7f"), (128, "8001"), (300, "ac02"), (333, "cd02"),
+                          (2**32 - 1, "ffffffff0f")])
 def test_vints(value, spelled):
     cursor = Cursor(bytes.fromhex(spelled))
     assert cursor.vint() == value
@@ -38,7 +41,8 @@ def test_what_is_no_vint(spelled):
     (LEAF, 1, (0, 1), ((5, 7),)),
     ("000200020480000007", 1, (2, 3), ((7, 7),)),
     ("000100040480000007", 1, (4,), ((7,),)),
-    ("000501030001060205030380000080000000010201020201141e0a3228", 2, (3, 4, 9, 5, 8), ((1, 1, 1, 2, 2), (20, 30, 10, 50, 40))),
+    ("000501030001060205030380000080000000010201020201141e0a3228", 2, (3, 4, 9, 5, 8),
+     ((1, 1, 1, 2, 2), (20, 30, 10, 50, 40))),
 ])
 def test_leaves(spelled, dims, numbers, columns):
     leaf = read_leaf(bytes.fromhex(spelled), dims, len(numbers), anywhere(dims))
@@ -77,7 +81,8 @@ def test_a_leaf_sorted_by_the_wrong_dimension():
 
 TABLE = "800000058000000700800000070080000007" + "000000000000000c" + "00000000000c0009" + "0000000000150009"
 PACKED = "80000005800000070307001506" + "04000c010c09" + "09"
-CELLS = "8000000580000007" + "0307001516" + "04000c09" + "0c8000000580000007" + "098000000780000007" + "098000000780000007"
+CELLS = ("8000000580000007" + "0307001516" + "04000c09" + "0c8000000580000007" + "098000000780000007"
+         + "098000000780000007")
 PLACES = (Place(0, 0, 12), Place(0, 12, 9), Place(0, 21, 9))
 
 
@@ -133,7 +138,8 @@ def test_what_are_no_live_bits(segment, body):
 
 SEGMENT = "0000000000000000" + "0000000000000001" + "00000001" + "00000001"
 FIRST = "424b4450434f4d31" + "02014d00000001" + "0000000000000001" + "0001" + SEGMENT
-SECOND = "424b4450434f4d32" + "02014d" + "00000001" + "00000002" + "0000000000000001" + "0001" + SEGMENT[:32] + "0000000200000001"
+SECOND = ("424b4450434f4d32" + "02014d" + "00000001" + "00000002" + "0000000000000001" + "0001" + SEGMENT[:32]
+          + "0000000200000001")
 
 
 @pytest.mark.parametrize("body, commit", [
@@ -146,10 +152,12 @@ def test_commits(body, commit):
 
 
 @pytest.mark.parametrize("body", [
-    FIRST.replace("434f4d31", "434f4d33"), FIRST + "00", FIRST[:-2], SECOND.replace("00000002" + "0000", "00000000" + "0000", 1),
+    FIRST.replace("434f4d31", "434f4d33"), FIRST + "00", FIRST[:-2],
+    SECOND.replace("00000002" + "0000", "00000000" + "0000", 1),
     FIRST.replace("02014d", "02014e"), FIRST.replace("02014d", "09014d"), FIRST.replace("02014d", "020001"),
     FIRST[:-8] + "00000002", FIRST[:-16] + "0000000000000000",
-    FIRST[:46] + "0002" + SEGMENT + SEGMENT, FIRST.replace("00000001" + "0000000000000001", "00000001" + "0000000000000000", 1),
+    FIRST[:46] + "0002" + SEGMENT + SEGMENT,
+    FIRST.replace("00000001" + "0000000000000001", "00000001" + "0000000000000000", 1),
     "424b4450434f4d31" + "02014d" + "01000001" + "0000000000000000" + "0000",
 ])
 def test_what_is_no_commit(body):
@@ -162,4 +170,5 @@ def test_names():
     assert FileName.live(10, 255).text == "live-000000000000000a-00000000000000ff.bkd"
     own = [FileName.segment(2**64 - 1).text, FileName.live(0, 1).text, "commit.bkd", "commit.new"]
     assert all(map(is_own_name, own))
-    assert not any(map(is_own_name, ["seg-000000000000000A.bkd", "seg-0.bkd", "commit.bkd2", "live-" + "0" * 16 + ".bkd", "a"]))
+    assert not any(map(is_own_name,
+                       ["seg-000000000000000A.bkd", "seg-0.bkd", "commit.bkd2", "live-" + "0" * 16 + ".bkd", "a"]))

@@ -20,7 +20,8 @@ def test_there_and_back(number):
 
 @pytest.mark.parametrize("given, number", [
     (-214.7483648, -(1 << 31)), (214.7483647, (1 << 31) - 1), ("-214.7483648", -(1 << 31)), (0, 0), (-0.0, 0),
-    (180, 1_800_000_000), (-180.0, -1_800_000_000), (13.404954, 134_049_540), (0.3, 3_000_000), (1e-7, 1), ("1e2", 10**9),
+    (180, 1_800_000_000), (-180.0, -1_800_000_000), (13.404954, 134_049_540), (0.3, 3_000_000), (1e-7, 1),
+    ("1e2", 10**9),
 ])
 def test_values(given, number):
     assert geo.whole(given) == number
@@ -37,7 +38,8 @@ def test_what_cannot_be_held(wrong):
 
 @pytest.mark.parametrize("given, nearest, down, up", [
     ("0.00000005", 0, 0, 1), ("0.00000015", 2, 1, 2), ("-0.00000005", 0, -1, 0), (0.00000005, 0, 0, 1),
-    ("0.00000004999", 0, 0, 1), (0.3, 3_000_000, 3_000_000, 3_000_000), (Fraction(1, 3), 3_333_333, 3_333_333, 3_333_334),
+    ("0.00000004999", 0, 0, 1), (0.3, 3_000_000, 3_000_000, 3_000_000),
+    (Fraction(1, 3), 3_333_333, 3_333_333, 3_333_334),
 ])
 def test_rounding_is_asked_for(given, nearest, down, up):
     assert [geo.whole(given, r) for r in ("nearest", "down", "up")] == [nearest, down, up]
@@ -54,7 +56,8 @@ def test_polygons():
     wanted = {"type": "Polygon", "coordinates": [[[1_000_000, 0], [10**7, 0], [10**7, 15_000_000], [1_000_000, 0]]]}
     assert geo.polygon([ring]) == wanted
     assert geo.polygon({"type": "Feature", "geometry": {"type": "Polygon", "coordinates": [ring]}}) == wanted
-    for wrong in ({"type": "Point", "coordinates": [0, 0]}, {"type": "Polygon"}, [[(0, 0, 0)]], [[(0.00000001, 0)]], "x"):
+    for wrong in ({"type": "Point", "coordinates": [0, 0]}, {"type": "Polygon"}, [[(0, 0, 0)]], [[(0.00000001, 0)]],
+                  "x"):
         with pytest.raises(ValueError):
             geo.polygon(wrong)
     assert geo.polygon([[(0.00000001, 0)]], "nearest")["coordinates"] == [[[0, 0]]]

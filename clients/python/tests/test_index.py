@@ -4,7 +4,8 @@ import pytest
 import bkd
 from bkd import Refused, requests
 
-SQUARES = {"type": "Polygon", "coordinates": [[[0, 0], [10, 0], [10, 10], [0, 10], [0, 0]], [[4, 4], [6, 4], [6, 6], [4, 6], [4, 4]]]}
+SQUARES = {"type": "Polygon",
+           "coordinates": [[[0, 0], [10, 0], [10, 10], [0, 10], [0, 0]], [[4, 4], [6, 4], [6, 6], [4, 6], [4, 4]]]}
 M, N = -(1 << 31), (1 << 31) - 1
 
 

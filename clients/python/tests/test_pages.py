@@ -23,15 +23,20 @@ def shown():
 
 @pytest.mark.parametrize("text", [
     "run", "load", "explain", "generate", "check", "session", "--cache", "--forks", "--columns", "--docs", "--seed",
-    "create D", "add C1 .. CD", "delete N", "delete box LO HI", "box [@NAME] LO HI", "polygon [@NAME] JSON", "nearest [@NAME] K",
+    "create D", "add C1 .. CD", "delete N", "delete box LO HI", "box [@NAME] LO HI", "polygon [@NAME] JSON",
+    "nearest [@NAME] K",
     "snapshot NAME", "release NAME", "flush", "merge begin", "merge end", "commit", "reopen",
     "too long", "not utf-8", "no index", "unknown command", "bad name", "not two dimensions", "wrong words",
-    "bad number in word W", "dims", "leaf size", "bad k", "polygon is not json", "not a polygon", "polygon has too many positions",
+    "bad number in word W", "dims", "leaf size", "bad k", "polygon is not json", "not a polygon",
+    "polygon has too many positions",
     "polygon ring R position P is not whole", "polygon ring R has too few positions", "polygon ring R is not closed",
-    "index exists", "full", "merge begun", "no merge begun", "unknown snapshot", "name taken", "too many snapshots", "not a query",
-    "no column C", "record N has another length", "record N column C is not a whole number", "columns do not match dims D",
+    "index exists", "full", "merge begun", "no merge begun", "unknown snapshot", "name taken", "too many snapshots",
+    "not a query",
+    "no column C", "record N has another length", "record N column C is not a whole number",
+    "columns do not match dims D",
     "refused N", "source fault", "folder fault", "sink fault", "damaged:", "out of memory", "input too large",
-    "FILE page N", "FILE page N leaf at O", "FILE body", "FILE missing", "FILE has S bytes, needs N", "FILE says A, found B",
+    "FILE page N", "FILE page N leaf at O", "FILE body", "FILE missing", "FILE has S bytes, needs N",
+    "FILE says A, found B",
     "document D beyond N", "document D twice", "commit.bkd", "commit.new", "seg-X.bkd", "live-X-G.bkd",
 ])
 def test_the_man_page_has(shown, text):
@@ -44,7 +49,8 @@ def test_it_has_every_command(shown, real):
 
 def completed(*words):
     line = " ".join(repr(word) for word in words)
-    code = f"source {COMPLETION}; COMP_WORDS=({line}); COMP_CWORD={len(words) - 1}; _bkd; printf '%s\\n' \"${{COMPREPLY[@]}}\""
+    code = (f"source {COMPLETION}; COMP_WORDS=({line}); COMP_CWORD={len(words) - 1}; _bkd; "
+            f"printf '%s\\n' \"${{COMPREPLY[@]}}\"")
     run = subprocess.run(["bash", "-c", code], capture_output=True, text=True, cwd=TOP)
     assert run.stderr == ""
     return run.stdout.split()

@@ -111,13 +111,17 @@ def test_the_model_itself():
     """Rows whose answers were worked out by hand."""
     rows = [
         ("box 0 0 5 5", "line 1: no index"), ("create 2 leaf 334", "line 2: leaf size"), ("create 9", "line 3: dims"),
-        ("create 2\r", "ok"), ("# a note", ""), ("", ""), ("create 2", "line 7: index exists"), ("add 1", "line 8: wrong words"),
+        ("create 2\r", "ok"), ("# a note", ""), ("", ""), ("create 2", "line 7: index exists"),
+        ("add 1", "line 8: wrong words"),
         ("add 1 x", "line 9: bad number in word 3"), ("add 1 2147483648", "line 10: bad number in word 3"),
-        ("near 1 0 0", "line 11: unknown command"), ("nearest 0 0 0", "line 12: bad k"), ("snapshot a.b", "line 13: bad name"),
+        ("near 1 0 0", "line 11: unknown command"), ("nearest 0 0 0", "line 12: bad k"),
+        ("snapshot a.b", "line 13: bad name"),
         ("add 0 0 10 10", "doc 0"), ("box 9 9 11 11", "hits 1\n0"), ("nearest 1 1 1", "near 1\n0 2"),
-        ("add 1 2 3", "line 17: wrong words"), ("box @a 0 0 1 1", "line 18: unknown snapshot"), ("delete 0", "deleted 1"),
+        ("add 1 2 3", "line 17: wrong words"), ("box @a 0 0 1 1", "line 18: unknown snapshot"),
+        ("delete 0", "deleted 1"),
         ("merge end", "line 20: no merge begun"), ("polygon {", "line 21: polygon is not json"),
-        ('polygon {"type":"Polygon","coordinates":[[[0,0],[4,0],[0,0]]]}', "line 22: polygon ring 0 has too few positions"),
+        ('polygon {"type":"Polygon","coordinates":[[[0,0],[4,0],[0,0]]]}',
+         "line 22: polygon ring 0 has too few positions"),
     ]
     model = Model()
     for line, answer in rows:
@@ -145,8 +149,10 @@ def test_many_segments(real, tmp_path, dims, leaf):
     model.line(f"create {dims} leaf {leaf}".encode())
     asked = []
     for i in range(400):
-        asked.append(requests.add([((i * 37 + d) % 101, *[i % (d + 2) for d in range(dims - 1)]) for d in range(1 + i % 3)]))
+        asked.append(requests.add([((i * 37 + d) % 101, *[i % (d + 2) for d in range(dims - 1)])
+                                   for d in range(1 + i % 3)]))
         asked += [requests.FLUSH] * (i % 7 == 0) + [requests.delete(i * 13 % 300)] * (i % 5 == 0)
-        asked += [requests.nearest(7, [i % 50] * dims), requests.box([i % 40] * dims, [i % 40 + 9] * dims)] * (i % 11 == 0)
+        asked += [requests.nearest(7, [i % 50] * dims),
+                  requests.box([i % 40] * dims, [i % 40 + 9] * dims)] * (i % 11 == 0)
     with bkd.open(tmp_path, dims, leaf, program=real) as index:
         assert index.ask(asked) == wanted(model, asked)

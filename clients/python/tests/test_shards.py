@@ -61,11 +61,13 @@ def folders(tmp_path, count=3):
 
 def drawn(count, seed, most=3, wide=40):
     draw = random.Random(seed)
-    return [[(draw.randint(-wide, wide), draw.randint(-wide, wide)) for _ in range(draw.randint(1, most))] for _ in range(count)]
+    return [[(draw.randint(-wide, wide), draw.randint(-wide, wide)) for _ in range(draw.randint(1, most))]
+            for _ in range(count)]
 
 
 def nearest_of(documents, k, at):
-    found = sorted((min((x - at[0]) ** 2 + (y - at[1]) ** 2 for x, y in points), key) for key, points in documents.items())
+    found = sorted((min((x - at[0]) ** 2 + (y - at[1]) ** 2 for x, y in points), key)
+                   for key, points in documents.items())
     return [(key, distance) for distance, key in found[:k]]
 
 
@@ -139,13 +141,15 @@ def test_what_is_refused(client, tmp_path):
     shards.create(tmp_path / "layout.json", folders(tmp_path, 2))
     with pytest.raises(FileExistsError):
         shards.create(tmp_path / "layout.json", folders(tmp_path, 2))
-    for wrong in ({"folders": []}, {"folders": ["a", "a"]}, {"folders": ["a"], "by": "x"}, {"folders": ["a"], "dims": 9}):
+    for wrong in ({"folders": []}, {"folders": ["a", "a"]}, {"folders": ["a"], "by": "x"},
+                  {"folders": ["a"], "dims": 9}):
         with pytest.raises(ValueError):
             shards.create(tmp_path / "other.json", **wrong)
     with shards.open(tmp_path / "layout.json", client, program=STAND_IN) as index:
         for documents, keys, error in [
             ([(1, 2, 3)], None, ValueError), ([(1, 1 << 31)], None, ValueError), ([[(1, 1)] * 17], None, ValueError),
-            ([(1.5, 2)], None, TypeError), (numpy.zeros((2, 2)), None, TypeError), (numpy.zeros((2, 3), int), None, ValueError),
+            ([(1.5, 2)], None, TypeError), (numpy.zeros((2, 2)), None, TypeError),
+            (numpy.zeros((2, 3), int), None, ValueError),
             ([(1, 1)], [1, 2], ValueError), ([(1, 1)], ["a"], TypeError), ([(1, 1)], [1 << 63], OverflowError),
         ]:
             with pytest.raises(error):

@@ -15,7 +15,8 @@ from writer import write_index
 @pytest.mark.parametrize("dims, leaf", [(1, None), (1, 2), (2, None), (2, 7), (3, 50), (5, None), (8, 111)])
 def test_the_same_documents(real, tmp_path, dims, leaf):
     """Coordinates of all sizes, so that leaves have all forms, prefixes of all lengths and runs."""
-    points = [tuple((i * 2654435761 * (d + 1) % (1 << (1 + (i + 7 * d) % 32))) - (1 << ((i + 7 * d) % 32)) for d in range(dims))
+    points = [tuple((i * 2654435761 * (d + 1) % (1 << (1 + (i + 7 * d) % 32))) - (1 << ((i + 7 * d) % 32))
+                    for d in range(dims))
               for i in range(2500)]
     points += [tuple(i // 300 for _ in range(dims)) for i in range(1500)]
     with bkd.open(tmp_path, dims, leaf, program=real) as index:
@@ -144,7 +145,8 @@ def test_every_form_as_it_is_written(tmp_path, form, dims, leaf, count):
         with bkd.open(tmp_path, program=program) as index:
             assert index.box(low, high) == sorted(wanted)
             at = (5,) * dims
-            near = sorted((min(sum((a - b) ** 2 for a, b in zip(p, at)) for p in points), n) for n, points in wanted.items())
+            near = sorted((min(sum((a - b) ** 2 for a, b in zip(p, at)) for p in points), n)
+                          for n, points in wanted.items())
             assert index.nearest(9, at) == [(n, d) for d, n in near[:9]]
 
 

@@ -85,7 +85,8 @@ def test_it_asks_the_program(filed, tmp_path, shown):
         explained = index.explain([requests.box((0, 0), (20, 20))])[0]
     place = {"x": 0, "y": 1}
     _, told = fetch(server, "/ask", {"kind": "box", "frame": [-0.5, -0.9, 20.4, 20.9], **place})
-    assert told["numbers"] == box and told["explained"] == {"tested": explained.tested, "touched": explained.touched, "found": explained.found}
+    assert told["numbers"] == box and told["explained"] == {"tested": explained.tested, "touched": explained.touched,
+                                                            "found": explained.found}
     assert len(told["points"]) >= len(box)
     _, told = fetch(server, "/ask", {"kind": "nearest", "k": 7, "at": [10.2, 11.8], **place})
     assert [tuple(pair) for pair in told["near"]] == near
@@ -115,7 +116,8 @@ def test_what_it_refuses(filed, tmp_path, shown):
     for path, body, headers, status in [
         ("/nothing", None, {}, 404), ("/index", None, {"Host": "example.org"}, 403), ("/ask", {"kind": "box"}, {}, 400),
         ("/ask", {"kind": "what", "x": 0, "y": 1}, {}, 400), ("/ask", {"a": 1}, {"Content-Type": "text/plain"}, 404),
-        ("/view?x=0&y=5&frame=0,0,1,1&columns=1&rows=1", None, {}, 400), ("/view?x=0&y=1&frame=nan,0,1,1&columns=1&rows=1", None, {}, 400),
+        ("/view?x=0&y=5&frame=0,0,1,1&columns=1&rows=1", None, {}, 400),
+        ("/view?x=0&y=1&frame=nan,0,1,1&columns=1&rows=1", None, {}, 400),
         ("/ask", {"kind": "nearest", "k": 0, "at": [0, 0], "x": 0, "y": 1}, {}, 400),
     ]:
         assert fetch(server, path, body, **headers)[0] == status, path
@@ -156,8 +158,10 @@ def test_in_a_browser(filed, tmp_path, shown):
         page.call("Page.navigate", url=f"http://127.0.0.1:{server.server_address[1]}/")
         page.wait("document.body && document.body.dataset.ready === 'yes'")
         assert "8000 live documents" in page.value("byId('about').textContent")
-        assert page.value("state.shown.cells.length") == sum(s["leaves"] for s in fetch(server, "/index")[1]["segments"])
-        drawn = page.value("Array.from(ink.getImageData(0, 0, plane.width, plane.height).data).filter((v, i) => i % 4 === 3 && v).length")
+        segments = fetch(server, "/index")[1]["segments"]
+        assert page.value("state.shown.cells.length") == sum(s["leaves"] for s in segments)
+        drawn = page.value("Array.from(ink.getImageData(0, 0, plane.width, plane.height).data)"
+                           ".filter((v, i) => i % 4 === 3 && v).length")
         assert drawn > 10_000
         mode = "document.querySelector('input[value={}]').click()"
         answered = "document.body.dataset.answered === 'yes' && state.hits !== null"
@@ -181,7 +185,8 @@ def check_box(page, folder, program, mode, answered):
     page.drag(250, 200, 520, 480)
     page.wait(answered + " && state.query.kind === 'box'")
     left, bottom, right, top = page.value("state.query.frame")
-    wanted = told(folder, program, requests.box([math.ceil(left), math.ceil(bottom)], [math.floor(right), math.floor(top)]))
+    wanted = told(folder, program,
+                  requests.box([math.ceil(left), math.ceil(bottom)], [math.floor(right), math.floor(top)]))
     assert len(wanted) > 10 and page.value("state.hits.numbers") == wanted
     assert page.value("byId('answer').textContent").count("leaves touched") == 1
 

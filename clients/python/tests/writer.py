@@ -98,7 +98,8 @@ def spelled_tree(tree, form, places, first, references):
     inner = [*references[:d], key(value), *references[d + 1:]]
     middle = first + len(leaves_of(left))
     spelled_left = spelled_tree(left, form, places, first, inner)
-    front = bytes([5 * d + shared]) + key(value)[shared:] + vint(places[middle][0] - places[first][0]) + vint(places[middle][1])
+    front = (bytes([5 * d + shared]) + key(value)[shared:]
+             + vint(places[middle][0] - places[first][0]) + vint(places[middle][1]))
     return front + vint(len(spelled_left)) + spelled_left + spelled_tree(right, form, places, middle, inner)
 
 
@@ -140,12 +141,14 @@ def commit_body(dims, leaf, following, given, next_segment, listed, layout=2):
     out = b"BKDPCOM%d" % layout + bytes([dims]) + leaf.to_bytes(2, "big") + following.to_bytes(4, "big")
     out += given.to_bytes(4, "big") if layout == 2 else b""
     out += next_segment.to_bytes(8, "big") + len(listed).to_bytes(2, "big")
-    return out + b"".join(s.to_bytes(8, "big") + g.to_bytes(8, "big") + e.to_bytes(4, "big") + n.to_bytes(4, "big") for s, g, e, n in listed)
+    return out + b"".join(s.to_bytes(8, "big") + g.to_bytes(8, "big") + e.to_bytes(4, "big") + n.to_bytes(4, "big")
+                          for s, g, e, n in listed)
 
 
 def sealed(kind, number, page, payload):
     payload = payload.ljust(PAYLOAD, b"\0")
-    return payload + hashlib.sha256(bytes([kind]) + number.to_bytes(8, "big") + page.to_bytes(4, "big") + payload).digest()
+    return payload + hashlib.sha256(bytes([kind]) + number.to_bytes(8, "big") + page.to_bytes(4, "big")
+                                    + payload).digest()
 
 
 def write_file(folder, name, kind, number, payloads):
@@ -170,4 +173,5 @@ def write_index(folder, dims, leaf, segments, following, given, layout=2):
         write_file(folder, f"live-{segment:016x}-{generation:016x}.bkd", 2, segment, in_pages(body))
         listed.append((segment, generation, len(entries), len(live)))
     next_segment = max((one[0] for one in listed), default=-1) + 1
-    write_file(folder, "commit.bkd", 3, 0, in_pages(commit_body(dims, leaf, following, given, next_segment, listed, layout)))
+    write_file(folder, "commit.bkd", 3, 0,
+               in_pages(commit_body(dims, leaf, following, given, next_segment, listed, layout)))

@@ -47,7 +47,8 @@ pub left_leaves : (leaf count : ℕ) → 1 ≤ leaf → leaf < count → leaves_
 left_leaves leaf count some many =
     sym (leaves_unique leaf (leaves_for leaf count - leaves_for leaf count / 2) (left_count leaf count) some (omega arith) (omega arith))
 
-rest_fits : (leaf count n m k : ℕ) → n ≡ m + k → m * leaf ≤ count → count ≤ n * leaf → n * leaf < count + leaf → (count - m * leaf ≤ k * leaf) × (k * leaf < count - m * leaf + leaf)
+rest_fits : (leaf count n m k : ℕ) → n ≡ m + k → m * leaf ≤ count → count ≤ n * leaf → n * leaf < count + leaf
+    → (count - m * leaf ≤ k * leaf) × (k * leaf < count - m * leaf + leaf)
 rest_fits leaf count n m k is below holds few =
     let e : n * leaf ≡ m * leaf + k * leaf = rw is (omega arith) in
     (omega arith, omega arith)

@@ -1,6 +1,7 @@
 -- Least and greatest coordinates, extents, and the widest dimension: there is one of each, and they depend on the items and
 -- not on their order.
-use Rattle.std.proofs.Common.{◌≡◌, ℕ, ◌+◌, ◌<◌, true, false, List, [], ◌∷◌, map, length, get_or, take, drop, refl, sym, ap, ◌∙◌, subst, arith, inl, inr, ℤ, pos, ◌+ℤ◌, ◌≤ℤ◌, ◌<ℤ◌, int_le}
+use Rattle.std.proofs.Common.{◌≡◌, ℕ, ◌+◌, ◌<◌, true, false, List, [], ◌∷◌, map, length, get_or, take, drop}
+use Rattle.std.proofs.Common.{refl, sym, ap, ◌∙◌, subst, arith, inl, inr, ℤ, pos, ◌+ℤ◌, ◌≤ℤ◌, ◌<ℤ◌, int_le}
 use Rattle.std.specs.List.{All, Contains}
 use Rattle.std.specs.List.Sorted.{IsPermutation}
 use Rattle.std.specs.declared.cmp.Ordering.{Ordering}
@@ -93,24 +94,39 @@ all_le-length [] (y ∷ ys) h = cc
 all_le-length (x ∷ xs) [] h = cc
 all_le-length (x ∷ xs) (y ∷ ys) h = let rest = all_le-length xs ys (both_true (int_le x y) (all_le xs ys) h).1 in omega (arith, rest)
 
-pub coordinate_inside : (d : ℕ) (r : Region) (x : Item) → d < length r.lo → in_box r x.at ≡ true → (get_or r.lo d (pos 0) ≤ℤ coordinate d x) × (coordinate d x ≤ℤ get_or r.hi d (pos 0))
+pub coordinate_inside : (d : ℕ) (r : Region) (x : Item) → d < length r.lo → in_box r x.at ≡ true
+    → (get_or r.lo d (pos 0) ≤ℤ coordinate d x) × (coordinate d x ≤ℤ get_or r.hi d (pos 0))
 coordinate_inside d r x lt h =
     let at = both_true (all_le r.lo x.at) (all_le x.at r.hi) h in
     let lt' : d < length x.at = omega (arith, all_le-length r.lo x.at at.0) in
     (all_le_at r.lo x.at d at.0 lt, all_le_at x.at r.hi d at.1 lt')
 
 -- the least coordinate of items that lie in a cell lies in it too
-pub least_inside : (d : ℕ) (m : ℤ) (r : Region) (items : List Item) → d < length r.lo → All (λ x. in_box r x.at ≡ true) items → IsLeast d m items → (get_or r.lo d (pos 0) ≤ℤ m) × (m ≤ℤ get_or r.hi d (pos 0))
+pub least_inside : (d : ℕ) (m : ℤ) (r : Region) (items : List Item) → d < length r.lo → All (λ x. in_box r x.at ≡ true) items → IsLeast d m items
+    → (get_or r.lo d (pos 0) ≤ℤ m) × (m ≤ℤ get_or r.hi d (pos 0))
 least_inside d m r items lt inside h = (
-  All-contains (λ (z : ℤ). get_or r.lo d (pos 0) ≤ℤ z) (map (coordinate d) items) m (All-map (λ (z : ℤ). get_or r.lo d (pos 0) ≤ℤ z) (coordinate d) items (All-weaker (λ (x : Item). in_box r x.at ≡ true) (λ (x : Item). get_or r.lo d (pos 0) ≤ℤ coordinate d x) (λ x at. (coordinate_inside d r x lt at).0) items inside)) h.reached,
-  All-contains (λ (z : ℤ). z ≤ℤ get_or r.hi d (pos 0)) (map (coordinate d) items) m (All-map (λ (z : ℤ). z ≤ℤ get_or r.hi d (pos 0)) (coordinate d) items (All-weaker (λ (x : Item). in_box r x.at ≡ true) (λ (x : Item). coordinate d x ≤ℤ get_or r.hi d (pos 0)) (λ x at. (coordinate_inside d r x lt at).1) items inside)) h.reached,
+  All-contains (λ (z : ℤ). get_or r.lo d (pos 0) ≤ℤ z) (map (coordinate d) items) m
+      (All-map (λ (z : ℤ). get_or r.lo d (pos 0) ≤ℤ z) (coordinate d) items
+      (All-weaker (λ (x : Item). in_box r x.at ≡ true) (λ (x : Item). get_or r.lo d (pos 0) ≤ℤ coordinate d x) (λ x at. (coordinate_inside d r x lt at).0) items
+      inside)) h.reached,
+  All-contains (λ (z : ℤ). z ≤ℤ get_or r.hi d (pos 0)) (map (coordinate d) items) m
+      (All-map (λ (z : ℤ). z ≤ℤ get_or r.hi d (pos 0)) (coordinate d) items
+      (All-weaker (λ (x : Item). in_box r x.at ≡ true) (λ (x : Item). coordinate d x ≤ℤ get_or r.hi d (pos 0)) (λ x at. (coordinate_inside d r x lt at).1) items
+      inside)) h.reached,
 )
 
 -- and so does the greatest
-pub greatest_inside : (d : ℕ) (m : ℤ) (r : Region) (items : List Item) → d < length r.lo → All (λ x. in_box r x.at ≡ true) items → IsGreatest d m items → (get_or r.lo d (pos 0) ≤ℤ m) × (m ≤ℤ get_or r.hi d (pos 0))
+pub greatest_inside : (d : ℕ) (m : ℤ) (r : Region) (items : List Item) → d < length r.lo → All (λ x. in_box r x.at ≡ true) items → IsGreatest d m items
+    → (get_or r.lo d (pos 0) ≤ℤ m) × (m ≤ℤ get_or r.hi d (pos 0))
 greatest_inside d m r items lt inside h = (
-  All-contains (λ (z : ℤ). get_or r.lo d (pos 0) ≤ℤ z) (map (coordinate d) items) m (All-map (λ (z : ℤ). get_or r.lo d (pos 0) ≤ℤ z) (coordinate d) items (All-weaker (λ (x : Item). in_box r x.at ≡ true) (λ (x : Item). get_or r.lo d (pos 0) ≤ℤ coordinate d x) (λ x at. (coordinate_inside d r x lt at).0) items inside)) h.reached,
-  All-contains (λ (z : ℤ). z ≤ℤ get_or r.hi d (pos 0)) (map (coordinate d) items) m (All-map (λ (z : ℤ). z ≤ℤ get_or r.hi d (pos 0)) (coordinate d) items (All-weaker (λ (x : Item). in_box r x.at ≡ true) (λ (x : Item). coordinate d x ≤ℤ get_or r.hi d (pos 0)) (λ x at. (coordinate_inside d r x lt at).1) items inside)) h.reached,
+  All-contains (λ (z : ℤ). get_or r.lo d (pos 0) ≤ℤ z) (map (coordinate d) items) m
+      (All-map (λ (z : ℤ). get_or r.lo d (pos 0) ≤ℤ z) (coordinate d) items
+      (All-weaker (λ (x : Item). in_box r x.at ≡ true) (λ (x : Item). get_or r.lo d (pos 0) ≤ℤ coordinate d x) (λ x at. (coordinate_inside d r x lt at).0) items
+      inside)) h.reached,
+  All-contains (λ (z : ℤ). z ≤ℤ get_or r.hi d (pos 0)) (map (coordinate d) items) m
+      (All-map (λ (z : ℤ). z ≤ℤ get_or r.hi d (pos 0)) (coordinate d) items
+      (All-weaker (λ (x : Item). in_box r x.at ≡ true) (λ (x : Item). coordinate d x ≤ℤ get_or r.hi d (pos 0)) (λ x at. (coordinate_inside d r x lt at).1) items
+      inside)) h.reached,
 )
 
 -- ---- after a cut
@@ -127,13 +143,16 @@ not_greater x y Greater told h = absurd (true≢false h)
 
 pub coordinate_le : (d : ℕ) (x y : Item) → is_gt (leaf_cmp d x y) ≡ false → coordinate d x ≤ℤ coordinate d y
 unfolding leaf_cmp
-coordinate_le d x y h = not_greater (coordinate d x) (coordinate d y) (int_cmp (coordinate d x) (coordinate d y)) (int_ranked (coordinate d x) (coordinate d y) _ refl) (first_decides (int_cmp (coordinate d x) (coordinate d y)) _ h)
+coordinate_le d x y h =
+    not_greater (coordinate d x) (coordinate d y) (int_cmp (coordinate d x) (coordinate d y)) (int_ranked (coordinate d x) (coordinate d y) _ refl)
+    (first_decides (int_cmp (coordinate d x) (coordinate d y)) _ h)
 
 at_itself : (x : ℤ) → x ≤ℤ x
 at_itself x = grind (arith, ints)
 
 -- where the items are cut behind the k-th, that one has the least coordinate of those from it on
-pub least_of_cut : (d k : ℕ) (items : List Item) (x : Item) → k < length items → x ≡ get_or items k x → IsCutAt d (k + 1) items → IsLeast d (coordinate d x) (drop k items)
+pub least_of_cut : (d k : ℕ) (items : List Item) (x : Item) → k < length items → x ≡ get_or items k x → IsCutAt d (k + 1) items
+    → IsLeast d (coordinate d x) (drop k items)
 least_of_cut d k items x lt is cut = rw more (record {
   bound = All-cons (λ (y : Item). coordinate d x ≤ℤ coordinate d y) x (drop (k + 1) items) (at_itself (coordinate d x)) behind;
   reached = (0, omega arith, refl);
@@ -146,4 +165,5 @@ least_of_cut d k items x lt is cut = rw more (record {
     behind i e lt' =
         let here : k < length (take (k + 1) items) = omega (arith, length-take (k + 1) items) in
         let same : get_or (take (k + 1) items) k x ≡ x = get_or-take (k + 1) items k x (omega arith) ∙ sym is in
-        coordinate_le d x (get_or (drop (k + 1) items) i e) (subst (λ (y : Item). is_gt (leaf_cmp d y (get_or (drop (k + 1) items) i e)) ≡ false) same (cut.each k x here i e lt'))
+        coordinate_le d x (get_or (drop (k + 1) items) i e)
+        (subst (λ (y : Item). is_gt (leaf_cmp d y (get_or (drop (k + 1) items) i e)) ≡ false) same (cut.each k x here i e lt'))

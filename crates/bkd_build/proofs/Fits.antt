@@ -1,5 +1,6 @@
 -- The cells of a canonical tree: each is one of D dimensions, and within its path cell.
-use Rattle.std.proofs.Common.{◌≡◌, ℕ, zero, suc, ◌≤◌, true, false, List, [], ◌∷◌, ◌++◌, length, map, get_or, replicate, ℤ, pos, negsuc, ◌≤ℤ◌, int_le, w32, FitsSigned, is_gt, refl, sym, ◌∙◌, subst, arith}
+use Rattle.std.proofs.Common.{◌≡◌, ℕ, zero, suc, ◌≤◌, true, false, List, [], ◌∷◌, ◌++◌, length, map, get_or, replicate}
+use Rattle.std.proofs.Common.{ℤ, pos, negsuc, ◌≤ℤ◌, int_le, w32, FitsSigned, is_gt, refl, sym, ◌∙◌, subst, arith}
 use Rattle.std.specs.List.{All, Contains}
 use Rattle.std.proofs.lemmas.Int.{ints}
 use Rattle.std.proofs.lemmas.List.{length-set, take_at, drop_at}
@@ -43,7 +44,8 @@ below_highest (x ∷ xs) h =
     rw (high_here x (All-head (λ (y : ℤ). FitsSigned w32 y) x xs h), below_highest xs (All-tail (λ (y : ℤ). FitsSigned w32 y) x xs h)) refl
 
 -- between two points of 32 bits
-all_fit_low : (n : ℕ) (a b : List ℤ) → all_le (replicate n lowest) a ≡ true → all_le a b ≡ true → all_le b (replicate n highest) ≡ true → All (λ (x : ℤ). FitsSigned w32 x) a
+all_fit_low : (n : ℕ) (a b : List ℤ) → all_le (replicate n lowest) a ≡ true → all_le a b ≡ true → all_le b (replicate n highest) ≡ true
+    → All (λ (x : ℤ). FitsSigned w32 x) a
 all_fit_low n [] b h k m = All-nil (λ (x : ℤ). FitsSigned w32 x)
 all_fit_low n (x ∷ xs) [] h k m = cc
 all_fit_low zero (x ∷ xs) (y ∷ ys) h k m = cc
@@ -56,7 +58,8 @@ all_fit_low (suc n) (x ∷ xs) (y ∷ ys) h k m =
 fits_there : (x y : ℤ) → int_le lowest x ≡ true → int_le x y ≡ true → int_le y highest ≡ true → FitsSigned w32 y
 fits_there x y h k m = omega (arith, ints)
 
-all_fit_high : (n : ℕ) (a b : List ℤ) → all_le (replicate n lowest) a ≡ true → all_le a b ≡ true → all_le b (replicate n highest) ≡ true → All (λ (x : ℤ). FitsSigned w32 x) b
+all_fit_high : (n : ℕ) (a b : List ℤ) → all_le (replicate n lowest) a ≡ true → all_le a b ≡ true → all_le b (replicate n highest) ≡ true
+    → All (λ (x : ℤ). FitsSigned w32 x) b
 all_fit_high n a [] h k m = All-nil (λ (x : ℤ). FitsSigned w32 x)
 all_fit_high n [] (y ∷ ys) h k m = cc
 all_fit_high zero (x ∷ xs) (y ∷ ys) h k m = cc
@@ -76,14 +79,17 @@ in_space D p h =
     let high : all_le p (replicate D highest) ≡ true = subst (λ (n : ℕ). all_le p (replicate n highest) ≡ true) h.dims (below_highest p h.fits) in
     rw (low, high) refl
 
-pub cell_round_points : (D : ℕ) (xs : List Item) (r : Region) → 1 ≤ length xs → All (λ (x : Item). IsPoint D x.at) xs → IsLeastCell (map (λ (x : Item). x.at) xs) r → IsCell D r
+pub cell_round_points : (D : ℕ) (xs : List Item) (r : Region) → 1 ≤ length xs → All (λ (x : Item). IsPoint D x.at) xs
+    → IsLeastCell (map (λ (x : Item). x.at) xs) r → IsCell D r
 cell_round_points D [] r some points h = absurd (omega arith)
 cell_round_points D (x ∷ xs) r some points h =
     let here : in_box r x.at ≡ true = All-head (λ (p : List ℤ). in_box r p ≡ true) x.at (map (λ (y : Item). y.at) xs) h.holds in
     let long : length x.at ≡ D = (All-head (λ (y : Item). IsPoint D y.at) x xs points).dims in
     let ends = both_true (all_le r.lo x.at) (all_le x.at r.hi) here in
     let space : within r (all_space D) ≡ true =
-    h.least (all_space D) (All-map (λ (p : List ℤ). in_box (all_space D) p ≡ true) (λ (y : Item). y.at) (x ∷ xs) (All-weaker (λ (y : Item). IsPoint D y.at) (λ (y : Item). in_box (all_space D) y.at ≡ true) (λ y is. in_space D y.at is) (x ∷ xs) points)) in
+    h.least (all_space D)
+    (All-map (λ (p : List ℤ). in_box (all_space D) p ≡ true) (λ (y : Item). y.at) (x ∷ xs)
+    (All-weaker (λ (y : Item). IsPoint D y.at) (λ (y : Item). in_box (all_space D) y.at ≡ true) (λ y is. in_space D y.at is) (x ∷ xs) points)) in
     let wide = both_true (all_le (replicate D lowest) r.lo) (all_le r.hi (replicate D highest)) space in
     let ordered : all_le r.lo r.hi ≡ true = in_box-corners r x.at here in
     record {
@@ -103,7 +109,9 @@ reached P d x items all there = All-contains P (map (coordinate d) items) x (All
 left_below : (D leaf d : ℕ) (x : ℤ) (ls rs : List Item) → IsCanonSplit D leaf d x ls rs → All (λ (y : Item). coordinate d y ≤ℤ x) ls
 left_below D leaf d x ls rs h =
     All-weaker (λ (y : Item). All (λ (z : Item). is_gt (leaf_cmp d y z) ≡ false) rs) (λ (y : Item). coordinate d y ≤ℤ x)
-    (λ y each. reached (λ (v : ℤ). coordinate d y ≤ℤ v) d x rs (All-weaker (λ (z : Item). is_gt (leaf_cmp d y z) ≡ false) (λ (z : Item). coordinate d y ≤ℤ coordinate d z) (λ z k. coordinate_le d y z k) rs each) h.value.reached)
+    (λ y each. reached (λ (v : ℤ). coordinate d y ≤ℤ v) d x rs
+    (All-weaker (λ (z : Item). is_gt (leaf_cmp d y z) ≡ false) (λ (z : Item). coordinate d y ≤ℤ coordinate d z) (λ z k. coordinate_le d y z k) rs each)
+    h.value.reached)
     ls h.apart.each
 
 -- all items are in the cell
@@ -118,7 +126,8 @@ in_cell D leaf d x ls rs path h lo inside =
 test_true : (x y : ℤ) → x ≤ℤ y → int_le x y ≡ true
 test_true x y h = grind (arith, ints)
 
-lefts_in : (D leaf d : ℕ) (x : ℤ) (ls rs : List Item) (path : Region) → IsCanonSplit D leaf d x ls rs → IsInCell D path d x → length path.lo ≡ D → length path.hi ≡ D
+lefts_in : (D leaf d : ℕ) (x : ℤ) (ls rs : List Item) (path : Region) → IsCanonSplit D leaf d x ls rs → IsInCell D path d x → length path.lo ≡ D
+    → length path.hi ≡ D
     → All (λ (y : Item). IsPoint D y.at) ls → AreIn path ls → AreIn (left_of path d x) ls
 lefts_in D leaf d x ls rs path h cell lo hi points inside k e lt =
     let y : Item = get_or ls k e in
@@ -126,7 +135,8 @@ lefts_in D leaf d x ls rs path h cell lo hi points inside k e lt =
     let keeps = left_keeps path d x (lo ∙ sym hi) (omega (arith, hi, cell.dimension)) cell.from cell.to y.at (is.dims ∙ sym hi) in
     keeps ∙ rw (inside k e lt, test_true (coordinate d y) x (left_below D leaf d x ls rs h k e lt)) refl
 
-rights_in : (D leaf d : ℕ) (x : ℤ) (ls rs : List Item) (path : Region) → IsCanonSplit D leaf d x ls rs → IsInCell D path d x → length path.lo ≡ D → length path.hi ≡ D
+rights_in : (D leaf d : ℕ) (x : ℤ) (ls rs : List Item) (path : Region) → IsCanonSplit D leaf d x ls rs → IsInCell D path d x → length path.lo ≡ D
+    → length path.hi ≡ D
     → All (λ (y : Item). IsPoint D y.at) rs → AreIn path rs → AreIn (right_of path d x) rs
 rights_in D leaf d x ls rs path h cell lo hi points inside k e lt =
     let y : Item = get_or rs k e in
@@ -141,9 +151,12 @@ all_front P xs ys all = subst (λ (zs : List Item). All P zs) (take_at xs ys (le
 all_back : (P : Item → Type 0) (xs ys : List Item) → All P (xs ++ ys) → All P ys
 all_back P xs ys all = subst (λ (zs : List Item). All P zs) (drop_at xs ys (length xs) refl) (All-drop P (length xs) (xs ++ ys) all)
 
-pub cells_lie : (D leaf : ℕ) (path : Region) (t : KdTree) → IsCanon D leaf t → length path.lo ≡ D → length path.hi ≡ D → AreIn path (entries_of t) → HasCells D path (index_tree_of D t)
-cells_lie D leaf path (Leaf items own) h lo hi inside =
-    (cell_round_points D items own h.entries.some h.entries.points h.cell, h.cell.least path (All-map (λ (p : List ℤ). in_box path p ≡ true) (λ (y : Item). y.at) items inside))
+pub cells_lie : (D leaf : ℕ) (path : Region) (t : KdTree) → IsCanon D leaf t → length path.lo ≡ D → length path.hi ≡ D → AreIn path (entries_of t)
+    → HasCells D path (index_tree_of D t)
+cells_lie D leaf path (Leaf items own) h lo hi inside = (
+  cell_round_points D items own h.entries.some h.entries.points h.cell,
+  h.cell.least path (All-map (λ (p : List ℤ). in_box path p ≡ true) (λ (y : Item). y.at) items inside),
+)
 cells_lie D leaf path (Split d x l r) h lo hi inside =
     let ls : List Item = entries_of l in
     let rs : List Item = entries_of r in

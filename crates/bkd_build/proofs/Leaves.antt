@@ -1,5 +1,6 @@
 -- The leaves of a canonical tree, one by one.
-use Rattle.std.proofs.Common.{◌≡◌, ℕ, ℤ, zero, suc, ◌+◌, ◌-◌, ◌*◌, ◌/◌, ◌<◌, ◌≤◌, min, true, List, ◌++◌, length, map, get_or, refl, sym, ap, ◌∙◌, subst, arith, inl, inr, mul-le-mul_right}
+use Rattle.std.proofs.Common.{◌≡◌, ℕ, ℤ, zero, suc, ◌+◌, ◌-◌, ◌*◌, ◌/◌, ◌<◌, ◌≤◌, min, true, List, ◌++◌, length}
+use Rattle.std.proofs.Common.{map, get_or, refl, sym, ap, ◌∙◌, subst, arith, inl, inr, mul-le-mul_right}
 use Rattle.std.specs.List.{flat_map}
 use Rattle.std.specs.List.Sorted.{IsPermutation}
 use Rattle.std.proofs.lemmas.Bool.{cases_lt}
@@ -21,7 +22,13 @@ use Rattle.bkd_build.proofs.Whole.{unmapped}
 pub cells_count : (D : ℕ) (t : KdTree) → length (own_cells (index_tree_of D t)) ≡ length (leaves_of t)
 cells_count D (Leaf items own) = refl
 cells_count D (Split d x l r) =
-    omega (arith, length-append (own_cells (index_tree_of D l)) (own_cells (index_tree_of D r)), length-append (leaves_of l) (leaves_of r), cells_count D l, cells_count D r)
+    omega (
+      arith,
+      length-append (own_cells (index_tree_of D l)) (own_cells (index_tree_of D r)),
+      length-append (leaves_of l) (leaves_of r),
+      cells_count D l,
+      cells_count D r,
+    )
 
 pub lengths_told : (D : ℕ) (t : KdTree) → map (λ (bytes : List ℕ). length bytes) (map (spelling D) (leaves_of t)) ≡ lengths_of (index_tree_of D t)
 lengths_told D (Leaf items own) = refl
@@ -34,7 +41,8 @@ lengths_told D (Split d x l r) =
 
 pub leaves_count : (D leaf : ℕ) (t : KdTree) → 1 ≤ leaf → IsCanon D leaf t → length (leaves_of t) ≡ leaves_for leaf (length (entries_of t))
 leaves_count D leaf t some h =
-    let told : length (map (λ (bytes : List ℕ). length bytes) (map (spelling D) (leaves_of t))) ≡ length (lengths_of (index_tree_of D t)) = ap (λ (ns : List ℕ). length ns) (lengths_told D t) in
+    let told : length (map (λ (bytes : List ℕ). length bytes) (map (spelling D) (leaves_of t))) ≡ length (lengths_of (index_tree_of D t)) =
+    ap (λ (ns : List ℕ). length ns) (lengths_told D t) in
     let once : length (map (spelling D) (leaves_of t)) ≡ length (leaves_of t) = length-map (leaves_of t) (spelling D) in
     let twice : length (map (λ (bytes : List ℕ). length bytes) (map (spelling D) (leaves_of t))) ≡ length (map (spelling D) (leaves_of t)) =
     length-map (map (spelling D) (leaves_of t)) (λ (bytes : List ℕ). length bytes) in
@@ -55,10 +63,16 @@ leaf_at D leaf (Leaf xs r) h zero items own lt = h
 leaf_at D leaf (Leaf xs r) h (suc k) items own lt = absurd (omega arith)
 leaf_at D leaf (Split d x l r) h k items own lt = elim (cases_lt k (length (leaves_of l))) [
   | inl left ↦
-      rw (get_or_append_left (leaves_of l) (leaves_of r) items k left, get_or_append_left (own_cells (index_tree_of D l)) (own_cells (index_tree_of D r)) own k (omega (arith, cells_count D l, left)))
+      rw (
+        get_or_append_left (leaves_of l) (leaves_of r) items k left,
+        get_or_append_left (own_cells (index_tree_of D l)) (own_cells (index_tree_of D r)) own k (omega (arith, cells_count D l, left)),
+      )
       (leaf_at D leaf l h.1 k items own left)
   | inr right ↦
-      rw (get_or-append_right (leaves_of l) (leaves_of r) (length (leaves_of l)) k items refl right, get_or-append_right (own_cells (index_tree_of D l)) (own_cells (index_tree_of D r)) (length (leaves_of l)) k own (cells_count D l) right)
+      rw (
+        get_or-append_right (leaves_of l) (leaves_of r) (length (leaves_of l)) k items refl right,
+        get_or-append_right (own_cells (index_tree_of D l)) (own_cells (index_tree_of D r)) (length (leaves_of l)) k own (cells_count D l) right,
+      )
       (leaf_at D leaf r h.2 (k - length (leaves_of l)) items own (omega (arith, length-append (leaves_of l) (leaves_of r), lt, right)))
 ]
 
@@ -82,7 +96,8 @@ size_at D leaf (Leaf xs r) some h (suc k) items lt = absurd (omega arith)
 size_at D leaf (Split d x l r) some h k items lt =
     let count : ℕ = length (entries_of l ++ entries_of r) in
     let n : ℕ = length (leaves_of l) in
-    let left_is : n ≡ leaves_for leaf count - leaves_for leaf count / 2 = leaves_count D leaf l some h.1 ∙ ap (leaves_for leaf) h.0.rank ∙ left_leaves leaf count some h.0.many in
+    let left_is : n ≡ leaves_for leaf count - leaves_for leaf count / 2 =
+    leaves_count D leaf l some h.1 ∙ ap (leaves_for leaf) h.0.rank ∙ left_leaves leaf count some h.0.many in
     let full : length (entries_of l) ≡ n * leaf = h.0.rank ∙ ap (λ (m : ℕ). m * leaf) (sym left_is) in
     let both : count ≡ length (entries_of l) + length (entries_of r) = length-append (entries_of l) (entries_of r) in
     elim (cases_lt k n) [
@@ -99,7 +114,8 @@ size_at D leaf (Split d x l r) some h k items lt =
 
 -- ---- what was built
 
-pub are_leaves : (D leaf : ℕ) (items : List Item) (b : BuiltValue) → 1 ≤ leaf → (h : IsBuilt D leaf items b) → AreLeaves D leaf (length items) b h.root (index_tree_of D h.tree) (leaves_of h.tree)
+pub are_leaves : (D leaf : ℕ) (items : List Item) (b : BuiltValue) → 1 ≤ leaf → (h : IsBuilt D leaf items b)
+    → AreLeaves D leaf (length items) b h.root (index_tree_of D h.tree) (leaves_of h.tree)
 are_leaves D leaf items b some h =
     let t : KdTree = h.tree in
     let all : length (entries_of t) ≡ length items = length_permutation items (entries_of t) h.canon.same in
@@ -125,7 +141,8 @@ are_leaves D leaf items b some h =
           };
     }
 
-pub all_there : (D leaf : ℕ) (items : List Item) (b : BuiltValue) → (h : IsBuilt D leaf items b) → IsPermutation items (flat_map (λ (leaf : List Item). leaf) (leaves_of h.tree))
+pub all_there : (D leaf : ℕ) (items : List Item) (b : BuiltValue) → (h : IsBuilt D leaf items b)
+    → IsPermutation items (flat_map (λ (leaf : List Item). leaf) (leaves_of h.tree))
 all_there D leaf items b h = subst (λ (xs : List Item). IsPermutation items xs) (entries_joined h.tree) h.canon.same
 
 pub built_in_any_order : (D leaf : ℕ) (xs ys : List Item) (p : BuiltValue) → IsPermutation xs ys → IsBuilt D leaf xs p → IsBuilt D leaf ys p
@@ -154,6 +171,8 @@ one_index D p q r s x y f g h k roots trees =
 pub one_built : (D leaf : ℕ) (xs ys : List Item) (p q : BuiltValue) → IsPermutation xs ys → IsBuilt D leaf xs p → IsBuilt D leaf ys q → p ≡ q
 one_built D leaf xs ys p q moved h k =
     let one = one_canon D leaf xs ys h.root k.root h.tree k.tree moved h.canon k.canon in
-    let index : p.index ≡ q.index = one_index D p.index q.index h.root k.root (index_tree_of D h.tree) (index_tree_of D k.tree) h.form k.form h.index k.index one.0 (ap (index_tree_of D) one.1) in
+    let index : p.index ≡ q.index =
+    one_index D p.index q.index h.root k.root (index_tree_of D h.tree) (index_tree_of D k.tree) h.form k.form h.index k.index one.0
+    (ap (index_tree_of D) one.1) in
     let leaves : p.leaves ≡ q.leaves = h.leaves ∙ ap (λ (t : KdTree). map (spelling D) (leaves_of t)) one.1 ∙ sym k.leaves in
     λ i. record { index = index i; leaves = leaves i }

@@ -71,7 +71,8 @@ entries-drop {D} k es high h = record {
 -- ---- a node
 
 -- a cut at the rank of the left half, in the widest dimension, splits the node
-pub split_of_cut : (D leaf d rank : ℕ) (x : ℤ) (es fs : List (Entry D)) → IsPermutation es fs → leaf < length es → rank ≡ left_count leaf (length es) → rank < length es
+pub split_of_cut : (D leaf d rank : ℕ) (x : ℤ) (es fs : List (Entry D)) → IsPermutation es fs → leaf < length es → rank ≡ left_count leaf (length es)
+    → rank < length es
     → IsWidest D d (items_of es) → ComesBefore (leaf_cmp d) (take rank (items_of fs)) (drop rank (items_of fs)) → IsLeast d x (drop rank (items_of fs))
     → IsCanonSplit D leaf d x (items_of (take rank fs)) (items_of (drop rank fs))
 split_of_cut D leaf d rank x es fs p many is below widest apart value =
@@ -96,14 +97,17 @@ split_of_cut D leaf d rank x es fs p many is below widest apart value =
 -- the entries are those of both halves
 pub items_joined : {D : ℕ} (es fs ls rs : List (Entry D)) → IsPermutation es fs → fs ≡ ls ++ rs → IsPermutation (items_of es) (items_of ls ++ items_of rs)
 items_joined {D} es fs ls rs p is =
-    subst (λ (xs : List Item). IsPermutation (items_of es) xs) (ap items_of is ∙ map-append (λ (e : Entry D). record { doc = e.doc; at = e.point.c }) ls rs) (items-IsPermutation es fs p)
+    subst (λ (xs : List Item). IsPermutation (items_of es) xs) (ap items_of is ∙ map-append (λ (e : Entry D). record { doc = e.doc; at = e.point.c }) ls rs)
+    (items-IsPermutation es fs p)
 
-pub halves_moved : {D : ℕ} (es fs ls rs us vs : List (Entry D)) → IsPermutation es fs → fs ≡ ls ++ rs → IsPermutation ls us → IsPermutation rs vs → IsPermutation es (us ++ vs)
+pub halves_moved : {D : ℕ} (es fs ls rs us vs : List (Entry D)) → IsPermutation es fs → fs ≡ ls ++ rs → IsPermutation ls us → IsPermutation rs vs
+    → IsPermutation es (us ++ vs)
 halves_moved {D} es fs ls rs us vs p is q r =
     IsPermutation-trans es fs (us ++ vs) p (subst (λ (xs : List (Entry D)). IsPermutation xs (us ++ vs)) (sym is) (IsPermutation-append ls us rs vs q r))
 
 -- it is one however the entries of the halves stand
-split-IsPermutation : (D leaf d : ℕ) (x : ℤ) (ls rs us vs : List Item) → IsPermutation ls us → IsPermutation rs vs → IsCanonSplit D leaf d x ls rs → IsCanonSplit D leaf d x us vs
+split-IsPermutation : (D leaf d : ℕ) (x : ℤ) (ls rs us vs : List Item) → IsPermutation ls us → IsPermutation rs vs → IsCanonSplit D leaf d x ls rs
+    → IsCanonSplit D leaf d x us vs
 split-IsPermutation D leaf d x ls rs us vs p q h =
     let both : IsPermutation (ls ++ rs) (us ++ vs) = IsPermutation-append ls us rs vs p q in
     let long : length (us ++ vs) ≡ length (ls ++ rs) = length_permutation (ls ++ rs) (us ++ vs) both in
@@ -144,7 +148,8 @@ pub node_adds : (D leaf d : ℕ) (x : ℤ) (items ls rs : List Item) (before mid
 node_adds D leaf d x items ls rs before middle after p split left right = record {
   tree = Split d x left.tree right.tree;
   canon = (split-IsPermutation D leaf d x ls rs (entries_of left.tree) (entries_of right.tree) left.same right.same split, left.canon, right.canon);
-  same = IsPermutation-trans items (ls ++ rs) (entries_of left.tree ++ entries_of right.tree) p (IsPermutation-append ls (entries_of left.tree) rs (entries_of right.tree) left.same right.same);
+  same = IsPermutation-trans items (ls ++ rs) (entries_of left.tree ++ entries_of right.tree) p
+      (IsPermutation-append ls (entries_of left.tree) rs (entries_of right.tree) left.same right.same);
   is = right.is ∙ ap (λ (ps : Pieces). joined ps (pieces_of D right.tree)) left.is ∙ pieces_joined D d x left.tree right.tree before;
 }
 
@@ -154,13 +159,16 @@ pub halves_add : (D leaf d : ℕ) (x : ℤ) (items ls rs : List Item) (first sec
 halves_add D leaf d x items ls rs first second whole p split left right is = record {
   tree = Split d x left.tree right.tree;
   canon = (split-IsPermutation D leaf d x ls rs (entries_of left.tree) (entries_of right.tree) left.same right.same split, left.canon, right.canon);
-  same = IsPermutation-trans items (ls ++ rs) (entries_of left.tree ++ entries_of right.tree) p (IsPermutation-append ls (entries_of left.tree) rs (entries_of right.tree) left.same right.same);
-  is = is ∙ ap (λ (ps : Pieces). joined (joined (one_node d x) ps) second) left.is ∙ ap (λ (ps : Pieces). joined (joined (one_node d x) (pieces_of D left.tree)) ps) right.is ∙ pieces_joined D d x left.tree right.tree no_pieces;
+  same = IsPermutation-trans items (ls ++ rs) (entries_of left.tree ++ entries_of right.tree) p
+      (IsPermutation-append ls (entries_of left.tree) rs (entries_of right.tree) left.same right.same);
+  is = is ∙ ap (λ (ps : Pieces). joined (joined (one_node d x) ps) second) left.is
+      ∙ ap (λ (ps : Pieces). joined (joined (one_node d x) (pieces_of D left.tree)) ps) right.is ∙ pieces_joined D d x left.tree right.tree no_pieces;
 }
 
 -- ---- a leaf
 
-pub leaf_adds : (D leaf : ℕ) (items entries : List Item) (own : Region) (before after : Pieces) → IsPermutation items entries → length items ≤ leaf → AreLeaf D entries
+pub leaf_adds : (D leaf : ℕ) (items entries : List Item) (own : Region) (before after : Pieces) → IsPermutation items entries → length items ≤ leaf
+    → AreLeaf D entries
     → IsLeastCell (map (λ (x : Item). x.at) entries) own → after ≡ joined before (pieces_of D (Leaf entries own)) → Adds D leaf items before after
 leaf_adds D leaf items entries own before after p few are cell is = record {
   tree = Leaf entries own;

@@ -44,16 +44,19 @@ unfolding NoneTwice
 nothing_twice x = omega arith
 
 pub none_numbered : {D : ℕ} (es : List (Entry D)) → es ≡ [] → AreNumbered 0 es
-none_numbered {D} es is = subst (λ (xs : List (Entry D)). AreNumbered 0 xs) (sym is) (record { number = refl; below = All-nil (λ (e : Entry D). e.doc < 0); once = nothing_twice })
+none_numbered {D} es is =
+    subst (λ (xs : List (Entry D)). AreNumbered 0 xs) (sym is) (record { number = refl; below = All-nil (λ (e : Entry D). e.doc < 0); once = nothing_twice })
 
 pub numbered_push : {D : ℕ} (n : ℕ) (es fs : List (Entry D)) (e : Entry D) → AreNumbered n es → e.doc ≡ n → fs ≡ es ++ e ∷ [] → AreNumbered (n + 1) fs
 numbered_push {D} n es fs e h is made = subst (λ (xs : List (Entry D)). AreNumbered (n + 1) xs) (sym made) (record {
   number = omega (arith, length-append es (e ∷ []), h.number);
-  below = All-append (λ (x : Entry D). x.doc < n + 1) es (e ∷ []) (All-weaker (λ (x : Entry D). x.doc < n) (λ (x : Entry D). x.doc < n + 1) (λ x lt. omega arith) es h.below)
+  below = All-append (λ (x : Entry D). x.doc < n + 1) es (e ∷ [])
+      (All-weaker (λ (x : Entry D). x.doc < n) (λ (x : Entry D). x.doc < n + 1) (λ x lt. omega arith) es h.below)
       (All-cons (λ (x : Entry D). x.doc < n + 1) e [] (omega (arith, is)) (All-nil (λ (x : Entry D). x.doc < n + 1)));
   once = subst NoneTwice (sym (map-append (λ (x : Entry D). record { doc = x.doc; at = x.point.c }) es (e ∷ [])))
       (once_push (items_of es) (record { doc = e.doc; at = e.point.c })
-      (All-map (λ (y : Item). y.doc < e.doc) (λ (x : Entry D). record { doc = x.doc; at = x.point.c }) es (All-weaker (λ (x : Entry D). x.doc < n) (λ (x : Entry D). x.doc < e.doc) (λ x lt. omega (arith, is)) es h.below)) h.once);
+      (All-map (λ (y : Item). y.doc < e.doc) (λ (x : Entry D). record { doc = x.doc; at = x.point.c }) es
+      (All-weaker (λ (x : Entry D). x.doc < n) (λ (x : Entry D). x.doc < e.doc) (λ x lt. omega (arith, is)) es h.below)) h.once);
 })
 
 pub numbered_entries : {D : ℕ} (n : ℕ) (es : List (Entry D)) → 1 ≤ n → n ≤ 2 ^ 24 → AreNumbered n es → AreEntries es

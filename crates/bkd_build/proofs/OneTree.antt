@@ -20,7 +20,8 @@ one_leaf_order : (D : ℕ) (xs ys : List Item) → AreLeaf D xs → AreLeaf D ys
 one_leaf_order D xs ys a b p =
     let d : ℕ = unwrap_or (sorted_dimension D xs) 0 in
     let e : unwrap_or (sorted_dimension D ys) 0 ≡ d = ap (λ (o : Option ℕ). unwrap_or o 0) (sym (sorted_dimension-IsPermutation D xs ys p)) in
-    one_ascending d xs ys (ascends_strictly d xs a.ascending) (ascends_strictly d ys (subst (λ (d : ℕ). IsStrictlySortedBy (leaf_cmp d) ys) e b.ascending)) (same_items xs ys p)
+    one_ascending d xs ys (ascends_strictly d xs a.ascending) (ascends_strictly d ys (subst (λ (d : ℕ). IsStrictlySortedBy (leaf_cmp d) ys) e b.ascending))
+    (same_items xs ys p)
 
 same_leaf : (D leaf : ℕ) (xs ys : List Item) (r s : Region) → IsCanonLeaf D leaf xs r → IsCanonLeaf D leaf ys s → IsPermutation xs ys → Leaf xs r ≡ Leaf ys s
 same_leaf D leaf xs ys r s a b p =
@@ -30,7 +31,8 @@ same_leaf D leaf xs ys r s a b p =
     λ i. Leaf (items i) (cells i)
 
 -- the least cell is that of the points in any order
-pub least_cell-IsPermutation : (xs ys : List Item) (r : Region) → IsPermutation xs ys → IsLeastCell (map (λ (x : Item). x.at) xs) r → IsLeastCell (map (λ (x : Item). x.at) ys) r
+pub least_cell-IsPermutation : (xs ys : List Item) (r : Region) → IsPermutation xs ys → IsLeastCell (map (λ (x : Item). x.at) xs) r
+    → IsLeastCell (map (λ (x : Item). x.at) ys) r
 least_cell-IsPermutation xs ys r p h =
     let moved = IsPermutation-map (λ (x : Item). x.at) xs ys p in
     let points = map (λ (x : Item). x.at) xs in
@@ -45,7 +47,8 @@ no_split : (leaf : ℕ) (xs ys : List Item) → IsPermutation xs ys → length x
 no_split leaf xs ys p few many = omega (arith, length_permutation xs ys p)
 
 -- the halves of the same entries have the same entries
-halves : (D leaf d e : ℕ) (x y : ℤ) (ls rs us vs : List Item) → IsCanonSplit D leaf d x ls rs → IsCanonSplit D leaf e y us vs → IsPermutation (ls ++ rs) (us ++ vs)
+halves : (D leaf d e : ℕ) (x y : ℤ) (ls rs us vs : List Item) → IsCanonSplit D leaf d x ls rs → IsCanonSplit D leaf e y us vs
+    → IsPermutation (ls ++ rs) (us ++ vs)
     → (d ≡ e) × (x ≡ y) × IsPermutation ls us × IsPermutation rs vs
 halves D leaf d e x y ls rs us vs a b p =
     let dims : d ≡ e = one_widest D d e (us ++ vs) (IsWidest-IsPermutation D d (ls ++ rs) (us ++ vs) p a.widest) b.widest in
@@ -64,12 +67,14 @@ one_tree D leaf (Split d x l r) (Split e y m q) a b p =
     let rights = one_tree D leaf r q a.2 b.2 parts.3 in
     λ i. Split (parts.0 i) (parts.1 i) (lefts i) (rights i)
 
-pub one_canon : (D leaf : ℕ) (xs ys : List Item) (r s : Region) (t u : KdTree) → IsPermutation xs ys → Canon D leaf xs r t → Canon D leaf ys s u → (r ≡ s) × (t ≡ u)
+pub one_canon : (D leaf : ℕ) (xs ys : List Item) (r s : Region) (t u : KdTree) → IsPermutation xs ys → Canon D leaf xs r t → Canon D leaf ys s u
+    → (r ≡ s) × (t ≡ u)
 one_canon D leaf xs ys r s t u p a b =
     let between : IsPermutation (entries_of t) (entries_of u) =
     IsPermutation-trans (entries_of t) xs (entries_of u) (IsPermutation-sym xs (entries_of t) a.same) (IsPermutation-trans xs ys (entries_of u) p b.same) in
     (one_root xs ys r s p a.cell b.cell, one_tree D leaf t u a.canon b.canon between)
   where
-    one_root : (xs ys : List Item) (r s : Region) → IsPermutation xs ys → IsLeastCell (map (λ (x : Item). x.at) xs) r → IsLeastCell (map (λ (x : Item). x.at) ys) s → r ≡ s
+    one_root : (xs ys : List Item) (r s : Region) → IsPermutation xs ys → IsLeastCell (map (λ (x : Item). x.at) xs) r
+        → IsLeastCell (map (λ (x : Item). x.at) ys) s → r ≡ s
     one_root xs ys r s p h k =
         least_cell_unique (map (λ (x : Item). x.at) ys) r s (least_cell-IsPermutation xs ys r p h) k

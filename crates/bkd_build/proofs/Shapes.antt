@@ -14,7 +14,8 @@ use Rattle.bkd_build.proofs.Counts.{leaves_hold, one_leaf_for, two_leaves, left_
 -- a tree of n leaves has n
 pub shaped_count : (n : ℕ) (x : IndexTree) → IsShaped n x → length (lengths_of x) ≡ n
 shaped_count n (IndexLeaf long own) h = sym h
-shaped_count n (IndexSplit d x l r) h = omega (arith, length-append (lengths_of l) (lengths_of r), shaped_count (n - n / 2) l h.1, shaped_count (n / 2) r h.2, h.0)
+shaped_count n (IndexSplit d x l r) h =
+    omega (arith, length-append (lengths_of l) (lengths_of r), shaped_count (n - n / 2) l h.1, shaped_count (n / 2) r h.2, h.0)
 
 -- the right half has what the left one leaves
 rest_count : (D leaf d : ℕ) (x : ℤ) (ls rs : List Item) → IsCanonSplit D leaf d x ls rs → length rs ≡ length (ls ++ rs) - left_count leaf (length (ls ++ rs))
@@ -24,7 +25,8 @@ pub shaped : (D leaf : ℕ) (t : KdTree) → 1 ≤ leaf → IsCanon D leaf t →
 shaped D leaf (Leaf items own) some h = one_leaf_for leaf (length items) h.entries.some h.few
 shaped D leaf (Split d x l r) some h =
     let count : ℕ = length (entries_of l ++ entries_of r) in
-    let left : leaves_for leaf (length (entries_of l)) ≡ leaves_for leaf count - leaves_for leaf count / 2 = ap (leaves_for leaf) h.0.rank ∙ left_leaves leaf count some h.0.many in
+    let left : leaves_for leaf (length (entries_of l)) ≡ leaves_for leaf count - leaves_for leaf count / 2 =
+    ap (leaves_for leaf) h.0.rank ∙ left_leaves leaf count some h.0.many in
     let right : leaves_for leaf (length (entries_of r)) ≡ leaves_for leaf count / 2 =
     ap (leaves_for leaf) (rest_count D leaf d x (entries_of l) (entries_of r) h.0) ∙ right_leaves leaf count some h.0.many in (
       two_leaves leaf count some h.0.many,
@@ -35,14 +37,17 @@ shaped D leaf (Split d x l r) some h =
 -- the points of the entries
 pub all_points : (D leaf : ℕ) (t : KdTree) → IsCanon D leaf t → All (λ (x : Item). IsPoint D x.at) (entries_of t)
 all_points D leaf (Leaf items own) h = h.entries.points
-all_points D leaf (Split d x l r) h = All-append (λ (y : Item). IsPoint D y.at) (entries_of l) (entries_of r) (all_points D leaf l h.1) (all_points D leaf r h.2)
+all_points D leaf (Split d x l r) h =
+    All-append (λ (y : Item). IsPoint D y.at) (entries_of l) (entries_of r) (all_points D leaf l h.1) (all_points D leaf r h.2)
 
 -- each leaf fits into a page
 pub all_fit : (D leaf : ℕ) (t : KdTree) → D ≤ 8 → IsCanon D leaf t → All (λ (n : ℕ). (1 ≤ n) × (n ≤ 4064)) (lengths_of (index_tree_of D t))
 all_fit D leaf (Leaf items own) few h =
-    All-cons (λ (n : ℕ). (1 ≤ n) × (n ≤ 4064)) (length (spelling D items)) [] (length-spelling D items few h.entries) (All-nil (λ (n : ℕ). (1 ≤ n) × (n ≤ 4064)))
+    All-cons (λ (n : ℕ). (1 ≤ n) × (n ≤ 4064)) (length (spelling D items)) [] (length-spelling D items few h.entries)
+    (All-nil (λ (n : ℕ). (1 ≤ n) × (n ≤ 4064)))
 all_fit D leaf (Split d x l r) few h =
-    All-append (λ (n : ℕ). (1 ≤ n) × (n ≤ 4064)) (lengths_of (index_tree_of D l)) (lengths_of (index_tree_of D r)) (all_fit D leaf l few h.1) (all_fit D leaf r few h.2)
+    All-append (λ (n : ℕ). (1 ≤ n) × (n ≤ 4064)) (lengths_of (index_tree_of D l)) (lengths_of (index_tree_of D r)) (all_fit D leaf l few h.1)
+    (all_fit D leaf r few h.2)
 
 -- the greatest number of entries has no more leaves than an index may have
 pub few_leaves : (leaf count : ℕ) → 2 ≤ leaf → count ≤ 16777216 → leaves_for leaf count ≤ 8388608

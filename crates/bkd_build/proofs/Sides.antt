@@ -1,5 +1,6 @@
 -- The sides of the least cell round items are their extents.
-use Rattle.std.proofs.Common.{◌≡◌, ◌⊎◌, ℕ, suc, ◌+◌, ◌<◌, ◌≤◌, true, false, List, [], ◌∷◌, map, length, get_or, set, refl, sym, ◌∙◌, subst, arith, inl, inr, ℤ, pos, ◌+ℤ◌, ◌-ℤ◌, ◌≤ℤ◌, int_le, unsigned_abs}
+use Rattle.std.proofs.Common.{◌≡◌, ◌⊎◌, ℕ, suc, ◌+◌, ◌<◌, ◌≤◌, true, false, List, [], ◌∷◌, map, length, get_or, set}
+use Rattle.std.proofs.Common.{refl, sym, ◌∙◌, subst, arith, inl, inr, ℤ, pos, ◌+ℤ◌, ◌-ℤ◌, ◌≤ℤ◌, int_le, unsigned_abs}
 use Rattle.std.specs.List.{All, Contains}
 use Rattle.std.proofs.lemmas.Bool.{cases_order, and_from, cases_Bool}
 use Rattle.std.proofs.lemmas.Int.{ints}
@@ -38,23 +39,57 @@ one_more : {X : Type 0} (x y : X) (xs : List X) → Contains xs x → Contains (
 one_more x y xs (k, lt, is) = (suc k, omega arith, is)
 
 pub some_least : (d : ℕ) (x : Item) (items : List Item) → (m : ℤ) × IsLeast d m (x ∷ items)
-some_least d x [] = (coordinate d x, record { bound = All-cons (λ (y : Item). coordinate d x ≤ℤ coordinate d y) x [] (le_itself (coordinate d x)) (All-nil _); reached = (0, omega arith, refl) })
+some_least d x [] = (
+  coordinate d x,
+  record { bound = All-cons (λ (y : Item). coordinate d x ≤ℤ coordinate d y) x [] (le_itself (coordinate d x)) (All-nil _); reached = (0, omega arith, refl) },
+)
 some_least d x (y ∷ items) = at (some_least d y items).0 (some_least d y items).1
   where
     at : (m : ℤ) → IsLeast d m (y ∷ items) → (n : ℤ) × IsLeast d n (x ∷ y ∷ items)
     at m h = elim (either_le (coordinate d x) m) [
-      | inl less ↦ (coordinate d x, record { bound = All-cons (λ (z : Item). coordinate d x ≤ℤ coordinate d z) x (y ∷ items) (le_itself (coordinate d x)) (All-weaker (λ (z : Item). m ≤ℤ coordinate d z) (λ (z : Item). coordinate d x ≤ℤ coordinate d z) (λ z k. le_trans (coordinate d x) m (coordinate d z) less k) (y ∷ items) h.bound); reached = (0, omega arith, refl) })
-      | inr more ↦ (m, record { bound = All-cons (λ (z : Item). m ≤ℤ coordinate d z) x (y ∷ items) more h.bound; reached = one_more m (coordinate d x) (map (coordinate d) (y ∷ items)) h.reached })
+      | inl less ↦ (
+        coordinate d x,
+        record {
+          bound = All-cons (λ (z : Item). coordinate d x ≤ℤ coordinate d z) x (y ∷ items) (le_itself (coordinate d x))
+              (All-weaker (λ (z : Item). m ≤ℤ coordinate d z) (λ (z : Item). coordinate d x ≤ℤ coordinate d z)
+              (λ z k. le_trans (coordinate d x) m (coordinate d z) less k) (y ∷ items) h.bound);
+          reached = (0, omega arith, refl);
+        },
+      )
+      | inr more ↦ (
+        m,
+        record {
+          bound = All-cons (λ (z : Item). m ≤ℤ coordinate d z) x (y ∷ items) more h.bound;
+          reached = one_more m (coordinate d x) (map (coordinate d) (y ∷ items)) h.reached;
+        },
+      )
     ]
 
 pub some_greatest : (d : ℕ) (x : Item) (items : List Item) → (m : ℤ) × IsGreatest d m (x ∷ items)
-some_greatest d x [] = (coordinate d x, record { bound = All-cons (λ (y : Item). coordinate d y ≤ℤ coordinate d x) x [] (le_itself (coordinate d x)) (All-nil _); reached = (0, omega arith, refl) })
+some_greatest d x [] = (
+  coordinate d x,
+  record { bound = All-cons (λ (y : Item). coordinate d y ≤ℤ coordinate d x) x [] (le_itself (coordinate d x)) (All-nil _); reached = (0, omega arith, refl) },
+)
 some_greatest d x (y ∷ items) = at (some_greatest d y items).0 (some_greatest d y items).1
   where
     at : (m : ℤ) → IsGreatest d m (y ∷ items) → (n : ℤ) × IsGreatest d n (x ∷ y ∷ items)
     at m h = elim (either_le m (coordinate d x)) [
-      | inl less ↦ (coordinate d x, record { bound = All-cons (λ (z : Item). coordinate d z ≤ℤ coordinate d x) x (y ∷ items) (le_itself (coordinate d x)) (All-weaker (λ (z : Item). coordinate d z ≤ℤ m) (λ (z : Item). coordinate d z ≤ℤ coordinate d x) (λ z k. le_trans (coordinate d z) m (coordinate d x) k less) (y ∷ items) h.bound); reached = (0, omega arith, refl) })
-      | inr more ↦ (m, record { bound = All-cons (λ (z : Item). coordinate d z ≤ℤ m) x (y ∷ items) more h.bound; reached = one_more m (coordinate d x) (map (coordinate d) (y ∷ items)) h.reached })
+      | inl less ↦ (
+        coordinate d x,
+        record {
+          bound = All-cons (λ (z : Item). coordinate d z ≤ℤ coordinate d x) x (y ∷ items) (le_itself (coordinate d x))
+              (All-weaker (λ (z : Item). coordinate d z ≤ℤ m) (λ (z : Item). coordinate d z ≤ℤ coordinate d x)
+              (λ z k. le_trans (coordinate d z) m (coordinate d x) k less) (y ∷ items) h.bound);
+          reached = (0, omega arith, refl);
+        },
+      )
+      | inr more ↦ (
+        m,
+        record {
+          bound = All-cons (λ (z : Item). coordinate d z ≤ℤ m) x (y ∷ items) more h.bound;
+          reached = one_more m (coordinate d x) (map (coordinate d) (y ∷ items)) h.reached;
+        },
+      )
     ]
 
 -- ---- the least cell reaches just so far
@@ -99,7 +134,8 @@ module _ (d : ℕ) (r : Region) (x : Item) (rest : List Item) (told : IsLeastCel
 
           low : m ≤ℤ get_or r.lo d (pos 0)
           low =
-              let corners = both_true (all_le (set r.lo d m) r.lo) (all_le r.hi r.hi) (told.least (right_of r d m) (points_inside (λ (p : List ℤ). in_box (right_of r d m) p ≡ true) raised)) in
+              let corners = both_true (all_le (set r.lo d m) r.lo) (all_le r.hi r.hi)
+              (told.least (right_of r d m) (points_inside (λ (p : List ℤ). in_box (right_of r d m) p ≡ true) raised)) in
               let lt' : d < length (set r.lo d m) = omega (arith, length-set r.lo d m) in
               subst (λ (z : ℤ). z ≤ℤ get_or r.lo d (pos 0)) (get_or-set_same r.lo d m (pos 0) lt) (all_le_at (set r.lo d m) r.lo d corners.0 lt')
 
@@ -124,7 +160,8 @@ module _ (d : ℕ) (r : Region) (x : Item) (rest : List Item) (told : IsLeastCel
 
           high : get_or r.hi d (pos 0) ≤ℤ m
           high =
-              let corners = both_true (all_le r.lo r.lo) (all_le r.hi (set r.hi d m)) (told.least (left_of r d m) (points_inside (λ (p : List ℤ). in_box (left_of r d m) p ≡ true) lowered)) in
+              let corners = both_true (all_le r.lo r.lo) (all_le r.hi (set r.hi d m))
+              (told.least (left_of r d m) (points_inside (λ (p : List ℤ). in_box (left_of r d m) p ≡ true) lowered)) in
               subst (λ (z : ℤ). get_or r.hi d (pos 0) ≤ℤ z) (get_or-set_same r.hi d m (pos 0) lt') (all_le_at r.hi (set r.hi d m) d corners.1 lt')
 
   pub side_extent : HasExtent d (width r d) items
@@ -133,14 +170,17 @@ module _ (d : ℕ) (r : Region) (x : Item) (rest : List Item) (told : IsLeastCel
     greatest = get_or r.hi d (pos 0);
     is_least = least_side;
     is_greatest = greatest_side;
-    is = apart (get_or r.lo d (pos 0)) (get_or r.hi d (pos 0)) (le_trans (get_or r.lo d (pos 0)) (coordinate d x) (get_or r.hi d (pos 0)) (coordinate_inside d r x lt (inside 0 x (omega arith))).0 (coordinate_inside d r x lt (inside 0 x (omega arith))).1);
+    is = apart (get_or r.lo d (pos 0)) (get_or r.hi d (pos 0))
+        (le_trans (get_or r.lo d (pos 0)) (coordinate d x) (get_or r.hi d (pos 0)) (coordinate_inside d r x lt (inside 0 x (omega arith))).0
+        (coordinate_inside d r x lt (inside 0 x (omega arith))).1);
   }
     where
       apart : (l h : ℤ) → l ≤ℤ h → h ≡ l +ℤ pos (unsigned_abs (h -ℤ l))
       apart l h le = grind (arith, ints)
 
 -- the widest side is the greatest extent
-pub widest_of_sides : (D d : ℕ) (r : Region) (x : Item) (rest : List Item) → length r.lo ≡ D → IsLeastCell (map (λ y. y.at) (x ∷ rest)) r → IsWidestSide D d r → IsWidest D d (x ∷ rest)
+pub widest_of_sides : (D d : ℕ) (r : Region) (x : Item) (rest : List Item) → length r.lo ≡ D → IsLeastCell (map (λ y. y.at) (x ∷ rest)) r → IsWidestSide D d r
+    → IsWidest D d (x ∷ rest)
 widest_of_sides D d r x rest long told h = record {
   dimension = h.dimension;
   extent = width r d;
@@ -152,14 +192,19 @@ widest_of_sides D d r x rest long told h = record {
     extent : (e : ℕ) → e < D → HasExtent e (width r e) (x ∷ rest)
     extent e lt = side_extent e r x rest told (omega (arith, long))
 
-pub widest_of_cell : (D d : ℕ) (r : Region) (items : List Item) → 0 < length items → length r.lo ≡ D → IsLeastCell (map (λ x. x.at) items) r → IsWidestSide D d r → IsWidest D d items
+pub widest_of_cell : (D d : ℕ) (r : Region) (items : List Item) → 0 < length items → length r.lo ≡ D → IsLeastCell (map (λ x. x.at) items) r
+    → IsWidestSide D d r → IsWidest D d items
 widest_of_cell D d r [] some long told h = absurd (omega arith)
 widest_of_cell D d r (x ∷ rest) some long told h = widest_of_sides D d r x rest long told h
 
 -- ---- one dimension more
 
 pub first_side : (r : Region) → IsWidestSide 1 0 r
-first_side r = record { dimension = omega arith; greatest = λ e lt. subst (λ (n : ℕ). width r n ≤ width r 0) (none e lt) (omega arith); first = λ e lt. absurd (omega arith) }
+first_side r = record {
+  dimension = omega arith;
+  greatest = λ e lt. subst (λ (n : ℕ). width r n ≤ width r 0) (none e lt) (omega arith);
+  first = λ e lt. absurd (omega arith);
+}
   where
     none : (e : ℕ) → e < 1 → 0 ≡ e
     none e lt = omega arith

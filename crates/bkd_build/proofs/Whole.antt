@@ -68,10 +68,12 @@ pub parts_lent : (D leaf : ℕ) (es : List (Entry D)) (root : Region) (part : Pa
 parts_lent D leaf es root part nodes lengths cells dims few two some count cell nodes_are lengths_are cells_are a =
     let long : length (items_of es) ≡ length es = length-map es (λ (e : Entry D). record { doc = e.doc; at = e.point.c }) in
     rw (nodes_are, lengths_are, cells_are)
-    (parts_are D leaf (items_of es) root part.nodes.items part.lengths.items part.cells.items part.leaves.items dims few two (omega (arith, long, some)) (omega (arith, long, count)) cell a)
+    (parts_are D leaf (items_of es) root part.nodes.items part.lengths.items part.cells.items part.leaves.items dims few two (omega (arith, long, some))
+    (omega (arith, long, count)) cell a)
 
 pub whole_built : (D leaf : ℕ) (items : List Item) (root : Region) (pieces : Pieces) (index : Body) → IsLeastCell (map (λ (x : Item). x.at) items) root
-    → (a : Adds D leaf items no_pieces pieces) → index.form ≡ 3 → HasTree D index root (index_tree_of D a.tree) → IsBuilt D leaf items (record { index = index; leaves = pieces.leaves })
+    → (a : Adds D leaf items no_pieces pieces) → index.form ≡ 3 → HasTree D index root (index_tree_of D a.tree)
+    → IsBuilt D leaf items (record { index = index; leaves = pieces.leaves })
 whole_built D leaf items root pieces index cell a form has = record {
   tree = a.tree;
   root = root;

@@ -30,5 +30,6 @@ high_first_unique k m n x y hm hn e =
     let rest_n = drop_at (bytes_high_first k n) y k (length-bytes_high_first k n) in
     (same, sym rest_m ∙ ap (λ (bytes : List ℕ). drop k bytes) e ∙ rest_n)
 
-pub spelling_unique : (w : Width) (m n : ℕ) (x y : List ℕ) → m < 256 ^ byte_len w → n < 256 ^ byte_len w → to_be_bytes w m ++ x ≡ to_be_bytes w n ++ y → (m ≡ n) × (x ≡ y)
+pub spelling_unique : (w : Width) (m n : ℕ) (x y : List ℕ) → m < 256 ^ byte_len w → n < 256 ^ byte_len w → to_be_bytes w m ++ x ≡ to_be_bytes w n ++ y
+    → (m ≡ n) × (x ≡ y)
 spelling_unique w m n x y hm hn e = high_first_unique (byte_len w) m n x y hm hn e

@@ -1,5 +1,6 @@
 -- Inside a vint: what the groups so far say of the bytes as a whole.
-use Rattle.std.proofs.Common.{◌≡◌, ◌<◌, ◌≤◌, ◌+◌, ◌-◌, ◌*◌, ◌^◌, ◌/◌, ℕ, List, [], ◌∷◌, ◌++◌, length, refl, sym, ap, subst, ◌∙◌, arith, All, add-one, get_or, length-append}
+use Rattle.std.proofs.Common.{◌≡◌, ◌<◌, ◌≤◌, ◌+◌, ◌-◌, ◌*◌, ◌^◌, ◌/◌, ℕ, List, [], ◌∷◌, ◌++◌, length}
+use Rattle.std.proofs.Common.{refl, sym, ap, subst, ◌∙◌, arith, All, add-one, get_or, length-append}
 use Rattle.std.proofs.Math.Nat.{pow-suc, mul-le-mul_left, pow-le-pow_right, le-mul_of_pos_right}
 use Rattle.std.proofs.lemmas.List.Elements.{All-cons, All-tail}
 use Rattle.std.proofs.lemmas.List.{get_or_append_left}
@@ -36,7 +37,8 @@ partway_start bytes = record {
 }
 
 -- one group more
-group_grows : (after : List ℕ) (b left : ℕ) (more : List ℕ) → 128 ≤ b → b < 256 → 0 < left → BeginsWithVint after left more → BeginsWithVint (b ∷ after) (b - 128 + 128 * left) more
+group_grows : (after : List ℕ) (b left : ℕ) (more : List ℕ) → 128 ≤ b → b < 256 → 0 < left → BeginsWithVint after left more
+    → BeginsWithVint (b ∷ after) (b - 128 + 128 * left) more
 group_grows after b left more marked small pos h = record {
   front = b ∷ h.front;
   is_vint = vint_cons h.front b (b - 128 + 128 * left) left h.is_vint pos small marked refl;
@@ -67,7 +69,8 @@ group_falls after b n (x ∷ y ∷ xs) more marked v e =
 spread : (value weight group left : ℕ) → value + weight * (group + 128 * left) ≡ value + weight * group + weight * 128 * left
 spread value weight group left = omega arith
 
-partway_step : (bytes after : List ℕ) (b at value weight : ℕ) → IsPartway bytes (b ∷ after) at value weight → 128 ≤ b → b < 256 → IsPartway bytes after (at + 1) (value + weight * (b - 128)) (weight * 128)
+partway_step : (bytes after : List ℕ) (b at value weight : ℕ) → IsPartway bytes (b ∷ after) at value weight → 128 ≤ b → b < 256
+    → IsPartway bytes after (at + 1) (value + weight * (b - 128)) (weight * 128)
 partway_step bytes after b at value weight h marked small =
     let upto : b - 128 ≤ 127 = omega arith in record {
       power = rw (h.power, add-one, pow-suc) refl;
@@ -77,7 +80,9 @@ partway_step bytes after b at value weight h marked small =
       rest_marked = λ all. All-tail (λ (x : ℕ). 128 ≤ x) b after (h.rest_marked all);
       grows = λ left more begins pos.
           let e : value + weight * (b - 128 + 128 * left) ≡ value + weight * (b - 128) + weight * 128 * left = spread value weight (b - 128) left in
-          subst (λ (n : ℕ). BeginsWithVint bytes n more) e (h.grows (b - 128 + 128 * left) more (group_grows after b left more marked small (pos (omega arith)) begins) (λ _. let p : 0 < left = pos (omega arith) in omega arith));
+          subst (λ (n : ℕ). BeginsWithVint bytes n more) e
+          (h.grows (b - 128 + 128 * left) more (group_grows after b left more marked small (pos (omega arith)) begins)
+          (λ _. let p : 0 < left = pos (omega arith) in omega arith));
       falls = λ n more begins.
           let old = h.falls n more begins in
           let low = group_falls after b old.left old.begins.front more marked old.begins.is_vint old.begins.parts in
@@ -89,11 +94,13 @@ partway_step bytes after b at value weight h marked small =
           };
     }
 
-pub partway_next : (bytes rest after : List ℕ) (b at value weight : ℕ) → IsPartway bytes rest at value weight → rest ≡ b ∷ after → 128 ≤ b → b < 256 → IsPartway bytes after (at + 1) (value + weight * (b - 128)) (weight * 128)
+pub partway_next : (bytes rest after : List ℕ) (b at value weight : ℕ) → IsPartway bytes rest at value weight → rest ≡ b ∷ after → 128 ≤ b → b < 256
+    → IsPartway bytes after (at + 1) (value + weight * (b - 128)) (weight * 128)
 partway_next bytes rest after b at value weight h e = partway_step bytes after b at value weight (subst (λ (r : List ℕ). IsPartway bytes r at value weight) e h)
 
 -- five groups have 35 bits
-pub partway_fits : (bytes rest : List ℕ) (at value weight group : ℕ) → IsPartway bytes rest at value weight → at ≤ 4 → group < 128 → (weight ≤ 2 ^ 28) × (value < 2 ^ 28) × (weight * group ≤ 2 ^ 28 * 127)
+pub partway_fits : (bytes rest : List ℕ) (at value weight group : ℕ) → IsPartway bytes rest at value weight → at ≤ 4 → group < 128
+    → (weight ≤ 2 ^ 28) × (value < 2 ^ 28) × (weight * group ≤ 2 ^ 28 * 127)
 partway_fits bytes rest at value weight group h le small =
     let most : 128 ^ at ≤ 128 ^ 4 = pow-le-pow_right (omega arith) le in
     let heavy : weight ≤ 2 ^ 28 = omega (arith, h.power) in
@@ -111,7 +118,8 @@ unfolding IsVint
 last_vint b lt = (lt, refl)
 
 -- a byte below 128 ends the vint
-pub last_taken : (bytes rest after : List ℕ) (b at value weight : ℕ) → IsPartway bytes rest at value weight → rest ≡ b ∷ after → b < 128 → (0 < at → 0 < b) → BeginsWithVint bytes (value + weight * b) after
+pub last_taken : (bytes rest after : List ℕ) (b at value weight : ℕ) → IsPartway bytes rest at value weight → rest ≡ b ∷ after → b < 128 → (0 < at → 0 < b)
+    → BeginsWithVint bytes (value + weight * b) after
 last_taken bytes rest after b at value weight h e lt pos = h.grows b after (record { front = b ∷ []; is_vint = last_vint b lt; parts = e }) pos
 
 record Ends (after : List ℕ) (b n : ℕ) (more : List ℕ) : Type 0 where
@@ -124,7 +132,8 @@ ends after b n [] more lt v e = absurd v
 ends after b n (x ∷ []) more lt v e = record { number = let head : b ≡ x = cc in omega arith; rest = cc }
 ends after b n (x ∷ y ∷ xs) more lt v e = let head : b ≡ x = cc in absurd (omega arith)
 
-pub last_only : (bytes rest after : List ℕ) (b at value weight n : ℕ) (more : List ℕ) → IsPartway bytes rest at value weight → rest ≡ b ∷ after → b < 128 → BeginsWithVint bytes n more → IsLast after b at value weight n more
+pub last_only : (bytes rest after : List ℕ) (b at value weight n : ℕ) (more : List ℕ) → IsPartway bytes rest at value weight → rest ≡ b ∷ after → b < 128
+    → BeginsWithVint bytes n more → IsLast after b at value weight n more
 last_only bytes rest after b at value weight n more h whole lt begins =
     let old = h.falls n more begins in
     let e = ends after b old.left old.begins.front more lt old.begins.is_vint (sym whole ∙ old.begins.parts) in
@@ -139,7 +148,8 @@ last_not_cut bytes rest after b at value weight h e lt cut =
     let here : 128 ≤ get_or (b ∷ after) 0 0 = subst (All (λ (x : ℕ). 128 ≤ x)) e (h.rest_marked cut.1) 0 0 (omega arith) in
     omega arith
 
-pub too_great : (bytes rest after : List ℕ) (b at value weight : ℕ) → IsPartway bytes rest at value weight → rest ≡ b ∷ after → b < 128 → 2 ^ 32 ≤ value + weight * b → HasVint bytes → ⊥
+pub too_great : (bytes rest after : List ℕ) (b at value weight : ℕ) → IsPartway bytes rest at value weight → rest ≡ b ∷ after → b < 128
+    → 2 ^ 32 ≤ value + weight * b → HasVint bytes → ⊥
 too_great bytes rest after b at value weight h e lt great has =
     let last = last_only bytes rest after b at value weight has.number has.rest h e lt has.begins in
     let fits = has.fits in
@@ -174,7 +184,8 @@ All-front P xs ys all k d lt =
     subst P here whole
 
 pub cut_has_none : (bytes : List ℕ) (n : ℕ) (more : List ℕ) → All (λ b. 128 ≤ b) bytes → BeginsWithVint bytes n more → ⊥
-cut_has_none bytes n more all begins = has_last begins.front n (All-front (λ (x : ℕ). 128 ≤ x) begins.front more (subst (All (λ (x : ℕ). 128 ≤ x)) begins.parts all)) begins.is_vint
+cut_has_none bytes n more all begins =
+    has_last begins.front n (All-front (λ (x : ℕ). 128 ≤ x) begins.front more (subst (All (λ (x : ℕ). 128 ≤ x)) begins.parts all)) begins.is_vint
 
 pub ended : (bytes rest : List ℕ) (at value weight : ℕ) → IsPartway bytes rest at value weight → length rest < 1 → HasVint bytes → ⊥
 ended bytes rest at value weight h none has =

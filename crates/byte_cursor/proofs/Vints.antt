@@ -1,5 +1,6 @@
 -- Vints: one spelling a number, no spelling in front of another, one to five bytes below 2 ^ 32.
-use Rattle.std.proofs.Common.{◌≡◌, ◌<◌, ◌≤◌, ◌+◌, ◌-◌, ◌*◌, ◌^◌, ◌/◌, ◌%◌, ℕ, zero, suc, List, [], ◌∷◌, ◌++◌, length, refl, sym, ap, subst, ◌∙◌, arith, inl, inr}
+use Rattle.std.proofs.Common.{◌≡◌, ◌<◌, ◌≤◌, ◌+◌, ◌-◌, ◌*◌, ◌^◌, ◌/◌, ◌%◌, ℕ, zero, suc, List}
+use Rattle.std.proofs.Common.{[], ◌∷◌, ◌++◌, length, refl, sym, ap, subst, ◌∙◌, arith, inl, inr}
 use Rattle.std.proofs.Math.Nat.{pow-suc}
 use Rattle.std.proofs.lemmas.Bool.{cases_lt}
 use Rattle.std.proofs.lemmas.Nat.{div_below}
@@ -93,10 +94,13 @@ vint_2 a b n le lt p q = more a n (n / 2 ^ 7) (b ∷ []) le p refl (vint_1 b (n 
 pub vint_3 : (a b c n : ℕ) → 2 ^ 14 ≤ n → n < 2 ^ 21 → a ≡ 128 + n % 128 → b ≡ 128 + n / 2 ^ 7 % 128 → c ≡ n / 2 ^ 14 → IsVint (a ∷ b ∷ c ∷ []) n
 vint_3 a b c n le lt p q r = more a n (n / 2 ^ 7) (b ∷ c ∷ []) (omega arith) p refl (vint_2 b c (n / 2 ^ 7) (omega arith) (omega arith) q (omega arith))
 
-pub vint_4 : (a b c d n : ℕ) → 2 ^ 21 ≤ n → n < 2 ^ 28 → a ≡ 128 + n % 128 → b ≡ 128 + n / 2 ^ 7 % 128 → c ≡ 128 + n / 2 ^ 14 % 128 → d ≡ n / 2 ^ 21 → IsVint (a ∷ b ∷ c ∷ d ∷ []) n
+pub vint_4 : (a b c d n : ℕ) → 2 ^ 21 ≤ n → n < 2 ^ 28 → a ≡ 128 + n % 128 → b ≡ 128 + n / 2 ^ 7 % 128 → c ≡ 128 + n / 2 ^ 14 % 128 → d ≡ n / 2 ^ 21
+    → IsVint (a ∷ b ∷ c ∷ d ∷ []) n
 vint_4 a b c d n le lt p q r s =
     more a n (n / 2 ^ 7) (b ∷ c ∷ d ∷ []) (omega arith) p refl (vint_3 b c d (n / 2 ^ 7) (omega arith) (omega arith) q (omega arith) (omega arith))
 
-pub vint_5 : (a b c d e n : ℕ) → 2 ^ 28 ≤ n → n < 2 ^ 32 → a ≡ 128 + n % 128 → b ≡ 128 + n / 2 ^ 7 % 128 → c ≡ 128 + n / 2 ^ 14 % 128 → d ≡ 128 + n / 2 ^ 21 % 128 → e ≡ n / 2 ^ 28 → IsVint (a ∷ b ∷ c ∷ d ∷ e ∷ []) n
+pub vint_5 : (a b c d e n : ℕ) → 2 ^ 28 ≤ n → n < 2 ^ 32 → a ≡ 128 + n % 128 → b ≡ 128 + n / 2 ^ 7 % 128 → c ≡ 128 + n / 2 ^ 14 % 128
+    → d ≡ 128 + n / 2 ^ 21 % 128 → e ≡ n / 2 ^ 28 → IsVint (a ∷ b ∷ c ∷ d ∷ e ∷ []) n
 vint_5 a b c d e n le lt p q r s t =
-    more a n (n / 2 ^ 7) (b ∷ c ∷ d ∷ e ∷ []) (omega arith) p refl (vint_4 b c d e (n / 2 ^ 7) (omega arith) (omega arith) q (omega arith) (omega arith) (omega arith))
+    more a n (n / 2 ^ 7) (b ∷ c ∷ d ∷ e ∷ []) (omega arith) p refl
+    (vint_4 b c d e (n / 2 ^ 7) (omega arith) (omega arith) q (omega arith) (omega arith) (omega arith))

@@ -54,7 +54,8 @@ are_three_parts cells e =
       root_cell = five;
       shaped = (omega arith, (omega arith, refl, refl), refl);
       cells = (cut, (cut, (five, refl), (seven, refl)), (seven, refl));
-      lengths = in_page 12 (9 ∷ 9 ∷ []) (omega arith) (omega arith) (in_page 9 (9 ∷ []) (omega arith) (omega arith) (in_page 9 [] (omega arith) (omega arith) no_more));
+      lengths = in_page 12 (9 ∷ 9 ∷ []) (omega arith) (omega arith)
+          (in_page 9 (9 ∷ []) (omega arith) (omega arith) (in_page 9 [] (omega arith) (omega arith) no_more));
     } in
     record { tree = tree; nodes_are = refl; lengths_are = refl; cells_are = e }
 
@@ -98,7 +99,8 @@ four_parts cells e =
       shaped = (omega arith, (omega arith, refl, refl), (omega arith, refl, refl));
       cells = (cut, (cut, (cell, refl), (cell, refl)), (cut, (cell, refl), (cell, refl)));
       lengths = in_page 4064 (1 ∷ 4063 ∷ 2 ∷ []) (omega arith) (omega arith)
-          (in_page 1 (4063 ∷ 2 ∷ []) (omega arith) (omega arith) (in_page 4063 (2 ∷ []) (omega arith) (omega arith) (in_page 2 [] (omega arith) (omega arith) no_more)));
+          (in_page 1 (4063 ∷ 2 ∷ []) (omega arith) (omega arith)
+          (in_page 4063 (2 ∷ []) (omega arith) (omega arith) (in_page 2 [] (omega arith) (omega arith) no_more)));
     } in
     record { tree = four; are = record { tree = tree; nodes_are = refl; lengths_are = refl; cells_are = e } }
 

@@ -7,7 +7,8 @@ use Rattle.commit_list.specs.declared.head.Layout.{Layout}
 use Rattle.commit_list.specs.declared.head.Layout.TheVariants.{First, Second}
 use Rattle.commit_list.specs.declared.head.Head.{Head}
 use Rattle.commit_list.specs.Commits.{CommitData, AreInRange, AreListed, IsCommit, FitsFields}
-use Rattle.commit_list.specs.Layout.{spell_head, spell_listed, head_length, SaysGiven, FitsHead, head_of, commit_body, old_commit_body, SpellsCommit, SpellsList, BeginsBody}
+use Rattle.commit_list.specs.Layout.{spell_head, spell_listed, head_length, SaysGiven, FitsHead, head_of}
+use Rattle.commit_list.specs.Layout.{commit_body, old_commit_body, SpellsCommit, SpellsList, BeginsBody}
 use Rattle.commit_list.proofs.Heads.{head-length, heads_unique}
 use Rattle.commit_list.proofs.Lists.{list-length, lists_unique, fits_listed}
 
@@ -112,12 +113,14 @@ pub in_range : (bytes : List ℕ) (h : Head) (rest : List ℕ) (c : CommitData) 
 in_range bytes h rest c fits e p =
     subst (λ (k : Head). AreInRange k.dims k.leaf k.next k.given k.count) (is_head_of bytes h rest c fits e p).head p.commit.ranges
 
-pub list_long : (bytes : List ℕ) (h : Head) (rest : List ℕ) (c : CommitData) → FitsHead h → bytes ≡ spell_head h ++ rest → SpellsCommit bytes c → length rest ≡ 24 * h.count
+pub list_long : (bytes : List ℕ) (h : Head) (rest : List ℕ) (c : CommitData) → FitsHead h → bytes ≡ spell_head h ++ rest → SpellsCommit bytes c
+    → length rest ≡ 24 * h.count
 list_long bytes h rest c fits e p =
     let is = is_head_of bytes h rest c fits e p in
     sym (ap length is.list) ∙ list-length c.listed ∙ ap (λ (k : Head). 24 * k.count) is.head
 
-pub listed_so : (bytes : List ℕ) (h : Head) (rest : List ℕ) (listed : List Listed) (c : CommitData) → FitsHead h → bytes ≡ spell_head h ++ rest → SpellsList rest h.count listed
+pub listed_so : (bytes : List ℕ) (h : Head) (rest : List ℕ) (listed : List Listed) (c : CommitData) → FitsHead h → bytes ≡ spell_head h ++ rest
+    → SpellsList rest h.count listed
     → SpellsCommit bytes c → AreListed h.next_segment listed
 listed_so bytes h rest listed c fits e l p =
     let is = is_head_of bytes h rest c fits e p in
@@ -132,13 +135,16 @@ commit_of h listed =
     record { dims = h.dims; leaf = h.leaf; next = h.next; given = h.given; next_segment = h.next_segment; listed = listed }
 
 spelling_of : (l : Layout) (h : Head) (bytes : List ℕ) (listed : List Listed) → h.layout ≡ l → SaysGiven l h.next h.given → length listed ≡ h.count
-    → bytes ≡ spell_head h ++ flat_map spell_listed listed → let c = commit_of h listed in (bytes ≡ commit_body c) ⊎ ((c.given ≡ c.next) × (bytes ≡ old_commit_body c))
+    → bytes ≡ spell_head h ++ flat_map spell_listed listed → let c = commit_of h listed in
+    (bytes ≡ commit_body c) ⊎ ((c.given ≡ c.next) × (bytes ≡ old_commit_body c))
 unfolding commit_body old_commit_body
 spelling_of First h bytes listed l says long e =
-    let same : h ≡ head_of First (commit_of h listed) = λ i. record { layout = l i; dims = h.dims; leaf = h.leaf; next = h.next; given = h.given; next_segment = h.next_segment; count = (sym long) i } in
+    let same : h ≡ head_of First (commit_of h listed) = λ i.
+    record { layout = l i; dims = h.dims; leaf = h.leaf; next = h.next; given = h.given; next_segment = h.next_segment; count = (sym long) i } in
     inr (says, e ∙ ap (λ (k : Head). spell_head k ++ flat_map spell_listed listed) same)
 spelling_of Second h bytes listed l says long e =
-    let same : h ≡ head_of Second (commit_of h listed) = λ i. record { layout = l i; dims = h.dims; leaf = h.leaf; next = h.next; given = h.given; next_segment = h.next_segment; count = (sym long) i } in
+    let same : h ≡ head_of Second (commit_of h listed) = λ i.
+    record { layout = l i; dims = h.dims; leaf = h.leaf; next = h.next; given = h.given; next_segment = h.next_segment; count = (sym long) i } in
     inl (e ∙ ap (λ (k : Head). spell_head k ++ flat_map spell_listed listed) same)
 
 pub may_stand : (h : Head) (rest : List ℕ) (listed : List Listed) → AreInRange h.dims h.leaf h.next h.given h.count → SpellsList rest h.count listed
@@ -149,7 +155,8 @@ may_stand h rest listed ranges l are = record {
 }
 
 pub spells_so : (bytes : List ℕ) (h : Head) (rest : List ℕ) (listed : List Listed) → FitsHead h → bytes ≡ spell_head h ++ rest
-    → AreInRange h.dims h.leaf h.next h.given h.count → SpellsList rest h.count listed → AreListed h.next_segment listed → SpellsCommit bytes (commit_of h listed)
+    → AreInRange h.dims h.leaf h.next h.given h.count → SpellsList rest h.count listed → AreListed h.next_segment listed
+    → SpellsCommit bytes (commit_of h listed)
 spells_so bytes h rest listed fits e ranges l are = record {
   commit = may_stand h rest listed ranges l are;
   fits = record { next_segment = fits.next_segment; generations = λ k d lt. (l.fits k d lt).generation };
@@ -162,9 +169,11 @@ pub written : (c : CommitData) (h : Head) (listed : List Listed) (front bytes : 
     → bytes ≡ front ++ flat_map spell_listed listed → bytes ≡ commit_body c
 unfolding commit_body
 written c h listed front bytes heads lists begins e =
-    e ∙ ap (λ (r : List ℕ). r ++ flat_map spell_listed listed) (begins ∙ ap spell_head heads) ∙ ap (λ (xs : List Listed). spell_head (head_of Second c) ++ flat_map spell_listed xs) lists
+    e ∙ ap (λ (r : List ℕ). r ++ flat_map spell_listed listed) (begins ∙ ap spell_head heads)
+    ∙ ap (λ (xs : List Listed). spell_head (head_of Second c) ++ flat_map spell_listed xs) lists
 
-pub written_spells : (c : CommitData) (listed : List Listed) (bytes : List ℕ) → IsCommit c → c.next_segment < 2 ^ 64 → All (λ s. s.generation < 2 ^ 64) listed → listed ≡ c.listed
+pub written_spells : (c : CommitData) (listed : List Listed) (bytes : List ℕ) → IsCommit c → c.next_segment < 2 ^ 64 → All (λ s. s.generation < 2 ^ 64) listed
+    → listed ≡ c.listed
     → bytes ≡ commit_body c → SpellsCommit bytes c
 written_spells c listed bytes commit below generations lists e = record {
   commit = commit;

@@ -43,19 +43,24 @@ pub found_fault_of : (files : Files) (f : PageFault) → (files Commit ≡ None 
 found_fault_of files f there = commit_fault_of files (SizeNeeds 4096) f there (λ file size needed named page h. short_of_cut files file size needed page h)
 
 -- what reading the other pages shows, where the file has just so many
-pub joined_fault_of : (files : Files) (pages : ℕ) (f : PageFault) → (files Commit ≡ None → FaultShows (λ _. ⊥) f) → length (bytes_of (files Commit)) ≡ 4096 * pages
-    → FaultShows (IsFileDamage Commit) f → FaultShows (SizeWithin (4096 * pages)) f → FaultShows (IsFileDamageOf files) f → FaultShows (IsCommitDamageOf files) f
+pub joined_fault_of : (files : Files) (pages : ℕ) (f : PageFault) → (files Commit ≡ None → FaultShows (λ _. ⊥) f)
+    → length (bytes_of (files Commit)) ≡ 4096 * pages
+    → FaultShows (IsFileDamage Commit) f → FaultShows (SizeWithin (4096 * pages)) f → FaultShows (IsFileDamageOf files) f
+    → FaultShows (IsCommitDamageOf files) f
 joined_fault_of files pages f there long =
     commit_fault_of files (SizeWithin (4096 * pages)) f there
-    (λ file size needed named within h. absurd (not_cut files file pages size needed (subst (λ (name : FileName). length (bytes_of (files name)) ≡ 4096 * pages) (sym named) long) within h))
+    (λ file size needed named within h.
+    absurd (not_cut files file pages size needed (subst (λ (name : FileName). length (bytes_of (files name)) ≡ 4096 * pages) (sym named) long) within h))
 
 -- a first page is that of a file that is there
 pub first_is_there : (files : Files) (p : FirstPage) (f : PageFault) → first_name p ≡ Commit → IsFirstPage files p → files Commit ≡ None → FaultShows (λ _. ⊥) f
 first_is_there files p f is first gone =
-    absurd (no_file_no_page Commit (files Commit) (sym (ap size_of gone)) (subst (λ (name : FileName). IsFilePage name (bytes_of (files name)) 0) is first.page))
+    absurd (no_file_no_page Commit (files Commit) (sym (ap size_of gone))
+    (subst (λ (name : FileName). IsFilePage name (bytes_of (files name)) 0) is first.page))
 
 -- a size that isn't that of the pages for which the first page asks
-pub commit_size_of : (files : Files) (p : FirstPage) (len pages : ℕ) (d : Damage) → IsFirstPage files p → BeginsBody (first_payload p) len → pages ≡ pages_for len
+pub commit_size_of : (files : Files) (p : FirstPage) (len pages : ℕ) (d : Damage) → IsFirstPage files p → BeginsBody (first_payload p) len
+    → pages ≡ pages_for len
     → IsSizeDamage (first_name p) (first_size p) (4096 * pages) d → IsCommitDamageOf files d
 commit_size_of files p len pages (Page file number bytes) first begins e h = absurd h
 commit_size_of files p len pages (Leaf file number offset bytes_len bytes) first begins e h = absurd h

@@ -1,5 +1,6 @@
 -- Payloads of a Commit file, and the commit that they say.
-use Rattle.std.proofs.Common.{◌≡◌, ◌≢◌, ◌≤◌, ◌+◌, ◌-◌, ◌*◌, ℕ, List, [], ◌∷◌, ◌++◌, length, take, drop, replicate, Option, Some, None, refl, sym, ap, subst, ◌∙◌, arith, append-nil, length-append, MatchOption}
+use Rattle.std.proofs.Common.{◌≡◌, ◌≢◌, ◌≤◌, ◌+◌, ◌-◌, ◌*◌, ℕ, List, [], ◌∷◌, ◌++◌, length, take, drop, replicate, Option}
+use Rattle.std.proofs.Common.{Some, None, refl, sym, ap, subst, ◌∙◌, arith, append-nil, length-append, MatchOption}
 use Rattle.std.proofs.Math.Seq.{take-append-add}
 use Rattle.std.proofs.lemmas.List.{take_at, drop_at, take-append-drop, length-replicate, length-take}
 use Rattle.outer_io.specs.declared.file_name.FileName.{FileName}
@@ -38,7 +39,11 @@ body_short body c h = begins-short body (length body) (body_begins body c h)
 
 pub filled-length : (body : List ℕ) → length (filled body) ≡ 4064 * pages_for (length body)
 filled-length body =
-    omega (arith, length-append body (replicate (4064 * pages_for (length body) - length body) 0), length-replicate {A = ℕ} (4064 * pages_for (length body) - length body) 0)
+    omega (
+      arith,
+      length-append body (replicate (4064 * pages_for (length body) - length body) 0),
+      length-replicate {A = ℕ} (4064 * pages_for (length body) - length body) 0,
+    )
 
 -- ---- payloads begin as the body does
 
@@ -68,7 +73,8 @@ begins-front bytes k n le b =
 pub begins_none : (payload : List ℕ) → length payload ≡ 4064 → ((n : ℕ) → BeginsBody payload n → ⊥) → IsNoCommitBody payload
 begins_none payload len none c body rest h e =
     let front : take 4064 (filled body) ≡ payload = ap (λ (bytes : List ℕ). take 4064 bytes) (sym e) ∙ take_at payload rest 4064 len in
-    none (length body) (subst (λ (bytes : List ℕ). BeginsBody bytes (length body)) front (begins-front (filled body) 4064 (length body) (omega arith) (filled_begins body c h)))
+    none (length body)
+    (subst (λ (bytes : List ℕ). BeginsBody bytes (length body)) front (begins-front (filled body) 4064 (length body) (omega arith) (filled_begins body c h)))
 
 -- nor do payloads that are as many as their head asks for and are those of no body
 pub filled_none : (payloads : List ℕ) (n : ℕ) → BeginsBody payloads n → length payloads ≡ 4064 * pages_for n → HasNoFilled payloads → IsNoCommitBody payloads
@@ -91,12 +97,14 @@ filled_long payloads n c b h =
     ap length h.same ∙ filled-length h.body ∙ ap (λ (m : ℕ). 4064 * pages_for m) same
 
 -- behind the body stand zeros
-pub filled_rest : (payloads : List ℕ) (n : ℕ) (c : CommitData) → BeginsBody payloads n → SpellsFilled payloads c → drop n payloads ≡ replicate (length (drop n payloads)) 0
+pub filled_rest : (payloads : List ℕ) (n : ℕ) (c : CommitData) → BeginsBody payloads n → SpellsFilled payloads c
+    → drop n payloads ≡ replicate (length (drop n payloads)) 0
 filled_rest payloads n c b h =
     let same = one_length payloads (length h.body) n (payloads_begin payloads c h) b in
     let zeros = replicate (4064 * pages_for (length h.body) - length h.body) 0 in
     let rest : drop n payloads ≡ zeros = ap (λ (xs : List ℕ). drop n xs) h.same ∙ drop_at h.body zeros n same in
-    rest ∙ ap (λ (m : ℕ). replicate m 0) (sym (length-replicate {A = ℕ} (4064 * pages_for (length h.body) - length h.body) 0)) ∙ ap (λ (xs : List ℕ). replicate (length xs) 0) (sym rest)
+    rest ∙ ap (λ (m : ℕ). replicate m 0) (sym (length-replicate {A = ℕ} (4064 * pages_for (length h.body) - length h.body) 0))
+    ∙ ap (λ (xs : List ℕ). replicate (length xs) 0) (sym rest)
 
 -- in front stands the body
 pub filled_front : (payloads : List ℕ) (n : ℕ) (c : CommitData) → BeginsBody payloads n → SpellsFilled payloads c → SpellsCommit (take n payloads) c
@@ -139,7 +147,8 @@ one_filled payloads c d p q =
 pub one_file : (bytes : List ℕ) (c d : CommitData) → IsCommitFile bytes c → IsCommitFile bytes d → c ≡ d
 one_file bytes c d p q =
     let pages : pages_for (length p.body) ≡ pages_for (length q.body) = omega (arith, p.file.len, q.file.len) in
-    one_filled (payloads_of bytes 0 (pages_for (length q.body))) c d (subst (λ (n : ℕ). SpellsFilled (payloads_of bytes 0 n) c) pages (file_filled bytes c p)) (file_filled bytes d q)
+    one_filled (payloads_of bytes 0 (pages_for (length q.body))) c d (subst (λ (n : ℕ). SpellsFilled (payloads_of bytes 0 n) c) pages (file_filled bytes c p))
+    (file_filled bytes d q)
 
 pub file_long : (bytes : List ℕ) (c : CommitData) → IsCommitFile bytes c → 4096 ≤ length bytes
 file_long bytes c h = let short = body_short h.body c h.spells in omega (arith, h.file.len, short.0)
@@ -149,7 +158,8 @@ file_there None c h = absurd (omega (arith, file_long [] c h))
 file_there (Some bytes) c h = (refl, file_long bytes c h)
 
 -- pages that are all there, and whose payloads are filled
-pub file_so : (bytes payloads : List ℕ) (pages : ℕ) (c : CommitData) → length bytes ≡ 4096 * pages → ArePages Commit bytes 0 pages → payloads ≡ payloads_of bytes 0 pages
+pub file_so : (bytes payloads : List ℕ) (pages : ℕ) (c : CommitData) → length bytes ≡ 4096 * pages → ArePages Commit bytes 0 pages
+    → payloads ≡ payloads_of bytes 0 pages
     → length payloads ≡ 4064 * pages → SpellsFilled payloads c → IsCommitFile bytes c
 file_so bytes payloads pages c long are same len h =
     let count : pages ≡ pages_for (length h.body) = omega (arith, len, ap length h.same, filled-length h.body) in
@@ -173,10 +183,12 @@ first_front bytes pages some page =
     let more : pages ≡ 1 + (pages - 1) = omega arith in
     let long : length (take 4064 (page_at bytes 0)) ≡ 4064 = omega (arith, length-take 4064 (page_at bytes 0), page.len) in
     ap (λ (n : ℕ). take 4064 (payloads_of bytes 0 n)) more
-    ∙ ap (λ (xs : List ℕ). take 4064 xs) (payloads_join bytes 0 1 (pages - 1) ∙ ap (λ (xs : List ℕ). xs ++ payloads_of bytes (0 + 1) (pages - 1)) (payloads_of_one bytes 0))
+    ∙ ap (λ (xs : List ℕ). take 4064 xs)
+    (payloads_join bytes 0 1 (pages - 1) ∙ ap (λ (xs : List ℕ). xs ++ payloads_of bytes (0 + 1) (pages - 1)) (payloads_of_one bytes 0))
     ∙ take_at (take 4064 (page_at bytes 0)) (payloads_of bytes (0 + 1) (pages - 1)) 4064 long
 
-pub first_begins : (bytes payload : List ℕ) (c : CommitData) → payload ≡ take 4064 (page_at bytes 0) → (h : IsCommitFile bytes c) → BeginsBody payload (length h.body)
+pub first_begins : (bytes payload : List ℕ) (c : CommitData) → payload ≡ take 4064 (page_at bytes 0) → (h : IsCommitFile bytes c)
+    → BeginsBody payload (length h.body)
 first_begins bytes payload c e h =
     let short = body_short h.body c h.spells in
     let front = first_front bytes (pages_for (length h.body)) (omega (arith, short.0)) (first_of_file bytes c h) in
@@ -184,11 +196,13 @@ first_begins bytes payload c e h =
     (begins-front (filled h.body) 4064 (length h.body) (omega arith) (filled_begins h.body c h.spells))
 
 -- as many pages as the head of its first payload speaks of
-pub file_pages : (bytes payload : List ℕ) (n : ℕ) (c : CommitData) → payload ≡ take 4064 (page_at bytes 0) → BeginsBody payload n → IsCommitFile bytes c → length bytes ≡ 4096 * pages_for n
+pub file_pages : (bytes payload : List ℕ) (n : ℕ) (c : CommitData) → payload ≡ take 4064 (page_at bytes 0) → BeginsBody payload n → IsCommitFile bytes c
+    → length bytes ≡ 4096 * pages_for n
 file_pages bytes payload n c e b h =
     h.file.len ∙ ap (λ (m : ℕ). 4096 * pages_for m) (one_length payload (length h.body) n (first_begins bytes payload c e h) b)
 
-pub file_payloads : (bytes payloads : List ℕ) (pages : ℕ) (c : CommitData) → length bytes ≡ 4096 * pages → payloads ≡ payloads_of bytes 0 pages → IsCommitFile bytes c → SpellsFilled payloads c
+pub file_payloads : (bytes payloads : List ℕ) (pages : ℕ) (c : CommitData) → length bytes ≡ 4096 * pages → payloads ≡ payloads_of bytes 0 pages
+    → IsCommitFile bytes c → SpellsFilled payloads c
 file_payloads bytes payloads pages c long same h =
     let count : pages_for (length h.body) ≡ pages = omega (arith, h.file.len, long) in
     subst (λ (xs : List ℕ). SpellsFilled xs c) (ap (λ (n : ℕ). payloads_of bytes 0 n) count ∙ sym same) (file_filled bytes c h)
@@ -200,14 +214,16 @@ pub record IsFirstOf (bytes : List ℕ) (size : ℕ) (payload : List ℕ) : Type
   pub page : IsFilePage Commit bytes 0
   pub payload_is : payload ≡ take 4064 (page_at bytes 0)
 
-pub first_of : (files : Files) (p : FirstPage) → first_name p ≡ Commit → IsFirstPage files p → IsFirstOf (bytes_of (files Commit)) (first_size p) (first_payload p)
+pub first_of : (files : Files) (p : FirstPage) → first_name p ≡ Commit → IsFirstPage files p
+    → IsFirstOf (bytes_of (files Commit)) (first_size p) (first_payload p)
 first_of files p e h = record {
   size_is = h.size ∙ ap (λ (n : FileName). length (bytes_of (files n))) e;
   page = subst (λ (n : FileName). IsFilePage n (bytes_of (files n)) 0) e h.page;
   payload_is = h.payload ∙ ap (λ (n : FileName). take 4064 (page_at (bytes_of (files n)) 0)) e;
 }
 
-pub first_payloads : (files : Files) (size : ℕ) (payload bytes : List ℕ) → IsFirstOf (bytes_of (files Commit)) size payload → bytes ≡ payload → ArePayloadsOf files Commit bytes
+pub first_payloads : (files : Files) (size : ℕ) (payload bytes : List ℕ) → IsFirstOf (bytes_of (files Commit)) size payload → bytes ≡ payload
+    → ArePayloadsOf files Commit bytes
 first_payloads files size payload bytes h e = record {
   count = 1;
   some = omega arith;

@@ -12,7 +12,8 @@ use Rattle.commit_list.specs.Layout.{magic, spell_given, spell_numbers, spell_he
 -- ---- the parts of a head
 
 pub numbers-parts : (h : Head) (rest : List ℕ) → spell_numbers h ++ rest
-    ≡ h.dims ∷ (to_be_bytes w16 h.leaf ++ (to_be_bytes w32 h.next ++ (spell_given h.layout h.given ++ (to_be_bytes w64 h.next_segment ++ (to_be_bytes w16 h.count ++ rest)))))
+    ≡ h.dims ∷ (to_be_bytes w16 h.leaf
+    ++ (to_be_bytes w32 h.next ++ (spell_given h.layout h.given ++ (to_be_bytes w64 h.next_segment ++ (to_be_bytes w16 h.count ++ rest)))))
 unfolding spell_numbers
 numbers-parts h rest = simp append_assoc
 
@@ -61,7 +62,8 @@ numbers_unique g h x y p q l e =
     let dims = first_byte g.dims h.dims _ _ (sym (numbers-parts g x) ∙ e ∙ numbers-parts h y) in
     let leaf = spelling_unique w16 g.leaf h.leaf _ _ p.leaf q.leaf dims.1 in
     let next = spelling_unique w32 g.next h.next _ _ p.next q.next leaf.1 in
-    let says : SaysGiven h.layout h.next g.given = subst (λ (k : ℕ). SaysGiven h.layout k g.given) next.0 (subst (λ (k : Layout). SaysGiven k g.next g.given) l p.says_given) in
+    let says : SaysGiven h.layout h.next g.given =
+    subst (λ (k : ℕ). SaysGiven h.layout k g.given) next.0 (subst (λ (k : Layout). SaysGiven k g.next g.given) l p.says_given) in
     let same : spell_given h.layout g.given ++ (to_be_bytes w64 g.next_segment ++ (to_be_bytes w16 g.count ++ x))
     ≡ spell_given h.layout h.given ++ (to_be_bytes w64 h.next_segment ++ (to_be_bytes w16 h.count ++ y)) =
     ap (λ (k : Layout). spell_given k g.given ++ (to_be_bytes w64 g.next_segment ++ (to_be_bytes w16 g.count ++ x))) (sym l) ∙ next.1 in

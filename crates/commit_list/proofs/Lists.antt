@@ -1,5 +1,6 @@
 -- Lists of segments and their bytes: no bytes are those of two lists.
-use Rattle.std.proofs.Common.{◌≡◌, ◌<◌, ◌≤◌, ◌+◌, ◌-◌, ◌*◌, ◌^◌, ℕ, List, [], ◌∷◌, ◌++◌, length, get_or, take, inl, inr, refl, sym, ap, subst, ◌∙◌, arith, append_assoc, length-append, All}
+use Rattle.std.proofs.Common.{◌≡◌, ◌<◌, ◌≤◌, ◌+◌, ◌-◌, ◌*◌, ◌^◌, ℕ, List, [], ◌∷◌, ◌++◌, length, get_or, take}
+use Rattle.std.proofs.Common.{inl, inr, refl, sym, ap, subst, ◌∙◌, arith, append_assoc, length-append, All}
 use Rattle.std.specs.Int.{w32, w64, to_be_bytes}
 use Rattle.std.specs.List.{flat_map}
 use Rattle.std.proofs.lemmas.List.Elements.{All-head, All-tail, All-nil, All-push, All-more}
@@ -30,7 +31,8 @@ listed_unique s t x y p q e =
     let live = spelling_unique w32 s.live t.live x y p.live q.live entries.1 in
     (λ i. record { segment = segment.0 i; generation = generation.0 i; entries = entries.0 i; live = live.0 i }, live.1)
 
-pub lists_unique : (xs ys : List Listed) → All FitsListed xs → All FitsListed ys → length xs ≡ length ys → flat_map spell_listed xs ≡ flat_map spell_listed ys → xs ≡ ys
+pub lists_unique : (xs ys : List Listed) → All FitsListed xs → All FitsListed ys → length xs ≡ length ys → flat_map spell_listed xs ≡ flat_map spell_listed ys
+    → xs ≡ ys
 lists_unique [] [] p q len e = refl
 lists_unique [] (y ∷ ys) p q len e = absurd (omega arith)
 lists_unique (x ∷ xs) [] p q len e = absurd (omega arith)
@@ -39,7 +41,8 @@ lists_unique (x ∷ xs) (y ∷ ys) p q len e =
     let rest = lists_unique xs ys (All-tail FitsListed x xs p) (All-tail FitsListed y ys q) (omega arith) first.1 in
     λ i. first.0 i ∷ rest i
 
-pub fits_listed : (next_segment : ℕ) (listed : List Listed) → next_segment < 2 ^ 64 → All (λ s. s.generation < 2 ^ 64) listed → AreListed next_segment listed → All FitsListed listed
+pub fits_listed : (next_segment : ℕ) (listed : List Listed) → next_segment < 2 ^ 64 → All (λ s. s.generation < 2 ^ 64) listed → AreListed next_segment listed
+    → All FitsListed listed
 fits_listed next_segment listed below generations are k d lt =
     let is = are.each k d lt in
     record { segment = omega (arith, is.id); generation = generations k d lt; entries = omega (arith, is.most); live = omega (arith, is.live, is.most) }
@@ -121,7 +124,8 @@ reads-none bytes rest listed e n = record {
   fits = rw n (All-nil FitsListed);
 }
 
-pub reads-more : (bytes rest new : List ℕ) (i : ℕ) (listed longer : List Listed) (s : Listed) → FitsListed s → rest ≡ spell_listed s ++ new → longer ≡ listed ++ s ∷ []
+pub reads-more : (bytes rest new : List ℕ) (i : ℕ) (listed longer : List Listed) (s : Listed) → FitsListed s → rest ≡ spell_listed s ++ new
+    → longer ≡ listed ++ s ∷ []
     → Reads bytes rest i listed → Reads bytes new (i + 1) longer
 reads-more bytes rest new i listed longer s below e p h =
     rw p (record {

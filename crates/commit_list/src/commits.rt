@@ -53,8 +53,14 @@ impl Commit {
               listed
                   = listed.items;
             }) }
-        ensures { result ≡ record
-            { dims = dims; leaf = leaf; next = next; given = given; next_segment = next_segment; listed = listed.items } }
+        ensures { result ≡ record {
+          dims = dims;
+          leaf = leaf;
+          next = next;
+          given = given;
+          next_segment = next_segment;
+          listed = listed.items;
+        } }
     {
         Commit {
             dims,

@@ -1,5 +1,6 @@
 -- A record's fields by their places, and the place of a name.
-use Rattle.std.proofs.Common.{◌≡◌, ℕ, zero, suc, ◌<◌, ◌≤◌, Bool, true, false, not, cond, Bor, List, [], ◌∷◌, length, get_or, Option, Some, None, refl, sym, ◌∙◌, arith}
+use Rattle.std.proofs.Common.{◌≡◌, ℕ, zero, suc, ◌<◌, ◌≤◌, Bool, true, false, not, cond, Bor, List}
+use Rattle.std.proofs.Common.{[], ◌∷◌, length, get_or, Option, Some, None, refl, sym, ◌∙◌, arith}
 use Rattle.std.specs.Prelude.{slice_get, position}
 use Rattle.std.specs.List.{prefix_len}
 use Rattle.std.proofs.lemmas.Bool.Decides.{nat_tests}
@@ -22,14 +23,17 @@ got_none fields i h e = let there = slice_get-get_or fields i [] h in let read =
 pub got : (fields : List (List ℕ)) (i : ℕ) (field : Bor (List ℕ)) → Some field.now ≡ field_at fields i → slice_get fields i ≡ Some field.now
 got fields i field e = sym (field_at-is fields i) ∙ sym e
 
-pub position-at : {X : Type 0} (p : X → Bool) (xs : List X) (n : ℕ) (d : X) → ((k : ℕ) → k < n → p (get_or xs k d) ≡ false) → n < length xs → p (get_or xs n d) ≡ true → position p xs ≡ Some n
+pub position-at : {X : Type 0} (p : X → Bool) (xs : List X) (n : ℕ) (d : X) → ((k : ℕ) → k < n → p (get_or xs k d) ≡ false) → n < length xs
+    → p (get_or xs n d) ≡ true → position p xs ≡ Some n
 position-at p xs n d before inside passes =
     let place : prefix_len (λ y. not (p y)) xs ≡ n = prefix_len_is (λ y. not (p y)) xs n d (omega arith) (λ k h. rw (before k h) refl) (λ h. rw passes refl) in
     rw place (grind (arith, nat_tests))
 
-pub position-none : {X : Type 0} (p : X → Bool) (xs : List X) (d : X) → ((k : ℕ) → k < length xs → p (get_or xs k d) ≡ false) → ◌≡◌ {A = Option ℕ} None (position p xs)
+pub position-none : {X : Type 0} (p : X → Bool) (xs : List X) (d : X) → ((k : ℕ) → k < length xs → p (get_or xs k d) ≡ false)
+    → ◌≡◌ {A = Option ℕ} None (position p xs)
 position-none p xs d before =
-    let place : prefix_len (λ y. not (p y)) xs ≡ length xs = prefix_len_is (λ y. not (p y)) xs (length xs) d (omega arith) (λ k h. rw (before k h) refl) (λ h. absurd (omega arith)) in
+    let place : prefix_len (λ y. not (p y)) xs ≡ length xs =
+    prefix_len_is (λ y. not (p y)) xs (length xs) d (omega arith) (λ k h. rw (before k h) refl) (λ h. absurd (omega arith)) in
     rw place (grind (arith, nat_tests))
 
 pub strip_bom-shorter : (xs : List ℕ) → length (strip_bom xs) ≤ length xs

@@ -13,7 +13,8 @@ abbrev slice_left : Bor (List ℕ) → Option (List ℕ)
 slice_left s = Some s.now
 
 -- a read that found a record
-pub gave : (old new : Reader (Bor (List ℕ))) (fields : List (List ℕ)) → IsReading old → ReadRecord slice_left old new true fields → took_first new ≡ true → GaveRecord old new fields
+pub gave : (old new : Reader (Bor (List ℕ))) (fields : List (List ℕ)) → IsReading old → ReadRecord slice_left old new true fields → took_first new ≡ true
+    → GaveRecord old new fields
 unfolding Reached
 gave old new fields r h first =
     let m = rows-more slice_left old new fields default_config old.state (bytes_left old) (bytes_left old) [] r.plain r.known (refl, refl) h in

@@ -1,7 +1,9 @@
 -- Each record that is read shortens what is left, and the next one starts behind it.
 use Rattle.std.specs.Prelude.{◌==◌}
-use Rattle.std.proofs.Common.{◌≡◌, ℕ, zero, suc, ◌+◌, ◌<◌, ◌≤◌, Bool, true, false, cond, ◌&&◌, List, [], ◌∷◌, ◌++◌, length, Option, Some, None, refl, ap, arith, add-one}
-use Rattle.csv.specs.Machine.{Read, next_record, step, in_field, start_field, start_record, after_end, ends_with, ends_at_end, is_end, fields_after, field_after, is_byte, carriage_return, line_feed}
+use Rattle.std.proofs.Common.{◌≡◌, ℕ, zero, suc, ◌+◌, ◌<◌, ◌≤◌, Bool, true, false, cond, ◌&&◌, List}
+use Rattle.std.proofs.Common.{[], ◌∷◌, ◌++◌, length, Option, Some, None, refl, ap, arith, add-one}
+use Rattle.csv.specs.Machine.{Read, next_record, step, in_field, start_field, start_record, after_end, ends_with}
+use Rattle.csv.specs.Machine.{ends_at_end, is_end, fields_after, field_after, is_byte, carriage_return, line_feed}
 use Rattle.csv.specs.Reading.{records_from, records_next}
 use Rattle.csv.specs.declared.parser.Config.{Config}
 use Rattle.csv.specs.declared.parser.Terminator.{Terminator}
@@ -63,7 +65,8 @@ leaves cfg s fields field (c ∷ rest) p e =
     go (is_end (step cfg s c).1) refl e (leaves cfg (step cfg s c).0 (fields_after (step cfg s c).1 fields field) (field_after (step cfg s c).1 c field) rest p)
   where
     go : (b : Bool) → is_end (step cfg s c).1 ≡ b
-        → cond b (Some (fields_after (step cfg s c).1 fields field, (step cfg s c).0, rest)) (next_record cfg (step cfg s c).0 (fields_after (step cfg s c).1 fields field) (field_after (step cfg s c).1 c field) rest) ≡ Some p
+        → cond b (Some (fields_after (step cfg s c).1 fields field, (step cfg s c).0, rest))
+        (next_record cfg (step cfg s c).0 (fields_after (step cfg s c).1 fields field) (field_after (step cfg s c).1 c field) rest) ≡ Some p
         → (next_record cfg (step cfg s c).0 (fields_after (step cfg s c).1 fields field) (field_after (step cfg s c).1 c field) rest ≡ Some p → Leaves p rest)
         → Leaves p (c ∷ rest)
     go true ends h more =
@@ -79,7 +82,8 @@ next_leaves cfg s (c ∷ rest) p h e =
     go (is_end (step cfg s c).1) refl e
   where
     go : (b : Bool) → is_end (step cfg s c).1 ≡ b
-        → cond b (Some (fields_after (step cfg s c).1 [] [], (step cfg s c).0, rest)) (next_record cfg (step cfg s c).0 (fields_after (step cfg s c).1 [] []) (field_after (step cfg s c).1 c []) rest) ≡ Some p
+        → cond b (Some (fields_after (step cfg s c).1 [] [], (step cfg s c).0, rest))
+        (next_record cfg (step cfg s c).0 (fields_after (step cfg s c).1 [] []) (field_after (step cfg s c).1 c []) rest) ≡ Some p
         → (ends_at_end p.1 ≡ false) × (length p.2 < length (c ∷ rest))
     go true ends h =
         let q : (fields_after (step cfg s c).1 [] [], (step cfg s c).0, rest) ≡ p = cc in

@@ -1,5 +1,6 @@
 -- Which numbers were seen among the first elements of a list, and which again.
-use Rattle.std.proofs.Common.{◌≡◌, ℕ, ◌+◌, ◌-◌, ◌<◌, ◌≤◌, Bool, true, false, ◌&&◌, ◌||◌, eqb, cond, List, [], length, get_or, take, refl, sym, ap, subst, ◌∙◌, inl, inr, arith}
+use Rattle.std.proofs.Common.{◌≡◌, ℕ, ◌+◌, ◌-◌, ◌<◌, ◌≤◌, Bool, true, false, ◌&&◌, ◌||◌, eqb, cond, List}
+use Rattle.std.proofs.Common.{[], length, get_or, take, refl, sym, ap, subst, ◌∙◌, inl, inr, arith}
 use Rattle.std.specs.List.{count_by}
 use Rattle.std.proofs.lemmas.Bool.{and_from, cases_eq, cases_lt, eq-eqb, false≢true, ne_eqb, or_left, or_parts, or_right}
 use Rattle.std.proofs.lemmas.List.Sums.{sum_by_more}
@@ -22,9 +23,11 @@ module _ {X : Type 0} (doc : X → ℕ) (base : ℕ) where
     none = λ e n. omega arith;
   }
 
-  pub seen_more : (xs : List X) (i : ℕ) (x : X) (some r : Bool) (seen again seen' again' : List ℕ) → i < length xs → x ≡ get_or xs i x → IsSeen (take i xs) some seen again
+  pub seen_more : (xs : List X) (i : ℕ) (x : X) (some r : Bool) (seen again seen' again' : List ℕ) → i < length xs → x ≡ get_or xs i x
+      → IsSeen (take i xs) some seen again
       → r ≡ is_marked seen (doc x - base) → ((m : ℕ) → is_marked seen' m ≡ (is_marked seen m || eqb m (doc x - base)))
-      → ((m : ℕ) → is_marked again' m ≡ (is_marked again m || (is_marked seen (doc x - base) && eqb m (doc x - base)))) → IsSeen (take (i + 1) xs) (some || r) seen' again'
+      → ((m : ℕ) → is_marked again' m ≡ (is_marked again m || (is_marked seen (doc x - base) && eqb m (doc x - base))))
+      → IsSeen (take (i + 1) xs) (some || r) seen' again'
   seen_more xs i x some r seen again seen' again' lt is h was now_seen now_again = record { once = once; twice = twice; none = none }
     where
       place : ℕ
@@ -54,7 +57,8 @@ module _ {X : Type 0} (doc : X → ℕ) (base : ℕ) where
       twice n two = now_again (n - base) ∙ elim (cases_eq (doc x) n) [
         | inl e ↦
             let before : is_marked seen place ≡ true = ap (λ (m : ℕ). is_marked seen (m - base)) e ∙ h.once n (omega (arith, two, one_more n e)) in
-            or_right (is_marked again (n - base)) (is_marked seen place && eqb (n - base) place) (and_from (is_marked seen place) (eqb (n - base) place) before (here n e))
+            or_right (is_marked again (n - base)) (is_marked seen place && eqb (n - base) place)
+            (and_from (is_marked seen place) (eqb (n - base) place) before (here n e))
         | inr ne ↦ or_left (is_marked again (n - base)) (is_marked seen place && eqb (n - base) place) (h.twice n (omega (arith, two, no_more n ne)))
       ]
 

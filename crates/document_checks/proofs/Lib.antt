@@ -1,7 +1,9 @@
 pub mod Marking
 pub mod LivePlaces
+pub mod MarkedSets
 pub mod Once
 pub mod InOrder
+pub mod Rising
 pub mod Moved
 pub mod Again
 pub mod WithEntries

@@ -1,15 +1,13 @@
 -- The numbers of a set, word by word, and the sets one after another.
-use Rattle.std.proofs.Common.{◌≡◌, ◌<◌, ◌≤◌, ◌+◌, ◌-◌, ◌*◌, ◌/◌, ◌%◌, ◌^◌, ℕ, min, max, Bool, true, false, ◌&&◌, ◌||◌, cond, nat_eq, nat_lt, List, [], ◌∷◌, length, get_or, take, refl, sym, ap, subst, ◌∙◌, ◌⊎◌, arith, inl, inr}
+use Rattle.std.proofs.Common.{◌≡◌, ◌<◌, ◌≤◌, ◌+◌, ◌-◌, ◌*◌, ◌/◌, ◌%◌, ◌^◌, ℕ, min, max, Bool, true, false, ◌&&◌}
+use Rattle.std.proofs.Common.{◌||◌, nat_eq, nat_lt, List, get_or, refl, sym, ap, ◌∙◌, ◌⊎◌, arith, inl, inr}
 use Rattle.std.specs.Int.{w64, trailing_zeros}
-use Rattle.std.proofs.Math.Bool.{or-false, and-false}
-use Rattle.std.proofs.lemmas.Bool.{cases_Bool, cases_eq, cases_lt, eq-eqb, ne_eqb, lt-ltb, le-ltb, and_parts, and_right, and_left}
-use Rattle.std.proofs.lemmas.List.{take_all}
+use Rattle.std.proofs.Math.Bool.{or-false}
+use Rattle.std.proofs.lemmas.Bool.{cases_lt, eq-eqb, ne_eqb, lt-ltb, le-ltb, and_right}
 use Rattle.std.proofs.lemmas.List.Folds.{list_any_none}
-use Rattle.std.proofs.lemmas.List.Sums.{sum_by_more}
 use Rattle.std.proofs.lemmas.Nat.Bits.{bit_at-trailing_zeros, bit_at-zero}
 use Rattle.live_bits.specs.LiveSet.{LiveSet, IsLiveSet, is_live}
 use Rattle.live_bits.specs.LiveBody.{has_bit}
-use Rattle.stored_index.specs.Segments.{places}
 use Rattle.document_checks.specs.Marks.{is_marked}
 
 -- no number is live before the base or past the span
@@ -146,7 +144,8 @@ module _ (old marks : List ℕ) (s : LiveSet) (at : ℕ) (h : IsMarked old marks
 pub marked_none : (old : List ℕ) (s : LiveSet) → IsLiveSet s → IsMarked old old s (64 * (s.base / 64))
 marked_none old s are = record {
   joined = λ n. sym (elim (cases_lt n (64 * (s.base / 64))) [
-    | inl low ↦ ap (λ (b : Bool). is_marked old n || (nat_lt n (64 * (s.base / 64)) && b)) (dead s n are (inl (omega arith))) ∙ none (is_marked old n) (nat_lt n (64 * (s.base / 64)))
+    | inl low ↦ ap (λ (b : Bool). is_marked old n || (nat_lt n (64 * (s.base / 64)) && b)) (dead s n are (inl (omega arith)))
+        ∙ none (is_marked old n) (nat_lt n (64 * (s.base / 64)))
     | inr high ↦ ap (λ (b : Bool). is_marked old n || (b && is_live s n)) (le-ltb n (64 * (s.base / 64)) high) ∙ or-false (is_marked old n)
   ]);
   once = λ n lt. and_right (is_marked old n) (is_live s n) (dead s n are (inl (omega arith)));
@@ -158,7 +157,8 @@ marked_none old s are = record {
     none false false = refl
 
 -- and past the last one neither
-module _ (old new : List ℕ) (s : LiveSet) (at limit : ℕ) (are : IsLiveSet s) (h : IsMarked old new s (64 * at)) (end : min limit (s.base + s.span) ≤ 64 * at) where
+module _ (old new : List ℕ) (s : LiveSet) (at limit : ℕ) (are : IsLiveSet s) (h : IsMarked old new s (64 * at))
+    (end : min limit (s.base + s.span) ≤ 64 * at) where
   pub once_all : (n : ℕ) → n < limit → (is_marked old n && is_live s n) ≡ false
   once_all n lt = elim (cases_lt n (64 * at)) [
     | inl low ↦ h.once n low
@@ -188,7 +188,8 @@ dead_more s from at word h is none n le lt = elim (cases_lt n at) [
   | inr high ↦ live_at s at word n is high lt ∙ no_bit word (n - at) none
 ]
 
-pub dead_before : (s : LiveSet) (from at word : ℕ) → AreDead s from at → IsWord s at word → 0 < word → word < 2 ^ 64 → AreDead s from (at + trailing_zeros w64 word)
+pub dead_before : (s : LiveSet) (from at word : ℕ) → AreDead s from at → IsWord s at word → 0 < word → word < 2 ^ 64
+    → AreDead s from (at + trailing_zeros w64 word)
 dead_before s from at word h is some fits n le lt = elim (cases_lt n at) [
   | inl low ↦ h n le low
   | inr high ↦
@@ -205,91 +206,3 @@ dead_all s from to limit are h end n le lt = elim (cases_lt n to) [
   | inl low ↦ h n le low
   | inr high ↦ dead s n are (inr (omega arith))
 ]
-
--- ---- sets one after another
-
-abbrev one_if : Bool → ℕ
-one_if b = cond b 1 0
-
-pub places_more : (n : ℕ) (sets : List LiveSet) (i : ℕ) (s : LiveSet) → i < length sets → s ≡ get_or sets i s → places n (take (i + 1) sets) ≡ places n (take i sets) + cond (is_live s n) 1 0
-places_more n sets i s lt is =
-    sum_by_more (λ (t : LiveSet). cond (is_live t n) 1 0) sets i s lt
-    ∙ ap (λ (t : LiveSet). places n (take i sets) + cond (is_live t n) 1 0) (sym is)
-
--- below the limit a number is marked where it is live in one set, and none is live in two; the limit is, if it isn't next
-pub record IsCounted (sets : List LiveSet) (next limit : ℕ) (marks : List ℕ) : Type 0 where
-  pub within : limit ≤ next
-  pub counts : (n : ℕ) → n < limit → cond (is_marked marks n) 1 0 ≡ places n sets
-  pub found : limit < next → 2 ≤ places limit sets
-
-pub counted_none : (next : ℕ) (marks : List ℕ) → ((n : ℕ) → is_marked marks n ≡ false) → IsCounted [] next next marks
-counted_none next marks none = record {
-  within = omega arith;
-  counts = λ n lt. ap (λ (b : Bool). cond b 1 0) (none n);
-  found = λ lt. absurd (omega (arith, lt));
-}
-
-both_once : (a b : Bool) → (a && b) ≡ false → cond (a || b) 1 0 ≡ cond a 1 0 + cond b 1 0
-both_once true true e = absurd cc
-both_once true false e = refl
-both_once false b e = omega arith
-
-pub counted_more : (sets : List LiveSet) (i next limit r : ℕ) (s : LiveSet) (old new : List ℕ) → i < length sets → s ≡ get_or sets i s → IsCounted (take i sets) next limit old
-    → r ≤ limit → ((n : ℕ) → n < r → (is_marked old n && is_live s n) ≡ false) → (r < limit → (is_marked old r && is_live s r) ≡ true)
-    → ((n : ℕ) → n < r → is_marked new n ≡ (is_marked old n || is_live s n)) → IsCounted (take (i + 1) sets) next r new
-counted_more sets i next limit r s old new lt is h le once found after = record {
-  within = let within = h.within in omega arith;
-  counts = λ n below.
-      ap (λ (b : Bool). cond b 1 0) (after n below)
-      ∙ both_once (is_marked old n) (is_live s n) (once n below)
-      ∙ ap (λ (m : ℕ). m + cond (is_live s n) 1 0) (h.counts n (omega arith))
-      ∙ sym (places_more n sets i s lt is);
-  found = λ under. elim (cases_lt r limit) [
-    | inl low ↦
-        let both = and_parts (is_marked old r) (is_live s r) (found low) in
-        omega (arith, places_more r sets i s lt is, h.counts r low, ap one_if both.0, ap one_if both.1)
-    | inr high ↦
-        let same : limit ≡ r = omega arith in
-        let before : 2 ≤ places r (take i sets) = subst (λ (m : ℕ). 2 ≤ places m (take i sets)) same (h.found (omega arith)) in
-        omega (arith, places_more r sets i s lt is, before)
-  ];
-}
-
-pub counted_one : (sets : List LiveSet) (next limit n : ℕ) (marks : List ℕ) → IsCounted sets next limit marks → n < limit → places n sets ≤ 1
-counted_one sets next limit n marks h lt = subst (λ (m : ℕ). m ≤ 1) (h.counts n lt) (one (is_marked marks n))
-  where
-    one : (b : Bool) → cond b 1 0 ≤ 1
-    one true = omega arith
-    one false = omega arith
-
--- from next on none is live below the limit; the limit is, if it isn't the end of all numbers
-pub record IsBeyond (sets : List LiveSet) (next limit : ℕ) : Type 0 where
-  pub within : limit ≤ 2 ^ 24
-  pub before : (n : ℕ) → next ≤ n → n < limit → places n sets ≡ 0
-  pub found : limit < 2 ^ 24 → (next ≤ limit) × (1 ≤ places limit sets)
-  pub above : (n : ℕ) → 2 ^ 24 ≤ n → places n sets ≡ 0
-
-pub beyond_none : (next : ℕ) → IsBeyond [] next (2 ^ 24)
-beyond_none next = record {
-  within = omega arith;
-  before = λ n le lt. refl;
-  found = λ lt. absurd (omega (arith, lt));
-  above = λ n le. refl;
-}
-
-pub beyond_more : (sets : List LiveSet) (i next limit r : ℕ) (s : LiveSet) → i < length sets → s ≡ get_or sets i s → IsBeyond (take i sets) next limit
-    → r ≤ limit → AreDead s next r → (r < limit → (next ≤ r) × (is_live s r ≡ true)) → ((n : ℕ) → 2 ^ 24 ≤ n → is_live s n ≡ false) → IsBeyond (take (i + 1) sets) next r
-beyond_more sets i next limit r s lt is h le none found above = record {
-  within = let within = h.within in omega arith;
-  before = λ n high low. places_more n sets i s lt is ∙ (λ j. h.before n high (omega arith) j + cond (none n high low j) 1 0);
-  found = λ under. elim (cases_lt r limit) [
-    | inl low ↦
-        let there = found low in
-        (there.0, omega (arith, places_more r sets i s lt is, ap one_if there.1))
-    | inr high ↦
-        let same : limit ≡ r = omega arith in
-        let before : (next ≤ r) × (1 ≤ places r (take i sets)) = subst (λ (m : ℕ). (next ≤ m) × (1 ≤ places m (take i sets))) same (h.found (omega arith)) in
-        (before.0, omega (arith, places_more r sets i s lt is, before.1))
-  ];
-  above = λ n high. places_more n sets i s lt is ∙ (λ j. h.above n high j + cond (above n high j) 1 0);
-}

@@ -1,5 +1,6 @@
 -- What holds of those entries whose numbers others have too, in any order, and of all entries.
-use Rattle.std.proofs.Common.{◌≡◌, ℕ, ◌+◌, ◌-◌, ◌<◌, ◌≤◌, Bool, true, false, eqb, cond, List, [], ◌∷◌, length, map, refl, sym, ap, subst, ◌∙◌, inl, inr, arith, Option, Some, None, IfNone}
+use Rattle.std.proofs.Common.{◌≡◌, ℕ, ◌+◌, ◌-◌, ◌<◌, ◌≤◌, Bool, true, false, eqb, cond, List, [], ◌∷◌, length}
+use Rattle.std.proofs.Common.{map, refl, sym, ap, subst, ◌∙◌, inl, inr, arith, Option, Some, None, IfNone}
 use Rattle.std.specs.List.{filter, sum_by, count_by}
 use Rattle.std.specs.List.Sorted.{IsPermutation}
 use Rattle.std.proofs.lemmas.Bool.{cases_Bool, cases_lt, eq-eqb}
@@ -92,7 +93,8 @@ module _ (p : Item → Bool) (xs : List Item) where
   crowded_among n (inr (x, is, two)) = inr (x, is, omega (arith, two, fewer p (same_item x) xs))
 
   -- where p keeps the entries of each number that two have
-  pub all_fit : ((n : ℕ) → 2 ≤ count_of n xs → (x : Item) → eqb x.doc n ≡ true → p x ≡ true) → NoneTwice (filter p xs) × AreFew (filter p xs) → NoneTwice xs × AreFew xs
+  pub all_fit : ((n : ℕ) → 2 ≤ count_of n xs → (x : Item) → eqb x.doc n ≡ true → p x ≡ true) → NoneTwice (filter p xs) × AreFew (filter p xs)
+      → NoneTwice xs × AreFew xs
   unfolding NoneTwice
   all_fit keeps (once, few) = (alone, at_most)
     where
@@ -109,7 +111,8 @@ module _ (p : Item → Bool) (xs : List Item) where
       ]
 
   -- and so a crowded number is crowded among those that are kept
-  pub least_among : ((n : ℕ) → 2 ≤ count_of n xs → (x : Item) → eqb x.doc n ≡ true → p x ≡ true) → (n : ℕ) → IsLeastCrowded n (filter p xs) → IsLeastCrowded n xs
+  pub least_among : ((n : ℕ) → 2 ≤ count_of n xs → (x : Item) → eqb x.doc n ≡ true → p x ≡ true) → (n : ℕ) → IsLeastCrowded n (filter p xs)
+      → IsLeastCrowded n xs
   least_among keeps n h = record { crowded = crowded_among n h.crowded; least = λ m lt crowd. h.least m lt (still m crowd) }
     where
       still : (m : ℕ) → IsCrowded m xs → IsCrowded m (filter p xs)
@@ -124,7 +127,8 @@ items-filter p [] = refl
 items-filter {D} p (x ∷ xs) = by (p (item_of x)) (items-filter p xs)
   where
     by : (b : Bool) → items_of (filter (λ e. p (item_of e)) xs) ≡ filter p (items_of xs)
-        → items_of (cond b (x ∷ filter (λ e. p (item_of e)) xs) (filter (λ e. p (item_of e)) xs)) ≡ cond b (item_of x ∷ filter p (items_of xs)) (filter p (items_of xs))
+        → items_of (cond b (x ∷ filter (λ e. p (item_of e)) xs) (filter (λ e. p (item_of e)) xs))
+        ≡ cond b (item_of x ∷ filter p (items_of xs)) (filter p (items_of xs))
     by true e = ap (λ (l : List Item). item_of x ∷ l) e
     by false e = e
 

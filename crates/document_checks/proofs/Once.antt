@@ -1,5 +1,6 @@
 -- Entries of which none stands twice.
-use Rattle.std.proofs.Common.{◌≡◌, ◌≢◌, ℕ, ◌+◌, ◌<◌, ◌≤◌, Bool, true, false, eqb, cond, List, [], ◌∷◌, length, get_or, take, drop, refl, sym, ap, subst, ◌∙◌, inl, inr, arith, length-drop, length-take-le}
+use Rattle.std.proofs.Common.{◌≡◌, ◌≢◌, ℕ, ◌+◌, ◌<◌, ◌≤◌, Bool, true, false, eqb, cond, List, [], ◌∷◌, length, get_or}
+use Rattle.std.proofs.Common.{take, drop, refl, sym, ap, subst, ◌∙◌, inl, inr, arith, length-drop, length-take-le}
 use Rattle.std.specs.List.{All, AllPairs, count_by}
 use Rattle.std.specs.Ordering.{int_eq}
 use Rattle.std.specs.Cmp.Lexicographic.{pointwise}
@@ -56,7 +57,8 @@ unfolding NoneTwice
 once_from xs up = at_most_once xs up
 
 -- what passes at two places is counted twice
-pub twice : (p : Item → Bool) (xs : List Item) (i j : ℕ) (d : Item) → i < j → j < length xs → p (get_or xs i d) ≡ true → p (get_or xs j d) ≡ true → 2 ≤ count_by p xs
+pub twice : (p : Item → Bool) (xs : List Item) (i j : ℕ) (d : Item) → i < j → j < length xs → p (get_or xs i d) ≡ true → p (get_or xs j d) ≡ true
+    → 2 ≤ count_by p xs
 twice p xs i j d lt long first second =
     let f : Item → ℕ = λ x. one_if (p x) in
     let front : get_or (take j xs) i d ≡ get_or xs i d = get_or-take j xs i d lt in

@@ -1,5 +1,6 @@
 -- Numbers that have an entry, and those that are left without one.
-use Rattle.std.proofs.Common.{◌≡◌, ℕ, ◌+◌, ◌<◌, Bool, true, false, not, ◌&&◌, ◌||◌, eqb, cond, List, [], ◌∷◌, length, take, get_or, refl, sym, ap, ◌∙◌, inl, inr, arith}
+use Rattle.std.proofs.Common.{◌≡◌, ℕ, ◌+◌, ◌<◌, Bool, true, false, not, ◌&&◌, ◌||◌, eqb, cond, List}
+use Rattle.std.proofs.Common.{[], ◌∷◌, length, take, get_or, refl, sym, ap, ◌∙◌, inl, inr, arith}
 use Rattle.std.specs.List.{filter, count_by, list_any}
 use Rattle.std.proofs.lemmas.Bool.{cases_eq, eq-eqb, ne_eqb}
 use Rattle.std.proofs.lemmas.List.Filters.{length-filter_both}
@@ -60,7 +61,8 @@ has_is [] n = refl
 has_is (e ∷ es) n = ap (λ (b : Bool). eqb e.doc n || b) (has_is es n)
 
 -- the others have one
-pub count_found : {D : ℕ} (numbers : List ℕ) (es : List (Entry D)) → count_by (λ n. has_entry n (items_of es)) numbers + length (bare es numbers) ≡ length numbers
+pub count_found : {D : ℕ} (numbers : List ℕ) (es : List (Entry D))
+    → count_by (λ n. has_entry n (items_of es)) numbers + length (bare es numbers) ≡ length numbers
 count_found numbers es =
     let told : count_by (has es) numbers ≡ count_by (λ n. has_entry n (items_of es)) numbers = λ i. count_by (λ n. has_is es n i) numbers in
     omega (arith, told, length-filter (has es) numbers, length-filter_both (has es) (λ n. not (has es n)) (λ n. refl) numbers)

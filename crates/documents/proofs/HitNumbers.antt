@@ -38,29 +38,34 @@ any_gives test (q ∷ qs) h = elim (cases_Bool (test q)) [
   | inr t ↦ let r = any_gives test qs (sym (ap (λ b. b || list_any test qs) t) ∙ h) in (r.0, cons_tail q qs r.0 r.1, r.2)
 ]
 
-pub found_hits : (n : ℕ) (xs : List Item) (docs : List Document) (test : List ℤ → Bool) → AreDocs n xs docs → (m : ℕ) → Contains (numbers_found test xs) m → Contains (hits test docs) m
+pub found_hits : (n : ℕ) (xs : List Item) (docs : List Document) (test : List ℤ → Bool) → AreDocs n xs docs → (m : ℕ) → Contains (numbers_found test xs) m
+    → Contains (hits test docs) m
 found_hits n xs docs test are m h =
     let number = of_map (λ (x : Item). x.doc) (filter (λ x. test x.at) xs) m h in
     let found = of_filter (λ (x : Item). test x.at) xs number.0 number.1 in
     let doc = doc_of n xs docs are number.0 found.0 in
     subst (λ k. Contains (hits test docs) k) (doc.2 ∙ number.2)
-    (in_map (λ (d : Document). d.number) (filter (passes test) docs) doc.0 (in_filter (passes test) docs doc.0 doc.1 (any_has test doc.0.points number.0.at doc.3 found.1)))
+    (in_map (λ (d : Document). d.number) (filter (passes test) docs) doc.0
+    (in_filter (passes test) docs doc.0 doc.1 (any_has test doc.0.points number.0.at doc.3 found.1)))
 
-pub hits_found : (n : ℕ) (xs : List Item) (docs : List Document) (test : List ℤ → Bool) → AreDocs n xs docs → (m : ℕ) → Contains (hits test docs) m → Contains (numbers_found test xs) m
+pub hits_found : (n : ℕ) (xs : List Item) (docs : List Document) (test : List ℤ → Bool) → AreDocs n xs docs → (m : ℕ) → Contains (hits test docs) m
+    → Contains (numbers_found test xs) m
 hits_found n xs docs test are m h =
     let number = of_map (λ (d : Document). d.number) (filter (passes test) docs) m h in
     let doc = of_filter (passes test) docs number.0 number.1 in
     let point = any_gives test number.0.points doc.1 in
     let x : Item = entry_of number.0.number point.0 in
     subst (λ k. Contains (numbers_found test xs) k) number.2
-    (in_map (λ (y : Item). y.doc) (filter (λ y. test y.at) xs) x (in_filter (λ (y : Item). test y.at) xs x (has_entry_in n xs docs are number.0 point.0 doc.0 point.1) point.2))
+    (in_map (λ (y : Item). y.doc) (filter (λ y. test y.at) xs) x
+    (in_filter (λ (y : Item). test y.at) xs x (has_entry_in n xs docs are number.0 point.0 doc.0 point.1) point.2))
 
 pub hits_are : (n : ℕ) (xs : List Item) (docs : List Document) (test : List ℤ → Bool) (found : List ℕ) → AreDocs n xs docs
     → IsStrictlyIncreasing found → ((number : ℕ) → Contains found number ↔ Contains (numbers_found test xs) number) → found ≡ hits test docs
 hits_are n xs docs test found are up same =
     same_members (λ (a b : ℕ). a < b) (λ a lt. omega (arith, lt)) (λ a b c h k. omega (arith, h, k)) found (hits test docs)
     (AllPairs-from_increasing found up)
-    (pairs_map (λ (a b : ℕ). a < b) (λ (d : Document). d.number) (filter (passes test) docs) (AllPairs-filter (λ (a b : Document). a.number < b.number) (passes test) docs are.ascend))
+    (pairs_map (λ (a b : ℕ). a < b) (λ (d : Document). d.number) (filter (passes test) docs)
+    (AllPairs-filter (λ (a b : Document). a.number < b.number) (passes test) docs are.ascend))
     (λ m h. found_hits n xs docs test are m ((same m).0 h))
     (λ m h. (same m).1 (hits_found n xs docs test are m h))
 

@@ -1,5 +1,6 @@
 -- Entries of numbers that are kept are those of documents that are kept.
-use Rattle.std.proofs.Common.{◌≡◌, ℕ, ◌+◌, ◌<◌, ◌≤◌, Bool, true, false, not, ◌||◌, ◌&&◌, eqb, cond, List, [], ◌∷◌, ◌++◌, length, map, refl, sym, ap, subst, ◌∙◌, inl, inr, ⊎_elim, arith, ℤ}
+use Rattle.std.proofs.Common.{◌≡◌, ℕ, ◌+◌, ◌<◌, ◌≤◌, Bool, true, false, not, ◌||◌, ◌&&◌, eqb, cond, List, []}
+use Rattle.std.proofs.Common.{◌∷◌, ◌++◌, length, map, refl, sym, ap, subst, ◌∙◌, inl, inr, ⊎_elim, arith, ℤ}
 use Rattle.std.proofs.lemmas.List.{append-nil, length-map}
 use Rattle.std.specs.List.{All, Contains, filter, list_any, sum_by}
 use Rattle.std.specs.List.Sorted.{IsPermutation}
@@ -9,11 +10,13 @@ use Rattle.std.proofs.lemmas.List.Elements.{All-nil, All-head, All-tail, All-fil
 use Rattle.std.proofs.lemmas.List.Folds.{list_any-append}
 use Rattle.std.proofs.lemmas.List.Kept.{AllPairs-filter}
 use Rattle.std.proofs.lemmas.List.Quantifiers.{all_pairs_push}
-use Rattle.std.proofs.lemmas.List.Sorted.{IsPermutation-refl, IsPermutation-sym, IsPermutation-trans, IsPermutation-append_left, length_permutation, list_any-IsPermutation}
+use Rattle.std.proofs.lemmas.List.Sorted.{IsPermutation-refl, IsPermutation-sym, IsPermutation-trans}
+use Rattle.std.proofs.lemmas.List.Sorted.{IsPermutation-append_left, length_permutation, list_any-IsPermutation}
 use Rattle.point_codec.specs.Points.{Item, ArePoints}
 use Rattle.documents.specs.Documents.{Document, Ascend, deleted, hits, is_live, passes, without}
 use Rattle.documents.specs.Entries.{AreDocs, entries_but, entries_in, entries_of, entry_of, has_entry, is_among}
-use Rattle.documents.proofs.Lists.{cons_cases, cons_head, cons_tail, filter_alike, filter_twice, in_filter, in_map, nil_none, of_filter, of_map, pairs_head, pairs_tail}
+use Rattle.documents.proofs.Lists.{cons_cases, cons_head, cons_tail, filter_alike, filter_twice}
+use Rattle.documents.proofs.Lists.{in_filter, in_map, nil_none, of_filter, of_map, pairs_head, pairs_tail}
 use Rattle.documents.proofs.Totals.{permuted_filter}
 use Rattle.documents.proofs.Members.{one_number}
 
@@ -65,13 +68,15 @@ added n xs docs points are ok = record {
 
 -- ---- fewer documents
 
-one_kept : (keeps : ℕ → Bool) (n : ℕ) (ps : List (List ℤ)) (b : Bool) → keeps n ≡ b → filter (λ (x : Item). keeps x.doc) (map (entry_of n) ps) ≡ cond b (map (entry_of n) ps) []
+one_kept : (keeps : ℕ → Bool) (n : ℕ) (ps : List (List ℤ)) (b : Bool) → keeps n ≡ b
+    → filter (λ (x : Item). keeps x.doc) (map (entry_of n) ps) ≡ cond b (map (entry_of n) ps) []
 one_kept keeps n [] true e = refl
 one_kept keeps n [] false e = refl
 one_kept keeps n (p ∷ ps) true e = rw e (ap (λ ys. entry_of n p ∷ ys) (one_kept keeps n ps true e))
 one_kept keeps n (p ∷ ps) false e = rw e (one_kept keeps n ps false e)
 
-pub kept_in : (keeps : ℕ → Bool) (docs : List Document) → filter (λ (x : Item). keeps x.doc) (entries_in docs) ≡ entries_in (filter (λ (d : Document). keeps d.number) docs)
+pub kept_in : (keeps : ℕ → Bool) (docs : List Document)
+    → filter (λ (x : Item). keeps x.doc) (entries_in docs) ≡ entries_in (filter (λ (d : Document). keeps d.number) docs)
 kept_in keeps [] = refl
 kept_in keeps (d ∷ ds) =
     filter-append (λ (x : Item). keeps x.doc) (entries_of d) (entries_in ds)
@@ -92,7 +97,8 @@ kept n xs docs keeps are = record {
   ascend = AllPairs-filter Before (λ d. keeps d.number) docs are.ascend;
   below = All-filter (λ (d : Document). keeps d.number) (λ d. d.number < n) docs are.below;
   points = All-filter (λ (d : Document). keeps d.number) (λ d. ArePoints d.points) docs are.points;
-  same = subst (λ (ys : List Item). IsPermutation (filter (λ (x : Item). keeps x.doc) xs) ys) (kept_in keeps docs) (permuted_filter (λ x. keeps x.doc) xs (entries_in docs) are.same);
+  same = subst (λ (ys : List Item). IsPermutation (filter (λ (x : Item). keeps x.doc) xs) ys) (kept_in keeps docs)
+      (permuted_filter (λ x. keeps x.doc) xs (entries_in docs) are.same);
 }
 
 pub but_one : (n : ℕ) (xs : List Item) (docs : List Document) (number : ℕ) → AreDocs n xs docs → AreDocs n (entries_but number xs) (deleted number docs)
@@ -122,7 +128,8 @@ same_tests false true f g = g refl
 same_tests false false f g = refl
 
 -- a document's number is among the hits exactly where the document passes
-pub among_hits : (test : List ℤ → Bool) (docs : List Document) → Ascend docs → (d : Document) → Contains docs d → is_among (hits test docs) d.number ≡ passes test d
+pub among_hits : (test : List ℤ → Bool) (docs : List Document) → Ascend docs → (d : Document) → Contains docs d
+    → is_among (hits test docs) d.number ≡ passes test d
 among_hits test docs up d h = same_tests _ _
     (λ a.
     let hit = of_map (λ (e : Document). e.number) (filter (passes test) docs) d.number (among_to (hits test docs) d.number a) in
@@ -134,7 +141,8 @@ pub but_hits : (n : ℕ) (xs : List Item) (docs : List Document) (test : List �
     → AreDocs n (filter (λ (x : Item). not (is_among (hits test docs) x.doc)) xs) (without test docs)
 but_hits n xs docs test are =
     subst (λ (ds : List Document). AreDocs n (filter (λ (x : Item). not (is_among (hits test docs) x.doc)) xs) ds)
-    (filter_alike (λ (d : Document). not (is_among (hits test docs) d.number)) (λ d. not (passes test d)) docs (λ d h. ap not (among_hits test docs are.ascend d h)))
+    (filter_alike (λ (d : Document). not (is_among (hits test docs) d.number)) (λ d. not (passes test d)) docs
+    (λ d h. ap not (among_hits test docs are.ascend d h)))
     (kept n xs docs (λ m. not (is_among (hits test docs) m)) are)
 
 -- a loop that takes out one number after another
@@ -194,12 +202,14 @@ counted n xs docs are =
     ∙ length-flat_map entries_of docs
     ∙ ap (λ (f : Document → ℕ). sum_by f docs) (λ i d. length-map d.points (entry_of d.number) i)
 
-few_from : (m n : ℕ) (docs : List Document) → Ascend docs → All (λ (d : Document). d.number < n) docs → ((d : Document) → Contains docs d → m ≤ d.number) → m ≤ n → m + length docs ≤ n
+few_from : (m n : ℕ) (docs : List Document) → Ascend docs → All (λ (d : Document). d.number < n) docs → ((d : Document) → Contains docs d → m ≤ d.number)
+    → m ≤ n → m + length docs ≤ n
 few_from m n [] up below least le = omega (arith, le)
 few_from m n (d ∷ ds) up below least le =
     let here = least d (cons_head d ds) in
     let lt = All-head (λ (e : Document). e.number < n) d ds below in
-    let rest = few_from (d.number + 1) n ds (pairs_tail Before d ds up) (All-tail (λ (e : Document). e.number < n) d ds below) (λ e h. let k = pairs_head Before d ds up e h in omega (arith, k)) (omega (arith, lt)) in
+    let rest = few_from (d.number + 1) n ds (pairs_tail Before d ds up) (All-tail (λ (e : Document). e.number < n) d ds below)
+    (λ e h. let k = pairs_head Before d ds up e h in omega (arith, k)) (omega (arith, lt)) in
     omega (arith, here, lt, rest)
 
 pub few : (n : ℕ) (xs : List Item) (docs : List Document) → AreDocs n xs docs → length docs ≤ n

@@ -1,9 +1,11 @@
 -- Members of lists, and lists that ascend.
-use Rattle.std.proofs.Common.{◌++◌, ◌≡◌, ℕ, ◌+◌, ◌≤◌, zero, suc, Bool, true, false, ◌&&◌, cond, List, [], ◌∷◌, length, map, take, refl, sym, ap, subst, ◌∙◌, ◌⊎◌, inl, inr, ⊎_elim, arith}
+use Rattle.std.proofs.Common.{◌++◌, ◌≡◌, ℕ, ◌+◌, ◌≤◌, zero, suc, Bool, true, false, ◌&&◌, cond, List, [], ◌∷◌}
+use Rattle.std.proofs.Common.{length, map, take, refl, sym, ap, subst, ◌∙◌, ◌⊎◌, inl, inr, ⊎_elim, arith}
 use Rattle.std.specs.List.{All, AllPairs, Contains, filter, flat_map}
 use Rattle.std.proofs.lemmas.List.{take_all}
 use Rattle.std.proofs.lemmas.List.Kept.{AllPairs-cons}
-use Rattle.std.proofs.lemmas.List.Elements.{All-append, All-contains_itself, All-map, All-weaker, Contains-append_left, Contains-append_right, Contains-append_cases}
+use Rattle.std.proofs.lemmas.List.Elements.{All-append, All-contains_itself, All-map, All-weaker}
+use Rattle.std.proofs.lemmas.List.Elements.{Contains-append_left, Contains-append_right, Contains-append_cases}
 
 -- ---- members
 
@@ -50,7 +52,8 @@ pub of_filter : {X : Type 0} (p : X → Bool) (xs : List X) (x : X) → Contains
 of_filter p [] x h = nil_none x _ h
 of_filter p (y ∷ ys) x h = by (p y) refl (λ m. of_filter p ys x m) h
   where
-    by : (b : Bool) → p y ≡ b → (Contains (filter p ys) x → Contains ys x × (p x ≡ true)) → Contains (cond b (y ∷ filter p ys) (filter p ys)) x → Contains (y ∷ ys) x × (p x ≡ true)
+    by : (b : Bool) → p y ≡ b → (Contains (filter p ys) x → Contains ys x × (p x ≡ true)) → Contains (cond b (y ∷ filter p ys) (filter p ys)) x
+        → Contains (y ∷ ys) x × (p x ≡ true)
     by true e more k = ⊎_elim
         (λ s. (cons_here y ys x s, ap p (sym s) ∙ e))
         (λ m. let r = more m in (cons_tail y ys x r.0, r.1))
@@ -105,11 +108,13 @@ pairs_after R x xs up k d h = up zero (suc k) d (omega arith) (omega arith)
 pub pairs_none : {X : Type 0} (R : X → X → Type 0) → AllPairs R []
 pairs_none R i j d h k = absurd (omega arith)
 
-pub pairs_append : {X : Type 0} (R : X → X → Type 0) (xs ys : List X) → AllPairs R xs → AllPairs R ys → ((x y : X) → Contains xs x → Contains ys y → R x y) → AllPairs R (xs ++ ys)
+pub pairs_append : {X : Type 0} (R : X → X → Type 0) (xs ys : List X) → AllPairs R xs → AllPairs R ys → ((x y : X) → Contains xs x → Contains ys y → R x y)
+    → AllPairs R (xs ++ ys)
 pairs_append R [] ys up vp apart = vp
 pairs_append {X} R (x ∷ xs) ys up vp apart =
     AllPairs-cons R x (xs ++ ys)
-    (All-append (R x) xs ys (pairs_after R x xs up) (All-weaker (λ (y : X). Contains ys y) (R x) (λ y h. apart x y (cons_head x xs) h) ys (All-contains_itself ys)))
+    (All-append (R x) xs ys (pairs_after R x xs up)
+    (All-weaker (λ (y : X). Contains ys y) (R x) (λ y h. apart x y (cons_head x xs) h) ys (All-contains_itself ys)))
     (pairs_append R xs ys (pairs_tail R x xs up) vp (λ y z h k. apart y z (cons_tail x xs y h) k))
 
 -- what f reads of them is in order
@@ -117,7 +122,8 @@ pub pairs_map : {X Y : Type 0} (R : Y → Y → Type 0) (f : X → Y) (xs : List
 pairs_map R f [] up = λ i j d h k. absurd (omega arith)
 pairs_map {X} R f (x ∷ xs) up =
     AllPairs-cons R (f x) (map f xs)
-    (All-map (R (f x)) f xs (All-weaker (λ (y : X). Contains xs y) (λ y. R (f x) (f y)) (λ y h. pairs_head (λ a b. R (f a) (f b)) x xs up y h) xs (All-contains_itself xs)))
+    (All-map (R (f x)) f xs
+    (All-weaker (λ (y : X). Contains xs y) (λ y. R (f x) (f y)) (λ y h. pairs_head (λ a b. R (f a) (f b)) x xs up y h) xs (All-contains_itself xs)))
     (pairs_map R f xs (pairs_tail (λ a b. R (f a) (f b)) x xs up))
 
 -- ---- lists that ascend by an order
@@ -161,7 +167,8 @@ module _ {X : Type 0} (R : X → X → Type 0) (never : (x : X) → R x x → �
           (out x (cons_tail d ds x h))
 
   -- lists that ascend and have the same members are one
-  pub same_members : (xs ys : List X) → AllPairs R xs → AllPairs R ys → ((x : X) → Contains xs x → Contains ys x) → ((x : X) → Contains ys x → Contains xs x) → xs ≡ ys
+  pub same_members : (xs ys : List X) → AllPairs R xs → AllPairs R ys → ((x : X) → Contains xs x → Contains ys x) → ((x : X) → Contains ys x → Contains xs x)
+      → xs ≡ ys
   same_members xs ys up vp to from =
       first_ones (length xs + length ys) xs ys up vp to (omega arith) (λ x h. inl (from x h))
       ∙ take_all (length xs + length ys) ys (omega arith)

@@ -1,5 +1,6 @@
 -- Which entries are those of documents.
-use Rattle.std.proofs.Common.{◌≡◌, ◌≢◌, ℕ, ◌+◌, ◌<◌, ◌≤◌, zero, suc, Bool, true, false, not, eqb, cond, List, [], ◌∷◌, ◌++◌, length, map, get_or, refl, sym, ap, subst, ◌∙◌, arith, ℤ, Ordering, Less, Equal, Greater}
+use Rattle.std.proofs.Common.{◌≡◌, ◌≢◌, ℕ, ◌+◌, ◌<◌, ◌≤◌, zero, suc, Bool, true, false, not, eqb, cond, List, [], ◌∷◌, ◌++◌}
+use Rattle.std.proofs.Common.{length, map, get_or, refl, sym, ap, subst, ◌∙◌, arith, ℤ, Ordering, Less, Equal, Greater}
 use Rattle.std.specs.List.{All, AllPairs, Contains, filter, sum_by, count_by}
 use Rattle.std.specs.List.Sorted.{IsPermutation}
 use Rattle.std.specs.Ordering.{int_cmp, ordering_reverse}
@@ -9,7 +10,9 @@ use Rattle.std.proofs.lemmas.Bool.{eq-eqb, eqb-true, false_from_ne_true, false�
 use Rattle.std.proofs.lemmas.List.{length-map}
 use Rattle.std.proofs.lemmas.List.Elements.{All-cons, All-contains, All-contains_itself, All-head, All-tail, All-nil, All-weaker, filter_passes}
 use Rattle.std.proofs.lemmas.List.Kept.{AllPairs-cons, AllPairs-filter}
-use Rattle.std.proofs.lemmas.List.Sorted.{All-permutation, IsPermutation-refl, IsPermutation-sym, IsPermutation-trans, IsPermutation-cons, IsPermutation-middle, IsPermutation-map, IsPermutation-append_comm, IsPermutation-append_right, IsPermutation-filter_both, length_permutation}
+use Rattle.std.proofs.lemmas.List.Sorted.{All-permutation, IsPermutation-refl, IsPermutation-sym, IsPermutation-trans}
+use Rattle.std.proofs.lemmas.List.Sorted.{IsPermutation-cons, IsPermutation-middle, IsPermutation-map, IsPermutation-append_comm}
+use Rattle.std.proofs.lemmas.List.Sorted.{IsPermutation-append_right, IsPermutation-filter_both, length_permutation}
 use Rattle.std.proofs.lemmas.List.Sums.{length-filter, sum_by-cons, sum_by-le-sum_by}
 use Rattle.std.proofs.lemmas.Map.Keys.{IsDistinct-from_apart, IsDistinct-IsPermutation, apart_from_distinct, Less-from_sorted, sorted_from_all_adjacent}
 use Rattle.std.proofs.lemmas.Map.Views.{tells_apart}
@@ -39,14 +42,17 @@ put p (q ∷ qs) up other = by (slice_cmp int_cmp p q) refl (put p qs (pairs_tai
     by Less e rest = record {
       points = p ∷ q ∷ qs;
       same = IsPermutation-refl (p ∷ q ∷ qs);
-      up = AllPairs-cons Ahead p (q ∷ qs) (All-cons (Ahead p) q qs e (All-weaker (Ahead q) (Ahead p) (λ r h. points_total.trans p q r e h) qs (pairs_after Ahead q qs up))) up;
+      up = AllPairs-cons Ahead p (q ∷ qs)
+          (All-cons (Ahead p) q qs e (All-weaker (Ahead q) (Ahead p) (λ r h. points_total.trans p q r e h) qs (pairs_after Ahead q qs up))) up;
     }
     by Equal e rest = absurd (other q (cons_head q qs) (points_exact p q e))
     by Greater e rest = record {
       points = q ∷ rest.points;
-      same = IsPermutation-trans (p ∷ q ∷ qs) (q ∷ p ∷ qs) (q ∷ rest.points) (IsPermutation-middle (p ∷ []) q qs) (IsPermutation-cons q (p ∷ qs) rest.points rest.same);
+      same = IsPermutation-trans (p ∷ q ∷ qs) (q ∷ p ∷ qs) (q ∷ rest.points) (IsPermutation-middle (p ∷ []) q qs)
+          (IsPermutation-cons q (p ∷ qs) rest.points rest.same);
       up = AllPairs-cons Ahead q rest.points
-          (All-permutation (Ahead q) (p ∷ qs) rest.points rest.same (All-cons (Ahead q) p qs (points_total.antisymm q p ∙ ap ordering_reverse e) (pairs_after Ahead q qs up)))
+          (All-permutation (Ahead q) (p ∷ qs) rest.points rest.same
+          (All-cons (Ahead q) p qs (points_total.antisymm q p ∙ ap ordering_reverse e) (pairs_after Ahead q qs up)))
           rest.up;
     }
 
@@ -54,7 +60,9 @@ ascended : (ps : List (List ℤ)) → AllPairs (λ p q. p ≢ q) ps → Ascended
 ascended [] once = record { points = []; same = IsPermutation-refl []; up = pairs_none Ahead }
 ascended (p ∷ ps) once =
     let rest = ascended ps (pairs_tail (λ (q r : List ℤ). q ≢ r) p ps once) in
-    let whole = put p rest.points rest.up (λ q h. All-contains (λ (r : List ℤ). p ≢ r) rest.points q (All-permutation (λ (r : List ℤ). p ≢ r) ps rest.points rest.same (pairs_after (λ (r s : List ℤ). r ≢ s) p ps once)) h) in
+    let whole = put p rest.points rest.up
+    (λ q h. All-contains (λ (r : List ℤ). p ≢ r) rest.points q
+    (All-permutation (λ (r : List ℤ). p ≢ r) ps rest.points rest.same (pairs_after (λ (r s : List ℤ). r ≢ s) p ps once)) h) in
     record {
       points = whole.points;
       same = IsPermutation-trans (p ∷ ps) (p ∷ rest.points) whole.points (IsPermutation-cons p ps rest.points rest.same) whole.same;
@@ -79,7 +87,8 @@ same_again n (m ∷ ms) h =
     let rest = same_again n ms (All-tail (λ (x : Item). x.doc ≡ n) m ms h) in
     λ i. record { doc = here i; at = m.at } ∷ rest i
 
-points_apart : (n : ℕ) (ms : List Item) → All (λ (x : Item). x.doc ≡ n) ms → AllPairs (λ (x y : Item). x ≢ y) ms → AllPairs (λ (p q : List ℤ). p ≢ q) (map (λ (x : Item). x.at) ms)
+points_apart : (n : ℕ) (ms : List Item) → All (λ (x : Item). x.doc ≡ n) ms → AllPairs (λ (x y : Item). x ≢ y) ms
+    → AllPairs (λ (p q : List ℤ). p ≢ q) (map (λ (x : Item). x.at) ms)
 points_apart n ms all once =
     pairs_map (λ (p q : List ℤ). p ≢ q) (λ (x : Item). x.at) ms (λ i j d h k e.
     let docs : (get_or ms i d).doc ≡ (get_or ms j d).doc = all i d (omega arith) ∙ sym (all j d k) in
@@ -87,7 +96,8 @@ points_apart n ms all once =
 
 -- ---- documents of entries
 
-some_more : (n : ℕ) (xs ms os : List Item) → All (λ (x : Item). x.doc ≡ n) ms → AllPairs (λ (x y : Item). x ≢ y) ms → length ms ≤ 16 → IsPermutation xs (ms ++ os)
+some_more : (n : ℕ) (xs ms os : List Item) → All (λ (x : Item). x.doc ≡ n) ms → AllPairs (λ (x y : Item). x ≢ y) ms → length ms ≤ 16
+    → IsPermutation xs (ms ++ os)
     → (docs : List Document) × AreDocs n os docs → (docs : List Document) × AreDocs (suc n) xs docs
 some_more n xs [] os all once few moved (docs, are) = (docs, later n (suc n) xs docs (reordered n os xs docs are (IsPermutation-sym xs os moved)) (omega arith))
 some_more n xs (m ∷ ms) os all once few moved (docs, are) =
@@ -95,13 +105,16 @@ some_more n xs (m ∷ ms) os all once few moved (docs, are) =
     let a = ascended ps (points_apart n (m ∷ ms) all once) in
     let long = length-map (m ∷ ms) (λ (x : Item). x.at) in
     let d : Document = record { number = n; points = a.points } in
-    let own : IsPermutation (m ∷ ms) (entries_of d) = subst (λ ys. IsPermutation ys (entries_of d)) (same_again n (m ∷ ms) all) (IsPermutation-map (entry_of n) ps a.points a.same) in
+    let own : IsPermutation (m ∷ ms) (entries_of d) =
+    subst (λ ys. IsPermutation ys (entries_of d)) (same_again n (m ∷ ms) all) (IsPermutation-map (entry_of n) ps a.points a.same) in
     let back : IsPermutation (os ++ entries_of d) xs = IsPermutation-sym xs (os ++ entries_of d)
     (IsPermutation-trans xs ((m ∷ ms) ++ os) (os ++ entries_of d) moved
-    (IsPermutation-trans ((m ∷ ms) ++ os) (os ++ (m ∷ ms)) (os ++ entries_of d) (IsPermutation-append_comm (m ∷ ms) os) (IsPermutation-append_right os (m ∷ ms) (entries_of d) own))) in (
+    (IsPermutation-trans ((m ∷ ms) ++ os) (os ++ (m ∷ ms)) (os ++ entries_of d) (IsPermutation-append_comm (m ∷ ms) os)
+    (IsPermutation-append_right os (m ∷ ms) (entries_of d) own))) in (
       docs ++ d ∷ [],
       later (n + 1) (suc n) xs (docs ++ d ∷ [])
-          (reordered (n + 1) (os ++ entries_of d) xs (docs ++ d ∷ []) (added n os docs a.points are (are_points ps a (omega (arith, long)) (omega (arith, long, few)))) back)
+          (reordered (n + 1) (os ++ entries_of d) xs (docs ++ d ∷ [])
+          (added n os docs a.points are (are_points ps a (omega (arith, long)) (omega (arith, long, few)))) back)
           (omega arith),
     )
 
@@ -118,7 +131,9 @@ fewer p q xs =
 pub docs_from : (n : ℕ) (xs : List Item) → MakeDocs n xs → (docs : List Document) × AreDocs n xs docs
 docs_from zero [] make = ([], no_docs zero)
 docs_from zero (x ∷ xs) make = let lt = All-head (λ (y : Item). y.doc < zero) x xs make.below in absurd (omega (arith, lt))
-docs_from (suc n) xs make = some_more n xs ms os own (AllPairs-filter (λ (x y : Item). x ≢ y) is xs make.once) few (IsPermutation-filter_both is other (λ x. refl) xs) (docs_from n os rest)
+docs_from (suc n) xs make =
+    some_more n xs ms os own (AllPairs-filter (λ (x y : Item). x ≢ y) is xs make.once) few (IsPermutation-filter_both is other (λ x. refl) xs)
+    (docs_from n os rest)
   where
     is : Item → Bool
     is x = eqb x.doc n
@@ -154,9 +169,12 @@ docs_from (suc n) xs make = some_more n xs ms os own (AllPairs-filter (λ (x y :
 
 -- ---- and back
 
-at_most : (m : ℕ) (ds : List Document) → Ascend ds → All (λ (d : Document). ArePoints d.points) ds → All (λ (d : Document). eqb d.number m ≡ true) ds → sum_by (λ (d : Document). length d.points) ds ≤ 16
+at_most : (m : ℕ) (ds : List Document) → Ascend ds → All (λ (d : Document). ArePoints d.points) ds → All (λ (d : Document). eqb d.number m ≡ true) ds
+    → sum_by (λ (d : Document). length d.points) ds ≤ 16
 at_most m [] up points all = omega arith
-at_most m (d ∷ []) up points all = let few = (All-head (λ (e : Document). ArePoints e.points) d [] points).few in omega (arith, few, sum_by-cons (λ (e : Document). length e.points) d [])
+at_most m (d ∷ []) up points all =
+    let few = (All-head (λ (e : Document). ArePoints e.points) d [] points).few in
+    omega (arith, few, sum_by-cons (λ (e : Document). length e.points) d [])
 at_most m (d ∷ e ∷ es) up points all =
     let lt = pairs_head (λ (a b : Document). a.number < b.number) d (e ∷ es) up e (cons_head e es) in
     let one = eqb-true d.number m (All-head (λ (f : Document). eqb f.number m ≡ true) d (e ∷ es) all) in
@@ -194,10 +212,18 @@ apart_moved xs ys moved once i j d h k e =
 
 pub docs_make : (n : ℕ) (xs : List Item) (docs : List Document) → AreDocs n xs docs → MakeDocs n xs
 docs_make n xs docs are = record {
-  below = All-weaker (λ (x : Item). Contains xs x) (λ x. x.doc < n) (λ x h. let d = doc_of n xs docs are x h in subst (λ m. m < n) d.2 (All-contains (λ (e : Document). e.number < n) docs d.0 are.below d.1)) xs (All-contains_itself xs);
+  below = All-weaker (λ (x : Item). Contains xs x) (λ x. x.doc < n)
+      (λ x h. let d = doc_of n xs docs are x h in subst (λ m. m < n) d.2 (All-contains (λ (e : Document). e.number < n) docs d.0 are.below d.1)) xs
+      (All-contains_itself xs);
   few = λ number.
       let part = kept n xs docs (λ m. eqb m number) are in
-      let most = at_most number (filter (λ (d : Document). eqb d.number number) docs) part.ascend part.points (filter_passes (λ (d : Document). eqb d.number number) docs) in
-      omega (arith, most, counted n (filter (λ (x : Item). eqb x.doc number) xs) (filter (λ (d : Document). eqb d.number number) docs) part, length-filter (λ (x : Item). eqb x.doc number) xs);
+      let most = at_most number (filter (λ (d : Document). eqb d.number number) docs) part.ascend part.points
+      (filter_passes (λ (d : Document). eqb d.number number) docs) in
+      omega (
+        arith,
+        most,
+        counted n (filter (λ (x : Item). eqb x.doc number) xs) (filter (λ (d : Document). eqb d.number number) docs) part,
+        length-filter (λ (x : Item). eqb x.doc number) xs,
+      );
   once = apart_moved (entries_in docs) xs (IsPermutation-sym xs (entries_in docs) are.same) (all_apart docs are.ascend are.points);
 }

@@ -27,18 +27,24 @@ one_number [] d e up h k same = nil_none d _ h
 one_number (x ∷ xs) d e up h k same = ⊎_elim
     (λ here. ⊎_elim
     (λ there. sym here ∙ there)
-    (λ later. let lt = pairs_head (λ (a b : Document). a.number < b.number) x xs up e later in absurd (omega (arith, lt, ap (λ (z : Document). z.number) here, same)))
+    (λ later.
+    let lt = pairs_head (λ (a b : Document). a.number < b.number) x xs up e later in
+    absurd (omega (arith, lt, ap (λ (z : Document). z.number) here, same)))
     (cons_cases x xs e k))
     (λ after. ⊎_elim
-    (λ there. let lt = pairs_head (λ (a b : Document). a.number < b.number) x xs up d after in absurd (omega (arith, lt, ap (λ (z : Document). z.number) there, same)))
+    (λ there.
+    let lt = pairs_head (λ (a b : Document). a.number < b.number) x xs up d after in
+    absurd (omega (arith, lt, ap (λ (z : Document). z.number) there, same)))
     (λ later. one_number xs d e (pairs_tail (λ (a b : Document). a.number < b.number) x xs up) after later same)
     (cons_cases x xs e k))
     (cons_cases x xs d h)
 
 -- ---- from entries in any order
 
-pub has_entry_in : (n : ℕ) (xs : List Item) (docs : List Document) → AreDocs n xs docs → (d : Document) (p : List ℤ) → Contains docs d → Contains d.points p → Contains xs (entry_of d.number p)
-has_entry_in n xs docs are d p h k = Contains-permutation (entries_in docs) xs (entry_of d.number p) (IsPermutation-sym xs (entries_in docs) are.same) (entry_in docs d p h k)
+pub has_entry_in : (n : ℕ) (xs : List Item) (docs : List Document) → AreDocs n xs docs → (d : Document) (p : List ℤ) → Contains docs d → Contains d.points p
+    → Contains xs (entry_of d.number p)
+has_entry_in n xs docs are d p h k =
+    Contains-permutation (entries_in docs) xs (entry_of d.number p) (IsPermutation-sym xs (entries_in docs) are.same) (entry_in docs d p h k)
 
 pub doc_of : (n : ℕ) (xs : List Item) (docs : List Document) → AreDocs n xs docs → (x : Item) → Contains xs x → IsOf docs x
 doc_of n xs docs are x h = of_entry docs x (Contains-permutation xs (entries_in docs) x are.same h)
@@ -52,7 +58,8 @@ pub some_point : (n : ℕ) (xs : List Item) (docs : List Document) → AreDocs n
 some_point n xs docs are d h = first_point d.points (All-contains (λ (e : Document). ArePoints e.points) docs d are.points h).some
 
 -- an entry of a document's number is one of its own
-pub own_entry : (n : ℕ) (xs : List Item) (docs : List Document) → AreDocs n xs docs → (d : Document) (x : Item) → Contains docs d → Contains xs x → x.doc ≡ d.number → Contains d.points x.at
+pub own_entry : (n : ℕ) (xs : List Item) (docs : List Document) → AreDocs n xs docs → (d : Document) (x : Item) → Contains docs d → Contains xs x
+    → x.doc ≡ d.number → Contains d.points x.at
 own_entry n xs docs are d x h k same =
     let doc = doc_of n xs docs are x k in
     subst (λ (e : Document). Contains e.points x.at) (one_number docs doc.0 d are.ascend doc.1 h (doc.2 ∙ same)) doc.3

@@ -73,7 +73,8 @@ nearer_from a b h = parts_less a.dist2 b.dist2 a.doc b.doc h.near h.tie
 never_nearer : (a : ℕ × ℕ) → Nearer a a → ⊥
 never_nearer a h = let tied = tied_itself nearer_total a in cc
 
-module _ (n k : ℕ) (xs : List Item) (docs : List Document) (at : List ℤ) (found : List Near) (are : AreDocs n xs docs) (is : IsNearest k (nears_of at xs) found) where
+module _ (n k : ℕ) (xs : List Item) (docs : List Document) (at : List ℤ) (found : List Near) (are : AreDocs n xs docs)
+    (is : IsNearest k (nears_of at xs) found) where
   abbrev far_of : Document → ℕ × ℕ
   far_of d = (distance at d.points, d.number)
 
@@ -81,7 +82,8 @@ module _ (n k : ℕ) (xs : List Item) (docs : List Document) (at : List ℤ) (fo
   same_pair a d e f = λ i. (f i, e i)
 
   -- the entry of a document that is nearest
-  nearest_entry : (d : Document) → Contains docs d → (x : Item) × Contains (nears_of at xs) (near_of at x) × (x.doc ≡ d.number) × (dist2 x.at at ≡ distance at d.points)
+  nearest_entry : (d : Document) → Contains docs d
+      → (x : Item) × Contains (nears_of at xs) (near_of at x) × (x.doc ≡ d.number) × (dist2 x.at at ≡ distance at d.points)
   nearest_entry d h =
       let some = some_point n xs docs are d h in
       let q = distance_reached at d.points some.0 some.1 in
@@ -125,7 +127,8 @@ module _ (n k : ℕ) (xs : List Item) (docs : List Document) (at : List ℤ) (fo
 
       after : (a : Near) (b : ℕ × ℕ) → All (λ c. ComesBefore c (near_of at x)) found → Contains found a → pair_of a ≡ b → Nearer b (far_of d)
       after a b all m e =
-          let less : Nearer (pair_of a) (pair_of (near_of at x)) = nearer_from a (near_of at x) (All-contains (λ (c : Near). ComesBefore c (near_of at x)) found a all m) in
+          let less : Nearer (pair_of a) (pair_of (near_of at x)) =
+          nearer_from a (near_of at x) (All-contains (λ (c : Near). ComesBefore c (near_of at x)) found a all m) in
           subst (λ (q : ℕ × ℕ). Nearer q (far_of d)) e (subst (λ (q : ℕ × ℕ). Nearer (pair_of a) q) (sym far) less)
 
   left : (p : ℕ × ℕ) → Contains (in_order nearer (distances at docs)) p → FoundOrAfter p

@@ -22,7 +22,8 @@ pub never_ahead : (p : List ℤ) → Ahead p p → ⊥
 never_ahead p h = let tied = tied_itself points_total p in cc
 
 -- points that ascend and have the same members are one
-same_points : (ps qs : List (List ℤ)) → ArePoints ps → ArePoints qs → ((p : List ℤ) → Contains ps p → Contains qs p) → ((p : List ℤ) → Contains qs p → Contains ps p) → ps ≡ qs
+same_points : (ps qs : List (List ℤ)) → ArePoints ps → ArePoints qs → ((p : List ℤ) → Contains ps p → Contains qs p)
+    → ((p : List ℤ) → Contains qs p → Contains ps p) → ps ≡ qs
 same_points ps qs are those to from =
     same_members Ahead never_ahead points_total.trans ps qs
     (λ i j d h k. Less-from_sorted (slice_cmp int_cmp) ps i j d are.ascending h k)
@@ -30,15 +31,18 @@ same_points ps qs are those to from =
     to from
 
 -- a document of the one list is in the other
-other_has : (m n : ℕ) (xs ys : List Item) (docs others : List Document) → AreDocs m xs docs → AreDocs n ys others → IsPermutation xs ys → (d : Document) → Contains docs d → Contains others d
+other_has : (m n : ℕ) (xs ys : List Item) (docs others : List Document) → AreDocs m xs docs → AreDocs n ys others → IsPermutation xs ys → (d : Document)
+    → Contains docs d → Contains others d
 other_has m n xs ys docs others are those moved d h =
     let some = some_point m xs docs are d h in
     let there = to some.0 some.1 in
     let e = doc_of n ys others those (entry_of d.number some.0) there in
     let points : d.points ≡ e.0.points =
-    same_points d.points e.0.points (All-contains (λ (f : Document). ArePoints f.points) docs d are.points h) (All-contains (λ (f : Document). ArePoints f.points) others e.0 those.points e.1)
+    same_points d.points e.0.points (All-contains (λ (f : Document). ArePoints f.points) docs d are.points h)
+    (All-contains (λ (f : Document). ArePoints f.points) others e.0 those.points e.1)
     (λ p k. own_entry n ys others those e.0 (entry_of d.number p) e.1 (to p k) (sym e.2))
-    (λ p k. own_entry m xs docs are d (entry_of e.0.number p) h (Contains-permutation ys xs (entry_of e.0.number p) (IsPermutation-sym xs ys moved) (has_entry_in n ys others those e.0 p e.1 k)) e.2) in
+    (λ p k. own_entry m xs docs are d (entry_of e.0.number p) h
+    (Contains-permutation ys xs (entry_of e.0.number p) (IsPermutation-sym xs ys moved) (has_entry_in n ys others those e.0 p e.1 k)) e.2) in
     let same : e.0 ≡ d = λ i. record { number = e.2 i; points = sym points i } in
     subst (λ (f : Document). Contains others f) same e.1
   where

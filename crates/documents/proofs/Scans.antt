@@ -14,6 +14,7 @@ pub hits_dropped : (test : List ℤ → Bool) (docs : List Document) (i : ℕ) (
     → hits test (drop i docs) ≡ cond (passes test (get_or docs i d)) ((get_or docs i d).number ∷ hits test (drop (i + 1) docs)) (hits test (drop (i + 1) docs))
 hits_dropped test docs i d h = rw (drop-cons docs i d, add-one) (by_test (passes test (get_or docs i d)) (get_or docs i d) (drop (suc i) docs))
   where
-    by_test : (b : Bool) (d : Document) (ds : List Document) → map (λ x. x.number) (cond b (d ∷ filter (passes test) ds) (filter (passes test) ds)) ≡ cond b (d.number ∷ hits test ds) (hits test ds)
+    by_test : (b : Bool) (d : Document) (ds : List Document)
+        → map (λ x. x.number) (cond b (d ∷ filter (passes test) ds) (filter (passes test) ds)) ≡ cond b (d.number ∷ hits test ds) (hits test ds)
     by_test true d ds = refl
     by_test false d ds = refl

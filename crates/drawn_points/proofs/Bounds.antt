@@ -1,5 +1,6 @@
 -- How far apart drawn points are, and how large the sums are.
-use Rattle.std.proofs.Common.{◌≡◌, ◌+◌, ◌*◌, ◌%◌, ◌<◌, ◌≤◌, ℕ, List, [], ◌∷◌, length, map, filter, take, arith, subst, Bool, length-take, ℤ, pos, ◌-ℤ◌, unsigned_abs}
+use Rattle.std.proofs.Common.{◌≡◌, ◌+◌, ◌*◌, ◌%◌, ◌<◌, ◌≤◌, ℕ, List, [], ◌∷◌, length, map, filter}
+use Rattle.std.proofs.Common.{take, arith, subst, Bool, length-take, ℤ, pos, ◌-ℤ◌, unsigned_abs}
 use Rattle.std.proofs.Math.Nat.{mul-le-mul, mul-le-mul_right}
 use Rattle.std.specs.List.{All, range_with_len, slice_index_or, sum_by}
 use Rattle.std.proofs.lemmas.Int.{ints}

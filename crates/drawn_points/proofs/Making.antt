@@ -1,5 +1,6 @@
 -- The index that the requests make.
-use Rattle.std.proofs.Common.{◌≡◌, ◌∙◌, ◌+◌, ◌*◌, ◌/◌, ◌%◌, ◌^◌, ◌<◌, ◌≤◌, ◌&&◌, ◌==◌, ap, ap₂, sym, refl, subst, zero, suc, ℕ, Bool, true, false, not, cond, List, [], ◌∷◌, ◌++◌, length, map, filter, arith, add-one, nat_lt, nat_le, nat_eq, Option, None, Some}
+use Rattle.std.proofs.Common.{◌≡◌, ◌∙◌, ◌+◌, ◌*◌, ◌/◌, ◌%◌, ◌^◌, ◌<◌, ◌≤◌, ◌&&◌, ◌==◌, ap, ap₂, sym, refl, subst, zero, suc, ℕ, Bool, true, false}
+use Rattle.std.proofs.Common.{not, cond, List, [], ◌∷◌, ◌++◌, length, map, filter, arith, add-one, nat_lt, nat_le, nat_eq, Option, None, Some}
 use Rattle.std.specs.List.{All, fold, range_with_len, slice_index_or}
 use Rattle.std.proofs.lemmas.Bool.{cond-true, eqb-false, eqb-true, le-ltb}
 use Rattle.std.proofs.lemmas.Bool.Decides.{nat_tests}
@@ -75,8 +76,10 @@ tenths_deleted a zero docs = sym (filter_all (apart a 0) (λ d. apart_none a d.n
 tenths_deleted a (suc n) docs = go (a % 10 == 0) refl (λ later. tenths_deleted (a + 1) n later)
   where
     go : (b : Bool) → (a % 10 == 0) ≡ b
-        → ((later : List Document) → fold (λ docs n. deleted n docs) later (filter (λ i. i % 10 == 0) (range_with_len (a + 1) n)) ≡ filter (apart (a + 1) n) later)
-        → fold (λ docs n. deleted n docs) docs (cond b (a ∷ filter (λ i. i % 10 == 0) (range_with_len (a + 1) n)) (filter (λ i. i % 10 == 0) (range_with_len (a + 1) n)))
+        → ((later : List Document)
+        → fold (λ docs n. deleted n docs) later (filter (λ i. i % 10 == 0) (range_with_len (a + 1) n)) ≡ filter (apart (a + 1) n) later)
+        → fold (λ docs n. deleted n docs) docs
+        (cond b (a ∷ filter (λ i. i % 10 == 0) (range_with_len (a + 1) n)) (filter (λ i. i % 10 == 0) (range_with_len (a + 1) n)))
         ≡ filter (apart a (suc n)) docs
     go true is rest =
         rest (deleted a docs)

@@ -1,5 +1,6 @@
 -- Gathering the edges that meet a cell.
-use Rattle.std.proofs.Common.{◌≡◌, ℕ, ◌+◌, ◌-◌, ◌<◌, ◌≤◌, true, false, not, Bool, cond, List, [], ◌∷◌, ◌++◌, length, take, drop, get_or, refl, sym, ap, ◌∙◌, subst, arith}
+use Rattle.std.proofs.Common.{◌≡◌, ℕ, ◌+◌, ◌-◌, ◌<◌, ◌≤◌, true, false, not, Bool, cond, List, [], ◌∷◌}
+use Rattle.std.proofs.Common.{◌++◌, length, take, drop, get_or, refl, sym, ap, ◌∙◌, subst, arith}
 use Rattle.std.specs.Prelude.{All, count_by, slice_range}
 use Rattle.std.proofs.lemmas.List.{append-nil, take_more, drop-append-le, length-take-le}
 use Rattle.std.proofs.lemmas.List.Concat.{flat_map-append}
@@ -71,7 +72,8 @@ held_last edges nodes at n all some there is =
     let last : at - 1 + 1 ≡ at = omega arith in
     let early : at - 1 ≤ length nodes = omega arith in
     ap (λ k. all_held edges (drop n.before (take k nodes))) (sym last)
-    ∙ ap (λ (ns : List Node). all_held edges (drop n.before ns)) (take_more nodes (at - 1) n (omega arith) ∙ ap (λ (m : Node). take (at - 1) nodes ++ m ∷ []) (sym is))
+    ∙ ap (λ (ns : List Node). all_held edges (drop n.before ns))
+    (take_more nodes (at - 1) n (omega arith) ∙ ap (λ (m : Node). take (at - 1) nodes ++ m ∷ []) (sym is))
     ∙ ap (all_held edges) (drop-append-le n.before (take (at - 1) nodes) (n ∷ []) (omega (arith, h.after, length-take-le (at - 1) nodes early)))
     ∙ flat_map-append (held edges) (drop n.before (take (at - 1) nodes)) (n ∷ [])
     ∙ ap (λ es. all_held edges (drop n.before (take (at - 1) nodes)) ++ es) (append-nil (held edges n))

@@ -74,7 +74,9 @@ pub off_ray : (b : Bounds) (run : List Ends) (p : List ℤ) → All (IsBoxed b) 
 off_ray b run p i h =
     ⊎_elim
     (λ (east : int_lt b.east (x_of p) ≡ true). record {
-      on_is = off_apart b run p i (or_left (are_apart b.west b.east (x_of p) (x_of p)) (are_apart b.south b.north (y_of p) (y_of p)) (or_left (int_lt b.east (x_of p)) (int_lt (x_of p) b.west) east));
+      on_is = off_apart b run p i
+          (or_left (are_apart b.west b.east (x_of p) (x_of p)) (are_apart b.south b.north (y_of p) (y_of p))
+          (or_left (int_lt b.east (x_of p)) (int_lt (x_of p) b.west) east));
       odd_is = even_east b run p i (omega (arith, ints));
     })
     (λ (level : are_apart b.south b.north (y_of p) (y_of p) ≡ true). record {
@@ -86,7 +88,9 @@ off_ray b run p i h =
 -- for a point west of the box the edges count that pass its height
 pub odd_west : (b : Bounds) (run : List Ends) (p : List ℤ) → All (IsBoxed b) run → int_lt (x_of p) b.west ≡ true → IsPlace run p false (pass_oddly run (y_of p))
 odd_west b run p i h = record {
-  on_is = off_apart b run p i (or_left (are_apart b.west b.east (x_of p) (x_of p)) (are_apart b.south b.north (y_of p) (y_of p)) (or_right (int_lt b.east (x_of p)) (int_lt (x_of p) b.west) h));
+  on_is = off_apart b run p i
+      (or_left (are_apart b.west b.east (x_of p) (x_of p)) (are_apart b.south b.north (y_of p) (y_of p))
+      (or_right (int_lt b.east (x_of p)) (int_lt (x_of p) b.west) h));
   odd_is = oddly_same (λ e. counts e p) (λ (e : Ends). is_passed (y_of e.0) (y_of e.1) (y_of p)) run (λ k d l.
       let boxed : IsBoxed b (get_or run k d) = i k d l in
       counts_east (get_or run k d) p (omega (arith, ints, boxed.start.west)) (omega (arith, ints, boxed.end.west))
@@ -101,7 +105,8 @@ outlines_one e b from to boxed f t = record {
 }
 
 -- what a climb tells of two runs, each of which a climb tells of
-pub climb_join : (xs ys : List Ends) (first second joined : Climb) → ((y : ℤ) → pass_oddly xs y ≡ climbs first y) → ((y : ℤ) → pass_oddly ys y ≡ climbs second y)
+pub climb_join : (xs ys : List Ends) (first second joined : Climb) → ((y : ℤ) → pass_oddly xs y ≡ climbs first y)
+    → ((y : ℤ) → pass_oddly ys y ≡ climbs second y)
     → ((y : ℤ) → climbs joined y ≡ not (beq (climbs first y) (climbs second y))) → (y : ℤ) → pass_oddly (xs ++ ys) y ≡ climbs joined y
 climb_join xs ys first second joined f s j y =
     pass_oddly-append xs ys y ∙ (rw (f y, s y) (sym (j y)))

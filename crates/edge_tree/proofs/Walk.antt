@@ -43,7 +43,8 @@ entered edges nodes at n some there is =
     ∙ ap (λ (m : Node). held edges m ++ all_held edges (drop (at - 1 + 1) nodes)) (sym is)
     ∙ ap (λ (k : ℕ). held edges n ++ all_held edges (drop k nodes)) next
 
-pub before_within : (edges : List Ends) (nodes : List Node) (at : ℕ) (n : Node) → AreNodes edges nodes → 0 < at → at ≤ length nodes → n ≡ get_or nodes (at - 1) n
+pub before_within : (edges : List Ends) (nodes : List Node) (at : ℕ) (n : Node) → AreNodes edges nodes → 0 < at → at ≤ length nodes
+    → n ≡ get_or nodes (at - 1) n
     → n.before < at
 before_within edges nodes at n all some there is =
     let h : IsNode edges nodes (at - 1) n = node_at edges nodes at n all some there is in omega (arith, h.after)

@@ -49,7 +49,8 @@ passes_is p q e =
     differ_is (differ (counts e p) (counts e q)) (differ (is_marked p q e.0) (is_marked p q e.1))
     ∙ ap (λ b. xor b (differ (is_marked p q e.0) (is_marked p q e.1))) (differ_is (counts e p) (counts e q))
     ∙ ap (λ b. xor (xor (counts e p) (counts e q)) b)
-    (differ_is (is_marked p q e.0) (is_marked p q e.1) ∙ ap (λ b. xor b (is_marked p q e.1)) (marked_is p q e.0) ∙ ap (λ b. xor (mark p q e.0) b) (marked_is p q e.1))
+    (differ_is (is_marked p q e.0) (is_marked p q e.1) ∙ ap (λ b. xor b (is_marked p q e.1)) (marked_is p q e.0)
+    ∙ ap (λ b. xor (mark p q e.0) b) (marked_is p q e.1))
 
 -- an edge that misses the cell passes no way between its points, and has none of them
 pub passes_missed : (e : Ends) (cell : Region) (p q : List ℤ) → misses e cell ≡ true → in_box cell p ≡ true → in_box cell q ≡ true → passes p q e ≡ false

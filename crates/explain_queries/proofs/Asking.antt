@@ -89,7 +89,8 @@ module _ (D : ℕ) (files : Files) (set : SetData) (s : Scope) (e : IsExplaining
   near_from k at tells = (e.index, e.state, tells_from s e.index line (asks.Nearest None k at) t e.state tells)
 
 -- a command that is neither blank nor a query is refused
-pub other_told : {D : ℕ} (i : Index) (heads : List Head) (line : ℕ) (c : Command D) → (c ≡ command.Blank → ⊥) → ((view : View) (lo hi : Point D) → c ≡ command.InBox view lo hi → ⊥)
+pub other_told : {D : ℕ} (i : Index) (heads : List Head) (line : ℕ) (c : Command D) → (c ≡ command.Blank → ⊥)
+    → ((view : View) (lo hi : Point D) → c ≡ command.InBox view lo hi → ⊥)
     → ((view : View) (rings : Rings) → c ≡ command.Polygon view rings → ⊥) → ((view : View) (k : ℕ) (at : Point D) → c ≡ command.Nearest view k at → ⊥)
     → TellsOn i heads line (request_of c) (refusal (refused_text line why.NotQuery))
 other_told i heads line command.Blank blank box polygon near = absurd (blank refl)
@@ -115,7 +116,8 @@ abbrev pub nowhere : Scope
 nowhere = record { state = None; heads = [] }
 
 -- what is told of what was read is told of the line
-pub first_told : (line : ℕ) (bytes : List ℕ) (reading : Reading) (before after : List ℕ) (t : Told) (is_refused : Bool) → read None bytes ≡ reading → TellsReading nowhere line reading t
+pub first_told : (line : ℕ) (bytes : List ℕ) (reading : Reading) (before after : List ℕ) (t : Told) (is_refused : Bool) → read None bytes ≡ reading
+    → TellsReading nowhere line reading t
     → after ≡ before ++ t.text → t.refused ≡ cond is_refused 1 0 → IsTold (TellsLine nowhere line bytes) before after is_refused
 first_told line bytes reading before after t is_refused is tells grew refused = record {
   told = t;

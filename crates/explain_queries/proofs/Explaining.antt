@@ -1,7 +1,6 @@
 -- What is told of a line, by what the calls on the set answered.
-use Rattle.std.proofs.Common.{◌≡◌, ◌≤◌, ◌+◌, ◌-◌, ◌++◌, ℕ, zero, suc, slice_get, Bool, true, false, cond, nat_lt, List, [], ◌∷◌, length, Some, None, Result, Ok, Err, OnErr, IfOk, IsErrOf, ◌≢◌, refl, sym, ap, subst, ◌∙◌, arith, ℤ}
-use Rattle.std.specs.List.{last_or}
-use Rattle.std.proofs.lemmas.Bool.Decides.{nat_tests}
+use Rattle.std.proofs.Common.{◌≡◌, ◌≤◌, ◌+◌, ◌++◌, ℕ, Bool, true, false, cond, List, length, Some, Result}
+use Rattle.std.proofs.Common.{Ok, Err, OnErr, IfOk, IsErrOf, ◌≢◌, refl, sym, ap, subst, ◌∙◌, arith, ℤ}
 use Rattle.outer_io.specs.Files.{Files}
 use Rattle.point_codec.specs.Points.{Region}
 use Rattle.page_cache.specs.declared.faults.PageFault.{PageFault}
@@ -9,10 +8,6 @@ use Rattle.page_cache.specs.declared.faults.PageFault.TheVariants as page
 use Rattle.page_cache.specs.Causes.{HasPageCause}
 use Rattle.page_cache.specs.Evidence.{NotDamaged, OnDamage}
 use Rattle.documents.specs.Documents.{hits}
-use Rattle.documents.specs.Nearest.{found_of}
-use Rattle.nearest_query.specs.Segments.{bound_of, last_of}
-use Rattle.std.proofs.lemmas.List.{length-map}
-use Rattle.point_codec.specs.declared.entries.Near.{Near}
 use Rattle.segment_file.specs.Heads.{Head}
 use Rattle.segment_view.specs.Costs.{AreTested, AreTouched}
 use Rattle.segment_view.specs.Parts.{heads_of}
@@ -29,10 +24,10 @@ use Rattle.segment_set.specs.Seen.{Sees}
 use Rattle.segment_set.specs.Kept.{StaysButCache}
 use Rattle.index_opening.specs.Evidence.{IsEvident}
 use Rattle.segment_set.specs.Faithful.{IsFaithful}
-use Rattle.explain_queries.specs.Explained.{Scope, Tells, TellsIn, TellsLine, TellsOn, TellsReading, TellsShape, Told, reach, refusal, shape_text}
+use Rattle.explain_queries.specs.Explained.{Scope, Tells, TellsIn, TellsLine, TellsOn, TellsReading, TellsShape, Told, refusal, shape_text}
 use Rattle.explain_queries.specs.Explains.{Explains, InScope, IsExplaining, IsTold, Place}
 
-some_inj : {X : Type 0} (x y : X) → Some x ≡ Some y → x ≡ y
+pub some_inj : {X : Type 0} (x y : X) → Some x ≡ Some y → x ≡ y
 some_inj x y e = cc
 
 abbrev pub Telling : Type 1
@@ -51,8 +46,10 @@ faithful_still : (D : ℕ) (old new : Place) → new.set ≡ old.set → new.fil
 faithful_still D old new set files h = subst (λ (u : SetData). IsFaithful D new.files u) (sym set) (subst (λ (f : Files). IsFaithful D f old.set) (sym files) h)
 
 -- this is told, whatever the index is
-pub explains_text : (D : ℕ) (told : Type 0) (tells : Telling) (old new : Place) (t : Told) (is_refused : Bool) → new.set ≡ old.set → new.files ≡ old.files → new.reads ≡ old.reads → new.faults ≡ old.faults
-    → new.text ≡ old.text ++ t.text → t.refused ≡ cond is_refused 1 0 → ((s : Scope) → IsExplaining D old.files old.set s → tells s t) → Explains D told tells old new (Ok is_refused)
+pub explains_text : (D : ℕ) (told : Type 0) (tells : Telling) (old new : Place) (t : Told) (is_refused : Bool) → new.set ≡ old.set → new.files ≡ old.files
+    → new.reads ≡ old.reads → new.faults ≡ old.faults
+    → new.text ≡ old.text ++ t.text → t.refused ≡ cond is_refused 1 0 → ((s : Scope) → IsExplaining D old.files old.set s → tells s t)
+    → Explains D told tells old new (Ok is_refused)
 explains_text D told tells old new t is_refused set files reads faults text refused tells_so = record {
   does = λ told_so s e. record { told = t; tells = tells_so s e; text = text; refused = refused };
   stays = λ told_so s e. subst (λ (u : SetData). IsExplaining D new.files u s) (sym set) (subst (λ (f : Files). IsExplaining D f old.set s) (sym files) e);
@@ -65,7 +62,8 @@ explains_text D told tells old new t is_refused set files reads faults text refu
 }
 
 -- for want of memory nothing is told
-pub explains_no_memory : (D : ℕ) (told : Type 0) (tells : Telling) (old new : Place) (r : Result Bool PageFault) → r ≡ Err page.Memory → new.set ≡ old.set → new.files ≡ old.files → new.reads ≡ old.reads
+pub explains_no_memory : (D : ℕ) (told : Type 0) (tells : Telling) (old new : Place) (r : Result Bool PageFault) → r ≡ Err page.Memory → new.set ≡ old.set
+    → new.files ≡ old.files → new.reads ≡ old.reads
     → new.faults ≡ old.faults → Explains D told tells old new r
 explains_no_memory D told tells old new r is set files reads faults = subst (Explains D told tells old new) (sym is) (record {
   does = λ told_so s e. tt;
@@ -79,10 +77,13 @@ explains_no_memory D told tells old new r is set files reads faults = subst (Exp
 })
 
 -- what is told is as the line's own definition says
-pub explains_as : (D : ℕ) (told : Type 0) (tells others : Telling) (old new : Place) (r : Result Bool PageFault) → ((s : Scope) (t : Told) → IsExplaining D old.files old.set s → tells s t → others s t)
-    → ((s : Scope) (t : Told) → IsExplaining D old.files old.set s → others s t → tells s t) → Explains D told tells old new r → Explains D told others old new r
+pub explains_as : (D : ℕ) (told : Type 0) (tells others : Telling) (old new : Place) (r : Result Bool PageFault)
+    → ((s : Scope) (t : Told) → IsExplaining D old.files old.set s → tells s t → others s t)
+    → ((s : Scope) (t : Told) → IsExplaining D old.files old.set s → others s t → tells s t) → Explains D told tells old new r
+    → Explains D told others old new r
 explains_as D told tells others old new r to from explains = record {
-  does = λ told_so s e. if_ok_map r (λ b h. record { told = h.told; tells = to s h.told e h.tells; text = h.text; refused = h.refused }) (explains.does told_so s e);
+  does = λ told_so s e.
+      if_ok_map r (λ b h. record { told = h.told; tells = to s h.told e h.tells; text = h.text; refused = h.refused }) (explains.does told_so s e);
   stays = explains.stays;
   files = explains.files;
   reads = λ told_so s e t h. explains.reads told_so s e t (from s t e h);
@@ -109,7 +110,8 @@ pub record Looks {T : Type 0} (D : ℕ) (told : Type 0) (old new : Place) (tells
   pub faithful : told → IsFaithful D old.files old.set → IsFaithful D new.files new.set
   pub evident : OnDamage result (IsEvident (told × IsFaithful D old.files old.set) new.files)
 
-looks_stays : {T : Type 0} (D : ℕ) (told : Type 0) (old new : Place) (tells : Telling) (r : Result T PageFault) → Looks D told old new tells r → told → (s : Scope) → IsExplaining D old.files old.set s → IsExplaining D new.files new.set s
+looks_stays : {T : Type 0} (D : ℕ) (told : Type 0) (old new : Place) (tells : Telling) (r : Result T PageFault) → Looks D told old new tells r → told
+    → (s : Scope) → IsExplaining D old.files old.set s → IsExplaining D new.files new.set s
 looks_stays D told old new tells r looks t s e = record {
   index = e.index;
   state = e.state;
@@ -118,13 +120,18 @@ looks_stays D told old new tells r looks t s e = record {
 }
 
 -- it failed
-pub explains_fault : {T : Type 0} (D : ℕ) (told : Type 0) (tells : Telling) (old new : Place) (fault : PageFault) (r : Result Bool PageFault) → r ≡ Err fault → Looks {T = T} D told old new tells (Err fault) → Explains D told tells old new r
+pub explains_fault : {T : Type 0} (D : ℕ) (told : Type 0) (tells : Telling) (old new : Place) (fault : PageFault) (r : Result Bool PageFault) → r ≡ Err fault
+    → Looks {T = T} D told old new tells (Err fault) → Explains D told tells old new r
 explains_fault {T = T} D told tells old new fault r is looks = subst (Explains D told tells old new) (sym is) (record {
   does = λ t s e. tt;
   stays = looks_stays D told old new tells (Err fault) looks;
   files = looks.files;
   reads = looks.reads;
-  cause = record { later = looks.cause.later; fine = tt; failed = λ e. let same : fault ≡ page.Failed = cc in looks.cause.failed (ap (λ (f : PageFault). Err f) same) };
+  cause = record {
+    later = looks.cause.later;
+    fine = tt;
+    failed = λ e. let same : fault ≡ page.Failed = cc in looks.cause.failed (ap (λ (f : PageFault). Err f) same);
+  };
   whole = λ t s e. other fault (looks.whole t e.index e.seen);
   faithful = looks.faithful;
   evident = looks.evident;
@@ -136,7 +143,8 @@ explains_fault {T = T} D told tells old new fault r is looks = subst (Explains D
     other (page.Damaged d) whole = whole
 
 -- it is done, and want of memory came after it
-pub explains_unsaid : {T : Type 0} (D : ℕ) (told : Type 0) (tells : Telling) (old new : Place) (x : T) (r : Result Bool PageFault) → r ≡ Err page.Memory → Looks D told old new tells (Ok x) → Explains D told tells old new r
+pub explains_unsaid : {T : Type 0} (D : ℕ) (told : Type 0) (tells : Telling) (old new : Place) (x : T) (r : Result Bool PageFault) → r ≡ Err page.Memory
+    → Looks D told old new tells (Ok x) → Explains D told tells old new r
 explains_unsaid D told tells old new x r is looks = subst (Explains D told tells old new) (sym is) (record {
   does = λ t s e. tt;
   stays = looks_stays D told old new tells (Ok x) looks;
@@ -169,14 +177,16 @@ abbrev pub tells_shape : (has : List ℤ → Bool) (crosses : Region → Bool) �
 tells_shape has crosses = λ s t. InScope s (λ i u. TellsShape i.dims s.heads i.docs has crosses u) t
 
 -- the leaves that it touches are those of the set
-pub shape_touches : (D : ℕ) (files : Files) (set : SetData) (has : List ℤ → Bool) (crosses : Region → Bool) (s : Scope) (t : Told) → IsExplaining D files set s → tells_shape has crosses s t
+pub shape_touches : (D : ℕ) (files : Files) (set : SetData) (has : List ℤ → Bool) (crosses : Region → Bool) (s : Scope) (t : Told) → IsExplaining D files set s
+    → tells_shape has crosses s t
     → AreTouched D has crosses (heads_of set.parts) t.touched
 shape_touches D files set has crosses s t e (i, is, tells) =
     subst (λ (hs : List Head). AreTouched D has crosses hs t.touched) (sym e.heads)
     (subst (λ n. AreTouched n has crosses s.heads t.touched) (ap (λ (j : Index). j.dims) (some_inj i e.index (sym is ∙ e.state)) ∙ e.seen.dims) tells.touches)
 
 -- it is told as the survey and the visit answer
-pub shape_told : (D : ℕ) (files : Files) (set : SetData) (has : List ℤ → Bool) (crosses : Region → Bool) (tested touched found : ℕ) (before after : List ℕ) (s : Scope) (e : IsExplaining D files set s)
+pub shape_told : (D : ℕ) (files : Files) (set : SetData) (has : List ℤ → Bool) (crosses : Region → Bool) (tested touched found : ℕ) (before after : List ℕ)
+    (s : Scope) (e : IsExplaining D files set s)
     → AreTested D crosses (heads_of set.parts) tested → AreTouched D has crosses (heads_of set.parts) touched → found ≡ length (hits has e.index.docs)
     → after ≡ before ++ shape_text tested touched found → IsTold (tells_shape has crosses s) before after false
 shape_told D files set has crosses tested touched found before after s e tests touches count grew = record {
@@ -187,7 +197,8 @@ shape_told D files set has crosses tested touched found before after s e tests t
     record {
       tested = tested;
       tests = subst (λ n. AreTested n crosses s.heads tested) (sym e.seen.dims) (subst (λ (hs : List Head). AreTested D crosses hs tested) e.heads tests);
-      touches = subst (λ n. AreTouched n has crosses s.heads touched) (sym e.seen.dims) (subst (λ (hs : List Head). AreTouched D has crosses hs touched) e.heads touches);
+      touches = subst (λ n. AreTouched n has crosses s.heads touched) (sym e.seen.dims)
+          (subst (λ (hs : List Head). AreTouched D has crosses hs touched) e.heads touches);
       text = ap (shape_text tested touched) count;
       done = refl;
     },
@@ -202,38 +213,53 @@ shape_told D files set has crosses tested touched found before after s e tests t
 pub tells_to : (s : Scope) (i : Index) (line : ℕ) (request : Request) (t : Told) → s.state ≡ Some i → TellsOn i s.heads line request t → Tells s line request t
 tells_to s i line request t is tells = subst (λ (o : State). TellsIn o s.heads line request t) (sym is) tells
 
-pub tells_from : (s : Scope) (i : Index) (line : ℕ) (request : Request) (t : Told) → s.state ≡ Some i → Tells s line request t → TellsOn i s.heads line request t
+pub tells_from : (s : Scope) (i : Index) (line : ℕ) (request : Request) (t : Told) → s.state ≡ Some i → Tells s line request t
+    → TellsOn i s.heads line request t
 tells_from s i line request t is tells = subst (λ (o : State). TellsIn o s.heads line request t) is tells
 
 -- a line that is refused, or not for want of memory
-pub explains_refused : (D : ℕ) (told : Type 0) (tells : Telling) (old new : Place) (text : List ℕ) (r : Result Bool PageFault) → new.set ≡ old.set → new.files ≡ old.files → new.reads ≡ old.reads → new.faults ≡ old.faults
-    → IfOk r (λ b. (b ≡ true) × (new.text ≡ old.text ++ text)) → OnErr r (IsErrOf r page.Memory) → ((s : Scope) → IsExplaining D old.files old.set s → tells s (refusal text)) → Explains D told tells old new r
+pub explains_refused : (D : ℕ) (told : Type 0) (tells : Telling) (old new : Place) (text : List ℕ) (r : Result Bool PageFault) → new.set ≡ old.set
+    → new.files ≡ old.files → new.reads ≡ old.reads → new.faults ≡ old.faults
+    → IfOk r (λ b. (b ≡ true) × (new.text ≡ old.text ++ text)) → OnErr r (IsErrOf r page.Memory)
+    → ((s : Scope) → IsExplaining D old.files old.set s → tells s (refusal text)) → Explains D told tells old new r
 explains_refused D told tells old new text (Ok b) set files reads faults ok memory tells_so =
-    subst (λ (q : Bool). Explains D told tells old new (Ok q)) (sym ok.0) (explains_text D told tells old new (refusal text) true set files reads faults ok.1 refl tells_so)
-explains_refused D told tells old new text (Err page.Memory) set files reads faults ok memory tells_so = explains_no_memory D told tells old new (Err page.Memory) refl set files reads faults
-explains_refused D told tells old new text (Err page.Failed) set files reads faults ok memory tells_so = let e : IsErrOf {T = Bool} (Err page.Failed) page.Memory = memory in absurd cc
-explains_refused D told tells old new text (Err (page.Damaged d)) set files reads faults ok memory tells_so = let e : IsErrOf {T = Bool} (Err (page.Damaged d)) page.Memory = memory in absurd cc
+    subst (λ (q : Bool). Explains D told tells old new (Ok q)) (sym ok.0)
+    (explains_text D told tells old new (refusal text) true set files reads faults ok.1 refl tells_so)
+explains_refused D told tells old new text (Err page.Memory) set files reads faults ok memory tells_so =
+    explains_no_memory D told tells old new (Err page.Memory) refl set files reads faults
+explains_refused D told tells old new text (Err page.Failed) set files reads faults ok memory tells_so =
+    let e : IsErrOf {T = Bool} (Err page.Failed) page.Memory = memory in absurd cc
+explains_refused D told tells old new text (Err (page.Damaged d)) set files reads faults ok memory tells_so =
+    let e : IsErrOf {T = Bool} (Err (page.Damaged d)) page.Memory = memory in absurd cc
 
 -- ---- a line that was read
 
-read_is : (D : ℕ) (files : Files) (set : SetData) (s : Scope) (bytes : List ℕ) (reading : Reading) → IsExplaining D files set s → read (Some D) bytes ≡ reading → read (option_map (λ (i : Index). i.dims) s.state) bytes ≡ reading
-read_is D files set s bytes reading e says = ap (λ (o : State). read (option_map (λ (i : Index). i.dims) o) bytes) e.state ∙ ap (λ n. read (Some n) bytes) e.seen.dims ∙ says
+read_is : (D : ℕ) (files : Files) (set : SetData) (s : Scope) (bytes : List ℕ) (reading : Reading) → IsExplaining D files set s → read (Some D) bytes ≡ reading
+    → read (option_map (λ (i : Index). i.dims) s.state) bytes ≡ reading
+read_is D files set s bytes reading e says =
+    ap (λ (o : State). read (option_map (λ (i : Index). i.dims) o) bytes) e.state ∙ ap (λ n. read (Some n) bytes) e.seen.dims ∙ says
 
-pub line_to : (D : ℕ) (files : Files) (set : SetData) (s : Scope) (line : ℕ) (bytes : List ℕ) (request : Request) (t : Told) → IsExplaining D files set s → read (Some D) bytes ≡ Says request
+pub line_to : (D : ℕ) (files : Files) (set : SetData) (s : Scope) (line : ℕ) (bytes : List ℕ) (request : Request) (t : Told) → IsExplaining D files set s
+    → read (Some D) bytes ≡ Says request
     → Tells s line request t → TellsLine s line bytes t
-line_to D files set s line bytes request t e says tells = subst (λ (r : Reading). TellsReading s line r t) (sym (read_is D files set s bytes (Says request) e says)) tells
+line_to D files set s line bytes request t e says tells =
+    subst (λ (r : Reading). TellsReading s line r t) (sym (read_is D files set s bytes (Says request) e says)) tells
 
-pub line_from : (D : ℕ) (files : Files) (set : SetData) (s : Scope) (line : ℕ) (bytes : List ℕ) (request : Request) (t : Told) → IsExplaining D files set s → read (Some D) bytes ≡ Says request
+pub line_from : (D : ℕ) (files : Files) (set : SetData) (s : Scope) (line : ℕ) (bytes : List ℕ) (request : Request) (t : Told) → IsExplaining D files set s
+    → read (Some D) bytes ≡ Says request
     → TellsLine s line bytes t → Tells s line request t
-line_from D files set s line bytes request t e says tells = subst (λ (r : Reading). TellsReading s line r t) (read_is D files set s bytes (Says request) e says) tells
+line_from D files set s line bytes request t e says tells =
+    subst (λ (r : Reading). TellsReading s line r t) (read_is D files set s bytes (Says request) e says) tells
 
-pub line_unread : (D : ℕ) (files : Files) (set : SetData) (s : Scope) (line : ℕ) (bytes : List ℕ) (f : LineFault) → IsExplaining D files set s → read (Some D) bytes ≡ Fails f
+pub line_unread : (D : ℕ) (files : Files) (set : SetData) (s : Scope) (line : ℕ) (bytes : List ℕ) (f : LineFault) → IsExplaining D files set s
+    → read (Some D) bytes ≡ Fails f
     → TellsLine s line bytes (refusal (line_fault_text line f))
 line_unread D files set s line bytes f e fails =
     subst (λ (r : Reading). TellsReading s line r (refusal (line_fault_text line f))) (sym (read_is D files set s bytes (Fails f) e fails)) refl
 
 -- what was read of a line that is refused, but for want of memory
-pub fault_read : {C : Type 0} (request : C → Request) (f : LineFault) (reading : Reading) → f ≢ fault.Memory → Agrees request (Err f) reading → reading ≡ Fails f
+pub fault_read : {C : Type 0} (request : C → Request) (f : LineFault) (reading : Reading) → f ≢ fault.Memory → Agrees request (Err f) reading
+    → reading ≡ Fails f
 fault_read request fault.Memory reading other agrees = absurd (other refl)
 fault_read request fault.TooLong reading other agrees = agrees
 fault_read request fault.NotUtf8 reading other agrees = agrees
@@ -247,43 +273,3 @@ fault_read request fault.Dims reading other agrees = agrees
 fault_read request fault.LeafSize reading other agrees = agrees
 fault_read request fault.BadK reading other agrees = agrees
 fault_read request (fault.Geo g) reading other agrees = agrees
-
--- ---- the nearest
-
--- how far a query goes, by what is found or by its distances and numbers
-pub reach_is : (k : ℕ) (found : List Near) → reach k (found_of found) ≡ bound_of k found
-reach_is k found = by (nat_lt (length (found_of found)) k) (nat_lt (length found) k) (ap (λ n. nat_lt n k) (length-map found (λ (n : Near). (n.dist2, n.doc))))
-  where
-    last_is : (ns : List Near) → option_map (λ (f : ℕ × ℕ). f.0) (last_or None (found_of ns)) ≡ last_of ns
-    last_is [] = refl
-    last_is (n ∷ []) = refl
-    last_is (n ∷ (m ∷ ns)) = last_is (m ∷ ns)
-
-    by : (a b : Bool) → a ≡ b → cond a None (option_map (λ (f : ℕ × ℕ). f.0) (last_or None (found_of found))) ≡ cond b None (last_of found)
-    by true true e = refl
-    by false false e = last_is found
-    by true false e = absurd cc
-    by false true e = absurd cc
-
--- the last of those found
-last_at : (found : List Near) (i : ℕ) (last : Near) → length found ≡ i + 1 → slice_get found i ≡ Some last → last_of found ≡ Some last.dist2
-last_at [] i last long is = absurd (omega (arith, long))
-last_at (n ∷ []) zero last long is = ap (λ (m : Near). Some m.dist2) (some_inj n last is)
-last_at (n ∷ []) (suc i) last long is = absurd (omega (arith, long))
-last_at (n ∷ (m ∷ ns)) zero last long is = absurd (omega (arith, long))
-last_at (n ∷ (m ∷ ns)) (suc i) last long is = last_at (m ∷ ns) i last (omega (arith, long)) is
-
--- where as many are found as are asked for, a query goes as far as the last
-pub reach_last : (k : ℕ) (found : List Near) (last : Near) → 1 ≤ length found → k ≤ length found → slice_get found (length found - 1) ≡ Some last → Some last.dist2 ≡ reach k (found_of found)
-reach_last k found last some enough is =
-    let at : last_of found ≡ Some last.dist2 = last_at found (length found - 1) last (omega (arith, some)) is in
-    let far : bound_of k found ≡ last_of found = ap (λ (b : Bool). cond b None (last_of found)) (not_less (length found) k enough) in
-    sym (reach_is k found ∙ far ∙ at)
-  where
-    not_less : (m n : ℕ) → n ≤ m → nat_lt m n ≡ false
-    not_less m n le = grind (arith, nat_tests)
-
--- a shape that answers as another one did
-pub touched_as : (D : ℕ) (has other : List ℤ → Bool) (crosses others : Region → Bool) (heads : List Head) (n : ℕ) → other ≡ has → others ≡ crosses → AreTouched D has crosses heads n → AreTouched D other others heads n
-touched_as D has other crosses others heads n same crossed is =
-    subst (λ (f : List ℤ → Bool). AreTouched D f others heads n) (sym same) (subst (λ (f : Region → Bool). AreTouched D has f heads n) (sym crossed) is)

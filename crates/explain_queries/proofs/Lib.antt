@@ -1,4 +1,5 @@
 pub mod Explaining
+pub mod Reaches
 pub mod Sizes
 pub mod There
 pub mod Nearby

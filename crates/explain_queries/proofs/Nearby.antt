@@ -12,7 +12,8 @@ use Rattle.segment_set.specs.Sets.{SetData}
 use Rattle.segment_set.specs.Seen.{entries_seen}
 use Rattle.explain_queries.specs.Explained.{Scope, TellsNear, Told, near_text, reach}
 use Rattle.explain_queries.specs.Explains.{InScope, IsExplaining, IsTold}
-use Rattle.explain_queries.proofs.Explaining.{Telling, reach_is}
+use Rattle.explain_queries.proofs.Explaining.{Telling}
+use Rattle.explain_queries.proofs.Reaches.{reach_is}
 use Rattle.explain_queries.proofs.There.{are_nearest, there, there_found}
 
 some_inj : {X : Type 0} (x y : X) → Some x ≡ Some y → x ≡ y
@@ -37,14 +38,17 @@ module _ (D k : ℕ) (files : Files) (set : SetData) (at : List ℤ) (s : Scope)
   pub near_touches : (t : Told) → tells_near k at s t → AreNearLeaves D at (bound_of k nearby) (heads_of set.parts) t.touched
   near_touches t (i, is, tells) =
       let same = some_inj i e.index (sym is ∙ e.state) in
-      let bound : reach k (nearest k at i.docs) ≡ bound_of k nearby = ap (λ (j : Index). reach k (nearest k at j.docs)) same ∙ ap (reach k) (sym nearby_found) ∙ reach_is k nearby in
+      let bound : reach k (nearest k at i.docs) ≡ bound_of k nearby =
+      ap (λ (j : Index). reach k (nearest k at j.docs)) same ∙ ap (reach k) (sym nearby_found) ∙ reach_is k nearby in
       subst (λ (hs : List Head). AreNearLeaves D at (bound_of k nearby) hs t.touched) (sym e.heads)
       (subst (λ (o : Option ℕ). AreNearLeaves D at o s.heads t.touched) bound
       (subst (λ n. AreNearLeaves n at (reach k (nearest k at i.docs)) s.heads t.touched) (ap (λ (j : Index). j.dims) same ∙ e.seen.dims) tells.touches))
 
   -- it is told as the survey and the query answer
-  pub near_told : (bound : Option ℕ) (heads : List Head) (found : List Near) (touched count : ℕ) (before after : List ℕ) → AreNearLeaves D at bound heads touched → heads ≡ heads_of set.parts → bound ≡ reach k (found_of found)
-      → found_of found ≡ nearest k at e.index.docs → count ≡ length (found_of found) → after ≡ before ++ near_text touched count → IsTold (tells_near k at s) before after false
+  pub near_told : (bound : Option ℕ) (heads : List Head) (found : List Near) (touched count : ℕ) (before after : List ℕ)
+      → AreNearLeaves D at bound heads touched → heads ≡ heads_of set.parts → bound ≡ reach k (found_of found)
+      → found_of found ≡ nearest k at e.index.docs → count ≡ length (found_of found) → after ≡ before ++ near_text touched count
+      → IsTold (tells_near k at s) before after false
   near_told bound heads found touched count before after leaves same is_bound found_is long grew = record {
     told = record { text = near_text touched count; refused = 0; touched = touched };
     tells = (

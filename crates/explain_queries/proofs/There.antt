@@ -24,16 +24,20 @@ use Rattle.documents.proofs.Ranking.{nearer_exact, nearer_total}
 of_take : {X : Type 0} (k : ℕ) (xs : List X) (y : X) → Contains (take k xs) y → Contains xs y
 of_take zero xs y h = nil_none y _ h
 of_take (suc k) [] y h = nil_none y _ h
-of_take (suc k) (x ∷ xs) y h = ⊎_elim (λ here. subst (Contains (x ∷ xs)) here (cons_head x xs)) (λ later. cons_tail x xs y (of_take k xs y later)) (cons_cases x (take k xs) y h)
+of_take (suc k) (x ∷ xs) y h =
+    ⊎_elim (λ here. subst (Contains (x ∷ xs)) here (cons_head x xs)) (λ later. cons_tail x xs y (of_take k xs y later)) (cons_cases x (take k xs) y h)
 
 pairs_take : {X : Type 0} (R : X → X → Type 0) (k : ℕ) (xs : List X) → AllPairs R xs → AllPairs R (take k xs)
 pairs_take R zero xs up = pairs_none R
 pairs_take R (suc k) [] up = pairs_none R
 pairs_take R (suc k) (x ∷ xs) up =
-    AllPairs-cons R x (take k xs) (All-weaker (Contains (take k xs)) (R x) (λ y h. pairs_head R x xs up y (of_take k xs y h)) (take k xs) (All-contains_itself (take k xs))) (pairs_take R k xs (pairs_tail R x xs up))
+    AllPairs-cons R x (take k xs)
+    (All-weaker (Contains (take k xs)) (R x) (λ y h. pairs_head R x xs up y (of_take k xs y h)) (take k xs) (All-contains_itself (take k xs)))
+    (pairs_take R k xs (pairs_tail R x xs up))
 
 -- what is not among the first comes after all of them
-first_or_after : {X : Type 0} (R : X → X → Type 0) (k : ℕ) (xs : List X) (y : X) → AllPairs R xs → Contains xs y → Contains (take k xs) y ⊎ ((k ≤ length xs) × ((z : X) → Contains (take k xs) z → R z y))
+first_or_after : {X : Type 0} (R : X → X → Type 0) (k : ℕ) (xs : List X) (y : X) → AllPairs R xs → Contains xs y
+    → Contains (take k xs) y ⊎ ((k ≤ length xs) × ((z : X) → Contains (take k xs) z → R z y))
 first_or_after R zero xs y up h = inr (omega arith, λ z k. nil_none z _ k)
 first_or_after R (suc k) [] y up h = nil_none y _ h
 first_or_after R (suc k) (x ∷ xs) y up h = ⊎_elim
@@ -97,7 +101,8 @@ module _ (n k : ℕ) (xs : List Item) (docs : List Document) (at : List ℤ) (ar
   among_entries d h =
       let some = some_point n xs docs are d h in
       let q = distance_reached at d.points some.0 some.1 in
-      subst (Contains (nears_of at xs)) (λ i. record { dist2 = q.2 i; doc = d.number }) (in_map (near_of at) xs (entry_of d.number q.0) (has_entry_in n xs docs are d q.0 h q.1))
+      subst (Contains (nears_of at xs)) (λ i. record { dist2 = q.2 i; doc = d.number })
+      (in_map (near_of at) xs (entry_of d.number q.0) (has_entry_in n xs docs are d q.0 h q.1))
 
   least : (a x : Near) → Contains there a → Contains (nears_of at xs) x → x.doc ≡ a.doc → a.dist2 ≤ x.dist2
   least a x h m same =
@@ -112,7 +117,11 @@ module _ (n k : ℕ) (xs : List Item) (docs : List Document) (at : List ℤ) (ar
   over : (a x : Near) (d : Document) → ComesBefore a (near_at (far_of d)) → d.number ≡ x.doc → distance at d.points ≤ x.dist2 → ComesBefore a x
   over a x d before same far = record {
     near = let near = before.near in omega (arith, near, far);
-    tie = λ le. let near = before.near in let back : distance at d.points ≤ a.dist2 = omega (arith, far, le) in let lt = before.tie back in omega (arith, lt, same);
+    tie = λ le.
+        let near = before.near in
+        let back : distance at d.points ≤ a.dist2 = omega (arith, far, le) in
+        let lt = before.tie back in
+        omega (arith, lt, same);
   }
 
   left_out : (x : Near) → Contains (nears_of at xs) x → HasNumber there x.doc ⊎ ((length there ≡ k) × All (λ a. ComesBefore a x) there)
@@ -127,7 +136,8 @@ module _ (n k : ℕ) (xs : List Item) (docs : List Document) (at : List ℤ) (ar
             subst (λ (z : Near). ComesBefore z x) p.2 (over (near_at p.0) x e.0 (comes_from p.0 (far_of e.0) (after.1 p.0 p.1)) e.2 e.3))
             there (All-contains_itself there),
       ))
-      (first_or_after Nearer k order (far_of e.0) up (in_order_has nearer nearer_total nearer_exact (distances at docs) (far_of e.0) (in_map far_of docs e.0 e.1)))
+      (first_or_after Nearer k order (far_of e.0) up
+      (in_order_has nearer nearer_total nearer_exact (distances at docs) (far_of e.0) (in_map far_of docs e.0 e.1)))
 
   pub are_nearest : IsNearest k (nears_of at xs) there
   are_nearest = record {

@@ -1,5 +1,6 @@
 -- Which names a list has, after each change of the list.
-use Rattle.std.proofs.Common.{◌≡◌, ◌≢◌, ℕ, zero, suc, ◌≤◌, Bool, true, false, not, cond, ◌&&◌, ◌||◌, List, [], ◌∷◌, ◌++◌, refl, sym, ap, subst, ◌∙◌, ⊎_elim, arith}
+use Rattle.std.proofs.Common.{◌≡◌, ◌≢◌, ℕ, zero, suc, ◌≤◌, Bool, true, false, not, cond, ◌&&◌}
+use Rattle.std.proofs.Common.{◌||◌, List, [], ◌∷◌, ◌++◌, refl, sym, ap, subst, ◌∙◌, ⊎_elim, arith}
 use Rattle.std.specs.Prelude.{◌↔◌}
 use Rattle.std.specs.List.{Contains, filter, items_where_true}
 use Rattle.std.specs.List.Retain.{IsFiltered}
@@ -83,7 +84,8 @@ stays ns name other h = is_named-push ns name other ∙ or_left (is_named ns oth
 pub joins_as : (ns ms : List FileName) (name : FileName) → ms ≡ ns ++ name ∷ [] → is_named ms name ≡ true
 joins_as ns ms name is = rw is (joins ns name)
 
-pub stays_as : (old ns ms : List FileName) (name : FileName) → ns ≡ old → ms ≡ ns ++ name ∷ [] → (other : FileName) → is_named old other ≡ true → is_named ms other ≡ true
+pub stays_as : (old ns ms : List FileName) (name : FileName) → ns ≡ old → ms ≡ ns ++ name ∷ [] → (other : FileName) → is_named old other ≡ true
+    → is_named ms other ≡ true
 stays_as old ns ms name was is other h = rw (is, was) (stays old name other h)
 
 pub others_stay : (ns : List FileName) (name other : FileName) → other ≢ name → is_named (ns ++ name ∷ []) other ≡ is_named ns other

@@ -41,7 +41,8 @@ total_places (s ∷ ss) n ordered =
     ∙ total_sum (λ m. one_if (is_among s.live m)) (λ m. places m ss) n
     ∙ both (total_places ss n (All-tail (IsOrdered n) s ss ordered))
   where
-    both : total (λ m. places m ss) n ≡ sum_by (λ (t : LiveSet). length t.live) ss → total (λ m. one_if (is_among s.live m)) n + total (λ m. places m ss) n ≡ sum_by (λ (t : LiveSet). length t.live) (s ∷ ss)
+    both : total (λ m. places m ss) n ≡ sum_by (λ (t : LiveSet). length t.live) ss
+        → total (λ m. one_if (is_among s.live m)) n + total (λ m. places m ss) n ≡ sum_by (λ (t : LiveSet). length t.live) (s ∷ ss)
     both rest =
         let here = All-head (IsOrdered n) s ss ordered in
         let one = total_among s.live n here.up here.low in
@@ -55,7 +56,8 @@ doc_among m (d ∷ ds) = ap (λ (b : Bool). eqb d.number m || b) (doc_among m ds
 
 -- ---- of what is held
 
-set_ordered : (files : Files) (c : CommitData) (docs : List Document) (held : HoldsIndex files c docs) (d : SegmentData) → Contains held.parts d → IsOrdered c.next d.live
+set_ordered : (files : Files) (c : CommitData) (docs : List Document) (held : HoldsIndex files c docs) (d : SegmentData) → Contains held.parts d
+    → IsOrdered c.next d.live
 unfolding IsLiveFile
 set_ordered files c docs held d there =
     let part = partner_of (HoldsFiles files c) c.listed held.parts held.segments d there in
@@ -78,7 +80,8 @@ set_ordered files c docs held d there =
 sets_ordered : (files : Files) (c : CommitData) (docs : List Document) (held : HoldsIndex files c docs) → All (IsOrdered c.next) (live_sets held.parts)
 sets_ordered files c docs held =
     All-map (IsOrdered c.next) (λ (d : SegmentData). d.live) held.parts
-    (All-weaker (Contains held.parts) (λ (d : SegmentData). IsOrdered c.next d.live) (set_ordered files c docs held) held.parts (All-contains_itself held.parts))
+    (All-weaker (Contains held.parts) (λ (d : SegmentData). IsOrdered c.next d.live) (set_ordered files c docs held) held.parts
+    (All-contains_itself held.parts))
 
 -- what the commit says of each segment
 counts_said : (files : Files) (c : CommitData) (listed : List Listed) (parts : List SegmentData) → AllZip (HoldsFiles files c) listed parts
@@ -87,14 +90,22 @@ counts_said files c [] [] all = refl
 counts_said files c [] (d ∷ ds) all = absurd all
 counts_said files c (s ∷ ss) [] all = absurd all
 counts_said files c (s ∷ ss) (d ∷ ds) all =
-    omega (arith, sum_by-cons (λ (t : LiveSet). length t.live) d.live (live_sets ds), sum_by-cons (λ (t : Listed). t.live) s ss, all.0.live_count, counts_said files c ss ds all.1)
+    omega (
+      arith,
+      sum_by-cons (λ (t : LiveSet). length t.live) d.live (live_sets ds),
+      sum_by-cons (λ (t : Listed). t.live) s ss,
+      all.0.live_count,
+      counts_said files c ss ds all.1,
+    )
 
-pub documents_counted : (files : Files) (c : CommitData) (docs : List Document) → HoldsIndex files c docs → length docs ≡ sum_by (λ (s : Listed). s.live) c.listed
+pub documents_counted : (files : Files) (c : CommitData) (docs : List Document) → HoldsIndex files c docs
+    → length docs ≡ sum_by (λ (s : Listed). s.live) c.listed
 documents_counted files c docs held =
     sym (length-map docs (λ (d : Document). d.number))
     ∙ sym (total_among (map (λ (d : Document). d.number) docs) c.next (pairs_map (λ (a b : ℕ). a < b) (λ (d : Document). d.number) docs held.are_docs.ascend)
     (All-map (λ x. x < c.next) (λ (d : Document). d.number) docs held.are_docs.below))
-    ∙ total_alike (λ m. one_if (is_among (map (λ (d : Document). d.number) docs) m)) (λ m. places m (live_sets held.parts)) c.next (λ m lt. ap one_if (sym (doc_among m docs)) ∙ same m)
+    ∙ total_alike (λ m. one_if (is_among (map (λ (d : Document). d.number) docs) m)) (λ m. places m (live_sets held.parts)) c.next
+    (λ m lt. ap one_if (sym (doc_among m docs)) ∙ same m)
     ∙ total_places (live_sets held.parts) c.next (sets_ordered files c docs held)
     ∙ counts_said files c c.listed held.parts held.segments
   where

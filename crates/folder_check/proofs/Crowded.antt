@@ -27,13 +27,16 @@ lower : (o : Option ℕ) (k m : ℕ) → k ≤ m → IfSome o (λ n. m ≤ n) �
 lower None k m le h = tt
 lower (Some n) k m le h = omega (arith, le, h)
 
-least_lower : (findings : List Finding) (k m : ℕ) → k ≤ m → All (λ f. IfSome f.crowded (λ n. m ≤ n)) findings → All (λ f. IfSome f.crowded (λ n. k ≤ n)) findings
-least_lower findings k m le all = All-weaker (λ (f : Finding). IfSome f.crowded (λ n. m ≤ n)) (λ (f : Finding). IfSome f.crowded (λ n. k ≤ n)) (λ f. lower f.crowded k m le) findings all
+least_lower : (findings : List Finding) (k m : ℕ) → k ≤ m → All (λ f. IfSome f.crowded (λ n. m ≤ n)) findings
+    → All (λ f. IfSome f.crowded (λ n. k ≤ n)) findings
+least_lower findings k m le all =
+    All-weaker (λ (f : Finding). IfSome f.crowded (λ n. m ≤ n)) (λ (f : Finding). IfSome f.crowded (λ n. k ≤ n)) (λ f. lower f.crowded k m le) findings all
 
 all_pushed : (P : Finding → Type 0) (findings : List Finding) (f : Finding) → All P findings → P f → All P (findings ++ f ∷ [])
 all_pushed P findings f all p = All-append P findings (f ∷ []) all (All-cons P f [] p (All-nil P))
 
-least_pushed : (findings : List Finding) (f : Finding) (least : Option ℕ) → IsLeastSoFar findings least → IsLeastSoFar (findings ++ f ∷ []) (lesser least f.crowded)
+least_pushed : (findings : List Finding) (f : Finding) (least : Option ℕ) → IsLeastSoFar findings least
+    → IsLeastSoFar (findings ++ f ∷ []) (lesser least f.crowded)
 least_pushed findings f least h = by least h f.crowded refl
   where
     here : (k n : ℕ) → f.crowded ≡ Some n → k ≤ n → IfSome f.crowded (λ m. k ≤ m)
@@ -69,7 +72,8 @@ least_pushed findings f least h = by least h f.crowded refl
     ]
 
 -- one segment more, as the loop over the list has it
-pub least_step : (findings : List Finding) (i : ℕ) (d : Finding) (least new : Option ℕ) → i < length findings → new ≡ lesser least (get_or findings i d).crowded → IsLeastSoFar (take i findings) least
+pub least_step : (findings : List Finding) (i : ℕ) (d : Finding) (least new : Option ℕ) → i < length findings → new ≡ lesser least (get_or findings i d).crowded
+    → IsLeastSoFar (take i findings) least
     → IsLeastSoFar (take (i + 1) findings) new
 least_step findings i d least new lt is h =
     subst (λ (fs : List Finding). IsLeastSoFar fs new) (sym (take_more findings i d lt))

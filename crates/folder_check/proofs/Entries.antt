@@ -77,6 +77,7 @@ has_live_entry s (x ∷ xs) n live = by (has_live_entry s xs n live) (is_live s 
         same ∙ sym (ap (λ (c : Bool). c || has_entry n xs) other)
 
 -- as many live numbers have a live entry as have one
-pub live_found : (s : LiveSet) (items : List Item) → count_by (λ n. has_entry n (filter (λ x. is_live s x.doc) items)) s.live ≡ count_by (λ n. has_entry n items) s.live
+pub live_found : (s : LiveSet) (items : List Item)
+    → count_by (λ n. has_entry n (filter (λ x. is_live s x.doc) items)) s.live ≡ count_by (λ n. has_entry n items) s.live
 live_found s items =
     count_alike (λ n. has_entry n (filter (λ x. is_live s x.doc) items)) (λ n. has_entry n items) s.live (λ n h. has_live_entry s items n (number_live s n h))

@@ -19,10 +19,12 @@ use Rattle.folder_check.specs.declared.findings.Finding.{Finding}
 use Rattle.folder_check.specs.Found.{IsFinding}
 use Rattle.folder_check.proofs.Entries.{live_found}
 
-pub found_of : (D : ℕ) (files : Files) (head : Head) (live : LiveSet) (items : List Item) (entries : List (Entry D)) (f : Finding) → IsSegment D (bytes_of (files (Segment head.id))) head items
+pub found_of : (D : ℕ) (files : Files) (head : Head) (live : LiveSet) (items : List Item) (entries : List (Entry D)) (f : Finding)
+    → IsSegment D (bytes_of (files (Segment head.id))) head items
     → items_of entries ≡ filter (λ x. is_live live x.doc) items
     → f.found ≡ count_by (λ number. has_entry number (items_of entries)) live.live
-    → IfNone f.crowded (NoneTwice (items_of entries) × AreFew (items_of entries)) → IfSome f.crowded (λ number. IsLeastCrowded number (items_of entries)) → f.entries ≡ length entries
+    → IfNone f.crowded (NoneTwice (items_of entries) × AreFew (items_of entries)) → IfSome f.crowded (λ number. IsLeastCrowded number (items_of entries))
+    → f.entries ≡ length entries
     → IsFinding D files (part_of head live) f
 found_of D files head live items entries f held read found none some long = record {
   items = items;

@@ -37,19 +37,22 @@ gathered D files [] (f ∷ fs) all = []
 gathered D files (p ∷ ps) [] all = []
 gathered D files (p ∷ ps) (f ∷ fs) all = record { head = p.head; entries = all.0.items; live = p.live } ∷ gathered D files ps fs all.1
 
-pub gathered_lives : (D : ℕ) (files : Files) (parts : List Part) (findings : List Finding) (all : AllZip (IsFinding D files) parts findings) → live_sets (gathered D files parts findings all) ≡ lives_of parts
+pub gathered_lives : (D : ℕ) (files : Files) (parts : List Part) (findings : List Finding) (all : AllZip (IsFinding D files) parts findings)
+    → live_sets (gathered D files parts findings all) ≡ lives_of parts
 gathered_lives D files [] [] all = refl
 gathered_lives D files [] (f ∷ fs) all = absurd all
 gathered_lives D files (p ∷ ps) [] all = absurd all
 gathered_lives D files (p ∷ ps) (f ∷ fs) all = ap (λ (ss : List LiveSet). p.live ∷ ss) (gathered_lives D files ps fs all.1)
 
-pub gathered_found : (D : ℕ) (files : Files) (parts : List Part) (findings : List Finding) (all : AllZip (IsFinding D files) parts findings) → AllZip IsFoundIn (gathered D files parts findings all) findings
+pub gathered_found : (D : ℕ) (files : Files) (parts : List Part) (findings : List Finding) (all : AllZip (IsFinding D files) parts findings)
+    → AllZip IsFoundIn (gathered D files parts findings all) findings
 gathered_found D files [] [] all = tt
 gathered_found D files [] (f ∷ fs) all = absurd all
 gathered_found D files (p ∷ ps) [] all = absurd all
 gathered_found D files (p ∷ ps) (f ∷ fs) all = (all.0.of, gathered_found D files ps fs all.1)
 
-pub gathered_holds : (T : Type 0) (D : ℕ) (files : Files) (c : CommitData) (listed : List Listed) (parts : List Part) (findings : List Finding) (all : AllZip (IsFinding D files) parts findings) → T → c.dims ≡ D
+pub gathered_holds : (T : Type 0) (D : ℕ) (files : Files) (c : CommitData) (listed : List Listed) (parts : List Part) (findings : List Finding)
+    (all : AllZip (IsFinding D files) parts findings) → T → c.dims ≡ D
     → AllZip (IsOpened T files c) listed parts → AllZip (HoldsBut files c) listed (gathered D files parts findings all)
 gathered_holds T D files c [] [] [] all t dims opened = tt
 gathered_holds T D files c [] [] (f ∷ fs) all t dims opened = absurd all
@@ -71,7 +74,8 @@ gathered_holds T D files c (s ∷ ss) (p ∷ ps) (f ∷ fs) all t dims opened = 
 
 -- ---- where each live number has an entry
 
-one_held : (files : Files) (c : CommitData) (s : Listed) (d : SegmentData) (f : Finding) → HoldsBut files c s d → IsFoundIn d f → HasAll s f → HoldsFiles files c s d
+one_held : (files : Files) (c : CommitData) (s : Listed) (d : SegmentData) (f : Finding) → HoldsBut files c s d → IsFoundIn d f → HasAll s f
+    → HoldsFiles files c s d
 one_held files c s d f h found all = record {
   segment = h.segment;
   live = h.live;
@@ -79,10 +83,12 @@ one_held files c s d f h found all = record {
   leaf_size = h.leaf_size;
   count = h.count;
   live_count = h.live_count;
-  found = λ number live. all_pass (λ n. has_entry n d.entries) d.live.live (sym found.found ∙ sym all ∙ sym h.live_count) number (live_number d.live number live);
+  found = λ number live.
+      all_pass (λ n. has_entry n d.entries) d.live.live (sym found.found ∙ sym all ∙ sym h.live_count) number (live_number d.live number live);
 }
 
-pub all_held : (files : Files) (c : CommitData) (listed : List Listed) (held : List SegmentData) (findings : List Finding) → AllZip (HoldsBut files c) listed held → AllZip IsFoundIn held findings
+pub all_held : (files : Files) (c : CommitData) (listed : List Listed) (held : List SegmentData) (findings : List Finding)
+    → AllZip (HoldsBut files c) listed held → AllZip IsFoundIn held findings
     → AllZip HasAll listed findings → AllZip (HoldsFiles files c) listed held
 all_held files c [] [] fs h found all = tt
 all_held files c [] (d ∷ ds) fs h found all = absurd h

@@ -48,7 +48,8 @@ commit_of : (c : CommitData) {bytes : List ℕ} → IsCommitFile bytes c → IsC
 commit_of c says = says.spells.commit
 
 -- what was found of a segment
-finding_at : (held : List SegmentData) (findings : List Finding) → AllZip IsFoundIn held findings → (d : SegmentData) → Contains held d → (f : Finding) × Contains findings f × IsFoundIn d f
+finding_at : (held : List SegmentData) (findings : List Finding) → AllZip IsFoundIn held findings → (d : SegmentData) → Contains held d
+    → (f : Finding) × Contains findings f × IsFoundIn d f
 finding_at [] fs all d h = nil_none d _ h
 finding_at (e ∷ es) [] all d h = absurd all
 finding_at (e ∷ es) (f ∷ fs) all d h = elim (cons_cases e es d h) [
@@ -57,7 +58,8 @@ finding_at (e ∷ es) (f ∷ fs) all d h = elim (cons_cases e es d h) [
 ]
 
 -- and of which segment
-segment_at : (held : List SegmentData) (findings : List Finding) → AllZip IsFoundIn held findings → (f : Finding) → Contains findings f → (d : SegmentData) × Contains held d × IsFoundIn d f
+segment_at : (held : List SegmentData) (findings : List Finding) → AllZip IsFoundIn held findings → (f : Finding) → Contains findings f
+    → (d : SegmentData) × Contains held d × IsFoundIn d f
 segment_at held findings all f h = partner_of IsFoundIn held findings all f h
 
 module _ (files : Files) (c : CommitData) (held : List SegmentData) (findings : List Finding) (g : AreGathered files c held findings) where
@@ -75,16 +77,20 @@ module _ (files : Files) (c : CommitData) (held : List SegmentData) (findings : 
   makes : All (λ f. f.crowded ≡ None) findings → (d : SegmentData) → Contains held d → MakeDocs c.next (live_entries d)
   makes none d there =
       let f = finding_at held findings g.found d there in
-      let few : NoneTwice (live_entries d) × AreFew (live_entries d) = subst (λ (o : Option ℕ). IfNone o (NoneTwice (live_entries d) × AreFew (live_entries d))) (All-contains (λ (h : Finding). h.crowded ≡ None) findings f.0 none f.1) f.2.none in
+      let few : NoneTwice (live_entries d) × AreFew (live_entries d) =
+      subst (λ (o : Option ℕ). IfNone o (NoneTwice (live_entries d) × AreFew (live_entries d)))
+      (All-contains (λ (h : Finding). h.crowded ≡ None) findings f.0 none f.1) f.2.none in
       record {
-        below = All-weaker (Contains (live_entries d)) (λ (x : Item). x.doc < c.next) (live_below d there) (live_entries d) (All-contains_itself (live_entries d));
+        below =
+            All-weaker (Contains (live_entries d)) (λ (x : Item). x.doc < c.next) (live_below d there) (live_entries d) (All-contains_itself (live_entries d));
         few = few.1;
         once = pairs_from (live_entries d) few.0;
       }
 
   pub fine_holds : AreFine c.listed c.given findings → (docs : List Document) × HoldsIndex files c docs
   fine_holds fine =
-      let made = docs_of_each c.next held g.alone (All-weaker (Contains held) (λ (d : SegmentData). MakeDocs c.next (live_entries d)) (makes fine.none) held (All-contains_itself held)) in (
+      let made = docs_of_each c.next held g.alone
+      (All-weaker (Contains held) (λ (d : SegmentData). MakeDocs c.next (live_entries d)) (makes fine.none) held (All-contains_itself held)) in (
         made.0,
         record {
           commit = g.says;
@@ -101,10 +107,12 @@ module _ (files : Files) (c : CommitData) (held : List SegmentData) (findings : 
   module _ (once : EntriesOnce) where
     lacking_undefined : (d : Damage) → IsLacking c.listed findings d → IsUndefined files
     lacking_undefined d l =
-        let at = zip_at (λ s f. (e : SegmentData) × HoldsBut files c s e × IsFoundIn e f) c.listed findings l.place l.segment l.finding (zip_over (HoldsBut files c) IsFoundIn c.listed held findings g.but g.found) l.listed_there l.found_there in
+        let at = zip_at (λ s f. (e : SegmentData) × HoldsBut files c s e × IsFoundIn e f) c.listed findings l.place l.segment l.finding
+        (zip_over (HoldsBut files c) IsFoundIn c.listed held findings g.but g.found) l.listed_there l.found_there in
         let e : SegmentData = at.0 in
         let bare = one_fails (λ n. has_entry n e.entries) e.live.live (λ all. l.apart (sym at.1.live_count ∙ sym all ∙ sym at.2.found)) in
-        no_entry once files c l.segment e.head e.entries e.live bare.0 g.says (get_in c.listed l.place l.segment l.listed_there) at.1.id at.1.segment at.1.live (number_live e.live bare.0 bare.1) bare.2
+        no_entry once files c l.segment e.head e.entries e.live bare.0 g.says (get_in c.listed l.place l.segment l.listed_there) at.1.id at.1.segment at.1.live
+        (number_live e.live bare.0 bare.1) bare.2
 
     -- a segment in which a number is crowded has no documents
     crowding_undefined : AllZip HasAll c.listed findings → (d : Damage) → IsCrowding findings d → IsUndefined files
@@ -131,7 +139,14 @@ module _ (files : Files) (c : CommitData) (held : List SegmentData) (findings : 
   live_short : (s : Listed) (d : SegmentData) → HoldsBut files c s d → s.entries ≤ 16777216 → length (live_entries d) ≤ 16777216
   live_short s d h most =
       let long = segment_counted c.dims (bytes_of (files (Segment s.segment))) d.head d.entries h.segment in
-      omega (arith, long, h.count, most, length-filter (λ (x : Item). is_live d.live x.doc) d.entries, count_by-le-length (λ (x : Item). is_live d.live x.doc) d.entries)
+      omega (
+        arith,
+        long,
+        h.count,
+        most,
+        length-filter (λ (x : Item). is_live d.live x.doc) d.entries,
+        count_by-le-length (λ (x : Item). is_live d.live x.doc) d.entries,
+      )
 
   finding_short : (f : Finding) → Contains findings f → f.entries ≤ 16777216
   finding_short f h =
@@ -142,14 +157,16 @@ module _ (files : Files) (c : CommitData) (held : List SegmentData) (findings : 
 
   pub entries_fit : all_entries findings < 2 ^ 64
   entries_fit =
-      let sum = sum_by-le (λ (f : Finding). f.entries) 16777216 findings (All-weaker (Contains findings) (λ (f : Finding). f.entries ≤ 16777216) finding_short findings (All-contains_itself findings)) in
+      let sum = sum_by-le (λ (f : Finding). f.entries) 16777216 findings
+      (All-weaker (Contains findings) (λ (f : Finding). f.entries ≤ 16777216) finding_short findings (All-contains_itself findings)) in
       let long = zip_long IsFoundIn held findings g.found in
       let listed = zip_long (HoldsBut files c) c.listed held g.but in
       let few = (commit_of c g.says).ranges.few in
       omega (arith, sum, long, listed, few)
 
 -- it is known where all segments are opened and their leaves are read
-pub gather_all : (T : Type 0) (D : ℕ) (files : Files) (c : CommitData) (parts : List Part) (findings : List Finding) → T → c.dims ≡ D → IsCommitFile (bytes_of (files Commit)) c
+pub gather_all : (T : Type 0) (D : ℕ) (files : Files) (c : CommitData) (parts : List Part) (findings : List Finding) → T → c.dims ≡ D
+    → IsCommitFile (bytes_of (files Commit)) c
     → AllZip (IsOpened T files c) c.listed parts → ((number : ℕ) → IsPlaced c.next (lives_of parts) number) → (all : AllZip (IsFinding D files) parts findings)
     → AreGathered files c (gathered D files parts findings all) findings
 gather_all T D files c parts findings t dims says opened placed all = record {

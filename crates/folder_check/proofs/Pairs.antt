@@ -9,7 +9,8 @@ some_is : {X : Type 0} (x y : X) → Some x ≡ Some y → x ≡ y
 some_is x y e = cc
 
 -- what stands at one place of both
-pub zip_at : {A B : Type 0} (R : A → B → Type 0) (xs : List A) (ys : List B) (i : ℕ) (x : A) (y : B) → AllZip R xs ys → slice_get xs i ≡ Some x → slice_get ys i ≡ Some y → R x y
+pub zip_at : {A B : Type 0} (R : A → B → Type 0) (xs : List A) (ys : List B) (i : ℕ) (x : A) (y : B) → AllZip R xs ys → slice_get xs i ≡ Some x
+    → slice_get ys i ≡ Some y → R x y
 zip_at R [] ys i x y all at bt = absurd cc
 zip_at R (a ∷ xs) [] i x y all at bt = absurd all
 zip_at {A} {B} R (a ∷ xs) (b ∷ ys) zero x y all at bt = subst (λ (z : A). R z y) (some_is a x at) (subst (R a) (some_is b y bt) all.0)
@@ -21,7 +22,8 @@ get_in {X} (y ∷ ys) zero x at = subst (Contains (y ∷ ys)) (some_is y x at) (
 get_in (y ∷ ys) (suc i) x at = cons_tail y ys x (get_in ys i x at)
 
 -- by what stands between them
-pub zip_over : {A B C : Type 0} (R : A → B → Type 0) (S : B → C → Type 0) (xs : List A) (ys : List B) (zs : List C) → AllZip R xs ys → AllZip S ys zs → AllZip (λ x z. (y : B) × R x y × S y z) xs zs
+pub zip_over : {A B C : Type 0} (R : A → B → Type 0) (S : B → C → Type 0) (xs : List A) (ys : List B) (zs : List C) → AllZip R xs ys → AllZip S ys zs
+    → AllZip (λ x z. (y : B) × R x y × S y z) xs zs
 zip_over R S [] [] [] p q = tt
 zip_over R S [] [] (z ∷ zs) p q = absurd q
 zip_over R S [] (y ∷ ys) zs p q = absurd p
@@ -36,11 +38,14 @@ zip_long R (x ∷ xs) [] p = absurd p
 zip_long R (x ∷ xs) (y ∷ ys) p = omega (arith, zip_long R xs ys p.1)
 
 -- one place more of both, as a loop over them has it
-pub zip_step : {A B : Type 0} (R : A → B → Type 0) (xs : List A) (ys : List B) (i : ℕ) (x : A) (y : B) → i < length xs → i < length ys → R (get_or xs i x) (get_or ys i y) → AllZip R (take i xs) (take i ys)
+pub zip_step : {A B : Type 0} (R : A → B → Type 0) (xs : List A) (ys : List B) (i : ℕ) (x : A) (y : B) → i < length xs → i < length ys
+    → R (get_or xs i x) (get_or ys i y) → AllZip R (take i xs) (take i ys)
     → AllZip R (take (i + 1) xs) (take (i + 1) ys)
 zip_step {A} {B} R xs ys i x y lt less r all =
     subst (λ (zs : List A). AllZip R zs (take (i + 1) ys)) (sym (take_more xs i x lt))
-    (subst (AllZip R (take i xs ++ get_or xs i x ∷ [])) (sym (take_more ys i y less)) (zip_pushed R (take i xs) (take i ys) (get_or xs i x) (get_or ys i y) all r))
+    (subst (AllZip R (take i xs ++ get_or xs i x ∷ [])) (sym (take_more ys i y less))
+    (zip_pushed R (take i xs) (take i ys) (get_or xs i x) (get_or ys i y) all r))
 
-pub zip_all : {A B : Type 0} (R : A → B → Type 0) (xs : List A) (ys : List B) (i : ℕ) → length xs ≤ i → length ys ≤ i → AllZip R (take i xs) (take i ys) → AllZip R xs ys
+pub zip_all : {A B : Type 0} (R : A → B → Type 0) (xs : List A) (ys : List B) (i : ℕ) → length xs ≤ i → length ys ≤ i → AllZip R (take i xs) (take i ys)
+    → AllZip R xs ys
 zip_all {A} {B} R xs ys i le most all = subst (λ (zs : List A). AllZip R zs ys) (take_all i xs le) (subst (AllZip R (take i xs)) (take_all i ys most) all)

@@ -25,7 +25,8 @@ use Rattle.folder_check.proofs.Gathered.{HoldsBut, IsFoundIn, all_held, entries_
 use Rattle.folder_check.proofs.Judged.{AreGathered, entries_fit}
 use Rattle.folder_check.proofs.Pairs.{get_in, zip_at, zip_over}
 
-wrong_shows : (P : ℕ → Head → Type 0) (listed : List Listed) (given : ℕ) (findings : List Finding) (d : Damage) → IsWrong listed given findings d → IsShown (LacksLeaf P) HasNoBody d
+wrong_shows : (P : ℕ → Head → Type 0) (listed : List Listed) (given : ℕ) (findings : List Finding) (d : Damage) → IsWrong listed given findings d
+    → IsShown (LacksLeaf P) HasNoBody d
 wrong_shows P listed given findings d (Lacking l) = subst (IsShown (LacksLeaf P) HasNoBody) (sym l.tells) l.apart
 wrong_shows P listed given findings d (Crowding all (number, tells, least)) = subst (IsShown (LacksLeaf P) HasNoBody) (sym tells) tt
 wrong_shows P listed given findings d (Beyond all none b) =
@@ -35,7 +36,8 @@ module _ (files : Files) (c : CommitData) (held : List SegmentData) (findings : 
   lacking_pair : (d : Damage) (l : IsLacking c.listed findings d)
       → IsFilePair files (Live l.segment.segment l.segment.generation) l.segment.live l.finding.found
   lacking_pair d l =
-      let at = zip_at (λ s f. (e : SegmentData) × HoldsBut files c s e × IsFoundIn e f) c.listed findings l.place l.segment l.finding (zip_over (HoldsBut files c) IsFoundIn c.listed held findings g.but g.found) l.listed_there l.found_there in
+      let at = zip_at (λ s f. (e : SegmentData) × HoldsBut files c s e × IsFoundIn e f) c.listed findings l.place l.segment l.finding
+      (zip_over (HoldsBut files c) IsFoundIn c.listed held findings g.but g.found) l.listed_there l.found_there in
       let by : HoldsEntries files c l.segment at.0 = record { id = at.1.id; segment = at.1.segment; live = at.1.live } in
       InLive c g.says l.segment (get_in c.listed l.place l.segment l.listed_there) at.0 by refl (sym at.1.live_count) at.2.found
 
@@ -68,7 +70,8 @@ module _ (files : Files) (c : CommitData) (held : List SegmentData) (findings : 
   wrong_named d (Crowding all (number, tells, least)) = subst (NamesLooked files) (sym tells) tt
   wrong_named d (Beyond all none b) = subst (NamesLooked files) (sym b.tells) (given_pair all d b)
 
-wrong_evident : (T : Type 0) (files : Files) (c : CommitData) (findings : List Finding) (d : Damage) → (T → (held : List SegmentData) × AreGathered files c held findings) → IsWrong c.listed c.given findings d → IsEvident T files d
+wrong_evident : (T : Type 0) (files : Files) (c : CommitData) (findings : List Finding) (d : Damage)
+    → (T → (held : List SegmentData) × AreGathered files c held findings) → IsWrong c.listed c.given findings d → IsEvident T files d
 wrong_evident T files c findings d know wrong = record {
   shows = merely (wrong_shows HasRanges c.listed c.given findings d wrong);
   of_files = λ t. let (held, g) = know t in record {
@@ -77,9 +80,11 @@ wrong_evident T files c findings d know wrong = record {
   };
 }
 
-pub on_wrong_evident : {X : Type 0} (T : Type 0) (files : Files) (c : CommitData) (findings : List Finding) (r : Result X PageFault) → (T → (held : List SegmentData) × AreGathered files c held findings)
+pub on_wrong_evident : {X : Type 0} (T : Type 0) (files : Files) (c : CommitData) (findings : List Finding) (r : Result X PageFault)
+    → (T → (held : List SegmentData) × AreGathered files c held findings)
     → OnDamage r (IsWrong c.listed c.given findings) → OnDamage r (IsEvident T files)
-on_wrong_evident T files c findings r know = on_damage_weaker r (IsWrong c.listed c.given findings) (IsEvident T files) (λ d h. wrong_evident T files c findings d know h)
+on_wrong_evident T files c findings r know =
+    on_damage_weaker r (IsWrong c.listed c.given findings) (IsEvident T files) (λ d h. wrong_evident T files c findings d know h)
 
 pub on_wrong_found : {X : Type 0} (files : Files) (c : CommitData) (findings : List Finding) (r : Result X PageFault)
     → (held : List SegmentData) × AreGathered files c held findings

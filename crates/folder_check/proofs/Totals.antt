@@ -48,7 +48,8 @@ total_one x (suc n) lt = by (total_one x n) (eqb x n) refl
 pub total_among : (xs : List ℕ) (n : ℕ) → AllPairs (λ (a b : ℕ). a < b) xs → All (λ x. x < n) xs → total (λ m. one_if (is_among xs m)) n ≡ length xs
 total_among [] n up low = total_none (λ m. 0) n (λ m lt. refl)
 total_among (x ∷ xs) n up low =
-    total_alike (λ m. one_if (eqb x m || is_among xs m)) (λ m. one_if (eqb x m) + one_if (is_among xs m)) n (λ m lt. apart m (eqb x m) refl (is_among xs m) refl)
+    total_alike (λ m. one_if (eqb x m || is_among xs m)) (λ m. one_if (eqb x m) + one_if (is_among xs m)) n
+    (λ m lt. apart m (eqb x m) refl (is_among xs m) refl)
     ∙ total_sum (λ m. one_if (eqb x m)) (λ m. one_if (is_among xs m)) n
     ∙ both (total_among xs n (pairs_tail (λ (a b : ℕ). a < b) x xs up) (All-tail (λ y. y < n) x xs low))
   where

@@ -1,5 +1,6 @@
 -- How generating ends, by what its calls answered.
-use Rattle.std.proofs.Common.{◌≡◌, ◌+◌, ◌++◌, ℕ, Bool, false, true, List, [], length, Some, None, Result, Ok, Err, refl, sym, ap, subst, ◌∙◌, inl, inr, ⊎_elim, arith}
+use Rattle.std.proofs.Common.{◌≡◌, ◌+◌, ◌++◌, ℕ, Bool, false, true, List, [], length, Some, None}
+use Rattle.std.proofs.Common.{Result, Ok, Err, refl, sym, ap, subst, ◌∙◌, inl, inr, ⊎_elim, arith}
 use Rattle.std.specs.Prelude.{codes, decimal}
 use Rattle.std.specs.List.{Contains}
 use Rattle.outer_io.specs.declared.file_name.FileName.TheVariants.{Commit}
@@ -38,12 +39,14 @@ pub record IsCreated (seed : ℕ) (a : Moment) : Type 0 where
   pub made : IsMade seed 0 0 a
   pub bare : a.session.set.parts ≡ []
 
-pub created : (seed leaf : ℕ) (files : Files) (s : SessionData) (faults : ℕ) → leaf ≡ 333 → kept 0 (documents seed 0) ≡ documents seed 0 → documents seed 0 ≡ [] → files Commit ≡ None → Sees 2 files s.set (new_index 2 leaf)
+pub created : (seed leaf : ℕ) (files : Files) (s : SessionData) (faults : ℕ) → leaf ≡ 333 → kept 0 (documents seed 0) ≡ documents seed 0 → documents seed 0 ≡ []
+    → files Commit ≡ None → Sees 2 files s.set (new_index 2 leaf)
     → Guards 2 files s → s.set.parts ≡ [] → IsCreated seed (record { files = files; session = s; faults = faults })
 created seed leaf files s faults is all empty none seen guards bare = record {
   none = none;
   guards = guards;
-  made = subst (Sees 2 files s.set) (ap (new_index 2) is ∙ ap (λ (docs : List Document). record (new_index 2 333) { next = 0; given = 0; docs = docs }) (sym (all ∙ empty))) seen;
+  made = subst (Sees 2 files s.set)
+      (ap (new_index 2) is ∙ ap (λ (docs : List Document). record (new_index 2 333) { next = 0; given = 0; docs = docs }) (sym (all ∙ empty))) seen;
   bare = bare;
 }
 
@@ -53,32 +56,42 @@ other T page.Memory whole = tt
 other T (page.Damaged d) whole = whole
 
 -- nothing is stored yet
-still_none : {T : Type 0} (told : Type 0) (seed n : ℕ) (a b : Moment) (r : Result T PageFault) → Makes told (IsMade seed 0 0) (IsMade seed n n) a b r → told → IsCreated seed a → IsStored b.files None
+still_none : {T : Type 0} (told : Type 0) (seed n : ℕ) (a b : Moment) (r : Result T PageFault) → Makes told (IsMade seed 0 0) (IsMade seed n n) a b r → told
+    → IsCreated seed a → IsStored b.files None
 still_none told seed n a b r makes t new = stored_still a.files b.files None (makes.kept t new.guards) new.none
 
 -- a fault while it was filled
-pub ends_early : {T : Type 0} (told : Type 0) (seed n : ℕ) (a b : Moment) (answer : Answer) (before after : List ℕ) (fault : PageFault) (r : Result Bool PageFault) → r ≡ Err fault
+pub ends_early : {T : Type 0} (told : Type 0) (seed n : ℕ) (a b : Moment) (answer : Answer) (before after : List ℕ) (fault : PageFault)
+    (r : Result Bool PageFault) → r ≡ Err fault
     → Makes {T = T} told (IsMade seed 0 0) (IsMade seed n n) a b (Err fault) → told → IsCreated seed a → DoesWhole b.files None answer before after r
 ends_early {T = T} told seed n a b answer before after fault r is makes t new = subst (DoesWhole b.files None answer before after) (sym is)
     (does_fault b.files None answer before after fault (other T fault (makes.whole t new.made)) (inl (still_none told seed n a b (Err fault) makes t new)))
 
 -- want of memory after that
-pub ends_unsaid : {T : Type 0} (told : Type 0) (seed n : ℕ) (a b : Moment) (x : T) (answer : Answer) (before after : List ℕ) (r : Result Bool PageFault) → r ≡ Err page.Memory
+pub ends_unsaid : {T : Type 0} (told : Type 0) (seed n : ℕ) (a b : Moment) (x : T) (answer : Answer) (before after : List ℕ) (r : Result Bool PageFault)
+    → r ≡ Err page.Memory
     → Makes told (IsMade seed 0 0) (IsMade seed n n) a b (Ok x) → told → IsCreated seed a → DoesWhole b.files None answer before after r
 ends_unsaid told seed n a b x answer before after r is makes t new =
-    subst (DoesWhole b.files None answer before after) (sym is) (does_fault b.files None answer before after page.Memory tt (inl (still_none told seed n a b (Ok x) makes t new)))
+    subst (DoesWhole b.files None answer before after) (sym is)
+    (does_fault b.files None answer before after page.Memory tt (inl (still_none told seed n a b (Ok x) makes t new)))
 
 -- want of memory where the state is stored
-pub ends_untold : (files : Files) (state : State) (answer : Answer) (before after : List ℕ) (r : Result Bool PageFault) → r ≡ Err page.Memory → IsStored files state → DoesWhole files state answer before after r
-ends_untold files state answer before after r is h = subst (DoesWhole files state answer before after) (sym is) (does_fault files state answer before after page.Memory tt (inl h))
+pub ends_untold : (files : Files) (state : State) (answer : Answer) (before after : List ℕ) (r : Result Bool PageFault) → r ≡ Err page.Memory
+    → IsStored files state → DoesWhole files state answer before after r
+ends_untold files state answer before after r is h =
+    subst (DoesWhole files state answer before after) (sym is) (does_fault files state answer before after page.Memory tt (inl h))
 
 -- want of memory before
-pub ends_uncreated : (files : Files) (answer : Answer) (before after : List ℕ) (r : Result Bool PageFault) → r ≡ Err page.Memory → files Commit ≡ None → DoesWhole files None answer before after r
-ends_uncreated files answer before after r is none = subst (DoesWhole files None answer before after) (sym is) (does_fault files None answer before after page.Memory tt (inl none))
+pub ends_uncreated : (files : Files) (answer : Answer) (before after : List ℕ) (r : Result Bool PageFault) → r ≡ Err page.Memory → files Commit ≡ None
+    → DoesWhole files None answer before after r
+ends_uncreated files answer before after r is none =
+    subst (DoesWhole files None answer before after) (sym is) (does_fault files None answer before after page.Memory tt (inl none))
 
 -- a fault of the commit: nothing is stored, or all
-pub ends_uncommitted : {T U : Type 0} (told : Type 0) (seed n : ℕ) (a b c : Moment) (x : U) (before after : List ℕ) (fault : PageFault) (r : Result Bool PageFault) → r ≡ Err fault → made seed n ≡ Some (drawn_index seed n n)
-    → Makes told (IsMade seed 0 0) (IsMade seed n n) a b (Ok x) → IsCommitted {T = T} 2 told b c (Err fault) → told → IsCreated seed a → DoesWhole c.files None (generated None n seed) before after r
+pub ends_uncommitted : {T U : Type 0} (told : Type 0) (seed n : ℕ) (a b c : Moment) (x : U) (before after : List ℕ) (fault : PageFault)
+    (r : Result Bool PageFault) → r ≡ Err fault → made seed n ≡ Some (drawn_index seed n n)
+    → Makes told (IsMade seed 0 0) (IsMade seed n n) a b (Ok x) → IsCommitted {T = T} 2 told b c (Err fault) → told → IsCreated seed a
+    → DoesWhole c.files None (generated None n seed) before after r
 unfolding generated
 ends_uncommitted {T = T} told seed n a b c x before after fault r is law makes commits t new =
     let at = makes.made t new.made in
@@ -90,36 +103,48 @@ ends_uncommitted {T = T} told seed n a b c x before after fault r is law makes c
     (commits.stored t (drawn_index seed n n) at (makes.guards t new.guards))))
 
 -- all is said, and stored
-pub ends_made : {T U : Type 0} (told : Type 0) (seed n : ℕ) (a b c : Moment) (x : U) (y : T) (docs live hits near : ℕ) (before after : List ℕ) → made seed n ≡ Some (drawn_index seed n n)
-    → after ≡ before ++ (ended (codes "docs " ++ decimal docs ++ codes " live " ++ decimal live) ++ ended (codes "box hits " ++ decimal hits) ++ ended (codes "nearest sum " ++ decimal near))
-    → (docs ≡ n) × (live ≡ length (made_docs seed n)) × (hits ≡ box_hits (made_docs seed n) (points seed n 64)) × (near ≡ near_sum (made_docs seed n) (points seed (n + 64) 16))
-    → Makes told (IsMade seed 0 0) (IsMade seed n n) a b (Ok x) → IsCommitted 2 told b c (Ok y) → told → IsCreated seed a → DoesWhole c.files None (generated None n seed) before after (Ok false)
+pub ends_made : {T U : Type 0} (told : Type 0) (seed n : ℕ) (a b c : Moment) (x : U) (y : T) (docs live hits near : ℕ) (before after : List ℕ)
+    → made seed n ≡ Some (drawn_index seed n n)
+    → after ≡ before
+    ++ (ended (codes "docs " ++ decimal docs ++ codes " live " ++ decimal live) ++ ended (codes "box hits " ++ decimal hits)
+    ++ ended (codes "nearest sum " ++ decimal near))
+    → (docs ≡ n) × (live ≡ length (made_docs seed n)) × (hits ≡ box_hits (made_docs seed n) (points seed n 64))
+    × (near ≡ near_sum (made_docs seed n) (points seed (n + 64) 16))
+    → Makes told (IsMade seed 0 0) (IsMade seed n n) a b (Ok x) → IsCommitted 2 told b c (Ok y) → told → IsCreated seed a
+    → DoesWhole c.files None (generated None n seed) before after (Ok false)
 unfolding generated
 ends_made told seed n a b c x y docs live hits near before after law grew (d, l, h, m) makes commits t new = (
   grew
-      ∙ (λ j. before ++ (ended (codes "docs " ++ decimal (d j) ++ codes " live " ++ decimal (l j)) ++ ended (codes "box hits " ++ decimal (h j)) ++ ended (codes "nearest sum " ++ decimal (m j))))
+      ∙ (λ j. before
+      ++ (ended (codes "docs " ++ decimal (d j) ++ codes " live " ++ decimal (l j)) ++ ended (codes "box hits " ++ decimal (h j))
+      ++ ended (codes "nearest sum " ++ decimal (m j))))
       ∙ ap (λ (o : State). before ++ summary seed n (docs_of o)) (sym law),
   refl,
   subst (IsStored c.files) (sym law) (commits.stored t (drawn_index seed n n) (makes.made t new.made) (makes.guards t new.guards)).0,
 )
 
 -- each segment is canonical
-pub made_canon : {T U : Type 0} (told : Type 0) (seed n : ℕ) (a b c : Moment) (x : U) (y : T) → Makes told (IsMade seed 0 0) (IsMade seed n n) a b (Ok x) → IsCommitted 2 told b c (Ok y) → told → IsCreated seed a → HasNewCanonical a.files c.files
+pub made_canon : {T U : Type 0} (told : Type 0) (seed n : ℕ) (a b c : Moment) (x : U) (y : T) → Makes told (IsMade seed 0 0) (IsMade seed n n) a b (Ok x)
+    → IsCommitted 2 told b c (Ok y) → told → IsCreated seed a → HasNewCanonical a.files c.files
 made_canon told seed n a b c x y makes commits t new =
     let at = makes.made t new.made in
     let guards = makes.guards t new.guards in
-    new_canonical 2 a.files c.files a.session.set c.session (drawn_index seed n n) (λ p there apart. nil_none p ⊥ (subst (λ (ps : List Part). Contains ps p) new.bare there))
-    (brings_then 2 a.files b.files c.files a.session.set.parts b.session.set.parts c.session.set.parts (makes.canon t) (commits.brings t)) (commits.seen t (drawn_index seed n n) at) (commits.guards t guards) (commits.says t guards)
+    new_canonical 2 a.files c.files a.session.set c.session (drawn_index seed n n)
+    (λ p there apart. nil_none p ⊥ (subst (λ (ps : List Part). Contains ps p) new.bare there))
+    (brings_then 2 a.files b.files c.files a.session.set.parts b.session.set.parts c.session.set.parts (makes.canon t) (commits.brings t))
+    (commits.seen t (drawn_index seed n n) at) (commits.guards t guards) (commits.says t guards)
     commits.unchanged
 
 -- no call failed
-pub cause_done : {T U : Type 0} (f0 f1 f2 : ℕ) (x : T) (y : U) (is_refused : Bool) → HasPageCause f0 f1 (Ok x) → HasPageCause f1 f2 (Ok y) → HasPageCause f0 f2 (Ok is_refused)
+pub cause_done : {T U : Type 0} (f0 f1 f2 : ℕ) (x : T) (y : U) (is_refused : Bool) → HasPageCause f0 f1 (Ok x) → HasPageCause f1 f2 (Ok y)
+    → HasPageCause f0 f2 (Ok is_refused)
 cause_done f0 f1 f2 x y is_refused first second =
     let late = first.later in let more = second.later in record { later = omega (arith, late, more); fine = second.fine ∙ first.fine; failed = λ e. absurd cc }
 
 -- ---- an index is there
 
-pub ends_there : (files : Files) (state : State) (n seed : ℕ) (before after : List ℕ) → (files Commit ≡ None → ⊥) → IsStored files state → after ≡ before ++ ended (codes "index exists") → DoesWhole files state (generated state n seed) before after (Ok true)
+pub ends_there : (files : Files) (state : State) (n seed : ℕ) (before after : List ℕ) → (files Commit ≡ None → ⊥) → IsStored files state
+    → after ≡ before ++ ended (codes "index exists") → DoesWhole files state (generated state n seed) before after (Ok true)
 unfolding generated
 ends_there files None n seed before after there h grew = absurd (there h)
 ends_there files (Some i) n seed before after there h grew = (grew, refl, h)
@@ -133,14 +158,17 @@ none_there files None none h = refl
 none_there files (Some i) none h = absurd (commit_there files h.commit h.holds.commit none)
 
 -- the commit was not read
-pub ends_unread : (T : Type 0) (old new : Files) (state : State) (answer : Answer) (before after : List ℕ) (fault : PageFault) (r : Result Bool PageFault) → r ≡ Err fault → NotDamaged {T = T} (Err fault) → new ≡ old
+pub ends_unread : (T : Type 0) (old new : Files) (state : State) (answer : Answer) (before after : List ℕ) (fault : PageFault) (r : Result Bool PageFault)
+    → r ≡ Err fault → NotDamaged {T = T} (Err fault) → new ≡ old
     → IsStored old state → DoesWhole new state answer before after r
 ends_unread T old new state answer before after fault r is whole same h =
-    subst (DoesWhole new state answer before after) (sym is) (does_fault new state answer before after fault (other T fault whole) (inl (subst (λ (f : Files). IsStored f state) (sym same) h)))
+    subst (DoesWhole new state answer before after) (sym is)
+    (does_fault new state answer before after fault (other T fault whole) (inl (subst (λ (f : Files). IsStored f state) (sym same) h)))
 
 -- where no file changed nothing is listed anew
 pub none_anew : (old new : Files) → new ≡ old → HasNewCanonical old new
-none_anew old new same c says l inside apart head has = absurd (apart c (subst (λ (f : Files). IsCommitFile (bytes_of (f Commit)) c) same says) (l, inside, refl))
+none_anew old new same c says l inside apart head has =
+    absurd (apart c (subst (λ (f : Files). IsCommitFile (bytes_of (f Commit)) c) same says) (l, inside, refl))
 
 -- ---- what a damage shows
 
@@ -149,11 +177,14 @@ pub memory_evident : (told : Type 0) (files : Files) (r : Result Bool PageFault)
 memory_evident told files r is = subst (λ (q : Result Bool PageFault). OnDamage q (IsEvident told files)) (sym is) tt
 
 -- a fault of a call whose session is trusted, where no Commit file was at first
-pub fault_evident : (told none trusts : Type 0) (files : Files) (fault : PageFault) (r : Result Bool PageFault) → r ≡ Err fault → (told → none → trusts) → FaultShows (IsEvident (told × trusts) files) fault
+pub fault_evident : (told none trusts : Type 0) (files : Files) (fault : PageFault) (r : Result Bool PageFault) → r ≡ Err fault → (told → none → trusts)
+    → FaultShows (IsEvident (told × trusts) files) fault
     → OnDamage r (IsEvident (told × none) files)
 fault_evident told none trusts files fault r is trusted evident = subst (λ (q : Result Bool PageFault). OnDamage q (IsEvident (told × none) files)) (sym is)
     (on_evident_less {X = Bool} (told × trusts) (told × none) files (Err fault) (λ h. (h.0, trusted h.0 h.1)) evident)
 
 -- the commit was not read, and no file changed
-pub unread_evident : (told : Type 0) (old new : Files) (fault : PageFault) → (told → new ≡ old) → (told → FaultShows (IsCommitDamageOf old) fault) → FaultShows IsCommitDamage fault → FaultShows (IsEvident told new) fault
-unread_evident told old new fault same damage shown = on_evident_at {X = Bool} IsTwice told told old new (Err fault) (λ t. t) same (on_commit_evident {X = Bool} told old (Err fault) damage shown)
+pub unread_evident : (told : Type 0) (old new : Files) (fault : PageFault) → (told → new ≡ old) → (told → FaultShows (IsCommitDamageOf old) fault)
+    → FaultShows IsCommitDamage fault → FaultShows (IsEvident told new) fault
+unread_evident told old new fault same damage shown =
+    on_evident_at {X = Bool} IsTwice told told old new (Err fault) (λ t. t) same (on_commit_evident {X = Bool} told old (Err fault) damage shown)

@@ -34,6 +34,7 @@ one_less n (d ∷ ds) up live = by (nat_eq d.number n) refl (one_less n ds (pair
     by false other rest e = let more = rest e in omega (arith, more)
 
 -- how many are left, counted down
-pub left_is : (n live : ℕ) (docs : List Document) (goes : Bool) → Ascend docs → goes ≡ is_live n docs → live ≡ length docs → live - cond goes 1 0 ≡ length (deleted n docs)
+pub left_is : (n live : ℕ) (docs : List Document) (goes : Bool) → Ascend docs → goes ≡ is_live n docs → live ≡ length docs
+    → live - cond goes 1 0 ≡ length (deleted n docs)
 left_is n live docs true up is count = let less = one_less n docs up (sym is) in omega (arith, less, count)
 left_is n live docs false up is count = let same = ap length (deleted_none n docs (sym is)) in omega (arith, same, count)

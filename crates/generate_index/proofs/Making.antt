@@ -51,8 +51,10 @@ makes_none told Before at x = record {
 }
 
 -- what is trusted before is so after it
-pub makes_trusts : {T : Type 0} (told : Type 0) (Before After : At) (a b : Moment) (r : Result T PageFault) → Makes told Before After a b r → told → Trusts 2 a.files a.session → Trusts 2 b.files b.session
-makes_trusts told Before After a b r makes t trusts = record { guards = makes.guards t trusts.guards; faithful = makes.faithful t trusts.faithful; traced = makes.traced t trusts }
+pub makes_trusts : {T : Type 0} (told : Type 0) (Before After : At) (a b : Moment) (r : Result T PageFault) → Makes told Before After a b r → told
+    → Trusts 2 a.files a.session → Trusts 2 b.files b.session
+makes_trusts told Before After a b r makes t trusts =
+    record { guards = makes.guards t trusts.guards; faithful = makes.faithful t trusts.faithful; traced = makes.traced t trusts }
 
 -- a new session has no segment
 pub created_trusts : (files : Files) (s : SessionData) → Guards 2 files s → IsFaithful 2 files s.set → s.set.parts ≡ [] → Trusts 2 files s
@@ -63,7 +65,8 @@ created_trusts files s guards faithful bare = record {
 }
 
 -- some, and then more
-pub makes_then : {T U : Type 0} (told : Type 0) (Before Between After : At) (a b c : Moment) (x : U) (r : Result T PageFault) → Makes told Before Between a b (Ok x) → Makes told Between After b c r → Makes told Before After a c r
+pub makes_then : {T U : Type 0} (told : Type 0) (Before Between After : At) (a b c : Moment) (x : U) (r : Result T PageFault)
+    → Makes told Before Between a b (Ok x) → Makes told Between After b c r → Makes told Before After a c r
 makes_then told Before Between After a b c x r first second = record {
   made = λ t before. second.made t (first.made t before);
   guards = λ t guards. second.guards t (first.guards t guards);
@@ -73,11 +76,13 @@ makes_then told Before Between After a b c x r first second = record {
   whole = λ t before. second.whole t (first.made t before);
   faithful = λ t faithful. second.faithful t (first.faithful t faithful);
   traced = λ t trusts. second.traced t (makes_trusts told Before Between a b (Ok x) first t trusts);
-  evident = on_evident_less (told × Trusts 2 b.files b.session) (told × Trusts 2 a.files a.session) c.files r (λ h. (h.0, makes_trusts told Before Between a b (Ok x) first h.0 h.1)) second.evident;
+  evident = on_evident_less (told × Trusts 2 b.files b.session) (told × Trusts 2 a.files a.session) c.files r
+      (λ h. (h.0, makes_trusts told Before Between a b (Ok x) first h.0 h.1)) second.evident;
 }
 
 -- after a fault it says the same of all that was to come
-pub makes_stopped : {T U : Type 0} (told : Type 0) (Before After Later : At) (a b : Moment) (fault : PageFault) (r : Result U PageFault) → r ≡ Err fault → Makes {T = T} told Before After a b (Err fault)
+pub makes_stopped : {T U : Type 0} (told : Type 0) (Before After Later : At) (a b : Moment) (fault : PageFault) (r : Result U PageFault) → r ≡ Err fault
+    → Makes {T = T} told Before After a b (Err fault)
     → Makes told Before Later a b r
 makes_stopped {T = T} {U = U} told Before After Later a b fault r is makes = subst (Makes told Before Later a b) (sym is) (record {
   made = λ t before. tt;
@@ -97,8 +102,10 @@ makes_stopped {T = T} {U = U} told Before After Later a b fault r is makes = sub
     to_other page.Memory whole = tt
 
 -- a drawn document was added
-pub makes_add : {T : Type 0} (told : Type 0) (seed n : ℕ) (p : List ℤ) (a b : Moment) (r : Result T PageFault) → p ≡ point seed n → kept 0 (documents seed n) ≡ documents seed n → kept 0 (documents seed (n + 1)) ≡ documents seed (n + 1)
-    → documents seed (n + 1) ≡ documents seed n ++ document seed n ∷ [] → Adds 2 told (p ∷ []) a b r → Makes told (IsMade seed n 0) (IsMade seed (n + 1) 0) a b r
+pub makes_add : {T : Type 0} (told : Type 0) (seed n : ℕ) (p : List ℤ) (a b : Moment) (r : Result T PageFault) → p ≡ point seed n
+    → kept 0 (documents seed n) ≡ documents seed n → kept 0 (documents seed (n + 1)) ≡ documents seed (n + 1)
+    → documents seed (n + 1) ≡ documents seed n ++ document seed n ∷ [] → Adds 2 told (p ∷ []) a b r
+    → Makes told (IsMade seed n 0) (IsMade seed (n + 1) 0) a b r
 makes_add told seed n p a b r drawn all more_all more adds = record {
   made = λ t before. on_ok_map r (subst (Sees 2 b.files b.session.set) one_more) (adds.seen t (drawn_index seed n 0) before);
   guards = adds.guards;
@@ -118,10 +125,13 @@ makes_add told seed n p a b r drawn all more_all more adds = record {
     one_more = ap (λ (docs : List Document). record (new_index 2 333) { next = n + 1; given = n + 1; docs = docs }) grown
 
 -- a call that only reads
-pub makes_reads : {T : Type 0} (told : Type 0) (i : Index) (a b : Moment) (r : Result T PageFault) → (told → Sees 2 a.files a.session.set i → Sees 2 b.files b.session.set i)
-    → (told → Guards 2 a.files a.session → Guards 2 b.files b.session) → (told → b.files ≡ a.files) → b.session.set.parts ≡ a.session.set.parts → HasPageCause a.faults b.faults r
+pub makes_reads : {T : Type 0} (told : Type 0) (i : Index) (a b : Moment) (r : Result T PageFault)
+    → (told → Sees 2 a.files a.session.set i → Sees 2 b.files b.session.set i)
+    → (told → Guards 2 a.files a.session → Guards 2 b.files b.session) → (told → b.files ≡ a.files) → b.session.set.parts ≡ a.session.set.parts
+    → HasPageCause a.faults b.faults r
     → (told → Sees 2 a.files a.session.set i → NotDamaged r) → (told → IsFaithful 2 a.files a.session.set → IsFaithful 2 b.files b.session.set)
-    → OnDamage r (IsEvident (told × IsFaithful 2 a.files a.session.set) b.files) → Makes told (λ (at : Moment). Sees 2 at.files at.session.set i) (λ (at : Moment). Sees 2 at.files at.session.set i) a b r
+    → OnDamage r (IsEvident (told × IsFaithful 2 a.files a.session.set) b.files)
+    → Makes told (λ (at : Moment). Sees 2 at.files at.session.set i) (λ (at : Moment). Sees 2 at.files at.session.set i) a b r
 makes_reads told i a b r seen guards files parts cause whole faithful evident = record {
   made = λ t before. on_ok_any r (seen t before);
   guards = guards;
@@ -130,16 +140,20 @@ makes_reads told i a b r seen guards files parts cause whole faithful evident = 
   cause = cause;
   whole = whole;
   faithful = faithful;
-  traced = λ t trusts. subst (λ (ps : List Part). AreTraced 2 b.files ps) (sym parts) (subst (λ (f : Files). AreTraced 2 f a.session.set.parts) (sym (files t)) trusts.traced);
+  traced = λ t trusts.
+      subst (λ (ps : List Part). AreTraced 2 b.files ps) (sym parts) (subst (λ (f : Files). AreTraced 2 f a.session.set.parts) (sym (files t)) trusts.traced);
   evident = on_evident_less (told × IsFaithful 2 a.files a.session.set) (told × Trusts 2 a.files a.session) b.files r (λ h. (h.0, h.1.faithful)) evident;
 }
 
 -- documents were taken out, without a call on the folder
 pub makes_deletes : {T : Type 0} (told : Type 0) (seed n : ℕ) (files : Files) (faults : ℕ) (s t : SessionData) (x : T)
-    → ((files : Files) (faults seed : ℕ) → IsMade seed n 0 (record { files = files; session = s; faults = faults }) → IsMade seed n n (record { files = files; session = t; faults = faults }))
+    → ((files : Files) (faults seed : ℕ) → IsMade seed n 0 (record { files = files; session = s; faults = faults })
+    → IsMade seed n n (record { files = files; session = t; faults = faults }))
     → ((files : Files) → Guards 2 files s → Guards 2 files t) → ((files : Files) → IsFaithful 2 files s.set → IsFaithful 2 files t.set)
-    → ((files : Files) → AreTraced 2 files s.set.parts → AreTraced 2 files t.set.parts) → ((files : Files) → BringsCanonical 2 files files s.set.parts t.set.parts)
-    → Makes told (IsMade seed n 0) (IsMade seed n n) (record { files = files; session = s; faults = faults }) (record { files = files; session = t; faults = faults }) (Ok x)
+    → ((files : Files) → AreTraced 2 files s.set.parts → AreTraced 2 files t.set.parts)
+    → ((files : Files) → BringsCanonical 2 files files s.set.parts t.set.parts)
+    → Makes told (IsMade seed n 0) (IsMade seed n n) (record { files = files; session = s; faults = faults })
+    (record { files = files; session = t; faults = faults }) (Ok x)
 makes_deletes told seed n files faults s t x made guards faithful traced canon = record {
   made = λ h before. made files faults seed before;
   guards = λ h. guards files;
@@ -153,7 +167,8 @@ makes_deletes told seed n files faults s t x made guards faithful traced canon =
 }
 
 -- the value that is handed on is another one
-pub makes_ok : {T U : Type 0} (told : Type 0) (Before After : At) (a b : Moment) (x : T) (y : U) → Makes told Before After a b (Ok x) → Makes told Before After a b (Ok y)
+pub makes_ok : {T U : Type 0} (told : Type 0) (Before After : At) (a b : Moment) (x : T) (y : U) → Makes told Before After a b (Ok x)
+    → Makes told Before After a b (Ok y)
 makes_ok told Before After a b x y makes = record {
   made = makes.made;
   guards = makes.guards;
@@ -167,9 +182,11 @@ makes_ok told Before After a b x y makes = record {
 }
 
 -- by another name of the number of documents
-pub makes_for : {T : Type 0} (told : Type 0) (Before : At) (seed n m : ℕ) (a b : Moment) (r : Result T PageFault) → n ≡ m → Makes told Before (IsMade seed n 0) a b r → Makes told Before (IsMade seed m 0) a b r
+pub makes_for : {T : Type 0} (told : Type 0) (Before : At) (seed n m : ℕ) (a b : Moment) (r : Result T PageFault) → n ≡ m
+    → Makes told Before (IsMade seed n 0) a b r → Makes told Before (IsMade seed m 0) a b r
 makes_for told Before seed n m a b r same makes = subst (λ k. Makes told Before (IsMade seed k 0) a b r) same makes
 
 -- by another name of the seed
-pub makes_by : {T : Type 0} (told : Type 0) (x seed n : ℕ) (a b : Moment) (r : Result T PageFault) → x ≡ seed → Makes told (IsMade x 0 0) (IsMade x n 0) a b r → Makes told (IsMade seed 0 0) (IsMade seed n 0) a b r
+pub makes_by : {T : Type 0} (told : Type 0) (x seed n : ℕ) (a b : Moment) (r : Result T PageFault) → x ≡ seed → Makes told (IsMade x 0 0) (IsMade x n 0) a b r
+    → Makes told (IsMade seed 0 0) (IsMade seed n 0) a b r
 makes_by told x seed n a b r same makes = subst (λ k. Makes told (IsMade k 0 0) (IsMade k n 0) a b r) same makes

@@ -23,7 +23,8 @@ pub distances_alone : (ns : List Near) → sum_by (λ (f : ℕ × ℕ). f.0) (fo
 distances_alone ns = sum_from 0 ns
 
 -- one distance more
-pub distance_more : (ns : List Near) (i total : ℕ) (d : Near) → i < length ns → total ≡ sum_by (λ (n : Near). n.dist2) (take i ns) → sum_by (λ (n : Near). n.dist2) ns < 2 ^ 128
+pub distance_more : (ns : List Near) (i total : ℕ) (d : Near) → i < length ns → total ≡ sum_by (λ (n : Near). n.dist2) (take i ns)
+    → sum_by (λ (n : Near). n.dist2) ns < 2 ^ 128
     → min (total + (get_or ns i d).dist2) (2 ^ 128 - 1) ≡ sum_by (λ (n : Near). n.dist2) (take (i + 1) ns)
 distance_more ns i total d inside sum small =
     omega (arith, sum, small, sum_by_more (λ (n : Near). n.dist2) ns i d inside, sum_by_more_le (λ (n : Near). n.dist2) ns i d inside)
@@ -36,8 +37,10 @@ kept_few seed n =
     omega (arith, length-filter (stays n) (documents seed n), count_by-le-length (stays n) (documents seed n), length-map-range_with_len (document seed) 0 n)
 
 -- the hits of one box more
-pub hits_more : (seed n i total count : ℕ) (bounds : Region) (lo hi : List ℤ) → bounds ≡ record { lo = lo; hi = hi } → lo ≡ (box_round (point seed (n + i))).lo → hi ≡ (box_round (point seed (n + i))).hi → n ≤ 2 ^ 24 → i < 64
-    → ((docs : List Document) (centers : List (List ℤ)) → box_hits docs centers ≤ length centers * length docs) → total ≡ box_hits (made_docs seed n) (points seed n i)
+pub hits_more : (seed n i total count : ℕ) (bounds : Region) (lo hi : List ℤ) → bounds ≡ record { lo = lo; hi = hi } → lo ≡ (box_round (point seed (n + i))).lo
+    → hi ≡ (box_round (point seed (n + i))).hi → n ≤ 2 ^ 24 → i < 64
+    → ((docs : List Document) (centers : List (List ℤ)) → box_hits docs centers ≤ length centers * length docs)
+    → total ≡ box_hits (made_docs seed n) (points seed n i)
     → count ≡ length (hits (in_box bounds) (made_docs seed n)) → min (total + count) (2 ^ 64 - 1) ≡ box_hits (made_docs seed n) (points seed n (i + 1))
 hits_more seed n i total count bounds lo hi box low high few inside law sum is = small _ _ _ _ _ more at_most (kept_few seed n) few inside sum here
   where
@@ -47,13 +50,16 @@ hits_more seed n i total count bounds lo hi box low high few inside law sum is =
     here : count ≡ length (hits (in_box (box_round (point seed (n + i)))) (made_docs seed n))
     here = is ∙ ap (λ (r : Region). length (hits (in_box r) (made_docs seed n))) round
 
-    more : box_hits (made_docs seed n) (points seed n (i + 1)) ≡ box_hits (made_docs seed n) (points seed n i) + length (hits (in_box (box_round (point seed (n + i)))) (made_docs seed n))
+    more : box_hits (made_docs seed n) (points seed n (i + 1))
+        ≡ box_hits (made_docs seed n) (points seed n i) + length (hits (in_box (box_round (point seed (n + i)))) (made_docs seed n))
     more = sum_by-map-range_with_len_more (λ (center : List ℤ). length (hits (in_box (box_round center)) (made_docs seed n))) (point seed) n i (n + i) refl
 
     at_most : box_hits (made_docs seed n) (points seed n (i + 1)) ≤ (i + 1) * length (made_docs seed n)
-    at_most = subst (λ k. box_hits (made_docs seed n) (points seed n (i + 1)) ≤ k * length (made_docs seed n)) (length-map-range_with_len (point seed) n (i + 1)) (law (made_docs seed n) (points seed n (i + 1)))
+    at_most = subst (λ k. box_hits (made_docs seed n) (points seed n (i + 1)) ≤ k * length (made_docs seed n))
+        (length-map-range_with_len (point seed) n (i + 1)) (law (made_docs seed n) (points seed n (i + 1)))
 
-    small : (all before one docs most : ℕ) → all ≡ before + one → all ≤ (i + 1) * docs → docs ≤ most → most ≤ 2 ^ 24 → i < 64 → total ≡ before → count ≡ one → min (total + count) (2 ^ 64 - 1) ≡ all
+    small : (all before one docs most : ℕ) → all ≡ before + one → all ≤ (i + 1) * docs → docs ≤ most → most ≤ 2 ^ 24 → i < 64 → total ≡ before → count ≡ one
+        → min (total + count) (2 ^ 64 - 1) ≡ all
     small all before one docs most e bound fewer large inside a b =
         let first : i + 1 ≤ 64 = omega (arith, inside) in
         let second : docs ≤ 2 ^ 24 = omega (arith, fewer, large) in
@@ -63,17 +69,22 @@ hits_more seed n i total count bounds lo hi box low high few inside law sum is =
 -- ---- nearest
 
 -- the distances of one query more
-pub near_more : (seed n from i total sum : ℕ) (at : List ℤ) (found : List (ℕ × ℕ)) → at ≡ point seed (from + i) → i < 16 → ((m : ℕ) → near_sum (made_docs seed n) (points seed from m) ≤ m * 800000000000)
-    → total ≡ near_sum (made_docs seed n) (points seed from i) → found ≡ nearest 10 at (made_docs seed n) → (sum_by (λ (f : ℕ × ℕ). f.0) found < 2 ^ 128 → sum ≡ sum_by (λ (f : ℕ × ℕ). f.0) found)
+pub near_more : (seed n from i total sum : ℕ) (at : List ℤ) (found : List (ℕ × ℕ)) → at ≡ point seed (from + i) → i < 16
+    → ((m : ℕ) → near_sum (made_docs seed n) (points seed from m) ≤ m * 800000000000)
+    → total ≡ near_sum (made_docs seed n) (points seed from i) → found ≡ nearest 10 at (made_docs seed n)
+    → (sum_by (λ (f : ℕ × ℕ). f.0) found < 2 ^ 128 → sum ≡ sum_by (λ (f : ℕ × ℕ). f.0) found)
     → min (total + sum) (2 ^ 128 - 1) ≡ near_sum (made_docs seed n) (points seed from (i + 1))
 near_more seed n from i total sum at found drawn inside law is answers told = small _ _ _ more (law (i + 1)) inside is here told
   where
     here : sum_by (λ (f : ℕ × ℕ). f.0) found ≡ sum_by (λ (f : ℕ × ℕ). f.0) (nearest 10 (point seed (from + i)) (made_docs seed n))
     here = ap (sum_by (λ (f : ℕ × ℕ). f.0)) (answers ∙ ap (λ (p : List ℤ). nearest 10 p (made_docs seed n)) drawn)
 
-    more : near_sum (made_docs seed n) (points seed from (i + 1)) ≡ near_sum (made_docs seed n) (points seed from i) + sum_by (λ (f : ℕ × ℕ). f.0) (nearest 10 (point seed (from + i)) (made_docs seed n))
-    more = sum_by-map-range_with_len_more (λ (target : List ℤ). sum_by (λ (f : ℕ × ℕ). f.0) (nearest 10 target (made_docs seed n))) (point seed) from i (from + i) refl
+    more : near_sum (made_docs seed n) (points seed from (i + 1))
+        ≡ near_sum (made_docs seed n) (points seed from i) + sum_by (λ (f : ℕ × ℕ). f.0) (nearest 10 (point seed (from + i)) (made_docs seed n))
+    more = sum_by-map-range_with_len_more (λ (target : List ℤ). sum_by (λ (f : ℕ × ℕ). f.0) (nearest 10 target (made_docs seed n))) (point seed) from i
+        (from + i) refl
 
-    small : (all before one : ℕ) → all ≡ before + one → all ≤ (i + 1) * 800000000000 → i < 16 → total ≡ before → sum_by (λ (f : ℕ × ℕ). f.0) found ≡ one → (sum_by (λ (f : ℕ × ℕ). f.0) found < 2 ^ 128 → sum ≡ sum_by (λ (f : ℕ × ℕ). f.0) found)
+    small : (all before one : ℕ) → all ≡ before + one → all ≤ (i + 1) * 800000000000 → i < 16 → total ≡ before → sum_by (λ (f : ℕ × ℕ). f.0) found ≡ one
+        → (sum_by (λ (f : ℕ × ℕ). f.0) found < 2 ^ 128 → sum ≡ sum_by (λ (f : ℕ × ℕ). f.0) found)
         → min (total + sum) (2 ^ 128 - 1) ≡ all
     small all before one e bound inside a b told = let exact = told (omega (arith, e, bound, inside, b)) in omega (arith, e, bound, inside, a, b, exact)

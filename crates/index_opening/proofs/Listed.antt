@@ -33,7 +33,8 @@ use Rattle.index_opening.specs.Opened.{IsOpened}
 
 -- ---- what shows that a file isn't as the commit says
 
-pub unequal_shown : (s : Listed) (name : FileName) (m n : ℕ) → ((name ≡ Segment s.segment) ⊎ (name ≡ Live s.segment s.generation)) → (d : Damage) → IsPairDamage name m n d × (m ≢ n) → IsListedDamage s d
+pub unequal_shown : (s : Listed) (name : FileName) (m n : ℕ) → ((name ≡ Segment s.segment) ⊎ (name ≡ Live s.segment s.generation)) → (d : Damage)
+    → IsPairDamage name m n d × (m ≢ n) → IsListedDamage s d
 unequal_shown s name m n here (Unequal file said found) (pair, apart) =
     inr (inr (⊎_elim (λ e. inl (pair.0 ∙ e)) (λ e. inr (pair.0 ∙ e)) here, λ e. apart (sym pair.1 ∙ e ∙ pair.2)))
 unequal_shown s name m n here (Page file number bytes) (pair, apart) = absurd pair
@@ -44,7 +45,8 @@ unequal_shown s name m n here (Size file size needed) (pair, apart) = absurd pai
 unequal_shown s name m n here (Beyond doc next) (pair, apart) = absurd pair
 unequal_shown s name m n here (Doubled doc) (pair, apart) = absurd pair
 
-pub unequal_of : (files : Files) (c : CommitData) (s : Listed) (name : FileName) (m n : ℕ) → IsPair files c s name m n → (d : Damage) → IsPairDamage name m n d × (m ≢ n) → IsListedDamageOf files c s d
+pub unequal_of : (files : Files) (c : CommitData) (s : Listed) (name : FileName) (m n : ℕ) → IsPair files c s name m n → (d : Damage)
+    → IsPairDamage name m n d × (m ≢ n) → IsListedDamageOf files c s d
 unequal_of files c s name m n is (Unequal file said found) (pair, apart) =
     inr (inr (subst (λ (f : FileName). IsPair files c s f said found) (sym pair.0)
     (subst (λ k. IsPair files c s name k found) (sym pair.1) (subst (IsPair files c s name m) (sym pair.2) is))))
@@ -56,19 +58,24 @@ unequal_of files c s name m n is (Size file size needed) (pair, apart) = absurd 
 unequal_of files c s name m n is (Beyond doc next) (pair, apart) = absurd pair
 unequal_of files c s name m n is (Doubled doc) (pair, apart) = absurd pair
 
-pub leaf_pair : (files : Files) (c : CommitData) (s : Listed) (head : Head) (m n : ℕ) → HasHead c.dims files s head → m ≡ c.leaf → n ≡ head.leaf → IsPair files c s (Segment s.segment) m n
+pub leaf_pair : (files : Files) (c : CommitData) (s : Listed) (head : Head) (m n : ℕ) → HasHead c.dims files s head → m ≡ c.leaf → n ≡ head.leaf
+    → IsPair files c s (Segment s.segment) m n
 leaf_pair files c s head m n has said found =
     subst (λ k. IsPair files c s (Segment s.segment) k n) (sym said) (subst (IsPair files c s (Segment s.segment) c.leaf) (sym found) (LeafSize head has))
 
-pub entries_pair : (files : Files) (c : CommitData) (s : Listed) (head : Head) (m n : ℕ) → HasHead c.dims files s head → m ≡ s.entries → n ≡ head.entries → IsPair files c s (Segment s.segment) m n
+pub entries_pair : (files : Files) (c : CommitData) (s : Listed) (head : Head) (m n : ℕ) → HasHead c.dims files s head → m ≡ s.entries → n ≡ head.entries
+    → IsPair files c s (Segment s.segment) m n
 entries_pair files c s head m n has said found =
     subst (λ k. IsPair files c s (Segment s.segment) k n) (sym said) (subst (IsPair files c s (Segment s.segment) s.entries) (sym found) (Entries head has))
 
-pub live_pair : (files : Files) (c : CommitData) (s : Listed) (live : LiveSet) (m n : ℕ) → HasLive files s live → m ≡ s.live → n ≡ length live.live → IsPair files c s (Live s.segment s.generation) m n
+pub live_pair : (files : Files) (c : CommitData) (s : Listed) (live : LiveSet) (m n : ℕ) → HasLive files s live → m ≡ s.live → n ≡ length live.live
+    → IsPair files c s (Live s.segment s.generation) m n
 live_pair files c s live m n has said found =
-    subst (λ k. IsPair files c s (Live s.segment s.generation) k n) (sym said) (subst (IsPair files c s (Live s.segment s.generation) s.live) (sym found) (LiveCount live has))
+    subst (λ k. IsPair files c s (Live s.segment s.generation) k n) (sym said)
+    (subst (IsPair files c s (Live s.segment s.generation) s.live) (sym found) (LiveCount live has))
 
-pub pair_fault : (files : Files) (c : CommitData) (s : Listed) (name : FileName) (m n : ℕ) (f : PageFault) → IsPair files c s name m n → FaultShows (λ d. IsPairDamage name m n d × (m ≢ n)) f
+pub pair_fault : (files : Files) (c : CommitData) (s : Listed) (name : FileName) (m n : ℕ) (f : PageFault) → IsPair files c s name m n
+    → FaultShows (λ d. IsPairDamage name m n d × (m ≢ n)) f
     → FaultShows (IsListedDamageOf files c s) f
 pair_fault files c s name m n f is = fault_weaker f (λ d. IsPairDamage name m n d × (m ≢ n)) (IsListedDamageOf files c s) (unequal_of files c s name m n is)
 
@@ -88,17 +95,24 @@ live_fault files c s f =
 pub equal_fault : (name : FileName) (m n : ℕ) (f : PageFault) → m ≡ n → FaultShows (λ d. IsPairDamage name m n d × (m ≢ n)) f → FaultShows (λ _. ⊥) f
 equal_fault name m n f same = fault_weaker f (λ d. IsPairDamage name m n d × (m ≢ n)) (λ _. ⊥) (λ d h. h.1 same)
 
-pub listed_head : (D : ℕ) (files : Files) (c : CommitData) (s : Listed) (head : Head) → c.dims ≡ D → head.id ≡ s.segment → IsHeadOf D (bytes_of (files (Segment s.segment))) head → HasHead c.dims files s head
+pub listed_head : (D : ℕ) (files : Files) (c : CommitData) (s : Listed) (head : Head) → c.dims ≡ D → head.id ≡ s.segment
+    → IsHeadOf D (bytes_of (files (Segment s.segment))) head → HasHead c.dims files s head
 listed_head D files c s head dims id is = record { id = id; is = subst (λ n. IsHeadOf n (bytes_of (files (Segment s.segment))) head) (sym dims) is }
 
-pub head_held : (files : Files) (c : CommitData) (s : Listed) (d : SegmentData) (head : Head) → HoldsFiles files c s d → HasHead c.dims files s head → head ≡ d.head
-head_held files c s d head held has = held_head c.dims c.leaf s (bytes_of (files (Segment s.segment))) (bytes_of (files (Live s.segment s.generation))) d head held has.id has.is
+pub head_held : (files : Files) (c : CommitData) (s : Listed) (d : SegmentData) (head : Head) → HoldsFiles files c s d → HasHead c.dims files s head
+    → head ≡ d.head
+head_held files c s d head held has =
+    held_head c.dims c.leaf s (bytes_of (files (Segment s.segment))) (bytes_of (files (Live s.segment s.generation))) d head held has.id has.is
 
 pub live_held : (files : Files) (c : CommitData) (s : Listed) (d : SegmentData) (live : LiveSet) → HoldsFiles files c s d → HasLive files s live → live ≡ d.live
-live_held files c s d live held has = held_live c.dims c.leaf s (bytes_of (files (Segment s.segment))) (bytes_of (files (Live s.segment s.generation))) d live held has
+live_held files c s d live held has =
+    held_live c.dims c.leaf s (bytes_of (files (Segment s.segment))) (bytes_of (files (Live s.segment s.generation))) d live held has
 
-pub is_held : (D : ℕ) (files : Files) (c : CommitData) (s : Listed) (d : SegmentData) → c.dims ≡ D → HoldsFiles files c s d → IsHeadOf D (bytes_of (files (Segment s.segment))) d.head
-is_held D files c s d dims held = subst (λ n. IsHeadOf n (bytes_of (files (Segment s.segment))) d.head) dims (head_of_segment c.dims (bytes_of (files (Segment s.segment))) d.head d.entries held.segment)
+pub is_held : (D : ℕ) (files : Files) (c : CommitData) (s : Listed) (d : SegmentData) → c.dims ≡ D → HoldsFiles files c s d
+    → IsHeadOf D (bytes_of (files (Segment s.segment))) d.head
+is_held D files c s d dims held =
+    subst (λ n. IsHeadOf n (bytes_of (files (Segment s.segment))) d.head) dims
+    (head_of_segment c.dims (bytes_of (files (Segment s.segment))) d.head d.entries held.segment)
 
 pub listed_shown : (c : CommitData) (d : Damage) → (s : Listed) × Contains c.listed s × IsListedDamage s d → IsAttachDamage c d
 listed_shown c d (s, there, shown) = inl (s, there, shown)
@@ -142,7 +156,8 @@ abbrev HasPart : Files → CommitData → Listed → Part → Type 0
 HasPart files c s p = HasHead c.dims files s p.head × HasLive files s p.live
 
 -- the heads and the live sets that the files have are those of the segments that are held
-pub parts_held : (files : Files) (c : CommitData) (parts : List Part) (held : List SegmentData) → HaveHeads files c (map (λ (p : Part). p.head) parts) → HaveLive files c (lives_of parts) → HoldAll files c held
+pub parts_held : (files : Files) (c : CommitData) (parts : List Part) (held : List SegmentData) → HaveHeads files c (map (λ (p : Part). p.head) parts)
+    → HaveLive files c (lives_of parts) → HoldAll files c held
     → parts ≡ map as_part held
 parts_held files c parts held heads lives all =
     zip_once (HasPart files c) once c.listed parts (map as_part held) (pairs c.listed parts heads lives)
@@ -155,16 +170,20 @@ parts_held files c parts held heads lives all =
         let live : p.live ≡ q.live = one_live_set s.segment s.generation (bytes_of (files (Live s.segment s.generation))) p.live q.live has.1 have.1 in
         λ i. record { head = head i; live = live i }
 
-    pairs : (ss : List Listed) (ps : List Part) → AllZip (HasHead c.dims files) ss (map (λ (p : Part). p.head) ps) → AllZip (HasLive files) ss (lives_of ps) → AllZip (HasPart files c) ss ps
+    pairs : (ss : List Listed) (ps : List Part) → AllZip (HasHead c.dims files) ss (map (λ (p : Part). p.head) ps) → AllZip (HasLive files) ss (lives_of ps)
+        → AllZip (HasPart files c) ss ps
     pairs [] [] hs ls = tt
     pairs [] (p ∷ ps) hs ls = absurd hs
     pairs (s ∷ ss) [] hs ls = absurd hs
     pairs (s ∷ ss) (p ∷ ps) hs ls = ((hs.0, ls.0), pairs ss ps hs.1 ls.1)
 
-pub opened_heads : (told : Type 0) (files : Files) (c : CommitData) (parts : List Part) → told → AllZip (IsOpened told files c) c.listed parts → HaveHeads files c (map (λ (p : Part). p.head) parts)
-opened_heads told files c parts t all = zip_map (IsOpened told files c) (HasHead c.dims files) (λ (p : Part). p.head) c.listed parts (λ s p there one. one.head t) all
+pub opened_heads : (told : Type 0) (files : Files) (c : CommitData) (parts : List Part) → told → AllZip (IsOpened told files c) c.listed parts
+    → HaveHeads files c (map (λ (p : Part). p.head) parts)
+opened_heads told files c parts t all =
+    zip_map (IsOpened told files c) (HasHead c.dims files) (λ (p : Part). p.head) c.listed parts (λ s p there one. one.head t) all
 
-pub opened_lives : (told : Type 0) (files : Files) (c : CommitData) (parts : List Part) → told → AllZip (IsOpened told files c) c.listed parts → HaveLive files c (lives_of parts)
+pub opened_lives : (told : Type 0) (files : Files) (c : CommitData) (parts : List Part) → told → AllZip (IsOpened told files c) c.listed parts
+    → HaveLive files c (lives_of parts)
 opened_lives told files c parts t all = zip_map (IsOpened told files c) (HasLive files) (λ (p : Part). p.live) c.listed parts (λ s p there one. one.live t) all
 
 pub lives_map : (held : List SegmentData) → lives_of (map as_part held) ≡ live_sets held
@@ -172,7 +191,8 @@ lives_map [] = refl
 lives_map (d ∷ ds) = ap (λ (ss : List LiveSet). d.live ∷ ss) (lives_map ds)
 
 -- in what is held each number is where it may be
-pub lives_placed : (files : Files) (c : CommitData) (docs : List Document) (parts : List Part) (held : HoldsIndex files c docs) → parts ≡ map as_part held.parts → (d : Damage)
+pub lives_placed : (files : Files) (c : CommitData) (docs : List Document) (parts : List Part) (held : HoldsIndex files c docs) → parts ≡ map as_part held.parts
+    → (d : Damage)
     → IsMisplaced (λ doc. 1 ≤ places doc (lives_of parts)) (λ doc. 2 ≤ places doc (lives_of parts)) c.next d → ⊥
 lives_placed files c docs parts held is =
     placed_right (lives_of parts) c.next
@@ -184,12 +204,15 @@ lives_placed files c docs parts held is =
 
 -- ---- what an error of it says
 
-pub whole_listed : (files : Files) (c : CommitData) (f : PageFault) → ((held : List SegmentData) → HoldAll files c held → FaultShows (λ _. ⊥) f) → IsCommitFile (bytes_of (files Commit)) c
+pub whole_listed : (files : Files) (c : CommitData) (f : PageFault) → ((held : List SegmentData) → HoldAll files c held → FaultShows (λ _. ⊥) f)
+    → IsCommitFile (bytes_of (files Commit)) c
     → (state : State) → IsStored files state → FaultShows (λ _. ⊥) f
 whole_listed files c f whole says state stored = let found = held_for files c state stored says in whole found.1.parts found.1.segments
 
-pub whole_placed : (files : Files) (c : CommitData) (parts : List Part) (f : PageFault) → HaveHeads files c (map (λ (p : Part). p.head) parts) → HaveLive files c (lives_of parts)
-    → FaultShows (IsMisplaced (λ doc. 1 ≤ places doc (lives_of parts)) (λ doc. 2 ≤ places doc (lives_of parts)) c.next) f → IsCommitFile (bytes_of (files Commit)) c
+pub whole_placed : (files : Files) (c : CommitData) (parts : List Part) (f : PageFault) → HaveHeads files c (map (λ (p : Part). p.head) parts)
+    → HaveLive files c (lives_of parts)
+    → FaultShows (IsMisplaced (λ doc. 1 ≤ places doc (lives_of parts)) (λ doc. 2 ≤ places doc (lives_of parts)) c.next) f
+    → IsCommitFile (bytes_of (files Commit)) c
     → (state : State) → IsStored files state → FaultShows (λ _. ⊥) f
 whole_placed files c parts f heads lives shown says state stored =
     let found = held_for files c state stored says in
@@ -204,6 +227,8 @@ misplaced_at m n lives sets f next same shown =
     subst (λ (k : ℕ). FaultShows (IsMisplaced (λ doc. 1 ≤ places doc sets) (λ doc. 2 ≤ places doc sets) k) f) next
     (subst (λ (ss : List LiveSet). FaultShows (IsMisplaced (λ doc. 1 ≤ places doc ss) (λ doc. 2 ≤ places doc ss) m) f) same shown)
 
-pub misplaced_of : (files : Files) (c : CommitData) (sets : List LiveSet) (f : PageFault) → HaveLive files c sets → FaultShows (IsMisplaced (λ doc. 1 ≤ places doc sets) (λ doc. 2 ≤ places doc sets) c.next) f
+pub misplaced_of : (files : Files) (c : CommitData) (sets : List LiveSet) (f : PageFault) → HaveLive files c sets
+    → FaultShows (IsMisplaced (λ doc. 1 ≤ places doc sets) (λ doc. 2 ≤ places doc sets) c.next) f
     → FaultShows (IsAttachDamageOf files c) f
-misplaced_of files c sets f have = fault_weaker f (IsMisplaced (λ doc. 1 ≤ places doc sets) (λ doc. 2 ≤ places doc sets) c.next) (IsAttachDamageOf files c) (λ d h. inr (sets, have, h))
+misplaced_of files c sets f have =
+    fault_weaker f (IsMisplaced (λ doc. 1 ≤ places doc sets) (λ doc. 2 ≤ places doc sets) c.next) (IsAttachDamageOf files c) (λ d h. inr (sets, have, h))

@@ -1,5 +1,7 @@
 -- Cells and keys in bytes.
-use Rattle.std.proofs.Common.{◌≡◌, ℕ, ℤ, pos, negsuc, ◌+◌, ◌*◌, ◌^◌, ◌≤◌, ◌<◌, List, [], ◌∷◌, ◌++◌, length, get_or, take, drop, set, All, FitsSigned, refl, sym, ap, ◌∙◌, arith, add-one, length-append, append_assoc, append-nil, take_at, drop_at, take-add, take-suc-set, Option, Some, None, MatchOption, IsSomeAnd, IfSome}
+use Rattle.std.proofs.Common.{◌≡◌, ℕ, ℤ, pos, negsuc, ◌+◌, ◌*◌, ◌^◌, ◌≤◌, ◌<◌, List, [], ◌∷◌, ◌++◌, length, get_or, take, drop}
+use Rattle.std.proofs.Common.{set, All, FitsSigned, refl, sym, ap, ◌∙◌, arith, add-one, length-append, append_assoc, append-nil}
+use Rattle.std.proofs.Common.{take_at, drop_at, take-add, take-suc-set, Option, Some, None, MatchOption, IsSomeAnd, IfSome}
 use Rattle.std.specs.List.{flat_map}
 use Rattle.std.specs.Int.{w32}
 use Rattle.std.proofs.lemmas.List.Elements.{All-head, All-tail}
@@ -51,7 +53,8 @@ keys_front [] [] x y long f g h = (refl, h)
 keys_front [] (b ∷ us) x y long f g h = absurd (omega arith)
 keys_front (a ∷ ts) [] x y long f g h = absurd (omega arith)
 keys_front (a ∷ ts) (b ∷ us) x y long f g h =
-    let one = key_front a b (flat_map key ts ++ x) (flat_map key us ++ y) (All-head (λ (z : ℤ). FitsSigned w32 z) a ts f) (All-head (λ (z : ℤ). FitsSigned w32 z) b us g) h in
+    let one = key_front a b (flat_map key ts ++ x) (flat_map key us ++ y) (All-head (λ (z : ℤ). FitsSigned w32 z) a ts f)
+    (All-head (λ (z : ℤ). FitsSigned w32 z) b us g) h in
     let rest = keys_front ts us x y (omega arith) (All-tail (λ (z : ℤ). FitsSigned w32 z) a ts f) (All-tail (λ (z : ℤ). FitsSigned w32 z) b us g) one.1 in
     ((λ i. one.0 i ∷ rest.0 i), rest.1)
 
@@ -90,7 +93,8 @@ pub cell_one : (D : ℕ) (r s : Region) → IsCell D r → IsCell D s → cell_b
 cell_one D r s h k e = (cell_front D r s [] [] h k (ap (λ (t : List ℕ). t ++ []) e)).0
 
 -- keys that spell a cell are those of its ends
-pub cell_read : (D : ℕ) (b : List ℕ) (lo hi : List ℤ) (r : Region) → length lo ≡ D → Fit lo → length hi ≡ D → Fit hi → b ≡ flat_map key lo ++ flat_map key hi → IsCell D r → b ≡ cell_bytes r
+pub cell_read : (D : ℕ) (b : List ℕ) (lo hi : List ℤ) (r : Region) → length lo ≡ D → Fit lo → length hi ≡ D → Fit hi → b ≡ flat_map key lo ++ flat_map key hi
+    → IsCell D r → b ≡ cell_bytes r
     → (lo ≡ r.lo) × (hi ≡ r.hi)
 unfolding cell_bytes
 cell_read D b lo hi r ll fl lh fh e h k =
@@ -108,7 +112,8 @@ some_if None N P Q m some = tt
 some_if (Some x) N P Q m some = some x m
 
 -- four bytes, one by one
-pub four_at : (bs : List ℕ) (at : ℕ) → at + 4 ≤ length bs → take 4 (drop at bs) ≡ get_or bs at 0 ∷ get_or bs (at + 1) 0 ∷ get_or bs (at + 2) 0 ∷ get_or bs (at + 3) 0 ∷ []
+pub four_at : (bs : List ℕ) (at : ℕ) → at + 4 ≤ length bs
+    → take 4 (drop at bs) ≡ get_or bs at 0 ∷ get_or bs (at + 1) 0 ∷ get_or bs (at + 2) 0 ∷ get_or bs (at + 3) 0 ∷ []
 four_at bs at within =
     let d0 = drop_more bs at 0 (omega arith) in
     let d1 = drop_more bs (at + 1) 0 (omega arith) in
@@ -116,7 +121,10 @@ four_at bs at within =
     let d3 = drop_more bs (at + 3) 0 (omega arith) in
     let e1 : at + 1 + 1 ≡ at + 2 = omega arith in
     let e2 : at + 2 + 1 ≡ at + 3 = omega arith in
-    ap (take 4) (d0 ∙ ap (λ (t : List ℕ). get_or bs at 0 ∷ t) (d1 ∙ ap (λ (t : List ℕ). get_or bs (at + 1) 0 ∷ t) (ap (λ n. drop n bs) e1 ∙ d2 ∙ ap (λ (t : List ℕ). get_or bs (at + 2) 0 ∷ t) (ap (λ n. drop n bs) e2 ∙ d3))))
+    ap (take 4) (d0
+    ∙ ap (λ (t : List ℕ). get_or bs at 0 ∷ t)
+    (d1 ∙ ap (λ (t : List ℕ). get_or bs (at + 1) 0 ∷ t)
+    (ap (λ n. drop n bs) e1 ∙ d2 ∙ ap (λ (t : List ℕ). get_or bs (at + 2) 0 ∷ t) (ap (λ n. drop n bs) e2 ∙ d3))))
 
 pub if_map : {A : Type 0} (o : Option A) (P Q : A → Type 0) → IfSome o P → ((x : A) → P x → Q x) → IfSome o Q
 if_map None P Q h f = tt

@@ -1,5 +1,7 @@
 -- What an inner node says of itself.
-use Rattle.std.proofs.Common.{◌≡◌, ℕ, ℤ, pos, zero, suc, ◌+◌, ◌-◌, ◌*◌, ◌/◌, ◌^◌, ◌≤◌, ◌<◌, ◌≤ℤ◌, List, [], ◌∷◌, ◌++◌, length, take, drop, FitsSigned, refl, sym, ap, ◌∙◌, arith, take_at, drop_at, to_z, of_z, to_z-of_z, cond, eqb, ltb, lt-ltb, le-ltb, eq-eqb, ne_eqb, inl, inr, ◌%◌, length-append, length-drop, slice_set, slice_index_or}
+use Rattle.std.proofs.Common.{◌≡◌, ℕ, ℤ, pos, zero, suc, ◌+◌, ◌-◌, ◌*◌, ◌/◌, ◌^◌, ◌≤◌, ◌<◌, ◌≤ℤ◌, List, [], ◌∷◌, ◌++◌, length, take}
+use Rattle.std.proofs.Common.{drop, FitsSigned, refl, sym, ap, ◌∙◌, arith, take_at, drop_at, to_z, of_z, to_z-of_z, cond, eqb, ltb}
+use Rattle.std.proofs.Common.{lt-ltb, le-ltb, eq-eqb, ne_eqb, inl, inr, ◌%◌, length-append, length-drop, slice_set, slice_index_or}
 use Rattle.std.specs.Int.{w32}
 use Rattle.std.specs.List.{flat_map}
 use Rattle.std.proofs.lemmas.Bool.{cases_lt, cases_eq, cond-true, cond-false}
@@ -16,7 +18,8 @@ use Rattle.inner_pack.specs.Spelled.{spelled_part, told_part, IsNodeOf}
 use Rattle.inner_pack.specs.Heads.{SaysSplit}
 use Rattle.inner_pack.specs.declared.head.Head.{Head}
 use Rattle.inner_pack.proofs.PlaceLemmas.{AreLengths, rest_lengths, right_fits, right_from, right_to, places_first, places_split, count_shaped}
-use Rattle.inner_pack.proofs.SpelledLemmas.{spelled_one, told_one, spelled_packed, told_packed, cuts_split, cuts_long, places_long, fields, leaf_bytes_is, with_children_is}
+use Rattle.inner_pack.proofs.SpelledLemmas.{spelled_one, told_one, spelled_packed, told_packed, cuts_split}
+use Rattle.inner_pack.proofs.SpelledLemmas.{cuts_long, places_long, fields, leaf_bytes_is, with_children_is}
 use Rattle.inner_pack.proofs.CellLemmas.{length-cell}
 use Rattle.inner_pack.proofs.KeyLemmas.{shared-le}
 
@@ -38,12 +41,14 @@ in_cell_fits D d x path cell h =
 -- the lengths on both sides
 pub left_lengths : (l r : IndexTree) → AreLengths (lengths_of l ++ lengths_of r) → AreLengths (lengths_of l)
 left_lengths l r h =
-    All-same (λ (n : ℕ). (1 ≤ n) × (n ≤ 4064)) (lengths_of l) (take (length (lengths_of l)) (lengths_of l ++ lengths_of r)) (sym (take_at (lengths_of l) (lengths_of r) (length (lengths_of l)) refl))
+    All-same (λ (n : ℕ). (1 ≤ n) × (n ≤ 4064)) (lengths_of l) (take (length (lengths_of l)) (lengths_of l ++ lengths_of r))
+    (sym (take_at (lengths_of l) (lengths_of r) (length (lengths_of l)) refl))
     (All-take (λ (n : ℕ). (1 ≤ n) × (n ≤ 4064)) (length (lengths_of l)) (lengths_of l ++ lengths_of r) h)
 
 pub right_lengths : (l r : IndexTree) → AreLengths (lengths_of l ++ lengths_of r) → AreLengths (lengths_of r)
 right_lengths l r h =
-    All-same (λ (n : ℕ). (1 ≤ n) × (n ≤ 4064)) (lengths_of r) (drop (length (lengths_of l)) (lengths_of l ++ lengths_of r)) (sym (drop_at (lengths_of l) (lengths_of r) (length (lengths_of l)) refl))
+    All-same (λ (n : ℕ). (1 ≤ n) × (n ≤ 4064)) (lengths_of r) (drop (length (lengths_of l)) (lengths_of l ++ lengths_of r))
+    (sym (drop_at (lengths_of l) (lengths_of r) (length (lengths_of l)) refl))
     (All-drop (λ (n : ℕ). (1 ≤ n) × (n ≤ 4064)) (length (lengths_of l)) (lengths_of l ++ lengths_of r) h)
 
 -- ---- form 1
@@ -66,7 +71,8 @@ pub record TableNode (leaves : ℕ) (s : Spot) (d : ℕ) (x : ℤ) (l r : IndexT
   pub from : s.page ≤ (right_begin s l r).page
   pub to : (right_begin s l r).page ≤ s.page + leaves
 
-pub table_node : (D form leaves : ℕ) (s : Spot) (path : Region) (references : List (List ℕ)) (bytes places : List ℕ) (d : ℕ) (x : ℤ) (l r : IndexTree) → form ≡ 1
+pub table_node : (D form leaves : ℕ) (s : Spot) (path : Region) (references : List (List ℕ)) (bytes places : List ℕ) (d : ℕ) (x : ℤ) (l r : IndexTree)
+    → form ≡ 1
     → IsNodeOf D form leaves s path references bytes places (Split d x l r) → TableNode leaves s d x l r bytes places
 table_node D form leaves s path references bytes places d x l r one h =
     let ll = left_lengths l r h.lengths in
@@ -84,13 +90,16 @@ table_node D form leaves s path references bytes places d x l r one h =
       to = omega (arith, right_to s l r ll h.fits, count_shaped (leaves - leaves / 2) l h.shaped.1);
     }
 
-pub joins_table : (form : ℕ) (references : List (List ℕ)) (s : Spot) (l r : IndexTree) (h : Head) (bytes places : List ℕ) → form ≡ 1 → AreLengths (lengths_of r) → SaysSplit form references s h.dimension h.at l r h
+pub joins_table : (form : ℕ) (references : List (List ℕ)) (s : Spot) (l r : IndexTree) (h : Head) (bytes places : List ℕ) → form ≡ 1 → AreLengths (lengths_of r)
+    → SaysSplit form references s h.dimension h.at l r h
     → bytes ≡ h.dimension ∷ (h.key ++ (h.left.bytes.now ++ h.right.bytes.now)) → places ≡ h.left.places.now ++ h.right.places.now
     → (bytes ≡ spelled_part form references s (Split h.dimension h.at l r)) × (places ≡ told_part form s (Split h.dimension h.at l r))
 joins_table form references s l r h bytes places one rl says eb ep =
     let lower = slice_set references h.dimension (key h.at) in (
       eb
-          ∙ (λ i. h.dimension ∷ (says.key_is i ++ ((says.left_bytes ∙ spelled_one form lower s l one) i ++ (says.right_bytes ∙ spelled_one form lower (right_begin s l r) r one) i)))
+          ∙ (λ i. h.dimension
+          ∷ (says.key_is i
+          ++ ((says.left_bytes ∙ spelled_one form lower s l one) i ++ (says.right_bytes ∙ spelled_one form lower (right_begin s l r) r one) i)))
           ∙ sym (cuts_split h.dimension h.at l r)
           ∙ sym (spelled_one form references s (Split h.dimension h.at l r) one),
       ep
@@ -118,7 +127,8 @@ own_few form D own le cell = elim (cases_eq form 3) [
   | inr ne ↦ omega (arith, ap length (cond-false (eqb form 3) (cell_bytes own) [] (ne_eqb form 3 ne)))
 ]
 
-fields_long : (references : List (List ℕ)) (d : ℕ) (x : ℤ) (pages offset : ℕ) (lb rb : List ℕ) → length (fields references d (key x) pages offset lb rb) ≤ 20 + (length lb + length rb)
+fields_long : (references : List (List ℕ)) (d : ℕ) (x : ℤ) (pages offset : ℕ) (lb rb : List ℕ)
+    → length (fields references d (key x) pages offset lb rb) ≤ 20 + (length lb + length rb)
 fields_long references d x pages offset lb rb =
     let p = shared (key x) (slice_index_or references d []) in
     let v1 = vint_few pages in
@@ -136,7 +146,8 @@ fields_long references d x pages offset lb rb =
     )
 
 -- a node takes fewer than 89 bytes for each of its leaves
-pub node_long : (D form : ℕ) (references : List (List ℕ)) (s : Spot) (path : Region) (t : IndexTree) → D ≤ 8 → HasCells D path t → length (node_bytes form references s t) + 20 ≤ 89 * leaf_count t
+pub node_long : (D form : ℕ) (references : List (List ℕ)) (s : Spot) (path : Region) (t : IndexTree) → D ≤ 8 → HasCells D path t
+    → length (node_bytes form references s t) + 20 ≤ 89 * leaf_count t
 node_long D form references s path (Leaf n own) le h =
     omega (arith, ap length (leaf_bytes_is form n own), length-append (vint n) (cond (eqb form 3) (cell_bytes own) []), vint_few n, own_few form D own le h.0)
 node_long D form references s path (Split d x l r) le h =
@@ -153,14 +164,17 @@ node_long D form references s path (Split d x l r) le h =
     )
 
 pub record PackedNode (form : ℕ) (references : List (List ℕ)) (s : Spot) (d : ℕ) (x : ℤ) (l r : IndexTree) (bytes : List ℕ) : Type 0 where
-  pub is : bytes ≡ fields references d (key x) ((right_begin s l r).page - s.page) (right_begin s l r).offset (node_bytes form (slice_set references d (key x)) s l) (node_bytes form (slice_set references d (key x)) (right_begin s l r) r)
+  pub is : bytes
+      ≡ fields references d (key x) ((right_begin s l r).page - s.page) (right_begin s l r).offset (node_bytes form (slice_set references d (key x)) s l)
+      (node_bytes form (slice_set references d (key x)) (right_begin s l r) r)
   pub few : shared (key x) (slice_index_or references d []) ≤ 4
   pub pages : (right_begin s l r).page - s.page < 2 ^ 32
   pub offset : (right_begin s l r).offset ≤ 4064
   pub left : length (node_bytes form (slice_set references d (key x)) s l) < 2 ^ 32
   pub high : (right_begin s l r).page - s.page ≤ leaf_count l
 
-pub packed_node : (D form leaves : ℕ) (s : Spot) (path : Region) (references : List (List ℕ)) (bytes places : List ℕ) (d : ℕ) (x : ℤ) (l r : IndexTree) → D ≤ 8 → 2 ≤ form → leaves ≤ 8388608
+pub packed_node : (D form leaves : ℕ) (s : Spot) (path : Region) (references : List (List ℕ)) (bytes places : List ℕ) (d : ℕ) (x : ℤ) (l r : IndexTree) → D ≤ 8
+    → 2 ≤ form → leaves ≤ 8388608
     → IsNodeOf D form leaves s path references bytes places (Split d x l r) → PackedNode form references s d x l r bytes
 packed_node D form leaves s path references bytes places d x l r le packed few h =
     let ll = left_lengths l r h.lengths in
@@ -169,7 +183,8 @@ packed_node D form leaves s path references bytes places d x l r le packed few h
     let count = count_shaped (leaves - leaves / 2) l h.shaped.1 in
     let far = right_to s l r ll h.fits in
     record {
-      is = h.spelled ∙ spelled_packed form references s (Split d x l r) packed ∙ with_children_is references d x s (right_begin s l r) (node_bytes form lower s l) (node_bytes form lower (right_begin s l r) r);
+      is = h.spelled ∙ spelled_packed form references s (Split d x l r) packed
+          ∙ with_children_is references d x s (right_begin s l r) (node_bytes form lower s l) (node_bytes form lower (right_begin s l r) r);
       few = omega (arith, shared-le (key x) (slice_index_or references d []), key_long x);
       pages = omega (arith, far, count, few);
       offset = omega (arith, right_fits s l r rl);
@@ -177,7 +192,8 @@ packed_node D form leaves s path references bytes places d x l r le packed few h
       high = omega (arith, far);
     }
 
-pub joins_packed : (form : ℕ) (references : List (List ℕ)) (s : Spot) (l r : IndexTree) (h : Head) (bytes places back : List ℕ) (code : ℕ) → 2 ≤ form → SaysSplit form references s h.dimension h.at l r h
+pub joins_packed : (form : ℕ) (references : List (List ℕ)) (s : Spot) (l r : IndexTree) (h : Head) (bytes places back : List ℕ) (code : ℕ) → 2 ≤ form
+    → SaysSplit form references s h.dimension h.at l r h
     → bytes ≡ code ∷ (drop (code % 5) h.key ++ (vint h.pages ++ (vint h.offset ++ (vint (length h.left.bytes.now) ++ (h.left.bytes.now ++ h.right.bytes.now)))))
     → h.dimension ≡ code / 5 → shared h.key (slice_index_or references h.dimension []) ≡ code % 5 → places ≡ h.left.places.now
     → (bytes ≡ spelled_part form references s (Split h.dimension h.at l r)) × (places ≡ told_part form s (Split h.dimension h.at l r))
@@ -188,7 +204,8 @@ joins_packed form references s l r h bytes places back code packed says eb ed es
     let rb : h.right.bytes.now ≡ node_bytes form lower right r = says.right_bytes ∙ spelled_packed form lower right r packed in
     let front : code ≡ 5 * h.dimension + shared h.key (slice_index_or references h.dimension []) = omega (arith, ed, es) in
     let kept : fields references h.dimension h.key h.pages h.offset h.left.bytes.now h.right.bytes.now ≡ bytes =
-    (λ i. sym front i ∷ (drop (es i) h.key ++ (vint h.pages ++ (vint h.offset ++ (vint (length h.left.bytes.now) ++ (h.left.bytes.now ++ h.right.bytes.now)))))) ∙ sym eb in (
+    (λ i. sym front i ∷ (drop (es i) h.key ++ (vint h.pages ++ (vint h.offset ++ (vint (length h.left.bytes.now) ++ (h.left.bytes.now ++ h.right.bytes.now))))))
+    ∙ sym eb in (
       sym kept
           ∙ (λ i. fields references h.dimension (says.key_is i) (says.pages i) (says.offset i) (lb i) (rb i))
           ∙ sym (with_children_is references h.dimension h.at s right (node_bytes form lower s l) (node_bytes form lower right r))

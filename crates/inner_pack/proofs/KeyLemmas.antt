@@ -1,5 +1,6 @@
 -- What keys share at the front.
-use Rattle.std.proofs.Common.{◌≡◌, ℕ, ◌+◌, ◌≤◌, List, [], ◌∷◌, ◌++◌, length, take, drop, refl, sym, ap, subst, ◌∙◌, arith, eqb, inl, inr, add-one, take-append-drop}
+use Rattle.std.proofs.Common.{◌≡◌, ℕ, ◌+◌, ◌≤◌, List, [], ◌∷◌, ◌++◌, length, take, drop, refl, sym}
+use Rattle.std.proofs.Common.{ap, subst, ◌∙◌, arith, eqb, inl, inr, add-one, take-append-drop}
 use Rattle.std.proofs.lemmas.Bool.{cases_eq, cond-true, cond-false}
 use Rattle.std.proofs.Common.{eq-eqb, ne_eqb}
 use Rattle.inner_pack.specs.Bodies.{shared}

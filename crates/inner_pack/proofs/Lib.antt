@@ -8,5 +8,6 @@ pub mod PackWhole
 pub mod PlaceLemmas
 pub mod SpelledLemmas
 pub mod OneTree
+pub mod OneIndex
 pub mod Walking
 pub mod Nested

@@ -34,9 +34,11 @@ node_within D path (Leaf n own) h = h.1
 node_within D path (Split d x l r) h = within_self path
 
 -- the leaves of both children end where those of the node do
-pub right_ends : (s : Spot) (d : ℕ) (x : ℤ) (l r : IndexTree) → AreLengths (lengths_of r) → end_of (right_begin s l r) (lengths_of r) ≡ end_of s (lengths_of (Split d x l r))
+pub right_ends : (s : Spot) (d : ℕ) (x : ℤ) (l r : IndexTree) → AreLengths (lengths_of r)
+    → end_of (right_begin s l r) (lengths_of r) ≡ end_of s (lengths_of (Split d x l r))
 unfolding right_begin
 right_ends s d x l r h = end_first (end_of s (lengths_of l)) r h ∙ sym (end_of_append s (lengths_of l) (lengths_of r))
 
 pub left_ends : (s : Spot) (d : ℕ) (x : ℤ) (l r : IndexTree) → (end_of s (lengths_of l)).page ≤ (end_of s (lengths_of (Split d x l r))).page
-left_ends s d x l r = omega (arith, end_of_from (end_of s (lengths_of l)) (lengths_of r), ap (λ (e : Spot). e.page) (end_of_append s (lengths_of l) (lengths_of r)))
+left_ends s d x l r =
+    omega (arith, end_of_from (end_of s (lengths_of l)) (lengths_of r), ap (λ (e : Spot). e.page) (end_of_append s (lengths_of l) (lengths_of r)))

@@ -35,7 +35,8 @@ is_leaf n (Leaf length own) e h = record { size = length; own = own; is = refl }
 is_leaf n (Split d x l r) e h = absurd (omega (arith, e, h.0))
 
 -- the children of an inner node in the parts that its head says
-pub left_node : (D form leaves : ℕ) (s : Spot) (path : Region) (references : List (List ℕ)) (bytes places : List ℕ) (d : ℕ) (x : ℤ) (l r : IndexTree) (h : Head) → IsNodeOf D form leaves s path references bytes places (Split d x l r) → SaysSplit form references s d x l r h
+pub left_node : (D form leaves : ℕ) (s : Spot) (path : Region) (references : List (List ℕ)) (bytes places : List ℕ) (d : ℕ) (x : ℤ) (l r : IndexTree) (h : Head)
+    → IsNodeOf D form leaves s path references bytes places (Split d x l r) → SaysSplit form references s d x l r h
     → IsNodeOf D form (leaves - leaves / 2) s (left_of path d x) (slice_set references d (key x)) h.left.bytes.now h.left.places.now l
 left_node D form leaves s path references bytes places d x l r h n says = record {
   least_form = n.least_form;
@@ -49,7 +50,8 @@ left_node D form leaves s path references bytes places d x l r h n says = record
   told = says.left_places;
 }
 
-pub right_node : (D form leaves : ℕ) (s : Spot) (path : Region) (references : List (List ℕ)) (bytes places : List ℕ) (d : ℕ) (x : ℤ) (l r : IndexTree) (h : Head) → IsNodeOf D form leaves s path references bytes places (Split d x l r) → SaysSplit form references s d x l r h
+pub right_node : (D form leaves : ℕ) (s : Spot) (path : Region) (references : List (List ℕ)) (bytes places : List ℕ) (d : ℕ) (x : ℤ) (l r : IndexTree)
+    (h : Head) → IsNodeOf D form leaves s path references bytes places (Split d x l r) → SaysSplit form references s d x l r h
     → IsNodeOf D form (leaves / 2) (right_begin s l r) (right_of path d x) (slice_set references d (key x)) h.right.bytes.now h.right.places.now r
 right_node D form leaves s path references bytes places d x l r h n says =
     let rl = right_lengths l r n.lengths in
@@ -66,7 +68,8 @@ right_node D form leaves s path references bytes places d x l r h n says =
     }
 
 -- an inner node of two children
-pub joined_node : (D form leaves : ℕ) (s : Spot) (path : Region) (references : List (List ℕ)) (bytes places : List ℕ) (l r : IndexTree) (h : Head) (lb lp rb rp : List ℕ) (lower : List (List ℕ)) → 2 ≤ leaves
+pub joined_node : (D form leaves : ℕ) (s : Spot) (path : Region) (references : List (List ℕ)) (bytes places : List ℕ) (l r : IndexTree) (h : Head)
+    (lb lp rb rp : List ℕ) (lower : List (List ℕ)) → 2 ≤ leaves
     → IsInCell D path h.dimension h.at
     → IsNodeOf D form (leaves - leaves / 2) s (left_of path h.dimension h.at) lower lb lp l
     → IsNodeOf D form (leaves / 2) (right_begin s l r) (right_of path h.dimension h.at) lower rb rp r
@@ -91,34 +94,43 @@ pub split_end : (e : Spot) (d : ℕ) (x : ℤ) (l r : IndexTree) → end_of e (l
 split_end e d x l r = end_of_append e (lengths_of l) (lengths_of r)
 
 -- where a leaf next behind e ends
-pub leaf_span : (e b f : Spot) (t : IndexTree) (n m : ℕ) (own : Region) → t ≡ Leaf m own → n ≡ m → b ≡ fitted e n → f ≡ behind b n → (b ≡ fitted e (first_length t)) × (f ≡ end_of e (lengths_of t))
+pub leaf_span : (e b f : Spot) (t : IndexTree) (n m : ℕ) (own : Region) → t ≡ Leaf m own → n ≡ m → b ≡ fitted e n → f ≡ behind b n
+    → (b ≡ fitted e (first_length t)) × (f ≡ end_of e (lengths_of t))
 leaf_span e b f t n m own is same begin end =
     subst (λ (u : IndexTree). (b ≡ fitted e (first_length u)) × (f ≡ end_of e (lengths_of u))) (sym is)
     (begin ∙ ap (fitted e) same, end ∙ (λ i. behind (begin i) n) ∙ ap (λ k. behind (fitted e k) k) same)
 
-pub as_leaf : (D form : ℕ) (e : Spot) (path : Region) (references : List (List ℕ)) (bytes places : List ℕ) (t : IndexTree) (n : ℕ) (own : Region) → t ≡ Leaf n own
+pub as_leaf : (D form : ℕ) (e : Spot) (path : Region) (references : List (List ℕ)) (bytes places : List ℕ) (t : IndexTree) (n : ℕ) (own : Region)
+    → t ≡ Leaf n own
     → IsNodeOf D form 1 (fitted e (first_length t)) path references bytes places t → IsNodeOf D form 1 (fitted e n) path references bytes places (Leaf n own)
-as_leaf D form e path references bytes places t n own is h = subst (λ (u : IndexTree). IsNodeOf D form 1 (fitted e (first_length u)) path references bytes places u) is h
+as_leaf D form e path references bytes places t n own is h =
+    subst (λ (u : IndexTree). IsNodeOf D form 1 (fitted e (first_length u)) path references bytes places u) is h
 
 -- the same node, its path cell, its references and its begin said otherwise
-pub said_otherwise : (D form leaves : ℕ) (s u : Spot) (path other : Region) (references moved : List (List ℕ)) (bytes places : List ℕ) (t : IndexTree) → u ≡ s → other ≡ path → moved ≡ references
+pub said_otherwise : (D form leaves : ℕ) (s u : Spot) (path other : Region) (references moved : List (List ℕ)) (bytes places : List ℕ) (t : IndexTree) → u ≡ s
+    → other ≡ path → moved ≡ references
     → IsNodeOf D form leaves s path references bytes places t → IsNodeOf D form leaves u other moved bytes places t
 said_otherwise D form leaves s u path other references moved bytes places t es ep er h =
     subst (λ (v : Spot). IsNodeOf D form leaves v other moved bytes places t) (sym es)
     (subst (λ (q : Region). IsNodeOf D form leaves s q moved bytes places t) (sym ep)
     (subst (λ (rs : List (List ℕ)). IsNodeOf D form leaves s path rs bytes places t) (sym er) h))
 
-pub as_split : (D form leaves : ℕ) (e : Spot) (path : Region) (references : List (List ℕ)) (bytes places : List ℕ) (t : IndexTree) (d : ℕ) (x : ℤ) (l r : IndexTree) → t ≡ Split d x l r
-    → IsNodeOf D form leaves (fitted e (first_length t)) path references bytes places t → IsNodeOf D form leaves (fitted e (first_length l)) path references bytes places (Split d x l r)
-as_split D form leaves e path references bytes places t d x l r is h = subst (λ (u : IndexTree). IsNodeOf D form leaves (fitted e (first_length u)) path references bytes places u) is h
+pub as_split : (D form leaves : ℕ) (e : Spot) (path : Region) (references : List (List ℕ)) (bytes places : List ℕ) (t : IndexTree) (d : ℕ) (x : ℤ)
+    (l r : IndexTree) → t ≡ Split d x l r
+    → IsNodeOf D form leaves (fitted e (first_length t)) path references bytes places t
+    → IsNodeOf D form leaves (fitted e (first_length l)) path references bytes places (Split d x l r)
+as_split D form leaves e path references bytes places t d x l r is h =
+    subst (λ (u : IndexTree). IsNodeOf D form leaves (fitted e (first_length u)) path references bytes places u) is h
 
 -- where an inner node next behind e begins and ends, where its children are found one behind the other
-pub split_span : (e b m f : Spot) (t : IndexTree) (d : ℕ) (x : ℤ) (l r : IndexTree) → t ≡ Split d x l r → b ≡ fitted e (first_length l) → m ≡ end_of e (lengths_of l) → f ≡ end_of m (lengths_of r)
+pub split_span : (e b m f : Spot) (t : IndexTree) (d : ℕ) (x : ℤ) (l r : IndexTree) → t ≡ Split d x l r → b ≡ fitted e (first_length l)
+    → m ≡ end_of e (lengths_of l) → f ≡ end_of m (lengths_of r)
     → (b ≡ fitted e (first_length t)) × (f ≡ end_of e (lengths_of t))
 split_span e b m f t d x l r is begin middle end =
     subst (λ (u : IndexTree). (b ≡ fitted e (first_length u)) × (f ≡ end_of e (lengths_of u))) (sym is)
     (begin, end ∙ ap (λ (v : Spot). end_of v (lengths_of r)) middle ∙ sym (split_end e d x l r))
 
 -- where the right child is found is where the tree has it
-pub right_found : (e m : Spot) (l r : IndexTree) → AreLengths (lengths_of l) → m ≡ end_of e (lengths_of l) → fitted m (first_length r) ≡ right_begin (fitted e (first_length l)) l r
+pub right_found : (e m : Spot) (l r : IndexTree) → AreLengths (lengths_of l) → m ≡ end_of e (lengths_of l)
+    → fitted m (first_length r) ≡ right_begin (fitted e (first_length l)) l r
 right_found e m l r h middle = ap (λ (v : Spot). fitted v (first_length r)) middle ∙ sym (right_first e l r h)

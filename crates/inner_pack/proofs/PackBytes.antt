@@ -1,5 +1,6 @@
 -- Bytes that are appended, and turned.
-use Rattle.std.proofs.Common.{◌≡◌, ◌<◌, ◌≤◌, ◌+◌, ◌-◌, ◌*◌, ◌^◌, ℕ, List, [], ◌∷◌, ◌++◌, length, reverse, take, drop, get_or, refl, sym, ap, subst, ◌∙◌, arith, append_assoc, length-append, length-drop, ℤ, map, set}
+use Rattle.std.proofs.Common.{◌≡◌, ◌<◌, ◌≤◌, ◌+◌, ◌-◌, ◌*◌, ◌^◌, ℕ, List, [], ◌∷◌, ◌++◌, length, reverse, take, drop, get_or}
+use Rattle.std.proofs.Common.{refl, sym, ap, subst, ◌∙◌, arith, append_assoc, length-append, length-drop, ℤ, map, set}
 use Rattle.std.proofs.lemmas.List.{length-reverse, take_more, take_more_set, map_push}
 use Rattle.std.proofs.Math.Seq.{take-append_seam, drop-append_seam, take-length}
 use Rattle.std.specs.List.{flat_map}
@@ -10,7 +11,8 @@ use Rattle.point_codec.specs.Keys.{key}
 use Rattle.inner_pack.specs.Bodies.{shared, head_bytes, leaf_bytes, cell_bytes}
 use Rattle.inner_pack.specs.Packs.{AppendsTurned}
 
-pub turned : (old mid new bytes : List ℕ) (from : ℕ) → from ≡ length old → mid ≡ old ++ bytes → new ≡ take from mid ++ reverse (drop from mid) → AppendsTurned old new bytes
+pub turned : (old mid new bytes : List ℕ) (from : ℕ) → from ≡ length old → mid ≡ old ++ bytes → new ≡ take from mid ++ reverse (drop from mid)
+    → AppendsTurned old new bytes
 turned old mid new bytes from here e t =
     t
     ∙ (λ i. take (here i) (e i) ++ reverse (drop (here i) (e i)))
@@ -30,7 +32,8 @@ length-leaf size own lt = omega (arith, length-append (vint size) (cell_bytes ow
 joined : (old : List ℕ) (code : ℕ) (k p o l : List ℕ) → ((((old ++ code ∷ []) ++ k) ++ p) ++ o) ++ l ≡ old ++ ((((code ∷ k) ++ p) ++ o) ++ l)
 joined old code k p o l = simp append_assoc
 
-pub head_joined : (references : List (List ℕ)) (d : ℕ) (x : ℤ) (pages offset left : ℕ) (old a b c e f : List ℕ) → a ≡ old ++ (5 * d + shared (key x) (get_or references d [])) ∷ []
+pub head_joined : (references : List (List ℕ)) (d : ℕ) (x : ℤ) (pages offset left : ℕ) (old a b c e f : List ℕ)
+    → a ≡ old ++ (5 * d + shared (key x) (get_or references d [])) ∷ []
     → b ≡ a ++ drop (shared (key x) (get_or references d [])) (key x) → c ≡ b ++ vint pages → e ≡ c ++ vint offset → f ≡ e ++ vint left
     → f ≡ old ++ head_bytes references d x pages offset left
 unfolding head_bytes
@@ -81,7 +84,8 @@ key_rest x k m n e same =
 pub vint_appended : (old new : List ℕ) (m n : ℕ) → m ≡ n → n < 2 ^ 32 → AppendsVint old new m → new ≡ old ++ vint n
 vint_appended old new m n e lt h = appended old new n lt (subst (λ (k : ℕ). AppendsVint old new k) e h)
 
-pub keys_more : (keys : List (List ℕ)) (c : List ℤ) (d : ℕ) (k : List ℕ) (e : ℤ) → d < length keys → d < length c → k ≡ key (get_or c d e) → take d keys ≡ map key (take d c)
+pub keys_more : (keys : List (List ℕ)) (c : List ℤ) (d : ℕ) (k : List ℕ) (e : ℤ) → d < length keys → d < length c → k ≡ key (get_or c d e)
+    → take d keys ≡ map key (take d c)
     → take (d + 1) (set keys d k) ≡ map key (take (d + 1) c)
 keys_more keys c d k e under below is filled =
     take_more_set keys d k under ∙ (λ i. filled i ++ is i ∷ []) ∙ sym (map_push key (take d c) (get_or c d e)) ∙ ap (map key) (sym (take_more c d e below))

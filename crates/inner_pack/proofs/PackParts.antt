@@ -1,5 +1,6 @@
 -- The parts of a subtree, and those of its children.
-use Rattle.std.proofs.Common.{◌≡◌, ◌<◌, ◌≤◌, ◌+◌, ◌-◌, ◌/◌, ℕ, suc, List, [], ◌∷◌, ◌++◌, length, map, take, drop, get_or, set, reverse, refl, sym, ap, subst, ◌∙◌, arith, All, append_assoc, length-append, ℤ, pos}
+use Rattle.std.proofs.Common.{◌≡◌, ◌<◌, ◌≤◌, ◌+◌, ◌-◌, ◌/◌, ℕ, suc, List, [], ◌∷◌, ◌++◌, length, map, take, drop, get_or}
+use Rattle.std.proofs.Common.{set, reverse, refl, sym, ap, subst, ◌∙◌, arith, All, append_assoc, length-append, ℤ, pos}
 use Rattle.std.proofs.lemmas.List.{length-map, take-map, drop-map, map-append, length-take-le, length-drop, reverse-append, get_or-map}
 use Rattle.std.proofs.lemmas.List.Elements.{All-take, All-drop}
 use Rattle.std.proofs.Math.Seq.{take-append_seam, drop-append_seam, take-length}
@@ -50,15 +51,18 @@ seen_dropped : {X Y : Type 0} (f : X → Y) (n : ℕ) (zs : List X) (xs ys : Lis
 seen_dropped f n zs xs ys e len = sym (drop-map f n zs) ∙ dropped n (map f zs) xs ys e len
 
 All-left : (xs ys : List ℕ) → All (λ (n : ℕ). (1 ≤ n) × (n ≤ 4064)) (xs ++ ys) → All (λ (n : ℕ). (1 ≤ n) × (n ≤ 4064)) xs
-All-left xs ys all = subst (All (λ (n : ℕ). (1 ≤ n) × (n ≤ 4064))) (take-append_seam xs ys) (All-take (λ (n : ℕ). (1 ≤ n) × (n ≤ 4064)) (length xs) (xs ++ ys) all)
+All-left xs ys all =
+    subst (All (λ (n : ℕ). (1 ≤ n) × (n ≤ 4064))) (take-append_seam xs ys) (All-take (λ (n : ℕ). (1 ≤ n) × (n ≤ 4064)) (length xs) (xs ++ ys) all)
 
 All-right : (xs ys : List ℕ) → All (λ (n : ℕ). (1 ≤ n) × (n ≤ 4064)) (xs ++ ys) → All (λ (n : ℕ). (1 ≤ n) × (n ≤ 4064)) ys
-All-right xs ys all = subst (All (λ (n : ℕ). (1 ≤ n) × (n ≤ 4064))) (drop-append_seam xs ys) (All-drop (λ (n : ℕ). (1 ≤ n) × (n ≤ 4064)) (length xs) (xs ++ ys) all)
+All-right xs ys all =
+    subst (All (λ (n : ℕ). (1 ≤ n) × (n ≤ 4064))) (drop-append_seam xs ys) (All-drop (λ (n : ℕ). (1 ≤ n) × (n ≤ 4064)) (length xs) (xs ++ ys) all)
 
 -- ---- the children
 
 pub left_part : (D k : ℕ) (s : Spot) (nodes : List (ℕ × ℤ)) (places : List LeafPlace) (cells : List (Cell D)) (d : ℕ) (x : ℤ) (l r : IndexTree)
-    → k ≡ length places - length places / 2 → IsPart D s nodes places cells (Split d x l r) → IsPart D s (take (k - 1) (drop 1 nodes)) (take k places) (take k cells) l
+    → k ≡ length places - length places / 2 → IsPart D s nodes places cells (Split d x l r)
+    → IsPart D s (take (k - 1) (drop 1 nodes)) (take k places) (take k cells) l
 left_part D k s nodes places cells d x l r half p =
     let n = length places in
     let count : leaf_count l ≡ k = count_shaped (n - n / 2) l p.shaped.1 ∙ sym half in
@@ -69,15 +73,18 @@ left_part D k s nodes places cells d x l r half p =
       cells_in = p.cells_in.1;
       lengths = All-left (lengths_of l) (lengths_of r) p.lengths;
       begins = p.begins;
-      nodes_are = taken (k - 1) (drop 1 nodes) (map split_of (cuts_of l)) (map split_of (cuts_of r)) (ap (drop 1) p.nodes_are ∙ map-append split_of (cuts_of l) (cuts_of r))
+      nodes_are = taken (k - 1) (drop 1 nodes) (map split_of (cuts_of l)) (map split_of (cuts_of r))
+          (ap (drop 1) p.nodes_are ∙ map-append split_of (cuts_of l) (cuts_of r))
           (omega (arith, length-map (cuts_of l) split_of, length-cuts_of l));
-      places_are = seen_taken placed_of k places (placed s (lengths_of l)) (placed (end_of s (lengths_of l)) (lengths_of r)) (p.places_are ∙ placed_append s (lengths_of l) (lengths_of r))
+      places_are = seen_taken placed_of k places (placed s (lengths_of l)) (placed (end_of s (lengths_of l)) (lengths_of r))
+          (p.places_are ∙ placed_append s (lengths_of l) (lengths_of r))
           (omega (arith, length-placed s (lengths_of l), length-lengths_of l));
       cells_are = seen_taken region_of k cells (own_cells l) (own_cells r) p.cells_are (omega (arith, length-own_cells l));
     }
 
 pub right_part : (D k : ℕ) (s : Spot) (nodes : List (ℕ × ℤ)) (places : List LeafPlace) (cells : List (Cell D)) (d : ℕ) (x : ℤ) (l r : IndexTree)
-    → k ≡ length places - length places / 2 → IsPart D s nodes places cells (Split d x l r) → IsPart D (right_begin s l r) (drop k nodes) (drop k places) (drop k cells) r
+    → k ≡ length places - length places / 2 → IsPart D s nodes places cells (Split d x l r)
+    → IsPart D (right_begin s l r) (drop k nodes) (drop k places) (drop k cells) r
 unfolding right_begin
 right_part D k s nodes places cells d x l r half p =
     let n = length places in
@@ -91,9 +98,11 @@ right_part D k s nodes places cells d x l r half p =
       cells_in = p.cells_in.2;
       lengths = all;
       begins = fitted_again e (first_length r) ((first_fits r all).1);
-      nodes_are = dropped k nodes ((d, x) ∷ map split_of (cuts_of l)) (map split_of (cuts_of r)) (p.nodes_are ∙ ap (λ (cs : List (ℕ × ℤ)). (d, x) ∷ cs) (map-append split_of (cuts_of l) (cuts_of r)))
+      nodes_are = dropped k nodes ((d, x) ∷ map split_of (cuts_of l)) (map split_of (cuts_of r))
+          (p.nodes_are ∙ ap (λ (cs : List (ℕ × ℤ)). (d, x) ∷ cs) (map-append split_of (cuts_of l) (cuts_of r)))
           (omega (arith, length-map (cuts_of l) split_of, length-cuts_of l));
-      places_are = seen_dropped placed_of k places (placed s (lengths_of l)) (placed e (lengths_of r)) (p.places_are ∙ placed_append s (lengths_of l) (lengths_of r))
+      places_are =
+          seen_dropped placed_of k places (placed s (lengths_of l)) (placed e (lengths_of r)) (p.places_are ∙ placed_append s (lengths_of l) (lengths_of r))
           (omega (arith, length-placed s (lengths_of l), length-lengths_of l)) ∙ sym (placed_first e r all);
       cells_are = seen_dropped region_of k cells (own_cells l) (own_cells r) p.cells_are (omega (arith, length-own_cells l));
     }
@@ -106,7 +115,8 @@ first_place D s nodes places cells t p d some is part =
     let first : get_or (placed s (lengths_of t)) 0 (placed_of p) ≡ record { at = fitted s (first_length t); length = first_length t } =
     ap (λ (ns : List ℕ). get_or (placed s ns) 0 (placed_of p)) (lengths_first t) in
     let begin : Placed = record { at = s; length = first_length t } in
-    let here : record { at = fitted s (first_length t); length = first_length t } ≡ begin = ap (λ (e : Spot). record { at = e; length = first_length t }) part.begins in
+    let here : record { at = fitted s (first_length t); length = first_length t } ≡ begin =
+    ap (λ (e : Spot). record { at = e; length = first_length t }) part.begins in
     seen ∙ ap (λ (ps : List Placed). get_or ps 0 (placed_of p)) part.places_are ∙ first ∙ here
 
 -- ---- the children as the code has them
@@ -122,7 +132,8 @@ left_is {D} s whole left right d x l r h part =
     (subst (λ (cs : List (Cell D)). IsPart D s (take (k - 1) (drop 1 whole.nodes.now)) (take k whole.places.now) cs l) (sym h.left_cells) is))
 
 pub right_is : {D : ℕ} (s : Spot) (whole left right : Subtree D) (d : ℕ) (x : ℤ) (l r : IndexTree) → AreChildParts whole left right
-    → IsPart D s whole.nodes.now whole.places.now whole.cells.now (Split d x l r) → IsPart D (right_begin s l r) right.nodes.now right.places.now right.cells.now r
+    → IsPart D s whole.nodes.now whole.places.now whole.cells.now (Split d x l r)
+    → IsPart D (right_begin s l r) right.nodes.now right.places.now right.cells.now r
 right_is {D} s whole left right d x l r h part =
     let k = length left.places.now in
     let is : IsPart D (right_begin s l r) (drop k whole.nodes.now) (drop k whole.places.now) (drop k whole.cells.now) r =
@@ -134,19 +145,24 @@ right_is {D} s whole left right d x l r h part =
 -- ---- what is written
 
 -- a leaf is its length and its own cell
-pub leaf_written : (D : ℕ) (s : Spot) (nodes : List (ℕ × ℤ)) (places : List LeafPlace) (cells : List (Cell D)) (references : List (List ℕ)) (p other : LeafPlace) (own any : Cell D)
+pub leaf_written : (D : ℕ) (s : Spot) (nodes : List (ℕ × ℤ)) (places : List LeafPlace) (cells : List (Cell D)) (references : List (List ℕ))
+    (p other : LeafPlace) (own any : Cell D)
     (a b : List ℕ) (t : IndexTree) → length places < 2 → p ≡ get_or places 0 other → own ≡ get_or cells 0 any
     → AppendsTurned a b (leaf_bytes 3 p.length (region_of own)) → IsPart D s nodes places cells t → AppendsTurned a b (node_bytes 3 references s t)
 leaf_written D s nodes places cells references p other own any a b (Leaf m cell) one is own_is written part =
     let count : length places ≡ 1 = part.shaped in
     let long : p.length ≡ m = ap (λ (z : Placed). z.length) (first_place D s nodes places cells (Leaf m cell) p other (omega arith) is part) in
     let some : 0 < length cells = omega (arith, ap length part.cells_are, length-map cells (region_of {D = D})) in
-    let seen : region_of own ≡ cell = ap region_of own_is ∙ sym (get_or-map region_of cells 0 any (region_of own) some) ∙ ap (λ (cs : List Region). get_or cs 0 (region_of own)) part.cells_are in
+    let seen : region_of own ≡ cell =
+    ap region_of own_is ∙ sym (get_or-map region_of cells 0 any (region_of own) some) ∙ ap (λ (cs : List Region). get_or cs 0 (region_of own)) part.cells_are in
     written ∙ (λ i. a ++ reverse (leaf_bytes 3 (long i) (seen i)))
-leaf_written D s nodes places cells references p other own any a b (Split d x l r) one is own_is written part = let two : 2 ≤ length places = part.shaped.0 in absurd (omega arith)
+leaf_written D s nodes places cells references p other own any a b (Split d x l r) one is own_is written part =
+    let two : 2 ≤ length places = part.shaped.0 in
+    absurd (omega arith)
 
 -- a node behind its children
-node_joined : (a b c e right left head : List ℕ) → AppendsTurned a b right → AppendsTurned b c left → AppendsTurned c e head → AppendsTurned a e ((head ++ left) ++ right)
+node_joined : (a b c e right left head : List ℕ) → AppendsTurned a b right → AppendsTurned b c left → AppendsTurned c e head
+    → AppendsTurned a e ((head ++ left) ++ right)
 node_joined a b c e right left head p q r =
     let turned : reverse ((head ++ left) ++ right) ≡ reverse right ++ (reverse left ++ reverse head) =
     reverse-append (head ++ left) right ∙ ap (λ (t : List ℕ). reverse right ++ t) (reverse-append head left) in
@@ -154,16 +170,19 @@ node_joined a b c e right left head p q r =
     ∙ append_assoc (a ++ reverse right) (reverse left) (reverse head) ∙ append_assoc a (reverse right) (reverse left ++ reverse head)
     ∙ ap (λ (t : List ℕ). a ++ t) (sym turned)
 
-pub node_written : {D : ℕ} (s : Spot) (whole left right : Subtree D) (p q other : LeafPlace) (v : ℕ × ℤ) (y : ℤ) (pages size : ℕ) (references below : List (List ℕ)) (a b c e : List ℕ)
+pub node_written : {D : ℕ} (s : Spot) (whole left right : Subtree D) (p q other : LeafPlace) (v : ℕ × ℤ) (y : ℤ) (pages size : ℕ)
+    (references below : List (List ℕ)) (a b c e : List ℕ)
     (t : IndexTree) → 2 ≤ length whole.places.now → AreChildParts whole left right → p ≡ get_or whole.places.now 0 other → q ≡ get_or right.places.now 0 other
     → v ≡ get_or whole.nodes.now 0 (0, pos 0) → y ≡ v.1 → pages ≡ q.page - p.page → size ≡ length c - length b → below ≡ set references v.0 (key v.1)
     → ((s : Spot) (t : IndexTree) → IsPart D s right.nodes.now right.places.now right.cells.now t → AppendsTurned a b (node_bytes 3 below s t))
     → ((s : Spot) (t : IndexTree) → IsPart D s left.nodes.now left.places.now left.cells.now t → AppendsTurned b c (node_bytes 3 below s t))
     → AppendsTurned c e (head_bytes references v.0 y pages q.offset size)
     → IsPart D s whole.nodes.now whole.places.now whole.cells.now t → AppendsTurned a e (node_bytes 3 references s t)
-node_written {D} s whole left right p q other v y pages size references below a b c e (Leaf m own) two h p_is q_is v_is y_is pages_is size_is below_is right_done left_done head_done part =
+node_written {D} s whole left right p q other v y pages size references below a b c e (Leaf m own) two h p_is q_is v_is y_is pages_is size_is below_is
+    right_done left_done head_done part =
     let one : length whole.places.now ≡ 1 = part.shaped in absurd (omega arith)
-node_written {D} s whole left right p q other v y pages size references below a b c e (Split d x l r) two h p_is q_is v_is y_is pages_is size_is below_is right_done left_done head_done part =
+node_written {D} s whole left right p q other v y pages size references below a b c e (Split d x l r) two h p_is q_is v_is y_is pages_is size_is below_is
+    right_done left_done head_done part =
     let split : v ≡ (d, x) = v_is ∙ ap (λ (ns : List (ℕ × ℤ)). get_or ns 0 (0, pos 0)) part.nodes_are in
     let dim : v.0 ≡ d = ap (λ (w : ℕ × ℤ). w.0) split in
     let value : v.1 ≡ x = ap (λ (w : ℕ × ℤ). w.1) split in
@@ -177,15 +196,18 @@ node_written {D} s whole left right p q other v y pages size references below a 
     let left_bytes : List ℕ = node_bytes 3 (set references d (key x)) s l in
     let right_written : AppendsTurned a b right_bytes = subst (λ (w : List (List ℕ)). AppendsTurned a b (node_bytes 3 w (right_begin s l r) r)) inner_is
     (right_done (right_begin s l r) r right_part_is) in
-    let left_written : AppendsTurned b c left_bytes = subst (λ (w : List (List ℕ)). AppendsTurned b c (node_bytes 3 w s l)) inner_is (left_done s l left_part_is) in
+    let left_written : AppendsTurned b c left_bytes =
+    subst (λ (w : List (List ℕ)). AppendsTurned b c (node_bytes 3 w s l)) inner_is (left_done s l left_part_is) in
     let long : size ≡ length left_bytes = omega (arith, size_is, length-turned b c left_bytes left_written) in
     let further : pages ≡ (right_begin s l r).page - s.page = pages_is ∙ (λ i. (middle i).at.page - (begin i).at.page) in
     let head : AppendsTurned c e (head_bytes references d x ((right_begin s l r).page - s.page) (right_begin s l r).offset (length left_bytes)) =
     head_done ∙ (λ i. c ++ reverse (head_bytes references (dim i) ((y_is ∙ value) i) (further i) (middle i).at.offset (long i))) in
-    node_joined a b c e right_bytes left_bytes (head_bytes references d x ((right_begin s l r).page - s.page) (right_begin s l r).offset (length left_bytes)) right_written left_written head
+    node_joined a b c e right_bytes left_bytes (head_bytes references d x ((right_begin s l r).page - s.page) (right_begin s l r).offset (length left_bytes))
+    right_written left_written head
 
 -- how many parts the left child has
-pub left_counts : {X Y Z : Type 0} (k : ℕ) (nodes : List X) (places : List Y) (cells : List Z) → length nodes + 1 ≡ length places → length cells ≡ length places → 1 ≤ k → k < length places
+pub left_counts : {X Y Z : Type 0} (k : ℕ) (nodes : List X) (places : List Y) (cells : List Z) → length nodes + 1 ≡ length places → length cells ≡ length places
+    → 1 ≤ k → k < length places
     → (length (take (k - 1) (drop 1 nodes)) + 1 ≡ length (take k places)) × (length (take k cells) ≡ length (take k places))
 left_counts k nodes places cells many_nodes many_cells some all =
     let rest = length-drop 1 nodes in

@@ -23,11 +23,13 @@ dimensions_in D path (Leaf n own) h = All-nil (λ (v : ℕ × ℤ). v.0 < D)
 dimensions_in D path (Split d x l r) h =
     let left = dimensions_in D (left_of path d x) l h.1 in
     let right = dimensions_in D (right_of path d x) r h.2 in
-    let both = All-append (λ (v : ℕ × ℤ). v.0 < D) (map (λ (c : Cut). (c.dimension, c.at)) (cuts_of l)) (map (λ (c : Cut). (c.dimension, c.at)) (cuts_of r)) left right in
+    let both = All-append (λ (v : ℕ × ℤ). v.0 < D) (map (λ (c : Cut). (c.dimension, c.at)) (cuts_of l)) (map (λ (c : Cut). (c.dimension, c.at)) (cuts_of r))
+    left right in
     All-cons (λ (v : ℕ × ℤ). v.0 < D) (d, x) (map (λ (c : Cut). (c.dimension, c.at)) (cuts_of l ++ cuts_of r)) h.0.dimension
     (subst (All (λ (v : ℕ × ℤ). v.0 < D)) (sym (map-append (λ (c : Cut). (c.dimension, c.at)) (cuts_of l) (cuts_of r))) both)
 
-pub dimensions_below : (D : ℕ) (root : Region) (nodes : List (ℕ × ℤ)) (lengths : List ℕ) (cells : List (Cell D)) → AreParts D root nodes lengths cells → All (λ (v : ℕ × ℤ). v.0 < D) nodes
+pub dimensions_below : (D : ℕ) (root : Region) (nodes : List (ℕ × ℤ)) (lengths : List ℕ) (cells : List (Cell D)) → AreParts D root nodes lengths cells
+    → All (λ (v : ℕ × ℤ). v.0 < D) nodes
 dimensions_below D root nodes lengths cells h =
     subst (All (λ (v : ℕ × ℤ). v.0 < D)) (sym h.are.nodes_are) (dimensions_in D root h.tree h.are.tree.cells)
 
@@ -61,7 +63,8 @@ pub record Counts {D : ℕ} (nodes : List (ℕ × ℤ)) (lengths : List ℕ) (pl
   pub few : length lengths ≤ 8388608
   pub some : 1 ≤ length lengths
 
-pub counted : (D : ℕ) (root : Region) (nodes : List (ℕ × ℤ)) (lengths : List ℕ) (cells : List (Cell D)) (places : List LeafPlace) → AreParts D root nodes lengths cells
+pub counted : (D : ℕ) (root : Region) (nodes : List (ℕ × ℤ)) (lengths : List ℕ) (cells : List (Cell D)) (places : List LeafPlace)
+    → AreParts D root nodes lengths cells
     → map placed_of places ≡ placed front lengths → Counts nodes lengths places cells
 counted D root nodes lengths cells places h are =
     let t = h.tree in
@@ -74,7 +77,8 @@ counted D root nodes lengths cells places h are =
     record { nodes_are = omega (arith, length-cuts_of t); cells_are = omega arith; places_are = same; few = few; some = some }
 
 -- the parts of the whole are those of a subtree that begins at the front
-pub whole_part : (D : ℕ) (root : Region) (nodes : List (ℕ × ℤ)) (lengths : List ℕ) (cells : List (Cell D)) (places : List LeafPlace) (t : IndexTree) → ArePartsOf D root nodes lengths cells t
+pub whole_part : (D : ℕ) (root : Region) (nodes : List (ℕ × ℤ)) (lengths : List ℕ) (cells : List (Cell D)) (places : List LeafPlace) (t : IndexTree)
+    → ArePartsOf D root nodes lengths cells t
     → map placed_of places ≡ placed front lengths → IsPart D front nodes places cells t
 whole_part D root nodes lengths cells places t h are =
     let same : length lengths ≡ length places = sym (sym (length-map places placed_of) ∙ ap length are ∙ length-placed front lengths) in
@@ -91,7 +95,8 @@ whole_part D root nodes lengths cells places t h are =
     }
 
 -- the body, from the nodes that are turned
-pub body_turned : (root : Region) (t : IndexTree) (a b c d e : List ℕ) (from : ℕ) → a ≡ [] → AppendsTurned a b (node_bytes 3 (map key root.lo) front t) → from ≡ length b
+pub body_turned : (root : Region) (t : IndexTree) (a b c d e : List ℕ) (from : ℕ) → a ≡ [] → AppendsTurned a b (node_bytes 3 (map key root.lo) front t)
+    → from ≡ length b
     → c ≡ b ++ cell_bytes root → d ≡ take from c ++ reverse (drop from c) → e ≡ take 0 d ++ reverse (drop 0 d) → e ≡ body_bytes 3 root t
 unfolding body_bytes
 body_turned root t a b c d e from none nodes here cell first last =
@@ -104,7 +109,8 @@ body_turned root t a b c d e from none nodes here cell first last =
     ∙ ap (λ (w : List ℕ). cell_bytes root ++ w) (reverse-reverse node)
 
 -- the body spells the tree
-pub spelled_body : (D : ℕ) (root : Region) (nodes : List (ℕ × ℤ)) (lengths : List ℕ) (cells : List (Cell D)) (bytes : List ℕ) (t : IndexTree) → ArePartsOf D root nodes lengths cells t
+pub spelled_body : (D : ℕ) (root : Region) (nodes : List (ℕ × ℤ)) (lengths : List ℕ) (cells : List (Cell D)) (bytes : List ℕ) (t : IndexTree)
+    → ArePartsOf D root nodes lengths cells t
     → bytes ≡ body_bytes 3 root t → SpellsIndex D 3 (length lengths) bytes root t
 spelled_body D root nodes lengths cells bytes t h is = record {
   least_form = omega arith;
@@ -114,7 +120,8 @@ spelled_body D root nodes lengths cells bytes t h is = record {
   is = is;
 }
 
-pub is_index : (D : ℕ) (root : Region) (nodes : List (ℕ × ℤ)) (lengths : List ℕ) (cells : List (Cell D)) (bytes : List ℕ) (pages : ℕ) → (h : AreParts D root nodes lengths cells)
+pub is_index : (D : ℕ) (root : Region) (nodes : List (ℕ × ℤ)) (lengths : List ℕ) (cells : List (Cell D)) (bytes : List ℕ) (pages : ℕ)
+    → (h : AreParts D root nodes lengths cells)
     → bytes ≡ body_bytes 3 root h.tree → pages ≡ (end_of front lengths).page + 1 → IsIndex D 3 (length lengths) bytes root pages
 is_index D root nodes lengths cells bytes pages h is told = record {
   tree = h.tree;

@@ -1,5 +1,6 @@
 -- Where leaves stand one behind the other.
-use Rattle.std.proofs.Common.{◌≡◌, ℕ, ℤ, ◌+◌, ◌-◌, ◌*◌, ◌/◌, ◌≤◌, ◌<◌, List, [], ◌∷◌, ◌++◌, length, All, refl, sym, ap, subst, ◌∙◌, arith, leb, inl, inr, le-leb, length-append}
+use Rattle.std.proofs.Common.{◌≡◌, ℕ, ℤ, ◌+◌, ◌-◌, ◌*◌, ◌/◌, ◌≤◌, ◌<◌, List, [], ◌∷◌, ◌++◌, length, All}
+use Rattle.std.proofs.Common.{refl, sym, ap, subst, ◌∙◌, arith, leb, inl, inr, le-leb, length-append}
 use Rattle.std.specs.List.{flat_map}
 use Rattle.std.proofs.lemmas.Bool.{cond-true, cond-false, cases_lt, lt-leb}
 use Rattle.std.proofs.lemmas.List.Elements.{All-head, All-tail}
@@ -109,7 +110,8 @@ placed_first e t h =
     ∙ ap (placed e) (sym (lengths_first t))
 
 -- where the right child begins, told from where the left one may begin
-pub right_first : (e : Spot) (l r : IndexTree) → AreLengths (lengths_of l) → right_begin (fitted e (first_length l)) l r ≡ fitted (end_of e (lengths_of l)) (first_length r)
+pub right_first : (e : Spot) (l r : IndexTree) → AreLengths (lengths_of l)
+    → right_begin (fitted e (first_length l)) l r ≡ fitted (end_of e (lengths_of l)) (first_length r)
 unfolding right_begin
 right_first e l r h = ap (λ (s : Spot). fitted s (first_length r)) (end_first e l h)
 
@@ -125,16 +127,20 @@ right_from s l r = omega (arith, end_of_from s (lengths_of l), fitted_from (end_
 pub right_to : (s : Spot) (l r : IndexTree) → AreLengths (lengths_of l) → s.offset + first_length l ≤ 4064 → (right_begin s l r).page ≤ s.page + leaf_count l
 unfolding right_begin
 right_to s l r h fits =
-    let here : end_of s (first_length l ∷ rest_lengths l) ≡ end_of (behind s (first_length l)) (rest_lengths l) = ap (λ (e : Spot). end_of (behind e (first_length l)) (rest_lengths l)) (fitted_here s (first_length l) fits) in
+    let here : end_of s (first_length l ∷ rest_lengths l) ≡ end_of (behind s (first_length l)) (rest_lengths l) =
+    ap (λ (e : Spot). end_of (behind e (first_length l)) (rest_lengths l)) (fitted_here s (first_length l) fits) in
     let whole : end_of s (lengths_of l) ≡ end_of (behind s (first_length l)) (rest_lengths l) = ap (end_of s) (lengths_first l) ∙ here in
-    let far : (end_of s (lengths_of l)).page ≤ s.page + length (rest_lengths l) = subst (λ (e : Spot). e.page ≤ s.page + length (rest_lengths l)) (sym whole) (end_of_to (behind s (first_length l)) (rest_lengths l)) in
+    let far : (end_of s (lengths_of l)).page ≤ s.page + length (rest_lengths l) =
+    subst (λ (e : Spot). e.page ≤ s.page + length (rest_lengths l)) (sym whole) (end_of_to (behind s (first_length l)) (rest_lengths l)) in
     omega (arith, far, fitted_to (end_of s (lengths_of l)) (first_length r), length-lengths_of l, ap length (lengths_first l))
 
 -- the table of places is that of the left child and then that of the right one
-pub places_split : (s : Spot) (d : ℕ) (x : ℤ) (l r : IndexTree) → AreLengths (lengths_of r) → places_table s (Split d x l r) ≡ places_table s l ++ places_table (right_begin s l r) r
+pub places_split : (s : Spot) (d : ℕ) (x : ℤ) (l r : IndexTree) → AreLengths (lengths_of r)
+    → places_table s (Split d x l r) ≡ places_table s l ++ places_table (right_begin s l r) r
 unfolding places_table right_begin
 places_split s d x l r h =
-    ap (flat_map place_bytes) (placed_append s (lengths_of l) (lengths_of r) ∙ ap (λ (t : List Placed). placed s (lengths_of l) ++ t) (sym (placed_first (end_of s (lengths_of l)) r h)))
+    ap (flat_map place_bytes)
+    (placed_append s (lengths_of l) (lengths_of r) ∙ ap (λ (t : List Placed). placed s (lengths_of l) ++ t) (sym (placed_first (end_of s (lengths_of l)) r h)))
     ∙ flat_map-append place_bytes (placed s (lengths_of l)) (placed (fitted (end_of s (lengths_of l)) (first_length r)) (lengths_of r))
 
 length-placed : (e : Spot) (ns : List ℕ) → length (flat_map place_bytes (placed e ns)) ≡ 8 * length ns
@@ -146,8 +152,10 @@ unfolding places_table
 length-places s t = length-placed s (lengths_of t) ∙ ap (λ n. 8 * n) (length-lengths_of t)
 
 -- the table begins with the place of the first leaf
-pub places_first : (s : Spot) (t : IndexTree) → s.offset + first_length t ≤ 4064 → places_table s t ≡ place_bytes (record { at = s; length = first_length t }) ++ flat_map place_bytes (placed (behind s (first_length t)) (rest_lengths t))
+pub places_first : (s : Spot) (t : IndexTree) → s.offset + first_length t ≤ 4064
+    → places_table s t ≡ place_bytes (record { at = s; length = first_length t }) ++ flat_map place_bytes (placed (behind s (first_length t)) (rest_lengths t))
 unfolding places_table
 places_first s t fits =
     ap (λ (ns : List ℕ). flat_map place_bytes (placed s ns)) (lengths_first t)
-    ∙ ap (λ (e : Spot). place_bytes (record { at = e; length = first_length t }) ++ flat_map place_bytes (placed (behind e (first_length t)) (rest_lengths t))) (fitted_here s (first_length t) fits)
+    ∙ ap (λ (e : Spot). place_bytes (record { at = e; length = first_length t }) ++ flat_map place_bytes (placed (behind e (first_length t)) (rest_lengths t)))
+    (fitted_here s (first_length t) fits)

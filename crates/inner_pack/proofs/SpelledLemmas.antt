@@ -1,5 +1,6 @@
 -- Nodes in the bytes of each form.
-use Rattle.std.proofs.Common.{◌≡◌, ℕ, ℤ, zero, ◌+◌, ◌-◌, ◌*◌, ◌≤◌, List, [], ◌∷◌, ◌++◌, length, map, drop, refl, sym, ap, subst, ◌∙◌, arith, cond, eqb, true, int_le, length-append, append_assoc, append-nil, eq-eqb, ne_eqb, slice_index_or}
+use Rattle.std.proofs.Common.{◌≡◌, ℕ, ℤ, zero, ◌+◌, ◌-◌, ◌*◌, ◌≤◌, List, [], ◌∷◌, ◌++◌, length, map, drop, refl, sym, ap, subst, ◌∙◌}
+use Rattle.std.proofs.Common.{arith, cond, eqb, true, int_le, length-append, append_assoc, append-nil, eq-eqb, ne_eqb, slice_index_or}
 use Rattle.std.proofs.lemmas.Bool.{cond-true, cond-false}
 use Rattle.std.proofs.lemmas.Int.{ints}
 use Rattle.std.proofs.lemmas.List.Concat.{flat_map-append}
@@ -9,7 +10,8 @@ use Rattle.point_codec.specs.Cells.{within}
 use Rattle.byte_cursor.specs.Vint.{vint}
 use Rattle.inner_pack.specs.Places.{Spot, fitted, front}
 use Rattle.inner_pack.specs.Trees.{IndexTree, Leaf, Split, IsShaped, IsCell, cuts_of, leaf_count}
-use Rattle.inner_pack.specs.Bodies.{cut_bytes, cuts_table, places_table, place_bytes, shared, head_bytes, leaf_bytes, node_bytes, with_children, cell_bytes, body_bytes}
+use Rattle.inner_pack.specs.Bodies.{cut_bytes, cuts_table, places_table, place_bytes, shared, head_bytes}
+use Rattle.inner_pack.specs.Bodies.{leaf_bytes, node_bytes, with_children, cell_bytes, body_bytes}
 use Rattle.inner_pack.specs.Spelled.{spelled_part, told_part, tree_bytes, IsNodeOf}
 use Rattle.inner_pack.specs.Heads.{IsPackedLeaf, IsTableLeaf, IsLeafBehind}
 use Rattle.inner_pack.proofs.PlaceLemmas.{AreLengths, fitted_fits, fitted_again, first_fits, count_shaped, length-places}
@@ -27,7 +29,8 @@ told_one form s t e = cond-true (eqb form 1) (places_table s t) [] (eq-eqb form 
 not_one : (form : ℕ) → 2 ≤ form → form ≡ 1 → ⊥
 not_one form le e = omega arith
 
-pub spelled_packed : (form : ℕ) (references : List (List ℕ)) (s : Spot) (t : IndexTree) → 2 ≤ form → spelled_part form references s t ≡ node_bytes form references s t
+pub spelled_packed : (form : ℕ) (references : List (List ℕ)) (s : Spot) (t : IndexTree) → 2 ≤ form
+    → spelled_part form references s t ≡ node_bytes form references s t
 unfolding spelled_part
 spelled_packed form references s t le = cond-false (eqb form 1) (cuts_table t) (node_bytes form references s t) (ne_eqb form 1 (not_one form le))
 
@@ -41,7 +44,8 @@ tree_one form references t e = cond-true (eqb form 1) (cuts_table t ++ places_ta
 
 pub tree_packed : (form : ℕ) (references : List (List ℕ)) (t : IndexTree) → 2 ≤ form → tree_bytes form references t ≡ node_bytes form references front t
 unfolding tree_bytes
-tree_packed form references t le = cond-false (eqb form 1) (cuts_table t ++ places_table front t) (node_bytes form references front t) (ne_eqb form 1 (not_one form le))
+tree_packed form references t le =
+    cond-false (eqb form 1) (cuts_table t ++ places_table front t) (node_bytes form references front t) (ne_eqb form 1 (not_one form le))
 
 pub body_is : (form : ℕ) (root : Region) (t : IndexTree) → body_bytes form root t ≡ cell_bytes root ++ tree_bytes form (map key root.lo) t
 unfolding body_bytes tree_bytes
@@ -74,7 +78,8 @@ pub no_cut : (n : ℕ) (own : Region) → cuts_table (Leaf n own) ≡ []
 unfolding cuts_table
 no_cut n own = refl
 
-pub of_table_leaf : (D form : ℕ) (e : Spot) (path : Region) (references : List (List ℕ)) (bytes places : List ℕ) (n : ℕ) → form ≡ 1 → IsCell D path → IsTableLeaf e bytes places n → IsLeafBehind D form e path references bytes places n
+pub of_table_leaf : (D form : ℕ) (e : Spot) (path : Region) (references : List (List ℕ)) (bytes places : List ℕ) (n : ℕ) → form ≡ 1 → IsCell D path
+    → IsTableLeaf e bytes places n → IsLeafBehind D form e path references bytes places n
 of_table_leaf D form e path references bytes places n one cell h = record {
   own = path;
   is = record {
@@ -86,25 +91,29 @@ of_table_leaf D form e path references bytes places n one cell h = record {
     path_cells = λ _. refl;
     lengths = one_length n h.least h.greatest;
     spelled = h.no_node ∙ sym (spelled_one form references (fitted e n) (Leaf n path) one ∙ no_cut n path);
-    told = h.told ∙ (λ i. place_bytes (record { at = sym (fitted_again e n h.greatest) i; length = n })) ∙ sym (told_one form (fitted e n) (Leaf n path) one ∙ leaf_in_table (fitted e n) n path);
+    told = h.told ∙ (λ i. place_bytes (record { at = sym (fitted_again e n h.greatest) i; length = n }))
+        ∙ sym (told_one form (fitted e n) (Leaf n path) one ∙ leaf_in_table (fitted e n) n path);
   };
 }
 
-pub to_table_leaf : (D form : ℕ) (e : Spot) (path : Region) (references : List (List ℕ)) (bytes places : List ℕ) (n : ℕ) (own : Region) → form ≡ 1 → IsNodeOf D form 1 (fitted e n) path references bytes places (Leaf n own) → IsTableLeaf e bytes places n
+pub to_table_leaf : (D form : ℕ) (e : Spot) (path : Region) (references : List (List ℕ)) (bytes places : List ℕ) (n : ℕ) (own : Region) → form ≡ 1
+    → IsNodeOf D form 1 (fitted e n) path references bytes places (Leaf n own) → IsTableLeaf e bytes places n
 to_table_leaf D form e path references bytes places n own one h =
     let bound = first_fits (Leaf n own) h.lengths in
     record {
       least = bound.0;
       greatest = bound.1;
       no_node = h.spelled ∙ spelled_one form references (fitted e n) (Leaf n own) one ∙ no_cut n own;
-      told = h.told ∙ told_one form (fitted e n) (Leaf n own) one ∙ leaf_in_table (fitted e n) n own ∙ (λ i. place_bytes (record { at = fitted_again e n bound.1 i; length = n }));
+      told = h.told ∙ told_one form (fitted e n) (Leaf n own) one ∙ leaf_in_table (fitted e n) n own
+          ∙ (λ i. place_bytes (record { at = fitted_again e n bound.1 i; length = n }));
     }
 
 pub leaf_bytes_is : (form n : ℕ) (own : Region) → leaf_bytes form n own ≡ vint n ++ cond (eqb form 3) (cell_bytes own) []
 unfolding leaf_bytes
 leaf_bytes_is form n own = refl
 
-pub of_packed_leaf : (D form : ℕ) (e : Spot) (path : Region) (references : List (List ℕ)) (bytes places : List ℕ) (n : ℕ) (own : Region) → 2 ≤ form → form ≤ 3 → places ≡ [] → IsPackedLeaf D form path bytes n own → IsLeafBehind D form e path references bytes places n
+pub of_packed_leaf : (D form : ℕ) (e : Spot) (path : Region) (references : List (List ℕ)) (bytes places : List ℕ) (n : ℕ) (own : Region) → 2 ≤ form → form ≤ 3
+    → places ≡ [] → IsPackedLeaf D form path bytes n own → IsLeafBehind D form e path references bytes places n
 of_packed_leaf D form e path references bytes places n own packed high none h = record {
   own = own;
   is = record {
@@ -120,7 +129,8 @@ of_packed_leaf D form e path references bytes places n own packed high none h = 
   };
 }
 
-pub to_packed_leaf : (D form leaves : ℕ) (s : Spot) (path : Region) (references : List (List ℕ)) (bytes places : List ℕ) (n : ℕ) (own : Region) → 2 ≤ form → IsNodeOf D form leaves s path references bytes places (Leaf n own) → IsPackedLeaf D form path bytes n own
+pub to_packed_leaf : (D form leaves : ℕ) (s : Spot) (path : Region) (references : List (List ℕ)) (bytes places : List ℕ) (n : ℕ) (own : Region) → 2 ≤ form
+    → IsNodeOf D form leaves s path references bytes places (Leaf n own) → IsPackedLeaf D form path bytes n own
 to_packed_leaf D form leaves s path references bytes places n own packed h =
     let bound = first_fits (Leaf n own) h.lengths in
     record {
@@ -132,7 +142,8 @@ to_packed_leaf D form leaves s path references bytes places n own packed h =
       spelled = h.spelled ∙ spelled_packed form references s (Leaf n own) packed;
     }
 
-pub no_places : (D form leaves : ℕ) (s : Spot) (path : Region) (references : List (List ℕ)) (bytes places : List ℕ) (t : IndexTree) → 2 ≤ form → IsNodeOf D form leaves s path references bytes places t → places ≡ []
+pub no_places : (D form leaves : ℕ) (s : Spot) (path : Region) (references : List (List ℕ)) (bytes places : List ℕ) (t : IndexTree) → 2 ≤ form
+    → IsNodeOf D form leaves s path references bytes places t → places ≡ []
 no_places D form leaves s path references bytes places t packed h = h.told ∙ told_packed form s t packed
 
 -- ---- inner nodes
@@ -160,7 +171,8 @@ fields references d k pages offset lb rb =
     let p = shared k (slice_index_or references d []) in
     (5 * d + p) ∷ (drop p k ++ (vint pages ++ (vint offset ++ (vint (length lb) ++ (lb ++ rb)))))
 
-pub with_children_is : (references : List (List ℕ)) (d : ℕ) (x : ℤ) (s right : Spot) (lb rb : List ℕ) → with_children references d x s right lb rb ≡ fields references d (key x) (right.page - s.page) right.offset lb rb
+pub with_children_is : (references : List (List ℕ)) (d : ℕ) (x : ℤ) (s right : Spot) (lb rb : List ℕ)
+    → with_children references d x s right lb rb ≡ fields references d (key x) (right.page - s.page) right.offset lb rb
 unfolding head_bytes
 with_children_is references d x s right lb rb =
     let p = shared (key x) (slice_index_or references d []) in

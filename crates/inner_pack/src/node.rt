@@ -33,7 +33,8 @@ pub struct NodeAt<'a, const D: usize> {
     pub(crate) bytes: &'a [u8],
     /// In form 1 its part of the table of places.
     pub(crate) places: &'a [u8],
-    pub(crate) ghost some: { ∥ IsSomeNode D form leaves (spot_at page offset) (region_of cell) references bytes.now places.now ∥₁ },
+    pub(crate) ghost some: { ∥ IsSomeNode D form leaves (spot_at page offset) (region_of cell)
+        references bytes.now places.now ∥₁ },
     pub(crate) ghost numbered: { (1 ≤ leaves) × (first + leaves ≤ 8388608) × (page ≤ first) },
 }
 

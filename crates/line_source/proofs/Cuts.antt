@@ -1,5 +1,7 @@
 -- Where lines are cut, and what a reader has read of one.
-use Rattle.std.proofs.Common.{◌≡◌, ◌≤◌, ◌<◌, ◌+◌, ◌-◌, ℕ, Bool, true, false, not, cond, List, [], ◌∷◌, ◌++◌, length, take, drop, min, Result, Ok, Err, OnOk, if◌then◌else◌, refl, subst, sym, ap, ◌∙◌, ◌⊎◌, inl, inr, append_assoc, append-nil, length-append, add-zero, get_or, drop-cons, add-one, eqb, arith}
+use Rattle.std.proofs.Common.{◌≡◌, ◌≤◌, ◌<◌, ◌+◌, ◌-◌, ℕ, Bool, true, false, not, cond, List, [], ◌∷◌, ◌++◌, length, take}
+use Rattle.std.proofs.Common.{drop, min, Result, Ok, Err, OnOk, if◌then◌else◌, refl, subst, sym, ap, ◌∙◌, ◌⊎◌, inl, inr}
+use Rattle.std.proofs.Common.{append_assoc, append-nil, length-append, add-zero, get_or, drop-cons, add-one, eqb, arith}
 use Rattle.std.specs.Prelude.{◌==◌, is_ok}
 use Rattle.std.specs.List.{position_or_len, prefix_len}
 use Rattle.std.proofs.Math.Seq.{drop-append-add, drop-length, take-append-add, take-append_seam, take-length}
@@ -21,7 +23,8 @@ IsPlain xs = position_or_len (λ b. b == 10) xs ≡ length xs
 plain_then : (xs ys : List ℕ) → IsPlain xs → position_or_len (λ b. b == 10) (xs ++ ys) ≡ length xs + position_or_len (λ b. b == 10) ys
 plain_then xs ys h =
     prefix_len-append (λ b. not (b == 10)) xs ys
-    ∙ ap (λ t. cond t (length xs + position_or_len (λ b. b == 10) ys) (position_or_len (λ b. b == 10) xs)) (eq-eqb (position_or_len (λ b. b == 10) xs) (length xs) h)
+    ∙ ap (λ t. cond t (length xs + position_or_len (λ b. b == 10) ys) (position_or_len (λ b. b == 10) xs))
+    (eq-eqb (position_or_len (λ b. b == 10) xs) (length xs) h)
 
 pub plain_append : (xs ys : List ℕ) → IsPlain xs → IsPlain ys → IsPlain (xs ++ ys)
 plain_append xs ys h k = plain_then xs ys h ∙ ap (λ n. length xs + n) k ∙ sym (length-append xs ys)
@@ -74,7 +77,8 @@ then_ok (Err x) a b c d h e = tt
 pub wait_on : (items : List ℕ) (at end n : ℕ) → at + n ≤ end → take (end - (at + n)) (drop (at + n) items) ≡ drop n (take (end - at) (drop at items))
 wait_on items at end n h =
     let sum : n + (end - (at + n)) ≡ end - at = omega (arith, h) in
-    ap (λ xs. take (end - (at + n)) xs) (sym (drop-drop n at items)) ∙ sym (drop-take n (end - (at + n)) (drop at items)) ∙ ap (λ m. drop n (take m (drop at items))) sum
+    ap (λ xs. take (end - (at + n)) xs) (sym (drop-drop n at items)) ∙ sym (drop-take n (end - (at + n)) (drop at items))
+    ∙ ap (λ m. drop n (take m (drop at items))) sum
 
 -- nothing waits at the end
 pub wait_none : (items : List ℕ) (at : ℕ) → take (at - at) (drop at items) ≡ []
@@ -93,7 +97,8 @@ prefix_all p xs n is = ap (λ m. prefix_len p (take m xs)) is ∙ all_passes p x
 
     all_passes : (p : ℕ → Bool) (xs : List ℕ) → prefix_len p (take (prefix_len p xs) xs) ≡ length (take (prefix_len p xs) xs)
     all_passes p xs =
-        by_test (eqb (prefix_len p (take (prefix_len p xs) xs)) (length (take (prefix_len p xs) xs))) _ _ (prefix_len p (drop (prefix_len p xs) xs)) (prefix_len p xs) refl
+        by_test (eqb (prefix_len p (take (prefix_len p xs) xs)) (length (take (prefix_len p xs) xs))) _ _ (prefix_len p (drop (prefix_len p xs) xs))
+        (prefix_len p xs) refl
         (sym (ap (prefix_len p) (take-append-drop (prefix_len p xs) xs)) ∙ prefix_len-append p (take (prefix_len p xs) xs) (drop (prefix_len p xs) xs))
         (length-prefix_len p xs)
 
@@ -108,10 +113,12 @@ is_ten b h = grind (arith, nat_tests)
 
 seam : (xs : List ℕ) (n : ℕ) → n ≡ position_or_len (λ b. b == 10) xs → n < length xs → xs ≡ take n xs ++ 10 ∷ drop (n + 1) xs
 seam xs n is there =
-    let stops : not (get_or xs n 0 == 10) ≡ false = ap (λ m. not (get_or xs m 0 == 10)) is ∙ prefix_len_stops (λ b. not (b == 10)) xs 0 (omega (arith, is, there)) in
+    let stops : not (get_or xs n 0 == 10) ≡ false =
+    ap (λ m. not (get_or xs m 0 == 10)) is ∙ prefix_len_stops (λ b. not (b == 10)) xs 0 (omega (arith, is, there)) in
     sym (take-append-drop n xs) ∙ ap (λ ys. take n xs ++ ys) (drop_next xs n there ∙ ap (λ b. b ∷ drop (n + 1) xs) (is_ten (get_or xs n 0) stops))
 
-module _ (old new : LineReader) (seen bytes : List ℕ) (n : ℕ) (at : n ≡ position_or_len (λ b. b == 10) (waiting old)) (are : bytes ≡ kept (seen ++ take n (waiting old))) (ended : new.has_ended ≡ old.has_ended) where
+module _ (old new : LineReader) (seen bytes : List ℕ) (n : ℕ) (at : n ≡ position_or_len (λ b. b == 10) (waiting old))
+    (are : bytes ≡ kept (seen ++ take n (waiting old))) (ended : new.has_ended ≡ old.has_ended) where
   pub takes_whole : n < length (waiting old) → waiting new ≡ drop (n + 1) (waiting old) → TakesPart old new seen bytes true
   takes_whole there rest = record {
     part = take n (waiting old);
@@ -139,7 +146,8 @@ waits_some r some =
     omega (arith, long, some)
 
 module _ (old new : LineReader) (seen bytes line items : List ℕ) (n : ℕ) (same : items ≡ old.piece.items)
-    (at : n ≡ position_or_len (λ b. b == 10) (take (old.end - old.at) (drop old.at items))) (got : bytes ≡ kept (line ++ take n (take (old.end - old.at) (drop old.at items)))) (are : line ≡ kept seen)
+    (at : n ≡ position_or_len (λ b. b == 10) (take (old.end - old.at) (drop old.at items)))
+    (got : bytes ≡ kept (line ++ take n (take (old.end - old.at) (drop old.at items)))) (are : line ≡ kept seen)
     (piece : new.piece ≡ old.piece) (end : new.end ≡ old.end) (ended : new.has_ended ≡ old.has_ended) where
   at_here : n ≡ position_or_len (λ b. b == 10) (waiting old)
   at_here = at ∙ ap (λ xs. position_or_len (λ b. b == 10) (take (old.end - old.at) (drop old.at xs))) same
@@ -155,7 +163,8 @@ module _ (old new : LineReader) (seen bytes line items : List ℕ) (n : ℕ) (sa
       = (λ i. take (end i - on i) (drop (on i) (piece i).items)) ∙ wait_on old.piece.items old.at old.end (n + 1) (omega (arith, few, long, old.begun)) in
       takes_whole old new seen bytes n at_here got_here ended few rest
 
-  pub took_all : length (take (old.end - old.at) (drop old.at items)) ≤ n → n ≤ length (take (old.end - old.at) (drop old.at items)) → new.at ≡ old.end → TakesPart old new seen bytes false
+  pub took_all : length (take (old.end - old.at) (drop old.at items)) ≤ n → n ≤ length (take (old.end - old.at) (drop old.at items)) → new.at ≡ old.end
+      → TakesPart old new seen bytes false
   took_all most few on =
       let all : length (waiting old) ≡ n = ap (λ xs. length (take (old.end - old.at) (drop old.at xs))) (sym same) ∙ omega (arith, most, few) in
       let rest : waiting new ≡ [] = (λ i. take (end i - on i) (drop (on i) (piece i).items)) ∙ wait_none old.piece.items old.end in
@@ -184,9 +193,11 @@ reading_first told r left bytes none = record {
   ended = λ t knows. knows;
 }
 
-module _ (told : Type 0) (old : LineReader) (before : List ℕ) (r s : LineReader) (left now bytes : List ℕ) (is_begun : Bool) (so_far : IsReading told old before r left bytes is_begun) where
+module _ (told : Type 0) (old : LineReader) (before : List ℕ) (r s : LineReader) (left now bytes : List ℕ) (is_begun : Bool)
+    (so_far : IsReading told old before r left bytes is_begun) where
   -- more is held
-  held_on : (is_more : Bool) → (told → KnowsEnd r left → Holds s (waiting r ++ left) now is_more) → told → KnowsEnd old before → lines_left old before ≡ lines_of (so_far.seen ++ (waiting s ++ now))
+  held_on : (is_more : Bool) → (told → KnowsEnd r left → Holds s (waiting r ++ left) now is_more) → told → KnowsEnd old before
+      → lines_left old before ≡ lines_of (so_far.seen ++ (waiting s ++ now))
   held_on is_more h t knows = so_far.whole t knows ∙ ap (λ b. lines_of (so_far.seen ++ b)) (h t (so_far.ended t knows)).whole
 
   module _ (u : LineReader) (after : List ℕ) (h : told → KnowsEnd r left → Holds s (waiting r ++ left) now true) where
@@ -199,7 +210,8 @@ module _ (told : Type 0) (old : LineReader) (before : List ℕ) (r s : LineReade
       begun = λ e. let same = ap length taken.waited in omega (arith, same, some, length-append so_far.seen taken.part);
       unbegun = λ e. absurd cc;
       whole = λ t knows. held_on true h t knows ∙ ap lines_of
-          (ap (λ b. so_far.seen ++ (b ++ now)) taken.waited ∙ sym (append_assoc so_far.seen taken.part now) ∙ ap (λ b. (so_far.seen ++ taken.part) ++ (b ++ now)) (sym (taken.none refl)));
+          (ap (λ b. so_far.seen ++ (b ++ now)) taken.waited ∙ sym (append_assoc so_far.seen taken.part now)
+          ∙ ap (λ b. (so_far.seen ++ taken.part) ++ (b ++ now)) (sym (taken.none refl)));
       ended = λ t knows e. (h t (so_far.ended t knows)).ended (sym taken.ended ∙ e);
     }
 

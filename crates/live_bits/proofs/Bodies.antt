@@ -16,17 +16,20 @@ one_set segment generation s t bytes p q =
     λ i. record { base = same.base_is i; span = same.span_is i; live = lists i }
 
 -- bits with the same live numbers are the same bits
-same_bits : (base span : ℕ) (x y : List ℕ) → AreBits base span x → AreBits base span y → live_in base span x ≡ live_in base span y → (i : ℕ) → is_set x i ≡ is_set y i
+same_bits : (base span : ℕ) (x y : List ℕ) → AreBits base span x → AreBits base span y → live_in base span x ≡ live_in base span y → (i : ℕ)
+    → is_set x i ≡ is_set y i
 same_bits base span x y p q e i =
     elim (cases_lt i span) [
       | inl lt ↦
           let place : base + i - base ≡ i = omega arith in
-          let at : (bits : List ℕ) → is_live (live_set base span bits) (base + i) ≡ is_set bits i = λ bits. live_inside base span bits (base + i) (omega arith) (omega arith) ∙ ap (λ (k : ℕ). is_set bits k) place in
+          let at : (bits : List ℕ) → is_live (live_set base span bits) (base + i) ≡ is_set bits i = λ bits.
+          live_inside base span bits (base + i) (omega arith) (omega arith) ∙ ap (λ (k : ℕ). is_set bits k) place in
           sym (at x) ∙ ap (λ (live : List ℕ). is_live (record { base = base; span = span; live = live }) (base + i)) e ∙ at y
       | inr le ↦ p.past i le ∙ sym (q.past i le)
     ]
 
 pub one_body : (segment generation : ℕ) (s : LiveSet) (a b : List ℕ) → IsLiveBody segment generation s a → IsLiveBody segment generation s b → a ≡ b
 one_body segment generation s a b p q =
-    let bits = same_bytes p.bits q.bits (p.are_bits.len ∙ sym q.are_bits.len) p.are_bytes q.are_bytes (same_bits s.base s.span p.bits q.bits p.are_bits q.are_bits (sym p.numbers ∙ q.numbers)) in
+    let bits = same_bytes p.bits q.bits (p.are_bits.len ∙ sym q.are_bits.len) p.are_bytes q.are_bytes
+    (same_bits s.base s.span p.bits q.bits p.are_bits q.are_bits (sym p.numbers ∙ q.numbers)) in
     p.spelling ∙ ap (λ (xs : List ℕ). head segment generation s.base s.span (length s.live) ++ xs) bits ∙ sym q.spelling

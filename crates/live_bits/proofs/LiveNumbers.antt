@@ -1,5 +1,6 @@
 -- The numbers of a span, the live ones among them, and a set without one of its numbers.
-use Rattle.std.proofs.Common.{◌≡◌, ◌<◌, ◌≤◌, ◌+◌, ◌-◌, ℕ, zero, suc, Bool, true, false, not, ◌&&◌, ◌||◌, cond, nat_eq, List, [], ◌∷◌, length, get_or, refl, sym, ap, ◌∙◌, arith, inl, inr, ◌⊎◌, All, filter}
+use Rattle.std.proofs.Common.{◌≡◌, ◌<◌, ◌≤◌, ◌+◌, ◌-◌, ℕ, zero, suc, Bool, true, false, not, ◌&&◌, ◌||◌, cond, nat_eq}
+use Rattle.std.proofs.Common.{List, [], ◌∷◌, length, get_or, refl, sym, ap, ◌∙◌, arith, inl, inr, ◌⊎◌, All, filter}
 use Rattle.std.specs.Prelude.{AllPairs, ◌↔◌}
 use Rattle.std.specs.List.{list_any}
 use Rattle.std.specs.List.Sorted.{IsStrictlyIncreasing}
@@ -41,7 +42,8 @@ numbers_within first count k d lt =
 has_number : (first count n : ℕ) → first ≤ n → n < first + count → list_any (λ d. nat_eq d n) (numbers_from first count) ≡ true
 has_number first count n above below =
     let here = numbers_from-at first count (n - first) 0 (omega arith) in
-    list_any_at (λ (d : ℕ). nat_eq d n) (numbers_from first count) (n - first) 0 (omega (arith, numbers_from-length first count)) (eq-eqb _ n (omega (arith, here)))
+    list_any_at (λ (d : ℕ). nat_eq d n) (numbers_from first count) (n - first) 0 (omega (arith, numbers_from-length first count))
+    (eq-eqb _ n (omega (arith, here)))
 
 has_no_number : (first count n : ℕ) → ((m : ℕ) → first ≤ m → m < first + count → m ≡ n → ⊥) → list_any (λ d. nat_eq d n) (numbers_from first count) ≡ false
 has_no_number first count n none =
@@ -50,7 +52,8 @@ has_no_number first count n none =
 
 -- ---- which of them are live
 
-live_is : (base span : ℕ) (bits : List ℕ) (n : ℕ) → is_live (live_set base span bits) n ≡ (is_set bits (n - base) && list_any (λ d. nat_eq d n) (numbers_from base span))
+live_is : (base span : ℕ) (bits : List ℕ) (n : ℕ)
+    → is_live (live_set base span bits) n ≡ (is_set bits (n - base) && list_any (λ d. nat_eq d n) (numbers_from base span))
 unfolding is_live live_in
 live_is base span bits n =
     any-filter_same (λ (d : ℕ). nat_eq d n) (λ (m : ℕ). is_set bits (m - base)) (is_set bits (n - base))
@@ -100,7 +103,8 @@ filter_none p (x ∷ xs) all =
 -- ---- a set without a number
 
 -- the bits without that of doc
-pub live_in-cleared : (base span doc : ℕ) (bits new : List ℕ) → base ≤ doc → ((j : ℕ) → is_set new j ≡ (is_set bits j && not (nat_eq j (doc - base)))) → live_in base span new ≡ filter (λ n. not (nat_eq n doc)) (live_in base span bits)
+pub live_in-cleared : (base span doc : ℕ) (bits new : List ℕ) → base ≤ doc → ((j : ℕ) → is_set new j ≡ (is_set bits j && not (nat_eq j (doc - base))))
+    → live_in base span new ≡ filter (λ n. not (nat_eq n doc)) (live_in base span bits)
 unfolding live_in
 live_in-cleared base span doc bits new above cleared =
     filter_agree_on (λ (n : ℕ). is_set new (n - base)) (λ (n : ℕ). is_set bits (n - base) && not (nat_eq n doc)) (numbers_from base span)
@@ -118,7 +122,8 @@ live_in-cleared base span doc bits new above cleared =
 pub is_live-without : (s : LiveSet) (doc n : ℕ) → is_live (without doc s) n ≡ (is_live s n && not (nat_eq n doc))
 unfolding is_live
 is_live-without s doc n =
-    any-filter_same (λ (d : ℕ). nat_eq d n) (λ (m : ℕ). not (nat_eq m doc)) (not (nat_eq n doc)) (λ k t. ap (λ (m : ℕ). not (nat_eq m doc)) (eqb-true k n t)) s.live
+    any-filter_same (λ (d : ℕ). nat_eq d n) (λ (m : ℕ). not (nat_eq m doc)) (not (nat_eq n doc)) (λ k t. ap (λ (m : ℕ). not (nat_eq m doc)) (eqb-true k n t))
+    s.live
     ∙ and_comm (not (nat_eq n doc)) (list_any (λ (d : ℕ). nat_eq d n) s.live)
 
 -- ascending numbers have each number once
@@ -129,10 +134,13 @@ once doc (x ∷ xs) rises has =
     let rest_rises : AllPairs (λ (y z : ℕ). y < z) xs = λ i j d lt long. rises (suc i) (suc j) d (omega arith) (omega arith) in
     elim (cases_eq x doc) [
       | inl e ↦
-          let none : All (λ (y : ℕ). nat_eq y doc ≡ false) xs = λ k d lt. ne_eqb (get_or xs k d) doc (λ h. let above : x < get_or xs k d = rises 0 (suc k) d (omega arith) (omega arith) in omega arith) in
-          ap (λ (b : Bool). length (cond b (x ∷ others) others)) (eq-eqb x doc e) ∙ ap (λ (r : List ℕ). suc (length r)) (filter_none (λ (n : ℕ). nat_eq n doc) xs none)
+          let none : All (λ (y : ℕ). nat_eq y doc ≡ false) xs = λ k d lt.
+          ne_eqb (get_or xs k d) doc (λ h. let above : x < get_or xs k d = rises 0 (suc k) d (omega arith) (omega arith) in omega arith) in
+          ap (λ (b : Bool). length (cond b (x ∷ others) others)) (eq-eqb x doc e)
+          ∙ ap (λ (r : List ℕ). suc (length r)) (filter_none (λ (n : ℕ). nat_eq n doc) xs none)
       | inr ne ↦
-          let in_rest : list_any (λ (d : ℕ). nat_eq d doc) xs ≡ true = sym (ap (λ (b : Bool). b || list_any (λ (d : ℕ). nat_eq d doc) xs) (ne_eqb x doc ne)) ∙ has in
+          let in_rest : list_any (λ (d : ℕ). nat_eq d doc) xs ≡ true =
+          sym (ap (λ (b : Bool). b || list_any (λ (d : ℕ). nat_eq d doc) xs) (ne_eqb x doc ne)) ∙ has in
           ap (λ (b : Bool). length (cond b (x ∷ others) others)) (ne_eqb x doc ne) ∙ once doc xs rest_rises in_rest
     ]
 
@@ -171,7 +179,10 @@ no_numbers (x ∷ xs) none =
 
 pub none_live : (s : LiveSet) → (length s.live ≡ 0) ↔ (is_live s ≡ (λ _. false))
 unfolding is_live
-none_live s = (λ zero_long. let nil = nil_from_length s.live zero_long in λ i n. list_any (λ (d : ℕ). nat_eq d n) (nil i), λ none. no_numbers s.live (λ n. ap (λ (f : ℕ → Bool). f n) none))
+none_live s = (
+  λ zero_long. let nil = nil_from_length s.live zero_long in λ i n. list_any (λ (d : ℕ). nat_eq d n) (nil i),
+  λ none. no_numbers s.live (λ n. ap (λ (f : ℕ → Bool). f n) none),
+)
 
 -- ---- sets as they are kept
 
@@ -188,11 +199,13 @@ pub record IsCleared (base doc : ℕ) (old new : List ℕ) : Type 0 where
   pub len : length new ≡ length old
   pub bits : (j : ℕ) → is_set new j ≡ (is_set old j && not (nat_eq j (doc - base)))
 
-pub cleared_view : (base span doc : ℕ) (old new : List ℕ) → base ≤ doc → IsCleared base doc old new → live_set base span new ≡ without doc (live_set base span old)
+pub cleared_view : (base span doc : ℕ) (old new : List ℕ) → base ≤ doc → IsCleared base doc old new
+    → live_set base span new ≡ without doc (live_set base span old)
 cleared_view base span doc old new above h =
     let live = live_in-cleared base span doc old new above h.bits in λ i. record { base = base; span = span; live = live i }
 
-pub cleared_stored : (base span count doc : ℕ) (old new : List ℕ) → IsStored base span count old → is_live (live_set base span old) doc ≡ true → IsCleared base doc old new → IsStored base span (count - 1) new
+pub cleared_stored : (base span count doc : ℕ) (old new : List ℕ) → IsStored base span count old → is_live (live_set base span old) doc ≡ true
+    → IsCleared base doc old new → IsStored base span (count - 1) new
 cleared_stored base span count doc old new stored live h =
     let bounds = live_bounds base span old doc live in
     let fewer = length-without (live_set base span old) doc (live_set_is base span old stored.are_bits.limit) live in

@@ -1,5 +1,6 @@
 -- Bytes that have the same bits are the same bytes; bits past a span are zero where the last byte has none there.
-use Rattle.std.proofs.Common.{◌≡◌, ◌≢◌, ◌<◌, ◌≤◌, ◌+◌, ◌-◌, ◌/◌, ◌%◌, ◌^◌, ℕ, zero, suc, false, nat_eq, List, [], ◌∷◌, length, get_or, refl, sym, ap, subst, ◌∙◌, arith, inl, inr, All}
+use Rattle.std.proofs.Common.{◌≡◌, ◌≢◌, ◌<◌, ◌≤◌, ◌+◌, ◌-◌, ◌/◌, ◌%◌, ◌^◌, ℕ, zero, suc, false, nat_eq, List}
+use Rattle.std.proofs.Common.{[], ◌∷◌, length, get_or, refl, sym, ap, subst, ◌∙◌, arith, inl, inr, All}
 use Rattle.std.proofs.Math.Nat.{pow-suc, zero-div}
 use Rattle.std.proofs.lemmas.Bool.{cases_lt}
 use Rattle.std.proofs.lemmas.List.{get_or_past}
@@ -51,7 +52,8 @@ same_bytes (x ∷ xs) (y ∷ ys) len hx hy same =
 
 -- ---- past the span
 
-pub past_zero : (bits : List ℕ) (span : ℕ) → length bits ≡ (span + 7) / 8 → span % 8 ≢ 0 → get_or bits (span / 8) 0 / 2 ^ (span % 8) ≡ 0 → (i : ℕ) → span ≤ i → is_set bits i ≡ false
+pub past_zero : (bits : List ℕ) (span : ℕ) → length bits ≡ (span + 7) / 8 → span % 8 ≢ 0 → get_or bits (span / 8) 0 / 2 ^ (span % 8) ≡ 0 → (i : ℕ) → span ≤ i
+    → is_set bits i ≡ false
 past_zero bits span len part zeros i past =
     elim (cases_lt (i / 8) (length bits)) [
       | inl lt ↦
@@ -59,12 +61,15 @@ past_zero bits span len part zeros i past =
           let more : i % 8 ≡ span % 8 + (i % 8 - span % 8) = omega arith in
           ap (λ (k : ℕ). nat_eq (get_or bits k 0 / 2 ^ (i % 8) % 2) 1) byte
           ∙ ap (λ (k : ℕ). nat_eq (get_or bits (span / 8) 0 / 2 ^ k % 2) 1) more
-          ∙ ap (λ (x : ℕ). nat_eq (x % 2) 1) (sym (shr-shr (get_or bits (span / 8) 0) (span % 8) (i % 8 - span % 8)) ∙ ap (λ (x : ℕ). x / 2 ^ (i % 8 - span % 8)) zeros ∙ zero-div (2 ^ (i % 8 - span % 8)))
+          ∙ ap (λ (x : ℕ). nat_eq (x % 2) 1)
+          (sym (shr-shr (get_or bits (span / 8) 0) (span % 8) (i % 8 - span % 8)) ∙ ap (λ (x : ℕ). x / 2 ^ (i % 8 - span % 8)) zeros
+          ∙ zero-div (2 ^ (i % 8 - span % 8)))
       | inr le ↦
           ap (λ (b : ℕ). nat_eq (b / 2 ^ (i % 8) % 2) 1) (get_or_past bits (i / 8) 0 le) ∙ ap (λ (x : ℕ). nat_eq (x % 2) 1) (zero-div (2 ^ (i % 8)))
     ]
 
-pub zero_past : (bits : List ℕ) (span : ℕ) → ((i : ℕ) → get_or bits i 0 < 256) → ((i : ℕ) → span ≤ i → is_set bits i ≡ false) → get_or bits (span / 8) 0 / 2 ^ (span % 8) ≡ 0
+pub zero_past : (bits : List ℕ) (span : ℕ) → ((i : ℕ) → get_or bits i 0 < 256) → ((i : ℕ) → span ≤ i → is_set bits i ≡ false)
+    → get_or bits (span / 8) 0 / 2 ^ (span % 8) ≡ 0
 zero_past bits span small past =
     let byte = get_or bits (span / 8) 0 in
     let whole : 8 - span % 8 + span % 8 ≡ 8 = omega arith in

@@ -1,5 +1,6 @@
 -- Single bits of bytes, after one is set or cleared.
-use Rattle.std.proofs.Common.{◌≡◌, ◌<◌, ◌+◌, ◌-◌, ◌*◌, ◌/◌, ◌%◌, ◌^◌, ℕ, zero, suc, Bool, not, ◌&&◌, ◌||◌, nat_eq, List, length, get_or, bit_and, bit_or, refl, sym, ap, subst, ◌∙◌, arith, inl, inr, get_or-set_same, get_or-set_other, slice_set}
+use Rattle.std.proofs.Common.{◌≡◌, ◌<◌, ◌+◌, ◌-◌, ◌*◌, ◌/◌, ◌%◌, ◌^◌, ℕ, zero, suc, Bool, not, ◌&&◌, ◌||◌, nat_eq, List, length, get_or}
+use Rattle.std.proofs.Common.{bit_and, bit_or, refl, sym, ap, subst, ◌∙◌, arith, inl, inr, get_or-set_same, get_or-set_other, slice_set}
 use Rattle.std.proofs.Math.Bool.{and-true, or-false}
 use Rattle.std.proofs.lemmas.Bool.{cases_eq, ne_eqb, eq-eqb, agree_below_at}
 use Rattle.std.proofs.lemmas.Nat.{or_shr, or_mod, and_shr, and_mod}
@@ -80,9 +81,11 @@ other_byte : (bits : List ℕ) (i j v : ℕ) → (j / 8 ≡ i / 8 → ⊥) → i
 other_byte bits i j v ne = ap (λ (b : ℕ). nat_eq (b / 2 ^ (j % 8) % 2) 1) (get_or-set_other bits (i / 8) (j / 8) v 0 ne)
 
 this_byte : (bits : List ℕ) (i j v : ℕ) → i / 8 < length bits → j / 8 ≡ i / 8 → is_set (slice_set bits (i / 8) v) j ≡ nat_eq (v / 2 ^ (j % 8) % 2) 1
-this_byte bits i j v lt e = ap (λ (b : ℕ). nat_eq (b / 2 ^ (j % 8) % 2) 1) (ap (λ (k : ℕ). get_or (slice_set bits (i / 8) v) k 0) e ∙ get_or-set_same bits (i / 8) v 0 lt)
+this_byte bits i j v lt e =
+    ap (λ (b : ℕ). nat_eq (b / 2 ^ (j % 8) % 2) 1) (ap (λ (k : ℕ). get_or (slice_set bits (i / 8) v) k 0) e ∙ get_or-set_same bits (i / 8) v 0 lt)
 
-pub set_bit_is : (bits : List ℕ) (i j : ℕ) → i / 8 < length bits → is_set (slice_set bits (i / 8) (bit_or (get_or bits (i / 8) 0) (1 * 2 ^ (i % 8) % 256))) j ≡ (is_set bits j || nat_eq j i)
+pub set_bit_is : (bits : List ℕ) (i j : ℕ) → i / 8 < length bits
+    → is_set (slice_set bits (i / 8) (bit_or (get_or bits (i / 8) 0) (1 * 2 ^ (i % 8) % 256))) j ≡ (is_set bits j || nat_eq j i)
 set_bit_is bits i j lt =
     elim (cases_eq (j / 8) (i / 8)) [
       | inl e ↦
@@ -96,7 +99,8 @@ set_bit_is bits i j lt =
           ∙ sym (ap (λ (x : Bool). is_set bits j || x) (ne_eqb j i apart) ∙ or-false (is_set bits j))
     ]
 
-pub clear_bit_is : (bits : List ℕ) (i j : ℕ) → i / 8 < length bits → is_set (slice_set bits (i / 8) (bit_and (get_or bits (i / 8) 0) (255 - 1 * 2 ^ (i % 8) % 256))) j ≡ (is_set bits j && not (nat_eq j i))
+pub clear_bit_is : (bits : List ℕ) (i j : ℕ) → i / 8 < length bits
+    → is_set (slice_set bits (i / 8) (bit_and (get_or bits (i / 8) 0) (255 - 1 * 2 ^ (i % 8) % 256))) j ≡ (is_set bits j && not (nat_eq j i))
 clear_bit_is bits i j lt =
     elim (cases_eq (j / 8) (i / 8)) [
       | inl e ↦

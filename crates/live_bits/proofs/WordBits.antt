@@ -1,5 +1,6 @@
 -- Words of 64 bits: the bytes that they are made of, and what shifts leave of them.
-use Rattle.std.proofs.Common.{◌≡◌, ◌<◌, ◌≤◌, ◌+◌, ◌-◌, ◌*◌, ◌/◌, ◌%◌, ◌^◌, ℕ, zero, suc, Bool, false, ◌&&◌, ◌||◌, nat_eq, nat_le, List, get_or, bit_or, refl, sym, ap, subst, ◌∙◌, arith, inl, inr}
+use Rattle.std.proofs.Common.{◌≡◌, ◌<◌, ◌≤◌, ◌+◌, ◌-◌, ◌*◌, ◌/◌, ◌%◌, ◌^◌, ℕ, zero, suc, Bool, false, ◌&&◌, ◌||◌}
+use Rattle.std.proofs.Common.{nat_eq, nat_le, List, get_or, bit_or, refl, sym, ap, subst, ◌∙◌, arith, inl, inr}
 use Rattle.std.specs.Int.{w64, byte_worth, from_le_bytes, sum_through}
 use Rattle.std.proofs.Math.Nat.{pow-suc}
 use Rattle.std.proofs.Math.Bool.{or-false}
@@ -107,7 +108,8 @@ both_bits bits eight i k e lt odd =
           let none : has_bit high k ≡ false = bit-mod after 64 k lt ∙ bit-shl_low (get_or bits (i / 8 + 8) 0) (64 - i % 8) k (omega arith) in
           (λ j. here j || none j) ∙ or-false (is_set bits (i + k))
       | inr past ↦
-          let none : has_bit low k ≡ false = bit-shr number (i % 8) k ∙ ap (λ (x : ℕ). nat_eq x 1) (bit_at_above number 64 (i % 8 + k) (worth_below eight 7 e.bytes) past) in
+          let none : has_bit low k ≡ false =
+          bit-shr number (i % 8) k ∙ ap (λ (x : ℕ). nat_eq x 1) (bit_at_above number 64 (i % 8 + k) (worth_below eight 7 e.bytes) past) in
           let byte : i / 8 + 8 ≡ (i + k) / 8 = omega arith in
           let place : k - (64 - i % 8) ≡ (i + k) % 8 = omega arith in
           let here : has_bit high k ≡ is_set bits (i + k) =
@@ -152,7 +154,8 @@ live_bit base span n bits are above =
     ]
 
 -- a word that begins at bit i
-pub live-from : (base span first i k : ℕ) (bits : List ℕ) → AreBits base span bits → base ≤ first → i ≡ first - base → is_set bits (i + k) ≡ is_live (live_set base span bits) (first + k)
+pub live-from : (base span first i k : ℕ) (bits : List ℕ) → AreBits base span bits → base ≤ first → i ≡ first - base
+    → is_set bits (i + k) ≡ is_live (live_set base span bits) (first + k)
 live-from base span first i k bits are above is =
     let same : i + k ≡ first + k - base = omega arith in
     ap (is_set bits) same ∙ sym (live_bit base span (first + k) bits are (omega arith))
@@ -162,7 +165,8 @@ pub live-after : (base span first k : ℕ) (bits : List ℕ) → AreBits base sp
     → (nat_le (base - first) k && is_set bits (k - (base - first))) ≡ is_live (live_set base span bits) (first + k)
 live-after base span first k bits are before =
     elim (cases_lt k (base - first)) [
-      | inl low ↦ ap (λ (b : Bool). b && is_set bits (k - (base - first))) (lt-leb (base - first) k low) ∙ sym (live_outside base span bits (first + k) (inl (omega arith)))
+      | inl low ↦ ap (λ (b : Bool). b && is_set bits (k - (base - first))) (lt-leb (base - first) k low)
+          ∙ sym (live_outside base span bits (first + k) (inl (omega arith)))
       | inr high ↦
           let same : k - (base - first) ≡ first + k - base = omega arith in
           ap (λ (b : Bool). b && is_set bits (k - (base - first))) (le-leb (base - first) k high)

@@ -1,5 +1,6 @@
 -- What a load makes of an index, in the definition's own steps.
-use Rattle.std.proofs.Common.{◌≡◌, ◌≤◌, ◌+◌, ◌^◌, ◌==◌, ℕ, true, false, not, cond, nat_lt, List, [], ◌∷◌, length, fold, Some, None, Ok, Err, refl, ap, ◌∙◌, arith, ℤ}
+use Rattle.std.proofs.Common.{◌≡◌, ◌≤◌, ◌+◌, ◌^◌, ◌==◌, ℕ, true, false, not, cond, nat_lt, List}
+use Rattle.std.proofs.Common.{[], ◌∷◌, length, fold, Some, None, Ok, Err, refl, ap, ◌∙◌, arith, ℤ}
 use Rattle.std.proofs.lemmas.Bool.Decides.{nat_tests}
 use Rattle.index_model.specs.State.{Index, State, at_rest}
 use Rattle.index_model.specs.Script.{Answer}
@@ -9,7 +10,8 @@ use Rattle.script_lang.specs.declared.faults.Refusal.TheVariants as why
 use Rattle.index_core.specs.Whole.{with_point, with_points}
 use Rattle.csv_load.specs.Loading.{points_of, records_of}
 use Rattle.csv_load.specs.declared.CsvFault.{CsvFault}
-use Rattle.load_points.specs.Loaded.{added, dims_text, full_text, given_of, left_by, load_answer, loaded_by, loaded_text, matched, next_of, opened, refusal, with_document, with_documents}
+use Rattle.load_points.specs.Loaded.{added, dims_text, full_text, given_of, left_by, load_answer, loaded_by}
+use Rattle.load_points.specs.Loaded.{loaded_text, matched, next_of, opened, refusal, with_document, with_documents}
 
 some_inj : {X : Type 0} (x y : X) → Some x ≡ Some y → x ≡ y
 some_inj x y e = cc
@@ -51,7 +53,8 @@ same_dims : (m n : ℕ) → m ≡ n → not (m == n) ≡ false
 same_dims m n e = grind (arith, nat_tests)
 
 -- where it has as many dimensions as there are columns
-pub matched_is : (D : ℕ) (stored : State) (i : Index) (points : List (List ℤ)) → opened D stored ≡ Some i → i.dims ≡ D → matched D stored points ≡ added D stored points
+pub matched_is : (D : ℕ) (stored : State) (i : Index) (points : List (List ℤ)) → opened D stored ≡ Some i → i.dims ≡ D
+    → matched D stored points ≡ added D stored points
 matched_is D None i points e dims = refl
 matched_is D (Some j) i points e dims =
     ap (λ b. cond b (refusal (Some j) (dims_text j.dims)) (added D (Some j) points)) (same_dims j.dims D (ap (λ (k : Index). k.dims) (some_inj _ _ e) ∙ dims))
@@ -64,18 +67,22 @@ matched_not D i points other = ap (λ b. cond b (refusal (Some i) (dims_text i.d
     other_dims m n h = grind (arith, nat_tests)
 
 -- where not all fit
-pub full_is : (D : ℕ) (stored : State) (i : Index) (points : List (List ℤ)) → opened D stored ≡ Some i → 2 ^ 24 + 1 ≤ i.given + length points → added D stored points ≡ refusal stored full_text
+pub full_is : (D : ℕ) (stored : State) (i : Index) (points : List (List ℤ)) → opened D stored ≡ Some i → 2 ^ 24 + 1 ≤ i.given + length points
+    → added D stored points ≡ refusal stored full_text
 full_is D stored i points e many =
-    ap (λ b. cond b (refusal stored full_text) (record { state = with_documents D stored points; text = loaded_text (length points) (next_of stored + length points); refused = 0 }))
+    ap (λ b. cond b (refusal stored full_text)
+    (record { state = with_documents D stored points; text = loaded_text (length points) (next_of stored + length points); refused = 0 }))
     (ap (λ n. nat_lt (2 ^ 24) (n + length points)) (given_opened D stored i e) ∙ full_true (2 ^ 24) (i.given + length points) many)
 
 -- where all fit
 abbrev pub done_answer : Index → List (List ℤ) → Answer
 done_answer i points = record { state = Some (with_points i points); text = loaded_text (length points) (i.next + length points); refused = 0 }
 
-pub added_is : (D : ℕ) (stored : State) (i : Index) (points : List (List ℤ)) → opened D stored ≡ Some i → i.given + length points ≤ 2 ^ 24 → added D stored points ≡ done_answer i points
+pub added_is : (D : ℕ) (stored : State) (i : Index) (points : List (List ℤ)) → opened D stored ≡ Some i → i.given + length points ≤ 2 ^ 24
+    → added D stored points ≡ done_answer i points
 added_is D stored i points e fits =
-    ap (λ b. cond b (refusal stored full_text) (record { state = with_documents D stored points; text = loaded_text (length points) (next_of stored + length points); refused = 0 }))
+    ap (λ b. cond b (refusal stored full_text)
+    (record { state = with_documents D stored points; text = loaded_text (length points) (next_of stored + length points); refused = 0 }))
     (ap (λ n. nat_lt (2 ^ 24) (n + length points)) (given_opened D stored i e) ∙ fits_false (2 ^ 24) (i.given + length points) fits)
     ∙ (λ j. record {
       state = (ap (λ (s : State). fold with_document s points) e ∙ all_more i points fits) j;
@@ -89,11 +96,13 @@ rest_done i points rests = rest_with i points ∙ ap (λ (j : Index). with_point
 
 -- ---- what the file gives
 
-pub loaded_points : (D : ℕ) (stored : State) (input : List ℕ) (names : List (List ℕ)) (points : List (List ℤ)) → length names ≡ D → points_of names (records_of input) ≡ Ok points
+pub loaded_points : (D : ℕ) (stored : State) (input : List ℕ) (names : List (List ℕ)) (points : List (List ℤ)) → length names ≡ D
+    → points_of names (records_of input) ≡ Ok points
     → load_answer stored input names ≡ matched D stored points
 unfolding load_answer
 loaded_points D stored input names points named gives = ap (loaded_by names stored) gives ∙ ap (λ n. matched n stored points) named
 
-pub loaded_fault : (stored : State) (input : List ℕ) (names : List (List ℕ)) (fault : CsvFault) → points_of names (records_of input) ≡ Err fault → load_answer stored input names ≡ loaded_by names stored (Err fault)
+pub loaded_fault : (stored : State) (input : List ℕ) (names : List (List ℕ)) (fault : CsvFault) → points_of names (records_of input) ≡ Err fault
+    → load_answer stored input names ≡ loaded_by names stored (Err fault)
 unfolding load_answer
 loaded_fault stored input names fault fails = ap (loaded_by names stored) fails

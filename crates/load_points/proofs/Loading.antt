@@ -1,16 +1,17 @@
 -- A load from one place to another, by what each call of it answered.
-use Rattle.std.proofs.Common.{◌≡◌, ◌≤◌, ◌+◌, ◌^◌, ◌++◌, ℕ, Bool, true, false, List, [], ◌∷◌, length, Some, None, Result, Ok, Err, OnOk, IfOk, refl, sym, ap, subst, ◌∙◌, ◌⊎◌, inl, inr, ⊎_elim, arith, ℤ}
+use Rattle.std.proofs.Common.{◌≡◌, ◌≤◌, ◌+◌, ◌^◌, ◌++◌, ℕ, Bool, true, false, List, [], ◌∷◌, length, Some, None}
+use Rattle.std.proofs.Common.{Result, Ok, Err, OnOk, IfOk, refl, sym, ap, subst, ◌∙◌, ◌⊎◌, inl, inr, ⊎_elim, arith, ℤ}
 use Rattle.std.specs.List.{Contains}
 use Rattle.outer_io.specs.declared.file_name.FileName.TheVariants.{Commit}
 use Rattle.outer_io.specs.Files.{Files, bytes_of}
 use Rattle.page_cache.specs.declared.faults.PageFault.{PageFault}
 use Rattle.page_cache.specs.declared.faults.PageFault.TheVariants as page
 use Rattle.page_cache.specs.Causes.{HasPageCause}
-use Rattle.page_cache.specs.Evidence.{FaultShows, NotDamaged, OnDamage}
+use Rattle.page_cache.specs.Evidence.{NotDamaged, OnDamage}
 use Rattle.commit_list.specs.declared.listed.Listed.{Listed}
 use Rattle.commit_list.specs.Commits.{CommitData}
-use Rattle.commit_list.specs.CommitFiles.{IsCommitDamage, IsCommitDamageOf, IsCommitFile}
-use Rattle.commit_list.proofs.CommitPages.{file_there, one_file}
+use Rattle.commit_list.specs.CommitFiles.{IsCommitFile}
+use Rattle.commit_list.proofs.CommitPages.{file_there}
 use Rattle.index_model.specs.State.{Index, State, at_rest, new_index}
 use Rattle.index_model.specs.Script.{Answer}
 use Rattle.script_lang.specs.Reading.{greatest_leaf}
@@ -21,42 +22,43 @@ use Rattle.stored_index.proofs.Whole.{held_for}
 use Rattle.documents.proofs.Lists.{nil_none}
 use Rattle.segment_view.specs.Parts.{Part}
 use Rattle.segment_set.specs.Seen.{Sees}
-use Rattle.index_opening.specs.Evidence.{IsEvident, IsTwice}
-use Rattle.segment_set.specs.Faithful.{IsFaithful}
-use Rattle.index_opening.proofs.Evident.{on_commit_evident, on_evident_at, on_evident_less}
-use Rattle.index_core.specs.Sessions.{AreTraced, Guards, IsTraced, IsUnchanged, SessionData, Trusts}
+use Rattle.index_opening.specs.Evidence.{IsEvident}
+use Rattle.index_opening.proofs.Evident.{on_evident_less}
+use Rattle.index_core.specs.Sessions.{Guards, IsUnchanged, SessionData, Trusts}
 use Rattle.index_core.specs.Light.{KeepsLevels}
 use Rattle.index_core.specs.Steps.{FaultKeeps, KeepsUndone}
 use Rattle.index_core.specs.Whole.{Adds, DoesWhole, HasNewCanonical, IsNewSegment, Moment, with_point, with_points}
 use Rattle.index_core.proofs.Answering.{cause_then, fault_to, memory_cause, no_cause}
-use Rattle.csv_load.specs.Loading.{points_of, records_of}
-use Rattle.csv_load.specs.declared.CsvFault.{CsvFault}
-use Rattle.load_points.specs.Loaded.{dims_text, full_text, load_answer, loaded_by, loaded_text, matched, opened, refusal}
-use Rattle.load_points.specs.Loads.{HasDims, IsLoading, Loads, Place, StartsFrom, StartsNone}
-use Rattle.load_points.proofs.Counted.{added_is, done_answer, full_is, loaded_fault, loaded_points, matched_is, matched_not, rest_done}
+use Rattle.load_points.specs.Loaded.{full_text, loaded_text, matched, opened, refusal}
+use Rattle.load_points.specs.Loads.{IsLoading, Loads, Place, StartsFrom, StartsNone}
+use Rattle.load_points.proofs.Counted.{added_is, done_answer, full_is, matched_is, rest_done}
 use Rattle.index_core.proofs.Bringing.{brings_then}
 use Rattle.index_core.proofs.Listed.{attached_listed, new_canonical}
-use Rattle.index_core.proofs.Undone.{begins_none, fault_kept, kept_equal, levels_after, undone_after}
+use Rattle.index_core.proofs.Undone.{begins_none, fault_kept, levels_after, undone_after}
 use Rattle.index_core.proofs.Wholes.{IsCommitted, does_fault}
 
-abbrev Starting : Type 1
+abbrev pub Starting : Type 1
 Starting = State → Type 0
 
 -- ---- faults
 
 -- a fault of a call after which what was stored, or what the answer leaves, is
-pub loads_fault : {T : Type 0} (told trusts : Type 0) (Starts : Starting) (answer : State → Answer) (old new : Place) (fault : PageFault) (r : Result Bool PageFault) → r ≡ Err fault
-    → (told → (stored : State) → Starts stored → IsStored new.files stored ⊎ IsStored new.files (answer stored).state) → (told → (stored : State) → Starts stored → NotDamaged {T = T} (Err fault))
-    → HasPageCause {T = T} old.faults new.faults (Err fault) → OnDamage {T = T} (Err fault) (IsEvident (told × trusts) new.files) → (told → trusts → FaultKeeps old.files new.files fault) → Loads told trusts Starts answer old new r
-loads_fault {T = T} told trusts Starts answer old new fault r is stored whole cause evident undone = subst (Loads told trusts Starts answer old new) (sym is) (record {
-  does = λ t state h. does_fault new.files state (answer state) old.text new.text fault (other fault (whole t state h)) (stored t state h);
-  unchanged = λ t. tt;
-  canon = λ t state h. tt;
-  levels = λ t state h. tt;
-  undone = undone;
-  cause = fault_to old.faults new.faults fault cause;
-  evident = evident;
-})
+pub loads_fault : {T : Type 0} (told trusts : Type 0) (Starts : Starting) (answer : State → Answer) (old new : Place) (fault : PageFault)
+    (r : Result Bool PageFault) → r ≡ Err fault
+    → (told → (stored : State) → Starts stored → IsStored new.files stored ⊎ IsStored new.files (answer stored).state)
+    → (told → (stored : State) → Starts stored → NotDamaged {T = T} (Err fault))
+    → HasPageCause {T = T} old.faults new.faults (Err fault) → OnDamage {T = T} (Err fault) (IsEvident (told × trusts) new.files)
+    → (told → trusts → FaultKeeps old.files new.files fault) → Loads told trusts Starts answer old new r
+loads_fault {T = T} told trusts Starts answer old new fault r is stored whole cause evident undone =
+    subst (Loads told trusts Starts answer old new) (sym is) (record {
+      does = λ t state h. does_fault new.files state (answer state) old.text new.text fault (other fault (whole t state h)) (stored t state h);
+      unchanged = λ t. tt;
+      canon = λ t state h. tt;
+      levels = λ t state h. tt;
+      undone = undone;
+      cause = fault_to old.faults new.faults fault cause;
+      evident = evident;
+    })
   where
     other : (f : PageFault) → NotDamaged {T = T} (Err f) → NotDamaged {T = Bool} (Err f)
     other page.Failed whole = tt
@@ -64,17 +66,21 @@ loads_fault {T = T} told trusts Starts answer old new fault r is stored whole ca
     other (page.Damaged d) whole = whole
 
 -- for want of memory nothing is changed
-pub loads_no_memory : (told trusts : Type 0) (Starts : Starting) (answer : State → Answer) (files : Files) (faults : ℕ) (before after : List ℕ) (r : Result Bool PageFault) → r ≡ Err page.Memory
+pub loads_no_memory : (told trusts : Type 0) (Starts : Starting) (answer : State → Answer) (files : Files) (faults : ℕ) (before after : List ℕ)
+    (r : Result Bool PageFault) → r ≡ Err page.Memory
     → ((stored : State) → Starts stored → IsStored files stored)
     → Loads told trusts Starts answer (record { files = files; faults = faults; text = before }) (record { files = files; faults = faults; text = after }) r
 loads_no_memory told trusts Starts answer files faults before after r is keeps =
-    loads_fault {T = Bool} told trusts Starts answer _ _ page.Memory r is (λ t state h. inl (keeps state h)) (λ t state h. tt) (memory_cause faults faults (omega arith)) tt (λ t h. inl (kept_itself files))
+    loads_fault {T = Bool} told trusts Starts answer _ _ page.Memory r is (λ t state h. inl (keeps state h)) (λ t state h. tt)
+    (memory_cause faults faults (omega arith)) tt (λ t h. inl (kept_itself files))
 
 -- ---- refusals
 
-pub loads_refused : (told trusts : Type 0) (Starts : Starting) (answer : State → Answer) (files : Files) (faults : ℕ) (before after cause : List ℕ) → after ≡ before ++ ended cause
+pub loads_refused : (told trusts : Type 0) (Starts : Starting) (answer : State → Answer) (files : Files) (faults : ℕ) (before after cause : List ℕ)
+    → after ≡ before ++ ended cause
     → ((stored : State) → Starts stored → IsStored files stored) → ((stored : State) → Starts stored → answer stored ≡ refusal stored cause)
-    → Loads told trusts Starts answer (record { files = files; faults = faults; text = before }) (record { files = files; faults = faults; text = after }) (Ok true)
+    → Loads told trusts Starts answer (record { files = files; faults = faults; text = before }) (record { files = files; faults = faults; text = after })
+    (Ok true)
 loads_refused told trusts Starts answer files faults before after cause grew keeps is = record {
   does = λ t state h. subst (λ (a : Answer). DoesWhole files state a before after (Ok true)) (sym (is state h)) (grew, refl, keeps state h);
   unchanged = λ t e. refl;
@@ -85,14 +91,17 @@ loads_refused told trusts Starts answer files faults before after cause grew kee
   evident = tt;
 }
   where
-    old_is_new : (files : Files) (c : CommitData) (says : IsCommitFile (bytes_of (files Commit)) c) (l : Listed) → Contains c.listed l → IsNewSegment files l.segment → ⊥
+    old_is_new : (files : Files) (c : CommitData) (says : IsCommitFile (bytes_of (files Commit)) c) (l : Listed) → Contains c.listed l
+        → IsNewSegment files l.segment → ⊥
     old_is_new files c says l inside apart = apart c says (l, inside, refl)
 
 -- ---- the same from elsewhere
 
 -- it starts so wherever it starts otherwise, the answers are the same, and the files are trusted so wherever they are otherwise
-pub loads_as : (told trusted trusts : Type 0) (From Starts : Starting) (other answer : State → Answer) (old new : Place) (r : Result Bool PageFault) → (trusted → trusts)
-    → ((stored : State) → From stored → Starts stored) → ((stored : State) → From stored → other stored ≡ answer stored) → Loads told trusts Starts answer old new r → Loads told trusted From other old new r
+pub loads_as : (told trusted trusts : Type 0) (From Starts : Starting) (other answer : State → Answer) (old new : Place) (r : Result Bool PageFault)
+    → (trusted → trusts)
+    → ((stored : State) → From stored → Starts stored) → ((stored : State) → From stored → other stored ≡ answer stored)
+    → Loads told trusts Starts answer old new r → Loads told trusted From other old new r
 loads_as told trusted trusts From Starts other answer old new r more starts same loads = record {
   does = λ t state h. subst (λ (a : Answer). DoesWhole new.files state a old.text new.text r) (sym (same state h)) (loads.does t state (starts state h));
   unchanged = loads.unchanged;
@@ -104,7 +113,8 @@ loads_as told trusted trusts From Starts other answer old new r more starts same
 }
 
 -- what is said of files that tell themselves
-pub loads_told : (told trusts : Type 0) (Starts : Starting) (answer : State → Answer) (old new : Place) (r : Result Bool PageFault) → Loads (Unit {0}) trusts Starts answer old new r → Loads told trusts Starts answer old new r
+pub loads_told : (told trusts : Type 0) (Starts : Starting) (answer : State → Answer) (old new : Place) (r : Result Bool PageFault)
+    → Loads (Unit {0}) trusts Starts answer old new r → Loads told trusts Starts answer old new r
 loads_told told trusts Starts answer old new r loads = record {
   does = λ t. loads.does tt;
   unchanged = λ t. loads.unchanged tt;
@@ -116,8 +126,10 @@ loads_told told trusts Starts answer old new r loads = record {
 }
 
 -- after a call that left the files
-pub loads_after : {U : Type 0} (told trusted trusts : Type 0) (From Starts : Starting) (answer : State → Answer) (old middle new : Place) (x : U) (r : Result Bool PageFault) → (told → middle.files ≡ old.files)
-    → middle.text ≡ old.text → HasPageCause old.faults middle.faults (Ok x) → (told → trusted → trusts) → (told → (stored : State) → From stored → Starts stored) → Loads told trusts Starts answer middle new r
+pub loads_after : {U : Type 0} (told trusted trusts : Type 0) (From Starts : Starting) (answer : State → Answer) (old middle new : Place) (x : U)
+    (r : Result Bool PageFault) → (told → middle.files ≡ old.files)
+    → middle.text ≡ old.text → HasPageCause old.faults middle.faults (Ok x) → (told → trusted → trusts)
+    → (told → (stored : State) → From stored → Starts stored) → Loads told trusts Starts answer middle new r
     → Loads told trusted From answer old new r
 loads_after told trusted trusts From Starts answer old middle new x r same text cause more starts loads = record {
   does = λ t state h. subst (λ (bytes : List ℕ). DoesWhole new.files state (answer state) bytes new.text r) text (loads.does t state (starts t state h));
@@ -141,7 +153,8 @@ some_stored files c state says h =
     let held = held_for files c state h says in
     (says, (index_of c held.0, held.2, subst (IsStored files) held.2 h))
 
-pub made_loading : (D leaf : ℕ) (files : Files) (s : SessionData) (stored : State) → leaf ≡ greatest_leaf D → Sees D files s.set (new_index D leaf) → (files Commit ≡ None → Guards D files s)
+pub made_loading : (D leaf : ℕ) (files : Files) (s : SessionData) (stored : State) → leaf ≡ greatest_leaf D → Sees D files s.set (new_index D leaf)
+    → (files Commit ≡ None → Guards D files s)
     → s.set.parts ≡ [] → StartsNone files stored → IsLoading D files s stored
 made_loading D leaf files s stored is seen guards bare (none, absent) = record {
   index = new_index D leaf;
@@ -152,7 +165,8 @@ made_loading D leaf files s stored is seen guards bare (none, absent) = record {
   listed = λ p there apart. nil_none p ⊥ (subst (λ (ps : List Part). Contains ps p) bare there);
 }
 
-pub attached_loading : (D : ℕ) (files : Files) (c : CommitData) (s : SessionData) (stored : State) → ((i : Index) → IsStored files (Some i) → Sees D files s.set i) → Guards D files s → IsUnchanged s
+pub attached_loading : (D : ℕ) (files : Files) (c : CommitData) (s : SessionData) (stored : State)
+    → ((i : Index) → IsStored files (Some i) → Sees D files s.set i) → Guards D files s → IsUnchanged s
     → StartsFrom files c stored → IsLoading D files s stored
 attached_loading D files c s stored seen guards unchanged (says, (i, is, holds)) = record {
   index = i;
@@ -182,32 +196,43 @@ points_begun i [] = refl
 points_begun i (p ∷ ps) = points_begun (with_point i p) ps
 
 -- where not all fit
-pub loading_full : (D : ℕ) (told trusts : Type 0) (files : Files) (s : SessionData) (faults : ℕ) (points : List (List ℤ)) (before after : List ℕ) → after ≡ before ++ ended full_text → 2 ^ 24 + 1 ≤ s.set.given + length points
-    → Loads told trusts (IsLoading D files s) (λ stored. matched D stored points) (record { files = files; faults = faults; text = before }) (record { files = files; faults = faults; text = after }) (Ok true)
+pub loading_full : (D : ℕ) (told trusts : Type 0) (files : Files) (s : SessionData) (faults : ℕ) (points : List (List ℤ)) (before after : List ℕ)
+    → after ≡ before ++ ended full_text → 2 ^ 24 + 1 ≤ s.set.given + length points
+    → Loads told trusts (IsLoading D files s) (λ stored. matched D stored points) (record { files = files; faults = faults; text = before })
+    (record { files = files; faults = faults; text = after }) (Ok true)
 loading_full D told trusts files s faults points before after grew many =
     loads_refused told trusts (IsLoading D files s) _ files faults before after full_text grew (λ stored l. l.keeps)
-    (λ stored l. matched_is D stored l.index points l.is l.seen.dims ∙ full_is D stored l.index points l.is (subst (λ n. 2 ^ 24 + 1 ≤ n + length points) (sym l.seen.given) many))
+    (λ stored l. matched_is D stored l.index points l.is l.seen.dims
+    ∙ full_is D stored l.index points l.is (subst (λ n. 2 ^ 24 + 1 ≤ n + length points) (sym l.seen.given) many))
 
 -- the answer where all fit
-fitting : (D : ℕ) (files : Files) (s : SessionData) (stored : State) (points : List (List ℤ)) (l : IsLoading D files s stored) → s.set.given + length points ≤ 2 ^ 24
+fitting : (D : ℕ) (files : Files) (s : SessionData) (stored : State) (points : List (List ℤ)) (l : IsLoading D files s stored)
+    → s.set.given + length points ≤ 2 ^ 24
     → matched D stored points ≡ done_answer l.index points
 fitting D files s stored points l fits =
-    matched_is D stored l.index points l.is l.seen.dims ∙ added_is D stored l.index points l.is (subst (λ n. n + length points ≤ 2 ^ 24) (sym l.seen.given) fits)
+    matched_is D stored l.index points l.is l.seen.dims
+    ∙ added_is D stored l.index points l.is (subst (λ n. n + length points ≤ 2 ^ 24) (sym l.seen.given) fits)
 
 -- a fault while they are added: what was stored is
-pub adding_stopped : {T : Type 0} (D : ℕ) (told : Type 0) (answer : State → Answer) (points : List (List ℤ)) (a b : Moment) (before after : List ℕ) (fault : PageFault) (r : Result Bool PageFault) → r ≡ Err fault
+pub adding_stopped : {T : Type 0} (D : ℕ) (told : Type 0) (answer : State → Answer) (points : List (List ℤ)) (a b : Moment) (before after : List ℕ)
+    (fault : PageFault) (r : Result Bool PageFault) → r ≡ Err fault
     → Adds {T = T} D told points a b (Err fault)
-    → Loads told (Trusts D a.files a.session) (IsLoading D a.files a.session) answer (record { files = a.files; faults = a.faults; text = before }) (record { files = b.files; faults = b.faults; text = after }) r
-adding_stopped {T = T} D told answer points a b before after fault r is adds = loads_fault told (Trusts D a.files a.session) (IsLoading D a.files a.session) answer _ _ fault r is
+    → Loads told (Trusts D a.files a.session) (IsLoading D a.files a.session) answer (record { files = a.files; faults = a.faults; text = before })
+    (record { files = b.files; faults = b.faults; text = after }) r
+adding_stopped {T = T} D told answer points a b before after fault r is adds =
+    loads_fault told (Trusts D a.files a.session) (IsLoading D a.files a.session) answer _ _ fault r is
     (λ t stored l. inl (stored_still a.files b.files stored (adds.kept t l.guards) l.keeps))
     (λ t stored l. adds.whole t l.index l.seen) adds.cause adds.evident (λ t h. fault_kept a.files b.files (adds.kept t h.guards) fault)
 
 -- a fault of the commit after them: what was stored is, or all of it
-pub commit_stopped : {T U : Type 0} (D : ℕ) (told : Type 0) (points : List (List ℤ)) (a b c : Moment) (x : U) (before after : List ℕ) (fault : PageFault) (r : Result Bool PageFault) → r ≡ Err fault
+pub commit_stopped : {T U : Type 0} (D : ℕ) (told : Type 0) (points : List (List ℤ)) (a b c : Moment) (x : U) (before after : List ℕ) (fault : PageFault)
+    (r : Result Bool PageFault) → r ≡ Err fault
     → a.session.set.given + length points ≤ 2 ^ 24 → Adds D told points a b (Ok x) → IsCommitted {T = T} D told b c (Err fault)
     → OnDamage {T = T} (Err fault) (IsEvident (told × Trusts D b.files b.session) c.files)
-    → Loads told (Trusts D a.files a.session) (IsLoading D a.files a.session) (λ stored. matched D stored points) (record { files = a.files; faults = a.faults; text = before }) (record { files = c.files; faults = c.faults; text = after }) r
-commit_stopped {T = T} D told points a b c x before after fault r is fits adds commits evident = loads_fault told (Trusts D a.files a.session) (IsLoading D a.files a.session) _ _ _ fault r is
+    → Loads told (Trusts D a.files a.session) (IsLoading D a.files a.session) (λ stored. matched D stored points)
+    (record { files = a.files; faults = a.faults; text = before }) (record { files = c.files; faults = c.faults; text = after }) r
+commit_stopped {T = T} D told points a b c x before after fault r is fits adds commits evident =
+    loads_fault told (Trusts D a.files a.session) (IsLoading D a.files a.session) _ _ _ fault r is
     (λ t stored l. ⊎_elim
     (λ same. inl (stored_still b.files c.files stored same (stored_still a.files b.files stored (adds.kept t l.guards) l.keeps)))
     (λ there. inr (subst (IsStored c.files) (sym (ap (λ (n : Answer). n.state) (fitting D a.files a.session stored points l fits)))
@@ -223,7 +248,8 @@ commit_stopped {T = T} D told points a b c x before after fault r is fits adds c
 pub all_loaded : {T U : Type 0} (D : ℕ) (told : Type 0) (points : List (List ℤ)) (a b c : Moment) (x : U) (y : T) (next : ℕ) (before after : List ℕ)
     → a.session.set.given + length points ≤ 2 ^ 24 → next ≡ a.session.set.next → after ≡ before ++ loaded_text (length points) (next + length points)
     → Adds D told points a b (Ok x) → IsCommitted D told b c (Ok y)
-    → Loads told (Trusts D a.files a.session) (IsLoading D a.files a.session) (λ stored. matched D stored points) (record { files = a.files; faults = a.faults; text = before }) (record { files = c.files; faults = c.faults; text = after }) (Ok false)
+    → Loads told (Trusts D a.files a.session) (IsLoading D a.files a.session) (λ stored. matched D stored points)
+    (record { files = a.files; faults = a.faults; text = before }) (record { files = c.files; faults = c.faults; text = after }) (Ok false)
 all_loaded D told points a b c x y next before after fits first grew adds commits = record {
   does = λ t stored l.
       let at = adds.seen t l.index l.seen in
@@ -238,84 +264,15 @@ all_loaded D told points a b c x y next before after fits first grew adds commit
       let at = adds.seen t l.index l.seen in
       let guards = adds.guards t l.guards in
       new_canonical D a.files c.files a.session.set c.session (with_points l.index points) l.listed
-      (brings_then D a.files b.files c.files a.session.set.parts b.session.set.parts c.session.set.parts (adds.canon t) (commits.brings t)) (commits.seen t (with_points l.index points) at) (commits.guards t guards)
+      (brings_then D a.files b.files c.files a.session.set.parts b.session.set.parts c.session.set.parts (adds.canon t) (commits.brings t))
+      (commits.seen t (with_points l.index points) at) (commits.guards t guards)
       (commits.says t guards) commits.unchanged;
   levels = λ t stored l.
-      let begun = begins_none D b.files b.session.set (with_points l.index points) (adds.seen t l.index l.seen) (points_begun l.index points ∙ ap (λ (i : Index). i.begun) (sym (loading_rests D a.files a.session stored l))) in
+      let begun = begins_none D b.files b.session.set (with_points l.index points) (adds.seen t l.index l.seen)
+      (points_begun l.index points ∙ ap (λ (i : Index). i.begun) (sym (loading_rests D a.files a.session stored l))) in
       levels_after a.files b.files c.files (adds.kept t l.guards) (commits.few t (adds.guards t l.guards) begun);
   undone = λ t h. tt;
   cause = let one = adds.cause.fine in let two = commits.cause.fine in let late = adds.cause.later in let more = commits.cause.later in
       record { later = omega arith; fine = two ∙ one; failed = λ e. absurd cc };
   evident = tt;
 }
-
--- ---- answers
-
--- what is told where the points are counted
-pub told_count : (before after : List ℕ) (count next many : ℕ) → after ≡ before ++ loaded_text count (next + count) → count ≡ many → after ≡ before ++ loaded_text many (next + many)
-told_count before after count next many grew counted = grew ∙ ap (λ (n : ℕ). before ++ loaded_text n (next + n)) counted
-
--- a file that is refused for its fault
-pub file_refused : (told trusts : Type 0) (Starts : Starting) (files : Files) (faults : ℕ) (before after : List ℕ) (input : List ℕ) (names : List (List ℕ)) (fault : CsvFault) (r : Result Bool PageFault)
-    → ((stored : State) → Starts stored → IsStored files stored) → points_of names (records_of input) ≡ Err fault
-    → Loads (Unit {0}) (Unit {0}) (IsStored files) (λ stored. loaded_by names stored (Err fault)) (record { files = files; faults = faults; text = before }) (record { files = files; faults = faults; text = after }) r
-    → Loads told trusts Starts (λ stored. load_answer stored input names) (record { files = files; faults = faults; text = before }) (record { files = files; faults = faults; text = after }) r
-file_refused told trusts Starts files faults before after input names fault r keeps fails loads =
-    loads_as told trusts (Unit {0}) Starts (IsStored files) _ _ _ _ r (λ h. tt) keeps (λ stored h. loaded_fault stored input names fault fails) (loads_told told (Unit {0}) (IsStored files) _ _ _ r loads)
-
--- the commit was not read
-pub unread_commit : {T : Type 0} (told : Type 0) (answer : State → Answer) (old new : Place) (fault : PageFault) (r : Result Bool PageFault) → r ≡ Err fault → (told → new.files ≡ old.files)
-    → (told → (stored : State) → IsStored old.files stored → NotDamaged {T = T} (Err fault)) → HasPageCause {T = T} old.faults new.faults (Err fault)
-    → (told → OnDamage {T = T} (Err fault) (IsCommitDamageOf old.files)) → OnDamage {T = T} (Err fault) IsCommitDamage → Loads told (Unit {0}) (IsStored old.files) answer old new r
-unread_commit {T = T} told answer old new fault r is same whole cause damage shown =
-    loads_fault {T = T} told (Unit {0}) (IsStored old.files) answer old new fault r is (λ t stored h. inl (subst (λ (f : Files). IsStored f stored) (sym (same t)) h)) whole cause
-    (on_evident_at {X = T} IsTwice told (told × Unit {0}) old.files new.files (Err fault) (λ h. h.0) (λ h. same h.0) (on_commit_evident {X = T} told old.files (Err fault) damage shown))
-    (λ t h. fault_kept old.files new.files (kept_equal old.files new.files (same t)) fault)
-
--- a damage of files that are the same
-pub evident_still : (told trusts : Type 0) (old new : Files) (fault : PageFault) → (told → new ≡ old) → FaultShows (IsEvident (told × trusts) old) fault → FaultShows (IsEvident (told × trusts) new) fault
-evident_still told trusts old new fault same evident = on_evident_at {X = Bool} IsTwice (told × trusts) (told × trusts) old new (Err fault) (λ h. h) (λ h. same h.0) evident
-
--- and of files that are trusted whatever they hold
-pub evident_all : (told : Type 0) (files : Files) (r : Result Bool PageFault) → OnDamage r (IsEvident (told × Unit {0}) files) → OnDamage r (IsEvident told files)
-evident_all told files r = on_evident_less (told × Unit {0}) told files r (λ t. (t, tt))
-
--- where it starts the files are trusted, where what a session is made of is so; it has no segment
-pub made_trusts : (D : ℕ) (files : Files) (s : SessionData) → (files Commit ≡ None → Guards D files s) → IsFaithful D files s.set → s.set.parts ≡ [] → files Commit ≡ None → Trusts D files s
-made_trusts D files s guards faithful bare none = record {
-  guards = guards none;
-  faithful = faithful;
-  traced = λ p there. nil_none p (IsTraced D files p) (subst (λ (ps : List Part). Contains ps p) bare there);
-}
-
--- where the files are the same, a session that is trusted there is so still
-pub trusts_still : (D : ℕ) (old new : Files) (s : SessionData) → new ≡ old → Guards D old s → IsFaithful D old s.set → AreTraced D old s.set.parts → Trusts D new s
-trusts_still D old new s same guards faithful traced = subst (λ (f : Files). Trusts D f s) (sym same) (record { guards = guards; faithful = faithful; traced = traced })
-
-pub none_keeps : (files : Files) (stored : State) → StartsNone files stored → IsStored files stored
-none_keeps files stored (none, absent) = subst (IsStored files) (sym none) absent
-
-pub starts_keeps : (old new : Files) (c : CommitData) (stored : State) → new ≡ old → StartsFrom old c stored → IsStored new stored
-starts_keeps old new c stored same (says, (i, is, holds)) = subst (λ (f : Files). IsStored f stored) (sym same) (subst (IsStored old) (sym is) holds)
-
--- the index that is there has the dimensions of the commit
-pub has_dims : (D : ℕ) (files : Files) (c : CommitData) (stored : State) → c.dims ≡ D → StartsFrom files c stored → HasDims files D stored
-has_dims D files c stored dims (says, (i, is, holds)) =
-    (subst (IsStored files) (sym is) holds, (i, is, ap (λ (j : Index). j.dims) holds.is ∙ ap (λ (d : CommitData). d.dims) (one_file (bytes_of (files Commit)) holds.commit c holds.holds.commit says) ∙ dims))
-
--- what is stored is where the files are the same
-pub stored_still_there : (old new : Files) (stored : State) → new ≡ old → IsStored old stored → IsStored new stored
-stored_still_there old new stored same h = subst (λ (f : Files). IsStored f stored) (sym same) h
-
--- as many columns as the index that is there hasn't dimensions
-pub dims_refused : (files : Files) (dims : ℕ) (stored : State) (input : List ℕ) (names : List (List ℕ)) (points : List (List ℤ)) → (length names ≡ dims → ⊥) → points_of names (records_of input) ≡ Ok points → HasDims files dims stored
-    → load_answer stored input names ≡ refusal stored (dims_text dims)
-dims_refused files dims stored input names points other gives (is_stored, (i, is, has)) =
-    loaded_points (length names) stored input names points refl gives
-    ∙ ap (λ (o : State). matched (length names) o points) is
-    ∙ matched_not (length names) i points (λ e. other (e ∙ has))
-    ∙ (λ j. refusal (sym is j) (dims_text (has j)))
-
--- where the files are the same, a session that loads into the index that is there does so still
-pub starts_still : (D : ℕ) (old new : Files) (c : CommitData) (s : SessionData) (stored : State) → new ≡ old → IsLoading D old s stored → HasDims old D stored → IsLoading D new s stored × HasDims new D stored
-starts_still D old new c s stored same loading has = subst (λ (f : Files). IsLoading D f s stored × HasDims f D stored) (sym same) (loading, has)

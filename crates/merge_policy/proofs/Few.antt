@@ -1,5 +1,6 @@
 -- Where no level has ten free sizes, few sizes are left: each size of 32 bits is of one of the first eight levels, or pinned.
-use Rattle.std.proofs.Common.{◌≡◌, ℕ, zero, suc, ◌+◌, ◌*◌, ◌^◌, ◌<◌, ◌≤◌, Bool, true, false, cond, ◌&&◌, List, [], ◌∷◌, length, All, ⊎_elim, refl, subst, ap, arith}
+use Rattle.std.proofs.Common.{◌≡◌, ℕ, zero, suc, ◌+◌, ◌*◌, ◌^◌, ◌<◌, ◌≤◌, Bool, true, false, cond}
+use Rattle.std.proofs.Common.{◌&&◌, List, [], ◌∷◌, length, All, ⊎_elim, refl, subst, ap, arith}
 use Rattle.std.specs.Prelude.{count_by}
 use Rattle.std.specs.List.{zip}
 use Rattle.std.proofs.lemmas.Bool.{and_from, cases_lt, le-leb, lt-ltb}
@@ -18,7 +19,8 @@ free_in : ℕ → ℕ → Bool → ℕ
 free_in zero size pin = 0
 free_in (suc l) size pin = free_in l size pin + cond (is_free l (size, pin)) 1 0
 
-free_below-cons : (n size : ℕ) (pin : Bool) (sizes : List ℕ) (pinned : List Bool) → free_below n (size ∷ sizes) (pin ∷ pinned) ≡ free_in n size pin + free_below n sizes pinned
+free_below-cons : (n size : ℕ) (pin : Bool) (sizes : List ℕ) (pinned : List Bool)
+    → free_below n (size ∷ sizes) (pin ∷ pinned) ≡ free_in n size pin + free_below n sizes pinned
 unfolding free_below free_in free_count
 free_below-cons zero size pin sizes pinned = refl
 free_below-cons (suc l) size pin sizes pinned =

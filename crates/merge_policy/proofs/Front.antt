@@ -1,5 +1,6 @@
 -- The free positions below a bound, which a pass over the sizes has found so far.
-use Rattle.std.proofs.Common.{◌≡◌, ℕ, ◌+◌, ◌<◌, ◌≤◌, Bool, true, false, not, ◌&&◌, List, [], ◌∷◌, ◌++◌, length, get_or, take, Some, All, Contains, ◌⊎◌, inl, inr, refl, sym, ◌∙◌, ap, cond, arith}
+use Rattle.std.proofs.Common.{◌≡◌, ℕ, ◌+◌, ◌<◌, ◌≤◌, Bool, true, false, not, ◌&&◌, List, [], ◌∷◌, ◌++◌, length}
+use Rattle.std.proofs.Common.{get_or, take, Some, All, Contains, ◌⊎◌, inl, inr, refl, sym, ◌∙◌, ap, cond, arith}
 use Rattle.std.specs.Prelude.{count_by}
 use Rattle.std.specs.List.{zip}
 use Rattle.std.specs.List.Sorted.{IsStrictlyIncreasing}
@@ -34,7 +35,8 @@ front_none l sizes pinned = record {
 }
 
 -- the test of a position's size and pin
-free_at : (l : ℕ) (sizes : List ℕ) (pinned : List Bool) (i : ℕ) → length sizes ≡ length pinned → IsFree l sizes pinned i → is_free l (get_or sizes i 0, get_or pinned i false) ≡ true
+free_at : (l : ℕ) (sizes : List ℕ) (pinned : List Bool) (i : ℕ) → length sizes ≡ length pinned → IsFree l sizes pinned i
+    → is_free l (get_or sizes i 0, get_or pinned i false) ≡ true
 free_at l sizes pinned i e f = let u = get_or_from_slice_get pinned i false false f.unpinned in rw (f.of_level, u) refl
 
 count_at : (l : ℕ) (sizes : List ℕ) (pinned : List Bool) (n : ℕ) (b : Bool) → length sizes ≡ length pinned → n < length sizes
@@ -75,7 +77,8 @@ front_push l sizes pinned n xs e h free f = record {
   below = All-push (λ i. i < n + 1) xs n (λ k d h. omega (arith, f.below k d h)) (omega arith);
   free = All-push (IsFree l sizes pinned) xs n f.free free;
   whole = λ i h free. go i h free (cases_lt i n);
-  counted = count_by_more_yes (is_free l) (zip sizes pinned) n (0, false) (in_zip sizes pinned n e h) (count_at l sizes pinned n true e h (free_at l sizes pinned n e free))
+  counted = count_by_more_yes (is_free l) (zip sizes pinned) n (0, false) (in_zip sizes pinned n e h)
+      (count_at l sizes pinned n true e h (free_at l sizes pinned n e free))
       ∙ ap (λ k. k + 1) f.counted ∙ sym (length_push xs n);
 }
   where
@@ -83,7 +86,8 @@ front_push l sizes pinned n xs e h free f = record {
     go i h free (inl lt) = Contains-append_left xs (n ∷ []) i (f.whole i lt free)
     go i h free (inr ge) = let same : n ≡ i = omega arith in rw (← same) (Contains-push xs n)
 
-pub front_ten : (l : ℕ) (sizes : List ℕ) (pinned : List Bool) (n : ℕ) (xs : List ℕ) → length xs ≡ 10 → IsFront l sizes pinned n xs → AreFirstTen l sizes pinned xs
+pub front_ten : (l : ℕ) (sizes : List ℕ) (pinned : List Bool) (n : ℕ) (xs : List ℕ) → length xs ≡ 10 → IsFront l sizes pinned n xs
+    → AreFirstTen l sizes pinned xs
 front_ten l sizes pinned n xs ten f = record {
   ten = ten;
   rising = f.rising;
@@ -95,7 +99,8 @@ pub front_some : (l : ℕ) (sizes : List ℕ) (pinned : List Bool) (n : ℕ) (xs
 unfolding free_count
 front_some l sizes pinned n xs f = omega (arith, f.counted, sum_by-take-le (λ s. cond (is_free l s) 1 0) (zip sizes pinned) n)
 
-pub front_all : (l : ℕ) (sizes : List ℕ) (pinned : List Bool) (n : ℕ) (xs : List ℕ) → n ≡ length sizes → length sizes ≡ length pinned → IsFront l sizes pinned n xs → free_count l sizes pinned ≡ length xs
+pub front_all : (l : ℕ) (sizes : List ℕ) (pinned : List Bool) (n : ℕ) (xs : List ℕ) → n ≡ length sizes → length sizes ≡ length pinned
+    → IsFront l sizes pinned n xs → free_count l sizes pinned ≡ length xs
 unfolding free_count
 front_all l sizes pinned n xs h e f =
     let whole : n ≡ length (zip sizes pinned) = omega (arith, length-zip sizes pinned) in

@@ -1,5 +1,6 @@
 -- Reading digits from the left: what the digits that are left make of the number so far.
-use Rattle.std.proofs.Common.{◌≡◌, ℕ, ◌+◌, ◌*◌, ◌-◌, ◌^◌, pos, neg_ℤ, get_or, drop, take, option_map, ◌<◌, ◌≤◌, Bool, true, false, cond, ◌&&◌, leb, List, [], ◌∷◌, length, Option, Some, None, refl, arith, rules}
+use Rattle.std.proofs.Common.{◌≡◌, ℕ, ◌+◌, ◌*◌, ◌-◌, ◌^◌, pos, neg_ℤ, get_or, drop, take, option_map, ◌<◌, ◌≤◌, Bool}
+use Rattle.std.proofs.Common.{true, false, cond, ◌&&◌, leb, List, [], ◌∷◌, length, Option, Some, None, refl, arith, rules}
 use Rattle.std.specs.Char.{is_ascii_digit, digit_value}
 use Rattle.std.specs.Str.{all_ascii_digits}
 use Rattle.std.specs.Str.Parse.{digits_value_after}
@@ -35,7 +36,8 @@ number_after-other limit n c cs h = rw h refl
 digit_minus : (c : ℕ) → is_ascii_digit c ≡ true → digit_value c ≡ c - 48
 digit_minus c h = grind (arith, nat_tests)
 
-pub number_after-digit : (limit n c m : ℕ) (cs : List ℕ) → is_ascii_digit c ≡ true → m ≡ n * 10 + (c - 48) → number_after limit n (c ∷ cs) ≡ number_after limit m cs
+pub number_after-digit : (limit n c m : ℕ) (cs : List ℕ) → is_ascii_digit c ≡ true → m ≡ n * 10 + (c - 48)
+    → number_after limit n (c ∷ cs) ≡ number_after limit m cs
 number_after-digit limit n c m cs h e =
     let d : n * 10 + digit_value c ≡ m = omega (arith, digit_minus c h) in
     rw (h, d) refl
@@ -51,7 +53,8 @@ number_up_to-after limit (c ∷ cs) h = search rules
 pub number_up_to-none : (limit : ℕ) (bs : List ℕ) → 0 < length bs → number_after limit 0 bs ≡ None → number_up_to limit bs ≡ None
 number_up_to-none limit bs h e = cc (number_up_to-after limit bs h)
 
-pub coordinate-minus : (bs : List ℕ) → 0 < length bs → get_or bs 0 0 ≡ 45 → coordinate bs ≡ option_map (λ n. neg_ℤ (pos n)) (number_up_to (2 ^ 31) (take (length bs - 1) (drop 1 bs)))
+pub coordinate-minus : (bs : List ℕ) → 0 < length bs → get_or bs 0 0 ≡ 45
+    → coordinate bs ≡ option_map (λ n. neg_ℤ (pos n)) (number_up_to (2 ^ 31) (take (length bs - 1) (drop 1 bs)))
 unfolding coordinate
 coordinate-minus [] h e = absurd (omega arith)
 coordinate-minus (c ∷ cs) h e = rw (e, take_rest (c ∷ cs) 1) refl

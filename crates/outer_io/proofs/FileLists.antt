@@ -1,5 +1,6 @@
 -- The files of a list of entries after each change of the list.
-use Rattle.std.proofs.Common.{◌≡◌, ◌≢◌, Bool, true, false, not, cond, ℕ, ◌<◌, ◌≤◌, List, [], ◌∷◌, ◌++◌, length, Option, None, Some, find, filter, map, position, set, get_or, refl, sym, ap, ◌∙◌}
+use Rattle.std.proofs.Common.{◌≡◌, ◌≢◌, Bool, true, false, not, cond, ℕ, ◌<◌, ◌≤◌, List, [], ◌∷◌, ◌++◌, length}
+use Rattle.std.proofs.Common.{Option, None, Some, find, filter, map, position, set, get_or, refl, sym, ap, ◌∙◌}
 use Rattle.std.specs.Option.{option_map, option_or}
 use Rattle.std.specs.List.{position_or_len}
 use Rattle.std.proofs.lemmas.Bool.{ltb-true, ltb-false}
@@ -46,7 +47,8 @@ files_in-put name es e is =
     rw (find-append (is_named name) (others name es) (e ∷ []), find-others name es, is, same_name-refl name)
 
 -- and leaves the files of other names
-pub files_in-put_other : (name other : FileName) (es : List Entry) (e : Entry) → e.name ≡ name → other ≢ name → files_in (others name es ++ e ∷ []) other ≡ files_in es other
+pub files_in-put_other : (name other : FileName) (es : List Entry) (e : Entry) → e.name ≡ name → other ≢ name
+    → files_in (others name es ++ e ∷ []) other ≡ files_in es other
 files_in-put_other name other es e is h =
     rw (
       find-append (is_named other) (others name es) (e ∷ []),
@@ -59,7 +61,8 @@ files_in-put_other name other es e is h =
 -- a place that was found is the first one of its name
 pub first_at : {X : Type 0} (p : X → Bool) (xs : List X) (i : ℕ) → position p xs ≡ Some i → (i ≡ position_or_len p xs) × (i < length xs)
 first_at p xs i found =
-    elim (ltb (position_or_len p xs) (length xs)) as (λ b. ltb (position_or_len p xs) (length xs) ≡ b → cond b (Some (position_or_len p xs)) None ≡ Some i → (i ≡ position_or_len p xs) × (i < length xs)) [
+    elim (ltb (position_or_len p xs) (length xs)) as (λ b.
+    ltb (position_or_len p xs) (length xs) ≡ b → cond b (Some (position_or_len p xs)) None ≡ Some i → (i ≡ position_or_len p xs) × (i < length xs)) [
       | true ↦ λ below is. let at : position_or_len p xs ≡ i = cc in (sym at, rw (← at) (ltb-true _ _ below))
       | false ↦ λ _ is. absurd (none-some i is)
     ] refl found
@@ -72,7 +75,8 @@ named_at name es i d found =
     rw at.0 (passes_at_first (is_named name) es d below)
 
 -- and is the file
-files_in-at : (name : FileName) (es : List Entry) (i : ℕ) (d : Entry) → position (is_named name) es ≡ Some i → files_in es name ≡ Some (get_or es i d).bytes.items
+files_in-at : (name : FileName) (es : List Entry) (i : ℕ) (d : Entry) → position (is_named name) es ≡ Some i
+    → files_in es name ≡ Some (get_or es i d).bytes.items
 files_in-at name es i d found =
     let at = first_at (is_named name) es i found in
     rw (find_at (is_named name) es, ← at.0, slice_get-get_or es i d at.1)
@@ -80,7 +84,8 @@ files_in-at name es i d found =
 -- a place that wasn't found is past the end
 pub none_before : {X : Type 0} (p : X → Bool) (xs : List X) → position p xs ≡ None → length xs ≤ position_or_len p xs
 none_before p xs absent =
-    elim (ltb (position_or_len p xs) (length xs)) as (λ b. ltb (position_or_len p xs) (length xs) ≡ b → cond b (Some (position_or_len p xs)) None ≡ None → length xs ≤ position_or_len p xs) [
+    elim (ltb (position_or_len p xs) (length xs)) as (λ b.
+    ltb (position_or_len p xs) (length xs) ≡ b → cond b (Some (position_or_len p xs)) None ≡ None → length xs ≤ position_or_len p xs) [
       | true ↦ λ _ is. absurd (none-some (position_or_len p xs) (sym is))
       | false ↦ λ past _. ltb-false _ _ past
     ] refl absent
@@ -91,7 +96,8 @@ files_in-absent name es absent =
     rw (find_at (is_named name) es, slice_get_past es (position_or_len (is_named name) es) (none_before (is_named name) es absent))
 
 -- where an entry e is written over the first one of a name, which is w, and keeps the name
-module _ (name : FileName) (es : List Entry) (i : ℕ) (w e : Entry) (found : position (is_named name) es ≡ Some i) (is : w ≡ get_or es i w) (same : e.name ≡ w.name) where
+module _ (name : FileName) (es : List Entry) (i : ℕ) (w e : Entry) (found : position (is_named name) es ≡ Some i) (is : w ≡ get_or es i w)
+    (same : e.name ≡ w.name) where
   e_named : e.name ≡ name
   e_named =
       let named : is_named name w ≡ true = rw is (named_at name es i w found) in
@@ -136,37 +142,53 @@ after_rename from to es = map (with_new_name from to) (others to es)
 pub files_in-renamed_to : (from to : FileName) (es : List Entry) → from ≢ to → files_in (after_rename from to es) to ≡ files_in es from
 files_in-renamed_to from to [] h = refl
 files_in-renamed_to from to (e ∷ es) h =
-    elim (same_name e.name to) as (λ b. same_name e.name to ≡ b → files_in (map (with_new_name from to) (cond (not b) (e ∷ others to es) (others to es))) to ≡ files_in (e ∷ es) from) [
+    elim (same_name e.name to) as (λ b.
+    same_name e.name to ≡ b → files_in (map (with_new_name from to) (cond (not b) (e ∷ others to es) (others to es))) to ≡ files_in (e ∷ es) from) [
       | true ↦ λ is. rw (same_name-apart e.name to from (λ same. h (sym same)) is) (files_in-renamed_to from to es h)
-      | false ↦ λ not_to. elim (same_name e.name from) as (λ b. same_name e.name from ≡ b → option_map bytes_in (cond (same_name (cond b to e.name) to) (Some (with_new_name from to e)) (find (is_named to) (after_rename from to es))) ≡ option_map bytes_in (cond b (Some e) (find (is_named from) es))) [
-        | true ↦ λ _. rw (same_name-refl to)
-        | false ↦ λ _. rw not_to (files_in-renamed_to from to es h)
-      ] refl
+      | false ↦ λ not_to. elim (same_name e.name from) as (λ b.
+          same_name e.name from ≡ b
+          → option_map bytes_in (cond (same_name (cond b to e.name) to) (Some (with_new_name from to e)) (find (is_named to) (after_rename from to es)))
+          ≡ option_map bytes_in (cond b (Some e) (find (is_named from) es))) [
+            | true ↦ λ _. rw (same_name-refl to)
+            | false ↦ λ _. rw not_to (files_in-renamed_to from to es h)
+          ] refl
     ] refl
 
 -- no file of the old name is left
 pub files_in-renamed_from : (from to : FileName) (es : List Entry) → from ≢ to → files_in (after_rename from to es) from ≡ None
 files_in-renamed_from from to [] h = refl
 files_in-renamed_from from to (e ∷ es) h =
-    elim (same_name e.name to) as (λ b. same_name e.name to ≡ b → files_in (map (with_new_name from to) (cond (not b) (e ∷ others to es) (others to es))) from ≡ None) [
+    elim (same_name e.name to) as (λ b.
+    same_name e.name to ≡ b → files_in (map (with_new_name from to) (cond (not b) (e ∷ others to es) (others to es))) from ≡ None) [
       | true ↦ λ _. files_in-renamed_from from to es h
-      | false ↦ λ _. elim (same_name e.name from) as (λ b. same_name e.name from ≡ b → option_map bytes_in (cond (same_name (cond b to e.name) from) (Some (with_new_name from to e)) (find (is_named from) (after_rename from to es))) ≡ None) [
-        | true ↦ λ _. rw (same_name-other to from (λ same. h (sym same))) (files_in-renamed_from from to es h)
-        | false ↦ λ not_from. rw not_from (files_in-renamed_from from to es h)
-      ] refl
+      | false ↦ λ _. elim (same_name e.name from) as (λ b.
+          same_name e.name from ≡ b
+          → option_map bytes_in (cond (same_name (cond b to e.name) from) (Some (with_new_name from to e)) (find (is_named from) (after_rename from to es)))
+          ≡ None) [
+            | true ↦ λ _. rw (same_name-other to from (λ same. h (sym same))) (files_in-renamed_from from to es h)
+            | false ↦ λ not_from. rw not_from (files_in-renamed_from from to es h)
+          ] refl
     ] refl
 
 -- the files of other names stay
-pub files_in-renamed_other : (from to other : FileName) (es : List Entry) → other ≢ from → other ≢ to → files_in (after_rename from to es) other ≡ files_in es other
+pub files_in-renamed_other : (from to other : FileName) (es : List Entry) → other ≢ from → other ≢ to
+    → files_in (after_rename from to es) other ≡ files_in es other
 files_in-renamed_other from to other [] h k = refl
 files_in-renamed_other from to other (e ∷ es) h k =
-    elim (same_name e.name to) as (λ b. same_name e.name to ≡ b → files_in (map (with_new_name from to) (cond (not b) (e ∷ others to es) (others to es))) other ≡ files_in (e ∷ es) other) [
+    elim (same_name e.name to) as (λ b.
+    same_name e.name to ≡ b → files_in (map (with_new_name from to) (cond (not b) (e ∷ others to es) (others to es))) other ≡ files_in (e ∷ es) other) [
       | true ↦ λ is. rw (same_name-apart e.name to other (λ same. k (sym same)) is) (files_in-renamed_other from to other es h k)
-      | false ↦ λ _. elim (same_name e.name from) as (λ b. same_name e.name from ≡ b → option_map bytes_in (cond (same_name (cond b to e.name) other) (Some (with_new_name from to e)) (find (is_named other) (after_rename from to es))) ≡ files_in (e ∷ es) other) [
-        | true ↦ λ is. rw (same_name-other to other (λ same. k (sym same)), same_name-apart e.name from other (λ same. h (sym same)) is) (files_in-renamed_other from to other es h k)
-        | false ↦ λ _. elim (same_name e.name other) as (λ b. option_map bytes_in (cond b (Some (with_new_name from to e)) (find (is_named other) (after_rename from to es))) ≡ option_map bytes_in (cond b (Some e) (find (is_named other) es))) [
-          | true ↦ refl
-          | false ↦ files_in-renamed_other from to other es h k
-        ]
-      ] refl
+      | false ↦ λ _. elim (same_name e.name from) as (λ b.
+          same_name e.name from ≡ b
+          → option_map bytes_in (cond (same_name (cond b to e.name) other) (Some (with_new_name from to e)) (find (is_named other) (after_rename from to es)))
+          ≡ files_in (e ∷ es) other) [
+            | true ↦ λ is. rw (same_name-other to other (λ same. k (sym same)), same_name-apart e.name from other (λ same. h (sym same)) is)
+                (files_in-renamed_other from to other es h k)
+            | false ↦ λ _. elim (same_name e.name other) as (λ b.
+                option_map bytes_in (cond b (Some (with_new_name from to e)) (find (is_named other) (after_rename from to es)))
+                ≡ option_map bytes_in (cond b (Some e) (find (is_named other) es))) [
+                  | true ↦ refl
+                  | false ↦ files_in-renamed_other from to other es h k
+                ]
+          ] refl
     ] refl

@@ -10,13 +10,15 @@ use Rattle.outer_io.specs.OpenFiles.{is_opened, file_under}
 use Rattle.outer_io.proofs.FileLists.{first_at, none_before}
 
 -- the file at the first place of a name is the one that is open under it
-pub file_under-at : {F : Type 0} (name : FileName) (files : List (Opened F)) (i : ℕ) (d : Opened F) → position (is_opened name) files ≡ Some i → file_under name files ≡ Some (get_or files i d).file
+pub file_under-at : {F : Type 0} (name : FileName) (files : List (Opened F)) (i : ℕ) (d : Opened F) → position (is_opened name) files ≡ Some i
+    → file_under name files ≡ Some (get_or files i d).file
 file_under-at name files i d found =
     let at = first_at (is_opened name) files i found in
     rw (find_at (is_opened name) files, ← at.0, slice_get-get_or files i d at.1)
 
 -- so it is the file x, where x stands first after that place was moved to the front
-pub file_under-first : {F : Type 0} (name : FileName) (files moved : List (Opened F)) (i : ℕ) (x : Opened F) → x ≡ get_or moved 0 x → ((d : Opened F) → get_or moved 0 d ≡ get_or files i d) → position (is_opened name) files ≡ Some i → Some x.file ≡ file_under name files
+pub file_under-first : {F : Type 0} (name : FileName) (files moved : List (Opened F)) (i : ℕ) (x : Opened F) → x ≡ get_or moved 0 x
+    → ((d : Opened F) → get_or moved 0 d ≡ get_or files i d) → position (is_opened name) files ≡ Some i → Some x.file ≡ file_under name files
 file_under-first name files moved i x is first found =
     ap (λ opened. Some opened.file) (is ∙ first x) ∙ sym (file_under-at name files i x found)
 

@@ -25,7 +25,8 @@ part_before {old} {new} {a} b part =
     }
 
 -- the next n bytes went out after those before `at`
-pub sent_more : (old mid new : List ℕ) (at n : ℕ) (b : List ℕ) → mid ≡ old ++ take at b → new ≡ mid ++ take n (take (length b - at) (drop at b)) → new ≡ old ++ take (at + n) b
+pub sent_more : (old mid new : List ℕ) (at n : ℕ) (b : List ℕ) → mid ≡ old ++ take at b → new ≡ mid ++ take n (take (length b - at) (drop at b))
+    → new ≡ old ++ take (at + n) b
 sent_more old mid new at n b all more =
     rw (more, all, take_rest b at, take-add at n b) (append_assoc old (take at b) (take n (drop at b)))
 

@@ -17,7 +17,8 @@ agrees_other old new c same agrees id number bytes keeps =
     subst (λ (file : Option (List ℕ)). bytes ≡ page_at (bytes_of file) number) (sym (same id (number, (bytes, keeps)))) (agrees id number bytes keeps)
 
 -- what is kept is the page of the file
-pub agreeing_page : (files : Files) (c : PageCache) (id number : ℕ) (bytes : List ℕ) → Agrees files c → Keeps c id number bytes → IsPageOf files (Segment id) number bytes
+pub agreeing_page : (files : Files) (c : PageCache) (id number : ℕ) (bytes : List ℕ) → Agrees files c → Keeps c id number bytes
+    → IsPageOf files (Segment id) number bytes
 unfolding Agrees
 agreeing_page files c id number bytes agrees keeps = agrees id number bytes keeps
 

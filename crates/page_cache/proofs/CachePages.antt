@@ -1,5 +1,6 @@
 -- Pages that agree with the files, and are valid, after one more is kept or some are taken out.
-use Rattle.std.proofs.Common.{◌≡◌, ℕ, ◌⊎◌, inl, inr, List, not, Contains, filter, Option, Some, None, IfSome, IfNone, refl, sym, ap, ◌∙◌, subst, ne_eqb, eq-eqb, true≢false}
+use Rattle.std.proofs.Common.{◌≡◌, ℕ, ◌⊎◌, inl, inr, List, not, Contains, filter, Option, Some, None}
+use Rattle.std.proofs.Common.{IfSome, IfNone, refl, sym, ap, ◌∙◌, subst, ne_eqb, eq-eqb, true≢false}
 use Rattle.std.specs.declared.boxed.Box.{Box}
 use Rattle.std.specs.declared.alloc.Global.{Global}
 use Rattle.std.specs.Map.{keys_of}
@@ -10,7 +11,7 @@ use Rattle.page_file.specs.Page.{IsPage}
 use Rattle.page_cache.specs.declared.key.PageKey.{PageKey}
 use Rattle.page_cache.specs.Keys.{Kept, page_key, AllValid, KeepsIn, KeepsNoMore, KeepsOneMore, is_of_other}
 use Rattle.page_cache.specs.Evidence.{IsPageOf}
-use Rattle.page_cache.proofs.KeptPages.{in_filter, into_filter}
+use Rattle.page_cache.proofs.TakenOut.{in_filter, into_filter}
 
 -- what is kept agrees with the files
 abbrev pub AgreesIn : Files → Kept → Type 0
@@ -54,7 +55,8 @@ module _ (id : ℕ) (old new : Kept) (others : new ≡ filter (λ e. is_of_other
 
   pub others_gone : (n : ℕ) (page : Box PageBytes Global) → Contains new (page_key id n, page) → ⊥
   others_gone n page c =
-      let passed = (in_filter (λ (f : PageKey × Box PageBytes Global). is_of_other id f.0) old (page_key id n, page) (subst (λ (l : Kept). Contains l (page_key id n, page)) others c)).1 in
+      let passed = (in_filter (λ (f : PageKey × Box PageBytes Global). is_of_other id f.0) old (page_key id n, page)
+      (subst (λ (l : Kept). Contains l (page_key id n, page)) others c)).1 in
       true≢false (sym passed ∙ ap not (eq-eqb id id refl))
 
   pub others_stay : (i n : ℕ) (bytes : List ℕ) → (i ≡ id → ⊥) → KeepsIn old (page_key i n) bytes → KeepsIn new (page_key i n) bytes
@@ -65,7 +67,8 @@ module _ (id : ℕ) (old new : Kept) (others : new ≡ filter (λ e. is_of_other
     k.2,
   )
 
-pub taken_valid : (es : Kept) (id number : ℕ) (r : Option (Box PageBytes Global)) → AllValid es → IfSome r (λ p. Contains es (page_key id number, p)) → IfSome r (λ p. IsPage 1 id number p.value.b)
+pub taken_valid : (es : Kept) (id number : ℕ) (r : Option (Box PageBytes Global)) → AllValid es → IfSome r (λ p. Contains es (page_key id number, p))
+    → IfSome r (λ p. IsPage 1 id number p.value.b)
 taken_valid es id number None valid c = tt
 taken_valid es id number (Some p) valid c = valid (page_key id number, p) c
 

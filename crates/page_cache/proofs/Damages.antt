@@ -25,7 +25,8 @@ pub on_damage_weaker : {T : Type 0} (r : Result T PageFault) (P Q : Damage → T
 on_damage_weaker (Ok _) P Q w h = tt
 on_damage_weaker (Err f) P Q w h = fault_weaker f P Q w h
 
-pub on_damage_both : {T : Type 0} (r : Result T PageFault) (P Q R : Damage → Type 0) → ((d : Damage) → P d → Q d → R d) → OnDamage r P → OnDamage r Q → OnDamage r R
+pub on_damage_both : {T : Type 0} (r : Result T PageFault) (P Q R : Damage → Type 0) → ((d : Damage) → P d → Q d → R d) → OnDamage r P → OnDamage r Q
+    → OnDamage r R
 on_damage_both (Ok _) P Q R w h k = tt
 on_damage_both (Err f) P Q R w h k = fault_both f P Q R w h k
 
@@ -39,7 +40,8 @@ file_from_page name n (Unequal file said found) h = h
 file_from_page name n (Beyond doc next) h = h
 file_from_page name n (Doubled doc) h = h
 
-pub file_from_page_of : (files : Files) (name : FileName) (n : ℕ) (d : Damage) → (n ≡ 0 → files name ≢ None) → IsPageDamage name n d → IsPageDamageOf files n d → IsFileDamageOf files d
+pub file_from_page_of : (files : Files) (name : FileName) (n : ℕ) (d : Damage) → (n ≡ 0 → files name ≢ None) → IsPageDamage name n d → IsPageDamageOf files n d
+    → IsFileDamageOf files d
 file_from_page_of files name n (Page file number bytes) there h k = k
 file_from_page_of files name n (Size file size needed) there h k = record {
   number = n;
@@ -67,7 +69,8 @@ within_page name n most (Beyond doc next) few h = tt
 within_page name n most (Doubled doc) few h = tt
 
 -- a file of whole pages is not cut within them
-pub not_cut : (files : Files) (file : FileName) (pages size needed : ℕ) → length (bytes_of (files file)) ≡ 4096 * pages → needed ≤ 4096 * pages → IsCut files file size needed → ⊥
+pub not_cut : (files : Files) (file : FileName) (pages size needed : ℕ) → length (bytes_of (files file)) ≡ 4096 * pages → needed ≤ 4096 * pages
+    → IsCut files file size needed → ⊥
 not_cut files file pages size needed long few h =
     let seen : size ≡ max (4096 * h.number) (length (bytes_of (files file))) = h.seen in
     let short = h.short in
@@ -81,7 +84,8 @@ short_of_cut files file size needed page h =
     record { page = page; has = omega arith; short = h.short; there = h.there (omega arith) }
 
 -- the size that a first page doesn't have
-pub other_size : (asks : List ℕ → ℕ → Type 0) (files : Files) (p : FirstPage) (pages : ℕ) (file : FileName) (size needed : ℕ) → IsFirstPage files p → asks (first_payload p) pages
+pub other_size : (asks : List ℕ → ℕ → Type 0) (files : Files) (p : FirstPage) (pages : ℕ) (file : FileName) (size needed : ℕ) → IsFirstPage files p
+    → asks (first_payload p) pages
     → (file ≡ first_name p) × (size ≡ first_size p) × (needed ≡ 4096 * pages) → IsSizeOf asks files file size needed
 other_size asks files p pages file size needed first asked e =
     subst (λ (name : FileName). IsSizeOf asks files name size needed) (sym e.0)
@@ -93,4 +97,5 @@ on_file_from_page r name n = on_damage_weaker r (IsPageDamage name n) (IsFileDam
 
 pub on_file_from_page_of : {T : Type 0} (r : Result T PageFault) (files : Files) (name : FileName) (n : ℕ) → (n ≡ 0 → files name ≢ None)
     → OnDamage r (IsPageDamage name n) → OnDamage r (IsPageDamageOf files n) → OnDamage r (IsFileDamageOf files)
-on_file_from_page_of r files name n there = on_damage_both r (IsPageDamage name n) (IsPageDamageOf files n) (IsFileDamageOf files) (λ d. file_from_page_of files name n d there)
+on_file_from_page_of r files name n there =
+    on_damage_both r (IsPageDamage name n) (IsPageDamageOf files n) (IsFileDamageOf files) (λ d. file_from_page_of files name n d there)

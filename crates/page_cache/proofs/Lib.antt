@@ -4,6 +4,7 @@ pub mod OneRead
 pub mod Agreement
 pub mod CachePages
 pub mod KeptPages
+pub mod TakenOut
 pub mod FileSizes
 pub mod Sealed
 pub mod Notes

@@ -51,7 +51,9 @@ fit_set notes i note page all fits n has = elim (contains_set notes i note n has
 
 pub value_again : (key : PageKey) (es : Kept) (page : Box PageBytes Global) → lookup (same_key key) es ≡ Some page → set_value (same_key key) es page ≡ es
 value_again key [] page h = refl
-value_again key (f ∷ es) page h = (elim (same_key key f.0) as (λ b. cond b (Some f.1) (lookup (same_key key) es) ≡ Some page → cond {A = Kept} b ((f.0, page) ∷ es) (f ∷ set_value (same_key key) es page) ≡ f ∷ es) [
-  | true ↦ λ g. let same : f.1 ≡ page = cc in ap (λ (p : Box PageBytes Global). (f.0, p) ∷ es) (sym same)
-  | false ↦ λ g. ap (λ (l : Kept). f ∷ l) (value_again key es page g)
-]) h
+value_again key (f ∷ es) page h =
+    (elim (same_key key f.0) as (λ b.
+    cond b (Some f.1) (lookup (same_key key) es) ≡ Some page → cond {A = Kept} b ((f.0, page) ∷ es) (f ∷ set_value (same_key key) es page) ≡ f ∷ es) [
+      | true ↦ λ g. let same : f.1 ≡ page = cc in ap (λ (p : Box PageBytes Global). (f.0, p) ∷ es) (sym same)
+      | false ↦ λ g. ap (λ (l : Kept). f ∷ l) (value_again key es page g)
+    ]) h

@@ -39,7 +39,8 @@ short_is_none files name n at count old new len begin short read page =
     let left = length-drop at (bytes_of (files name)) in
     let whole : length (take 4096 (drop (4096 * n) (bytes_of (files name)))) ≡ 4096 = page.len in
     let taken = length-take 4096 (drop (4096 * n) (bytes_of (files name))) in
-    let same : length (drop at (bytes_of (files name))) ≡ length (drop (4096 * n) (bytes_of (files name))) = ap (λ (k : ℕ). length (drop k (bytes_of (files name)))) begin in
+    let same : length (drop at (bytes_of (files name))) ≡ length (drop (4096 * n) (bytes_of (files name))) =
+    ap (λ (k : ℕ). length (drop k (bytes_of (files name)))) begin in
     omega arith
 
 -- the page of the file is the bytes that came

@@ -1,5 +1,6 @@
 -- Payloads of runs of pages, and pages put behind others.
-use Rattle.std.proofs.Common.{◌≡◌, ℕ, zero, suc, ◌+◌, ◌-◌, ◌*◌, ◌≤◌, ◌<◌, List, [], ◌++◌, length, take, drop, refl, sym, ap, ◌∙◌, subst, arith, add-zero, add-suc, add-one, inl, inr, add_assoc, append_assoc, append-nil, length-take, length-drop}
+use Rattle.std.proofs.Common.{◌≡◌, ℕ, zero, suc, ◌+◌, ◌-◌, ◌*◌, ◌≤◌, ◌<◌, List, [], ◌++◌, length, take, drop, refl, sym, ap, ◌∙◌, subst}
+use Rattle.std.proofs.Common.{arith, add-zero, add-suc, add-one, inl, inr, add_assoc, append_assoc, append-nil, length-take, length-drop}
 use Rattle.std.proofs.lemmas.Bool.{cases_lt}
 use Rattle.std.proofs.lemmas.List.{take_all, take-append-le, drop-append-le}
 use Rattle.std.proofs.Math.Seq.{drop-append-add}
@@ -30,7 +31,8 @@ payloads_more bytes old new payload from i before this =
     ∙ append_assoc old (payloads_of bytes from i) (payload_of (page_at bytes (from + i)))
     ∙ ap (λ (n : ℕ). old ++ payloads_of bytes from n) (sym (add-one i))
 
-pub payloads_grown : (bytes old new payload all : List ℕ) (from i : ℕ) → all ≡ new ++ payload → new ≡ old ++ payloads_of bytes from i → payload ≡ payload_of (page_at bytes (from + i))
+pub payloads_grown : (bytes old new payload all : List ℕ) (from i : ℕ) → all ≡ new ++ payload → new ≡ old ++ payloads_of bytes from i
+    → payload ≡ payload_of (page_at bytes (from + i))
     → all ≡ old ++ payloads_of bytes from (i + 1)
 payloads_grown bytes old new payload all from i grew before this = grew ∙ payloads_more bytes old new payload from i before this
 
@@ -96,7 +98,8 @@ pages_front name from end a b pages n low high =
     subst (IsPage (kind_of name) (number_of name) n) (sym (page_at_front a b n (page_within name a n page))) page
 
 -- the payloads of pages that are there stay where bytes are put behind
-pub payloads_stay : (name : FileName) (from count : ℕ) (a b : List ℕ) → ArePages name a from (from + count) → payloads_of (a ++ b) from count ≡ payloads_of a from count
+pub payloads_stay : (name : FileName) (from count : ℕ) (a b : List ℕ) → ArePages name a from (from + count)
+    → payloads_of (a ++ b) from count ≡ payloads_of a from count
 unfolding payloads_of
 payloads_stay name from zero a b pages = refl
 payloads_stay name from (suc count) a b pages =
@@ -117,7 +120,8 @@ pages_behind name first count a b len pages n low high =
     subst (IsPage (kind_of name) (number_of name) n) (sym (page_at_back a b first n (n - first) len place)) page
 
 -- the first page and the pages behind it
-pub pages_from_first : (name : FileName) (bytes : List ℕ) (count : ℕ) → IsFilePage name bytes 0 → ArePages name bytes 1 (1 + count) → ArePages name bytes 0 (1 + count)
+pub pages_from_first : (name : FileName) (bytes : List ℕ) (count : ℕ) → IsFilePage name bytes 0 → ArePages name bytes 1 (1 + count)
+    → ArePages name bytes 0 (1 + count)
 pages_from_first name bytes count first others n low high = elim (cases_lt n 1) [
   | inl below ↦ let same : 0 ≡ n = omega arith in subst (IsFilePage name bytes) same first
   | inr at_least ↦ others n at_least high

@@ -1,5 +1,6 @@
 -- The pages of a body, put one after another.
-use Rattle.std.proofs.Common.{◌≡◌, ℕ, ◌+◌, ◌-◌, ◌*◌, ◌≤◌, ◌<◌, inl, inr, min, List, [], ◌++◌, length, take, drop, replicate, refl, sym, ap, ◌∙◌, subst, arith, add-zero, zero-add, append_assoc, append-nil, length-append, length-take, length-drop}
+use Rattle.std.proofs.Common.{◌≡◌, ℕ, ◌+◌, ◌-◌, ◌*◌, ◌≤◌, ◌<◌, inl, inr, min, List, [], ◌++◌, length, take, drop, replicate, refl, sym, ap}
+use Rattle.std.proofs.Common.{◌∙◌, subst, arith, add-zero, zero-add, append_assoc, append-nil, length-append, length-take, length-drop}
 use Rattle.std.proofs.lemmas.Bool.{cases_lt}
 use Rattle.std.proofs.lemmas.List.{take_all, take-append-le, drop-append-le, drop-drop, length-replicate}
 use Rattle.std.proofs.Math.Seq.{take-add}
@@ -38,7 +39,11 @@ part_filled body rest part i some e f =
           let all : part ≡ rest = f ∙ take_all (min (length rest) 4064) rest (omega arith) in
           let same : 4064 - length part ≡ 4064 * pages_for (length body) - length body = ap (λ (x : List ℕ). 4064 - length x) all ∙ omega arith in
           let whole : length (rest ++ replicate (4064 * pages_for (length body) - length body) 0) ≤ 4064 =
-          omega (arith, length-append rest (replicate (4064 * pages_for (length body) - length body) 0), length-replicate {A = ℕ} (4064 * pages_for (length body) - length body) 0) in
+          omega (
+            arith,
+            length-append rest (replicate (4064 * pages_for (length body) - length body) 0),
+            length-replicate {A = ℕ} (4064 * pages_for (length body) - length body) 0,
+          ) in
           ap (λ (n : ℕ). part ++ replicate n 0) same
           ∙ ap (λ (x : List ℕ). x ++ replicate (4064 * pages_for (length body) - length body) 0) all
           ∙ sym (take_all 4064 (rest ++ replicate (4064 * pages_for (length body) - length body) 0) whole)
@@ -110,7 +115,8 @@ put_all name first body old new count all put = record {
 }
 
 -- what is left of the body after one more part
-pub rest_more : (body rest others : List ℕ) (i : ℕ) → rest ≡ drop (4064 * i) body → others ≡ drop (min (length rest) 4064) rest → others ≡ drop (4064 * (i + 1)) body
+pub rest_more : (body rest others : List ℕ) (i : ℕ) → rest ≡ drop (4064 * i) body → others ≡ drop (min (length rest) 4064) rest
+    → others ≡ drop (4064 * (i + 1)) body
 rest_more body rest others i e f =
     let left : length rest ≡ length body - 4064 * i = ap (λ (x : List ℕ). length x) e ∙ length-drop (4064 * i) body in
     elim (cases_lt (length rest) 4064) [

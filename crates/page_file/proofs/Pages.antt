@@ -1,5 +1,6 @@
 -- Pages as lists: their payload's length, one page a payload, and the page that a payload was written into.
-use Rattle.std.proofs.Common.{◌≡◌, ◌≤◌, ◌+◌, ◌-◌, ℕ, List, [], ◌++◌, length, take, drop, replicate, sym, ap, ◌∙◌, arith, length-append, append_assoc, append-nil}
+use Rattle.std.proofs.Common.{◌≡◌, ◌≤◌, ◌+◌, ◌-◌, ℕ, List, [], ◌++◌, length, take, drop, replicate}
+use Rattle.std.proofs.Common.{sym, ap, ◌∙◌, arith, length-append, append_assoc, append-nil}
 use Rattle.std.proofs.lemmas.List.{length-take, take-append-drop, take_at, drop_at, drop-replicate, take-replicate}
 use Rattle.std.proofs.Math.ListN.{drop_of_length-le}
 use Rattle.std.proofs.Math.Seq.{take-append-add}
@@ -14,7 +15,8 @@ page_unique kind file number a b p q e =
     sym (take-append-drop 4064 a) ∙ ap (λ (x : List ℕ). x ++ drop 4064 a) e ∙ ap (λ (x : List ℕ). take 4064 b ++ x) digests ∙ take-append-drop 4064 b
 
 -- what `seal` makes: the payload over zeros, then the digest behind it
-pub sealed_page : (kind file number : ℕ) (filled new digest : List ℕ) → length filled ≡ 4096 → length digest ≡ 32 → digest ≡ page_digest kind file number (take 4064 filled)
+pub sealed_page : (kind file number : ℕ) (filled new digest : List ℕ) → length filled ≡ 4096 → length digest ≡ 32
+    → digest ≡ page_digest kind file number (take 4064 filled)
     → new ≡ take 4064 filled ++ digest ++ drop (4064 + length digest) filled → IsPage kind file number new
 sealed_page kind file number filled new digest len short digests e =
     let front : length (take 4064 filled) ≡ 4064 = omega (arith, length-take 4064 filled) in
@@ -24,10 +26,12 @@ sealed_page kind file number filled new digest len short digests e =
     let payload : take 4064 new ≡ take 4064 filled = ap (λ (x : List ℕ). take 4064 x) parts ∙ take_at (take 4064 filled) digest 4064 front in
     record {
       len = ap (λ (x : List ℕ). length x) parts ∙ whole;
-      digest = ap (λ (x : List ℕ). drop 4064 x) parts ∙ drop_at (take 4064 filled) digest 4064 front ∙ digests ∙ ap (λ (x : List ℕ). page_digest kind file number x) (sym payload);
+      digest = ap (λ (x : List ℕ). drop 4064 x) parts ∙ drop_at (take 4064 filled) digest 4064 front ∙ digests
+          ∙ ap (λ (x : List ℕ). page_digest kind file number x) (sym payload);
     }
 
-pub sealed_payload : (payload filled new digest : List ℕ) → length payload ≤ 4064 → length filled ≡ 4096 → filled ≡ payload ++ drop (0 + length payload) (replicate 4096 0)
+pub sealed_payload : (payload filled new digest : List ℕ) → length payload ≤ 4064 → length filled ≡ 4096
+    → filled ≡ payload ++ drop (0 + length payload) (replicate 4096 0)
     → new ≡ take 4064 filled ++ digest ++ drop (4064 + length digest) filled → payload_of new ≡ payload ++ replicate (4064 - length payload) 0
 sealed_payload payload filled new digest fits len e f =
     let front : length (take 4064 filled) ≡ 4064 = omega (arith, length-take 4064 filled) in

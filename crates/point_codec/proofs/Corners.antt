@@ -1,5 +1,6 @@
 -- The order of corners, dimension by dimension.
-use Rattle.std.proofs.Common.{◌≡◌, ℕ, zero, suc, ◌+◌, ◌<◌, Bool, true, false, ◌&&◌, ◌||◌, List, [], ◌∷◌, ◌++◌, length, take, drop, get_or, set, ℤ, pos, ◌≤ℤ◌, int_le, refl, ap, ◌∙◌, arith, add-one}
+use Rattle.std.proofs.Common.{◌≡◌, ℕ, zero, suc, ◌+◌, ◌<◌, Bool, true, false, ◌&&◌, ◌||◌, List, [], ◌∷◌, ◌++◌}
+use Rattle.std.proofs.Common.{length, take, drop, get_or, set, ℤ, pos, ◌≤ℤ◌, int_le, refl, ap, ◌∙◌, arith, add-one}
 use Rattle.std.proofs.lemmas.Int.{ints}
 use Rattle.std.specs.Int.{int_max, int_min}
 use Rattle.point_codec.specs.Points.{Region, all_le, in_box}
@@ -103,7 +104,8 @@ all_le_of_greatest (z ∷ zs) (x ∷ xs) (y ∷ ys) h k =
 
 -- the dimensions done, and those left: one more is done
 pub by_dimension_step : (f : ℤ → ℤ → ℤ) (a b : List ℤ) (i : ℕ) → i < length a → i < length b
-    → take (i + 1) (set a i (f (get_or a i (pos 0)) (get_or b i (pos 0)))) ++ by_dimension f (drop (i + 1) (set a i (f (get_or a i (pos 0)) (get_or b i (pos 0))))) (drop (i + 1) b)
+    → take (i + 1) (set a i (f (get_or a i (pos 0)) (get_or b i (pos 0))))
+    ++ by_dimension f (drop (i + 1) (set a i (f (get_or a i (pos 0)) (get_or b i (pos 0))))) (drop (i + 1) b)
     ≡ take i a ++ by_dimension f (drop i a) (drop i b)
 by_dimension_step f [] b i h k = absurd (omega arith)
 by_dimension_step f (x ∷ xs) [] i h k = absurd (omega arith)
@@ -151,7 +153,8 @@ number_test x y h = grind (arith, ints)
 
 -- ---- a cell cut in two
 
-module _ (r : Region) (dim : ℕ) (at : ℤ) (same : length r.lo ≡ length r.hi) (inside : dim < length r.hi) (from : get_or r.lo dim (pos 0) ≤ℤ at) (to : at ≤ℤ get_or r.hi dim (pos 0)) where
+module _ (r : Region) (dim : ℕ) (at : ℤ) (same : length r.lo ≡ length r.hi) (inside : dim < length r.hi) (from : get_or r.lo dim (pos 0) ≤ℤ at)
+    (to : at ≤ℤ get_or r.hi dim (pos 0)) where
   pub left_ordered : all_le r.lo r.hi ≡ true → all_le r.lo (set r.hi dim at) ≡ true
   left_ordered h = rw (all_le-lowered r.lo r.hi dim at same inside to) (rw (h, number_test (get_or r.lo dim (pos 0)) at from) refl)
 
@@ -185,7 +188,8 @@ module _ (r : Region) (dim : ℕ) (at : ℤ) (same : length r.lo ≡ length r.hi
   at_itself true x y h = (grind (arith, ints), grind (arith, ints))
   at_itself false x y h = (refl, refl)
 
-  pub keeps_shared : (p : List ℤ) → length p ≡ length r.hi → get_or p dim (pos 0) ≡ at → (in_box (left_of r dim at) p ≡ in_box r p) × (in_box (right_of r dim at) p ≡ in_box r p)
+  pub keeps_shared : (p : List ℤ) → length p ≡ length r.hi
+      → get_or p dim (pos 0) ≡ at → (in_box (left_of r dim at) p ≡ in_box r p) × (in_box (right_of r dim at) p ≡ in_box r p)
   keeps_shared p e is =
       let both = at_itself (in_box r p) (get_or p dim (pos 0)) at is in
       (left_keeps p e ∙ both.0, right_keeps p e ∙ both.1)

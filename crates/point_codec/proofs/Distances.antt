@@ -1,5 +1,6 @@
 -- Sums of squares, dimension by dimension.
-use Rattle.std.proofs.Common.{◌≡◌, ℕ, ◌+◌, ◌≤◌, ◌<◌, true, zero, suc, List, [], ◌∷◌, length, drop, get_or, int_le, ◌&&◌, ℤ, pos, ◌-ℤ◌, unsigned_abs, refl, arith, add-one}
+use Rattle.std.proofs.Common.{◌≡◌, ℕ, ◌+◌, ◌≤◌, ◌<◌, true, zero, suc, List, [], ◌∷◌, length, drop}
+use Rattle.std.proofs.Common.{get_or, int_le, ◌&&◌, ℤ, pos, ◌-ℤ◌, unsigned_abs, refl, arith, add-one}
 use Rattle.std.proofs.Math.Nat.{mul-le-mul}
 use Rattle.std.proofs.Math.Seq.{drop-cons}
 use Rattle.std.proofs.lemmas.Int.{ints}
@@ -29,7 +30,8 @@ nearest_dropped l h p i a b c = rw (drop-cons l i (pos 0), drop-cons h i (pos 0)
 between_here : (l h x : ℤ) → int_le l h ≡ true → (int_le l (int_max l (int_min x h)) ≡ true) × (int_le (int_max l (int_min x h)) h ≡ true)
 between_here l h x e = (grind (arith, ints), grind (arith, ints))
 
-moved_is_between : (l h p : List ℤ) → all_le l h ≡ true → length p ≡ length l → (all_le l (moved_between l h p) ≡ true) × (all_le (moved_between l h p) h ≡ true)
+moved_is_between : (l h p : List ℤ) → all_le l h ≡ true → length p ≡ length l
+    → (all_le l (moved_between l h p) ≡ true) × (all_le (moved_between l h p) h ≡ true)
 moved_is_between [] [] p e k = (refl, refl)
 moved_is_between [] (y ∷ ys) p e k = cc
 moved_is_between (x ∷ xs) [] p e k = cc

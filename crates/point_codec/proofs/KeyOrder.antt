@@ -36,10 +36,12 @@ joined : (t a b c3 c2 c1 c0 : Ordering) → t ≡ ordering_then a c0 → a ≡ o
     → ordering_then c3 (ordering_then c2 (ordering_then c1 (ordering_then c0 Equal))) ≡ t
 joined t a b c3 c2 c1 c0 e f g =
     ap (λ x. ordering_then c3 (ordering_then c2 (ordering_then c1 x))) (sym (then_equal c0))
-    ∙ sym (e ∙ ap (λ x. ordering_then x c0) (f ∙ ap (λ x. ordering_then x c1) g) ∙ then_assoc (ordering_then c3 c2) c1 c0 ∙ then_assoc c3 c2 (ordering_then c1 c0))
+    ∙ sym (e ∙ ap (λ x. ordering_then x c0) (f ∙ ap (λ x. ordering_then x c1) g) ∙ then_assoc (ordering_then c3 c2) c1 c0
+    ∙ then_assoc c3 c2 (ordering_then c1 c0))
 
 pub bytes_cmp : (m n : ℕ) → m < 2 ^ 32 → n < 2 ^ 32
-    → slice_cmp nat_cmp (m / 16777216 % 256 ∷ m / 65536 % 256 ∷ m / 256 % 256 ∷ m % 256 ∷ []) (n / 16777216 % 256 ∷ n / 65536 % 256 ∷ n / 256 % 256 ∷ n % 256 ∷ []) ≡ nat_cmp m n
+    → slice_cmp nat_cmp (m / 16777216 % 256 ∷ m / 65536 % 256 ∷ m / 256 % 256 ∷ m % 256 ∷ [])
+    (n / 16777216 % 256 ∷ n / 65536 % 256 ∷ n / 256 % 256 ∷ n % 256 ∷ []) ≡ nat_cmp m n
 bytes_cmp m n h k =
     let m2 : m / 256 / 256 ≡ m / 65536 = div-div-eq-div-mul m 256 256 in
     let n2 : n / 256 / 256 ≡ n / 65536 = div-div-eq-div-mul n 256 256 in

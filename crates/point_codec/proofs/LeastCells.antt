@@ -6,7 +6,8 @@ use Rattle.std.specs.List.{All}
 use Rattle.std.specs.Int.{int_max, int_min}
 use Rattle.point_codec.specs.Points.{Region, all_le, in_box}
 use Rattle.point_codec.specs.Cells.{IsLeastCell, within, by_dimension}
-use Rattle.point_codec.proofs.Corners.{both_true, in_box-corners, all_le-refl, all_le-trans, all_le-antisym, all_le_least, all_le_greatest, all_le_of_least, all_le_of_greatest}
+use Rattle.point_codec.proofs.Corners.{both_true, in_box-corners, all_le-refl, all_le-trans, all_le-antisym}
+use Rattle.point_codec.proofs.Corners.{all_le_least, all_le_greatest, all_le_of_least, all_le_of_greatest}
 
 -- the cell with its corners moved apart as far as the point
 abbrev pub widened : Region → List ℤ → Region
@@ -48,9 +49,11 @@ front P points p all =
     (parts.0, parts.1)
 
 -- and with one more point
-pub IsLeastCell-more : (points : List (List ℤ)) (r : Region) (p : List ℤ) → length r.lo ≡ length p → length r.hi ≡ length p → IsLeastCell points r → IsLeastCell (points ++ p ∷ []) (widened r p)
+pub IsLeastCell-more : (points : List (List ℤ)) (r : Region) (p : List ℤ) → length r.lo ≡ length p → length r.hi ≡ length p → IsLeastCell points r
+    → IsLeastCell (points ++ p ∷ []) (widened r p)
 IsLeastCell-more points r p low high told = record {
-  holds = All-push (λ q. in_box (widened r p) q ≡ true) points p (All-weaker (λ q. in_box r q ≡ true) (λ q. in_box (widened r p) q ≡ true) (λ q h. wider r p q low high h) points told.holds) (reaches r p low high);
+  holds = All-push (λ q. in_box (widened r p) q ≡ true) points p
+      (All-weaker (λ q. in_box r q ≡ true) (λ q. in_box (widened r p) q ≡ true) (λ q h. wider r p q low high h) points told.holds) (reaches r p low high);
   least = λ s all. let parts = front (λ q. in_box s q ≡ true) points p all in no_wider r s p (told.least s parts.0) parts.1;
 }
 

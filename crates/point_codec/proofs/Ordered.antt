@@ -1,5 +1,6 @@
 -- A sorted list without repetitions is the list of its elements in order.
-use Rattle.std.proofs.Common.{◌≡◌, suc, ◌+◌, ◌≤◌, Bool, true, false, cond, ◌||◌, ◌&&◌, T, List, [], ◌∷◌, length, map, ℤ, Option, Some, None, is_some, arith, refl, sym, ap, ◌∙◌, subst}
+use Rattle.std.proofs.Common.{◌≡◌, suc, ◌+◌, ◌≤◌, Bool, true, false, cond, ◌||◌, ◌&&◌, T, List, [], ◌∷◌}
+use Rattle.std.proofs.Common.{length, map, ℤ, Option, Some, None, is_some, arith, refl, sym, ap, ◌∙◌, subst}
 use Rattle.std.proofs.lemmas.List.{length-map}
 use Rattle.std.proofs.lemmas.List.Kept.{IsStrictlySortedBy-dedup}
 use Rattle.std.proofs.lemmas.List.Sorted.{list_any-IsPermutation, length_permutation}
@@ -62,7 +63,8 @@ module _ {K : Type 0} (R : K → K → Ordering) (o : IsTotalOrder R) (exact : I
   sorted_marked (p ∷ ps) h = both_true _ _ (below_marked p ps h.0) (sorted_marked ps h.1)
 
   -- two ascending lists with the same members are one
-  same_members : (ps qs : List K) → IsStrictlySortedBy R ps → T (is_sorted R (marked qs)) → ((q : K) → list_any (eq_by_cmp R q) ps ≡ list_any (eq_by_cmp R q) qs) → ps ≡ qs
+  same_members : (ps qs : List K) → IsStrictlySortedBy R ps → T (is_sorted R (marked qs))
+      → ((q : K) → list_any (eq_by_cmp R q) ps ≡ list_any (eq_by_cmp R q) qs) → ps ≡ qs
   same_members ps qs g h is =
       sym (unmarked ps)
       ∙ ap (map (λ e. e.0)) (same_entries R o exact (marked ps) (marked qs) (sorted_marked ps g) h
@@ -71,7 +73,8 @@ module _ {K : Type 0} (R : K → K → Ordering) (o : IsTotalOrder R) (exact : I
       ∙ unmarked qs
 
   in_order_sorted : (ps : List K) → T (is_sorted R (marked (in_order R ps)))
-  in_order_sorted ps = subst (λ es. T (is_sorted R es)) (sym (remarked (finite.entries (finite.from_entries {R = R} (marked ps))))) (finite.entries_sorted (finite.from_entries {R = R} (marked ps)))
+  in_order_sorted ps = subst (λ es. T (is_sorted R es)) (sym (remarked (finite.entries (finite.from_entries {R = R} (marked ps)))))
+      (finite.entries_sorted (finite.from_entries {R = R} (marked ps)))
 
   -- an ascending list with the members of ps is ps in order
   pub in_order_is : (ps qs : List K) → IsStrictlySortedBy R qs → ((q : K) → list_any (eq_by_cmp R q) qs ≡ list_any (eq_by_cmp R q) ps) → qs ≡ in_order R ps
@@ -89,7 +92,8 @@ any_map f t [] = refl
 any_map f t (x ∷ xs) = ap (λ b. t (f x) || b) (any_map f t xs)
 
 -- what counts as the same passes alike
-any_dedup_from : {X : Type 0} (E : X → X → Bool) (t : X → Bool) → ((x y : X) → E x y ≡ true → t x ≡ t y) → (k : X) (xs : List X) → list_any t (dedup_from E k xs) ≡ (t k || list_any t xs)
+any_dedup_from : {X : Type 0} (E : X → X → Bool) (t : X → Bool) → ((x y : X) → E x y ≡ true → t x ≡ t y) → (k : X) (xs : List X)
+    → list_any t (dedup_from E k xs) ≡ (t k || list_any t xs)
 any_dedup_from E t alike k [] = refl
 any_dedup_from E t alike k (x ∷ xs) =
     elim (E x k) as (λ b. E x k ≡ b → list_any t (cond b (dedup_from E k xs) (k ∷ dedup_from E x xs)) ≡ (t k || (t x || list_any t xs))) [
@@ -102,7 +106,8 @@ any_dedup E t alike [] = refl
 any_dedup E t alike (x ∷ xs) = any_dedup_from E t alike x xs
 
 -- sorted by a key, and then without the repetitions; the key of each element is all that counts
-module _ {X K : Type 0} (f : X → K) (R : K → K → Ordering) (o : IsTotalOrder R) (exact : IsAntisymmetric R) (E : X → X → Bool) (ties : (x y : X) → E x y ≡ eq_by_cmp R (f x) (f y)) where
+module _ {X K : Type 0} (f : X → K) (R : K → K → Ordering) (o : IsTotalOrder R) (exact : IsAntisymmetric R) (E : X → X → Bool)
+    (ties : (x y : X) → E x y ≡ eq_by_cmp R (f x) (f y)) where
   abbrev by_key : X → X → Ordering
   by_key x y = R (f x) (f y)
 
@@ -137,7 +142,8 @@ module _ {X K : Type 0} (f : X → K) (R : K → K → Ordering) (o : IsTotalOrd
 
 some_from : {X : Type 0} (E : X → X → Bool) (k : X) (xs : List X) → 1 ≤ length (dedup_from E k xs)
 some_from E k [] = omega arith
-some_from E k (x ∷ xs) = elim (E x k) as (λ b. 1 ≤ length (cond b (dedup_from E k xs) (k ∷ dedup_from E x xs))) [ true ↦ some_from E k xs | false ↦ omega arith ]
+some_from E k (x ∷ xs) =
+    elim (E x k) as (λ b. 1 ≤ length (cond b (dedup_from E k xs) (k ∷ dedup_from E x xs))) [ true ↦ some_from E k xs | false ↦ omega arith ]
 
 few_from : {X : Type 0} (E : X → X → Bool) (k : X) (xs : List X) → length (dedup_from E k xs) ≤ length xs + 1
 few_from E k [] = omega arith

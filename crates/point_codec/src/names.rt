@@ -27,7 +27,8 @@ impl Model for Name {
 
     ghost inverse = { λ name. record { len = length name; bytes = name ++ replicate (32 - length name) 0 } };
 
-    ghost inverse_ok = { λ a h i. record { len = padded_length a.len a.bytes h i; bytes = padded_again a.len a.bytes h i } };
+    ghost inverse_ok = { λ a h i.
+        record { len = padded_length a.len a.bytes h i; bytes = padded_again a.len a.bytes h i } };
 }
 
 impl Name {

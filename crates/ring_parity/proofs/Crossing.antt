@@ -3,7 +3,8 @@
 use Rattle.std.proofs.Common.{◌≡◌, ℤ, pos, ◌-ℤ◌, ◌*ℤ◌, Bool, true, false, not, cond, ◌&&◌, ◌||◌, refl, sym, arith}
 use Rattle.std.specs.Prelude.{◌<ℤ◌, ◌≤ℤ◌, int_lt}
 use Rattle.std.proofs.lemmas.Int.{ints, by_lt_z}
-use Rattle.ring_parity.proofs.Signs.{turn, rising_east, rising_west, falling_east, falling_west, turn-at_start, turn-at_end, turn-turned, CornersLeft, left_of_line, factor_positive, factor_negative}
+use Rattle.ring_parity.proofs.Signs.{turn, rising_east, rising_west, falling_east, falling_west, turn-at_start}
+use Rattle.ring_parity.proofs.Signs.{turn-at_end, turn-turned, CornersLeft, left_of_line, factor_positive, factor_negative}
 
 -- exactly one of two
 abbrev pub xor : Bool → Bool → Bool
@@ -15,7 +16,8 @@ abbrev pub counted : Bool → Bool → Bool → Bool → Bool
 counted start end left right = (not start && end && left) || (start && not end && right)
 
 -- within the cell an edge counts by the heights of its ends and one bit
-counted_by : (start end left right bit : Bool) → (start ≡ false → end ≡ true → left ≡ bit) → (start ≡ true → end ≡ false → right ≡ bit) → counted start end left right ≡ (xor start end && bit)
+counted_by : (start end left right bit : Bool) → (start ≡ false → end ≡ true → left ≡ bit) → (start ≡ true → end ≡ false → right ≡ bit)
+    → counted start end left right ≡ (xor start end && bit)
 counted_by true true left right bit p q = refl
 counted_by true false left right true p q = q refl refl
 counted_by true false left right false p q = q refl refl
@@ -42,8 +44,10 @@ pub record Tells (ax ay bx by lx ly hx hy : ℤ) (bit : Bool) : Type 0 where
 pub tells_west : (ax ay bx by lx ly hx hy : ℤ) → ax <ℤ lx → bx <ℤ lx → Tells ax ay bx by lx ly hx hy false
 tells_west ax ay bx by lx ly hx hy a b = record {
   counting = λ x y c. counted_by (int_lt y ay) (int_lt y by) _ _ false
-      (λ (s : int_lt y ay ≡ false) (e : int_lt y by ≡ true). sym (omega (arith, ints, rising_west ax ay bx by x y (omega (arith, ints)) (omega (arith, ints)) (omega (arith, ints)) (omega (arith, ints)))))
-      (λ (s : int_lt y ay ≡ true) (e : int_lt y by ≡ false). sym (omega (arith, ints, falling_west ax ay bx by x y (omega (arith, ints)) (omega (arith, ints)) (omega (arith, ints)) (omega (arith, ints)))));
+      (λ (s : int_lt y ay ≡ false) (e : int_lt y by ≡ true).
+      sym (omega (arith, ints, rising_west ax ay bx by x y (omega (arith, ints)) (omega (arith, ints)) (omega (arith, ints)) (omega (arith, ints)))))
+      (λ (s : int_lt y ay ≡ true) (e : int_lt y by ≡ false).
+      sym (omega (arith, ints, falling_west ax ay bx by x y (omega (arith, ints)) (omega (arith, ints)) (omega (arith, ints)) (omega (arith, ints)))));
   start = λ x p q r s. sym (omega (arith, ints));
   end = λ x p q r s. sym (omega (arith, ints));
 }
@@ -51,8 +55,10 @@ tells_west ax ay bx by lx ly hx hy a b = record {
 pub tells_east : (ax ay bx by lx ly hx hy : ℤ) → hx <ℤ ax → hx <ℤ bx → Tells ax ay bx by lx ly hx hy true
 tells_east ax ay bx by lx ly hx hy a b = record {
   counting = λ x y c. counted_by (int_lt y ay) (int_lt y by) _ _ true
-      (λ (s : int_lt y ay ≡ false) (e : int_lt y by ≡ true). sym (omega (arith, ints, rising_east ax ay bx by x y (omega (arith, ints)) (omega (arith, ints)) (omega (arith, ints)) (omega (arith, ints)))))
-      (λ (s : int_lt y ay ≡ true) (e : int_lt y by ≡ false). sym (omega (arith, ints, falling_east ax ay bx by x y (omega (arith, ints)) (omega (arith, ints)) (omega (arith, ints)) (omega (arith, ints)))));
+      (λ (s : int_lt y ay ≡ false) (e : int_lt y by ≡ true).
+      sym (omega (arith, ints, rising_east ax ay bx by x y (omega (arith, ints)) (omega (arith, ints)) (omega (arith, ints)) (omega (arith, ints)))))
+      (λ (s : int_lt y ay ≡ true) (e : int_lt y by ≡ false).
+      sym (omega (arith, ints, falling_east ax ay bx by x y (omega (arith, ints)) (omega (arith, ints)) (omega (arith, ints)) (omega (arith, ints)))));
   start = λ x p q r s. sym (omega (arith, ints));
   end = λ x p q r s. sym (omega (arith, ints));
 }
@@ -80,22 +86,34 @@ start_of_left : (ax ay bx by lx ly hx hy x : ℤ) → CornersLeft ax ay bx by lx
 start_of_left ax ay bx by lx ly hx hy x c p q r s =
     let positive : pos 0 <ℤ ((by -ℤ ay) *ℤ (ax -ℤ x)) = rw turn-at_start at (left_of_line ax ay bx by lx ly hx hy x ay c p q r s) in
     by_lt_z ay by
-    (λ (h : ay <ℤ by). let e : pos 0 <ℤ (ax -ℤ x) = factor_positive (by -ℤ ay) (ax -ℤ x) (omega (arith, ints)) positive in let t : true ≡ int_lt ay by = omega (arith, ints) in let u : true ≡ int_lt x ax = omega (arith, ints) in cc)
-    (λ (h : by ≤ℤ ay). let e : (ax -ℤ x) <ℤ pos 0 = factor_negative (by -ℤ ay) (ax -ℤ x) (omega (arith, ints)) positive in let t : false ≡ int_lt ay by = omega (arith, ints) in let u : false ≡ int_lt x ax = omega (arith, ints) in cc)
+    (λ (h : ay <ℤ by).
+    let e : pos 0 <ℤ (ax -ℤ x) = factor_positive (by -ℤ ay) (ax -ℤ x) (omega (arith, ints)) positive in
+    let t : true ≡ int_lt ay by = omega (arith, ints) in let u : true ≡ int_lt x ax = omega (arith, ints) in cc)
+    (λ (h : by ≤ℤ ay).
+    let e : (ax -ℤ x) <ℤ pos 0 = factor_negative (by -ℤ ay) (ax -ℤ x) (omega (arith, ints)) positive in
+    let t : false ≡ int_lt ay by = omega (arith, ints) in let u : false ≡ int_lt x ax = omega (arith, ints) in cc)
 
 end_of_left : (ax ay bx by lx ly hx hy x : ℤ) → CornersLeft ax ay bx by lx ly hx hy → lx ≤ℤ x → x ≤ℤ hx → ly ≤ℤ by → by ≤ℤ hy → int_lt x bx ≡ int_lt ay by
 end_of_left ax ay bx by lx ly hx hy x c p q r s =
     let positive : pos 0 <ℤ ((by -ℤ ay) *ℤ (bx -ℤ x)) = rw turn-at_end at (left_of_line ax ay bx by lx ly hx hy x by c p q r s) in
     by_lt_z ay by
-    (λ (h : ay <ℤ by). let e : pos 0 <ℤ (bx -ℤ x) = factor_positive (by -ℤ ay) (bx -ℤ x) (omega (arith, ints)) positive in let t : true ≡ int_lt ay by = omega (arith, ints) in let u : true ≡ int_lt x bx = omega (arith, ints) in cc)
-    (λ (h : by ≤ℤ ay). let e : (bx -ℤ x) <ℤ pos 0 = factor_negative (by -ℤ ay) (bx -ℤ x) (omega (arith, ints)) positive in let t : false ≡ int_lt ay by = omega (arith, ints) in let u : false ≡ int_lt x bx = omega (arith, ints) in cc)
+    (λ (h : ay <ℤ by).
+    let e : pos 0 <ℤ (bx -ℤ x) = factor_positive (by -ℤ ay) (bx -ℤ x) (omega (arith, ints)) positive in
+    let t : true ≡ int_lt ay by = omega (arith, ints) in let u : true ≡ int_lt x bx = omega (arith, ints) in cc)
+    (λ (h : by ≤ℤ ay).
+    let e : (bx -ℤ x) <ℤ pos 0 = factor_negative (by -ℤ ay) (bx -ℤ x) (omega (arith, ints)) positive in
+    let t : false ≡ int_lt ay by = omega (arith, ints) in let u : false ≡ int_lt x bx = omega (arith, ints) in cc)
 
 pub tells_left : (ax ay bx by lx ly hx hy : ℤ) → CornersLeft ax ay bx by lx ly hx hy → Tells ax ay bx by lx ly hx hy (int_lt ay by)
 tells_left ax ay bx by lx ly hx hy c = record {
   counting = λ x y i. let left : pos 0 <ℤ turn ax ay bx by x y = left_of_line ax ay bx by lx ly hx hy x y c i.west i.east i.south i.north in
       counted_by (int_lt y ay) (int_lt y by) _ _ (int_lt ay by)
-      (λ (s : int_lt y ay ≡ false) (e : int_lt y by ≡ true). let t : true ≡ int_lt ay by = omega (arith, ints) in let u : true ≡ int_lt (pos 0) (turn ax ay bx by x y) = omega (arith, ints) in cc)
-      (λ (s : int_lt y ay ≡ true) (e : int_lt y by ≡ false). let t : false ≡ int_lt ay by = omega (arith, ints) in let u : false ≡ int_lt (turn ax ay bx by x y) (pos 0) = omega (arith, ints) in cc);
+      (λ (s : int_lt y ay ≡ false) (e : int_lt y by ≡ true).
+      let t : true ≡ int_lt ay by = omega (arith, ints) in
+      let u : true ≡ int_lt (pos 0) (turn ax ay bx by x y) = omega (arith, ints) in cc)
+      (λ (s : int_lt y ay ≡ true) (e : int_lt y by ≡ false).
+      let t : false ≡ int_lt ay by = omega (arith, ints) in
+      let u : false ≡ int_lt (turn ax ay bx by x y) (pos 0) = omega (arith, ints) in cc);
   start = λ x p q r s. start_of_left ax ay bx by lx ly hx hy x c p q r s;
   end = λ x p q r s. end_of_left ax ay bx by lx ly hx hy x c p q r s;
 }
@@ -106,8 +124,12 @@ tells_right ax ay bx by lx ly hx hy c = record {
   counting = λ x y i. let right : pos 0 <ℤ turn bx by ax ay x y = left_of_line bx by ax ay lx ly hx hy x y c i.west i.east i.south i.north in
       let turned : turn ax ay bx by x y ≡ pos 0 -ℤ turn bx by ax ay x y = turn-turned bx by ax ay x y in
       counted_by (int_lt y ay) (int_lt y by) _ _ (int_lt by ay)
-      (λ (s : int_lt y ay ≡ false) (e : int_lt y by ≡ true). let t : false ≡ int_lt by ay = omega (arith, ints) in let u : false ≡ int_lt (pos 0) (turn ax ay bx by x y) = omega (arith, ints) in cc)
-      (λ (s : int_lt y ay ≡ true) (e : int_lt y by ≡ false). let t : true ≡ int_lt by ay = omega (arith, ints) in let u : true ≡ int_lt (turn ax ay bx by x y) (pos 0) = omega (arith, ints) in cc);
+      (λ (s : int_lt y ay ≡ false) (e : int_lt y by ≡ true).
+      let t : false ≡ int_lt by ay = omega (arith, ints) in
+      let u : false ≡ int_lt (pos 0) (turn ax ay bx by x y) = omega (arith, ints) in cc)
+      (λ (s : int_lt y ay ≡ true) (e : int_lt y by ≡ false).
+      let t : true ≡ int_lt by ay = omega (arith, ints) in
+      let u : true ≡ int_lt (turn ax ay bx by x y) (pos 0) = omega (arith, ints) in cc);
   start = λ x p q r s. end_of_left bx by ax ay lx ly hx hy x c p q r s;
   end = λ x p q r s. start_of_left bx by ax ay lx ly hx hy x c p q r s;
 }

@@ -3,7 +3,8 @@ use Rattle.std.proofs.Common.{◌≡◌, ℤ, pos, Bool, true, false, not, ◌&&
 use Rattle.std.specs.Prelude.{◌<ℤ◌, ◌≤ℤ◌, int_lt, int_le, All}
 use Rattle.std.specs.List.{list_all}
 use Rattle.std.specs.Ordering.{int_eq}
-use Rattle.std.proofs.lemmas.Bool.{and_parts, or_cases, or_parts, and_left, and_right, not_from_true, not-false, or_left, or_right, and_from, false_from_ne_true}
+use Rattle.std.proofs.lemmas.Bool.{and_parts, or_cases, or_parts, and_left, and_right, not_from_true}
+use Rattle.std.proofs.lemmas.Bool.{not-false, or_left, or_right, and_from, false_from_ne_true}
 use Rattle.std.proofs.lemmas.Bool.Decides.{Decides-int_eq}
 use Rattle.std.proofs.lemmas.List.Elements.{All-nil, All-cons, All-weaker}
 use Rattle.std.proofs.lemmas.List.Folds.{list_any_none}
@@ -50,8 +51,12 @@ pub data Misses (e : Ends) (cell : Region) : Type 0 where
 beyond : (a b lo hi : ℤ) → are_beyond a b lo hi ≡ true → ((a <ℤ lo) × (b <ℤ lo)) ⊎ ((hi <ℤ a) × (hi <ℤ b))
 beyond a b lo hi h =
     ⊎_elim
-    (λ (l : (int_lt a lo && int_lt b lo) ≡ true). let both : (int_lt a lo ≡ true) × (int_lt b lo ≡ true) = and_parts (int_lt a lo) (int_lt b lo) l in inl (omega (arith, ints), omega (arith, ints)))
-    (λ (r : (int_lt hi a && int_lt hi b) ≡ true). let both : (int_lt hi a ≡ true) × (int_lt hi b ≡ true) = and_parts (int_lt hi a) (int_lt hi b) r in inr (omega (arith, ints), omega (arith, ints)))
+    (λ (l : (int_lt a lo && int_lt b lo) ≡ true).
+    let both : (int_lt a lo ≡ true) × (int_lt b lo ≡ true) = and_parts (int_lt a lo) (int_lt b lo) l in
+    inl (omega (arith, ints), omega (arith, ints)))
+    (λ (r : (int_lt hi a && int_lt hi b) ≡ true).
+    let both : (int_lt hi a ≡ true) × (int_lt hi b ≡ true) = and_parts (int_lt hi a) (int_lt hi b) r in
+    inr (omega (arith, ints), omega (arith, ints)))
     (or_cases (int_lt a lo && int_lt b lo) (int_lt hi a && int_lt hi b) h)
 
 side_is : (e : Ends) (p : List ℤ) → side e p ≡ turn (x_of e.0) (y_of e.0) (x_of e.1) (y_of e.1) (x_of p) (y_of p)
@@ -164,7 +169,8 @@ same_parity edges cell p q closed miss i j =
 
 pub past : (e : Ends) (p : List ℤ) → is_disjoint e (record { lo = p; hi = p }) ≡ true → on e p ≡ false
 unfolding on
-past e p h = and_right (int_eq (side e p) (pos 0)) (not (is_disjoint e (record { lo = p; hi = p }))) (not_from_true (is_disjoint e (record { lo = p; hi = p })) h)
+past e p h =
+    and_right (int_eq (side e p) (pos 0)) (not (is_disjoint e (record { lo = p; hi = p }))) (not_from_true (is_disjoint e (record { lo = p; hi = p })) h)
 
 beside : (e : Ends) (p : List ℤ) → (side e p ≡ pos 0 → ⊥) → on e p ≡ false
 unfolding on
@@ -173,10 +179,12 @@ beside e p h =
     (false_from_ne_true (int_eq (side e p) (pos 0)) (λ t. h ((Decides-int_eq (side e p) (pos 0)).0 t)))
 
 both_below : (a b z : ℤ) → a <ℤ z → b <ℤ z → are_beyond a b z z ≡ true
-both_below a b z p q = or_left (int_lt a z && int_lt b z) (int_lt z a && int_lt z b) (and_from (int_lt a z) (int_lt b z) (sym (omega (arith, ints))) (sym (omega (arith, ints))))
+both_below a b z p q =
+    or_left (int_lt a z && int_lt b z) (int_lt z a && int_lt z b) (and_from (int_lt a z) (int_lt b z) (sym (omega (arith, ints))) (sym (omega (arith, ints))))
 
 both_above : (a b z : ℤ) → z <ℤ a → z <ℤ b → are_beyond a b z z ≡ true
-both_above a b z p q = or_right (int_lt a z && int_lt b z) (int_lt z a && int_lt z b) (and_from (int_lt z a) (int_lt z b) (sym (omega (arith, ints))) (sym (omega (arith, ints))))
+both_above a b z p q =
+    or_right (int_lt a z && int_lt b z) (int_lt z a && int_lt z b) (and_from (int_lt z a) (int_lt z b) (sym (omega (arith, ints))) (sym (omega (arith, ints))))
 
 -- no point of a cell is on an edge that misses it
 pub not_on : (e : Ends) (cell : Region) (p : List ℤ) → Misses e cell → InRegion cell p → on e p ≡ false

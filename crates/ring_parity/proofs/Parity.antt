@@ -101,16 +101,19 @@ uneven n h = grind (arith, nat_tests)
 
 pub AreClosed-from : (edges : List Ends) → ((marked : List ℤ → Bool) → oddly (λ (e : Ends). xor (marked e.0) (marked e.1)) edges ≡ false) → AreClosed edges
 unfolding AreClosed
-AreClosed-from edges h = λ marked. even _ (oddly_same (λ e. not (beq (marked e.0) (marked e.1))) (λ e. xor (marked e.0) (marked e.1)) edges (λ k d l. differ_is _ _) ∙ h marked)
+AreClosed-from edges h = λ marked.
+    even _ (oddly_same (λ e. not (beq (marked e.0) (marked e.1))) (λ e. xor (marked e.0) (marked e.1)) edges (λ k d l. differ_is _ _) ∙ h marked)
 
 pub AreClosed-marks : (edges : List Ends) → AreClosed edges → (marked : List ℤ → Bool) → oddly (λ (e : Ends). xor (marked e.0) (marked e.1)) edges ≡ false
 unfolding AreClosed
-AreClosed-marks edges h marked = oddly_same (λ e. xor (marked e.0) (marked e.1)) (λ e. not (beq (marked e.0) (marked e.1))) edges (λ k d l. sym (differ_is _ _)) ∙ uneven _ (h marked)
+AreClosed-marks edges h marked =
+    oddly_same (λ e. xor (marked e.0) (marked e.1)) (λ e. not (beq (marked e.0) (marked e.1))) edges (λ k d l. sym (differ_is _ _)) ∙ uneven _ (h marked)
 
 pub AreClosed-all_edges : (rings : List (List (List ℤ))) → All IsClosed rings → AreClosed (all_edges rings)
 AreClosed-all_edges rings h = AreClosed-from (all_edges rings) (λ marked. all_close marked rings h)
   where
-    all_close : (marked : List ℤ → Bool) (rings : List (List (List ℤ))) → All IsClosed rings → oddly (λ (e : Ends). xor (marked e.0) (marked e.1)) (all_edges rings) ≡ false
+    all_close : (marked : List ℤ → Bool) (rings : List (List (List ℤ))) → All IsClosed rings
+        → oddly (λ (e : Ends). xor (marked e.0) (marked e.1)) (all_edges rings) ≡ false
     all_close marked [] h = refl
     all_close marked (ring ∷ rings) h =
         oddly-append (λ (e : Ends). xor (marked e.0) (marked e.1)) (edges_of ring) (all_edges rings)

@@ -83,7 +83,15 @@ falling_west ax ay bx by x y p q r s = omega (arith, ints, turn-turned ax ay bx 
 positive_between : (c d lo z hi : ℤ) → lo ≤ℤ z → z ≤ℤ hi → pos 0 <ℤ (c +ℤ d *ℤ lo) → pos 0 <ℤ (c +ℤ d *ℤ hi) → pos 0 <ℤ (c +ℤ d *ℤ z)
 positive_between c d lo z hi p q r s =
     by_lt_z d (pos 0)
-    (λ (h : d <ℤ pos 0). omega (arith, ints, mirrored d z hi, times_difference z hi d, difference_times (pos 0) d (hi -ℤ z), times_difference hi z d, product_not_negative (pos 0 -ℤ d) (hi -ℤ z) (omega (arith, ints)) (omega (arith, ints))))
+    (λ (h : d <ℤ pos 0). omega (
+      arith,
+      ints,
+      mirrored d z hi,
+      times_difference z hi d,
+      difference_times (pos 0) d (hi -ℤ z),
+      times_difference hi z d,
+      product_not_negative (pos 0 -ℤ d) (hi -ℤ z) (omega (arith, ints)) (omega (arith, ints)),
+    ))
     (λ (h : pos 0 ≤ℤ d). omega (arith, ints, times_difference z lo d, product_not_negative d (z -ℤ lo) (omega (arith, ints)) (omega (arith, ints))))
 
 turn-along_x : (ax ay bx by x y : ℤ) → turn ax ay bx by x y ≡ ((bx -ℤ ax) *ℤ (y -ℤ ay) +ℤ (by -ℤ ay) *ℤ ax) +ℤ (ay -ℤ by) *ℤ x
@@ -110,7 +118,8 @@ left_along_y ax ay bx by x lo y hi p q r s =
     rw turn-along_y (positive_between _ (bx -ℤ ax) lo y hi p q (rw turn-along_y at r) (rw turn-along_y at s))
 
 -- so is each point of the cell
-pub left_of_line : (ax ay bx by lx ly hx hy x y : ℤ) → CornersLeft ax ay bx by lx ly hx hy → lx ≤ℤ x → x ≤ℤ hx → ly ≤ℤ y → y ≤ℤ hy → pos 0 <ℤ turn ax ay bx by x y
+pub left_of_line : (ax ay bx by lx ly hx hy x y : ℤ) → CornersLeft ax ay bx by lx ly hx hy → lx ≤ℤ x → x ≤ℤ hx → ly ≤ℤ y → y ≤ℤ hy
+    → pos 0 <ℤ turn ax ay bx by x y
 left_of_line ax ay bx by lx ly hx hy x y c p q r s =
     left_along_y ax ay bx by x ly y hy r s
     (left_along_x ax ay bx by lx x hx ly p q c.low_low c.high_low)
@@ -121,10 +130,12 @@ pub factor_positive : (a b : ℤ) → pos 0 <ℤ a → pos 0 <ℤ (a *ℤ b) →
 factor_positive a b p q =
     by_lt_z (pos 0) b
     (λ (h : pos 0 <ℤ b). h)
-    (λ (h : b ≤ℤ pos 0). absurd (omega (arith, ints, product_not_negative a (pos 0 -ℤ b) (omega (arith, ints)) (omega (arith, ints)), times_difference (pos 0) b a)))
+    (λ (h : b ≤ℤ pos 0).
+    absurd (omega (arith, ints, product_not_negative a (pos 0 -ℤ b) (omega (arith, ints)) (omega (arith, ints)), times_difference (pos 0) b a)))
 
 pub factor_negative : (a b : ℤ) → a ≤ℤ pos 0 → pos 0 <ℤ (a *ℤ b) → b <ℤ pos 0
 factor_negative a b p q =
     by_lt_z b (pos 0)
     (λ (h : b <ℤ pos 0). h)
-    (λ (h : pos 0 ≤ℤ b). absurd (omega (arith, ints, product_not_negative (pos 0 -ℤ a) b (omega (arith, ints)) (omega (arith, ints)), difference_times (pos 0) a b)))
+    (λ (h : pos 0 ≤ℤ b).
+    absurd (omega (arith, ints, product_not_negative (pos 0 -ℤ a) b (omega (arith, ints)) (omega (arith, ints)), difference_times (pos 0) a b)))

@@ -1,5 +1,6 @@
 -- What the loops over positions and rings step by.
-use Rattle.std.proofs.Common.{◌≡◌, ℕ, ℤ, ◌+◌, ◌-◌, ◌<◌, ◌≤◌, suc, zero, Bool, true, false, not, ◌||◌, List, [], ◌∷◌, ◌++◌, length, take, drop, get_or, refl, sym, ap, ◌∙◌, arith, ◌↔◌, subst, ◌*◌}
+use Rattle.std.proofs.Common.{◌≡◌, ℕ, ℤ, ◌+◌, ◌-◌, ◌<◌, ◌≤◌, suc, zero, Bool, true, false, not, ◌||◌, List, []}
+use Rattle.std.proofs.Common.{◌∷◌, ◌++◌, length, take, drop, get_or, refl, sym, ap, ◌∙◌, arith, ◌↔◌, subst, ◌*◌}
 use Rattle.std.specs.Prelude.{IsTrue, zip, All, sum_by}
 use Rattle.std.specs.List.{list_any}
 use Rattle.std.specs.Cmp.Rules.{signed_items}
@@ -83,7 +84,8 @@ rings_more rings i ring there is =
 
 -- no edge passes a test so far, and the next one does not either
 pub none_more : (test : Ends → Bool) (at : List (Point 2)) (i : ℕ) (a b : Point 2) → 1 ≤ i → i < length at → a ≡ get_or at (i - 1) a → b ≡ get_or at i b
-    → list_any test (edges_of (coordinates_of (take i at))) ≡ false → test (a.c, b.c) ≡ false → list_any test (edges_of (coordinates_of (take (i + 1) at))) ≡ false
+    → list_any test (edges_of (coordinates_of (take i at))) ≡ false → test (a.c, b.c) ≡ false
+    → list_any test (edges_of (coordinates_of (take (i + 1) at))) ≡ false
 none_more test at i a b s h p q none e =
     ap (list_any test) (edges_more at i a b s h p q) ∙ list_any-append test (edges_of (coordinates_of (take i at))) ((a.c, b.c) ∷ [])
     ∙ or_from (list_any test (edges_of (coordinates_of (take i at)))) (test (a.c, b.c) || false) none (or_from (test (a.c, b.c)) false e refl)

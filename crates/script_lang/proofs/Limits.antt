@@ -7,7 +7,9 @@ use Rattle.polygon_query.specs.GeoJson.{polygon_of}
 use Rattle.polygon_query.specs.declared.geo_json.GeoFault.{GeoFault}
 use Rattle.script_lang.specs.Requests.{Request}
 use Rattle.script_lang.specs.Requests as asks
-use Rattle.script_lang.specs.Reading.{Reading, Says, Fails, greatest_leaf, is_from_to, on_success, value_of, values_of, onto_values, points_of, corners_of, box_of, query_of, name_of, word_alone, created, read_create, read_add, read_delete, read_box, nearest_of, read_nearest, behind_view, polygon_fault, rings_of, read_polygon, read_merge, read_command, text_of}
+use Rattle.script_lang.specs.Reading.{Reading, Says, Fails, greatest_leaf, is_from_to, on_success, value_of, values_of, onto_values, points_of}
+use Rattle.script_lang.specs.Reading.{corners_of, box_of, query_of, name_of, word_alone, created, read_create, read_add, read_delete, read_box}
+use Rattle.script_lang.specs.Reading.{nearest_of, read_nearest, behind_view, polygon_fault, rings_of, read_polygon, read_merge, read_command, text_of}
 use Rattle.script_lang.specs.Seen.{IsWithinLimits, Agrees, request_of, first_request_of}
 use Rattle.script_lang.specs.Parts.{first_reading_of}
 use Rattle.script_lang.specs.declared.commands.Command.{Command}
@@ -56,7 +58,8 @@ given_fine {X} {part = Ok x} {next} p fine = fine x
 given_fine {X} {part = Err f} {next} p fine = fails f p.remembers
 
 value_part : {X : Type 0} (value : List ℕ → Option X) (place : ℕ) (word : List ℕ) → IsPart (value_of value place word)
-value_part value place word = elim (value word) as (λ v. IsPart (ok_or v (fault.Number place))) [ Some x ↦ there x | None ↦ not_there (fault.Number place) (λ e. cc) ]
+value_part value place word =
+    elim (value word) as (λ v. IsPart (ok_or v (fault.Number place))) [ Some x ↦ there x | None ↦ not_there (fault.Number place) (λ e. cc) ]
 
 onto_part : {X : Type 0} (one : Result X LineFault) (others : Result (List X) LineFault) → IsPart one → IsPart others → IsPart (onto_values one others)
 onto_part (Err f) others first rest = not_there f first.remembers

@@ -1,5 +1,6 @@
 -- Points, read one after the other.
-use Rattle.std.proofs.Common.{◌≡◌, ℕ, ℤ, zero, suc, ◌+◌, ◌*◌, ◌≤◌, List, [], ◌∷◌, ◌++◌, length, drop, arith, refl, ap, sym, ◌∙◌, append_assoc, length-append, length-drop, take_all, add-one}
+use Rattle.std.proofs.Common.{◌≡◌, ℕ, ℤ, zero, suc, ◌+◌, ◌*◌, ◌≤◌, List, [], ◌∷◌, ◌++◌, length, drop, arith}
+use Rattle.std.proofs.Common.{refl, ap, sym, ◌∙◌, append_assoc, length-append, length-drop, take_all, add-one}
 use Rattle.std.proofs.lemmas.List.{append-nil, take-append-le, drop-append-le}
 use Rattle.std.proofs.Math.Nat.{suc-mul, zero-mul}
 use Rattle.number_text.specs.Number.{coordinate}

@@ -52,7 +52,8 @@ words-two : (w : List ℕ) → 0 < position_or_len is_blank w → position_or_le
     → words_of w ≡ take (position_or_len is_blank w) w ∷ words_of (after_first is_blank w)
 unfolding words_of
 words-two w some more =
-    rw (slice_split_first is_blank w 0 more) (kept (before_first is_blank w) (slice_split is_blank (after_first is_blank w)) (omega (arith, length-take-le (position_or_len is_blank w) w)))
+    rw (slice_split_first is_blank w 0 more)
+    (kept (before_first is_blank w) (slice_split is_blank (after_first is_blank w)) (omega (arith, length-take-le (position_or_len is_blank w) w)))
 
 words-one : (w : List ℕ) → 0 < length w → position_or_len is_blank w ≡ length w → words_of w ≡ w ∷ []
 unfolding words_of
@@ -108,4 +109,10 @@ pub words_fit : (text : List ℕ) → length (words_of text) ≤ length text + 1
 unfolding words_of
 words_fit text =
     let is_word : List ℕ → Bool = λ piece. nat_lt 0 (length piece) in
-    omega (arith, length-filter is_word (slice_split is_blank text), count_by-le-length is_word (slice_split is_blank text), length-slice_split is_blank text, count_by-le-length is_blank text)
+    omega (
+      arith,
+      length-filter is_word (slice_split is_blank text),
+      count_by-le-length is_word (slice_split is_blank text),
+      length-slice_split is_blank text,
+      count_by-le-length is_blank text,
+    )

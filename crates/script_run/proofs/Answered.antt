@@ -1,5 +1,6 @@
 -- The answer to one line, from what was read and what was done.
-use Rattle.std.proofs.Common.{◌≡◌, ◌≢◌, ℕ, Bool, true, false, if◌then◌else◌, List, ◌++◌, Some, None, Ok, Err, Result, IfOk, OnErr, IsErrOf, cond, refl, sym, ap, ◌∙◌, subst, ◌⊎◌, inl, inr}
+use Rattle.std.proofs.Common.{◌≡◌, ◌≢◌, ℕ, Bool, true, false, if◌then◌else◌, List, ◌++◌, Some, None, Ok, Err}
+use Rattle.std.proofs.Common.{Result, IfOk, OnErr, IsErrOf, cond, refl, sym, ap, ◌∙◌, subst, ◌⊎◌, inl, inr}
 use Rattle.outer_io.specs.Files.{Files}
 use Rattle.page_cache.specs.declared.faults.PageFault.{PageFault}
 use Rattle.page_cache.specs.declared.faults.PageFault.TheVariants as page
@@ -22,7 +23,7 @@ use Rattle.stored_index.proofs.KeptFiles.{stored_still}
 use Rattle.index_core.specs.Sessions.{SessionData, Guards}
 use Rattle.index_core.specs.Steps.{DoesOver, KeepsOver, Stores, is_committing}
 use Rattle.script_run.specs.LineAnswers.{IsAnswered, IsLeft, Replies, Stands}
-use Rattle.script_run.proofs.Lined.{line_at}
+use Rattle.script_run.proofs.SoFar.{line_at}
 use Rattle.script_run.specs.Languages.{Heard, answer, answer_of, asks_commit, commits, heard, meaning}
 use Rattle.script_run.specs.Script.{final, stored_by}
 use Rattle.script_run.specs.declared.language.Language.{Language}
@@ -157,13 +158,15 @@ rests number i (asks.Snapshot name) e = no_commit e
 rests number i (asks.Release name) e = no_commit e
 
 -- what is stored after a command that was answered: where it commits, the index at rest
-stored_done : {T : Type 0} (old new : Files) (i : Index) (stored after : State) (t : SessionData) (x : T) (b : Bool) → IsStored old stored → (b ≡ true → Some (at_rest i) ≡ after)
+stored_done : {T : Type 0} (old new : Files) (i : Index) (stored after : State) (t : SessionData) (x : T) (b : Bool) → IsStored old stored
+    → (b ≡ true → Some (at_rest i) ≡ after)
     → KeepsOver b old new t (Ok x) → (b ≡ true → Stores old new i t.set (Ok x)) → IsStored new (if b then after else stored)
 stored_done old new i stored after t x false h rest keeps stores = stored_still old new stored keeps h
 stored_done old new i stored after t x true h rest keeps stores = subst (IsStored new) (rest refl) (stores refl).0
 
 -- after a fault it may be
-stored_left : (T : Type 0) (old new : Files) (i : Index) (stored after : State) (t : SessionData) (e : PageFault) (b : Bool) → IsStored old stored → (b ≡ true → Some (at_rest i) ≡ after)
+stored_left : (T : Type 0) (old new : Files) (i : Index) (stored after : State) (t : SessionData) (e : PageFault) (b : Bool) → IsStored old stored
+    → (b ≡ true → Some (at_rest i) ≡ after)
     → KeepsOver {T = T} b old new t (Err e) → (b ≡ true → Stores {T = T} old new i t.set (Err e)) → IsStored new stored ⊎ ((b ≡ true) × IsStored new after)
 stored_left T old new i stored after t e false h rest keeps stores = inl (stored_still old new stored keeps h)
 stored_left T old new i stored after t e true h rest keeps stores =
@@ -173,12 +176,14 @@ stored_left T old new i stored after t e true h rest keeps stores =
     ]
 
 -- where a command was answered it is
-stored_untold : {T : Type 0} (old new : Files) (i : Index) (stored after : State) (t : SessionData) (x : T) (b : Bool) → IsStored old stored → (b ≡ true → Some (at_rest i) ≡ after)
+stored_untold : {T : Type 0} (old new : Files) (i : Index) (stored after : State) (t : SessionData) (x : T) (b : Bool) → IsStored old stored
+    → (b ≡ true → Some (at_rest i) ≡ after)
     → KeepsOver b old new t (Ok x) → (b ≡ true → Stores old new i t.set (Ok x)) → IsStored new stored ⊎ ((b ≡ true) × IsStored new after)
 stored_untold old new i stored after t x false h rest keeps stores = inl (stored_still old new stored keeps h)
 stored_untold old new i stored after t x true h rest keeps stores = inr (refl, subst (IsStored new) (rest refl) (stores refl).0)
 
-by_done : (D number : ℕ) (o : Outcome) (i : Index) (new : Files) (t : SessionData) (kept : State) (before after : List ℕ) → DoesOver D new o i t.set before after (Ok applied.Done)
+by_done : (D number : ℕ) (o : Outcome) (i : Index) (new : Files) (t : SessionData) (kept : State) (before after : List ℕ)
+    → DoesOver D new o i t.set before after (Ok applied.Done)
     → Guards D new t → IsStored new kept → IsAnswered D (answer_to number (Some i) o) kept new t false × (after ≡ before ++ (answer_to number (Some i) o).text)
 by_done D number (Done state text) i new t kept before after h guards stored = (
   record { index = h.0.0; state = h.0.1; stands = record { seen = h.0.2; guards = guards; keeps = stored }; refused = refl },
@@ -196,7 +201,8 @@ by_refused D number (Refused cause) i new t kept before middle after why h text 
 )
 
 -- a line that was read, before a session that does its request
-module _ (lang : Language) (D : ℕ) (old new : Files) (s t : SessionData) (i : Index) (stored : State) (number : ℕ) (bytes : List ℕ) (r : Request) (before : List ℕ)
+module _ (lang : Language) (D : ℕ) (old new : Files) (s t : SessionData) (i : Index) (stored : State) (number : ℕ) (bytes : List ℕ) (r : Request)
+    (before : List ℕ)
     (h : Stands D old s i stored) (reads : heard lang (Some D) bytes ≡ Ok r) where
   answer_says : answer lang number (Some i) bytes ≡ answer_to number (Some i) (step_on i r)
   answer_says = answer_is lang number i D bytes (Ok r) h.seen.dims reads
@@ -204,7 +210,8 @@ module _ (lang : Language) (D : ℕ) (old new : Files) (s t : SessionData) (i : 
   commits_says : commits lang (Some i) bytes ≡ is_committing r
   commits_says = commits_is lang i D bytes (Ok r) h.seen.dims reads ∙ same_test r
 
-  stored_says : stored_by (meaning lang) number stored (Some i) bytes ≡ (if is_committing r then final (answer_to number (Some i) (step_on i r)).state else stored)
+  stored_says : stored_by (meaning lang) number stored (Some i) bytes
+      ≡ (if is_committing r then final (answer_to number (Some i) (step_on i r)).state else stored)
   stored_says = (λ j. if commits_says j then final (answer_says j).state else stored)
 
   kept_done : (x : Applied) → KeepsOver (is_committing r) old new t (Ok x) → (is_committing r ≡ true → Stores old new i t.set (Ok x))
@@ -217,14 +224,17 @@ module _ (lang : Language) (D : ℕ) (old new : Files) (s t : SessionData) (i : 
       → Replies lang D (line_at number i stored bytes) new t before after (Ok false)
   done_replies after does guards keeps stores =
       subst (λ a. IsAnswered D a (stored_by (meaning lang) number stored (Some i) bytes) new t false × (after ≡ before ++ a.text)) (sym answer_says)
-      (by_done D number (step_on i r) i new t (stored_by (meaning lang) number stored (Some i) bytes) before after does guards (kept_done applied.Done keeps stores))
+      (by_done D number (step_on i r) i new t (stored_by (meaning lang) number stored (Some i) bytes) before after does guards
+      (kept_done applied.Done keeps stores))
 
-  refused_true : (middle after : List ℕ) (why : Refusal) → DoesOver D new (step_on i r) i t.set before middle (Ok (applied.Refused why)) → after ≡ middle ++ refused_text number why → Guards D new t
+  refused_true : (middle after : List ℕ) (why : Refusal) → DoesOver D new (step_on i r) i t.set before middle (Ok (applied.Refused why))
+      → after ≡ middle ++ refused_text number why → Guards D new t
       → KeepsOver (is_committing r) old new t (Ok (applied.Refused why)) → (is_committing r ≡ true → Stores old new i t.set (Ok (applied.Refused why)))
       → Replies lang D (line_at number i stored bytes) new t before after (Ok true)
   refused_true middle after why does text guards keeps stores =
       subst (λ a. IsAnswered D a (stored_by (meaning lang) number stored (Some i) bytes) new t true × (after ≡ before ++ a.text)) (sym answer_says)
-      (by_refused D number (step_on i r) i new t (stored_by (meaning lang) number stored (Some i) bytes) before middle after why does text guards (kept_done (applied.Refused why) keeps stores))
+      (by_refused D number (step_on i r) i new t (stored_by (meaning lang) number stored (Some i) bytes) before middle after why does text guards
+      (kept_done (applied.Refused why) keeps stores))
 
   left_says : IsStored new stored ⊎ ((is_committing r ≡ true) × IsStored new (final (answer_to number (Some i) (step_on i r)).state))
       → IsLeft lang (line_at number i stored bytes) new
@@ -240,7 +250,8 @@ module _ (lang : Language) (D : ℕ) (old new : Files) (s t : SessionData) (i : 
   pub fault_replies : (after : List ℕ) (e : PageFault) → FaultShows (λ _. ⊥) e → KeepsOver {T = Applied} (is_committing r) old new t (Err e)
       → (is_committing r ≡ true → Stores {T = Applied} old new i t.set (Err e)) → Replies lang D (line_at number i stored bytes) new t before after (Err e)
   fault_replies after e whole keeps stores = fault_left after e whole
-      (left_says (stored_left Applied old new i stored (final (answer_to number (Some i) (step_on i r)).state) t e (is_committing r) h.keeps (rests number i r) keeps stores))
+      (left_says (stored_left Applied old new i stored (final (answer_to number (Some i) (step_on i r)).state) t e (is_committing r) h.keeps (rests number i r)
+      keeps stores))
 
   -- the answer of a refused command found no memory
   pub untold_replies : (after : List ℕ) (x : Applied) → KeepsOver (is_committing r) old new t (Ok x) → (is_committing r ≡ true → Stores old new i t.set (Ok x))
@@ -250,10 +261,15 @@ module _ (lang : Language) (D : ℕ) (old new : Files) (s t : SessionData) (i : 
 
   pub refused_replies : (middle after : List ℕ) (why : Refusal) → DoesOver D new (step_on i r) i t.set before middle (Ok (applied.Refused why)) → Guards D new t
       → KeepsOver (is_committing r) old new t (Ok (applied.Refused why)) → (is_committing r ≡ true → Stores old new i t.set (Ok (applied.Refused why)))
-      → (result : Result Bool PageFault) → IfOk result (λ x. (x ≡ true) × (after ≡ middle ++ refused_text number why)) → OnErr result (IsErrOf result page.Memory)
+      → (result : Result Bool PageFault) → IfOk result (λ x. (x ≡ true) × (after ≡ middle ++ refused_text number why))
+      → OnErr result (IsErrOf result page.Memory)
       → Replies lang D (line_at number i stored bytes) new t before after result
   refused_replies middle after why does guards keeps stores (Ok x) ok memory =
-      subst (λ y. Replies lang D (line_at number i stored bytes) new t before after (Ok y)) (sym ok.0) (refused_true middle after why does ok.1 guards keeps stores)
+      subst (λ y. Replies lang D (line_at number i stored bytes) new t before after (Ok y)) (sym ok.0)
+      (refused_true middle after why does ok.1 guards keeps stores)
   refused_replies middle after why does guards keeps stores (Err page.Memory) ok memory = untold_replies after (applied.Refused why) keeps stores
-  refused_replies middle after why does guards keeps stores (Err page.Failed) ok memory = let e : IsErrOf {T = Bool} (Err page.Failed) page.Memory = memory in absurd cc
-  refused_replies middle after why does guards keeps stores (Err (page.Damaged damage)) ok memory = let e : IsErrOf {T = Bool} (Err (page.Damaged damage)) page.Memory = memory in absurd cc
+  refused_replies middle after why does guards keeps stores (Err page.Failed) ok memory =
+      let e : IsErrOf {T = Bool} (Err page.Failed) page.Memory = memory in
+      absurd cc
+  refused_replies middle after why does guards keeps stores (Err (page.Damaged damage)) ok memory =
+      let e : IsErrOf {T = Bool} (Err (page.Damaged damage)) page.Memory = memory in absurd cc

@@ -1,21 +1,20 @@
 -- What lines ask for, and what becomes of the index.
-use Rattle.std.proofs.Common.{◌≡◌, ◌≤◌, ◌+◌, ◌^◌, ◌<◌, ℕ, Bool, true, false, not, if◌then◌else◌, nat_lt, nat_le, List, [], ◌∷◌, ◌++◌, length, filter, Option, None, Some, Ok, Err, refl, sym, ap, subst, ◌∙◌, ◌⊎◌, inl, inr, arith, ℤ}
+use Rattle.std.proofs.Common.{◌≡◌, ◌≤◌, ◌+◌, ◌^◌, ◌<◌, ℕ, Bool, true, false, not, if◌then◌else◌, nat_lt, nat_le, List, [], ◌∷◌}
+use Rattle.std.proofs.Common.{◌++◌, length, filter, Option, None, Some, Ok, Err, refl, sym, ap, subst, ◌∙◌, ◌⊎◌, inl, inr, arith, ℤ}
 use Rattle.std.specs.Prelude.{is_some}
 use Rattle.std.specs.Option.{option_map}
 use Rattle.std.specs.Str.{bytes_eq}
 use Rattle.std.proofs.lemmas.Bool.Decides.{nat_tests}
 use Rattle.documents.specs.Documents.{Document}
-use Rattle.segment_file.specs.Heads.{Head}
 use Rattle.script_lang.specs.Requests.{Request}
 use Rattle.script_lang.specs.Requests as asks
 use Rattle.script_lang.specs.Replies.{doc_text}
-use Rattle.script_lang.specs.declared.faults.LineFault.{LineFault}
 use Rattle.script_lang.specs.declared.faults.Refusal.TheVariants as why
 use Rattle.index_model.specs.State.{Index, State, snapshot_of, viewed_docs}
 use Rattle.index_model.specs.Step.{Outcome, Done, Refused, answered, done_ok, step, step_on}
 use Rattle.index_model.specs.Script.{Answer, answer_to}
 use Rattle.index_core.specs.Light.{is_light, points_in}
-use Rattle.script_run.specs.Costs.{AllAsk, AsksOnly, TouchesLine, TouchesLines, begins_no_merge, given_of, is_query}
+use Rattle.script_run.specs.Costs.{AsksOnly, begins_no_merge, given_of, is_query}
 use Rattle.script_run.specs.Languages.{Heard, answer, answer_of, heard, meaning}
 use Rattle.script_run.specs.Script.{state_after}
 use Rattle.script_run.specs.declared.language.Language.{Language}
@@ -55,7 +54,9 @@ Asks test i r = IsRefusal (step_on i r) ⊎ (test r ≡ true)
 
 -- what requests that may be refused leave, where they aren't
 abbrev pub more : List (List ℤ) → Index → Outcome
-more points i = Done (Some (record i { next = i.next + 1; given = i.given + length points; docs = i.docs ++ record { number = i.next; points = points } ∷ [] })) (doc_text i.next)
+more points i =
+    Done (Some (record i { next = i.next + 1; given = i.given + length points; docs = i.docs ++ record { number = i.next; points = points } ∷ [] }))
+    (doc_text i.next)
 
 abbrev pub taken : List ℕ → Index → Outcome
 taken name i = done_ok (record i { snapshots = i.snapshots ++ record { name = name; docs = i.docs } ∷ [] })
@@ -86,7 +87,8 @@ pub begin_refused : (b : Bool) (j : Outcome) → b ≡ false → IsRefusal (if b
 begin_refused true j e h = absurd cc
 begin_refused false j e h = h
 
-begun_rests : (line : ℕ) (i : Index) (b : Bool) (j : Outcome) → b ≡ false → (IsRefusal j → ⊥) → IsRefusal (if b then Refused why.Begun else j) → Rested (answer_to line (Some i) (if b then Refused why.Begun else j)).state
+begun_rests : (line : ℕ) (i : Index) (b : Bool) (j : Outcome) → b ≡ false → (IsRefusal j → ⊥) → IsRefusal (if b then Refused why.Begun else j)
+    → Rested (answer_to line (Some i) (if b then Refused why.Begun else j)).state
 begun_rests line i b j e none h = absurd (none (begin_refused b j e h))
 
 -- only `merge begin` begins one
@@ -100,7 +102,8 @@ request_rests line i (asks.MergeBegin positions) (inl h) e = begun_rests line i 
 request_rests line i (asks.MergeBegin positions) (inr t) e = no t
 request_rests line i asks.MergeEnd ask e = either Rested line i i.begun (done_ok (record i { begun = false })) (Refused why.NotBegun) refl e
 request_rests line i (asks.Snapshot name) ask e =
-    either Rested line i (is_taken name i) (Refused why.NameTaken) (taken_if name i) e (either Rested line i (are_many i) (Refused why.TooManySnapshots) (taken name i) e e)
+    either Rested line i (is_taken name i) (Refused why.NameTaken) (taken_if name i) e
+    (either Rested line i (are_many i) (Refused why.TooManySnapshots) (taken name i) e e)
 request_rests line i (asks.Release name) ask e = either Rested line i (is_taken name i) (let_go name i) (Refused why.UnknownSnapshot) e e
 request_rests line i asks.Reopen ask e = refl
 request_rests line i r ask e = e
@@ -116,12 +119,15 @@ request_gives line i (asks.Add points) = either (Grows i.given) line i (is_full 
 request_gives line i (asks.InBox view lo hi) = queried (Grows i.given) line i (viewed_docs view i) _ (omega arith)
 request_gives line i (asks.InPolygon view rings) = queried (Grows i.given) line i (viewed_docs view i) _ (omega arith)
 request_gives line i (asks.Nearest view k at) = queried (Grows i.given) line i (viewed_docs view i) _ (omega arith)
-request_gives line i (asks.MergeBegin positions) = either (Grows i.given) line i i.begun (Refused why.Begun) (done_ok (record i { begun = true })) (omega arith) (omega arith)
-request_gives line i asks.MergeEnd = either (Grows i.given) line i i.begun (done_ok (record i { begun = false })) (Refused why.NotBegun) (omega arith) (omega arith)
+request_gives line i (asks.MergeBegin positions) =
+    either (Grows i.given) line i i.begun (Refused why.Begun) (done_ok (record i { begun = true })) (omega arith) (omega arith)
+request_gives line i asks.MergeEnd =
+    either (Grows i.given) line i i.begun (done_ok (record i { begun = false })) (Refused why.NotBegun) (omega arith) (omega arith)
 request_gives line i (asks.Snapshot name) =
     either (Grows i.given) line i (is_taken name i) (Refused why.NameTaken) (taken_if name i) (omega arith)
     (either (Grows i.given) line i (are_many i) (Refused why.TooManySnapshots) (taken name i) (omega arith) (omega arith))
-request_gives line i (asks.Release name) = either (Grows i.given) line i (is_taken name i) (let_go name i) (Refused why.UnknownSnapshot) (omega arith) (omega arith)
+request_gives line i (asks.Release name) =
+    either (Grows i.given) line i (is_taken name i) (let_go name i) (Refused why.UnknownSnapshot) (omega arith) (omega arith)
 request_gives line i r = omega arith
 
 -- where it is done, as many more as the request adds
@@ -147,7 +153,8 @@ module _ (line : ℕ) (i : Index) where
   light_gives (asks.Snapshot name) light done =
       both 0 (is_taken name i) (Refused why.NameTaken) (taken_if name i) (λ d. absurd (d tt))
       (both 0 (are_many i) (Refused why.TooManySnapshots) (taken name i) (λ d. absurd (d tt)) (λ d. omega arith)) done
-  light_gives (asks.Release name) light done = both 0 (is_taken name i) (let_go name i) (Refused why.UnknownSnapshot) (λ d. omega arith) (λ d. absurd (d tt)) done
+  light_gives (asks.Release name) light done =
+      both 0 (is_taken name i) (let_go name i) (Refused why.UnknownSnapshot) (λ d. omega arith) (λ d. absurd (d tt)) done
   light_gives asks.Blank light done = omega arith
   light_gives (asks.Delete doc) light done = omega arith
   light_gives (asks.DeleteBox lo hi) light done = no light
@@ -167,12 +174,14 @@ pub full_of : (i : Index) (points : List (List ℤ)) → IsRefusal (step_on i (a
 unfolding step_on
 full_of i points h = full_by (i.given + length points) (is_full points i) (more points i) refl (λ f. f) h
 
-added_by : (line : ℕ) (i : Index) (n : ℕ) (b : Bool) (o : Outcome) → given_of (answer_to line (Some i) o).state ≡ n → IsRefusal (if b then Refused why.Full else o) ⊎ (given_of (answer_to line (Some i) (if b then Refused why.Full else o)).state ≡ n)
+added_by : (line : ℕ) (i : Index) (n : ℕ) (b : Bool) (o : Outcome) → given_of (answer_to line (Some i) o).state ≡ n
+    → IsRefusal (if b then Refused why.Full else o) ⊎ (given_of (answer_to line (Some i) (if b then Refused why.Full else o)).state ≡ n)
 added_by line i n true o e = inl tt
 added_by line i n false o e = inr e
 
 -- and else they are given
-pub full_or_given : (line : ℕ) (i : Index) (points : List (List ℤ)) → IsRefusal (step_on i (asks.Add points)) ⊎ (given_of (answer_to line (Some i) (step_on i (asks.Add points))).state ≡ i.given + length points)
+pub full_or_given : (line : ℕ) (i : Index) (points : List (List ℤ))
+    → IsRefusal (step_on i (asks.Add points)) ⊎ (given_of (answer_to line (Some i) (step_on i (asks.Add points))).state ≡ i.given + length points)
 unfolding step_on
 full_or_given line i points = added_by line i (i.given + length points) (is_full points i) (more points i) refl
 
@@ -192,7 +201,8 @@ request_stays line i r (inl h) = refusal_state line (Some i) (step_on i r) h
 request_stays line i r (inr q) = query_request line i r q
 
 -- without an index none makes one
-first_stays : (line : ℕ) (r : Request) → ((answer_to line None (step None r)).refused ≡ 1) ⊎ (is_query r ≡ true) → (answer_to line None (step None r)).state ≡ None
+first_stays : (line : ℕ) (r : Request) → ((answer_to line None (step None r)).refused ≡ 1) ⊎ (is_query r ≡ true)
+    → (answer_to line None (step None r)).state ≡ None
 first_stays line (asks.Create dims leaf) (inl e) = absurd (omega (arith, e))
 first_stays line (asks.Create dims leaf) (inr q) = no q
 first_stays line r ask = refl
@@ -223,14 +233,17 @@ says_inj q r e = cc
 -- what it asks, by what was read of it
 pub asked : (lang : Language) → (test : Request → Bool) (line : ℕ) (i : Index) (bytes : List ℕ) (r : Request) → heard lang (Some i.dims) bytes ≡ Ok r
     → AsksOnly lang test line (Some i) bytes → Asks test i r
-asked lang test line i bytes r is (inl refused) = inl (refusal_of line (Some i) (step_on i r) (sym (ap (λ (a : Answer). a.refused) (answer_is lang line (Some i) bytes (Ok r) is)) ∙ refused))
+asked lang test line i bytes r is (inl refused) =
+    inl (refusal_of line (Some i) (step_on i r) (sym (ap (λ (a : Answer). a.refused) (answer_is lang line (Some i) bytes (Ok r) is)) ∙ refused))
 asked lang test line i bytes r is (inr (q, says, t)) = inr (subst (λ (x : Request). test x ≡ true) (says_inj q r (sym says ∙ is)) t)
 
 -- what holds of the state after each request that asks so, and of the state before, holds after the line
-module _ (lang : Language) (P : State → Type 0) (test : Request → Bool) (line : ℕ) (i : Index) (bytes : List ℕ) (here : P (Some i)) (there : (r : Request) → Asks test i r → P (answer_to line (Some i) (step_on i r)).state)
+module _ (lang : Language) (P : State → Type 0) (test : Request → Bool) (line : ℕ) (i : Index) (bytes : List ℕ) (here : P (Some i))
+    (there : (r : Request) → Asks test i r → P (answer_to line (Some i) (step_on i r)).state)
     (ask : AsksOnly lang test line (Some i) bytes) where
   by_reading : (reading : Heard) → heard lang (Some i.dims) bytes ≡ reading → P (answer lang line (Some i) bytes).state
-  by_reading (Ok r) is = subst (λ (a : Answer). P a.state) (sym (answer_is lang line (Some i) bytes (Ok r) is)) (there r (asked lang test line i bytes r is ask))
+  by_reading (Ok r) is =
+      subst (λ (a : Answer). P a.state) (sym (answer_is lang line (Some i) bytes (Ok r) is)) (there r (asked lang test line i bytes r is ask))
   by_reading (Err f) is = subst (λ (a : Answer). P a.state) (sym (answer_is lang line (Some i) bytes (Err f) is)) here
 
   by_line : P (answer lang line (Some i) bytes).state
@@ -274,40 +287,3 @@ unread_state lang line i bytes f fails = ap (λ (a : Answer). a.state) (answer_i
 pub read_state : (lang : Language) → (line : ℕ) (i : Index) (bytes : List ℕ) (r : Request) → heard lang (Some i.dims) bytes ≡ Ok r
     → answer lang line (Some i) bytes ≡ answer_to line (Some i) (step_on i r)
 read_state lang line i bytes r is = answer_is lang line (Some i) bytes (Ok r) is
-
--- ---- lines
-
-asks_weaker : (lang : Language) → (t u : Request → Bool) → ((r : Request) → t r ≡ true → u r ≡ true) → (line : ℕ) (state : State) (bytes : List ℕ)
-    → AsksOnly lang t line state bytes → AsksOnly lang u line state bytes
-asks_weaker lang t u weaker line state bytes (inl refused) = inl refused
-asks_weaker lang t u weaker line state bytes (inr (r, says, test)) = inr (r, says, weaker r test)
-
-pub all_weaker : (lang : Language) → (t u : Request → Bool) → ((r : Request) → t r ≡ true → u r ≡ true) → (line : ℕ) (state : State) (lines : List (List ℕ))
-    → AllAsk lang t line state lines → AllAsk lang u line state lines
-all_weaker lang t u weaker line state [] h = tt
-all_weaker lang t u weaker line state (l ∷ ls) h = (asks_weaker lang t u weaker line state l h.0, all_weaker lang t u weaker (line + 1) (answer lang line state l).state ls h.1)
-
--- queries leave the state
-pub queries_stay : (lang : Language) → (line : ℕ) (state : State) (lines : List (List ℕ)) → AllAsk lang is_query line state lines
-    → state_after (meaning lang) line state lines ≡ state
-queries_stay lang line state [] h = refl
-queries_stay lang line state (l ∷ ls) h = queries_stay lang (line + 1) (answer lang line state l).state ls h.1 ∙ query_stays lang line state l h.0
-
-module _ (lang : Language) (line : ℕ) (state after : State) (lines : List (List ℕ)) (x : List ℕ) (more : List (List ℕ)) (is : lines ≡ x ∷ more)
-    (leads : (answer lang line state x).state ≡ after) where
-  pub all_first : (test : Request → Bool) → AllAsk lang test line state lines → AsksOnly lang test line state x
-  all_first test h = (subst (λ (ls : List (List ℕ)). AllAsk lang test line state ls) is h).0
-
-  pub all_rest : (test : Request → Bool) → AllAsk lang test line state lines → AllAsk lang test (line + 1) after more
-  all_rest test h = subst (λ (s : State). AllAsk lang test (line + 1) s more) leads (subst (λ (ls : List (List ℕ)). AllAsk lang test line state ls) is h).1
-
-  pub state_rest : state_after (meaning lang) (line + 1) after more ≡ state_after (meaning lang) line state lines
-  state_rest = ap (λ (s : State). state_after (meaning lang) (line + 1) s more) (sym leads) ∙ ap (state_after (meaning lang) line state) (sym is)
-
-  pub touches_parts : (heads : List Head) (n : ℕ) → TouchesLines lang heads line state lines n
-      → (first : ℕ) × (rest : ℕ) × TouchesLine lang heads state x first × TouchesLines lang heads (line + 1) after more rest × (n ≡ first + rest)
-  touches_parts heads n h = by (subst (λ (ls : List (List ℕ)). TouchesLines lang heads line state ls n) is h)
-    where
-      by : TouchesLines lang heads line state (x ∷ more) n
-          → (first : ℕ) × (rest : ℕ) × TouchesLine lang heads state x first × TouchesLines lang heads (line + 1) after more rest × (n ≡ first + rest)
-      by (first, rest, one, others, sum) = (first, rest, one, subst (λ (s : State). TouchesLines lang heads (line + 1) s more rest) leads others, sum)

@@ -62,7 +62,8 @@ fault_keeps old new (page.Damaged damage) h = h
 
 -- ---- lines of which none asks for a commit
 
-pub kept_quiet : {T : Type 0} (committing : Bool) (old new : Files) (s : SessionData) (r : Result T PageFault) → committing ≡ false → KeepsOver committing old new s r → SameKept old new
+pub kept_quiet : {T : Type 0} (committing : Bool) (old new : Files) (s : SessionData) (r : Result T PageFault) → committing ≡ false
+    → KeepsOver committing old new s r → SameKept old new
 kept_quiet false old new s r quiet kept = kept
 kept_quiet true old new s r quiet kept = absurd cc
 
@@ -101,4 +102,5 @@ no_commit files c says none = let there = (file_there (files Commit) c says).0 i
 -- the commit that was read is the one that the file says
 pub quiet_for : (lang : Language) → (files : Files) (c read : CommitData) (lines : List (List ℕ)) → IsCommitFile (bytes_of (files Commit)) c
     → IsCommitFile (bytes_of (files Commit)) read → NoneCommits lang c.dims lines → NoneCommits lang read.dims lines
-quiet_for lang files c read lines says found quiet = subst (λ (d : CommitData). NoneCommits lang d.dims lines) (one_file (bytes_of (files Commit)) c read says found) quiet
+quiet_for lang files c read lines says found quiet =
+    subst (λ (d : CommitData). NoneCommits lang d.dims lines) (one_file (bytes_of (files Commit)) c read says found) quiet

@@ -41,11 +41,14 @@ is_empty (x ∷ xs) = inr (λ e. absurd cc)
 
 as_committed : (s : SetData) (c : CommitData) → OrNot (IsAsCommitted s c)
 as_committed s c = or_as
-    (λ (h : ((s.next ≡ c.next) × (s.given ≡ c.given)) × ((ids_of s.parts ≡ map (λ (l : Listed). l.segment) c.listed) × (map (λ (p : Part). length p.live.live) s.parts ≡ map (λ (l : Listed). l.live) c.listed)) × (s.buffer ≡ [])).
+    (λ (h : ((s.next ≡ c.next) × (s.given ≡ c.given))
+    × ((ids_of s.parts ≡ map (λ (l : Listed). l.segment) c.listed) × (map (λ (p : Part). length p.live.live) s.parts ≡ map (λ (l : Listed). l.live) c.listed))
+    × (s.buffer ≡ [])).
     record { next = h.0.0; given = h.0.1; ids = h.1.0; counts = h.1.1; empty = h.2 })
     (λ (a : IsAsCommitted s c). ((a.next, a.given), (a.ids, a.counts), a.empty))
     (three (and_too (same_numbers s.next c.next) (same_numbers s.given c.given))
-    (and_too (same_lists (ids_of s.parts) (map (λ (l : Listed). l.segment) c.listed)) (same_lists (map (λ (p : Part). length p.live.live) s.parts) (map (λ (l : Listed). l.live) c.listed)))
+    (and_too (same_lists (ids_of s.parts) (map (λ (l : Listed). l.segment) c.listed))
+    (same_lists (map (λ (p : Part). length p.live.live) s.parts) (map (λ (l : Listed). l.live) c.listed)))
     (is_empty s.buffer))
   where
     three : {P Q R : Type 0} → OrNot P → OrNot Q → OrNot R → OrNot (P × Q × R)

@@ -78,7 +78,8 @@ pub rose_from : (a b c : ℕ) → a ≤ b → Rose b c → Rose a c
 rose_from a b c h r = grind (arith)
 
 -- causes from an earlier call on
-pub cause_from : {T : Type 0} (f0 f1 f2 k0 k1 k2 : ℕ) (result : Result T Stop) → f0 ≤ f1 → k0 ≤ k1 → HasStopCause f1 f2 k1 k2 result → HasStopCause f0 f2 k0 k2 result
+pub cause_from : {T : Type 0} (f0 f1 f2 k0 k1 k2 : ℕ) (result : Result T Stop) → f0 ≤ f1 → k0 ≤ k1 → HasStopCause f1 f2 k1 k2 result
+    → HasStopCause f0 f2 k0 k2 result
 cause_from f0 f1 f2 k0 k1 k2 result f k h = record {
   folder_later = omega (arith, f, h.folder_later);
   sink_later = omega (arith, k, h.sink_later);

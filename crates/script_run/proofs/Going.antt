@@ -1,5 +1,6 @@
 -- How the lines of a script are joined to those before them.
-use Rattle.std.proofs.Common.{◌≡◌, ℕ, suc, ◌+◌, List, [], ◌∷◌, ◌++◌, length, Result, Ok, Err, refl, sym, ap, ◌∙◌, subst, ◌⊎◌, append_assoc, append-nil, add_assoc, zero-add, add-zero, arith, length-append, ◌≤◌, Bool, true, false, cond}
+use Rattle.std.proofs.Common.{◌≡◌, ℕ, suc, ◌+◌, List, [], ◌∷◌, ◌++◌, length, Result, Ok, Err, refl, sym, ap, ◌∙◌, subst, ◌⊎◌}
+use Rattle.std.proofs.Common.{append_assoc, append-nil, add_assoc, zero-add, add-zero, arith, length-append, ◌≤◌, Bool, true, false, cond}
 use mir.Val.{bool_byte}
 use Rattle.outer_io.specs.Files.{Files}
 use Rattle.outer_io.specs.Parts.{WritesPart}
@@ -32,7 +33,8 @@ stored_append : (m : Meaning) → (line : ℕ) (stored state : State) (xs ys : L
 stored_append m line stored state [] ys = ap (λ n. stored_after m n stored state ys) (sym (add-zero line))
 stored_append m line stored state (x ∷ xs) ys =
     stored_append m (line + 1) (stored_by m line stored state x) (m.answer line state x).state xs ys
-    ∙ ap (λ n. stored_after m n (stored_after m (line + 1) (stored_by m line stored state x) (m.answer line state x).state xs) (state_after m (line + 1) (m.answer line state x).state xs) ys)
+    ∙ ap (λ n. stored_after m n (stored_after m (line + 1) (stored_by m line stored state x) (m.answer line state x).state xs)
+    (state_after m (line + 1) (m.answer line state x).state xs) ys)
     (step_length line xs)
 
 text_append : (m : Meaning) → (line : ℕ) (state : State) (xs ys : List (List ℕ))
@@ -41,7 +43,8 @@ text_append m line state [] ys = ap (λ n. text_of m n state ys) (sym (add-zero 
 text_append m line state (x ∷ xs) ys =
     ap (λ t. (m.answer line state x).text ++ t)
     (text_append m (line + 1) (m.answer line state x).state xs ys
-    ∙ ap (λ n. text_of m (line + 1) (m.answer line state x).state xs ++ text_of m n (state_after m (line + 1) (m.answer line state x).state xs) ys) (step_length line xs))
+    ∙ ap (λ n. text_of m (line + 1) (m.answer line state x).state xs ++ text_of m n (state_after m (line + 1) (m.answer line state x).state xs) ys)
+    (step_length line xs))
     ∙ sym (append_assoc (m.answer line state x).text (text_of m (line + 1) (m.answer line state x).state xs) _)
 
 refused_append : (m : Meaning) → (line : ℕ) (state : State) (xs ys : List (List ℕ))
@@ -50,7 +53,8 @@ refused_append m line state [] ys = ap (λ n. refused_in m n state ys) (sym (add
 refused_append m line state (x ∷ xs) ys =
     ap (λ r. (m.answer line state x).refused + r)
     (refused_append m (line + 1) (m.answer line state x).state xs ys
-    ∙ ap (λ n. refused_in m (line + 1) (m.answer line state x).state xs + refused_in m n (state_after m (line + 1) (m.answer line state x).state xs) ys) (step_length line xs))
+    ∙ ap (λ n. refused_in m (line + 1) (m.answer line state x).state xs + refused_in m n (state_after m (line + 1) (m.answer line state x).state xs) ys)
+    (step_length line xs))
     ∙ sym (add_assoc (m.answer line state x).refused (refused_in m (line + 1) (m.answer line state x).state xs) _)
 
 -- ---- what ends from a later place on ends so from an earlier one on
@@ -76,7 +80,8 @@ module _ {told : Type 0} (m : Meaning) (a b : Place) (p : Progress m told a b) (
 
   refused_then : a.refused + refused_in m a.line a.state (p.done ++ xs) ≡ b.refused + refused_in m b.line b.state xs
   refused_then =
-      ap (λ r. a.refused + r) (refused_append m a.line a.state p.done xs ∙ (λ i. refused_in m a.line a.state p.done + refused_in m (sym p.line i) (sym p.state i) xs))
+      ap (λ r. a.refused + r)
+      (refused_append m a.line a.state p.done xs ∙ (λ i. refused_in m a.line a.state p.done + refused_in m (sym p.line i) (sym p.state i) xs))
       ∙ sym (add_assoc a.refused (refused_in m a.line a.state p.done) (refused_in m b.line b.state xs))
       ∙ ap (λ r. r + refused_in m b.line b.state xs) (sym p.refused)
 
@@ -95,20 +100,25 @@ module _ {told : Type 0} (m : Meaning) (a b : Place) (p : Progress m told a b) (
 
   stops_from : Stops m told b files new → Stops m told a files new
   stops_from s =
-      let one = subst (λ x. IsStored files x ⊎ InFlight m files (b.line + length s.done) (state_after m b.line b.state s.done) s.rest) (sym (stored_then m a b p s.done)) s.stored in
-      let two = subst (λ n. IsStored files (stored_after m a.line a.stored a.state (p.done ++ s.done)) ⊎ InFlight m files n (state_after m b.line b.state s.done) s.rest) (sym (line_then m a b p s.done)) one in
+      let one = subst (λ x. IsStored files x ⊎ InFlight m files (b.line + length s.done) (state_after m b.line b.state s.done) s.rest)
+      (sym (stored_then m a b p s.done)) s.stored in
+      let two = subst
+      (λ n. IsStored files (stored_after m a.line a.stored a.state (p.done ++ s.done)) ⊎ InFlight m files n (state_after m b.line b.state s.done) s.rest)
+      (sym (line_then m a b p s.done)) one in
       record {
         done = p.done ++ s.done;
         rest = s.rest;
         whole = whole_then m a b p s.done s.rest s.whole;
         text = λ t. s.text t ∙ text_then m a b p s.done t;
-        stored = subst (λ x. IsStored files (stored_after m a.line a.stored a.state (p.done ++ s.done)) ⊎ InFlight m files (a.line + length (p.done ++ s.done)) x s.rest)
+        stored = subst
+            (λ x. IsStored files (stored_after m a.line a.stored a.state (p.done ++ s.done)) ⊎ InFlight m files (a.line + length (p.done ++ s.done)) x s.rest)
             (sym (state_then m a b p s.done)) two;
       }
 
   breaks_from : Breaks m told b files new → Breaks m told a files new
   breaks_from s =
-      let at : m.answer (b.line + length s.done) (state_after m b.line b.state s.done) s.at ≡ m.answer (a.line + length (p.done ++ s.done)) (state_after m a.line a.state (p.done ++ s.done)) s.at
+      let at : m.answer (b.line + length s.done) (state_after m b.line b.state s.done) s.at
+      ≡ m.answer (a.line + length (p.done ++ s.done)) (state_after m a.line a.state (p.done ++ s.done)) s.at
       = (λ i. m.answer (sym (line_then m a b p s.done) i) (sym (state_then m a b p s.done) i) s.at) in
       record {
         done = p.done ++ s.done;
@@ -116,8 +126,10 @@ module _ {told : Type 0} (m : Meaning) (a b : Place) (p : Progress m told a b) (
         rest = s.rest;
         whole = whole_then m a b p s.done (s.at ∷ s.rest) s.whole;
         text = λ t. subst (λ x. WritesPart (a.written ++ text_of m a.line a.state (p.done ++ s.done)) new x.text) at
-            (subst (λ w. WritesPart w new (m.answer (b.line + length s.done) (state_after m b.line b.state s.done) s.at).text) (text_then m a b p s.done t) (s.text t));
-        stored = subst (IsStored files) (sym (ap (stored_after m a.line a.stored a.state) (append_assoc p.done s.done (s.at ∷ [])) ∙ stored_then m a b p (s.done ++ s.at ∷ []))) s.stored;
+            (subst (λ w. WritesPart w new (m.answer (b.line + length s.done) (state_after m b.line b.state s.done) s.at).text) (text_then m a b p s.done t)
+            (s.text t));
+        stored = subst (IsStored files)
+            (sym (ap (stored_after m a.line a.stored a.state) (append_assoc p.done s.done (s.at ∷ [])) ∙ stored_then m a b p (s.done ++ s.at ∷ []))) s.stored;
       }
 
   pub halts_from : Halts m told b files new → Halts m told a files new

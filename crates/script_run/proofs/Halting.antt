@@ -20,7 +20,8 @@ use Rattle.index_opening.specs.Evidence.{IsEvident}
 use Rattle.script_run.specs.Script.{Meaning}
 
 -- what holds of lines alone holds of them where they come from a source
-on_halted : {T : Type 0} (P : Result T Stop → Type 0) (Q : Type 0) (done : Result T Stop) (result : Result T Halt) → result ≡ halted done → P done → OnLines P Q result
+on_halted : {T : Type 0} (P : Result T Stop → Type 0) (Q : Type 0) (done : Result T Stop) (result : Result T Halt) → result ≡ halted done → P done
+    → OnLines P Q result
 on_halted {T} P Q done result is h = subst (OnLines P Q) (sym is) (by_done done h)
   where
     by_done : (done : Result T Stop) → P done → OnLines P Q (halted done)
@@ -31,17 +32,21 @@ pub halted_ends : (m : Meaning) → (told : Type 0) (p : Place) (files : Files) 
     → result ≡ halted done → EndsLines m told p files new done → EndsRead m told p files new result
 halted_ends m told p files new done result is h = on_halted (EndsLines m told p files new) (Halts m told p files new) done result is h
 
-pub halted_cause : {T : Type 0} (f0 f1 k0 k1 : ℕ) (done : Result T Stop) (result : Result T Halt) → result ≡ halted done → HasStopCause f0 f1 k0 k1 done → HasHaltCause f0 f1 k0 k1 result
+pub halted_cause : {T : Type 0} (f0 f1 k0 k1 : ℕ) (done : Result T Stop) (result : Result T Halt) → result ≡ halted done → HasStopCause f0 f1 k0 k1 done
+    → HasHaltCause f0 f1 k0 k1 result
 halted_cause f0 f1 k0 k1 done result is h = on_halted (HasStopCause f0 f1 k0 k1) ((f0 ≤ f1) × (k0 ≤ k1)) done result is h
 
-pub halted_shows : {T : Type 0} (P : Damage → Type 0) (done : Result T Stop) (result : Result T Halt) → result ≡ halted done → OnStopDamage done P → OnHaltDamage result P
+pub halted_shows : {T : Type 0} (P : Damage → Type 0) (done : Result T Stop) (result : Result T Halt) → result ≡ halted done → OnStopDamage done P
+    → OnHaltDamage result P
 halted_shows P done result is h = on_halted (λ d. OnStopDamage d P) (Unit {0}) done result is h
 
-pub halted_keeps : {T : Type 0} (old new : Files) (done : Result T Stop) (result : Result T Halt) → result ≡ halted done → StopKeeps old new done → HaltKeeps old new result
+pub halted_keeps : {T : Type 0} (old new : Files) (done : Result T Stop) (result : Result T Halt) → result ≡ halted done → StopKeeps old new done
+    → HaltKeeps old new result
 halted_keeps old new done result is h = on_halted (StopKeeps old new) (SameKept old new) done result is h
 
 -- causes from an earlier call on
-pub halt_cause_from : {T : Type 0} (f0 f1 f2 k0 k1 k2 : ℕ) (result : Result T Halt) → f0 ≤ f1 → k0 ≤ k1 → HasHaltCause f1 f2 k1 k2 result → HasHaltCause f0 f2 k0 k2 result
+pub halt_cause_from : {T : Type 0} (f0 f1 f2 k0 k1 k2 : ℕ) (result : Result T Halt) → f0 ≤ f1 → k0 ≤ k1 → HasHaltCause f1 f2 k1 k2 result
+    → HasHaltCause f0 f2 k0 k2 result
 halt_cause_from {T} f0 f1 f2 k0 k1 k2 (Ok x) f k h = cause_from {T = T} f0 f1 f2 k0 k1 k2 (Ok x) f k h
 halt_cause_from {T} f0 f1 f2 k0 k1 k2 (Err (halt.Stopped s)) f k h = cause_from {T = T} f0 f1 f2 k0 k1 k2 (Err s) f k h
 halt_cause_from {T} f0 f1 f2 k0 k1 k2 (Err halt.Source) f k h = (omega (arith, f, h.0), omega (arith, k, h.1))
@@ -71,7 +76,8 @@ halt_after {T} a b c (Err (halt.Stopped s)) first h = stop_after {T = T} a b c (
 halt_after {T} a b c (Err halt.Source) first h = kept_after a b c first h
 
 -- under another premise, over the same files
-pub halt_less : {X : Type 0} (S T : Type 0) (files : Files) (result : Result X Halt) → (T → S) → OnHaltDamage result (IsEvident S files) → OnHaltDamage result (IsEvident T files)
+pub halt_less : {X : Type 0} (S T : Type 0) (files : Files) (result : Result X Halt) → (T → S) → OnHaltDamage result (IsEvident S files)
+    → OnHaltDamage result (IsEvident T files)
 halt_less {X} S T files (Ok x) less h = tt
 halt_less {X} S T files (Err (halt.Stopped s)) less h = stop_less {X = X} S T files (Err s) less h
 halt_less {X} S T files (Err halt.Source) less h = tt

@@ -1,5 +1,6 @@
 -- What lines do on their way, one after the other, and with the commit at their end.
-use Rattle.std.proofs.Common.{◌≡◌, ◌≤◌, ◌<◌, ◌+◌, ◌&&◌, ℕ, Bool, true, false, not, cond, List, [], ◌∷◌, length, Option, None, Some, Result, Ok, Err, OnOk, refl, sym, ap, subst, ◌∙◌, ◌⊎◌, inl, inr, arith}
+use Rattle.std.proofs.Common.{◌≡◌, ◌≤◌, ◌<◌, ◌+◌, ◌&&◌, ℕ, Bool, true, false, not, cond, List, [], ◌∷◌, length, Option}
+use Rattle.std.proofs.Common.{None, Some, Result, Ok, Err, OnOk, refl, sym, ap, subst, ◌∙◌, ◌⊎◌, inl, inr, arith}
 use Rattle.std.specs.List.{count_by, zip}
 use Rattle.std.proofs.lemmas.List.Sums.{sum_by-cons}
 use Rattle.outer_io.specs.declared.file_name.FileName.TheVariants.{Commit}
@@ -20,7 +21,10 @@ use Rattle.index_core.proofs.Bringing.{brings_same, brings_then}
 use Rattle.index_core.proofs.Listed.{new_canonical}
 use Rattle.script_run.specs.Costs.{AllAsk, AreLight, HasRoomInLevels, TouchesLines, begins_no_merge, given_of, is_query}
 use Rattle.script_run.specs.Leads.{AreListed, Closes, HasRoom, Leads, Passes, Moment}
-use Rattle.script_run.proofs.Asking.{Rested, all_first, all_rest, all_weaker, light_begins, line_rests, lines_give, queries_stay, query_light, state_rest, touches_parts}
+use Rattle.script_run.proofs.Asking.{Rested, light_begins, line_rests}
+use Rattle.script_run.proofs.AskingLines.{all_first, all_rest, all_weaker}
+use Rattle.script_run.proofs.Asking.{lines_give, query_light}
+use Rattle.script_run.proofs.AskingLines.{queries_stay, state_rest, touches_parts}
 use Rattle.index_core.proofs.Undone.{begins_none}
 use Rattle.script_run.specs.Languages.{answer, meaning}
 use Rattle.script_run.specs.Script.{state_after}
@@ -37,7 +41,8 @@ levels_then f g h (inr (c, says, few)) (inl two) = inr (c, subst (λ (b : Option
 levels_then f g h first (inr few) = inr few
 
 -- where no merge is begun, the free segments of a level are all of it
-free_of : (level : ℕ) (parts : List Part) → free_count level (sizes_of parts) (pins_of None parts) ≡ count_by (λ (h : Head). is_of_level level h.entries) (heads_of parts)
+free_of : (level : ℕ) (parts : List Part)
+    → free_count level (sizes_of parts) (pins_of None parts) ≡ count_by (λ (h : Head). is_of_level level h.entries) (heads_of parts)
 unfolding free_count
 free_of level [] = refl
 free_of level (p ∷ ps) =
@@ -49,10 +54,12 @@ free_of level (p ∷ ps) =
     one true = refl
     one false = refl
 
-settled_by : (s : SetData) (begun : Option BegunMerge) (heads : List Head) → begun ≡ None → heads_of s.parts ≡ heads → HasRoomInLevels heads → (level : ℕ) → free_count level (sizes_of s.parts) (pins_of begun s.parts) < 10
+settled_by : (s : SetData) (begun : Option BegunMerge) (heads : List Head) → begun ≡ None → heads_of s.parts ≡ heads → HasRoomInLevels heads → (level : ℕ)
+    → free_count level (sizes_of s.parts) (pins_of begun s.parts) < 10
 settled_by s begun heads none same room level =
     let free : free_count level (sizes_of s.parts) (pins_of begun s.parts) ≡ count_by (λ (h : Head). is_of_level level h.entries) heads
-    = ap (λ b. free_count level (sizes_of s.parts) (pins_of b s.parts)) none ∙ free_of level s.parts ∙ ap (count_by (λ (h : Head). is_of_level level h.entries)) same in
+    = ap (λ b. free_count level (sizes_of s.parts) (pins_of b s.parts)) none ∙ free_of level s.parts
+    ∙ ap (count_by (λ (h : Head). is_of_level level h.entries)) same in
     let few = room level in
     omega (arith, free, few)
 
@@ -97,7 +104,8 @@ closes_fails {T} D i old new r e is seen c = subst (Closes D i old new) (sym is)
 -- ---- the lines so far
 
 -- light lines: those that are left are, and what they touch still fits
-pub record LedLight (lang : Language) (heads : List Head) (i0 : Index) (line : ℕ) (i : Index) (rest : List (List ℕ)) (now : Moment) (before all : ℕ) : Type 0 where
+pub record LedLight (lang : Language) (heads : List Head) (i0 : Index) (line : ℕ) (i : Index) (rest : List (List ℕ)) (now : Moment)
+    (before all : ℕ) : Type 0 where
   pub rested : i.begun ≡ false
   pub asks : AllAsk lang is_light line (Some i) rest
   pub points : given_of (state_after (meaning lang) line (Some i) rest) ≤ i0.given + 16384
@@ -107,7 +115,8 @@ pub record LedLight (lang : Language) (heads : List Head) (i0 : Index) (line : �
   pub touches : TouchesLines lang heads line (Some i) rest left
   pub fits : now.reads + left ≤ before + all
 
-pub record Led (lang : Language) (D line0 : ℕ) (i0 : Index) (lines : List (List ℕ)) (start : Moment) (line : ℕ) (i : Index) (rest : List (List ℕ)) (now : Moment) : Type 0 where
+pub record Led (lang : Language) (D line0 : ℕ) (i0 : Index) (lines : List (List ℕ)) (start : Moment) (line : ℕ) (i : Index) (rest : List (List ℕ))
+    (now : Moment) : Type 0 where
   pub canon : BringsCanonical D start.files now.files start.session.set.parts now.session.set.parts
   pub levels : i0.begun ≡ false → AllAsk lang begins_no_merge line0 (Some i0) lines
       → (i.begun ≡ false) × AllAsk lang begins_no_merge line (Some i) rest × KeepsLevels start.files now.files
@@ -138,7 +147,8 @@ led_first lang D line i lines s = record {
 rests_on : (state : State) (j : Index) → state ≡ Some j → Rested state → j.begun ≡ false
 rests_on state j is h = subst Rested is h
 
-module _ (lang : Language) (D line0 : ℕ) (i0 : Index) (lines : List (List ℕ)) (start : Moment) (line : ℕ) (i : Index) (rest : List (List ℕ)) (now : Moment) (led : Led lang D line0 i0 lines start line i rest now)
+module _ (lang : Language) (D line0 : ℕ) (i0 : Index) (lines : List (List ℕ)) (start : Moment) (line : ℕ) (i : Index) (rest : List (List ℕ)) (now : Moment)
+    (led : Led lang D line0 i0 lines start line i rest now)
     (x : List ℕ) (more : List (List ℕ)) (is : rest ≡ x ∷ more) (new : Moment) where
   -- the next of light lines has room
   room_here : (heads : List Head) (before all : ℕ) → LedLight lang heads i0 line i rest now before all
@@ -146,7 +156,8 @@ module _ (lang : Language) (D line0 : ℕ) (i0 : Index) (lines : List (List ℕ)
   room_here heads before all l =
       let grows = lines_give lang (line + 1) (answer lang line (Some i) x).state more in
       let same = state_rest lang line (Some i) (answer lang line (Some i) x).state rest x more is refl in
-      let most : given_of (state_after (meaning lang) (line + 1) (answer lang line (Some i) x).state more) ≤ i0.given + 16384 = subst (λ (s : State). given_of s ≤ i0.given + 16384) (sym same) l.points in
+      let most : given_of (state_after (meaning lang) (line + 1) (answer lang line (Some i) x).state more) ≤ i0.given + 16384 =
+      subst (λ (s : State). given_of s ≤ i0.given + 16384) (sym same) l.points in
       omega (arith, grows, most, l.waits)
 
   module _ {T E : Type 0} (y : T) (p : Passes {T = T} {E = E} lang D line i x now new (Ok y)) (j : Index)
@@ -161,7 +172,10 @@ module _ (lang : Language) (D line0 : ℕ) (i0 : Index) (lines : List (List ℕ)
         let reads = p.reads heads l.looks l.rested ask room parts.0 parts.2 in
         let given : given_of (answer lang line (Some i) x).state ≡ j.given = ap given_of leads in
         record {
-          rested = rests_on (answer lang line (Some i) x).state j leads (line_rests lang line i x (all_first lang line (Some i) (Some j) rest x more is leads begins_no_merge (all_weaker lang is_light begins_no_merge light_begins line (Some i) rest l.asks)) l.rested);
+          rested = rests_on (answer lang line (Some i) x).state j leads
+              (line_rests lang line i x
+              (all_first lang line (Some i) (Some j) rest x more is leads begins_no_merge
+              (all_weaker lang is_light begins_no_merge light_begins line (Some i) rest l.asks)) l.rested);
           asks = all_rest lang line (Some i) (Some j) rest x more is leads is_light l.asks;
           points = subst (λ (s : State). given_of s ≤ i0.given + 16384) (sym (state_rest lang line (Some i) (Some j) rest x more is leads)) l.points;
           looks = few.looks;
@@ -177,7 +191,8 @@ module _ (lang : Language) (D line0 : ℕ) (i0 : Index) (lines : List (List ℕ)
       canon = brings_then D start.files now.files new.files start.session.set.parts now.session.set.parts new.session.set.parts led.canon p.canon;
       levels = λ rested asks.
           let l = led.levels rested asks in (
-            rests_on (answer lang line (Some i) x).state j leads (line_rests lang line i x (all_first lang line (Some i) (Some j) rest x more is leads begins_no_merge l.1) l.0),
+            rests_on (answer lang line (Some i) x).state j leads
+                (line_rests lang line i x (all_first lang line (Some i) (Some j) rest x more is leads begins_no_merge l.1) l.0),
             all_rest lang line (Some i) (Some j) rest x more is leads begins_no_merge l.1,
             levels_then start.files now.files new.files l.2 (p.levels l.0),
           );
@@ -185,7 +200,9 @@ module _ (lang : Language) (D line0 : ℕ) (i0 : Index) (lines : List (List ℕ)
           let l = led.still rested u asks in
           let ask = all_first lang line (Some i) (Some j) rest x more is leads is_query l.1 in (
             rests_on (answer lang line (Some i) x).state j leads
-                (line_rests lang line i x (all_first lang line (Some i) (Some j) rest x more is leads begins_no_merge (all_weaker lang is_query begins_no_merge (λ r e. light_begins r (query_light r e)) line (Some i) rest l.1)) l.0),
+                (line_rests lang line i x
+                (all_first lang line (Some i) (Some j) rest x more is leads begins_no_merge
+                (all_weaker lang is_query begins_no_merge (λ r e. light_begins r (query_light r e)) line (Some i) rest l.1)) l.0),
             all_rest lang line (Some i) (Some j) rest x more is leads is_query l.1,
             p.still l.0 l.3.unchanged ask ∙ l.2,
             p.idle l.0 l.3 ask,
@@ -212,7 +229,8 @@ module _ (lang : Language) (D line0 : ℕ) (i0 : Index) (lines : List (List ℕ)
         let light = either_light heads which in
         let l = led.light heads looks empty rested light.0 light.1 n touches in
         let parts = touches_parts lang line (Some i) (answer lang line (Some i) x).state rest x more is refl heads l.left l.touches in
-        let reads = p.reads heads l.looks l.rested (all_first lang line (Some i) (answer lang line (Some i) x).state rest x more is refl is_light l.asks) (room_here heads start.reads n l) parts.0 parts.2 in
+        let reads = p.reads heads l.looks l.rested (all_first lang line (Some i) (answer lang line (Some i) x).state rest x more is refl is_light l.asks)
+        (room_here heads start.reads n l) parts.0 parts.2 in
         omega (arith, reads, parts.4, l.fits);
   }
 
@@ -228,7 +246,8 @@ led_ends lang D line0 i0 lines start line i rest now led seen new r c = record {
   reads = λ heads looks empty rested which n touches. by_which heads looks empty rested n touches which;
 }
   where
-    then_levels : {T E : Type 0} (r : Result T E) → KeepsLevels start.files now.files → OnOk r (KeepsLevels now.files new.files) → OnOk r (KeepsLevels start.files new.files)
+    then_levels : {T E : Type 0} (r : Result T E) → KeepsLevels start.files now.files → OnOk r (KeepsLevels now.files new.files)
+        → OnOk r (KeepsLevels start.files new.files)
     then_levels (Ok x) first second = levels_then start.files now.files new.files first second
     then_levels (Err e) first second = tt
 
@@ -237,7 +256,8 @@ led_ends lang D line0 i0 lines start line i rest now led seen new r c = record {
         → (IsIdle start.session × AllAsk lang is_query line0 (Some i0) lines) ⊎ AreLight lang heads line0 (Some i0) lines → new.reads ≤ start.reads + n
     by_which heads looks empty rested n touches (inl (u, asks)) =
         let given = ap given_of (queries_stay lang line0 (Some i0) lines asks) in
-        let l = led.light heads looks empty rested (all_weaker lang is_query is_light query_light line0 (Some i0) lines asks) (omega (arith, given)) n touches in
+        let l =
+        led.light heads looks empty rested (all_weaker lang is_query is_light query_light line0 (Some i0) lines asks) (omega (arith, given)) n touches in
         let same = c.reads (inl (led.still rested u asks).3.unchanged) in
         omega (arith, same, l.fits)
     by_which heads looks empty rested n touches (inr light) =
@@ -262,7 +282,8 @@ led_breaks lang D line0 i0 lines start line i rest now led e = record {
         → (IsIdle start.session × AllAsk lang is_query line0 (Some i0) lines) ⊎ AreLight lang heads line0 (Some i0) lines → now.reads ≤ start.reads + n
     by_which heads looks empty rested n touches (inl (u, asks)) =
         let given = ap given_of (queries_stay lang line0 (Some i0) lines asks) in
-        let l = led.light heads looks empty rested (all_weaker lang is_query is_light query_light line0 (Some i0) lines asks) (omega (arith, given)) n touches in
+        let l =
+        led.light heads looks empty rested (all_weaker lang is_query is_light query_light line0 (Some i0) lines asks) (omega (arith, given)) n touches in
         omega (arith, l.fits)
     by_which heads looks empty rested n touches (inr light) =
         let l = led.light heads looks empty rested light.asks light.points n touches in

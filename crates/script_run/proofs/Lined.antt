@@ -1,5 +1,6 @@
 -- Lines in a session: what is so far, and how the run stops at one.
-use Rattle.std.proofs.Common.{◌≡◌, ◌≤◌, ℕ, ◌+◌, Bool, cond, List, [], ◌∷◌, ◌++◌, Some, None, Result, Ok, Err, IfOk, OnErr, IsErrOf, refl, sym, ap, ◌∙◌, subst, ◌⊎◌, inl, inr, add-zero, arith}
+use Rattle.std.proofs.Common.{◌≡◌, ◌≤◌, ℕ, ◌+◌, Bool, List, [], ◌∷◌, ◌++◌, Some, None, Result, Ok, Err, IfOk}
+use Rattle.std.proofs.Common.{OnErr, IsErrOf, refl, sym, ap, ◌∙◌, subst, ◌⊎◌, inl, inr, add-zero, arith}
 use Rattle.outer_io.specs.Counts.{Rose}
 use Rattle.outer_io.specs.Files.{Files, bytes_of}
 use Rattle.outer_io.specs.declared.file_name.FileName.TheVariants.{Commit}
@@ -8,10 +9,8 @@ use Rattle.page_cache.specs.declared.faults.PageFault.{PageFault}
 use Rattle.page_cache.specs.declared.faults.PageFault.TheVariants as page
 use Rattle.page_cache.specs.Causes.{HasPageCause}
 use Rattle.page_cache.specs.Evidence.{FaultShows}
-use Rattle.index_model.specs.State.{Index, State, at_rest}
+use Rattle.index_model.specs.State.{Index, State}
 use Rattle.stored_index.specs.Stored.{IsStored}
-use Rattle.stored_index.specs.Kept.{SameKept}
-use Rattle.stored_index.proofs.KeptFiles.{stored_still}
 use Rattle.index_core.specs.Sessions.{SessionData}
 use Rattle.commit_list.specs.Commits.{CommitData}
 use Rattle.commit_list.specs.CommitFiles.{IsCommitFile}
@@ -21,7 +20,7 @@ use Rattle.script_run.specs.declared.origin.Origin.TheVariants as origin
 use Rattle.script_run.proofs.Ending.{rose_from}
 use Rattle.script_run.proofs.Opened.{none_stored, some_stored}
 use Rattle.run_status.specs.Sent.{IsCut, IsSent}
-use Rattle.script_run.specs.LineAnswers.{Answers, IsAnswered, IsEnd, Line, Replies, Stands, answer_to_line, stored_by_line}
+use Rattle.script_run.specs.LineAnswers.{Answers, IsAnswered, Line, Replies, answer_to_line, stored_by_line}
 use Rattle.script_run.specs.Progress.{Place, Progress, start}
 use Rattle.run_status.specs.Ends.{HasStopCause}
 use Rattle.script_run.specs.Runs.{EndsLines, EndsRead, Halts}
@@ -29,113 +28,10 @@ use Rattle.script_run.specs.declared.halt.Halt.{Halt}
 use Rattle.run_status.specs.Stops.{stop_of}
 use Rattle.run_status.specs.declared.stop.Stop.{Stop}
 use Rattle.run_status.specs.declared.stop.Stop.TheVariants as stop
-use Rattle.script_run.proofs.Going.{start_here, one_more, ends_from, halts_from, halts_here, read_from, stops_here, breaks_here, fault_stops, finishes_here}
+use Rattle.script_run.proofs.Going.{one_more, ends_from, halts_from, halts_here, read_from, stops_here, breaks_here, fault_stops, finishes_here}
 use Rattle.script_run.specs.Languages.{answer, meaning}
-use Rattle.script_run.specs.Script.{stored_by}
 use Rattle.script_run.specs.declared.language.Language.{Language}
-
--- a place where an index is there
-abbrev pub place_on : (line refused : ℕ) → Index → (stored : State) → (rest : List (List ℕ)) → (written : List ℕ) → Place
-place_on line refused i stored rest written = record { line = line; refused = refused; state = Some i; stored = stored; rest = rest; written = written }
-
--- from a place on the lines so far were done as the script says, and the session stands where they led
-pub record Goes (lang : Language) (told : Type 0) (D : ℕ) (from : Place) (files : Files) (s : SessionData) (line refused : ℕ) (rest : List (List ℕ)) (written : List ℕ) : Type 0 where
-  pub index : Index
-  pub stored : State
-  pub stands : Stands D files s index stored
-  pub progress : Progress (meaning lang) told from (place_on line refused index stored rest written)
-
-abbrev pub goes_first : {told : Type 0} (lang : Language)
-    → (D : ℕ) (files : Files) (s : SessionData) (i : Index) (stored : State) (line refused : ℕ) (rest : List (List ℕ)) (written : List ℕ)
-    → Stands D files s i stored → Goes lang told D (place_on line refused i stored rest written) files s line refused rest written
-goes_first lang D files s i stored line refused rest written h = record {
-  index = i;
-  stored = stored;
-  stands = h;
-  progress = start_here (meaning lang) (place_on line refused i stored rest written);
-}
-
-abbrev pub line_at : ℕ → Index → State → List ℕ → Line
-line_at number i stored bytes = record { number = number; index = i; stored = stored; bytes = bytes }
-
-module _ {told : Type 0} (lang : Language) (D : ℕ) (from : Place) (old files : Files) (s t : SessionData) (line refused : ℕ) (ls : List (List ℕ)) (written new : List ℕ)
-    (g : Goes lang told D from old s line refused ls written) where
-  -- one more line is done
-  abbrev pub goes_on : (bytes : List ℕ) (rest : List (List ℕ)) → ls ≡ bytes ∷ rest → (is_refused : Bool) (count : ℕ) → count ≡ refused + cond is_refused 1 0
-      → Answers lang told D (line_at line g.index g.stored bytes) files t written new (Ok is_refused)
-      → Goes lang told D from files t (line + 1) count rest new
-  goes_on bytes rest next is_refused count counted a = record {
-    index = a.0.index;
-    stored = stored_by (meaning lang) line g.stored (Some g.index) bytes;
-    stands = a.0.stands;
-    progress = one_more (meaning lang) from (place_on line refused g.index g.stored ls written)
-        (place_on (line + 1) count a.0.index (stored_by (meaning lang) line g.stored (Some g.index) bytes) rest new) bytes g.progress next refl a.0.state refl
-        (counted ∙ ap (λ n. refused + n) (sym a.0.refused)) a.1;
-  }
-
-  line_stops : (bytes : List ℕ) (rest : List (List ℕ)) → (e : Stop) → Answers lang told D (line_at line g.index g.stored bytes) files t written new (Err e)
-      → EndsLines (meaning lang) told (place_on line refused g.index g.stored (bytes ∷ rest) written) files new (Err e)
-  line_stops bytes rest stop.SinkFault a = breaks_here (meaning lang) (place_on line refused g.index g.stored (bytes ∷ rest) written) files new bytes rest refl a.1 a.0
-  line_stops bytes rest stop.FolderFault a = stops_here (meaning lang) (place_on line refused g.index g.stored (bytes ∷ rest) written) files new a.1 a.0
-  line_stops bytes rest stop.Memory a = stops_here (meaning lang) (place_on line refused g.index g.stored (bytes ∷ rest) written) files new a.1 a.0
-  line_stops bytes rest (stop.Damaged damage) a = absurd a
-
-  -- the run stops at the next line
-  pub stops_at : (bytes : List ℕ) (rest : List (List ℕ)) → ls ≡ bytes ∷ rest → (e : Stop)
-      → Answers lang told D (line_at line g.index g.stored bytes) files t written new (Err e)
-      → EndsLines (meaning lang) told from files new (Err e)
-  stops_at bytes rest next e a =
-      ends_from (meaning lang) from (place_on line refused g.index g.stored ls written) g.progress files new (Err e)
-      (subst (λ xs. EndsLines (meaning lang) told (place_on line refused g.index g.stored xs written) files new (Err e)) (sym next) (line_stops bytes rest e a))
-
-  -- the source fails before another line has come
-  pub halts_at : Halts (meaning lang) told from old written
-  halts_at = halts_from (meaning lang) from (place_on line refused g.index g.stored ls written) g.progress old written
-      (halts_here (meaning lang) (place_on line refused g.index g.stored ls written) old written (λ _. refl) g.stands.keeps)
-
-  -- or memory is wanting
-  pub memory_at : EndsLines (meaning lang) told from old written (Err stop.Memory)
-  memory_at = ends_from (meaning lang) from (place_on line refused g.index g.stored ls written) g.progress old written (Err stop.Memory)
-      (stops_here (meaning lang) (place_on line refused g.index g.stored ls written) old written (λ _. refl) (inl g.stands.keeps))
-
--- no line is left, and what they leave ends the run
-pub ends_then : {told : Type 0} (lang : Language)
-    → (D : ℕ) (from : Place) (old : Files) (s : SessionData) (line refused : ℕ) (ls : List (List ℕ)) (written : List ℕ)
-    → (g : Goes lang told D from old s line refused ls written) → ls ≡ [] → (after : Files) (result : Result ℕ Stop)
-    → EndsLines (meaning lang) told (place_on line refused g.index g.stored [] written) after written result
-    → EndsLines (meaning lang) told from after written result
-ends_then {told} lang D from old s line refused ls written g none after result h =
-    ends_from (meaning lang) from (place_on line refused g.index g.stored ls written) g.progress after written result
-    (subst (λ xs. EndsLines (meaning lang) told (place_on line refused g.index g.stored xs written) after written result) (sym none) h)
-
--- ---- the end
-
--- what ends a session ends its lines
-pub end_lines : (lang : Language) → (told : Type 0) (files : Files) (i : Index) (stored : State) (line refused : ℕ) (written : List ℕ) (result : Result ℕ Stop)
-    → IsEnd files i stored refused result
-    → EndsLines (meaning lang) told (place_on line refused i stored [] written) files written result
-end_lines lang told files i stored line refused written (Ok count) h =
-    subst (λ (n : ℕ). EndsLines (meaning lang) told (place_on line refused i stored [] written) files written (Ok n)) (sym h.0)
-    (finishes_here {told = told} (meaning lang) (place_on line refused i stored [] written) files written refl (λ _. refl) h.1)
-end_lines lang told files i stored line refused written (Err stop.FolderFault) h = stops_here {told = told} (meaning lang) (place_on line refused i stored [] written) files written (λ _. refl) h
-end_lines lang told files i stored line refused written (Err stop.Memory) h = stops_here {told = told} (meaning lang) (place_on line refused i stored [] written) files written (λ _. refl) h
-end_lines lang told files i stored line refused written (Err stop.SinkFault) h = absurd h
-end_lines lang told files i stored line refused written (Err (stop.Damaged damage)) h = absurd h
-
-kept_or_rested : (old files : Files) (i : Index) (stored : State) → IsStored old stored → SameKept old files ⊎ IsStored files (Some (at_rest i)) → IsStored files stored ⊎ IsStored files (Some (at_rest i))
-kept_or_rested old files i stored keeps (inl same) = inl (stored_still old files stored same keeps)
-kept_or_rested old files i stored keeps (inr rested) = inr rested
-
-fault_end : (old files : Files) (i : Index) (stored : State) (refused : ℕ) (fault : PageFault) → FaultShows (λ _. ⊥) fault → IsStored old stored
-    → SameKept old files ⊎ IsStored files (Some (at_rest i)) → IsEnd files i stored refused (Err (stop_of fault))
-fault_end old files i stored refused page.Failed whole keeps h = kept_or_rested old files i stored keeps h
-fault_end old files i stored refused page.Memory whole keeps h = kept_or_rested old files i stored keeps h
-fault_end old files i stored refused (page.Damaged damage) whole keeps h = absurd whole
-
--- the commit at the end was not done
-pub stops_end : (old files : Files) (i : Index) (stored : State) (refused : ℕ) (fault : PageFault) → FaultShows (λ _. ⊥) fault → IsStored old stored
-    → SameKept old files ⊎ IsStored files (Some (at_rest i)) → (result : Result ℕ Stop) → result ≡ Err (stop_of fault) → IsEnd files i stored refused result
-stops_end old files i stored refused fault whole keeps h result is = subst (IsEnd files i stored refused) (sym is) (fault_end old files i stored refused fault whole keeps h)
+use Rattle.script_run.proofs.SoFar.{place_on}
 
 -- ---- the beginning
 
@@ -157,11 +53,14 @@ module _ (lang : Language) (told : Type 0) (old files after : Files) (written : 
       → (files Commit ≡ None → EndsRead (meaning lang) told (start None lines written) after new result)
       → EndsRead (meaning lang) told (start state lines written) after new result
   from_none state same none h lines new result ends =
-      subst (λ s. EndsRead (meaning lang) told (start s lines written) after new result) (sym (none_stored old state none h)) (ends (ap (λ (f : Files). f Commit) same ∙ none))
+      subst (λ s. EndsRead (meaning lang) told (start s lines written) after new result) (sym (none_stored old state none h))
+      (ends (ap (λ (f : Files). f Commit) same ∙ none))
 
   -- this one was
-  pub from_some : (commit : CommitData) (state : State) → files ≡ old → IsCommitFile (bytes_of (old Commit)) commit → IsStored old state → (lines : List (List ℕ)) (new : List ℕ) (result : Result ℕ Halt)
-      → ((i : Index) (stored : State) → IsFrom files (origin.Stored commit) i stored → EndsRead (meaning lang) told (place_on 1 0 i stored lines written) after new result)
+  pub from_some : (commit : CommitData) (state : State) → files ≡ old → IsCommitFile (bytes_of (old Commit)) commit → IsStored old state
+      → (lines : List (List ℕ)) (new : List ℕ) (result : Result ℕ Halt)
+      → ((i : Index) (stored : State) → IsFrom files (origin.Stored commit) i stored
+      → EndsRead (meaning lang) told (place_on 1 0 i stored lines written) after new result)
       → EndsRead (meaning lang) told (start state lines written) after new result
   from_some commit state same says h lines new result ends =
       let some = some_stored old commit state says h in
@@ -169,7 +68,8 @@ module _ (lang : Language) (told : Type 0) (old files after : Files) (written : 
       (ends some.0 (Some some.0) (subst (λ (f : Files). IsFrom f (origin.Stored commit) some.0 (Some some.0)) (sym same) (says, some.2, refl)))
 
 -- reading the commit of a folder that stores a state finds no damage
-pub not_damaged : {P : Type 0} (files : Files) (state : State) → IsStored files state → (files Commit ≡ None → P) → ((c : CommitData) → IsCommitFile (bytes_of (files Commit)) c → P) → P
+pub not_damaged : {P : Type 0} (files : Files) (state : State) → IsStored files state → (files Commit ≡ None → P)
+    → ((c : CommitData) → IsCommitFile (bytes_of (files Commit)) c → P) → P
 not_damaged files None h absent whole = absent h
 not_damaged files (Some i) h absent whole = whole h.commit h.holds.commit
 
@@ -201,11 +101,14 @@ pub left_answers : (lang : Language)
     → (told : Type 0) (D : ℕ) (l : Line) (files : Files) (s : SessionData) (before reply written new : List ℕ) (fault : PageFault)
     → Replies lang D l files s before reply (Err fault)
     → (result : Result Bool Stop) → result ≡ Err (stop_of fault) → new ≡ written → Answers lang told D l files s written new result
-left_answers lang told D l files s before reply written new page.Failed left result is same = subst (Answers lang told D l files s written new) (sym is) (left, λ t. same)
-left_answers lang told D l files s before reply written new page.Memory left result is same = subst (Answers lang told D l files s written new) (sym is) (left, λ t. same)
+left_answers lang told D l files s before reply written new page.Failed left result is same =
+    subst (Answers lang told D l files s written new) (sym is) (left, λ t. same)
+left_answers lang told D l files s before reply written new page.Memory left result is same =
+    subst (Answers lang told D l files s written new) (sym is) (left, λ t. same)
 left_answers lang told D l files s before reply written new (page.Damaged damage) left result is same = absurd left
 
-pub only_sink : {T : Type 0} (result : Result T Stop) → OnErr result (IsErrOf result stop.SinkFault) → OnErr result (IsErrOf result stop.SinkFault ⊎ IsErrOf result stop.Memory)
+pub only_sink : {T : Type 0} (result : Result T Stop) → OnErr result (IsErrOf result stop.SinkFault)
+    → OnErr result (IsErrOf result stop.SinkFault ⊎ IsErrOf result stop.Memory)
 only_sink (Ok x) h = tt
 only_sink (Err e) h = inl h
 
@@ -243,16 +146,19 @@ module _ {told : Type 0} (lang : Language) (from : Place) (line refused : ℕ) (
 
   -- the source fails before another line has come
   pub halts_first : (files : Files) → IsStored files None → Halts (meaning lang) told from files written
-  halts_first files none = halts_from (meaning lang) from (place_off line refused ls written) g files written (halts_here (meaning lang) (place_off line refused ls written) files written (λ _. refl) none)
+  halts_first files none = halts_from (meaning lang) from (place_off line refused ls written) g files written
+      (halts_here (meaning lang) (place_off line refused ls written) files written (λ _. refl) none)
 
   -- or memory is wanting
   pub memory_first : (files : Files) → IsStored files None → EndsLines (meaning lang) told from files written (Err stop.Memory)
   memory_first files none =
-      ends_from (meaning lang) from (place_off line refused ls written) g files written (Err stop.Memory) (stops_here (meaning lang) (place_off line refused ls written) files written (λ _. refl) (inl none))
+      ends_from (meaning lang) from (place_off line refused ls written) g files written (Err stop.Memory)
+      (stops_here (meaning lang) (place_off line refused ls written) files written (λ _. refl) (inl none))
 
 module _ {told : Type 0} (lang : Language) (from : Place) (files : Files) (line refused : ℕ) (ls : List (List ℕ)) (written new : List ℕ)
     (g : Progress (meaning lang) told from (place_off line refused ls written)) (none : IsStored files None) where
-  first_stops : {T : Type 0} (bytes : List ℕ) (rest : List (List ℕ)) → ls ≡ bytes ∷ rest → (e : Stop) → IsErrOf {T = T} (Err e) stop.SinkFault ⊎ IsErrOf {T = T} (Err e) stop.Memory
+  first_stops : {T : Type 0} (bytes : List ℕ) (rest : List (List ℕ)) → ls ≡ bytes ∷ rest → (e : Stop)
+      → IsErrOf {T = T} (Err e) stop.SinkFault ⊎ IsErrOf {T = T} (Err e) stop.Memory
       → (told → IsCut (answer lang line None bytes).text written new e) → EndsLines (meaning lang) told (place_off line refused ls written) files new (Err e)
   first_stops bytes rest next stop.SinkFault cause sent = breaks_here (meaning lang) (place_off line refused ls written) files new bytes rest next sent none
   first_stops bytes rest next stop.Memory cause sent = stops_here (meaning lang) (place_off line refused ls written) files new sent (inl none)
@@ -260,7 +166,8 @@ module _ {told : Type 0} (lang : Language) (from : Place) (files : Files) (line 
   first_stops bytes rest next (stop.Damaged damage) cause sent = elim cause as (λ _. ⊥) [ inl e ↦ cc | inr e ↦ cc ]
 
   -- the run stops at the next line
-  pub stops_first : {T : Type 0} (bytes : List ℕ) (rest : List (List ℕ)) → ls ≡ bytes ∷ rest → (e : Stop) → IsErrOf {T = T} (Err e) stop.SinkFault ⊎ IsErrOf {T = T} (Err e) stop.Memory
+  pub stops_first : {T : Type 0} (bytes : List ℕ) (rest : List (List ℕ)) → ls ≡ bytes ∷ rest → (e : Stop)
+      → IsErrOf {T = T} (Err e) stop.SinkFault ⊎ IsErrOf {T = T} (Err e) stop.Memory
       → (told → IsCut (answer lang line None bytes).text written new e) → EndsLines (meaning lang) told from files new (Err e)
   stops_first {T} bytes rest next e cause sent =
       ends_from (meaning lang) from (place_off line refused ls written) g files new (Err e) (first_stops {T = T} bytes rest next e cause sent)
@@ -271,14 +178,16 @@ module _ {told : Type 0} (lang : Language) (from : Place) (files : Files) (line 
 pub page_done : {S T : Type 0} (f0 f1 : ℕ) (x : S) (y : T) → HasPageCause f0 f1 (Ok x) → HasPageCause f0 f1 (Ok y)
 page_done f0 f1 x y h = record { later = h.later; fine = h.fine; failed = λ e. absurd cc }
 
-pub page_then : {S T : Type 0} (f0 f1 : ℕ) (x : S) (result : Result T PageFault) → HasPageCause f0 f1 (Ok x) → OnErr result (IsErrOf result page.Memory) → HasPageCause f0 f1 result
+pub page_then : {S T : Type 0} (f0 f1 : ℕ) (x : S) (result : Result T PageFault) → HasPageCause f0 f1 (Ok x) → OnErr result (IsErrOf result page.Memory)
+    → HasPageCause f0 f1 result
 page_then f0 f1 x (Ok y) h only = record { later = h.later; fine = h.fine; failed = λ e. absurd cc }
 page_then f0 f1 x (Err page.Memory) h only = record { later = h.later; fine = tt; failed = λ e. absurd cc }
 page_then {T = T} f0 f1 x (Err page.Failed) h only = let e : IsErrOf {T = T} (Err page.Failed) page.Memory = only in absurd cc
 page_then {T = T} f0 f1 x (Err (page.Damaged damage)) h only = let e : IsErrOf {T = T} (Err (page.Damaged damage)) page.Memory = only in absurd cc
 
 pub page_same : {S T : Type 0} (f0 f1 : ℕ) (fault : PageFault) → HasPageCause {T = S} f0 f1 (Err fault) → HasPageCause {T = T} f0 f1 (Err fault)
-page_same f0 f1 fault h = record { later = h.later; fine = tt; failed = λ e. let same : fault ≡ page.Failed = cc in h.failed (ap (λ (f : PageFault). Err f) same) }
+page_same f0 f1 fault h =
+    record { later = h.later; fine = tt; failed = λ e. let same : fault ≡ page.Failed = cc in h.failed (ap (λ (f : PageFault). Err f) same) }
 
 -- nor before
 pub page_none : {T : Type 0} (f : ℕ) (x : T) → HasPageCause f f (Ok x)
@@ -301,18 +210,22 @@ by_fault f0 f1 k page.Memory h = record { folder_later = h.later; sink_later = o
 by_fault f0 f1 k (page.Damaged damage) h = record { folder_later = h.later; sink_later = omega arith; folder = λ e. absurd cc; sink = λ e. absurd cc }
 
 -- a fault that stops a run raised the folder's count, where it is the folder's
-pub fault_cause : {S T : Type 0} (f0 f1 k : ℕ) (fault : PageFault) → HasPageCause {T = S} f0 f1 (Err fault) → (result : Result T Stop) → result ≡ Err (stop_of fault)
+pub fault_cause : {S T : Type 0} (f0 f1 k : ℕ) (fault : PageFault) → HasPageCause {T = S} f0 f1 (Err fault) → (result : Result T Stop)
+    → result ≡ Err (stop_of fault)
     → HasStopCause f0 f1 k k result
 fault_cause {S} {T} f0 f1 k fault h result is = subst (HasStopCause f0 f1 k k) (sym is) (by_fault {S = S} {T = T} f0 f1 k fault h)
 
 -- what was sent after the folder was done with
-pub send_cause : {S T : Type 0} (f0 f1 k0 k1 : ℕ) (x : S) → HasPageCause f0 f1 (Ok x) → (result : Result T Stop) → OnErr result (IsErrOf result stop.SinkFault) → k0 ≤ k1
+pub send_cause : {S T : Type 0} (f0 f1 k0 k1 : ℕ) (x : S) → HasPageCause f0 f1 (Ok x) → (result : Result T Stop) → OnErr result (IsErrOf result stop.SinkFault)
+    → k0 ≤ k1
     → (IsErrOf result stop.SinkFault → Rose k0 k1) → HasStopCause f0 f1 k0 k1 result
 send_cause f0 f1 k0 k1 x h (Ok y) only later sink = record { folder_later = h.later; sink_later = later; folder = λ e. absurd cc; sink = sink }
 send_cause f0 f1 k0 k1 x h (Err stop.SinkFault) only later sink = record { folder_later = h.later; sink_later = later; folder = λ e. absurd cc; sink = sink }
 send_cause {T = T} f0 f1 k0 k1 x h (Err stop.FolderFault) only later sink = let e : IsErrOf {T = T} (Err stop.FolderFault) stop.SinkFault = only in absurd cc
 send_cause {T = T} f0 f1 k0 k1 x h (Err stop.Memory) only later sink = let e : IsErrOf {T = T} (Err stop.Memory) stop.SinkFault = only in absurd cc
-send_cause {T = T} f0 f1 k0 k1 x h (Err (stop.Damaged damage)) only later sink = let e : IsErrOf {T = T} (Err (stop.Damaged damage)) stop.SinkFault = only in absurd cc
+send_cause {T = T} f0 f1 k0 k1 x h (Err (stop.Damaged damage)) only later sink =
+    let e : IsErrOf {T = T} (Err (stop.Damaged damage)) stop.SinkFault = only in
+    absurd cc
 
 pub ok_cause : {S T : Type 0} (f0 f1 k : ℕ) (x : S) (y : T) → HasPageCause f0 f1 (Ok x) → HasStopCause f0 f1 k k (Ok y)
 ok_cause f0 f1 k x y h = record { folder_later = h.later; sink_later = omega arith; folder = λ e. absurd cc; sink = λ e. absurd cc }
@@ -328,7 +241,8 @@ first_cause f k0 k1 e cause later sink = record {
 }
 
 -- an earlier call left the folder alone
-pub cause_on : {T : Type 0} (f0 f1 f2 k0 k1 k2 : ℕ) (result : Result T Stop) → f1 ≡ f0 → k0 ≤ k1 → HasStopCause f1 f2 k1 k2 result → HasStopCause f0 f2 k0 k2 result
+pub cause_on : {T : Type 0} (f0 f1 f2 k0 k1 k2 : ℕ) (result : Result T Stop) → f1 ≡ f0 → k0 ≤ k1 → HasStopCause f1 f2 k1 k2 result
+    → HasStopCause f0 f2 k0 k2 result
 cause_on f0 f1 f2 k0 k1 k2 result same later h = record {
   folder_later = omega (arith, same, h.folder_later);
   sink_later = omega (arith, later, h.sink_later);

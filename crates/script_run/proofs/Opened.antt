@@ -19,13 +19,15 @@ none_stored files None none h = refl
 none_stored files (Some i) none h = absurd (let there = (file_there (files Commit) h.commit h.holds.commit).0 in cc)
 
 -- one whose Commit file says a commit stores one
-pub some_stored : (files : Files) (c : CommitData) (state : State) → IsCommitFile (bytes_of (files Commit)) c → IsStored files state → (i : Index) × (state ≡ Some i) × IsStored files (Some i)
+pub some_stored : (files : Files) (c : CommitData) (state : State) → IsCommitFile (bytes_of (files Commit)) c → IsStored files state
+    → (i : Index) × (state ≡ Some i) × IsStored files (Some i)
 some_stored files c state says h =
     let held = held_for files c state h says in
     (index_of c held.0, held.2, subst (IsStored files) held.2 h)
 
 -- a new session stands over files without a Commit file
-pub made_stands : (D dims leaf : ℕ) (files : Files) (s : SessionData) (i : Index) (stored : State) → dims ≡ D → Sees D files s.set (new_index D leaf) → (files Commit ≡ None → Guards D files s)
+pub made_stands : (D dims leaf : ℕ) (files : Files) (s : SessionData) (i : Index) (stored : State) → dims ≡ D → Sees D files s.set (new_index D leaf)
+    → (files Commit ≡ None → Guards D files s)
     → (files Commit ≡ None) × (i ≡ new_index dims leaf) × (stored ≡ None) → Stands D files s i stored
 made_stands D dims leaf files s i stored d seen guards h = record {
   seen = subst (Sees D files s.set) (sym (h.1 ∙ ap (λ n. new_index n leaf) d)) seen;
@@ -34,7 +36,8 @@ made_stands D dims leaf files s i stored d seen guards h = record {
 }
 
 -- one that is attached stands over the files, which stay
-pub attached_stands : (D : ℕ) (old new : Files) (i : Index) (stored : State) (result : Result SessionData PageFault) → IfOk result (λ s. Sees D old s.set i) → IfOk result (Guards D old)
+pub attached_stands : (D : ℕ) (old new : Files) (i : Index) (stored : State) (result : Result SessionData PageFault) → IfOk result (λ s. Sees D old s.set i)
+    → IfOk result (Guards D old)
     → new ≡ old → IsStored old (Some i) → stored ≡ Some i → IfOk result (λ s. Stands D new s i stored)
 attached_stands D old new i stored (Err e) seen guards same h is = tt
 attached_stands D old new i stored (Ok s) seen guards same h is =

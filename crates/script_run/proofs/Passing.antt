@@ -1,6 +1,7 @@
 -- What one line does on its way, by what the session did with its request.
-use Rattle.std.proofs.Common.{◌≡◌, ◌≤◌, ◌+◌, ◌<◌, ◌^◌, ℕ, Bool, true, false, cond, List, [], ◌∷◌, length, Option, None, Some, Result, Ok, Err, OnOk, refl, sym, ap, subst, ◌∙◌, inl, inr, ⊎_elim, arith, ℤ}
-use Rattle.std.specs.Prelude.{IsOk, is_ok}
+use Rattle.std.proofs.Common.{◌≡◌, ◌≤◌, ◌+◌, ◌<◌, ◌^◌, ℕ, Bool, true, false, cond, List, [], ◌∷◌, length, Option, None}
+use Rattle.std.proofs.Common.{Some, Result, Ok, Err, OnOk, refl, sym, ap, subst, ◌∙◌, inl, inr, ⊎_elim, arith, ℤ}
+use Rattle.std.specs.Prelude.{is_ok}
 use Rattle.std.specs.List.{All, AllZip}
 use Rattle.std.specs.Option.{option_map}
 use Rattle.std.specs.Str.{bytes_eq}
@@ -19,13 +20,12 @@ use Rattle.nearest_query.specs.Segments.{AreNearLeaves, bound_of}
 use Rattle.segment_file.specs.Heads.{Head}
 use Rattle.script_lang.specs.Requests.{Request, Viewed}
 use Rattle.script_lang.specs.Requests as asks
-use Rattle.script_lang.specs.declared.faults.LineFault.{LineFault}
 use Rattle.script_lang.specs.declared.faults.Refusal.{Refusal}
 use Rattle.point_codec.specs.declared.entries.Near.{Near}
 use Rattle.index_model.specs.State.{Index, Snapshot, snapshot_of, viewed_docs}
 use Rattle.ring_parity.specs.Rings.{all_edges}
 use Rattle.polygon_query.specs.Shape as polygons
-use Rattle.index_model.specs.Step.{Outcome, Done, Refused, in_plane_polygon, step_on}
+use Rattle.index_model.specs.Step.{Done, Refused, in_plane_polygon, step_on}
 use Rattle.index_model.specs.Script.{Answer, answer_to}
 use Rattle.index_model.specs.declared.session.Applied.{Applied}
 use Rattle.index_model.specs.declared.session.Applied.TheVariants as applied
@@ -33,144 +33,22 @@ use Rattle.segment_view.specs.Costs.{AreTouched}
 use Rattle.segment_view.specs.Parts.{Contents, Part, heads_of}
 use Rattle.segment_set.specs.Sets.{NamedView, SetData, buffer_in, parts_in, view_of, viewed_parts}
 use Rattle.segment_set.specs.Seen.{Sees, ShowsSnapshot, entries_seen}
-use Rattle.segment_set.specs.Kept.{StaysButCache}
-use Rattle.index_core.specs.Costs.{ReadsAtMost, ReadsNear, ReadsTouched}
-use Rattle.index_core.specs.Effects.{BringsCanonical, KeepsStill, OnDone, OnRefused}
-use Rattle.index_core.specs.Light.{CommitsFewOfLevels, IsBarred, KeepsLevels, LooksAt, StaysLight, is_light, points_in}
-use Rattle.index_core.specs.Closed.{IsIdle}
-use Rattle.index_core.specs.Sessions.{IsStill, IsUnchanged, SessionData}
-use Rattle.index_core.specs.Steps.{DoesOver, KeepsOver, is_committing}
+use Rattle.index_core.specs.Costs.{ReadsNear, ReadsTouched}
+use Rattle.index_core.specs.Light.{LooksAt, is_light}
+use Rattle.index_core.specs.Sessions.{IsUnchanged, SessionData}
 use Rattle.index_core.proofs.Bringing.{brings_same}
 use Rattle.explain_queries.specs.Explained.{reach}
-use Rattle.explain_queries.proofs.Explaining.{reach_is}
+use Rattle.explain_queries.proofs.Reaches.{reach_is}
 use Rattle.explain_queries.proofs.There.{are_nearest, there, there_found}
 use Rattle.index_core.proofs.Undone.{begins_none}
 use Rattle.script_run.specs.Costs.{TouchesOn, TouchesHeard, TouchesView, given_of, is_query}
 use Rattle.script_run.specs.Leads.{HasRoom, Passes, Moment, StaysFew}
 use Rattle.script_run.proofs.Asking.{Asks, IsRefusal, asked, begin_refused, full_of, full_or_given, light_gives, read_state, refusal_state, unread_state}
-use Rattle.script_run.proofs.Deciding.{idle_still, unchanged_or_not}
 use Rattle.script_run.specs.Languages.{Heard, answer, heard}
 use Rattle.script_run.specs.declared.language.Language.{Language}
 use Rattle.range_docs.specs.declared.faults.RangeFault.{RangeFault}
-
-no : {P : Type 0} → false ≡ true → P
-no e = cc
-
--- ---- what a session did with a request
-
-pub record IsApplied (D : ℕ) (told : Type 0) (i : Index) (r : Request) (old new : Moment) (before after : List ℕ) (result : Result Applied PageFault) : Type 0 where
-  pub does : DoesOver D new.files (step_on i r) i new.session.set before after result
-  pub canon : BringsCanonical D old.files new.files old.session.set.parts new.session.set.parts
-  pub kept : KeepsOver (is_committing r) old.files new.files new.session result
-  pub idle : is_committing r ≡ true → IsUnchanged old.session → new.files ≡ old.files
-  pub levels : is_committing r ≡ true → (IsUnchanged old.session → ⊥) → old.session.set.begun ≡ None → OnDone result (CommitsFewOfLevels new.session.commit)
-  pub reads : ReadsAtMost D told r old.files old.session old.reads new.reads
-  pub still : KeepsStill told r old.files new.files old.session new.session result
-  pub light : is_light r ≡ true → length old.session.set.buffer + points_in r ≤ 16384 → StaysLight told (points_in r) old.files new.files old.session new.session
-  pub unread : OnRefused result (new.reads ≡ old.reads)
-  pub barred : IsBarred r old.session.set → IsOk result
-
--- ---- refusals
-
-module _ (D : ℕ) (files : Files) (i : Index) (set : SetData) (before after : List ℕ) where
-  not_done : (o : Outcome) → IsRefusal o → DoesOver D files o i set before after (Ok applied.Done) → ⊥
-  not_done (Done state text) h does = h
-  not_done (Refused cause) h does = does
-
-  a_refusal : (o : Outcome) (why : Refusal) → DoesOver D files o i set before after (Ok (applied.Refused why)) → IsRefusal o
-  a_refusal (Done state text) why does = absurd does
-  a_refusal (Refused cause) why does = tt
-
-  -- a request that commits is never refused
-  commit_done : (r : Request) (why : Refusal) → is_committing r ≡ true → DoesOver D files (step_on i r) i set before after (Ok (applied.Refused why)) → ⊥
-  unfolding step_on
-  commit_done asks.Commit why e does = does
-  commit_done asks.Reopen why e does = does
-  commit_done r why e does = no e
-
--- what is refused leaves all but the kept pages
-refused_still : (told : Type 0) (i : Index) (r : Request) (f g : Files) (s t : SessionData) (why : Refusal) → IsRefusal (step_on i r) → KeepsStill told r f g s t (Ok (applied.Refused why)) → IsStill told f g s t
-unfolding step_on
-refused_still told i (asks.Delete doc) f g s t why h still = absurd h
-refused_still told i (asks.DeleteBox lo hi) f g s t why h still = absurd h
-refused_still told i asks.Flush f g s t why h still = absurd h
-refused_still told i asks.Merge f g s t why h still = absurd h
-refused_still told i asks.Commit f g s t why h still = absurd h
-refused_still told i asks.Reopen f g s t why h still = absurd h
-refused_still told i r f g s t why h still = still
-
--- and so does a query, whatever is answered
-query_still : (told : Type 0) (r : Request) (f g : Files) (s t : SessionData) (result : Result Applied PageFault) → is_query r ≡ true → KeepsStill told r f g s t result → IsStill told f g s t
-query_still told asks.Blank f g s t result q still = still
-query_still told (asks.InBox view lo hi) f g s t result q still = still
-query_still told (asks.InPolygon view rings) f g s t result q still = still
-query_still told (asks.Nearest view k at) f g s t result q still = still
-query_still told r f g s t result q still = no q
-
--- ---- what stays where all but the kept pages does
-
-looks_still : (heads : List Head) (s t : SetData) → StaysButCache s t → LooksAt heads s → LooksAt heads t
-looks_still heads s t stays looks = subst (LooksAt heads) (sym stays.is) (record { now = looks.now; snapshots = looks.snapshots })
-
-buffer_still : (s t : SetData) → StaysButCache s t → length t.buffer ≡ length s.buffer
-buffer_still s t stays = ap (λ (u : SetData). length u.buffer) stays.is
-
--- ---- levels
-
-module _ (D : ℕ) (told : Type 0) (i : Index) (r : Request) (old new : Moment) (before after : List ℕ) where
-  few_by : (b : Bool) (x : Applied) → ((why : Refusal) → x ≡ applied.Refused why → b ≡ true → ⊥) → KeepsOver {T = Applied} b old.files new.files new.session (Ok x)
-      → (b ≡ true → IsUnchanged old.session → new.files ≡ old.files) → (b ≡ true → (IsUnchanged old.session → ⊥) → OnDone (Ok x) (CommitsFewOfLevels new.session.commit)) → KeepsLevels old.files new.files
-  few_by false x done keeps idle levels = inl keeps.commit
-  few_by true applied.Done done keeps idle levels =
-      ⊎_elim (λ u. inl (ap (λ (h : Files). h Commit) (idle refl u))) (λ n. inr (keeps.0, keeps.2, levels refl n keeps.0 keeps.1)) (unchanged_or_not old.session)
-  few_by true (applied.Refused why) done keeps idle levels = absurd (done why refl refl)
-
-  levels_after : (result : Result Applied PageFault) → IsApplied D told i r old new before after result → old.session.set.begun ≡ None → OnOk result (KeepsLevels old.files new.files)
-  levels_after (Err fault) a none = tt
-  levels_after (Ok x) a none =
-      few_by (is_committing r) x
-      (λ why is e. commit_done D new.files i new.session.set before after r why e (subst (λ (y : Applied). DoesOver D new.files (step_on i r) i new.session.set before after (Ok y)) is a.does))
-      a.kept a.idle (λ e n. a.levels e n none)
-
--- ---- files
-
-module _ (D : ℕ) (told : Type 0) (is_told : told) (i : Index) (old new : Moment) (before after : List ℕ) (rested : i.begun ≡ false) (none : old.session.set.begun ≡ None)
-    (given : i.given ≡ old.session.set.given) where
-  -- a request that the definition refuses ends with a fault, and no file changed
-  fault_files : (r : Request) (fault : PageFault) → IsRefusal (step_on i r) → length old.session.set.buffer ≤ 16384 → IsApplied D told i r old new before after (Err fault) → new.files ≡ old.files
-  unfolding step_on
-  fault_files asks.Blank fault h room a = absurd h
-  fault_files (asks.Create dims leaf) fault h room a = (a.light refl (omega (arith, room))).files is_told
-  fault_files (asks.Add points) fault h room a = no (a.barred (subst (λ n. 2 ^ 24 < n + length points) given (full_of i points h)))
-  fault_files (asks.Delete doc) fault h room a = absurd h
-  fault_files (asks.DeleteBox lo hi) fault h room a = absurd h
-  fault_files (asks.InBox view lo hi) fault h room a = a.still.files is_told
-  fault_files (asks.InPolygon view rings) fault h room a = a.still.files is_told
-  fault_files (asks.Nearest view k at) fault h room a = a.still.files is_told
-  fault_files asks.Flush fault h room a = absurd h
-  fault_files asks.Merge fault h room a = absurd h
-  fault_files (asks.MergeBegin positions) fault h room a = absurd (begin_refused i.begun _ rested h)
-  fault_files asks.MergeEnd fault h room a = no (a.barred none)
-  fault_files (asks.Snapshot name) fault h room a = (a.light refl (omega (arith, room))).files is_told
-  fault_files (asks.Release name) fault h room a = (a.light refl (omega (arith, room))).files is_told
-  fault_files asks.Commit fault h room a = absurd h
-  fault_files asks.Reopen fault h room a = absurd h
-
-  -- queries, and what is refused
-  still_files : (r : Request) (result : Result Applied PageFault) → Asks is_query i r → length old.session.set.buffer ≤ 16384 → IsApplied D told i r old new before after result → new.files ≡ old.files
-  still_files r result (inr q) room a = (query_still told r old.files new.files old.session new.session result q a.still).files is_told
-  still_files r (Ok applied.Done) (inl h) room a = absurd (not_done D new.files i new.session.set before after (step_on i r) h a.does)
-  still_files r (Ok (applied.Refused why)) (inl h) room a = (refused_still told i r old.files new.files old.session new.session why h a.still).files is_told
-  still_files r (Err fault) (inl h) room a = fault_files r fault h room a
-
-  still_session : (r : Request) (result : Result Applied PageFault) → Asks is_query i r → IsIdle old.session
-      → IsApplied D told i r old new before after result → OnOk result (IsIdle new.session)
-  still_session r (Err fault) ask u a = tt
-  still_session r (Ok x) (inr q) u a = idle_still told old.files new.files old.session new.session
-      (query_still told r old.files new.files old.session new.session (Ok x) q a.still) u
-  still_session r (Ok applied.Done) (inl h) u a = absurd (not_done D new.files i new.session.set before after (step_on i r) h a.does)
-  still_session r (Ok (applied.Refused why)) (inl h) u a =
-      idle_still told old.files new.files old.session new.session (refused_still told i r old.files new.files old.session new.session why h a.still) u
+use Rattle.script_run.proofs.RequestsDone.{no, IsApplied, not_done, a_refusal, refused_still, looks_still}
+use Rattle.script_run.proofs.RequestsDone.{buffer_still, levels_after, still_files, still_session}
 
 -- ---- what a query looks at
 
@@ -181,7 +59,8 @@ Shows c next heads (Some v) (Some t) = ShowsSnapshot c next v t × (heads_of v.p
 Shows c next heads None (Some t) = ⊥
 Shows c next heads (Some v) None = ⊥
 
-found_shows : (c : Contents) (next : ℕ) (heads : List Head) (name : List ℕ) (views : List NamedView) (ts : List Snapshot) → AllZip (ShowsSnapshot c next) views ts → All (λ (v : NamedView). heads_of v.parts ≡ heads) views
+found_shows : (c : Contents) (next : ℕ) (heads : List Head) (name : List ℕ) (views : List NamedView) (ts : List Snapshot)
+    → AllZip (ShowsSnapshot c next) views ts → All (λ (v : NamedView). heads_of v.parts ≡ heads) views
     → Shows c next heads (view_of name views) (snapshot_of name ts)
 found_shows c next heads name [] [] shown all = tt
 found_shows c next heads name [] (t ∷ ts) shown all = absurd shown
@@ -203,15 +82,18 @@ module _ (D : ℕ) (files : Files) (s : SetData) (i : Index) (seen : Sees D file
     touched_by : (v : Option NamedView) (t : Option Snapshot) → Shows seen.contents s.next heads v t → ReadsTouched D has crosses (parts_in v) before now
         → TouchesView (option_map (λ (u : Snapshot). u.docs) t) (λ docs m. AreTouched i.dims has crosses heads m) n → now ≤ before + n
     touched_by None None shows reads is = let none = reads 0 refl in omega (arith, none)
-    touched_by (Some v) (Some t) shows reads is = reads n (subst (λ (hs : List Head). AreTouched D has crosses hs n) (sym shows.1) (subst (λ d. AreTouched d has crosses heads n) seen.dims is))
+    touched_by (Some v) (Some t) shows reads is =
+        reads n (subst (λ (hs : List Head). AreTouched D has crosses hs n) (sym shows.1) (subst (λ d. AreTouched d has crosses heads n) seen.dims is))
     touched_by None (Some t) shows reads is = absurd shows
     touched_by (Some v) None shows reads is = absurd shows
 
     touched_reads : (view : Viewed) → ReadsTouched D has crosses (viewed_parts view s) before now
         → TouchesView (viewed_docs view i) (λ docs m. AreTouched i.dims has crosses heads m) n → now ≤ before + n
-    touched_reads None reads is = reads n (subst (λ (hs : List Head). AreTouched D has crosses hs n) (sym looks.now) (subst (λ d. AreTouched d has crosses heads n) seen.dims is))
+    touched_reads None reads is =
+        reads n (subst (λ (hs : List Head). AreTouched D has crosses hs n) (sym looks.now) (subst (λ d. AreTouched d has crosses heads n) seen.dims is))
     touched_reads (Some name) reads is =
-        touched_by (view_of name s.snapshots) (snapshot_of name i.snapshots) (found_shows seen.contents s.next heads name s.snapshots i.snapshots seen.snapshots looks.snapshots) reads is
+        touched_by (view_of name s.snapshots) (snapshot_of name i.snapshots)
+        (found_shows seen.contents s.next heads name s.snapshots i.snapshots seen.snapshots looks.snapshots) reads is
 
   module _ (k : ℕ) (at : List ℤ) (n : ℕ) where
     abbrev ReadsNearest : List Part → List Item → Type 0
@@ -219,7 +101,8 @@ module _ (D : ℕ) (files : Files) (s : SetData) (i : Index) (seen : Sees D file
         (found : List Near) → IsNearest k (nears_of at (entries_seen seen.contents parts buffer)) found
         → (leaves : ℕ) → AreNearLeaves D at (bound_of k found) (heads_of parts) leaves → now ≤ before + leaves
 
-    near_some : (parts : List Part) (buffer : List Item) (docs : List Document) → AreDocs s.next (entries_seen seen.contents parts buffer) docs → heads_of parts ≡ heads → ReadsNearest parts buffer
+    near_some : (parts : List Part) (buffer : List Item) (docs : List Document) → AreDocs s.next (entries_seen seen.contents parts buffer) docs
+        → heads_of parts ≡ heads → ReadsNearest parts buffer
         → AreNearLeaves i.dims at (reach k (nearest k at docs)) heads n → now ≤ before + n
     near_some parts buffer docs are same reads is =
         let xs = entries_seen seen.contents parts buffer in
@@ -249,20 +132,24 @@ module _ (D : ℕ) (files : Files) (s : SetData) (i : Index) (seen : Sees D file
         → TouchesView (viewed_docs view i) (λ docs m. AreNearLeaves i.dims at (reach k (nearest k at docs)) heads m) n → now ≤ before + n
     near_reads None reads is = near_some s.parts s.buffer i.docs seen.docs looks.now (reads seen.contents seen.stands) is
     near_reads (Some name) reads is =
-        near_by (view_of name s.snapshots) (snapshot_of name i.snapshots) (found_shows seen.contents s.next heads name s.snapshots i.snapshots seen.snapshots looks.snapshots)
+        near_by (view_of name s.snapshots) (snapshot_of name i.snapshots)
+        (found_shows seen.contents s.next heads name s.snapshots i.snapshots seen.snapshots looks.snapshots)
         (reads seen.contents seen.stands) is
 
 -- ---- reads
 
-module _ (D : ℕ) (told : Type 0) (is_told : told) (i : Index) (old new : Moment) (before after : List ℕ) (seen : Sees D old.files old.session.set i) (rested : i.begun ≡ false)
+module _ (D : ℕ) (told : Type 0) (is_told : told) (i : Index) (old new : Moment) (before after : List ℕ) (seen : Sees D old.files old.session.set i)
+    (rested : i.begun ≡ false)
     (heads : List Head) (looks : LooksAt heads old.session.set) where
-  full_reads : (points : List (List ℤ)) (result : Result Applied PageFault) → IsRefusal (step_on i (asks.Add points)) → IsApplied D told i (asks.Add points) old new before after result → new.reads ≡ old.reads
+  full_reads : (points : List (List ℤ)) (result : Result Applied PageFault) → IsRefusal (step_on i (asks.Add points))
+      → IsApplied D told i (asks.Add points) old new before after result → new.reads ≡ old.reads
   full_reads points (Ok applied.Done) h a = absurd (not_done D new.files i new.session.set before after (step_on i (asks.Add points)) h a.does)
   full_reads points (Ok (applied.Refused why)) h a = a.unread
   full_reads points (Err fault) h a = no (a.barred (subst (λ n. 2 ^ 24 < n + length points) seen.given (full_of i points h)))
 
   -- a light request, or one that is refused, reads no more than it touches
-  reads_few : (line : ℕ) (r : Request) (result : Result Applied PageFault) → Asks is_light i r → HasRoom old.session.set i (answer_to line (Some i) (step_on i r)).state → IsApplied D told i r old new before after result
+  reads_few : (line : ℕ) (r : Request) (result : Result Applied PageFault) → Asks is_light i r
+      → HasRoom old.session.set i (answer_to line (Some i) (step_on i r)).state → IsApplied D told i r old new before after result
       → (n : ℕ) → TouchesOn i heads r n → new.reads ≤ old.reads + n
   unfolding step_on
   reads_few line (asks.Add points) result ask room a n is =
@@ -270,11 +157,16 @@ module _ (D : ℕ) (told : Type 0) (is_told : told) (i : Index) (old new : Momen
       (λ h. let same = full_reads points result h a in omega (arith, same))
       (λ gives. let same = a.reads (omega (arith, room, gives)) in omega (arith, same))
       (full_or_given line i points)
-  reads_few line (asks.InBox view lo hi) result ask room a n is = touched_reads D old.files old.session.set i seen heads looks old.reads new.reads (in_box (record { lo = lo; hi = hi })) (boxes.crosses (record { lo = lo; hi = hi })) n view a.reads is
+  reads_few line (asks.InBox view lo hi) result ask room a n is =
+      touched_reads D old.files old.session.set i seen heads looks old.reads new.reads (in_box (record { lo = lo; hi = hi }))
+      (boxes.crosses (record { lo = lo; hi = hi })) n view a.reads is
   reads_few line (asks.InPolygon view rings) result ask room a n is =
-      touched_reads D old.files old.session.set i seen heads looks old.reads new.reads (polygons.has D (all_edges rings)) (polygons.crosses D (all_edges rings)) n view a.reads
-      (subst (λ (d : ℕ). TouchesView (viewed_docs view i) (λ docs m. AreTouched i.dims (in_plane_polygon d rings) (polygons.crosses d (all_edges rings)) heads m) n) seen.dims is)
-  reads_few line (asks.Nearest view k at) result ask room a n is = near_reads D old.files old.session.set i seen heads looks old.reads new.reads k at n view (a.reads is_told) is
+      touched_reads D old.files old.session.set i seen heads looks old.reads new.reads (polygons.has D (all_edges rings)) (polygons.crosses D (all_edges rings))
+      n view a.reads
+      (subst (λ (d : ℕ). TouchesView (viewed_docs view i)
+      (λ docs m. AreTouched i.dims (in_plane_polygon d rings) (polygons.crosses d (all_edges rings)) heads m) n) seen.dims is)
+  reads_few line (asks.Nearest view k at) result ask room a n is =
+      near_reads D old.files old.session.set i seen heads looks old.reads new.reads k at n view (a.reads is_told) is
   reads_few line (asks.DeleteBox lo hi) result (inl h) room a n is = absurd h
   reads_few line (asks.DeleteBox lo hi) result (inr e) room a n is = no e
   reads_few line asks.Flush result (inl h) room a n is = absurd h
@@ -290,7 +182,8 @@ module _ (D : ℕ) (told : Type 0) (is_told : told) (i : Index) (old new : Momen
   reads_few line r result ask room a n is = let same : new.reads ≡ old.reads = a.reads in omega (arith, same)
 
   -- and leaves the segments, and the buffer but for what it adds
-  done_few : (line : ℕ) (r : Request) → is_light r ≡ true → HasRoom old.session.set i (answer_to line (Some i) (step_on i r)).state → IsApplied D told i r old new before after (Ok applied.Done)
+  done_few : (line : ℕ) (r : Request) → is_light r ≡ true → HasRoom old.session.set i (answer_to line (Some i) (step_on i r)).state
+      → IsApplied D told i r old new before after (Ok applied.Done)
       → StaysFew heads i (answer_to line (Some i) (step_on i r)).state old.session.set new.session.set
   done_few line r light room a =
       let gives = light_gives line i r light (λ h. not_done D new.files i new.session.set before after (step_on i r) h a.does) in
@@ -303,9 +196,13 @@ module _ (D : ℕ) (told : Type 0) (is_told : told) (i : Index) (old new : Momen
       let h = a_refusal D new.files i new.session.set before after (step_on i r) why a.does in
       let still = refused_still told i r old.files new.files old.session new.session why h a.still in
       let same : given_of (answer_to line (Some i) (step_on i r)).state ≡ i.given = ap given_of (refusal_state line (Some i) (step_on i r) h) in
-      record { looks = looks_still heads old.session.set new.session.set still.set looks; waits = omega (arith, same, buffer_still old.session.set new.session.set still.set) }
+      record {
+        looks = looks_still heads old.session.set new.session.set still.set looks;
+        waits = omega (arith, same, buffer_still old.session.set new.session.set still.set);
+      }
 
-  stays_few : (line : ℕ) (r : Request) (result : Result Applied PageFault) → Asks is_light i r → HasRoom old.session.set i (answer_to line (Some i) (step_on i r)).state → IsApplied D told i r old new before after result
+  stays_few : (line : ℕ) (r : Request) (result : Result Applied PageFault) → Asks is_light i r
+      → HasRoom old.session.set i (answer_to line (Some i) (step_on i r)).state → IsApplied D told i r old new before after result
       → OnOk result (StaysFew heads i (answer_to line (Some i) (step_on i r)).state old.session.set new.session.set)
   stays_few line r (Err fault) ask room a = tt
   stays_few line r (Ok (applied.Refused why)) ask room a = refused_few line r why a
@@ -325,13 +222,16 @@ pub passes_applied : (lang : Language) → (D : ℕ) (told : Type 0) → told
 passes_applied lang D told is_told line i bytes r old new before after result seen says a = record {
   canon = a.canon;
   levels = λ rested. levels_after D told i r old new before after result a (begins_none D old.files old.session.set i seen rested);
-  still = λ rested u ask. still_files D told is_told i old new before after rested (begins_none D old.files old.session.set i seen rested) seen.given r result (asked lang is_query line i bytes r is ask) (unchanged_room old.session u) a;
+  still = λ rested u ask. still_files D told is_told i old new before after rested (begins_none D old.files old.session.set i seen rested) seen.given r result
+      (asked lang is_query line i bytes r is ask) (unchanged_room old.session u) a;
   idle = λ rested u ask. still_session D told is_told i old new before after rested
       (begins_none D old.files old.session.set i seen rested) seen.given r result (asked lang is_query line i bytes r is ask) u a;
-  reads = λ heads looks rested ask room n touches. reads_few D told is_told i old new before after seen rested heads looks line r result (asked lang is_light line i bytes r is ask)
+  reads = λ heads looks rested ask room n touches.
+      reads_few D told is_told i old new before after seen rested heads looks line r result (asked lang is_light line i bytes r is ask)
       (subst (λ (w : Answer). HasRoom old.session.set i w.state) answers room) a n (subst (λ (x : Heard). TouchesHeard (Some i) heads x n) is touches);
   looks = λ heads looks rested ask room. subst (λ (w : Answer). OnOk result (StaysFew heads i w.state old.session.set new.session.set)) (sym answers)
-      (stays_few D told is_told i old new before after seen rested heads looks line r result (asked lang is_light line i bytes r is ask) (subst (λ (w : Answer). HasRoom old.session.set i w.state) answers room) a);
+      (stays_few D told is_told i old new before after seen rested heads looks line r result (asked lang is_light line i bytes r is ask)
+      (subst (λ (w : Answer). HasRoom old.session.set i w.state) answers room) a);
 }
   where
     is : heard lang (Some i.dims) bytes ≡ Ok r
@@ -370,7 +270,11 @@ passes_unread lang D line i bytes f old r dims fails = record {
   still = λ rested u ask. refl;
   idle = λ rested u ask. on_ok r u;
   reads = λ heads looks rested ask room n touches. omega arith;
-  looks = λ heads looks rested ask room. on_ok r (record { looks = looks; waits = let same = ap given_of (unread_state lang line i bytes f (ap (λ d. heard lang (Some d) bytes) dims ∙ fails)) in omega (arith, same) });
+  looks = λ heads looks rested ask room.
+      on_ok r (record {
+        looks = looks;
+        waits = let same = ap given_of (unread_state lang line i bytes f (ap (λ d. heard lang (Some d) bytes) dims ∙ fails)) in omega (arith, same);
+      });
 }
 
 -- memory was wanting before anything was done

@@ -1,5 +1,6 @@
 -- A script of ranges, whose questions are boxes of points, answers and leaves what it does by the points of ranges.
-use Rattle.std.proofs.Common.{◌≡◌, ◌/◌, ◌%◌, ◌==◌, ◌||◌, ◌+◌, ℕ, Bool, true, false, cond, if◌then◌else◌, List, [], ◌∷◌, ◌++◌, length, map, filter, Option, Some, None, Ok, Err, arith, refl, sym, ap, subst, ◌∙◌, ◌⊎◌, inl, inr, ℤ}
+use Rattle.std.proofs.Common.{◌≡◌, ◌/◌, ◌%◌, ◌==◌, ◌||◌, ◌+◌, ℕ, Bool, true, false, cond, if◌then◌else◌, List, [], ◌∷◌, ◌++◌}
+use Rattle.std.proofs.Common.{length, map, filter, Option, Some, None, Ok, Err, arith, refl, sym, ap, subst, ◌∙◌, ◌⊎◌, inl, inr, ℤ}
 use Rattle.std.specs.Prelude.{All, ◌↔◌}
 use Rattle.std.specs.List.{list_any}
 use Rattle.std.specs.Option.{option_map}
@@ -78,7 +79,8 @@ module _ (test : Test) (decides : Decides test) where
   found_same line i question view query request_in even h = by (viewed_docs view i) refl
     where
       by : (o : Option (List Document)) → viewed_docs view i ≡ o
-          → answer_to line (Some i) (answered i o (λ docs. hits_text (hits (in_box (record { lo = (box_for question query).lo; hi = (box_for question query).hi })) docs)))
+          → answer_to line (Some i)
+          (answered i o (λ docs. hits_text (hits (in_box (record { lo = (box_for question query).lo; hi = (box_for question query).hi })) docs)))
           ≡ answer_to line (Some i) (answered i o (λ docs. hits_text (hits (λ p. test question (range_of (i.dims / 2) p) query) docs)))
       by None is = refl
       by (Some docs) is = ap (λ ns. answer_to line (Some i) (answered i (Some docs) (λ _. hits_text ns)))
@@ -191,8 +193,10 @@ module _ (A B : Meaning) (P : State → Type 0) (same : (line : ℕ) (s : State)
       stored = by f.stored;
     }
       where
-        by : IsStored files (stored_after A p.line p.stored p.state f.done) ⊎ InFlight A files (p.line + length f.done) (state_after A p.line p.state f.done) f.rest
-            → IsStored files (stored_after B p.line p.stored p.state f.done) ⊎ InFlight B files (p.line + length f.done) (state_after B p.line p.state f.done) f.rest
+        by : IsStored files (stored_after A p.line p.stored p.state f.done)
+            ⊎ InFlight A files (p.line + length f.done) (state_after A p.line p.state f.done) f.rest
+            → IsStored files (stored_after B p.line p.stored p.state f.done)
+            ⊎ InFlight B files (p.line + length f.done) (state_after B p.line p.state f.done) f.rest
         by (inl same) = inl (subst (IsStored files) (stored_same p.line p.stored p.state f.done state) same)
         by (inr flight) = inr (subst (λ s. InFlight B files (p.line + length f.done) s f.rest) (state_same p.line p.state f.done state)
             (flight_same files (p.line + length f.done) (state_after A p.line p.state f.done) f.rest (state_keeps p.line p.state f.done state) flight))
@@ -200,10 +204,12 @@ module _ (A B : Meaning) (P : State → Type 0) (same : (line : ℕ) (s : State)
     stops_keeps : Stops A told p files new → (after : State) × IsStored files after × P after
     stops_keeps f = by f.stored
       where
-        by : IsStored files (stored_after A p.line p.stored p.state f.done) ⊎ InFlight A files (p.line + length f.done) (state_after A p.line p.state f.done) f.rest
+        by : IsStored files (stored_after A p.line p.stored p.state f.done)
+            ⊎ InFlight A files (p.line + length f.done) (state_after A p.line p.state f.done) f.rest
             → (after : State) × IsStored files after × P after
         by (inl same) = (stored_after A p.line p.stored p.state f.done, same, stored_keeps p.line p.stored p.state f.done stored state)
-        by (inr flight) = flight_keeps files (p.line + length f.done) (state_after A p.line p.state f.done) f.rest (state_keeps p.line p.state f.done state) flight
+        by (inr flight) =
+            flight_keeps files (p.line + length f.done) (state_after A p.line p.state f.done) f.rest (state_keeps p.line p.state f.done state) flight
 
     breaks_same : Breaks A told p files new → Breaks B told p files new
     breaks_same f = record {
@@ -217,7 +223,8 @@ module _ (A B : Meaning) (P : State → Type 0) (same : (line : ℕ) (s : State)
       stored = subst (IsStored files) (stored_same p.line p.stored p.state (f.done ++ f.at ∷ []) state) f.stored;
     }
       where
-        at_same : A.answer (p.line + length f.done) (state_after A p.line p.state f.done) f.at ≡ B.answer (p.line + length f.done) (state_after B p.line p.state f.done) f.at
+        at_same : A.answer (p.line + length f.done) (state_after A p.line p.state f.done) f.at
+            ≡ B.answer (p.line + length f.done) (state_after B p.line p.state f.done) f.at
         at_same = same (p.line + length f.done) (state_after A p.line p.state f.done) f.at (state_keeps p.line p.state f.done state)
             ∙ ap (λ s. B.answer (p.line + length f.done) s f.at) (state_same p.line p.state f.done state)
 
@@ -234,7 +241,8 @@ module _ (A B : Meaning) (P : State → Type 0) (same : (line : ℕ) (s : State)
     ends_same status.TooLarge h = h
 
     finishes_keeps : Finishes A told p files new → (after : State) × IsStored files after × P after
-    finishes_keeps f = (final (state_after A p.line p.state p.rest), f.stored, rests (state_after A p.line p.state p.rest) (state_keeps p.line p.state p.rest state))
+    finishes_keeps f =
+        (final (state_after A p.line p.state p.rest), f.stored, rests (state_after A p.line p.state p.rest) (state_keeps p.line p.state p.rest state))
 
     -- and what is stored keeps P
     pub ends_keep : (s : Status) → Ends A told p files new s → (after : State) × IsStored files after × P after

@@ -1,5 +1,6 @@
 -- Points that are ranges stay so: what a line of ranges adds are ranges.
-use Rattle.std.proofs.Common.{◌≡◌, ◌/◌, ◌%◌, ◌==◌, ℕ, Bool, true, false, cond, not, List, [], ◌∷◌, ◌++◌, Option, Some, None, Ok, Err, arith, refl, sym, ap, subst, ◌∙◌}
+use Rattle.std.proofs.Common.{◌≡◌, ◌/◌, ◌%◌, ◌==◌, ℕ, Bool, true, false, cond, not, List, [], ◌∷◌}
+use Rattle.std.proofs.Common.{◌++◌, Option, Some, None, Ok, Err, arith, refl, sym, ap, subst, ◌∙◌}
 use Rattle.std.specs.Prelude.{All, nat_eq}
 use Rattle.std.specs.Option.{option_map}
 use Rattle.std.specs.Str.{bytes_eq}
@@ -34,12 +35,16 @@ module _ (line : ℕ) (i : Index) where
   request_keeps (asks.Add points) adds h =
       either AreRanges line i (is_full points i) (Refused why.Full) (more points i) h (λ even.
       let new : Document = record { number = i.next; points = points } in
-      let one : All (λ (d : Document). All (AreEnds (i.dims / 2)) d.points) (new ∷ []) = All-cons (λ (d : Document). All (AreEnds (i.dims / 2)) d.points) new [] adds (All-nil (λ (d : Document). All (AreEnds (i.dims / 2)) d.points)) in
+      let one : All (λ (d : Document). All (AreEnds (i.dims / 2)) d.points) (new ∷ []) =
+      All-cons (λ (d : Document). All (AreEnds (i.dims / 2)) d.points) new [] adds (All-nil (λ (d : Document). All (AreEnds (i.dims / 2)) d.points)) in
       (All-append (λ (d : Document). All (AreEnds (i.dims / 2)) d.points) i.docs (new ∷ []) (h even).0 one, (h even).1))
   request_keeps (asks.Delete doc) adds h = λ even.
       (All-filter (λ (d : Document). not (nat_eq d.number doc)) (λ (d : Document). All (AreEnds (i.dims / 2)) d.points) i.docs (h even).0, (h even).1)
-  request_keeps (asks.DeleteBox lo hi) adds h = λ even.
-      (All-filter (λ (d : Document). not (passes (in_box (record { lo = lo; hi = hi })) d)) (λ (d : Document). All (AreEnds (i.dims / 2)) d.points) i.docs (h even).0, (h even).1)
+  request_keeps (asks.DeleteBox lo hi) adds h = λ even. (
+    All-filter (λ (d : Document). not (passes (in_box (record { lo = lo; hi = hi })) d)) (λ (d : Document). All (AreEnds (i.dims / 2)) d.points) i.docs
+        (h even).0,
+    (h even).1,
+  )
   request_keeps (asks.InBox view lo hi) adds h = queried AreRanges line i (viewed_docs view i) _ h
   request_keeps (asks.InPolygon view rings) adds h = queried AreRanges line i (viewed_docs view i) _ h
   request_keeps (asks.Nearest view k at) adds h = queried AreRanges line i (viewed_docs view i) _ h
@@ -58,7 +63,8 @@ module _ (line : ℕ) (i : Index) where
 
 -- a new index has no point
 first_keeps : (line : ℕ) (r : Request) → AreRanges (answer_to line None (step None r)).state
-first_keeps line (asks.Create dims leaf) = λ even. (All-nil (λ (d : Document). All (AreEnds (dims / 2)) d.points), All-nil (λ (s : Snapshot). HaveRanges (dims / 2) s.docs))
+first_keeps line (asks.Create dims leaf) = λ even.
+    (All-nil (λ (d : Document). All (AreEnds (dims / 2)) d.points), All-nil (λ (s : Snapshot). HaveRanges (dims / 2) s.docs))
 first_keeps line r = tt
 
 -- what is asked of the points adds ranges

@@ -1,5 +1,6 @@
 -- Lines that are read one after the other: those so far, with whichever others behind them.
-use Rattle.std.proofs.Common.{◌≡◌, ◌+◌, ◌%◌, ◌==◌, ℕ, Bool, true, false, cond, if◌then◌else◌, Option, None, List, [], ◌∷◌, ◌++◌, Some, Result, Ok, Err, refl, sym, ap, ◌∙◌, subst, append_assoc}
+use Rattle.std.proofs.Common.{◌≡◌, ◌+◌, ◌%◌, ◌==◌, ℕ, Bool, true, false, cond, if◌then◌else◌, Option, None, List}
+use Rattle.std.proofs.Common.{[], ◌∷◌, ◌++◌, Some, Result, Ok, Err, refl, sym, ap, ◌∙◌, subst, append_assoc}
 use Rattle.outer_io.specs.Files.{Files}
 use Rattle.std.proofs.lemmas.Bool.{false≢true}
 use Rattle.script_lang.specs.Lines.{lines_of, words_of}
@@ -20,7 +21,7 @@ use Rattle.script_run.specs.declared.halt.Halt.{Halt}
 use Rattle.script_run.specs.Leads.{Closes, Leads, Passes, Moment}
 use Rattle.script_run.specs.Runs.{EndsLines, Halts}
 use Rattle.script_run.proofs.Leading.{Led, led_breaks, led_ends, led_first, led_on, led_stops}
-use Rattle.script_run.proofs.Lined.{Goes, end_lines, ends_then, goes_first, goes_on, halts_at, line_at, memory_at, place_on, stops_at}
+use Rattle.script_run.proofs.SoFar.{Goes, end_lines, ends_then, goes_first, goes_on, halts_at, line_at, memory_at, place_on, stops_at}
 use Rattle.script_run.specs.Languages.{heard, meaning, read_in}
 use Rattle.script_run.specs.declared.language.Language.{Language}
 use Rattle.script_run.specs.declared.language.Language.TheVariants.{Points, Ranges}
@@ -45,10 +46,12 @@ reads_alike lang dims line bytes text are is = sym (kept_heard lang dims line) �
 -- ---- what was read
 
 -- a line was given, or there was none
-pub gives_line : (told : Type 0) (old : LineReader) (left : List ℕ) (new : LineReader) (now bytes : List ℕ) (b : Bool) → b ≡ true → Gives told old left new now bytes (Ok b) → GivesLine told old left new now bytes
+pub gives_line : (told : Type 0) (old : LineReader) (left : List ℕ) (new : LineReader) (now bytes : List ℕ) (b : Bool) → b ≡ true
+    → Gives told old left new now bytes (Ok b) → GivesLine told old left new now bytes
 gives_line told old left new now bytes b is h = subst (λ (b : Bool). Gives told old left new now bytes (Ok b)) is h
 
-pub gives_none : (told : Type 0) (old : LineReader) (left : List ℕ) (new : LineReader) (now bytes : List ℕ) (b : Bool) → b ≡ false → Gives told old left new now bytes (Ok b)
+pub gives_none : (told : Type 0) (old : LineReader) (left : List ℕ) (new : LineReader) (now bytes : List ℕ) (b : Bool) → b ≡ false
+    → Gives told old left new now bytes (Ok b)
     → told → KnowsEnd old left → (lines_left old left ≡ []) × (now ≡ [])
 gives_none told old left new now bytes b is h = subst (λ (b : Bool). Gives told old left new now bytes (Ok b)) is h
 
@@ -65,7 +68,8 @@ module _ (told : Type 0) (old : LineReader) (before : List ℕ) (r : LineReader)
   abbrev pub one_read : (new : LineReader) (now bytes : List ℕ) → GivesLine told r left new now bytes → HasRead told old before new now
   one_read new now bytes gives = record {
     lines = so_far.lines ++ gives.line ∷ [];
-    whole = λ t knows. so_far.whole t knows ∙ ap (λ ls. so_far.lines ++ ls) (gives.first t (so_far.ended t knows)) ∙ sym (append_assoc so_far.lines (gives.line ∷ []) (lines_left new now));
+    whole = λ t knows. so_far.whole t knows ∙ ap (λ ls. so_far.lines ++ ls) (gives.first t (so_far.ended t knows))
+        ∙ sym (append_assoc so_far.lines (gives.line ∷ []) (lines_left new now));
     ended = λ t knows. gives.ended t (so_far.ended t knows);
   }
 
@@ -73,16 +77,22 @@ module _ (told : Type 0) (old : LineReader) (before : List ℕ) (r : LineReader)
   pub of_left : (P : List (List ℕ) → Type 0) → P (so_far.lines ++ lines_left r left) → OfLines told old before P
   of_left P h = (so_far.lines ++ lines_left r left, λ t knows. sym (so_far.whole t knows), h)
 
-  pub of_line : (P : List (List ℕ) → Type 0) (new : LineReader) (now bytes : List ℕ) (gives : GivesLine told r left new now bytes) → P (so_far.lines ++ gives.line ∷ lines_left new now) → OfLines told old before P
-  of_line P new now bytes gives h =
-      (so_far.lines ++ gives.line ∷ lines_left new now, λ t knows. sym (so_far.whole t knows ∙ ap (λ ls. so_far.lines ++ ls) (gives.first t (so_far.ended t knows))), h)
+  pub of_line : (P : List (List ℕ) → Type 0) (new : LineReader) (now bytes : List ℕ) (gives : GivesLine told r left new now bytes)
+      → P (so_far.lines ++ gives.line ∷ lines_left new now) → OfLines told old before P
+  of_line P new now bytes gives h = (
+    so_far.lines ++ gives.line ∷ lines_left new now,
+    λ t knows. sym (so_far.whole t knows ∙ ap (λ ls. so_far.lines ++ ls) (gives.first t (so_far.ended t knows))),
+    h,
+  )
 
-  pub of_all : (P : List (List ℕ) → Type 0) (new : LineReader) (now : List ℕ) → (told → KnowsEnd r left → (lines_left r left ≡ []) × (now ≡ [])) → P (so_far.lines ++ []) → OfLines told old before P
+  pub of_all : (P : List (List ℕ) → Type 0) (new : LineReader) (now : List ℕ) → (told → KnowsEnd r left → (lines_left r left ≡ []) × (now ≡ []))
+      → P (so_far.lines ++ []) → OfLines told old before P
   of_all P new now none h = (so_far.lines ++ [], λ t knows. sym (so_far.whole t knows ∙ ap (λ ls. so_far.lines ++ ls) (none t (so_far.ended t knows)).0), h)
 
   -- the rest of the lines is done by another call
   pub of_rest : (P Q : List (List ℕ) → Type 0) → ((ls : List (List ℕ)) → P ls → Q (so_far.lines ++ ls)) → OfLines told r left P → OfLines told old before Q
-  of_rest P Q f (lines, are, h) = (so_far.lines ++ lines, λ t knows. ap (λ ls. so_far.lines ++ ls) (are t (so_far.ended t knows)) ∙ sym (so_far.whole t knows), f lines h)
+  of_rest P Q f (lines, are, h) =
+      (so_far.lines ++ lines, λ t knows. ap (λ ls. so_far.lines ++ ls) (are t (so_far.ended t knows)) ∙ sym (so_far.whole t knows), f lines h)
 
 -- a reader that has read nothing has the source's lines
 pub new_knows : (r : LineReader) (left : List ℕ) → IsNew r → KnowsEnd r left
@@ -92,7 +102,8 @@ pub new_reader : (told : Type 0) (r : LineReader) (left : List ℕ) (P : List (L
 new_reader told r left P new (lines, are, h) = (lines, λ t. are t (new_knows r left new) ∙ ap (λ b. lines_of (b ++ left)) new.0, h)
 
 -- the same lines, of which more is known
-pub of_same : (told : Type 0) (r : LineReader) (left : List ℕ) (P Q : List (List ℕ) → Type 0) → ((ls : List (List ℕ)) → P ls → Q ls) → OfLines told r left P → OfLines told r left Q
+pub of_same : (told : Type 0) (r : LineReader) (left : List ℕ) (P Q : List (List ℕ) → Type 0) → ((ls : List (List ℕ)) → P ls → Q ls) → OfLines told r left P
+    → OfLines told r left Q
 of_same told r left P Q f (lines, are, h) = (lines, are, f lines h)
 
 -- whichever lines are left
@@ -102,7 +113,8 @@ of_any told r left P h = (lines_left r left, λ t knows. refl, h (lines_left r l
 -- ---- lines in a session
 
 -- from a place on the lines so far were done, and more are left
-pub record Going (lang : Language) (told : Type 0) (D line0 refused0 : ℕ) (i : Index) (stored : State) (written0 : List ℕ) (start : Moment) (lines : List (List ℕ)) (now : Moment) (line refused : ℕ) (more : List (List ℕ)) (written : List ℕ) : Type 0 where
+pub record Going (lang : Language) (told : Type 0) (D line0 refused0 : ℕ) (i : Index) (stored : State) (written0 : List ℕ) (start : Moment)
+    (lines : List (List ℕ)) (now : Moment) (line refused : ℕ) (more : List (List ℕ)) (written : List ℕ) : Type 0 where
   pub goes : Goes lang told D (place_on line0 refused0 i stored lines written0) now.files now.session line refused more written
   pub led : Led lang D line0 i lines start line goes.index more now
 
@@ -123,16 +135,19 @@ module _ (lang : Language) (told : Type 0) (D line0 refused0 : ℕ) (i : Index) 
         → Passes {T = Bool} {E = Stop} lang D line g.goes.index bytes now new (Ok is_refused)
         → Going lang told D line0 refused0 i stored written0 start lines new (line + 1) count more after
     going_on is_refused count counted answers passes = record {
-      goes = goes_on {told = told} lang D (place_on line0 refused0 i stored lines written0) now.files new.files now.session new.session line refused (bytes ∷ more) written after g.goes bytes more refl is_refused count counted answers;
+      goes = goes_on {told = told} lang D (place_on line0 refused0 i stored lines written0) now.files new.files now.session new.session line refused
+          (bytes ∷ more) written after g.goes bytes more refl is_refused count counted answers;
       led = led_on lang D line0 i lines start line g.goes.index (bytes ∷ more) now g.led bytes more refl new is_refused passes answers.0.index answers.0.state;
     }
 
     pub going_stops : {E : Type 0} (e : Stop) (d : E)
         → Answers lang told D (line_at line g.goes.index g.goes.stored bytes) new.files new.session written after (Err e)
         → Passes {T = Bool} {E = Stop} lang D line g.goes.index bytes now new (Err e)
-        → EndsLines (meaning lang) told (place_on line0 refused0 i stored lines written0) new.files after (Err e) × Leads {T = ℕ} lang line0 i lines start new (Err d)
+        → EndsLines (meaning lang) told (place_on line0 refused0 i stored lines written0) new.files after (Err e)
+        × Leads {T = ℕ} lang line0 i lines start new (Err d)
     going_stops e d answers passes = (
-      stops_at {told = told} lang D (place_on line0 refused0 i stored lines written0) now.files new.files now.session new.session line refused (bytes ∷ more) written after g.goes bytes more refl e answers,
+      stops_at {told = told} lang D (place_on line0 refused0 i stored lines written0) now.files new.files now.session new.session line refused (bytes ∷ more)
+          written after g.goes bytes more refl e answers,
       led_stops lang D line0 i lines start line g.goes.index (bytes ∷ more) now g.led bytes more refl new e d passes,
     )
 
@@ -140,19 +155,23 @@ module _ (lang : Language) (told : Type 0) (D line0 refused0 : ℕ) (i : Index) 
     pub going_halts : {E : Type 0} (d : E)
         → Halts (meaning lang) told (place_on line0 refused0 i stored lines written0) now.files written × Leads {T = ℕ} lang line0 i lines start now (Err d)
     going_halts d = (
-      halts_at {told = told} lang D (place_on line0 refused0 i stored lines written0) now.files now.files now.session now.session line refused more written written g.goes,
+      halts_at {told = told} lang D (place_on line0 refused0 i stored lines written0) now.files now.files now.session now.session line refused more written
+          written g.goes,
       led_breaks lang D line0 i lines start line g.goes.index more now g.led d,
     )
 
     pub going_wants : {E : Type 0} (d : E)
-        → EndsLines (meaning lang) told (place_on line0 refused0 i stored lines written0) now.files written (Err stop.Memory) × Leads {T = ℕ} lang line0 i lines start now (Err d)
+        → EndsLines (meaning lang) told (place_on line0 refused0 i stored lines written0) now.files written (Err stop.Memory)
+        × Leads {T = ℕ} lang line0 i lines start now (Err d)
     going_wants d = (
-      memory_at {told = told} lang D (place_on line0 refused0 i stored lines written0) now.files now.files now.session now.session line refused more written written g.goes,
+      memory_at {told = told} lang D (place_on line0 refused0 i stored lines written0) now.files now.files now.session now.session line refused more written
+          written g.goes,
       led_breaks lang D line0 i lines start line g.goes.index more now g.led d,
     )
 
   -- no line is left
-  pub going_ends : {E : Type 0} (g : Going lang told D line0 refused0 i stored written0 start lines now line refused [] written) (new : Moment) (done : Result ℕ Stop) (result : Result ℕ E)
+  pub going_ends : {E : Type 0} (g : Going lang told D line0 refused0 i stored written0 start lines now line refused [] written) (new : Moment)
+      (done : Result ℕ Stop) (result : Result ℕ E)
       → IsEnd new.files g.goes.index g.goes.stored refused done → Closes D g.goes.index now new result
       → EndsLines (meaning lang) told (place_on line0 refused0 i stored lines written0) new.files written done × Leads lang line0 i lines start new result
   going_ends g new done result end closes = (
@@ -162,7 +181,8 @@ module _ (lang : Language) (told : Type 0) (D line0 refused0 : ℕ) (i : Index) 
   )
 
 -- what was committed is so for lines that come from a source
-pub closes_halted : {T : Type 0} (D : ℕ) (i : Index) (old new : Moment) (done : Result T Stop) (result : Result T Halt) → result ≡ halted done → Closes D i old new done → Closes D i old new result
+pub closes_halted : {T : Type 0} (D : ℕ) (i : Index) (old new : Moment) (done : Result T Stop) (result : Result T Halt) → result ≡ halted done
+    → Closes D i old new done → Closes D i old new result
 closes_halted {T} D i old new done result is h = subst (Closes D i old new) (sym is) (by_done done h)
   where
     by_done : (done : Result T Stop) → Closes D i old new done → Closes D i old new (halted done)

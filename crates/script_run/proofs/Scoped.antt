@@ -25,7 +25,8 @@ use Rattle.segment_set.specs.Kept.{IsAtRest}
 use Rattle.explain_queries.specs.Explained.{AreStoredHeads, IsScope, Scope}
 use Rattle.explain_queries.specs.Explains.{IsExplaining}
 
-pub heads_zip : (D : ℕ) (files : Files) (c : Contents) (ls : List Listed) (ps : List Part) → All (IsRead D files c) ps → map (λ (p : Part). p.head.id) ps ≡ map (λ (l : Listed). l.segment) ls
+pub heads_zip : (D : ℕ) (files : Files) (c : Contents) (ls : List Listed) (ps : List Part) → All (IsRead D files c) ps
+    → map (λ (p : Part). p.head.id) ps ≡ map (λ (l : Listed). l.segment) ls
     → AllZip (HasHead D files) ls (heads_of ps)
 heads_zip D files c [] [] reads same = tt
 heads_zip D files c [] (p ∷ ps) reads same = absurd cc
@@ -34,7 +35,11 @@ heads_zip D files c (l ∷ ls) (p ∷ ps) reads same =
     let at : p.head.id ≡ l.segment = cc in
     let later : map (λ (q : Part). q.head.id) ps ≡ map (λ (m : Listed). m.segment) ls = cc in
     let read = All-head (IsRead D files c) p ps reads in (
-      record { id = at; is = subst (λ n. IsHeadOf D (bytes_of (files (Segment n))) p.head) at (head_of_segment D (bytes_of (files (Segment p.head.id))) p.head (c p.head.id) read.held) },
+      record {
+        id = at;
+        is = subst (λ n.
+            IsHeadOf D (bytes_of (files (Segment n))) p.head) at (head_of_segment D (bytes_of (files (Segment p.head.id))) p.head (c p.head.id) read.held);
+      },
       heads_zip D files c ls ps (All-tail (IsRead D files c) p ps reads) later,
     )
 
@@ -47,7 +52,8 @@ pub record Holds (files : Files) (c : CommitData) (s : Scope) : Type 0 where
   pub sets : List LiveSet
   pub live : HaveLive files c sets
 
-some_heads : (files : Files) (c : CommitData) (i : Index) (heads : List Head) → IsCommitFile (bytes_of (files Commit)) c → AreStoredHeads files (Some i) heads → HaveHeads files c heads
+some_heads : (files : Files) (c : CommitData) (i : Index) (heads : List Head) → IsCommitFile (bytes_of (files Commit)) c → AreStoredHeads files (Some i) heads
+    → HaveHeads files c heads
 some_heads files c i heads says (e, is, have) = subst (λ (d : CommitData). HaveHeads files d heads) (one_file (bytes_of (files Commit)) e c is says) have
 
 pub scope_holds : (files : Files) (c : CommitData) (s : Scope) → IsCommitFile (bytes_of (files Commit)) c → IsScope files s → Holds files c s
@@ -66,7 +72,8 @@ scope_holds files c s says scope =
 pub none_scope : (files : Files) (s : Scope) → files Commit ≡ None → IsScope files s → s ≡ record { state = None; heads = [] }
 none_scope files s none scope = by s.state s.heads scope.stored scope.heads
   where
-    by : (state : State) (heads : List Head) → IsStored files state → AreStoredHeads files state heads → ◌≡◌ {A = Scope} (record { state = state; heads = heads }) (record { state = None; heads = [] })
+    by : (state : State) (heads : List Head) → IsStored files state → AreStoredHeads files state heads
+        → ◌≡◌ {A = Scope} (record { state = state; heads = heads }) (record { state = None; heads = [] })
     by None heads stored is = λ i. record { state = None; heads = is i }
     by (Some j) heads stored is = let there = (file_there (files Commit) stored.commit stored.holds.commit).0 in absurd cc
 
@@ -79,7 +86,8 @@ scope_of files (Some i) stored = (
 )
 
 -- a set that was attached is one whose index is explained
-pub attached_explains : (D : ℕ) (files : Files) (c : CommitData) (set : SetData) (s : Scope) → c.dims ≡ D → IsCommitFile (bytes_of (files Commit)) c → ((i : Index) → IsStored files (Some i) → Sees D files set i)
+pub attached_explains : (D : ℕ) (files : Files) (c : CommitData) (set : SetData) (s : Scope) → c.dims ≡ D → IsCommitFile (bytes_of (files Commit)) c
+    → ((i : Index) → IsStored files (Some i) → Sees D files set i)
     → IsAtRest set c → IsScope files s → IsExplaining D files set s
 attached_explains D files c set s dims says seen rest scope =
     let holds = scope_holds files c s says scope in
@@ -89,7 +97,8 @@ attached_explains D files c set s dims says seen rest scope =
       state = holds.state;
       seen = sees;
       heads = heads_once files c (heads_of set.parts) s.heads
-          (subst (λ n. AllZip (HasHead n files) c.listed (heads_of set.parts)) (sym dims) (heads_zip D files sees.contents c.listed set.parts sees.stands.now rest.as_committed.ids)) holds.heads;
+          (subst (λ n. AllZip (HasHead n files) c.listed (heads_of set.parts)) (sym dims)
+          (heads_zip D files sees.contents c.listed set.parts sees.stands.now rest.as_committed.ids)) holds.heads;
     }
 
 -- opening reads the pages of the commit, and those of the segments
@@ -111,4 +120,6 @@ commit_few files s pages before now scope opening unread most = by s.state scope
   where
     by : (state : State) → IsStored files state → now ≤ before + pages
     by None none = let same = unread none in omega (arith, same)
-    by (Some i) stored = let few = most stored.commit stored.holds.commit in let is = opening_is files stored.commit s pages stored.holds.commit scope opening in omega (arith, few, is)
+    by (Some i) stored =
+        let few = most stored.commit stored.holds.commit in
+        let is = opening_is files stored.commit s pages stored.holds.commit scope opening in omega (arith, few, is)

@@ -39,7 +39,8 @@ sink_shows P (Err stop.Memory) only = tt
 sink_shows {T} P (Err (stop.Damaged d)) only = let e : IsErrOf {T = T} (Err (stop.Damaged d)) stop.SinkFault = only in absurd cc
 
 -- a line where no index is there stops for one of these two
-pub first_shows : (S T : Type 0) (P : Damage → Type 0) (e : Stop) → IsErrOf {T = S} (Err e) stop.SinkFault ⊎ IsErrOf {T = S} (Err e) stop.Memory → OnStopDamage {T = T} (Err e) P
+pub first_shows : (S T : Type 0) (P : Damage → Type 0) (e : Stop) → IsErrOf {T = S} (Err e) stop.SinkFault ⊎ IsErrOf {T = S} (Err e) stop.Memory
+    → OnStopDamage {T = T} (Err e) P
 first_shows S T P stop.SinkFault cause = tt
 first_shows S T P stop.FolderFault cause = tt
 first_shows S T P stop.Memory cause = tt
@@ -61,7 +62,8 @@ stop_shows T P page.Memory h = tt
 stop_shows T P (page.Damaged d) h = h
 
 -- a run stops for a fault
-pub fault_shows : {T : Type 0} (P : Damage → Type 0) (fault : PageFault) → FaultShows P fault → (result : Result T Stop) → result ≡ Err (stop_of fault) → OnStopDamage result P
+pub fault_shows : {T : Type 0} (P : Damage → Type 0) (fault : PageFault) → FaultShows P fault → (result : Result T Stop) → result ≡ Err (stop_of fault)
+    → OnStopDamage result P
 fault_shows {T} P fault h result is = subst (λ (r : Result T Stop). OnStopDamage r P) (sym is) (stop_shows T P fault h)
 
 -- the same stop of another call
@@ -95,7 +97,8 @@ fault_at S T f g page.Failed less same h = tt
 fault_at S T f g page.Memory less same h = tt
 fault_at S T f g (page.Damaged d) less same h = evident_at IsTwice S T f g d less same h
 
-pub stop_less : {X : Type 0} (S T : Type 0) (files : Files) (result : Result X Stop) → (T → S) → OnStopDamage result (IsEvident S files) → OnStopDamage result (IsEvident T files)
+pub stop_less : {X : Type 0} (S T : Type 0) (files : Files) (result : Result X Stop) → (T → S) → OnStopDamage result (IsEvident S files)
+    → OnStopDamage result (IsEvident T files)
 stop_less S T files (Ok x) less h = tt
 stop_less S T files (Err stop.SinkFault) less h = tt
 stop_less S T files (Err stop.FolderFault) less h = tt
@@ -109,13 +112,16 @@ pub says_after : (old new : Files) (c : CommitData) → new ≡ old → IsCommit
 says_after old new c same says = subst (λ (f : Files). IsCommitFile (bytes_of (f Commit)) c) (sym same) says
 
 -- what is attached is trusted with the files, which stay
-pub attached_trusts : (D : ℕ) (old new : Files) (result : Result SessionData PageFault) → new ≡ old → IfOk result (Guards D old) → IfOk result (λ s. IsFaithful D old s.set)
+pub attached_trusts : (D : ℕ) (old new : Files) (result : Result SessionData PageFault) → new ≡ old → IfOk result (Guards D old)
+    → IfOk result (λ s. IsFaithful D old s.set)
     → IfOk result (λ s. AreTraced D old s.set.parts) → IfOk result (Trusts D new)
-attached_trusts D old new (Ok s) same guards faithful traced = subst (λ (f : Files). Trusts D f s) (sym same) (record { guards = guards; faithful = faithful; traced = traced })
+attached_trusts D old new (Ok s) same guards faithful traced =
+    subst (λ (f : Files). Trusts D f s) (sym same) (record { guards = guards; faithful = faithful; traced = traced })
 attached_trusts D old new (Err e) same guards faithful traced = tt
 
 -- a session that has no segment, over files without an index, is trusted where it guards them and is faithful
-pub bare_trusts : (D : ℕ) (files : Files) (s : SessionData) → (files Commit ≡ None → Guards D files s) → IsFaithful D files s.set → s.set.parts ≡ [] → files Commit ≡ None → Trusts D files s
+pub bare_trusts : (D : ℕ) (files : Files) (s : SessionData) → (files Commit ≡ None → Guards D files s) → IsFaithful D files s.set → s.set.parts ≡ []
+    → files Commit ≡ None → Trusts D files s
 bare_trusts D files s guards faithful bare none = record {
   guards = guards none;
   faithful = faithful;

@@ -1,5 +1,6 @@
 -- What a run does on its way from the opening on.
-use Rattle.std.proofs.Common.{◌≡◌, ◌≤◌, ◌+◌, ◌/◌, ℕ, Bool, false, List, [], ◌∷◌, ◌++◌, length, map, None, Some, Result, Ok, Err, IfOk, OnOk, refl, sym, ap, subst, ◌∙◌, ◌⊎◌, inl, inr, arith}
+use Rattle.std.proofs.Common.{◌≡◌, ◌≤◌, ◌+◌, ℕ, Bool, false, List, [], ◌∷◌, ◌++◌, length, map, None, Some}
+use Rattle.std.proofs.Common.{Result, Ok, Err, IfOk, OnOk, refl, sym, ap, subst, ◌∙◌, ◌⊎◌, inl, inr, arith}
 use Rattle.std.specs.List.{All, AllZip, Contains}
 use Rattle.std.proofs.lemmas.List.Elements.{All-nil}
 use Rattle.outer_io.specs.declared.file_name.FileName.TheVariants.{Commit}
@@ -14,7 +15,7 @@ use Rattle.commit_list.proofs.CommitPages.{one_file}
 use Rattle.segment_file.specs.Heads.{Head}
 use Rattle.script_lang.specs.Requests.{Request}
 use Rattle.index_model.specs.State.{Index, Snapshot, State, new_index}
-use Rattle.stored_index.specs.Stored.{HasHead, HaveHeads, HaveLive, IsStored}
+use Rattle.stored_index.specs.Stored.{HasHead, HaveHeads, HaveLive}
 use Rattle.stored_index.specs.Opening.{segments_pages}
 use Rattle.stored_index.proofs.Parts.{heads_once}
 use Rattle.segment_view.specs.Parts.{Contents, Part, heads_of, live_in_parts}
@@ -26,7 +27,7 @@ use Rattle.index_core.specs.Sessions.{Guards, IsLast, IsUnchanged, SessionData}
 use Rattle.index_core.specs.Whole.{HasNewCanonical}
 use Rattle.index_core.proofs.Listed.{attached_listed}
 use Rattle.explain_queries.specs.Explained.{IsScope, Scope}
-use Rattle.script_run.specs.Costs.{AllAsk, AreLight, RunReadsFew, TouchesLines, begins_no_merge, given_of, is_query}
+use Rattle.script_run.specs.Costs.{AllAsk, AreLight, TouchesLines, begins_no_merge, given_of, is_query}
 use Rattle.script_run.specs.Leads.{AreListed, Leads, LeadsAll, LeadsFrom, Opens, Moment}
 use Rattle.run_status.specs.Ends.{IsAnswer}
 use Rattle.script_run.specs.Origins.{IsFrom}
@@ -35,11 +36,11 @@ use Rattle.run_status.specs.declared.stop.Stop.{Stop}
 use Rattle.run_status.specs.declared.stop.Stop.TheVariants as stop
 use Rattle.script_run.specs.declared.origin.Origin.{Origin}
 use Rattle.script_run.specs.declared.origin.Origin.TheVariants as origin
-use Rattle.script_run.proofs.Asking.{all_first, all_rest, query_stays, state_rest, touches_parts}
+use Rattle.script_run.proofs.Asking.{query_stays}
+use Rattle.script_run.proofs.AskingLines.{all_first, all_rest, state_rest, touches_parts}
 use Rattle.script_run.proofs.Leading.{levels_still}
 use Rattle.script_run.proofs.Passing.{on_ok}
-use Rattle.script_run.proofs.Opened.{none_stored, some_stored}
-use Rattle.script_run.proofs.Scoped.{commit_few, heads_zip, none_scope, opening_is, scope_holds}
+use Rattle.script_run.proofs.Scoped.{heads_zip, none_scope, scope_holds}
 use Rattle.script_run.specs.Languages.{answer, meaning}
 use Rattle.script_run.specs.Script.{state_after}
 use Rattle.script_run.specs.declared.language.Language.{Language}
@@ -57,10 +58,12 @@ none_shown : (c : Contents) (next : ℕ) (views : List NamedView) (ts : List Sna
 none_shown c next [] ts none shown = refl
 none_shown c next (v ∷ vs) ts none shown = absurd (subst (AllZip (ShowsSnapshot c next) (v ∷ vs)) none shown)
 
-looks_now : (D : ℕ) (files : Files) (s : SetData) (i : Index) (heads : List Head) → Sees D files s i → i.snapshots ≡ [] → heads_of s.parts ≡ heads → LooksAt heads s
+looks_now : (D : ℕ) (files : Files) (s : SetData) (i : Index) (heads : List Head) → Sees D files s i → i.snapshots ≡ [] → heads_of s.parts ≡ heads
+    → LooksAt heads s
 looks_now D files s i heads seen none now = record {
   now = now;
-  snapshots = subst (All (λ (v : NamedView). heads_of v.parts ≡ heads)) (sym (none_shown seen.contents s.next s.snapshots i.snapshots none seen.snapshots)) (All-nil (λ (v : NamedView). heads_of v.parts ≡ heads));
+  snapshots = subst (All (λ (v : NamedView). heads_of v.parts ≡ heads)) (sym (none_shown seen.contents s.next s.snapshots i.snapshots none seen.snapshots))
+      (All-nil (λ (v : NamedView). heads_of v.parts ≡ heads));
 }
 
 no_length : {X : Type 0} (xs : List X) → length xs ≤ 0 → xs ≡ []
@@ -68,13 +71,15 @@ no_length [] h = refl
 no_length (x ∷ xs) h = absurd (omega (arith, h))
 
 -- a new session
-pub opens_new : (D dims leaf : ℕ) (files : Files) (reads : ℕ) (s : SessionData) (i : Index) (stored : State) → dims ≡ D → ((f : Files) → Sees D f s.set (new_index D leaf)) → s.set.parts ≡ []
+pub opens_new : (D dims leaf : ℕ) (files : Files) (reads : ℕ) (s : SessionData) (i : Index) (stored : State) → dims ≡ D
+    → ((f : Files) → Sees D f s.set (new_index D leaf)) → s.set.parts ≡ []
     → IsFrom files (origin.New dims leaf) i stored → Opens (origin.New dims leaf) i stored files reads reads (Ok s)
 opens_new D dims leaf files reads s i stored d seen bare from = record {
   rested = ap (λ (j : Index). j.begun) from.1;
   fresh = record { empty = no_entries (seen files); listed = λ p there apart. none_there p (subst (λ (ps : List Part). Contains ps p) bare there) };
   idle = λ is. let e : None ≡ Some i = sym from.2 ∙ is in absurd cc;
-  looks = λ scope is. looks_now D files s.set (new_index D leaf) scope.heads (seen files) refl (ap heads_of bare ∙ ap (λ (q : Scope). q.heads) (sym (none_scope files scope from.0 is)));
+  looks = λ scope is. looks_now D files s.set (new_index D leaf) scope.heads (seen files) refl
+      (ap heads_of bare ∙ ap (λ (q : Scope). q.heads) (sym (none_scope files scope from.0 is)));
   reads = λ scope is. omega arith;
 }
   where
@@ -86,10 +91,13 @@ opens_new D dims leaf files reads s i stored d seen bare from = record {
     back_none (x ∷ xs) ys e = absurd cc
 
     no_entries : Sees D files s.set (new_index D leaf) → s.set.buffer ≡ []
-    no_entries sees = back_none (live_in_parts sees.contents s.set.parts) s.set.buffer (no_length _ (let few = sees.few in let given = sees.given in omega (arith, few, given)))
+    no_entries sees = back_none (live_in_parts sees.contents s.set.parts) s.set.buffer
+        (no_length _ (let few = sees.few in let given = sees.given in omega (arith, few, given)))
 
-module _ (D : ℕ) (old new : Files) (before now : ℕ) (commit : CommitData) (i : Index) (stored : State) (dims : commit.dims ≡ D) (same : new ≡ old) (from : IsFrom old (origin.Stored commit) i stored)
-    (reads : (heads : List Head) (sets : List LiveSet) → HaveHeads old commit heads → HaveLive old commit sets → now ≤ before + segments_pages old commit.listed heads) where
+module _ (D : ℕ) (old new : Files) (before now : ℕ) (commit : CommitData) (i : Index) (stored : State) (dims : commit.dims ≡ D) (same : new ≡ old)
+    (from : IsFrom old (origin.Stored commit) i stored)
+    (reads : (heads : List Head) (sets : List LiveSet) → HaveHeads old commit heads → HaveLive old commit sets
+    → now ≤ before + segments_pages old commit.listed heads) where
   few_reads : (s : Scope) → IsScope old s → now ≤ before + segments_pages old commit.listed s.heads
   few_reads s is = let holds = scope_holds old commit s from.0 is in reads s.heads holds.sets holds.heads holds.live
 
@@ -99,13 +107,15 @@ module _ (D : ℕ) (old new : Files) (before now : ℕ) (commit : CommitData) (i
   rested_begun : i.begun ≡ false
   rested_begun = ap (λ (j : Index). j.begun) from.1.is
 
-  own_heads : (s : SessionData) (sees : Sees D old s.set i) → Guards D old s → IsUnchanged s → (scope : Scope) → IsScope old scope → heads_of s.set.parts ≡ scope.heads
+  own_heads : (s : SessionData) (sees : Sees D old s.set i) → Guards D old s → IsUnchanged s → (scope : Scope) → IsScope old scope
+      → heads_of s.set.parts ≡ scope.heads
   own_heads s sees guards u scope is =
       let last = subst (IsLast old s.set) u.is (guards.last u.done) in
       let one = one_file (bytes_of (old Commit)) u.commit commit last.says from.0 in
       let ids = subst (λ (c : CommitData). map (λ (p : Part). p.head.id) s.set.parts ≡ map (λ (l : Listed). l.segment) c.listed) one u.same.ids in
       heads_once old commit (heads_of s.set.parts) scope.heads
-      (subst (λ n. AllZip (HasHead n old) commit.listed (heads_of s.set.parts)) (sym dims) (heads_zip D old sees.contents commit.listed s.set.parts sees.stands.now ids)) (scope_holds old commit scope from.0 is).heads
+      (subst (λ n. AllZip (HasHead n old) commit.listed (heads_of s.set.parts)) (sym dims)
+      (heads_zip D old sees.contents commit.listed s.set.parts sees.stands.now ids)) (scope_holds old commit scope from.0 is).heads
 
   -- one that was attached, or wasn't
   pub opens_stored : (result : Result SessionData PageFault) → IfOk result (λ s. Sees D old s.set i) → IfOk result (Guards D old) → IfOk result IsUnchanged
@@ -142,7 +152,8 @@ module _ {T : Type 0} {E : Type 0} (lang : Language) (o : Origin) (i : Index) (s
       → Leads lang line i lines (record { files = middle; session = s; reads = between }) new result
       → LeadsFrom lang o i stored line lines old new.files before new.reads result
   open_leads s new result opens leads = record {
-    canon = subst (λ (f : Files). OnOk result (HasNewCanonical f new.files)) same (leads.canon (subst (λ (f : Files). AreListed f s.set) (sym same) opens.fresh.listed));
+    canon = subst (λ (f : Files). OnOk result (HasNewCanonical f new.files)) same
+        (leads.canon (subst (λ (f : Files). AreListed f s.set) (sym same) opens.fresh.listed));
     levels = λ asks. subst (λ (f : Files). OnOk result (KeepsLevels f new.files)) same (leads.levels opens.rested asks);
     still = λ there asks. leads.still opens.rested (opens.idle there) asks ∙ same;
     reads = λ scope is which n touches.
@@ -183,17 +194,20 @@ module _ (lang : Language) (lines : List (List ℕ)) (line : ℕ) (rest : List (
         touches_none lang heads (line + 1) more n parts.0 parts.1 parts.2 parts.4 parts.3;
   }
 
-  module _ {T E : Type 0} (dims leaf : ℕ) (made : (answer lang line None x).state ≡ Some (new_index dims leaf)) (old new : Files) (before now : ℕ) (none : old Commit ≡ None) (result : Result T E)
+  module _ {T E : Type 0} (dims leaf : ℕ) (made : (answer lang line None x).state ≡ Some (new_index dims leaf)) (old new : Files) (before now : ℕ)
+      (none : old Commit ≡ None) (result : Result T E)
       (leads : LeadsFrom lang (origin.New dims leaf) (new_index dims leaf) None (line + 1) more old new before now result) where
     no_queries : AllAsk lang is_query 1 None lines → ⊥
     no_queries asks =
-        let stays = query_stays lang line None x (all_first lang line None (Some (new_index dims leaf)) rest x more is made is_query (near.asks is_query asks)) in
+        let stays =
+        query_stays lang line None x (all_first lang line None (Some (new_index dims leaf)) rest x more is made is_query (near.asks is_query asks)) in
         let e : Some (new_index dims leaf) ≡ None = sym made ∙ stays in absurd cc
 
     light_rest : (heads : List Head) → AreLight lang heads 1 None lines → AreLight lang heads (line + 1) (Some (new_index dims leaf)) more
     light_rest heads l = record {
       asks = all_rest lang line None (Some (new_index dims leaf)) rest x more is made is_light (near.asks is_light l.asks);
-      points = subst (λ (s : State). given_of s ≤ 0 + 16384) (sym (state_rest lang line None (Some (new_index dims leaf)) rest x more is made ∙ near.after)) l.points;
+      points = subst (λ (s : State). given_of s ≤ 0 + 16384) (sym (state_rest lang line None (Some (new_index dims leaf)) rest x more is made ∙ near.after))
+          l.points;
       room = l.room;
     }
 
@@ -213,7 +227,8 @@ module _ (lang : Language) (lines : List (List ℕ)) (line : ℕ) (rest : List (
       still = λ asks. absurd (no_queries asks);
       reads = λ s scope pages opening which n touches.
           let is_none = ap (λ (q : Scope). q.state) (none_scope old s none scope) in
-          let few = made_reads s scope (subst (λ (o : State). AllAsk lang is_query 1 o lines ⊎ AreLight lang s.heads 1 o lines) is_none which) n (subst (λ (o : State). TouchesLines lang s.heads 1 o lines n) is_none touches) in
+          let few = made_reads s scope (subst (λ (o : State). AllAsk lang is_query 1 o lines ⊎ AreLight lang s.heads 1 o lines) is_none which) n
+          (subst (λ (o : State). TouchesLines lang s.heads 1 o lines n) is_none touches) in
           omega (arith, few);
     }
 
@@ -222,7 +237,8 @@ pub leads_same : {T E : Type 0} (lang : Language)
     → (state : State) (lines : List (List ℕ)) (old middle new : Files) (before between now : ℕ) (result : Result T E) → middle ≡ old → between ≡ before
     → LeadsAll lang state lines middle new between now result → LeadsAll lang state lines old new before now result
 leads_same lang state lines old middle new before between now result same unread leads =
-    subst (λ (f : Files). LeadsAll lang state lines f new before now result) same (subst (λ (n : ℕ). LeadsAll lang state lines middle new n now result) unread leads)
+    subst (λ (f : Files). LeadsAll lang state lines f new before now result) same
+    (subst (λ (n : ℕ). LeadsAll lang state lines middle new n now result) unread leads)
 
 -- nothing was done with the folder
 pub leads_none : {T E : Type 0} (lang : Language) → (state : State) (lines : List (List ℕ)) (old new : Files) (before now : ℕ) (result : Result T E) → new ≡ old
@@ -232,65 +248,6 @@ leads_none lang state lines old new before now result same unread = record {
   levels = λ asks. on_ok result (levels_still old new same);
   still = λ asks. same;
   reads = λ s scope pages opening which n touches. omega (arith, unread);
-}
-
--- ---- what the folder stores
-
-module _ {T E : Type 0} (lang : Language) (state : State) (lines : List (List ℕ)) (old middle new : Files) (before between now : ℕ) (result : Result T E)
-    (same : middle ≡ old) (stored : IsStored old state) where
-  -- no commit was found
-  pub leads_first : old Commit ≡ None → between ≡ before → (middle Commit ≡ None → LeadsAll lang None lines middle new between now result)
-      → LeadsAll lang state lines old new before now result
-  leads_first none unread leads =
-      subst (λ (s : State). LeadsAll lang s lines old new before now result) (sym (none_stored old state none stored))
-      (subst (λ (f : Files). LeadsAll lang None lines f new before now result) same
-      (subst (λ (n : ℕ). LeadsAll lang None lines middle new n now result) unread (leads (ap (λ (f : Files). f Commit) same ∙ none))))
-
-  module _ (commit : CommitData) (says : IsCommitFile (bytes_of (old Commit)) commit) (most : between ≤ before + length (bytes_of (old Commit)) / 4096)
-      (leads : (i : Index) (s : State) → IsFrom middle (origin.Stored commit) i s → LeadsFrom lang (origin.Stored commit) i s 1 lines middle new between now result) where
-    -- for whichever state is stored
-    leads_at : (s : State) → IsStored old s → (i : Index) × (s ≡ Some i) × LeadsFrom lang (origin.Stored commit) i (Some i) 1 lines old new between now result
-    leads_at s is =
-        let some = some_stored old commit s says is in (
-          some.0,
-          some.1,
-          subst (λ (f : Files). LeadsFrom lang (origin.Stored commit) some.0 (Some some.0) 1 lines f new between now result) same
-              (leads some.0 (Some some.0) (subst (λ (f : Files). IsFrom f (origin.Stored commit) some.0 (Some some.0)) (sym same) (says, some.2, refl))),
-        )
-
-    by_which : (s : Scope) (i : Index) → AllAsk lang is_query 1 (Some i) lines ⊎ AreLight lang s.heads 1 (Some i) lines
-        → ((Some i ≡ Some i) × AllAsk lang is_query 1 (Some i) lines) ⊎ AreLight lang s.heads 1 (Some i) lines
-    by_which s i (inl asks) = inl (refl, asks)
-    by_which s i (inr light) = inr light
-
-    stored_reads : RunReadsFew lang old lines before now
-    stored_reads s scope pages opening which n touches =
-        let at = leads_at s.state scope.stored in
-        let few = at.2.reads s scope (by_which s at.0 (subst (λ (o : State). AllAsk lang is_query 1 o lines ⊎ AreLight lang s.heads 1 o lines) at.1 which)) n (subst (λ (o : State). TouchesLines lang s.heads 1 o lines n) at.1 touches) in
-        let pages_are = opening_is old commit s pages says scope opening in
-        omega (arith, few, most, pages_are)
-
-    -- this one was
-    pub leads_some : LeadsAll lang state lines old new before now result
-    leads_some =
-        let at = leads_at state stored in
-        record {
-          canon = at.2.canon;
-          levels = λ asks. at.2.levels (subst (λ (o : State). AllAsk lang begins_no_merge 1 o lines) at.1 asks);
-          still = λ asks. at.2.still refl (subst (λ (o : State). AllAsk lang is_query 1 o lines) at.1 asks);
-          reads = stored_reads;
-        }
-
--- reading the commit failed
-pub leads_unread : {T E : Type 0} (lang : Language) → (state : State) (lines : List (List ℕ)) (old new : Files) (before now : ℕ) (result : Result T E) (e : E)
-    → new ≡ old → (old Commit ≡ None → now ≡ before)
-    → ((c : CommitData) → IsCommitFile (bytes_of (old Commit)) c → now ≤ before + length (bytes_of (old Commit)) / 4096) → result ≡ Err e
-    → LeadsAll lang state lines old new before now result
-leads_unread lang state lines old new before now result e same unread most is = record {
-  canon = on_ok result (canonical_still old new same);
-  levels = λ asks. on_ok result (levels_still old new same);
-  still = λ asks. same;
-  reads = λ s scope pages opening which n touches. let few = commit_few old s pages before now scope opening unread most in omega (arith, few);
 }
 
 -- ---- the status

@@ -5,13 +5,14 @@ use Rattle.point_codec.specs.Points.{Item}
 use Rattle.leaf_codec.specs.Leaves.{SpellsLeafIn}
 use Rattle.leaf_codec.proofs.ReadLeaf.{one_leaf}
 use Rattle.inner_pack.specs.Trees.{IndexTree, Leaf, Split, leaf_count}
-use Rattle.inner_pack.proofs.OneTree.{one_index}
+use Rattle.inner_pack.proofs.OneIndex.{one_index}
 use Rattle.segment_file.specs.Heads.{Head, count_of}
 use Rattle.segment_file.specs.Written.{head_of, SpellsLeaves, FitsSegment}
 use Rattle.segment_build.specs.NewSegments.{NewSegmentData, HasEntries}
 
 -- a subtree has a leaf for each of its leaves' bytes
-spelled_count : (D : ℕ) (head : Head) (first : ℕ) (t : IndexTree) (leaves : List (List ℕ)) (items : List Item) → SpellsLeaves D head first t leaves items → length leaves ≡ leaf_count t
+spelled_count : (D : ℕ) (head : Head) (first : ℕ) (t : IndexTree) (leaves : List (List ℕ)) (items : List Item) → SpellsLeaves D head first t leaves items
+    → length leaves ≡ leaf_count t
 spelled_count D head first (Leaf len own) leaves items h = ap (λ (ls : List (List ℕ)). length ls) h.1
 spelled_count D head first (Split d x l r) leaves items h =
     omega (
@@ -32,7 +33,8 @@ only_bytes : (a b : List ℕ) → a ∷ [] ≡ b ∷ [] → a ≡ b
 only_bytes a b e = cc
 
 -- the leaves of a subtree spell one list of items
-spelled_once : (D : ℕ) (head : Head) (first : ℕ) (t : IndexTree) (leaves : List (List ℕ)) (xs ys : List Item) → SpellsLeaves D head first t leaves xs → SpellsLeaves D head first t leaves ys → xs ≡ ys
+spelled_once : (D : ℕ) (head : Head) (first : ℕ) (t : IndexTree) (leaves : List (List ℕ)) (xs ys : List Item) → SpellsLeaves D head first t leaves xs
+    → SpellsLeaves D head first t leaves ys → xs ≡ ys
 spelled_once D head first (Leaf len own) leaves xs ys h k =
     let bytes : h.0 ≡ k.0 = only_bytes h.0 k.0 (sym h.1 ∙ k.1) in
     let there : SpellsLeafIn D k.0 (count_of head first) own xs = subst (λ (b : List ℕ). SpellsLeafIn D b (count_of head first) own xs) bytes h.3 in
@@ -49,7 +51,8 @@ spelled_once D head first (Split d x l r) leaves xs ys h k =
     (subst (λ (ls : List (List ℕ)). SpellsLeaves D head (first + leaf_count l) r ls h.back_items) backs h.back_spells) k.back_spells in
     h.items_joined ∙ (λ i. front_items i ++ back_items i) ∙ sym k.items_joined
 
-fits_once : (D id leaf entries : ℕ) (n : NewSegmentData) (xs ys : List Item) → FitsSegment D id leaf entries n.index n.leaves xs → FitsSegment D id leaf entries n.index n.leaves ys → xs ≡ ys
+fits_once : (D id leaf entries : ℕ) (n : NewSegmentData) (xs ys : List Item) → FitsSegment D id leaf entries n.index n.leaves xs
+    → FitsSegment D id leaf entries n.index n.leaves ys → xs ≡ ys
 fits_once D id leaf entries n xs ys h k =
     let trees : h.tree ≡ k.tree = (one_index D n.index.form n.index.leaves n.index.bytes h.root k.root h.tree k.tree h.has k.has).1 in
     let head : Head = head_of id entries leaf n.index in

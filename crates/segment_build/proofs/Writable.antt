@@ -102,23 +102,27 @@ fits_built D id leaf items b two limit some few h =
       root = h.root;
       tree = index_tree_of D t;
       has = h.index;
-      spells = subst (λ (bs : List (List ℕ)). SpellsLeaves D head 0 (index_tree_of D t) bs (entries_of t)) (sym h.leaves) (spells_leaves D leaf head 0 t h.canon.canon counts);
+      spells = subst (λ (bs : List (List ℕ)). SpellsLeaves D head 0 (index_tree_of D t) bs (entries_of t)) (sym h.leaves)
+          (spells_leaves D leaf head 0 t h.canon.canon counts);
     }
 
 abbrev pub segment_of : BuiltValue → (leaf entries : ℕ) → LiveSet → NewSegmentData
 segment_of b leaf entries live = record { index = b.index; leaves = b.leaves; leaf = leaf; entries = entries; live = live }
 
 -- it has the entries of its leaves
-has_leaves : (D leaf count : ℕ) (items : List Item) (b : BuiltValue) (live : LiveSet) → 2 ≤ leaf → leaf ≤ leaf_limit D → 1 ≤ length items → length items ≤ 16777216 → count ≡ length items
+has_leaves : (D leaf count : ℕ) (items : List Item) (b : BuiltValue) (live : LiveSet) → 2 ≤ leaf → leaf ≤ leaf_limit D → 1 ≤ length items
+    → length items ≤ 16777216 → count ≡ length items
     → (h : IsBuilt D leaf items b) → HasEntries D (entries_of h.tree) (segment_of b leaf count live)
 has_leaves D leaf count items b live two limit some few counted h = record {
   built = built_in_any_order D leaf items (entries_of h.tree) b h.canon.same h;
   counted = counted ∙ sym (length_permutation items (entries_of h.tree) h.canon.same);
-  fits = λ id. subst (λ (n : ℕ). FitsSegment D id leaf n b.index b.leaves (entries_of h.tree)) (sym counted) (fits_built D id leaf items b two limit some few h);
+  fits = λ id.
+      subst (λ (n : ℕ). FitsSegment D id leaf n b.index b.leaves (entries_of h.tree)) (sym counted) (fits_built D id leaf items b two limit some few h);
 }
 
 -- the same of the entries that it was built of
-pub has_built : {D : ℕ} (leaf count : ℕ) (es : List (Entry D)) (b : BuiltValue) (live : LiveSet) → 2 ≤ leaf → leaf ≤ leaf_limit D → 1 ≤ length es → length es ≤ 16777216 → count ≡ length es
+pub has_built : {D : ℕ} (leaf count : ℕ) (es : List (Entry D)) (b : BuiltValue) (live : LiveSet) → 2 ≤ leaf → leaf ≤ leaf_limit D → 1 ≤ length es
+    → length es ≤ 16777216 → count ≡ length es
     → IsBuilt D leaf (items_of es) b → (items : List Item) × IsPermutation (items_of es) items × HasEntries D items (segment_of b leaf count live)
 has_built {D} leaf count es b live two limit some few counted h =
     let long : length (items_of es) ≡ length es = length-items es in (
@@ -127,7 +131,8 @@ has_built {D} leaf count es b live two limit some few counted h =
       has_leaves D leaf count (items_of es) b live two limit (omega (arith, long, some)) (omega (arith, long, few)) (counted ∙ sym long) h,
     )
 
-pub some_built : {D : ℕ} (leaf count : ℕ) (es : List (Entry D)) (b : BuiltValue) (live : LiveSet) → 2 ≤ leaf → leaf ≤ leaf_limit D → 1 ≤ length es → length es ≤ 16777216 → count ≡ length es
+pub some_built : {D : ℕ} (leaf count : ℕ) (es : List (Entry D)) (b : BuiltValue) (live : LiveSet) → 2 ≤ leaf → leaf ≤ leaf_limit D → 1 ≤ length es
+    → length es ≤ 16777216 → count ≡ length es
     → IsBuilt D leaf (items_of es) b → ∥ HasSomeEntries D (segment_of b leaf count live) ∥₁
 some_built {D} leaf count es b live two limit some few counted h =
     let (items, same, has) = has_built {D = D} leaf count es b live two limit some few counted h in
@@ -143,19 +148,22 @@ pub some_live : (D : ℕ) (n : NewSegmentData) (live : LiveSet) → ∥ HasSomeE
 some_live D n live some = ∥∥₁_map some (λ s. record { items = s.items; has = has_live D s.items n live s.has })
 
 -- its parts are those of its entries
-pub fits_parts : (D id : ℕ) (n : NewSegmentData) (index : Body) (leaves : List (List ℕ)) (items : List Item) → index ≡ n.index → leaves ≡ n.leaves → HasEntries D items n
+pub fits_parts : (D id : ℕ) (n : NewSegmentData) (index : Body) (leaves : List (List ℕ)) (items : List Item) → index ≡ n.index → leaves ≡ n.leaves
+    → HasEntries D items n
     → FitsSegment D id n.leaf n.entries index leaves items
 fits_parts D id n index leaves items same_index same_leaves h =
     subst (λ (i : Body). FitsSegment D id n.leaf n.entries i leaves items) (sym same_index)
     (subst (λ (bs : List (List ℕ)). FitsSegment D id n.leaf n.entries n.index bs items) (sym same_leaves) (h.fits id))
 
 -- so it can be written
-pub can_write : (D id : ℕ) (n : NewSegmentData) (index : Body) (leaves : List (List ℕ)) → index ≡ n.index → leaves ≡ n.leaves → ∥ HasSomeEntries D n ∥₁ → ∥ CanWrite D id n.leaf n.entries index leaves ∥₁
+pub can_write : (D id : ℕ) (n : NewSegmentData) (index : Body) (leaves : List (List ℕ)) → index ≡ n.index → leaves ≡ n.leaves → ∥ HasSomeEntries D n ∥₁
+    → ∥ CanWrite D id n.leaf n.entries index leaves ∥₁
 can_write D id n index leaves same_index same_leaves some =
     ∥∥₁_map some (λ s. record { items = s.items; fits = fits_parts D id n index leaves s.items same_index same_leaves s.has })
 
 -- and its head is canonical
-pub head_canonical : (D id : ℕ) (n : NewSegmentData) (head : Head) (items : List Item) → head ≡ head_of id n.entries n.leaf n.index → HasEntries D items n → IsCanonical D head items
+pub head_canonical : (D id : ℕ) (n : NewSegmentData) (head : Head) (items : List Item) → head ≡ head_of id n.entries n.leaf n.index → HasEntries D items n
+    → IsCanonical D head items
 head_canonical D id n head items is h = subst (λ (g : Head). IsCanonical D g items) (sym is) (record {
   root = h.built.root;
   tree = h.built.tree;

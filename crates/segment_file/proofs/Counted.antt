@@ -9,7 +9,8 @@ use Rattle.segment_file.specs.Heads.{Head, HasRanges, count_of, leaves_for}
 use Rattle.segment_file.specs.Segments.{IsHeadOf, HoldsLeaf, HoldsTree, IsSegment}
 use Rattle.segment_file.proofs.Subtrees.{count_shaped}
 
-leaf_counted : (D : ℕ) (bytes : List ℕ) (head : Head) (number : ℕ) (s : Spot) (len : ℕ) (own : Region) (items : List Item) → HoldsLeaf D bytes head number s len own items → length items ≡ count_of head number
+leaf_counted : (D : ℕ) (bytes : List ℕ) (head : Head) (number : ℕ) (s : Spot) (len : ℕ) (own : Region) (items : List Item)
+    → HoldsLeaf D bytes head number s len own items → length items ≡ count_of head number
 unfolding HoldsLeaf
 leaf_counted D bytes head number s len own items h = h.spells.counted
 
@@ -20,7 +21,8 @@ mins_add a b x y n rest sum = omega (arith, rest, sum)
 -- the leaves from this number on, all full as long as entries are left
 tree_counted : (D : ℕ) (bytes : List ℕ) (head : Head) (first : ℕ) (s : Spot) (t : IndexTree) (items : List Item) → HoldsTree D bytes head first s t items
     → length items ≡ min (leaf_count t * head.leaf) (head.entries - first * head.leaf)
-tree_counted D bytes head first s (Leaf len own) items h = leaf_counted D bytes head first s len own items h ∙ ap (λ (n : ℕ). min n (head.entries - first * head.leaf)) (omega arith)
+tree_counted D bytes head first s (Leaf len own) items h =
+    leaf_counted D bytes head first s len own items h ∙ ap (λ (n : ℕ). min n (head.entries - first * head.leaf)) (omega arith)
 tree_counted D bytes head first s (Split d x l r) items h =
     let left = tree_counted D bytes head first s l h.front_items h.front_holds in
     let right = tree_counted D bytes head (first + leaf_count l) (right_begin s l r) r h.back_items h.back_holds in
@@ -28,7 +30,8 @@ tree_counted D bytes head first s (Split d x l r) items h =
     ∙ length-append h.front_items h.back_items
     ∙ ap (λ (n : ℕ). n + length h.back_items) left
     ∙ ap (λ (n : ℕ). min (leaf_count l * head.leaf) (head.entries - first * head.leaf) + n) right
-    ∙ mins_add (leaf_count l * head.leaf) (leaf_count r * head.leaf) (head.entries - first * head.leaf) (head.entries - (first + leaf_count l) * head.leaf) ((leaf_count l + leaf_count r) * head.leaf)
+    ∙ mins_add (leaf_count l * head.leaf) (leaf_count r * head.leaf) (head.entries - first * head.leaf) (head.entries - (first + leaf_count l) * head.leaf)
+    ((leaf_count l + leaf_count r) * head.leaf)
     (omega (arith, add-mul first (leaf_count l) head.leaf)) (add-mul (leaf_count l) (leaf_count r) head.leaf)
 
 -- so many leaves have room for all entries
@@ -39,10 +42,12 @@ ranges_of : (D : ℕ) (bytes : List ℕ) (head : Head) → IsHeadOf D bytes head
 unfolding IsHeadOf
 ranges_of D bytes head h = h.spells.ranges
 
-all_counted : (D : ℕ) (bytes : List ℕ) (head : Head) (items : List Item) (t : IndexTree) → leaf_count t ≡ head.index.leaves → HoldsTree D bytes head 0 front t items → HasRanges D head → length items ≡ head.entries
+all_counted : (D : ℕ) (bytes : List ℕ) (head : Head) (items : List Item) (t : IndexTree) → leaf_count t ≡ head.index.leaves
+    → HoldsTree D bytes head 0 front t items → HasRanges D head → length items ≡ head.entries
 all_counted D bytes head items t leaves h ranges =
     let enough : head.entries ≤ leaf_count t * head.leaf =
-    subst (λ (n : ℕ). head.entries ≤ n * head.leaf) (sym (leaves ∙ ranges.leaves_are)) (room_for_all head.entries head.leaf (omega (arith, ranges.least_leaf))) in
+    subst (λ (n : ℕ). head.entries ≤ n * head.leaf) (sym (leaves ∙ ranges.leaves_are))
+    (room_for_all head.entries head.leaf (omega (arith, ranges.least_leaf))) in
     tree_counted D bytes head 0 front t items h ∙ omega (arith, enough)
 
 pub segment_counted : (D : ℕ) (bytes : List ℕ) (head : Head) (items : List Item) → IsSegment D bytes head items → length items ≡ head.entries

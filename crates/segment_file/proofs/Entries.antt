@@ -12,7 +12,8 @@ one_more xs i lt =
     let none : Item = record { doc = 0; at = [] } in
     (get_or xs i none, slice_get-get_or xs i none lt, take_more xs i none lt)
 
-pub filter_more : (p : Item → Bool) (old mid new xs : List Item) (i : ℕ) (x : Item) → take (i + 1) xs ≡ take i xs ++ x ∷ [] → mid ≡ old ++ filter p (take i xs) → new ≡ mid ++ filter p (x ∷ [])
+pub filter_more : (p : Item → Bool) (old mid new xs : List Item) (i : ℕ) (x : Item) → take (i + 1) xs ≡ take i xs ++ x ∷ [] → mid ≡ old ++ filter p (take i xs)
+    → new ≡ mid ++ filter p (x ∷ [])
     → new ≡ old ++ filter p (take (i + 1) xs)
 filter_more p old mid new xs i x more before after =
     after ∙ ap (λ (l : List Item). l ++ filter p (x ∷ [])) before ∙ append_assoc old (filter p (take i xs)) (filter p (x ∷ []))

@@ -45,14 +45,21 @@ pub record AreSame (f g : Fields) (x y : List ℕ) : Type 0 where
 -- no bytes begin with the numbers of two heads
 pub numbers_unique : (f g : Fields) (x y : List ℕ) → AreNarrow f → AreNarrow g → numbers_bytes f ++ x ≡ numbers_bytes g ++ y → AreSame f g x y
 numbers_unique f g x y p q numbers =
-    let rest_of : Fields → List ℕ → List ℕ = λ h z. to_be_bytes w16 h.leaf ++ (to_be_bytes w32 h.entries ++ (to_be_bytes w32 h.leaves ++ (to_be_bytes w32 h.index_length ++ (to_be_bytes w32 h.leaf_pages ++ z)))) in
+    let rest_of : Fields → List ℕ → List ℕ = λ h z.
+    to_be_bytes w16 h.leaf
+    ++ (to_be_bytes w32 h.entries ++ (to_be_bytes w32 h.leaves ++ (to_be_bytes w32 h.index_length ++ (to_be_bytes w32 h.leaf_pages ++ z)))) in
     let same_dims : f.dims ≡ g.dims = cc in
     let same_form : f.form ≡ g.form = cc in
     let behind : rest_of f x ≡ rest_of g y = cc in
-    let first = spelling_unique w16 f.leaf g.leaf (to_be_bytes w32 f.entries ++ (to_be_bytes w32 f.leaves ++ (to_be_bytes w32 f.index_length ++ (to_be_bytes w32 f.leaf_pages ++ x)))) (to_be_bytes w32 g.entries ++ (to_be_bytes w32 g.leaves ++ (to_be_bytes w32 g.index_length ++ (to_be_bytes w32 g.leaf_pages ++ y)))) p.leaf q.leaf behind in
-    let second = spelling_unique w32 f.entries g.entries (to_be_bytes w32 f.leaves ++ (to_be_bytes w32 f.index_length ++ (to_be_bytes w32 f.leaf_pages ++ x))) (to_be_bytes w32 g.leaves ++ (to_be_bytes w32 g.index_length ++ (to_be_bytes w32 g.leaf_pages ++ y))) p.entries q.entries first.1 in
-    let third = spelling_unique w32 f.leaves g.leaves (to_be_bytes w32 f.index_length ++ (to_be_bytes w32 f.leaf_pages ++ x)) (to_be_bytes w32 g.index_length ++ (to_be_bytes w32 g.leaf_pages ++ y)) p.leaves q.leaves second.1 in
-    let fourth = spelling_unique w32 f.index_length g.index_length (to_be_bytes w32 f.leaf_pages ++ x) (to_be_bytes w32 g.leaf_pages ++ y) p.index_length q.index_length third.1 in
+    let first = spelling_unique w16 f.leaf g.leaf
+    (to_be_bytes w32 f.entries ++ (to_be_bytes w32 f.leaves ++ (to_be_bytes w32 f.index_length ++ (to_be_bytes w32 f.leaf_pages ++ x))))
+    (to_be_bytes w32 g.entries ++ (to_be_bytes w32 g.leaves ++ (to_be_bytes w32 g.index_length ++ (to_be_bytes w32 g.leaf_pages ++ y)))) p.leaf q.leaf behind in
+    let second = spelling_unique w32 f.entries g.entries (to_be_bytes w32 f.leaves ++ (to_be_bytes w32 f.index_length ++ (to_be_bytes w32 f.leaf_pages ++ x)))
+    (to_be_bytes w32 g.leaves ++ (to_be_bytes w32 g.index_length ++ (to_be_bytes w32 g.leaf_pages ++ y))) p.entries q.entries first.1 in
+    let third = spelling_unique w32 f.leaves g.leaves (to_be_bytes w32 f.index_length ++ (to_be_bytes w32 f.leaf_pages ++ x))
+    (to_be_bytes w32 g.index_length ++ (to_be_bytes w32 g.leaf_pages ++ y)) p.leaves q.leaves second.1 in
+    let fourth = spelling_unique w32 f.index_length g.index_length (to_be_bytes w32 f.leaf_pages ++ x) (to_be_bytes w32 g.leaf_pages ++ y) p.index_length
+    q.index_length third.1 in
     let fifth = spelling_unique w32 f.leaf_pages g.leaf_pages x y p.leaf_pages q.leaf_pages fourth.1 in
     record {
       dims = same_dims;
@@ -68,7 +75,8 @@ numbers_unique f g x y p q numbers =
 pub fields_unique : (f g : Fields) (x y : List ℕ) → AreNarrow f → AreNarrow g → fields_bytes f ++ x ≡ fields_bytes g ++ y → AreSame f g x y
 fields_unique f g x y p q e =
     numbers_unique f g x y p q
-    (backs_equal (magic f.form) (magic g.form) (numbers_bytes f ++ x) (numbers_bytes g ++ y) (magic_length f.form ∙ sym (magic_length g.form)) (sym (fields_parts f x) ∙ e ∙ fields_parts g y))
+    (backs_equal (magic f.form) (magic g.form) (numbers_bytes f ++ x) (numbers_bytes g ++ y) (magic_length f.form ∙ sym (magic_length g.form))
+    (sym (fields_parts f x) ∙ e ∙ fields_parts g y))
 
 -- ---- what a payload is found to say
 
@@ -105,13 +113,15 @@ pub record IsFound (own : Bool) (f g : Fields) (behind : List ℕ) : Type 0 wher
   pub same : f ≡ g
   pub rest : behind ≡ replicate (length behind) 0
 
-pub found : (payload rest behind : List ℕ) (own : Bool) (f g : Fields) → payload ≡ word own ++ rest → rest ≡ numbers_bytes g ++ behind → AreNarrow g → AreFields f
+pub found : (payload rest behind : List ℕ) (own : Bool) (f g : Fields) → payload ≡ word own ++ rest → rest ≡ numbers_bytes g ++ behind → AreNarrow g
+    → AreFields f
     → payload ≡ filled (fields_bytes f) → IsFound own f g behind
 found payload rest behind own f g a b narrow are e =
     let whole : word own ++ rest ≡ magic f.form ++ (numbers_bytes f ++ zeros f) = sym a ∙ e ∙ fields_parts f (zeros f) in
     let lengths : length (word own) ≡ length (magic f.form) = word_length own ∙ sym (magic_length f.form) in
     let words : word own ≡ magic f.form = fronts_equal (word own) (magic f.form) rest (numbers_bytes f ++ zeros f) lengths whole in
-    let numbers : numbers_bytes f ++ zeros f ≡ numbers_bytes g ++ behind = sym (backs_equal (word own) (magic f.form) rest (numbers_bytes f ++ zeros f) lengths whole) ∙ b in
+    let numbers : numbers_bytes f ++ zeros f ≡ numbers_bytes g ++ behind =
+    sym (backs_equal (word own) (magic f.form) rest (numbers_bytes f ++ zeros f) lengths whole) ∙ b in
     let same = numbers_unique f g (zeros f) behind (narrow_fields f are) narrow numbers in
     let count = 4064 * pages_for (length (fields_bytes f)) - length (fields_bytes f) in
     record {
@@ -120,12 +130,15 @@ found payload rest behind own f g a b narrow are e =
       rest = sym same.rest ∙ ap (λ (n : ℕ). replicate n 0) (sym (length-replicate {A = ℕ} count 0) ∙ ap (λ (l : List ℕ). length l) same.rest);
     }
 
-pub has_fields : (payload rest behind : List ℕ) (own : Bool) (g : Fields) → length payload ≡ 4064 → payload ≡ word own ++ rest → rest ≡ numbers_bytes g ++ behind → own ≡ (g.form == 3)
+pub has_fields : (payload rest behind : List ℕ) (own : Bool) (g : Fields) → length payload ≡ 4064 → payload ≡ word own ++ rest
+    → rest ≡ numbers_bytes g ++ behind → own ≡ (g.form == 3)
     → behind ≡ replicate (length behind) 0 → payload ≡ filled (fields_bytes g)
 has_fields payload rest behind own g long a b own_is blank =
-    let front : payload ≡ fields_bytes g ++ behind = a ∙ ap (λ (o : Bool). word o ++ rest) own_is ∙ ap (λ (l : List ℕ). magic g.form ++ l) b ∙ sym (fields_parts g behind) in
+    let front : payload ≡ fields_bytes g ++ behind =
+    a ∙ ap (λ (o : Bool). word o ++ rest) own_is ∙ ap (λ (l : List ℕ). magic g.form ++ l) b ∙ sym (fields_parts g behind) in
     let few = fields_length g in
-    let left : length behind ≡ 4064 * pages_for (length (fields_bytes g)) - length (fields_bytes g) = omega (arith, few, long, ap (λ (l : List ℕ). length l) front, length-append (fields_bytes g) behind) in
+    let left : length behind ≡ 4064 * pages_for (length (fields_bytes g)) - length (fields_bytes g) =
+    omega (arith, few, long, ap (λ (l : List ℕ). length l) front, length-append (fields_bytes g) behind) in
     front ∙ ap (λ (l : List ℕ). fields_bytes g ++ l) (blank ∙ ap (λ (n : ℕ). replicate n 0) left)
 
 pub differ : (a b : Bool) → not (beq a b) ≡ true → a ≡ b → ⊥

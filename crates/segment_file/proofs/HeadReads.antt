@@ -1,5 +1,6 @@
 -- Opening a segment: what each step says of the file.
-use Rattle.std.proofs.Common.{◌≡◌, ◌≢◌, ◌≤◌, ◌<◌, ◌^◌, ◌+◌, ◌*◌, ℕ, inl, List, [], ◌∷◌, ◌++◌, length, refl, sym, ap, subst, ◌∙◌, arith, append_assoc, append-nil}
+use Rattle.std.proofs.Common.{◌≡◌, ◌≢◌, ◌≤◌, ◌<◌, ◌^◌, ◌+◌, ◌*◌, ℕ, inl, List, [], ◌∷◌, ◌++◌}
+use Rattle.std.proofs.Common.{length, refl, sym, ap, subst, ◌∙◌, arith, append_assoc, append-nil}
 use Rattle.std.specs.Prelude.{slice_index, ◌==◌, Bool, true, false}
 use Rattle.outer_io.specs.Files.{Files, bytes_of}
 use Rattle.outer_io.specs.declared.file_name.FileName.{FileName}
@@ -42,16 +43,19 @@ dims_at f = ap (λ (l : List ℕ). slice_index l 8) (fields_parts f (zeros f)) �
 -- ---- fields that are out of range
 
 pub no_fields : (payload : List ℕ) → length payload ≡ 4064 → ((f : Fields) → AreFields f → payload ≢ filled (fields_bytes f))
-    → (dims said : ℕ) (head : Head) (rest : List ℕ) → said < 2 ^ 32 → IsHead dims head → payload ++ [] ++ rest ≡ filled (fields_bytes (fields_of dims head said)) ++ filled head.index.bytes → ⊥
+    → (dims said : ℕ) (head : Head) (rest : List ℕ) → said < 2 ^ 32 → IsHead dims head
+    → payload ++ [] ++ rest ≡ filled (fields_bytes (fields_of dims head said)) ++ filled head.index.bytes → ⊥
 no_fields payload long none dims said head rest fits h e =
     none (fields_of dims head said) (head_fields dims head said h.ranges fits)
-    (fronts_equal payload (filled (fields_bytes (fields_of dims head said))) rest (filled head.index.bytes) (long ∙ sym (first_length (fields_of dims head said))) (ap (λ (l : List ℕ). l ++ rest) (sym (append-nil payload)) ∙ e))
+    (fronts_equal payload (filled (fields_bytes (fields_of dims head said))) rest (filled head.index.bytes)
+    (long ∙ sym (first_length (fields_of dims head said))) (ap (λ (l : List ℕ). l ++ rest) (sym (append-nil payload)) ∙ e))
 
 -- ---- fields and an index that begin a head's
 
 pub fields_same : (payload : List ℕ) (f : HeadFields) (g : Fields) → HasFields payload f → AreFields g → payload ≡ filled (fields_bytes g) → fields_said f ≡ g
 fields_same payload f g has are e =
-    same_fields (fields_said f) g (zeros (fields_said f)) (zeros g) (fields_unique (fields_said f) g (zeros (fields_said f)) (zeros g) (narrow_fields (fields_said f) has.are) (narrow_fields g are) (sym has.is ∙ e))
+    same_fields (fields_said f) g (zeros (fields_said f)) (zeros g)
+    (fields_unique (fields_said f) g (zeros (fields_said f)) (zeros g) (narrow_fields (fields_said f) has.are) (narrow_fields g are) (sym has.is ∙ e))
 
 pub record IndexBegins (f : HeadFields) (pages rest : List ℕ) (dims said : ℕ) (head : Head) : Type 0 where
   pub same : fields_said f ≡ fields_of dims head said
@@ -64,18 +68,22 @@ index_begins payload pages rest f dims said head has fits h e =
     let long : length payload ≡ length (filled (fields_bytes g)) = ap (λ (l : List ℕ). length l) has.is ∙ first_length (fields_said f) ∙ sym (first_length g) in
     let whole : payload ++ (pages ++ rest) ≡ filled (fields_bytes g) ++ filled head.index.bytes = sym (append_assoc payload pages rest) ∙ e in
     record {
-      same = fields_same payload f g has (head_fields dims head said h.ranges fits) (fronts_equal payload (filled (fields_bytes g)) (pages ++ rest) (filled head.index.bytes) long whole);
+      same = fields_same payload f g has (head_fields dims head said h.ranges fits)
+          (fronts_equal payload (filled (fields_bytes g)) (pages ++ rest) (filled head.index.bytes) long whole);
       back = backs_equal payload (filled (fields_bytes g)) (pages ++ rest) (filled head.index.bytes) long whole;
     }
 
-pub spells_as : (a b c x y z : ℕ) (u v : List ℕ) (r : Region) (t : IndexTree) → a ≡ x → b ≡ y → c ≡ z → u ≡ v → SpellsIndex a b c u r t → SpellsIndex x y z v r t
+pub spells_as : (a b c x y z : ℕ) (u v : List ℕ) (r : Region) (t : IndexTree) → a ≡ x → b ≡ y → c ≡ z → u ≡ v → SpellsIndex a b c u r t
+    → SpellsIndex x y z v r t
 spells_as a b c x y z u v r t p q s w h =
-    subst (λ (n : ℕ). SpellsIndex n y z v r t) p (subst (λ (n : ℕ). SpellsIndex a n z v r t) q (subst (λ (n : ℕ). SpellsIndex a b n v r t) s (subst (λ (l : List ℕ). SpellsIndex a b c l r t) w h)))
+    subst (λ (n : ℕ). SpellsIndex n y z v r t) p
+    (subst (λ (n : ℕ). SpellsIndex a n z v r t) q (subst (λ (n : ℕ). SpellsIndex a b n v r t) s (subst (λ (l : List ℕ). SpellsIndex a b c l r t) w h)))
 
 -- ---- damages
 
 -- a damage of the file's pages, where the file is short of its first page or not at all
-head_file_of : (D : ℕ) (files : Files) (name : FileName) (known : Damage → Type 0) (d : Damage) → OnlyShort files name known → IsFileDamage name d → known d → IsFileDamageOf files d → IsHeadDamageOf D files d
+head_file_of : (D : ℕ) (files : Files) (name : FileName) (known : Damage → Type 0) (d : Damage) → OnlyShort files name known → IsFileDamage name d → known d
+    → IsFileDamageOf files d → IsHeadDamageOf D files d
 head_file_of D files name known (Page file number bytes) short named within h = h
 head_file_of D files name known (Leaf file number offset len bytes) short named within h = absurd h
 head_file_of D files name known (Body file bytes) short named within h = absurd h
@@ -91,7 +99,8 @@ head_fault_of D files name known Failed short named within h = tt
 head_fault_of D files name known (Damaged d) short named within h = head_file_of D files name known d short named within h
 head_fault_of D files name known Memory short named within h = tt
 
-pub head_body_of : (D : ℕ) (files : Files) (name : FileName) (payloads : List ℕ) (d : Damage) → ArePayloadsOf files name payloads → IsBodyDamage name payloads d → IsHeadDamageOf D files d
+pub head_body_of : (D : ℕ) (files : Files) (name : FileName) (payloads : List ℕ) (d : Damage) → ArePayloadsOf files name payloads → IsBodyDamage name payloads d
+    → IsHeadDamageOf D files d
 head_body_of D files name payloads (Body file bytes) are h =
     subst (λ (f : FileName). ArePayloadsOf files f bytes) (sym h.0) (subst (λ (l : List ℕ). ArePayloadsOf files name l) (sym h.1) are)
 head_body_of D files name payloads (Page file number bytes) are h = absurd h
@@ -102,9 +111,11 @@ head_body_of D files name payloads (Unequal file said found) are h = absurd h
 head_body_of D files name payloads (Beyond doc next) are h = absurd h
 head_body_of D files name payloads (Doubled doc) are h = absurd h
 
-pub head_pair_of : (D : ℕ) (files : Files) (name : FileName) (m n : ℕ) (d : Damage) → AreHeadPair D (bytes_of (files name)) m n → IsPairDamage name m n d → IsHeadDamageOf D files d
+pub head_pair_of : (D : ℕ) (files : Files) (name : FileName) (m n : ℕ) (d : Damage) → AreHeadPair D (bytes_of (files name)) m n → IsPairDamage name m n d
+    → IsHeadDamageOf D files d
 head_pair_of D files name m n (Unequal file said found) are h =
-    subst (λ (f : FileName). AreHeadPair D (bytes_of (files f)) said found) (sym h.0) (subst (λ (k : ℕ). AreHeadPair D (bytes_of (files name)) k found) (sym h.1) (subst (λ (k : ℕ). AreHeadPair D (bytes_of (files name)) m k) (sym h.2) are))
+    subst (λ (f : FileName). AreHeadPair D (bytes_of (files f)) said found) (sym h.0)
+    (subst (λ (k : ℕ). AreHeadPair D (bytes_of (files name)) k found) (sym h.1) (subst (λ (k : ℕ). AreHeadPair D (bytes_of (files name)) m k) (sym h.2) are))
 head_pair_of D files name m n (Body file bytes) are h = absurd h
 head_pair_of D files name m n (Page file number bytes) are h = absurd h
 head_pair_of D files name m n (Leaf file number offset len bytes) are h = absurd h
@@ -114,9 +125,11 @@ head_pair_of D files name m n (Beyond doc next) are h = absurd h
 head_pair_of D files name m n (Doubled doc) are h = absurd h
 
 -- payloads that begin a head and its index are no damage
-pub no_head_damage : (id dims said : ℕ) (head : Head) (payloads rest : List ℕ) (d : Damage) → said < 2 ^ 32 → IsHead dims head → payloads ++ rest ≡ filled (fields_bytes (fields_of dims head said)) ++ filled head.index.bytes
+pub no_head_damage : (id dims said : ℕ) (head : Head) (payloads rest : List ℕ) (d : Damage) → said < 2 ^ 32 → IsHead dims head
+    → payloads ++ rest ≡ filled (fields_bytes (fields_of dims head said)) ++ filled head.index.bytes
     → IsHeadDamage id d → IsBodyDamage (Segment id) payloads d → ⊥
-no_head_damage id dims said head payloads rest (Body file bytes) fits h e shown carried = shown.1 dims said head rest fits h (ap (λ (l : List ℕ). l ++ rest) carried.1 ∙ e)
+no_head_damage id dims said head payloads rest (Body file bytes) fits h e shown carried =
+    shown.1 dims said head rest fits h (ap (λ (l : List ℕ). l ++ rest) carried.1 ∙ e)
 no_head_damage id dims said head payloads rest (Page file number bytes) fits h e shown carried = carried
 no_head_damage id dims said head payloads rest (Leaf file number offset len bytes) fits h e shown carried = carried
 no_head_damage id dims said head payloads rest (Missing file) fits h e shown carried = carried
@@ -155,7 +168,8 @@ head_parts D bytes id h same p = record {
 }
 
 -- the fields of its first page are its own
-pub head_said : (D : ℕ) (bytes : List ℕ) (id : ℕ) (h : Head) (p : HeadOf D bytes id h) (payload : List ℕ) (f : HeadFields) → payload ≡ payload_of (page_at bytes 0) → HasFields payload f
+pub head_said : (D : ℕ) (bytes : List ℕ) (id : ℕ) (h : Head) (p : HeadOf D bytes id h) (payload : List ℕ) (f : HeadFields)
+    → payload ≡ payload_of (page_at bytes 0) → HasFields payload f
     → fields_said f ≡ fields_of D h (pages_of p.tree)
 head_said D bytes id h p payload f same has = fields_same payload f (fields_of D h (pages_of p.tree)) has p.are (same ∙ p.payload)
 
@@ -174,19 +188,23 @@ before_leaves_of D bytes h n p (WithIndex f are is few) =
     omega (arith, few, ap (λ (l : ℕ). pages_for l) same.index_length)
 
 -- all payloads before the leaf pages
-pub head_payloads : (files : Files) (id count : ℕ) (payload rest : List ℕ) → IsFilePage (Segment id) (bytes_of (files (Segment id))) 0 → payload ≡ payload_of (page_at (bytes_of (files (Segment id))) 0)
-    → rest ≡ payloads_of (bytes_of (files (Segment id))) 1 count → ArePages (Segment id) (bytes_of (files (Segment id))) 1 (1 + count) → ArePayloadsOf files (Segment id) (payload ++ rest)
+pub head_payloads : (files : Files) (id count : ℕ) (payload rest : List ℕ) → IsFilePage (Segment id) (bytes_of (files (Segment id))) 0
+    → payload ≡ payload_of (page_at (bytes_of (files (Segment id))) 0)
+    → rest ≡ payloads_of (bytes_of (files (Segment id))) 1 count → ArePages (Segment id) (bytes_of (files (Segment id))) 1 (1 + count)
+    → ArePayloadsOf files (Segment id) (payload ++ rest)
 head_payloads files id count payload rest page front back pages = record {
   count = 1 + count;
   some = omega arith;
   pages = pages_from_first (Segment id) (bytes_of (files (Segment id))) count page pages;
-  same = ap (λ (l : List ℕ). l ++ rest) (front ∙ sym (payloads_of_one (bytes_of (files (Segment id))) 0)) ∙ ap (λ (l : List ℕ). payloads_of (bytes_of (files (Segment id))) 0 1 ++ l) back
+  same = ap (λ (l : List ℕ). l ++ rest) (front ∙ sym (payloads_of_one (bytes_of (files (Segment id))) 0))
+      ∙ ap (λ (l : List ℕ). payloads_of (bytes_of (files (Segment id))) 0 1 ++ l) back
       ∙ sym (payloads_join (bytes_of (files (Segment id))) 0 1 count);
 }
 
 -- ---- a head that was read
 
-pub read_ranges : (D id : ℕ) (f : HeadFields) (payloads : List ℕ) (index : IndexBody) → id < 2 ^ 64 → f.dims ≡ D → AreFields (fields_said f) → IsIndexOf D f payloads index
+pub read_ranges : (D id : ℕ) (f : HeadFields) (payloads : List ℕ) (index : IndexBody) → id < 2 ^ 64 → f.dims ≡ D → AreFields (fields_said f)
+    → IsIndexOf D f payloads index
     → HasRanges D (head_of id f.entries f.leaf index)
 read_ranges D id f payloads index fits dims are i =
     let form = i.form in
@@ -210,7 +228,8 @@ read_ranges D id f payloads index fits dims are i =
       short = omega arith;
     }
 
-pub said_fields : (D id : ℕ) (f : HeadFields) (payloads : List ℕ) (index : IndexBody) → f.dims ≡ D → IsIndexOf D f payloads index → fields_said f ≡ fields_of D (head_of id f.entries f.leaf index) f.leaf_pages
+pub said_fields : (D id : ℕ) (f : HeadFields) (payloads : List ℕ) (index : IndexBody) → f.dims ≡ D → IsIndexOf D f payloads index
+    → fields_said f ≡ fields_of D (head_of id f.entries f.leaf index) f.leaf_pages
 said_fields D id f payloads index dims i = λ k. record {
   dims = dims k;
   form = sym i.form k;
@@ -221,8 +240,10 @@ said_fields D id f payloads index dims i = λ k. record {
   leaf_pages = f.leaf_pages;
 }
 
-pub spells_head : (D id : ℕ) (bytes payload : List ℕ) (f : HeadFields) (index : IndexBody) (root : Region) (tree : IndexTree) → id < 2 ^ 64 → f.dims ≡ D → HasFields payload f
-    → IsIndexOf D f (payloads_of bytes 1 (pages_for f.index_length)) index → HasTree D index root tree → IsFilePage (Segment id) bytes 0 → payload ≡ payload_of (page_at bytes 0)
+pub spells_head : (D id : ℕ) (bytes payload : List ℕ) (f : HeadFields) (index : IndexBody) (root : Region) (tree : IndexTree) → id < 2 ^ 64 → f.dims ≡ D
+    → HasFields payload f
+    → IsIndexOf D f (payloads_of bytes 1 (pages_for f.index_length)) index → HasTree D index root tree → IsFilePage (Segment id) bytes 0
+    → payload ≡ payload_of (page_at bytes 0)
     → ArePages (Segment id) bytes 1 (1 + pages_for f.index_length) → SpellsHead D bytes (head_of id f.entries f.leaf index) f.leaf_pages root tree
 spells_head D id bytes payload f index root tree fits dims has i tree_is page front pages =
     let count : pages_for f.index_length ≡ pages_for (length index.bytes) = ap (λ (n : ℕ). pages_for n) (sym i.len) in
@@ -232,14 +253,19 @@ spells_head D id bytes payload f index root tree fits dims has i tree_is page fr
       said_fits = are.pages_fit;
       has = tree_is;
       pages = pages_from_first (Segment id) bytes (pages_for (length index.bytes)) page (subst (λ (n : ℕ). ArePages (Segment id) bytes 1 (1 + n)) count pages);
-      first = sym front ∙ has.is ∙ ap (λ (g : Fields). filled (fields_bytes g)) (said_fields D id f (payloads_of bytes 1 (pages_for f.index_length)) index dims i);
+      first =
+          sym front ∙ has.is ∙ ap (λ (g : Fields). filled (fields_bytes g)) (said_fields D id f (payloads_of bytes 1 (pages_for f.index_length)) index dims i);
       index = ap (λ (n : ℕ). payloads_of bytes 1 n) (sym count) ∙ i.payloads_are;
     }
 
 -- the index that was read is that of the head that the file has
-pub index_same : (D : ℕ) (bytes : List ℕ) (id : ℕ) (h : Head) (p : HeadOf D bytes id h) (f : HeadFields) (index : IndexBody) → fields_said f ≡ fields_of D h (pages_of p.tree)
+pub index_same : (D : ℕ) (bytes : List ℕ) (id : ℕ) (h : Head) (p : HeadOf D bytes id h) (f : HeadFields) (index : IndexBody)
+    → fields_said f ≡ fields_of D h (pages_of p.tree)
     → IsIndexOf D f (payloads_of bytes 1 (pages_for f.index_length)) index → HasTree D index p.root p.tree
 index_same D bytes id h p f index same i =
     let len : length index.bytes ≡ length h.index.bytes = i.len ∙ ap (λ (g : Fields). g.index_length) same in
-    let bytes_are : h.index.bytes ≡ index.bytes = bodies_equal h.index.bytes index.bytes (sym len) (sym p.index ∙ ap (λ (n : ℕ). payloads_of bytes 1 (pages_for n)) (sym (ap (λ (g : Fields). g.index_length) same)) ∙ i.payloads_are) in
-    spells_as D h.index.form h.index.leaves D index.form index.leaves h.index.bytes index.bytes p.root p.tree refl (sym (ap (λ (g : Fields). g.form) same) ∙ sym i.form) (sym (ap (λ (g : Fields). g.leaves) same) ∙ sym i.leaves) bytes_are p.has
+    let bytes_are : h.index.bytes ≡ index.bytes =
+    bodies_equal h.index.bytes index.bytes (sym len)
+    (sym p.index ∙ ap (λ (n : ℕ). payloads_of bytes 1 (pages_for n)) (sym (ap (λ (g : Fields). g.index_length) same)) ∙ i.payloads_are) in
+    spells_as D h.index.form h.index.leaves D index.form index.leaves h.index.bytes index.bytes p.root p.tree refl
+    (sym (ap (λ (g : Fields). g.form) same) ∙ sym i.form) (sym (ap (λ (g : Fields). g.leaves) same) ∙ sym i.leaves) bytes_are p.has

@@ -11,16 +11,21 @@ use Rattle.segment_file.specs.Pieced.{laid_pages}
 pub lay_next : (payloads page leaf : List ℕ) (leaves : List (List ℕ)) → 4064 < length page + length leaf
     → payloads ++ laid_pages page (leaf ∷ leaves) ≡ payloads ++ filled page ++ laid_pages ([] ++ leaf) leaves
 lay_next payloads page leaf leaves over =
-    ap (λ (b : Bool). payloads ++ (if b then laid_pages (page ++ leaf) leaves else filled page ++ laid_pages leaf leaves)) (lt-leb (length page + length leaf) 4064 over)
+    ap (λ (b : Bool). payloads ++ (if b then laid_pages (page ++ leaf) leaves else filled page ++ laid_pages leaf leaves))
+    (lt-leb (length page + length leaf) 4064 over)
     ∙ sym (append_assoc payloads (filled page) (laid_pages leaf leaves))
 
 -- one leaf more is laid
 pub laid_more : (all more next page page' leaf : List ℕ) (leaves : List (List ℕ)) (i : ℕ) → i < length leaves → leaf ≡ get_or leaves i leaf
-    → all ≡ more ++ laid_pages page (drop i leaves) → more ++ laid_pages page (leaf ∷ drop (i + 1) leaves) ≡ next ++ laid_pages page' (drop (i + 1) leaves) → all ≡ next ++ laid_pages page' (drop (i + 1) leaves)
+    → all ≡ more ++ laid_pages page (drop i leaves) → more ++ laid_pages page (leaf ∷ drop (i + 1) leaves) ≡ next ++ laid_pages page' (drop (i + 1) leaves)
+    → all ≡ next ++ laid_pages page' (drop (i + 1) leaves)
 laid_more all more next page page' leaf leaves i inside item before after =
-    let behind : drop i leaves ≡ leaf ∷ drop (i + 1) leaves = drop-cons leaves i leaf inside ∙ ap (λ (n : ℕ). get_or leaves i leaf ∷ drop n leaves) (sym (add-one i)) ∙ ap (λ (l : List ℕ). l ∷ drop (i + 1) leaves) (sym item) in
+    let behind : drop i leaves ≡ leaf ∷ drop (i + 1) leaves =
+    drop-cons leaves i leaf inside ∙ ap (λ (n : ℕ). get_or leaves i leaf ∷ drop n leaves) (sym (add-one i))
+    ∙ ap (λ (l : List ℕ). l ∷ drop (i + 1) leaves) (sym item) in
     before ∙ ap (λ (ls : List (List ℕ)). more ++ laid_pages page ls) behind ∙ after
 
 -- all are
-pub laid_all : (all more page : List ℕ) (leaves : List (List ℕ)) (i : ℕ) → length leaves ≤ i → all ≡ more ++ laid_pages page (drop i leaves) → all ≡ more ++ filled page
+pub laid_all : (all more page : List ℕ) (leaves : List (List ℕ)) (i : ℕ) → length leaves ≤ i → all ≡ more ++ laid_pages page (drop i leaves)
+    → all ≡ more ++ filled page
 laid_all all more page leaves i past e = e ∙ ap (λ (ls : List (List ℕ)). more ++ laid_pages page ls) (drop_of_length-le leaves past)

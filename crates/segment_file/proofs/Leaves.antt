@@ -50,7 +50,8 @@ first_of_leaf : (first : ℕ) (s : Spot) (t : IndexTree) (place : LeafPlace) (at
 first_of_leaf first s t place at = subst (λ (u : IndexTree). IsLeafOf first s u first s place.length at.own) (sym at.is) (refl, refl, refl, refl)
 
 -- a kept page that spells no leaf at its place
-pub no_leaf : (D : ℕ) (cache : PageCache) (head : Head) (node : NodeAt D) (first : ℕ) (s : Spot) (path : Region) (t : IndexTree) (place : LeafPlace) (bytes : List ℕ)
+pub no_leaf : (D : ℕ) (cache : PageCache) (head : Head) (node : NodeAt D) (first : ℕ) (s : Spot) (path : Region) (t : IndexTree) (place : LeafPlace)
+    (bytes : List ℕ)
     → Keeps cache head.id (page_of head place.page) bytes → IsAt node first s path t → IsPlaceOf place s t → SpellsNoLeaf cache head node place
     → IsNoLeaf D head first s t (page_of head place.page) place.offset place.length (part_of place.offset place.length bytes)
 unfolding SpellsNoLeaf
@@ -62,13 +63,16 @@ no_leaf D cache head node first s path t place bytes kept at where_ none =
       is = first_of_leaf first s t place where_;
       page_is = ap (λ (n : ℕ). page_of head n) where_.page;
       offset_is = where_.offset;
-      none = λ items spells. none first s path place.length where_.own (subst (λ (u : IndexTree). IsAt node first s path u) where_.is at) bytes items kept spells;
+      none = λ items spells.
+          none first s path place.length where_.own (subst (λ (u : IndexTree). IsAt node first s path u) where_.is at) bytes items kept spells;
     }
 
 -- the damage of a page behind the first is one of reading a leaf
-pub leaf_from_page_of : (files : Files) (name : FileName) (n : ℕ) (d : Damage) → 1 ≤ n → IsPageDamage name n d → IsPageDamageOf files n d → IsLeafDamageOf files d
+pub leaf_from_page_of : (files : Files) (name : FileName) (n : ℕ) (d : Damage) → 1 ≤ n → IsPageDamage name n d → IsPageDamageOf files n d
+    → IsLeafDamageOf files d
 leaf_from_page_of files name n (Page file number bytes) behind h k = k
-leaf_from_page_of files name n (Size file size needed) behind h k = record { number = n; page_end = h.1; seen = k; short = h.2; there = λ first. absurd (omega arith) }
+leaf_from_page_of files name n (Size file size needed) behind h k =
+    record { number = n; page_end = h.1; seen = k; short = h.2; there = λ first. absurd (omega arith) }
 leaf_from_page_of files name n (LeafDamage file number offset len bytes) behind h k = absurd k
 leaf_from_page_of files name n (Body file bytes) behind h k = k
 leaf_from_page_of files name n (Missing file) behind h k = k
@@ -79,7 +83,8 @@ leaf_from_page_of files name n (Doubled doc) behind h k = k
 -- and what it shows is shown of the leaf that stands there
 pub leaf_from_page : (D : ℕ) (head : Head) (first : ℕ) (s : Spot) (t : IndexTree) (place : LeafPlace) (d : Damage) → IsPlaceOf place s t
     → IsPageDamage (Segment head.id) (page_of head place.page) d → IsLeafDamage D head first s t d
-leaf_from_page D head first s t place (Page file number bytes) at h = (h.0, subst (λ (f : FileName). IsPage (kind_of f) (number_of f) number bytes.value.b → ⊥) h.0 h.2)
+leaf_from_page D head first s t place (Page file number bytes) at h =
+    (h.0, subst (λ (f : FileName). IsPage (kind_of f) (number_of f) number bytes.value.b → ⊥) h.0 h.2)
 leaf_from_page D head first s t place (Size file size needed) at h = (
   h.0,
   h.2,

@@ -1,5 +1,6 @@
 -- Lists one behind the other, of which the first ones have one length.
-use Rattle.std.proofs.Common.{◌≡◌, ◌≤◌, ◌-◌, ◌*◌, ℕ, List, [], ◌++◌, length, take, drop, replicate, refl, sym, ap, ◌∙◌, arith, length-append, length-drop, append-nil}
+use Rattle.std.proofs.Common.{◌≡◌, ◌≤◌, ◌-◌, ◌*◌, ℕ, List, [], ◌++◌, length, take, drop, replicate}
+use Rattle.std.proofs.Common.{refl, sym, ap, ◌∙◌, arith, length-append, length-drop, append-nil}
 use Rattle.std.proofs.lemmas.List.{take_at, drop_at, take-append-drop, length-take, length-replicate}
 use Rattle.page_cache.specs.Bodies.{pages_for, filled}
 
@@ -20,10 +21,12 @@ pages_hold n = omega arith
 pub filled_length : (body : List ℕ) → length (filled body) ≡ 4064 * pages_for (length body)
 filled_length body =
     let hold = pages_hold (length body) in
-    length-append body (replicate (4064 * pages_for (length body) - length body) 0) ∙ omega (arith, length-replicate {A = ℕ} (4064 * pages_for (length body) - length body) 0)
+    length-append body (replicate (4064 * pages_for (length body) - length body) 0)
+    ∙ omega (arith, length-replicate {A = ℕ} (4064 * pages_for (length body) - length body) 0)
 
 -- payloads of so many pages that begin a body of that length are the body's
-pub are_filled : (payloads body rest : List ℕ) (len : ℕ) → length payloads ≡ 4064 * pages_for len → length body ≡ len → payloads ++ rest ≡ filled body → payloads ≡ filled body
+pub are_filled : (payloads body rest : List ℕ) (len : ℕ) → length payloads ≡ 4064 * pages_for len → length body ≡ len → payloads ++ rest ≡ filled body
+    → payloads ≡ filled body
 are_filled payloads body rest len long same e =
     let full = filled_length body in
     let pages : 4064 * pages_for len ≡ 4064 * pages_for (length body) = ap (λ (n : ℕ). 4064 * pages_for n) (sym same) in
@@ -31,15 +34,19 @@ are_filled payloads body rest len long same e =
 
 -- such payloads have the body in front, and zeros behind
 pub front_of_filled : (payloads body : List ℕ) (len : ℕ) → length body ≡ len → payloads ≡ filled body → take len payloads ≡ body
-front_of_filled payloads body len same e = ap (λ (l : List ℕ). take len l) e ∙ take_at body (replicate (4064 * pages_for (length body) - length body) 0) len same
+front_of_filled payloads body len same e =
+    ap (λ (l : List ℕ). take len l) e ∙ take_at body (replicate (4064 * pages_for (length body) - length body) 0) len same
 
-pub back_of_filled : (payloads body : List ℕ) (len : ℕ) → length body ≡ len → payloads ≡ filled body → drop len payloads ≡ replicate (length (drop len payloads)) 0
+pub back_of_filled : (payloads body : List ℕ) (len : ℕ) → length body ≡ len → payloads ≡ filled body
+    → drop len payloads ≡ replicate (length (drop len payloads)) 0
 back_of_filled payloads body len same e =
-    let back : drop len payloads ≡ replicate (4064 * pages_for (length body) - length body) 0 = ap (λ (l : List ℕ). drop len l) e ∙ drop_at body (replicate (4064 * pages_for (length body) - length body) 0) len same in
+    let back : drop len payloads ≡ replicate (4064 * pages_for (length body) - length body) 0 =
+    ap (λ (l : List ℕ). drop len l) e ∙ drop_at body (replicate (4064 * pages_for (length body) - length body) 0) len same in
     back ∙ ap (λ (n : ℕ). replicate n 0) (sym (ap (λ (l : List ℕ). length l) back ∙ length-replicate {A = ℕ} (4064 * pages_for (length body) - length body) 0))
 
 -- and the other way round
-pub filled_from : (payloads : List ℕ) (len : ℕ) → length payloads ≡ 4064 * pages_for len → drop len payloads ≡ replicate (length (drop len payloads)) 0 → payloads ≡ filled (take len payloads)
+pub filled_from : (payloads : List ℕ) (len : ℕ) → length payloads ≡ 4064 * pages_for len → drop len payloads ≡ replicate (length (drop len payloads)) 0
+    → payloads ≡ filled (take len payloads)
 filled_from payloads len long blank =
     let hold = pages_hold len in
     let front : length (take len payloads) ≡ len = omega (arith, length-take len payloads) in

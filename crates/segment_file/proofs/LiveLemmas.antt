@@ -25,27 +25,38 @@ few segment generation s body h =
     omega (arith, ap (λ (x : List ℕ). length x) h.numbers, live_in-length s.base s.span h.bits)
 
 -- the span of two bodies that begin alike
-same_span : (segment generation : ℕ) (s t : LiveSet) (a b x y : List ℕ) → IsLiveBody segment generation s a → IsLiveBody segment generation t b → a ++ x ≡ b ++ y → s.span ≡ t.span
+same_span : (segment generation : ℕ) (s t : LiveSet) (a b x y : List ℕ) → IsLiveBody segment generation s a → IsLiveBody segment generation t b
+    → a ++ x ≡ b ++ y → s.span ≡ t.span
 same_span segment generation s t a b x y p q e =
-    let front : (r : LiveSet) (bits z : List ℕ) → (head segment generation r.base r.span (length r.live) ++ bits) ++ z ≡ name segment generation ++ (sizes r.base r.span (length r.live) ++ (bits ++ z)) =
-    λ r bits z. append_assoc (head segment generation r.base r.span (length r.live)) bits z ∙ head-parts segment generation r.base r.span (length r.live) (bits ++ z) in
-    let whole : name segment generation ++ (sizes s.base s.span (length s.live) ++ (p.bits ++ x)) ≡ name segment generation ++ (sizes t.base t.span (length t.live) ++ (q.bits ++ y)) =
+    let front : (r : LiveSet) (bits z : List ℕ)
+    → (head segment generation r.base r.span (length r.live) ++ bits) ++ z ≡ name segment generation ++ (sizes r.base r.span (length r.live) ++ (bits ++ z)) =
+    λ r bits z.
+    append_assoc (head segment generation r.base r.span (length r.live)) bits z ∙ head-parts segment generation r.base r.span (length r.live) (bits ++ z) in
+    let whole : name segment generation ++ (sizes s.base s.span (length s.live) ++ (p.bits ++ x))
+    ≡ name segment generation ++ (sizes t.base t.span (length t.live) ++ (q.bits ++ y)) =
     sym (front s p.bits x) ∙ ap (λ (l : List ℕ). l ++ x) (sym p.spelling) ∙ e ∙ ap (λ (l : List ℕ). l ++ y) q.spelling ∙ front t q.bits y in
-    let numbers = append_cancel_left (name segment generation) (sizes s.base s.span (length s.live) ++ (p.bits ++ x)) (sizes t.base t.span (length t.live) ++ (q.bits ++ y)) whole in
+    let numbers = append_cancel_left (name segment generation) (sizes s.base s.span (length s.live) ++ (p.bits ++ x))
+    (sizes t.base t.span (length t.live) ++ (q.bits ++ y)) whole in
     let lp = p.are_bits.limit in
     let lq = q.are_bits.limit in
-    let first = spelling_unique w32 s.base t.base (to_be_bytes w32 s.span ++ (to_be_bytes w32 (length s.live) ++ (p.bits ++ x))) (to_be_bytes w32 t.span ++ (to_be_bytes w32 (length t.live) ++ (q.bits ++ y))) (omega arith) (omega arith) numbers in
-    let second = spelling_unique w32 s.span t.span (to_be_bytes w32 (length s.live) ++ (p.bits ++ x)) (to_be_bytes w32 (length t.live) ++ (q.bits ++ y)) (omega arith) (omega arith) first.1 in
+    let first = spelling_unique w32 s.base t.base (to_be_bytes w32 s.span ++ (to_be_bytes w32 (length s.live) ++ (p.bits ++ x)))
+    (to_be_bytes w32 t.span ++ (to_be_bytes w32 (length t.live) ++ (q.bits ++ y))) (omega arith) (omega arith) numbers in
+    let second = spelling_unique w32 s.span t.span (to_be_bytes w32 (length s.live) ++ (p.bits ++ x)) (to_be_bytes w32 (length t.live) ++ (q.bits ++ y))
+    (omega arith) (omega arith) first.1 in
     second.0
 
 -- two bodies with the same pages are the same
-pub same_body : (segment generation : ℕ) (s t : LiveSet) (a b x y : List ℕ) → IsLiveBody segment generation s a → IsLiveBody segment generation t b → filled a ++ x ≡ filled b ++ y → length a ≡ length b
+pub same_body : (segment generation : ℕ) (s t : LiveSet) (a b x y : List ℕ) → IsLiveBody segment generation s a → IsLiveBody segment generation t b
+    → filled a ++ x ≡ filled b ++ y → length a ≡ length b
 same_body segment generation s t a b x y p q e =
-    let span = same_span segment generation s t a b (replicate (4064 * pages_for (length a) - length a) 0 ++ x) (replicate (4064 * pages_for (length b) - length b) 0 ++ y) p q
-    (sym (append_assoc a (replicate (4064 * pages_for (length a) - length a) 0) x) ∙ e ∙ append_assoc b (replicate (4064 * pages_for (length b) - length b) 0) y) in
+    let span = same_span segment generation s t a b (replicate (4064 * pages_for (length a) - length a) 0 ++ x)
+    (replicate (4064 * pages_for (length b) - length b) 0 ++ y) p q
+    (sym (append_assoc a (replicate (4064 * pages_for (length a) - length a) 0) x) ∙ e
+    ∙ append_assoc b (replicate (4064 * pages_for (length b) - length b) 0) y) in
     body_length segment generation s a p ∙ ap (λ (n : ℕ). 36 + (n + 7) / 8) span ∙ sym (body_length segment generation t b q)
 
-pub one_live_set : (segment generation : ℕ) (bytes : List ℕ) (s t : LiveSet) → IsLiveFile segment generation bytes s → IsLiveFile segment generation bytes t → s ≡ t
+pub one_live_set : (segment generation : ℕ) (bytes : List ℕ) (s t : LiveSet) → IsLiveFile segment generation bytes s → IsLiveFile segment generation bytes t
+    → s ≡ t
 unfolding IsLiveFile
 one_live_set segment generation bytes s t p q =
     let lp = p.file.len in

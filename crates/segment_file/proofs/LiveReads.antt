@@ -36,7 +36,8 @@ set_is segment generation s body h =
     subst IsLiveSet same (live_set_is s.base s.span h.bits h.are_bits.limit)
 
 -- a damage of the file's pages, where the file is short of its first page or not at all
-live_file_of : (files : Files) (name : FileName) (known : Damage → Type 0) (d : Damage) → OnlyShort files name known → IsFileDamage name d → known d → IsFileDamageOf files d → IsLiveDamageOf files d
+live_file_of : (files : Files) (name : FileName) (known : Damage → Type 0) (d : Damage) → OnlyShort files name known → IsFileDamage name d → known d
+    → IsFileDamageOf files d → IsLiveDamageOf files d
 live_file_of files name known (Page file number bytes) short named within h = h
 live_file_of files name known (Leaf file number offset len bytes) short named within h = absurd h
 live_file_of files name known (Body file bytes) short named within h = absurd h
@@ -53,8 +54,10 @@ live_fault_of files name known (Damaged d) short named within h = live_file_of f
 live_fault_of files name known Memory short named within h = tt
 
 -- the size that the first page doesn't ask for
-pub live_size_of : (files : Files) (first : FirstPage) (segment generation len pages : ℕ) (d : Damage) → IsFirstPage files first → first_name first ≡ Live segment generation
-    → SaysLength segment generation (first_payload first) len → pages ≡ pages_for len → IsSizeDamage (first_name first) (first_size first) (4096 * pages) d → IsLiveDamageOf files d
+pub live_size_of : (files : Files) (first : FirstPage) (segment generation len pages : ℕ) (d : Damage) → IsFirstPage files first
+    → first_name first ≡ Live segment generation
+    → SaysLength segment generation (first_payload first) len → pages ≡ pages_for len → IsSizeDamage (first_name first) (first_size first) (4096 * pages) d
+    → IsLiveDamageOf files d
 live_size_of files first segment generation len pages (Size file size needed) there name says count h =
     subst (λ (f : FileName). IsSizeOf (AsksFor f) files file size needed) (sym (h.0 ∙ name))
     (other_size (AsksFor (Live segment generation)) files first pages file size needed there (record { len = len; says = says; pages_are = count }) h)
@@ -67,7 +70,8 @@ live_size_of files first segment generation len pages (Beyond doc next) there na
 live_size_of files first segment generation len pages (Doubled doc) there name says count h = absurd h
 
 -- payloads of the file that are carried
-pub body_damage_of : (files : Files) (name : FileName) (payloads : List ℕ) (d : Damage) → ArePayloadsOf files name payloads → IsBodyDamage name payloads d → IsLiveDamageOf files d
+pub body_damage_of : (files : Files) (name : FileName) (payloads : List ℕ) (d : Damage) → ArePayloadsOf files name payloads → IsBodyDamage name payloads d
+    → IsLiveDamageOf files d
 body_damage_of files name payloads (Body file bytes) are h =
     subst (λ (f : FileName). ArePayloadsOf files f bytes) (sym h.0) (subst (λ (l : List ℕ). ArePayloadsOf files name l) (sym h.1) are)
 body_damage_of files name payloads (Page file number bytes) are h = absurd h
@@ -79,9 +83,11 @@ body_damage_of files name payloads (Beyond doc next) are h = absurd h
 body_damage_of files name payloads (Doubled doc) are h = absurd h
 
 -- payloads that begin a body are no damage
-pub no_live_damage : (segment generation : ℕ) (s : LiveSet) (body payloads rest : List ℕ) (d : Damage) → IsLiveBody segment generation s body → payloads ++ rest ≡ filled body
+pub no_live_damage : (segment generation : ℕ) (s : LiveSet) (body payloads rest : List ℕ) (d : Damage) → IsLiveBody segment generation s body
+    → payloads ++ rest ≡ filled body
     → IsLiveDamage segment generation d → IsBodyDamage (Live segment generation) payloads d → ⊥
-no_live_damage segment generation s body payloads rest (Body file bytes) set e shown carried = shown.1 s body rest set (ap (λ (l : List ℕ). l ++ rest) carried.1 ∙ e)
+no_live_damage segment generation s body payloads rest (Body file bytes) set e shown carried =
+    shown.1 s body rest set (ap (λ (l : List ℕ). l ++ rest) carried.1 ∙ e)
 no_live_damage segment generation s body payloads rest (Page file number bytes) set e shown carried = carried
 no_live_damage segment generation s body payloads rest (Leaf file number offset len bytes) set e shown carried = carried
 no_live_damage segment generation s body payloads rest (Missing file) set e shown carried = carried
@@ -91,12 +97,15 @@ no_live_damage segment generation s body payloads rest (Beyond doc next) set e s
 no_live_damage segment generation s body payloads rest (Doubled doc) set e shown carried = carried
 
 -- a file that is all read is that of the set whose body fills its payloads
-pub live_file : (segment generation : ℕ) (bytes payloads : List ℕ) (s : LiveSet) (len : ℕ) → IsSetOf segment generation payloads s → length payloads ≡ 4064 * pages_for len
-    → length bytes ≡ 4096 * pages_for len → ArePages (Live segment generation) bytes 0 (pages_for len) → payloads ≡ payloads_of bytes 0 (pages_for len) → IsLiveFile segment generation bytes s
+pub live_file : (segment generation : ℕ) (bytes payloads : List ℕ) (s : LiveSet) (len : ℕ) → IsSetOf segment generation payloads s
+    → length payloads ≡ 4064 * pages_for len
+    → length bytes ≡ 4096 * pages_for len → ArePages (Live segment generation) bytes 0 (pages_for len) → payloads ≡ payloads_of bytes 0 (pages_for len)
+    → IsLiveFile segment generation bytes s
 unfolding IsLiveFile
 live_file segment generation bytes payloads s len h long size pages same =
     let full = filled_length h.body in
-    let k : pages_for len ≡ pages_for (length h.body) = (let e : 4064 * pages_for len ≡ 4064 * pages_for (length h.body) = sym long ∙ ap (λ (l : List ℕ). length l) h.payloads_are ∙ full in omega arith) in
+    let k : pages_for len ≡ pages_for (length h.body) =
+    (let e : 4064 * pages_for len ≡ 4064 * pages_for (length h.body) = sym long ∙ ap (λ (l : List ℕ). length l) h.payloads_are ∙ full in omega arith) in
     record {
       body = h.body;
       set = h.set;
@@ -139,13 +148,15 @@ first_of segment generation bytes live p =
     }
 
 -- the length that the first page says is that of the body
-pub said_right : (segment generation : ℕ) (bytes payload : List ℕ) (live : LiveSet) (len : ℕ) (f : FirstOf segment generation bytes live) → payload ≡ payload_of (page_at bytes 0)
+pub said_right : (segment generation : ℕ) (bytes payload : List ℕ) (live : LiveSet) (len : ℕ) (f : FirstOf segment generation bytes live)
+    → payload ≡ payload_of (page_at bytes 0)
     → ((s : LiveSet) (body x y : List ℕ) → IsLiveBody segment generation s body → payload ++ x ≡ body ++ y → length body ≡ len) → length f.body ≡ len
 said_right segment generation bytes payload live len f same said =
     said live f.body f.rest (replicate (4064 * pages_for (length f.body) - length f.body) 0) f.set (ap (λ (l : List ℕ). l ++ f.rest) same ∙ f.begins)
 
 -- payloads of all pages of the file of a set are no damage
-pub set_not_damaged : (segment generation : ℕ) (bytes payloads : List ℕ) (live : LiveSet) (len : ℕ) (f : FirstOf segment generation bytes live) → length f.body ≡ len
+pub set_not_damaged : (segment generation : ℕ) (bytes payloads : List ℕ) (live : LiveSet) (len : ℕ) (f : FirstOf segment generation bytes live)
+    → length f.body ≡ len
     → payloads ≡ payloads_of bytes 0 (pages_for len) → payloads ++ [] ≡ filled f.body
 set_not_damaged segment generation bytes payloads live len f same e =
     append-nil payloads ∙ e ∙ ap (λ (n : ℕ). payloads_of bytes 0 (pages_for n)) (sym same) ∙ f.payload

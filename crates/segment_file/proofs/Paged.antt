@@ -1,5 +1,6 @@
 -- A file that grows by whole pages.
-use Rattle.std.proofs.Common.{◌≡◌, ◌+◌, ℕ, List, [], ◌++◌, length, Bool, true, false, refl, sym, ap, ◌∙◌, arith, append_assoc, length-append, zero-add, inl, inr}
+use Rattle.std.proofs.Common.{◌≡◌, ◌+◌, ℕ, List, [], ◌++◌, length, Bool, true, false, refl, sym}
+use Rattle.std.proofs.Common.{ap, ◌∙◌, arith, append_assoc, length-append, zero-add, inl, inr}
 use Rattle.std.proofs.lemmas.Bool.{cases_lt}
 use Rattle.std.specs.Prelude.{if◌then◌else◌}
 use Rattle.outer_io.specs.declared.file_name.FileName.{FileName}
@@ -8,7 +9,8 @@ use Rattle.page_cache.specs.Bodies.{pages_for, filled, ArePagesOf}
 use Rattle.page_cache.proofs.PageRuns.{payloads_join, pages_front, pages_behind, payloads_stay, payloads_back}
 use Rattle.segment_file.specs.Pieced.{IsPaged}
 
-pub behind : (started : Bool) (held out new bytes : List ℕ) → new ≡ out ++ bytes → (if started then held ++ new else new) ≡ (if started then held ++ out else out) ++ bytes
+pub behind : (started : Bool) (held out new bytes : List ℕ) → new ≡ out ++ bytes
+    → (if started then held ++ new else new) ≡ (if started then held ++ out else out) ++ bytes
 behind true held out new bytes e = ap (λ (l : List ℕ). held ++ l) e ∙ sym (append_assoc held out bytes)
 behind false held out new bytes e = e
 
@@ -17,12 +19,14 @@ unfolding payloads_of
 no_pages name = record { len = refl; pages = λ n from below. absurd (omega arith); payloads_are = refl }
 
 -- the pages of a body put behind those that are there
-pub more_pages : (name : FileName) (n : ℕ) (payloads old body bytes : List ℕ) → IsPaged name n payloads old → ArePagesOf name n body bytes → IsPaged name (n + pages_for (length body)) (payloads ++ filled body) (old ++ bytes)
+pub more_pages : (name : FileName) (n : ℕ) (payloads old body bytes : List ℕ) → IsPaged name n payloads old → ArePagesOf name n body bytes
+    → IsPaged name (n + pages_for (length body)) (payloads ++ filled body) (old ++ bytes)
 more_pages name n payloads old body bytes p a =
     let len = p.len in
     let more = a.len in
     let back : payloads_of (old ++ bytes) n (pages_for (length body)) ≡ filled body = payloads_back old bytes n (pages_for (length body)) p.len ∙ a.payload in
-    let behind_is : payloads_of (old ++ bytes) (0 + n) (pages_for (length body)) ≡ filled body = ap (λ (m : ℕ). payloads_of (old ++ bytes) m (pages_for (length body))) (zero-add n) ∙ back in
+    let behind_is : payloads_of (old ++ bytes) (0 + n) (pages_for (length body)) ≡ filled body =
+    ap (λ (m : ℕ). payloads_of (old ++ bytes) m (pages_for (length body))) (zero-add n) ∙ back in
     let front : payloads_of (old ++ bytes) 0 n ≡ payloads = payloads_stay name 0 n old bytes (λ i from below. p.pages i from (omega arith)) ∙ p.payloads_are in
     record {
       len = omega (arith, len, more, length-append old bytes);
@@ -30,5 +34,6 @@ more_pages name n payloads old body bytes p a =
         | inl lt ↦ pages_front name 0 n old bytes p.pages i from lt
         | inr le ↦ pages_behind name n (pages_for (length body)) old bytes p.len a.pages i le below
       ];
-      payloads_are = payloads_join (old ++ bytes) 0 n (pages_for (length body)) ∙ ap (λ (l : List ℕ). payloads_of (old ++ bytes) 0 n ++ l) behind_is ∙ ap (λ (l : List ℕ). l ++ filled body) front;
+      payloads_are = payloads_join (old ++ bytes) 0 n (pages_for (length body)) ∙ ap (λ (l : List ℕ). payloads_of (old ++ bytes) 0 n ++ l) behind_is
+          ∙ ap (λ (l : List ℕ). l ++ filled body) front;
     }

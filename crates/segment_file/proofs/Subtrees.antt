@@ -29,21 +29,27 @@ pub OnOk-weaker : {A E : Type 0} (r : Result A E) (P Q : Type 0) → (P → Q) �
 OnOk-weaker (Ok a) P Q f h = f h
 OnOk-weaker (Err e) P Q f h = tt
 
-no_leaf_left : (D : ℕ) (head : Head) (first : ℕ) (s : Spot) (l r : IndexTree) (k : ℕ) (x : ℤ) (page offset len : ℕ) (part : List ℕ) → IsNoLeaf D head first s l page offset len part → IsNoLeaf D head first s (Split k x l r) page offset len part
-no_leaf_left D head first s l r k x page offset len part h = record { number = h.number; spot = h.spot; own = h.own; is = inl h.is; page_is = h.page_is; offset_is = h.offset_is; none = h.none }
+no_leaf_left : (D : ℕ) (head : Head) (first : ℕ) (s : Spot) (l r : IndexTree) (k : ℕ) (x : ℤ) (page offset len : ℕ) (part : List ℕ)
+    → IsNoLeaf D head first s l page offset len part → IsNoLeaf D head first s (Split k x l r) page offset len part
+no_leaf_left D head first s l r k x page offset len part h =
+    record { number = h.number; spot = h.spot; own = h.own; is = inl h.is; page_is = h.page_is; offset_is = h.offset_is; none = h.none }
 
 no_leaf_right : (D : ℕ) (head : Head) (first : ℕ) (s : Spot) (l r : IndexTree) (k : ℕ) (x : ℤ) (page offset len : ℕ) (part : List ℕ)
     → IsNoLeaf D head (first + leaf_count l) (right_begin s l r) r page offset len part → IsNoLeaf D head first s (Split k x l r) page offset len part
-no_leaf_right D head first s l r k x page offset len part h = record { number = h.number; spot = h.spot; own = h.own; is = inr h.is; page_is = h.page_is; offset_is = h.offset_is; none = h.none }
+no_leaf_right D head first s l r k x page offset len part h =
+    record { number = h.number; spot = h.spot; own = h.own; is = inr h.is; page_is = h.page_is; offset_is = h.offset_is; none = h.none }
 
-leaf_page_left : (head : Head) (first : ℕ) (s : Spot) (l r : IndexTree) (k : ℕ) (x : ℤ) (needed : ℕ) → IsLeafPage head first s l needed → IsLeafPage head first s (Split k x l r) needed
+leaf_page_left : (head : Head) (first : ℕ) (s : Spot) (l r : IndexTree) (k : ℕ) (x : ℤ) (needed : ℕ) → IsLeafPage head first s l needed
+    → IsLeafPage head first s (Split k x l r) needed
 leaf_page_left head first s l r k x needed h = record { number = h.number; spot = h.spot; len = h.len; own = h.own; is = inl h.is; needs = h.needs }
 
-leaf_page_right : (head : Head) (first : ℕ) (s : Spot) (l r : IndexTree) (k : ℕ) (x : ℤ) (needed : ℕ) → IsLeafPage head (first + leaf_count l) (right_begin s l r) r needed → IsLeafPage head first s (Split k x l r) needed
+leaf_page_right : (head : Head) (first : ℕ) (s : Spot) (l r : IndexTree) (k : ℕ) (x : ℤ) (needed : ℕ)
+    → IsLeafPage head (first + leaf_count l) (right_begin s l r) r needed → IsLeafPage head first s (Split k x l r) needed
 leaf_page_right head first s l r k x needed h = record { number = h.number; spot = h.spot; len = h.len; own = h.own; is = inr h.is; needs = h.needs }
 
 -- a damage of a leaf below a child is one of a leaf below the node
-pub left_damage : (D : ℕ) (head : Head) (first : ℕ) (s : Spot) (l r : IndexTree) (k : ℕ) (x : ℤ) (d : Damage) → IsLeafDamage D head first s l d → IsLeafDamage D head first s (Split k x l r) d
+pub left_damage : (D : ℕ) (head : Head) (first : ℕ) (s : Spot) (l r : IndexTree) (k : ℕ) (x : ℤ) (d : Damage) → IsLeafDamage D head first s l d
+    → IsLeafDamage D head first s (Split k x l r) d
 left_damage D head first s l r k x (damage.Page file number bytes) h = h
 left_damage D head first s l r k x (damage.Size file size needed) h = (h.0, h.1, leaf_page_left head first s l r k x needed h.2)
 left_damage D head first s l r k x (damage.Leaf file number offset len bytes) h = (h.0, h.1, no_leaf_left D head first s l r k x number offset len _ h.2)
@@ -53,7 +59,8 @@ left_damage D head first s l r k x (damage.Unequal file said found) h = h
 left_damage D head first s l r k x (damage.Beyond doc next) h = h
 left_damage D head first s l r k x (damage.Doubled doc) h = h
 
-pub right_damage : (D : ℕ) (head : Head) (first : ℕ) (s : Spot) (l r : IndexTree) (k : ℕ) (x : ℤ) (d : Damage) → IsLeafDamage D head (first + leaf_count l) (right_begin s l r) r d
+pub right_damage : (D : ℕ) (head : Head) (first : ℕ) (s : Spot) (l r : IndexTree) (k : ℕ) (x : ℤ) (d : Damage)
+    → IsLeafDamage D head (first + leaf_count l) (right_begin s l r) r d
     → IsLeafDamage D head first s (Split k x l r) d
 right_damage D head first s l r k x (damage.Page file number bytes) h = h
 right_damage D head first s l r k x (damage.Size file size needed) h = (h.0, h.1, leaf_page_right head first s l r k x needed h.2)
@@ -66,7 +73,8 @@ right_damage D head first s l r k x (damage.Doubled doc) h = h
 
 -- what the leaves of both children give is what those of the node give
 pub gathers_join : (D : ℕ) (bytes : List ℕ) (head : Head) (first : ℕ) (s : Spot) (l r : IndexTree) (k : ℕ) (x : ℤ) (live : LiveSet) (old mid new : List Item)
-    → Gathers D bytes head first s l live old mid → Gathers D bytes head (first + leaf_count l) (right_begin s l r) r live mid new → Gathers D bytes head first s (Split k x l r) live old new
+    → Gathers D bytes head first s l live old mid → Gathers D bytes head (first + leaf_count l) (right_begin s l r) r live mid new
+    → Gathers D bytes head first s (Split k x l r) live old new
 gathers_join D bytes head first s l r k x live old mid new a b = record {
   items = a.items ++ b.items;
   holds = record { front_items = a.items; back_items = b.items; front_holds = a.holds; back_holds = b.holds; joined = refl };
@@ -76,14 +84,17 @@ gathers_join D bytes head first s l r k x live old mid new a b = record {
 }
 
 -- the page of a leaf whose file has it
-leaf_page : (D : ℕ) (bytes : List ℕ) (head : Head) (first : ℕ) (s : Spot) (len : ℕ) (own : Region) (items : List Item) → HoldsLeaf D bytes head first s len own items → IsFilePage (Segment head.id) bytes (page_of head s.page)
+leaf_page : (D : ℕ) (bytes : List ℕ) (head : Head) (first : ℕ) (s : Spot) (len : ℕ) (own : Region) (items : List Item)
+    → HoldsLeaf D bytes head first s len own items → IsFilePage (Segment head.id) bytes (page_of head s.page)
 unfolding HoldsLeaf
 leaf_page D bytes head first s len own items h = h.page
 
-alone : (D : ℕ) (bytes : List ℕ) (head : Head) (first : ℕ) (s : Spot) (t : IndexTree) (items : List Item) → IsShaped 1 t → HoldsTree D bytes head first s t items → IsFilePage (Segment head.id) bytes (page_of head s.page)
+alone : (D : ℕ) (bytes : List ℕ) (head : Head) (first : ℕ) (s : Spot) (t : IndexTree) (items : List Item) → IsShaped 1 t
+    → HoldsTree D bytes head first s t items → IsFilePage (Segment head.id) bytes (page_of head s.page)
 alone D bytes head first s (Leaf len own) items shaped h = leaf_page D bytes head first s len own items h
 alone D bytes head first s (Split d x l r) items shaped h = absurd (let two = shaped.0 in omega arith)
 
-pub page_of_leaf : (D : ℕ) (bytes : List ℕ) (head : Head) (node : NodeAt D) (first : ℕ) (s : Spot) (path : Region) (t : IndexTree) (items : List Item) → IsAt node first s path t → node.leaves ≡ 1
+pub page_of_leaf : (D : ℕ) (bytes : List ℕ) (head : Head) (node : NodeAt D) (first : ℕ) (s : Spot) (path : Region) (t : IndexTree) (items : List Item)
+    → IsAt node first s path t → node.leaves ≡ 1
     → HoldsTree D bytes head first s t items → IsFilePage (Segment head.id) bytes (page_of head s.page)
 page_of_leaf D bytes head node first s path t items at one holds = alone D bytes head first s t items (subst (λ (n : ℕ). IsShaped n t) one at.is.shaped) holds

@@ -33,7 +33,8 @@ head_fields D head said h fits = record {
 pub narrow_head : (D : ℕ) (head : Head) (said : ℕ) → HasRanges D head → said < 2 ^ 32 → AreNarrow (fields_of D head said)
 narrow_head D head said h fits = narrow_fields (fields_of D head said) (head_fields D head said h fits)
 
-same_heads : (g h : Head) → g.id ≡ h.id → g.entries ≡ h.entries → g.leaf ≡ h.leaf → g.index.form ≡ h.index.form → g.index.leaves ≡ h.index.leaves → g.index.bytes ≡ h.index.bytes → g ≡ h
+same_heads : (g h : Head) → g.id ≡ h.id → g.entries ≡ h.entries → g.leaf ≡ h.leaf → g.index.form ≡ h.index.form → g.index.leaves ≡ h.index.leaves
+    → g.index.bytes ≡ h.index.bytes → g ≡ h
 same_heads g h a b c d e f = λ i. record { id = a i; entries = b i; leaf = c i; index = record { form = d i; leaves = e i; bytes = f i } }
 
 -- heads of one file that say two numbers of leaf pages
@@ -57,7 +58,8 @@ one_head D bytes g h ids a b = (spelled_once D D bytes g h (pages_of a.tree) (pa
 leaf_once : (D : ℕ) (bytes : List ℕ) (head : Head) (number : ℕ) (s : Spot) (len : ℕ) (own : Region) (xs ys : List Item)
     → HoldsLeaf D bytes head number s len own xs → HoldsLeaf D bytes head number s len own ys → xs ≡ ys
 unfolding HoldsLeaf
-leaf_once D bytes head number s len own xs ys p q = one_leaf D (part_of s.offset len (page_at bytes (page_of head s.page))) xs ys p.spells.spells q.spells.spells
+leaf_once D bytes head number s len own xs ys p q =
+    one_leaf D (part_of s.offset len (page_at bytes (page_of head s.page))) xs ys p.spells.spells q.spells.spells
 
 pub tree_once : (D : ℕ) (bytes : List ℕ) (head : Head) (first : ℕ) (s : Spot) (t : IndexTree) (xs ys : List Item)
     → HoldsTree D bytes head first s t xs → HoldsTree D bytes head first s t ys → xs ≡ ys

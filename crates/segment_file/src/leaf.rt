@@ -111,7 +111,8 @@ pub fn leaf_in<'a, const D: usize>(
         → HoldsLeaf D (bytes_of (files (Segment head.now.id))) head.now first s len own view) }
     ensures none { IfNone result ((files : Files) (first : ℕ) (s : Spot) (path : Region) (len : ℕ) (own : Region)
         → Agrees files cache.now → IsAt node.now first s path (Leaf len own) → IsPlaceOf place s (Leaf len own)
-        → (items : List Item) → HoldsLeaf D (bytes_of (files (Segment head.now.id))) head.now first s len own items → ⊥) }
+        → (items : List Item)
+        → HoldsLeaf D (bytes_of (files (Segment head.now.id))) head.now first s len own items → ⊥) }
     // As many as the head says, over every folder.
     ensures count { IfSome result
         (λ view. (first : ℕ) (s : Spot) (path : Region) (t : IndexTree) → IsAt node.now first s path t

@@ -1,5 +1,6 @@
 -- What is attached of an index that is stored.
-use Rattle.std.proofs.Common.{◌≡◌, ℕ, ◌+◌, ◌≤◌, ◌<◌, ◌↔◌, ⊎_elim, true, false, List, [], ◌∷◌, ◌++◌, length, map, take, get_or, Some, None, refl, sym, ap, subst, ◌∙◌, append_assoc, arith}
+use Rattle.std.proofs.Common.{◌≡◌, ℕ, ◌+◌, ◌≤◌, ◌<◌, ◌↔◌, ⊎_elim, true, false, List, [], ◌∷◌, ◌++◌, length}
+use Rattle.std.proofs.Common.{map, take, get_or, Some, None, refl, sym, ap, subst, ◌∙◌, append_assoc, arith}
 use Rattle.std.specs.List.{All, AllZip, Contains, filter, flat_map}
 use Rattle.std.proofs.lemmas.Bool.{false_from_ne_true}
 use Rattle.std.proofs.lemmas.Grind.{flat_map-append}
@@ -36,7 +37,7 @@ use Rattle.segment_set.specs.Sets.{IsNamed, IsWell, NamedView, SetData}
 use Rattle.segment_set.specs.Seen.{Sees}
 use Rattle.segment_set.specs.Kept.{IsAtRest}
 use Rattle.index_opening.specs.Opened.{IsOpened}
-use Rattle.segment_set.proofs.Saving.{take_whole, zip_length}
+use Rattle.segment_set.proofs.SavedSegments.{take_whole, zip_length}
 use Rattle.index_opening.proofs.Listed.{as_part, parts_held}
 use Rattle.index_opening.proofs.Ordered.{zip_right}
 
@@ -45,7 +46,8 @@ use Rattle.index_opening.proofs.Ordered.{zip_right}
 abbrev pub files_of : Listed → List FileName
 files_of s = Segment s.segment ∷ Live s.segment s.generation ∷ []
 
-pub names_more : (names : List FileName) (listed : List Listed) (i : ℕ) (d s : Listed) → i < length listed → get_or listed i d ≡ s → names ≡ flat_map files_of (take i listed)
+pub names_more : (names : List FileName) (listed : List Listed) (i : ℕ) (d s : Listed) → i < length listed → get_or listed i d ≡ s
+    → names ≡ flat_map files_of (take i listed)
     → (names ++ Segment s.segment ∷ []) ++ Live s.segment s.generation ∷ [] ≡ flat_map files_of (take (i + 1) listed)
 names_more names listed i d s lt at is =
     joined
@@ -58,25 +60,32 @@ names_more names listed i d s lt at is =
     joined = simp append_assoc
 
 -- one segment more, as the loop over the list has it
-pub names_next : (c : CommitData) (xs : List Listed) (i : ℕ) (d : Listed) (before mid after : List FileName) → xs ≡ c.listed → i < length xs → before ≡ flat_map files_of (take i c.listed)
-    → mid ≡ before ++ Segment (get_or xs i d).segment ∷ [] → after ≡ mid ++ Live (get_or xs i d).segment (get_or xs i d).generation ∷ [] → after ≡ flat_map files_of (take (i + 1) c.listed)
+pub names_next : (c : CommitData) (xs : List Listed) (i : ℕ) (d : Listed) (before mid after : List FileName) → xs ≡ c.listed → i < length xs
+    → before ≡ flat_map files_of (take i c.listed)
+    → mid ≡ before ++ Segment (get_or xs i d).segment ∷ [] → after ≡ mid ++ Live (get_or xs i d).segment (get_or xs i d).generation ∷ []
+    → after ≡ flat_map files_of (take (i + 1) c.listed)
 names_next c xs i d before mid after is lt names first second =
     second
     ∙ ap (λ (ns : List FileName). ns ++ Live (get_or xs i d).segment (get_or xs i d).generation ∷ []) first
-    ∙ names_more before c.listed i d (get_or xs i d) (subst (λ (ys : List Listed). i < length ys) is lt) (ap (λ (ys : List Listed). get_or ys i d) (sym is)) names
+    ∙ names_more before c.listed i d (get_or xs i d) (subst (λ (ys : List Listed). i < length ys) is lt) (ap (λ (ys : List Listed). get_or ys i d) (sym is))
+    names
 
-pub below_next : (c : CommitData) (xs : List Listed) (i : ℕ) (d : Listed) (n : ℕ) → xs ≡ c.listed → IsCommit c → i < length xs → n ≡ c.next_segment → (get_or xs i d).segment < n
+pub below_next : (c : CommitData) (xs : List Listed) (i : ℕ) (d : Listed) (n : ℕ) → xs ≡ c.listed → IsCommit c → i < length xs → n ≡ c.next_segment
+    → (get_or xs i d).segment < n
 below_next c xs i d n is commit lt next =
     subst (λ m. (get_or xs i d).segment < m) (sym next)
-    (subst (λ (ys : List Listed). (get_or ys i d).segment < c.next_segment) (sym is) (commit.segments.each i d (subst (λ (ys : List Listed). i < length ys) is lt)).id)
+    (subst (λ (ys : List Listed). (get_or ys i d).segment < c.next_segment) (sym is)
+    (commit.segments.each i d (subst (λ (ys : List Listed). i < length ys) is lt)).id)
 
-pub names_all : (c : CommitData) (xs : List Listed) (i : ℕ) (names : List FileName) → xs ≡ c.listed → length xs ≤ i → names ≡ flat_map files_of (take i c.listed) → names ≡ flat_map files_of c.listed
+pub names_all : (c : CommitData) (xs : List Listed) (i : ℕ) (names : List FileName) → xs ≡ c.listed → length xs ≤ i
+    → names ≡ flat_map files_of (take i c.listed) → names ≡ flat_map files_of c.listed
 names_all c xs i names is le names_are = names_are ∙ ap (flat_map files_of) (take_whole c.listed i (subst (λ (ys : List Listed). length ys ≤ i) is le))
 
 lists_of : (c : CommitData) (s : Listed) (m : FileName) → Contains c.listed s → Contains (files_of s) m → ListsFile c m
 lists_of c s m there has = ⊎_elim
     (λ e. subst (ListsFile c) e (s, there, refl))
-    (λ later. ⊎_elim (λ e. subst (ListsFile c) e (s, there, refl, refl)) (λ none. nil_none m (ListsFile c m) none) (cons_cases (Live s.segment s.generation) [] m later))
+    (λ later. ⊎_elim (λ e. subst (ListsFile c) e (s, there, refl, refl)) (λ none. nil_none m (ListsFile c m) none)
+    (cons_cases (Live s.segment s.generation) [] m later))
     (cons_cases (Segment s.segment) (Live s.segment s.generation ∷ []) m has)
 
 has_listed : (c : CommitData) (m : FileName) → ListsFile c m → Contains (flat_map files_of c.listed) m
@@ -93,7 +102,8 @@ has_listed c CommitNew none = absurd none
 
 pub names_listed : (c : CommitData) (names : List FileName) → names ≡ flat_map files_of c.listed → (m : FileName) → (is_named names m ≡ true) ↔ ListsFile c m
 names_listed c names is m = (
-  λ named. let found = of_flat_map files_of c.listed m (subst (λ (ns : List FileName). Contains ns m) is (is_named-contains names m named)) in lists_of c found.0 m found.1 found.2,
+  λ named. let found = of_flat_map files_of c.listed m (subst (λ (ns : List FileName). Contains ns m) is (is_named-contains names m named)) in
+      lists_of c found.0 m found.1 found.2,
   λ lists. contains-is_named names m (subst (λ (ns : List FileName). Contains ns m) (sym is) (has_listed c m lists)),
 )
 
@@ -116,14 +126,18 @@ attached c names parts cache = record {
   saved = None;
 }
 
-entries_map : (es : Contents) (held : List SegmentData) → All (λ (d : SegmentData). es d.head.id ≡ d.entries) held → live_in_parts es (map as_part held) ≡ all_live_entries held
+entries_map : (es : Contents) (held : List SegmentData) → All (λ (d : SegmentData). es d.head.id ≡ d.entries) held
+    → live_in_parts es (map as_part held) ≡ all_live_entries held
 entries_map es [] all = refl
 entries_map es (d ∷ ds) all =
-    ap (λ (xs : List Item). filter (λ (x : Item). is_live d.live x.doc) xs ++ live_in_parts es (map as_part ds)) (All-head (λ (e : SegmentData). es e.head.id ≡ e.entries) d ds all)
+    ap (λ (xs : List Item). filter (λ (x : Item). is_live d.live x.doc) xs ++ live_in_parts es (map as_part ds))
+    (All-head (λ (e : SegmentData). es e.head.id ≡ e.entries) d ds all)
     ∙ ap (λ (xs : List Item). live_entries d ++ xs) (entries_map es ds (All-tail (λ (e : SegmentData). es e.head.id ≡ e.entries) d ds all))
 
-pub sees_attached : (D : ℕ) (files : Files) (c : CommitData) (names : NameList) (parts : List Part) (cache : PageCache) (i : Index) → c.dims ≡ D → IsCommitFile (bytes_of (files Commit)) c → IsStored files (Some i)
-    → HaveHeads files c (map (λ (p : Part). p.head) parts) → HaveLive files c (lives_of parts) → Agrees files cache → Sees D files (attached c names parts cache) i
+pub sees_attached : (D : ℕ) (files : Files) (c : CommitData) (names : NameList) (parts : List Part) (cache : PageCache) (i : Index) → c.dims ≡ D
+    → IsCommitFile (bytes_of (files Commit)) c → IsStored files (Some i)
+    → HaveHeads files c (map (λ (p : Part). p.head) parts) → HaveLive files c (lives_of parts) → Agrees files cache
+    → Sees D files (attached c names parts cache) i
 sees_attached D files c names parts cache i dims says stored heads lives agrees =
     let found = held_for files c (Some i) stored says in
     by found.0 found.1 (ap (λ (o : State). or_this o) found.2)
@@ -135,7 +149,12 @@ sees_attached D files c names parts cache i dims says stored heads lives agrees 
     by : (docs : List Document) (held : HoldsIndex files c docs) → i ≡ index_of c docs → Sees D files (attached c names parts cache) i
     by docs held is = subst (Sees D files (attached c names parts cache)) (sym is) (record {
       contents = es;
-      stands = record { now = subst (AreRead D files es) (sym same) read; kept = All-nil (λ (v : NamedView). AreRead D files es v.parts); begun = tt; agrees = agrees };
+      stands = record {
+        now = subst (AreRead D files es) (sym same) read;
+        kept = All-nil (λ (v : NamedView). AreRead D files es v.parts);
+        begun = tt;
+        agrees = agrees;
+      };
       dims = dims;
       leaf = refl;
       next = refl;
@@ -165,7 +184,8 @@ sees_attached D files c names parts cache i dims says stored heads lives agrees 
 
         read : AreRead D files es (map as_part held.parts)
         read = All-map (IsRead D files es) as_part held.parts
-            (λ k d lt. one (get_or held.parts k d) (partner_of (HoldsFiles files c) c.listed held.parts held.segments (get_or held.parts k d) (All-contains_itself held.parts k d lt)) (by_id k d lt))
+            (λ k d lt. one (get_or held.parts k d)
+            (partner_of (HoldsFiles files c) c.listed held.parts held.segments (get_or held.parts k d) (All-contains_itself held.parts k d lt)) (by_id k d lt))
 
         entries : live_in_parts es parts ++ [] ≡ all_live_entries held.parts
         entries = append-nil (live_in_parts es parts) ∙ ap (live_in_parts es) same ∙ entries_map es held.parts by_id
@@ -174,8 +194,10 @@ once_none : NoneTwice []
 unfolding NoneTwice
 once_none x = omega arith
 
-pub well_attached : (D : ℕ) (told : Type 0) (files : Files) (c : CommitData) (names : NameList) (parts : List Part) (cache : PageCache) → c.dims ≡ D → IsCommit c → AllZip (IsOpened told files c) c.listed parts
-    → ((number : ℕ) → (places number (lives_of parts) ≤ 1) × (c.next ≤ number → places number (lives_of parts) ≡ 0)) → ((m : FileName) → (is_named names.names m ≡ true) ↔ ListsFile c m) → is_named names.names Commit ≡ false
+pub well_attached : (D : ℕ) (told : Type 0) (files : Files) (c : CommitData) (names : NameList) (parts : List Part) (cache : PageCache) → c.dims ≡ D
+    → IsCommit c → AllZip (IsOpened told files c) c.listed parts
+    → ((number : ℕ) → (places number (lives_of parts) ≤ 1) × (c.next ≤ number → places number (lives_of parts) ≡ 0))
+    → ((m : FileName) → (is_named names.names m ≡ true) ↔ ListsFile c m) → is_named names.names Commit ≡ false
     → ((id : ℕ) → KeepsFile cache id → ⊥) → IsWell D (attached c names parts cache)
 well_attached D told files c names parts cache dims commit all placed listed own none = record {
   some_dims = subst (λ n. 1 ≤ n) dims commit.ranges.some_dims;
@@ -190,7 +212,8 @@ well_attached D told files c names parts cache dims commit all placed listed own
   once = once_none;
   sixteen = λ number. omega arith;
   few = let long = zip_length (IsOpened told files c) c.listed parts all in let few = commit.ranges.few in omega arith;
-  leaf_size = zip_right (IsOpened told files c) (λ (s : Listed). Unit {0}) (λ (p : Part). p.head.leaf ≡ c.leaf) c.listed parts (λ s p u one. one.listed.leaf_size) (λ k s lt. tt) all;
+  leaf_size = zip_right (IsOpened told files c) (λ (s : Listed). Unit {0}) (λ (p : Part). p.head.leaf ≡ c.leaf) c.listed parts
+      (λ s p u one. one.listed.leaf_size) (λ k s lt. tt) all;
   live_fits = zip_right (IsOpened told files c) (λ (s : Listed). s.live ≤ s.entries) (λ (p : Part). length p.live.live ≤ p.head.entries) c.listed parts
       (λ s p le one. omega (arith, le, one.listed.live, one.listed.entries)) (λ k s lt. (commit.segments.each k s lt).live) all;
   named = zip_right (IsOpened told files c) (Contains c.listed) (IsNamed names) c.listed parts
@@ -205,7 +228,8 @@ well_attached D told files c names parts cache dims commit all placed listed own
   cached = λ id keeps. absurd (none id keeps);
 }
 
-pub at_rest_attached : (told : Type 0) (files : Files) (c : CommitData) (names : NameList) (parts : List Part) (cache : PageCache) → AllZip (IsOpened told files c) c.listed parts → names.next_segment ≡ c.next_segment
+pub at_rest_attached : (told : Type 0) (files : Files) (c : CommitData) (names : NameList) (parts : List Part) (cache : PageCache)
+    → AllZip (IsOpened told files c) c.listed parts → names.next_segment ≡ c.next_segment
     → IsAtRest (attached c names parts cache) c
 at_rest_attached told files c names parts cache all next = record {
   leaf = refl;
@@ -224,7 +248,8 @@ at_rest_attached told files c names parts cache all next = record {
 }
 
 -- the set as a call makes it
-pub attached_is : (c : CommitData) (names : NameList) (parts : List Part) (cache : PageCache) (leaf next given : ℕ) (buffer : List Item) (snapshots : List NamedView) → leaf ≡ c.leaf → next ≡ c.next → given ≡ c.given → buffer ≡ [] → snapshots ≡ []
+pub attached_is : (c : CommitData) (names : NameList) (parts : List Part) (cache : PageCache) (leaf next given : ℕ) (buffer : List Item)
+    (snapshots : List NamedView) → leaf ≡ c.leaf → next ≡ c.next → given ≡ c.given → buffer ≡ [] → snapshots ≡ []
     → record (attached c names parts cache) { leaf = leaf; next = next; given = given; buffer = buffer; snapshots = snapshots } ≡ attached c names parts cache
 attached_is c names parts cache leaf next given buffer snapshots l n g b s =
     λ i. record (attached c names parts cache) { leaf = l i; next = n i; given = g i; buffer = b i; snapshots = s i }

@@ -1,5 +1,6 @@
 -- Entries that ascend by number: those of one number are a run, which is found by halves.
-use Rattle.std.proofs.Common.{◌≡◌, ℕ, zero, suc, ◌≤◌, ◌<◌, Bool, true, false, not, ◌||◌, eqb, leb, ltb, cond, List, [], ◌∷◌, length, refl, sym, ap, subst, ◌∙◌, arith}
+use Rattle.std.proofs.Common.{◌≡◌, ℕ, zero, suc, ◌≤◌, ◌<◌, Bool, true, false, not, ◌||◌, eqb, leb}
+use Rattle.std.proofs.Common.{ltb, cond, List, [], ◌∷◌, length, refl, sym, ap, subst, ◌∙◌, arith}
 use Rattle.std.specs.List.{AllWithin, filter, list_any}
 use Rattle.std.specs.List.Sorted.{IsNonDecreasingBy, IsPartitionPoint}
 use Rattle.std.proofs.lemmas.List.{get_or-map, length-map}
@@ -46,16 +47,20 @@ module _ {X : Type 0} (n : X → ℕ) (number : ℕ) where
   run_is [] (suc i) j li lj below not_below up_to above = absurd (omega (arith, li))
   run_is (x ∷ xs) zero zero li lj below not_below up_to above =
       let here = differs_above x (above 0 x (omega arith) (omega arith)) in
-      let more = run_is xs zero zero (omega arith) (omega arith) (λ k d le lt. absurd (omega (arith, lt))) (λ k d le lt. not_below (suc k) d (omega arith) (omega arith)) (λ k d le lt. absurd (omega (arith, lt))) (λ k d le lt. above (suc k) d (omega arith) (omega arith)) in
+      let more = run_is xs zero zero (omega arith) (omega arith) (λ k d le lt. absurd (omega (arith, lt)))
+      (λ k d le lt. not_below (suc k) d (omega arith) (omega arith)) (λ k d le lt. absurd (omega (arith, lt)))
+      (λ k d le lt. above (suc k) d (omega arith) (omega arith)) in
       record {
-        rest = ap (λ ys. x ∷ ys) more.rest ∙ ap (λ b. cond (not b) (x ∷ filter (λ y. not (eqb (n y) number)) xs) (filter (λ y. not (eqb (n y) number)) xs)) (sym here);
+        rest = ap (λ ys. x ∷ ys) more.rest
+            ∙ ap (λ b. cond (not b) (x ∷ filter (λ y. not (eqb (n y) number)) xs) (filter (λ y. not (eqb (n y) number)) xs)) (sym here);
         some = λ lt. absurd (omega arith);
         none = λ le. ap (λ b. b || list_any (λ y. eqb (n y) number) xs) here ∙ more.none (omega arith);
         ordered = omega arith;
       }
   run_is (x ∷ xs) zero (suc j) li lj below not_below up_to above =
       let here = equals x (not_below 0 x (omega arith) (omega arith)) (up_to 0 x (omega arith) (omega arith)) in
-      let more = run_is xs zero j (omega arith) (omega (arith, lj)) (λ k d le lt. absurd (omega (arith, lt))) (λ k d le lt. not_below (suc k) d (omega arith) (omega arith)) (from_front UpTo x xs j up_to) (tail_within Above x xs j (length xs) above) in
+      let more = run_is xs zero j (omega arith) (omega (arith, lj)) (λ k d le lt. absurd (omega (arith, lt)))
+      (λ k d le lt. not_below (suc k) d (omega arith) (omega arith)) (from_front UpTo x xs j up_to) (tail_within Above x xs j (length xs) above) in
       record {
         rest = more.rest ∙ ap (λ b. cond (not b) (x ∷ filter (λ y. not (eqb (n y) number)) xs) (filter (λ y. not (eqb (n y) number)) xs)) (sym here);
         some = λ lt. ap (λ b. b || list_any (λ y. eqb (n y) number) xs) here;
@@ -63,12 +68,15 @@ module _ {X : Type 0} (n : X → ℕ) (number : ℕ) where
         ordered = omega arith;
       }
   run_is (x ∷ xs) (suc i) zero li lj below not_below up_to above =
-      absurd (let lt = ltb-true (n x) number (below 0 x (omega arith) (omega arith)) in let gt = leb-false (n x) number (above 0 x (omega arith) (omega arith)) in omega arith)
+      absurd (let lt = ltb-true (n x) number (below 0 x (omega arith) (omega arith)) in
+      let gt = leb-false (n x) number (above 0 x (omega arith) (omega arith)) in omega arith)
   run_is (x ∷ xs) (suc i) (suc j) li lj below not_below up_to above =
       let here = differs x (below 0 x (omega arith) (omega arith)) in
-      let more = run_is xs i j (omega (arith, li)) (omega (arith, lj)) (from_front Below x xs i below) (tail_within NotBelow x xs i (length xs) not_below) (from_front UpTo x xs j up_to) (tail_within Above x xs j (length xs) above) in
+      let more = run_is xs i j (omega (arith, li)) (omega (arith, lj)) (from_front Below x xs i below) (tail_within NotBelow x xs i (length xs) not_below)
+      (from_front UpTo x xs j up_to) (tail_within Above x xs j (length xs) above) in
       record {
-        rest = ap (λ ys. x ∷ ys) more.rest ∙ ap (λ b. cond (not b) (x ∷ filter (λ y. not (eqb (n y) number)) xs) (filter (λ y. not (eqb (n y) number)) xs)) (sym here);
+        rest = ap (λ ys. x ∷ ys) more.rest
+            ∙ ap (λ b. cond (not b) (x ∷ filter (λ y. not (eqb (n y) number)) xs) (filter (λ y. not (eqb (n y) number)) xs)) (sym here);
         some = λ lt. ap (λ b. b || list_any (λ y. eqb (n y) number) xs) here ∙ more.some (omega arith);
         none = λ le. ap (λ b. b || list_any (λ y. eqb (n y) number) xs) here ∙ more.none (omega arith);
         ordered = let le = more.ordered in omega arith;
@@ -99,7 +107,8 @@ but_items {D} number (x ∷ xs) = by (eqb x.doc number) (but_items number xs)
 
 -- where two partition points stand
 pub points_run : {X : Type 0} (n : X → ℕ) (number : ℕ) (xs ys zs : List X) (i j : ℕ) → ys ≡ xs → zs ≡ xs → i ≤ length ys → j ≤ length zs
-    → IsPartitionPoint (λ y. ltb (n y) number ≡ true) (λ y. ltb (n y) number ≡ false) ys i → IsPartitionPoint (λ y. leb (n y) number ≡ true) (λ y. leb (n y) number ≡ false) zs j → IsRun n number xs i j
+    → IsPartitionPoint (λ y. ltb (n y) number ≡ true) (λ y. ltb (n y) number ≡ false) ys i
+    → IsPartitionPoint (λ y. leb (n y) number ≡ true) (λ y. leb (n y) number ≡ false) zs j → IsRun n number xs i j
 points_run n number xs ys zs i j first second li lj from to =
     let lx = ap length first in
     let ly = ap length second in
@@ -113,4 +122,9 @@ ordered_items xs up i j d le lt =
     let long = length-map xs item_of in
     let low : i < length xs = omega arith in
     let under = up i j (item_of d) le (omega arith) in
-    omega (arith, under, ap (λ (x : Item). x.doc) (get_or-map item_of xs i d (item_of d) low), ap (λ (x : Item). x.doc) (get_or-map item_of xs j d (item_of d) lt))
+    omega (
+      arith,
+      under,
+      ap (λ (x : Item). x.doc) (get_or-map item_of xs i d (item_of d) low),
+      ap (λ (x : Item). x.doc) (get_or-map item_of xs j d (item_of d) lt),
+    )

@@ -24,7 +24,8 @@ use Rattle.segment_set.specs.Kept.{KeepsNamed, StaysAlone, StaysButCache, IsWith
 -- ---- names and files
 
 -- a name that a longer list doesn't have is none of a list that it has
-pub unnamed_before : (before now : List FileName) (m : FileName) → (is_named before m ≡ true → is_named now m ≡ true) → is_named now m ≡ false → is_named before m ≡ false
+pub unnamed_before : (before now : List FileName) (m : FileName) → (is_named before m ≡ true → is_named now m ≡ true) → is_named now m ≡ false
+    → is_named before m ≡ false
 unnamed_before before now m more none = by (is_named before m) refl
   where
     by : (b : Bool) → is_named before m ≡ b → b ≡ false
@@ -61,13 +62,15 @@ keeps_calm told old new before after names files = record {
 }
 
 -- a file that was written under a name that joined the list for it
-pub keeps_written : (told : Type 0) (old new : NameList) (before after : Files) (name : FileName) → IsNextName old name new → new.names ≡ old.names ++ name ∷ [] → is_named old.names name ≡ false → name ≢ Commit
+pub keeps_written : (told : Type 0) (old new : NameList) (before after : Files) (name : FileName) → IsNextName old name new → new.names ≡ old.names ++ name ∷ []
+    → is_named old.names name ≡ false → name ≢ Commit
     → (told → SameBut name before after) → KeepsNamed told old new before after
 keeps_written told old new before after name next joined fresh other same = record {
   given = (name ∷ [], (new, next, refl));
   more = λ m named. ap (λ (ns : List FileName). is_named ns m) joined ∙ stays old.names name m named;
   files = λ t m named. same t m (is_named-apart old.names m name named fresh);
-  others = λ t m none. same t m (λ e. both_ways (is_named new.names m) none (ap (is_named new.names) e ∙ ap (λ (ns : List FileName). is_named ns name) joined ∙ joins old.names name));
+  others = λ t m none. same t m
+      (λ e. both_ways (is_named new.names m) none (ap (is_named new.names) e ∙ ap (λ (ns : List FileName). is_named ns name) joined ∙ joins old.names name));
   own = ap (λ (ns : List FileName). is_named ns Commit) joined ∙ others_stay old.names name Commit (λ e. other (sym e));
   commit = λ t. same t Commit (λ e. other (sym e));
 }
@@ -116,8 +119,13 @@ follows_same names old new same = subst (Follows names old) (sym same) (follows_
 pub follows_cached : (s t : SetData) → StaysButCache s t → Follows s.names s.parts t.parts
 follows_cached s t alone = follows_same s.names s.parts t.parts (ap (λ (u : SetData). u.parts) alone.is)
 
-pub follows_then : (m n : NameList) (a b c : List Part) → ((name : FileName) → is_named m.names name ≡ true → is_named n.names name ≡ true) → Follows m a b → Follows n b c → Follows m a c
-follows_then m n a b c more first second = record { each = λ p there. ⊎_elim (λ fresh. inl (unnamed_before m.names n.names (Segment p.head.id) (more (Segment p.head.id)) fresh)) (λ r. through p r) (second.each p there) }
+pub follows_then : (m n : NameList) (a b c : List Part) → ((name : FileName) → is_named m.names name ≡ true → is_named n.names name ≡ true) → Follows m a b
+    → Follows n b c → Follows m a c
+follows_then m n a b c more first second =
+    record {
+      each = λ p there.
+          ⊎_elim (λ fresh. inl (unnamed_before m.names n.names (Segment p.head.id) (more (Segment p.head.id)) fresh)) (λ r. through p r) (second.each p there);
+    }
   where
     through : (p : Part) → (q : Part) × Contains b q × (p.head ≡ q.head) × IsWithin p.live q.live
         → (is_named m.names (Segment p.head.id) ≡ false) ⊎ ((q : Part) × Contains a q × (p.head ≡ q.head) × IsWithin p.live q.live)
@@ -144,26 +152,32 @@ follows_cleared names number parts = record {
 pub placed_cases : {P : Type 0} (p : Part) (old new : List Part) → IsPlaced p old new → (q : Part) → Contains new q → (p ≡ q → P) → (Contains old q → P) → P
 placed_cases p old new put q there itself other =
     ⊎_elim (λ h. other (subst (λ (ps : List Part). Contains ps q) (sym put.before) (Contains-append_left put.front put.back q h)))
-    (λ h. ⊎_elim itself (λ r. other (subst (λ (ps : List Part). Contains ps q) (sym put.before) (Contains-append_right put.front put.back q r))) (cons_cases p put.back q h))
+    (λ h. ⊎_elim itself (λ r. other (subst (λ (ps : List Part). Contains ps q) (sym put.before) (Contains-append_right put.front put.back q r)))
+    (cons_cases p put.back q h))
     (Contains-append_cases put.front (p ∷ put.back) q (subst (λ (ps : List Part). Contains ps q) put.after there))
 
-pub follows_placed : (names : NameList) (p : Part) (before old new : List Part) → IsPlaced p old new → is_named names.names (Segment p.head.id) ≡ false → Follows names before old → Follows names before new
+pub follows_placed : (names : NameList) (p : Part) (before old new : List Part) → IsPlaced p old new → is_named names.names (Segment p.head.id) ≡ false
+    → Follows names before old → Follows names before new
 follows_placed names p before old new put fresh others = record {
-  each = λ q there. placed_cases p old new put q there (λ e. inl (ap (λ (r : Part). is_named names.names (Segment r.head.id)) (sym e) ∙ fresh)) (λ h. others.each q h);
+  each = λ q there.
+      placed_cases p old new put q there (λ e. inl (ap (λ (r : Part). is_named names.names (Segment r.head.id)) (sym e) ∙ fresh)) (λ h. others.each q h);
 }
 
 -- ---- canonical segments
 
 pub canon_named : (D : ℕ) (files : Files) (names : NameList) (parts : List Part) → All (IsNamed names) parts → AreCanonical D files names parts
-canon_named D files names parts all p there fresh = absurd (both_ways (is_named names.names (Segment p.head.id)) fresh (All-contains (IsNamed names) parts p all there))
+canon_named D files names parts all p there fresh =
+    absurd (both_ways (is_named names.names (Segment p.head.id)) fresh (All-contains (IsNamed names) parts p all there))
 
-pub canon_file : (D : ℕ) (before after : Files) (g h : Head) → h ≡ g → after (Segment g.id) ≡ before (Segment g.id) → HasCanonical D before g → HasCanonical D after h
+pub canon_file : (D : ℕ) (before after : Files) (g h : Head) → h ≡ g → after (Segment g.id) ≡ before (Segment g.id) → HasCanonical D before g
+    → HasCanonical D after h
 canon_file D before after g h same file has =
     subst (HasCanonical D after) (sym same)
     (subst (λ b. ∥ ((items : List Item) × IsSegment D (bytes_of b) g items × IsCanonical D g items × AreUncrowded items) ∥₁) (sym file) has)
 
 -- segments that were canonical, and another call
-pub canon_then : (D : ℕ) (told : Type 0) (m n k : NameList) (f g : Files) (b c : List Part) → told → KeepsNamed told n k f g → ((name : FileName) → is_named m.names name ≡ true → is_named n.names name ≡ true)
+pub canon_then : (D : ℕ) (told : Type 0) (m n k : NameList) (f g : Files) (b c : List Part) → told → KeepsNamed told n k f g
+    → ((name : FileName) → is_named m.names name ≡ true → is_named n.names name ≡ true)
     → All (IsNamed n) b → AreCanonical D f m b → Follows n b c → AreCanonical D g n c → AreCanonical D g m c
 canon_then D told m n k f g b c t keeps more named first follows second p there fresh = ⊎_elim (second p there) (λ r. through r) (follows.each p there)
   where
@@ -172,9 +186,11 @@ canon_then D told m n k f g b c t keeps more named first follows second p there 
         canon_file D f g q.head p.head head (keeps.files t (Segment q.head.id) (All-contains (IsNamed n) b q named here))
         (first q here (ap (λ (h : Head). is_named m.names (Segment h.id)) (sym head) ∙ fresh))
 
-pub canon_placed : (D : ℕ) (files : Files) (names : NameList) (p : Part) (old new : List Part) → IsPlaced p old new → HasCanonical D files p.head → AreCanonical D files names old → AreCanonical D files names new
+pub canon_placed : (D : ℕ) (files : Files) (names : NameList) (p : Part) (old new : List Part) → IsPlaced p old new → HasCanonical D files p.head
+    → AreCanonical D files names old → AreCanonical D files names new
 canon_placed D files names p old new put has others q there fresh =
     placed_cases p old new put q there (λ e. subst (λ (r : Part). HasCanonical D files r.head) e has) (λ h. others q h fresh)
 
-pub canon_filter : (D : ℕ) (files : Files) (names : NameList) (keep : Part → Bool) (parts : List Part) → AreCanonical D files names parts → AreCanonical D files names (filter keep parts)
+pub canon_filter : (D : ℕ) (files : Files) (names : NameList) (keep : Part → Bool) (parts : List Part) → AreCanonical D files names parts
+    → AreCanonical D files names (filter keep parts)
 canon_filter D files names keep parts all p there fresh = all p (of_filter keep parts p there).0 fresh

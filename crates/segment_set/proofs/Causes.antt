@@ -5,7 +5,8 @@ use Rattle.page_cache.specs.declared.faults.StoreFault.{StoreFault}
 use Rattle.page_cache.specs.declared.faults.StoreFault.TheVariants as store
 use Rattle.page_cache.specs.Causes.{HasPageCause, HasStoreCause, page_fault}
 
-pub wrote_cause : {T U : Type 0} (before now : ℕ) (e : StoreFault) → HasStoreCause {T = T} before now (Err e) → HasPageCause {T = U} before now (Err (page_fault e))
+pub wrote_cause : {T U : Type 0} (before now : ℕ) (e : StoreFault) → HasStoreCause {T = T} before now (Err e)
+    → HasPageCause {T = U} before now (Err (page_fault e))
 wrote_cause before now store.Failed h = record { later = h.later; fine = tt; failed = λ is. h.failed refl }
 wrote_cause before now store.Memory h = record { later = h.later; fine = tt; failed = λ is. cc }
 

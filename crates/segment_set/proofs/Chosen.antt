@@ -1,5 +1,6 @@
 -- What is chosen for a merge.
-use Rattle.std.proofs.Common.{◌≡◌, ℕ, ◌≤◌, ◌<◌, Bool, true, false, not, List, [], ◌∷◌, length, map, get_or, Option, None, Some, IsNone, IfNone, IfOk, Result, Ok, Err, refl, sym, ap, subst, ◌∙◌, arith}
+use Rattle.std.proofs.Common.{◌≡◌, ℕ, ◌≤◌, ◌<◌, Bool, true, false, not, List, [], ◌∷◌, length, map, get_or, Option}
+use Rattle.std.proofs.Common.{None, Some, IsNone, IfNone, IfOk, Result, Ok, Err, refl, sym, ap, subst, ◌∙◌, arith}
 use Rattle.std.specs.List.{Contains, filter, slice_get}
 use Rattle.std.proofs.lemmas.Bool.{not-true}
 use Rattle.std.proofs.lemmas.List.{length-map}
@@ -22,7 +23,8 @@ map_ids : (f : ℕ → Bool) (parts : List Part) → map f (ids_of parts) ≡ ma
 map_ids f [] = refl
 map_ids f (p ∷ ps) = ap (λ (bs : List Bool). f p.head.id ∷ bs) (map_ids f ps)
 
-module _ (inputs : List ℕ) (parts : List Part) (sizes : List ℕ) (pins : List Bool) (positions ids : List ℕ) (sizes_are : sizes ≡ sizes_of parts) (pins_are : pins ≡ pinned inputs parts)
+module _ (inputs : List ℕ) (parts : List Part) (sizes : List ℕ) (pins : List Bool) (positions ids : List ℕ) (sizes_are : sizes ≡ sizes_of parts)
+    (pins_are : pins ≡ pinned inputs parts)
     (choice : IsChoice sizes pins positions) (are : ids ≡ map (λ i. get_or (ids_of parts) i 0) positions) where
   sized : length sizes ≡ length parts
   sized = ap length sizes_are ∙ length-map parts (λ (p : Part). p.head.entries)
@@ -35,7 +37,8 @@ module _ (inputs : List ℕ) (parts : List Part) (sizes : List ℕ) (pins : List
     among = λ id there.
         let at = at_position (ids_of parts) positions id (subst (λ (ns : List ℕ). is_among ns id ≡ true) are there) in
         let free = All-contains (IsFree choice.level sizes pins) positions at.0 choice.chosen.free at.1 in
-        subst (λ n. is_among (ids_of parts) n ≡ true) at.2 (among_from (ids_of parts) (get_or (ids_of parts) at.0 0) (Contains-get_or (ids_of parts) at.0 0 (omega (arith, free.in_range, sized, named))));
+        subst (λ n. is_among (ids_of parts) n ≡ true) at.2
+        (among_from (ids_of parts) (get_or (ids_of parts) at.0 0) (Contains-get_or (ids_of parts) at.0 0 (omega (arith, free.in_range, sized, named))));
     apart = λ id there.
         let at = at_position (ids_of parts) positions id (subst (λ (ns : List ℕ). is_among ns id ≡ true) are there) in
         let free = All-contains (IsFree choice.level sizes pins) positions at.0 choice.chosen.free at.1 in
@@ -53,7 +56,8 @@ module _ (inputs : List ℕ) (parts : List Part) (sizes : List ℕ) (pins : List
   pub chosen_ten : (level : ℕ) × (10 ≤ free_count level (sizes_of parts) (pinned inputs parts))
   chosen_ten = (
     choice.level,
-    subst (λ (ss : List ℕ). 10 ≤ free_count choice.level ss (pinned inputs parts)) sizes_are (subst (λ (bs : List Bool). 10 ≤ free_count choice.level sizes bs) pins_are choice.has_ten),
+    subst (λ (ss : List ℕ). 10 ≤ free_count choice.level ss (pinned inputs parts)) sizes_are
+        (subst (λ (bs : List Bool). 10 ≤ free_count choice.level sizes bs) pins_are choice.has_ten),
   )
 
 -- where a level has ten the policy chooses some
@@ -68,7 +72,8 @@ pub if_ok : {T E : Type 0} (r : Result T E) (P Q : T → Type 0) → ((x : T) �
 if_ok (Ok x) P Q more p = more x p
 if_ok (Err e) P Q more p = tt
 
-pub unpinned_apart : (inputs : List ℕ) (parts : List Part) (ids : List ℕ) → ids ≡ filter (λ id. not (is_among inputs id)) (ids_of parts) → IsApart ids inputs parts
+pub unpinned_apart : (inputs : List ℕ) (parts : List Part) (ids : List ℕ) → ids ≡ filter (λ id. not (is_among inputs id)) (ids_of parts)
+    → IsApart ids inputs parts
 unpinned_apart inputs parts ids are = record {
   among = λ id there. among_from (ids_of parts) id (kept id there).0;
   apart = λ id there. not-true (is_among inputs id) (kept id there).1;

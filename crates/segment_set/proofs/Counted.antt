@@ -38,7 +38,8 @@ crowded_more : (number : ℕ) (xs ys : List Item) → ((p : Item → Bool) → c
 crowded_more number xs ys more (inl many) = inl (omega (arith, many, more (λ y. eqb y.doc number)))
 crowded_more number xs ys more (inr (x, is, twice)) = inr (x, is, omega (arith, twice, more (same_item x)))
 
-pub crowded_within : (number : ℕ) (k l : Item → Bool) → ((x : Item) → k x ≡ true → l x ≡ true) → (xs : List Item) → IsCrowded number (filter k xs) → IsCrowded number (filter l xs)
+pub crowded_within : (number : ℕ) (k l : Item → Bool) → ((x : Item) → k x ≡ true → l x ≡ true) → (xs : List Item) → IsCrowded number (filter k xs)
+    → IsCrowded number (filter l xs)
 crowded_within number k l more xs = crowded_more number (filter k xs) (filter l xs) (λ p. counted_within p k l more xs)
 
 pub crowded_whole : (number : ℕ) (k : Item → Bool) (xs : List Item) → IsCrowded number (filter k xs) → IsCrowded number xs

@@ -12,7 +12,7 @@ use Rattle.leaf_codec.specs.LeafOrder.{same_item}
 use Rattle.live_bits.specs.LiveSet.{LiveSet, is_live}
 use Rattle.inner_pack.specs.Places.{front}
 use Rattle.inner_pack.specs.Trees.{IndexTree}
-use Rattle.inner_pack.proofs.OneTree.{one_index}
+use Rattle.inner_pack.proofs.OneIndex.{one_index}
 use Rattle.segment_file.specs.Heads.{Head}
 use Rattle.segment_file.specs.Segments.{HoldsTree, IsSegment}
 use Rattle.segment_file.proofs.Unique.{tree_once}
@@ -42,11 +42,13 @@ same_doc x y e = eqb-true x.doc y.doc (left_of _ _ e)
     left_of false b h = h
 
 -- what is crowded where one list stands behind another, of which one has no entry of the number, is so in the other
-crowded_part : (number : ℕ) (xs ys : List Item) → ((q : Item → Bool) → IsOf number q → count_by q xs ≤ count_by q ys) → IsCrowded number xs → IsCrowded number ys
+crowded_part : (number : ℕ) (xs ys : List Item) → ((q : Item → Bool) → IsOf number q → count_by q xs ≤ count_by q ys) → IsCrowded number xs
+    → IsCrowded number ys
 crowded_part number xs ys more (inl many) = inl (omega (arith, many, more (λ y. eqb y.doc number) (λ y e. eqb-true y.doc number e)))
 crowded_part number xs ys more (inr (x, is, twice)) = inr (x, is, omega (arith, twice, more (same_item x) (λ y e. sym (same_doc x y e) ∙ is)))
 
-none_live : (number : ℕ) (q : Item → Bool) → IsOf number q → (live : LiveSet) → is_live live number ≡ false → (xs : List Item) → count_by q (filter (λ x. is_live live x.doc) xs) ≤ 0
+none_live : (number : ℕ) (q : Item → Bool) → IsOf number q → (live : LiveSet) → is_live live number ≡ false → (xs : List Item)
+    → count_by q (filter (λ x. is_live live x.doc) xs) ≤ 0
 none_live number q of live dead [] = omega arith
 none_live number q of live dead (x ∷ xs) = by (is_live live x.doc) refl (q x) refl (none_live number q of live dead xs)
   where
@@ -58,18 +60,21 @@ none_live number q of live dead (x ∷ xs) = by (is_live live x.doc) refl (q x) 
     by true here false e none = omega (arith, none, sum_by-cons (λ y. cond (q y) 1 0) x rest, ap one_if e)
     by false here c e none = none
 
-held_none : (D : ℕ) (files : Files) (number : ℕ) (q : Item → Bool) → IsOf number q → (p : Part) (items : List Item) → is_live p.live number ≡ false → IsHeld D files p items → count_by q items ≤ 0
+held_none : (D : ℕ) (files : Files) (number : ℕ) (q : Item → Bool) → IsOf number q → (p : Part) (items : List Item) → is_live p.live number ≡ false
+    → IsHeld D files p items → count_by q items ≤ 0
 held_none D files number q of p items dead (inl none) = omega (arith, ap (count_by q) none.1)
 held_none D files number q of p items dead (inr (entries, held, is)) = omega (arith, ap (count_by q) is, none_live number q of p.live dead entries)
 
 places_cons : (number : ℕ) (p : Part) (ps : List Part) → places number (lives_of (p ∷ ps)) ≡ one_if (is_live p.live number) + places number (lives_of ps)
 places_cons number p ps = sum_by-cons (λ (t : LiveSet). cond (is_live t number) 1 0) p.live (lives_of ps)
 
-all_none : (D : ℕ) (files : Files) (number : ℕ) (q : Item → Bool) → IsOf number q → (parts : List Part) (items : List Item) → places number (lives_of parts) ≤ 0 → AreHeld D files parts items → count_by q items ≤ 0
+all_none : (D : ℕ) (files : Files) (number : ℕ) (q : Item → Bool) → IsOf number q → (parts : List Part) (items : List Item) → places number (lives_of parts) ≤ 0
+    → AreHeld D files parts items → count_by q items ≤ 0
 all_none D files number q of [] items none held = omega (arith, ap (count_by q) held)
 all_none D files number q of (p ∷ ps) items none held = by (is_live p.live number) refl (all_none D files number q of ps held.back_items)
   where
-    by : (b : Bool) → is_live p.live number ≡ b → (places number (lives_of ps) ≤ 0 → AreHeld D files ps held.back_items → count_by q held.back_items ≤ 0) → count_by q items ≤ 0
+    by : (b : Bool) → is_live p.live number ≡ b → (places number (lives_of ps) ≤ 0 → AreHeld D files ps held.back_items → count_by q held.back_items ≤ 0)
+        → count_by q items ≤ 0
     by true e rest = absurd (omega (arith, none, places_cons number p ps, ap one_if e))
     by false e rest = omega (
       arith,
@@ -88,7 +93,8 @@ held_crowd D files p number items (inl none) crowd = absurd (nothing (subst (IsC
     nothing (inr (x, is, twice)) = omega (arith, twice)
 held_crowd D files p number items (inr (entries, held, is)) crowd = record { items = entries; held = held; crowded = subst (IsCrowded number) is crowd }
 
-pub held_crowded : (D : ℕ) (files : Files) (number : ℕ) (parts : List Part) (items : List Item) → places number (lives_of parts) ≤ 1 → AreHeld D files parts items → IsCrowded number items → IsCrowdedIn D files parts number
+pub held_crowded : (D : ℕ) (files : Files) (number : ℕ) (parts : List Part) (items : List Item) → places number (lives_of parts) ≤ 1
+    → AreHeld D files parts items → IsCrowded number items → IsCrowdedIn D files parts number
 held_crowded D files number [] items alone held crowd = absurd (nothing (subst (IsCrowded number) held crowd))
   where
     nothing : IsCrowded number [] → ⊥
@@ -99,26 +105,32 @@ held_crowded D files number (p ∷ ps) items alone held crowd = by (is_live p.li
     split : (q : Item → Bool) → count_by q items ≡ count_by q held.front_items + count_by q held.back_items
     split q = ap (count_by q) held.joined ∙ sum_by-append (λ y. cond (q y) 1 0) held.front_items held.back_items
 
-    by : (b : Bool) → is_live p.live number ≡ b → (places number (lives_of ps) ≤ 1 → AreHeld D files ps held.back_items → IsCrowded number held.back_items → IsCrowdedIn D files ps number)
+    by : (b : Bool) → is_live p.live number ≡ b
+        → (places number (lives_of ps) ≤ 1 → AreHeld D files ps held.back_items → IsCrowded number held.back_items → IsCrowdedIn D files ps number)
         → IsCrowdedIn D files (p ∷ ps) number
     by true e rest = (
       p,
       cons_head p ps,
       held_crowd D files p number held.front_items held.front_holds
           (crowded_part number items held.front_items
-          (λ q of. omega (arith, split q, all_none D files number q of ps held.back_items (omega (arith, alone, places_cons number p ps, ap one_if e)) held.back_holds)) crowd),
+          (λ q of. omega
+          (arith, split q, all_none D files number q of ps held.back_items (omega (arith, alone, places_cons number p ps, ap one_if e)) held.back_holds))
+          crowd),
     )
     by false e rest =
         let behind = rest (omega (arith, alone, places_cons number p ps)) held.back_holds
-        (crowded_part number items held.back_items (λ q of. omega (arith, split q, held_none D files number q of p held.front_items e held.front_holds)) crowd) in
+        (crowded_part number items held.back_items (λ q of. omega (arith, split q, held_none D files number q of p held.front_items e held.front_holds))
+        crowd) in
         (behind.0, cons_tail p ps behind.0 behind.1, behind.2)
 
 -- of segments that were gathered
-pub among_crowded : (D : ℕ) (files : Files) (ids : List ℕ) (parts : List Part) (items : List Item) (number : ℕ) → AreAlone parts → AreHeld D files (parts_among ids parts) items → IsCrowded number items
+pub among_crowded : (D : ℕ) (files : Files) (ids : List ℕ) (parts : List Part) (items : List Item) (number : ℕ) → AreAlone parts
+    → AreHeld D files (parts_among ids parts) items → IsCrowded number items
     → IsCrowdedIn D files parts number
 among_crowded D files ids parts items number alone held crowd =
     let some = parts_among ids parts in
-    let found = held_crowded D files number some items (omega (arith, alone number, places_in number some, places_in number parts, parted (place_in number) ids parts)) held crowd in
+    let found = held_crowded D files number some items
+    (omega (arith, alone number, places_in number some, places_in number parts, parted (place_in number) ids parts)) held crowd in
     (found.0, (of_filter (λ (p : Part). is_among ids p.head.id) parts found.0 found.1).0, found.2)
 
 -- ---- segments whose entries are such as documents have
@@ -137,7 +149,8 @@ none_crowded D files p number canonical crowd = ∥∥₁_elim canonical (hlevel
     (crowded_whole number (λ x. is_live p.live x.doc) crowd.items crowd.crowded)))
 
 -- a crowd of the numbers that are live in a segment is one of those that were
-pub crowd_before : (D : ℕ) (files : Files) (p q : Part) (number : ℕ) → p.head ≡ q.head → IsWithin p.live q.live → CrowdsPart D files p number → CrowdsPart D files q number
+pub crowd_before : (D : ℕ) (files : Files) (p q : Part) (number : ℕ) → p.head ≡ q.head → IsWithin p.live q.live → CrowdsPart D files p number
+    → CrowdsPart D files q number
 crowd_before D files p q number head within crowd = record {
   items = crowd.items;
   held = subst (λ (h : Head). IsSegment D (bytes_of (files (Segment h.id))) h crowd.items) head crowd.held;

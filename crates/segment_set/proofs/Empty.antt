@@ -30,7 +30,8 @@ empty_set leaf names cache = record {
 }
 
 -- its fields
-pub empty_is : (leaf : ℕ) (names : NameList) (cache : PageCache) (parts : List Part) (buffer : List Item) (snapshots : List NamedView) → parts ≡ [] → buffer ≡ [] → snapshots ≡ []
+pub empty_is : (leaf : ℕ) (names : NameList) (cache : PageCache) (parts : List Part) (buffer : List Item) (snapshots : List NamedView) → parts ≡ []
+    → buffer ≡ [] → snapshots ≡ []
     → record (empty_set leaf names cache) { parts = parts; buffer = buffer; snapshots = snapshots } ≡ empty_set leaf names cache
 empty_is leaf names cache parts buffer snapshots p b s = λ i. record (empty_set leaf names cache) { parts = p i; buffer = b i; snapshots = s i }
 
@@ -38,7 +39,8 @@ none_twice_empty : NoneTwice []
 unfolding NoneTwice
 none_twice_empty x = omega arith
 
-pub well_empty : (D leaf : ℕ) (names : NameList) (cache : PageCache) → 1 ≤ D → D ≤ 8 → 2 ≤ leaf → leaf ≤ leaf_limit D → ((id : ℕ) → KeepsFile cache id → ⊥) → is_named names.names Commit ≡ false → IsWell D (empty_set leaf names cache)
+pub well_empty : (D leaf : ℕ) (names : NameList) (cache : PageCache) → 1 ≤ D → D ≤ 8 → 2 ≤ leaf → leaf ≤ leaf_limit D → ((id : ℕ) → KeepsFile cache id → ⊥)
+    → is_named names.names Commit ≡ false → IsWell D (empty_set leaf names cache)
 well_empty D leaf names cache some few least greatest none own = record {
   some_dims = some;
   few_dims = few;
@@ -65,7 +67,8 @@ well_empty D leaf names cache some few least greatest none own = record {
   cached = λ id kept. absurd (none id kept);
 }
 
-pub sees_empty : (D leaf : ℕ) (names : NameList) (cache : PageCache) (files : Files) → Agrees files cache → Sees D files (empty_set leaf names cache) (new_index D leaf)
+pub sees_empty : (D leaf : ℕ) (names : NameList) (cache : PageCache) (files : Files) → Agrees files cache
+    → Sees D files (empty_set leaf names cache) (new_index D leaf)
 sees_empty D leaf names cache files agrees = record {
   contents = λ id. [];
   stands = record { now = All-nil _; kept = All-nil _; begun = tt; agrees = agrees };

@@ -53,7 +53,8 @@ empty_from [] ys none same = refl
 empty_from (x ∷ xs) ys none same = absurd (omega (arith, same (λ _. 1), ap (sum_by (λ (y : Item). 1)) none, sum_by-cons (λ (y : Item). 1) x xs))
 
 -- what is living has the live entries of the inputs
-pub living_makes : (D : ℕ) (c : Contents) (inputs : List Part) (o : Option NewSegmentData) → MergesInto D c inputs o → MakesLive D (live_in_parts c inputs) (living o)
+pub living_makes : (D : ℕ) (c : Contents) (inputs : List Part) (o : Option NewSegmentData) → MergesInto D c inputs o
+    → MakesLive D (live_in_parts c inputs) (living o)
 living_makes D c inputs None h = h
 living_makes D c inputs (Some n) h = elim (living_cases n) [
   | inl none ↦
@@ -62,7 +63,8 @@ living_makes D c inputs (Some n) h = elim (living_cases n) [
   | inr some ↦ subst (MakesLive D (live_in_parts c inputs)) (sym some.1) (record { items = h.items; has = h.has; found = h.found; same = h.same })
 ]
 
-module _ (D : ℕ) (told : Type 0) (files new_files : Files) {s : SetData} (names : NameList) (parts : List Part) (kept : KeepsNamed told s.names names files new_files) (b : BegunMerge) (begun : s.begun ≡ Some b)
+module _ (D : ℕ) (told : Type 0) (files new_files : Files) {s : SetData} (names : NameList) (parts : List Part)
+    (kept : KeepsNamed told s.names names files new_files) (b : BegunMerge) (begun : s.begun ≡ Some b)
     (replaces : Replaces D told s.names names new_files b.inputs (living b.built) s.parts parts) (well : IsWell D s) where
   inputs_are : inputs_of s.begun ≡ b.inputs
   inputs_are = ap inputs_of begun
@@ -75,7 +77,8 @@ module _ (D : ℕ) (told : Type 0) (files new_files : Files) {s : SetData} (name
   is_made : (n : NewSegmentData) → living b.built ≡ Some n → IsMade D s.leaf n
   is_made n is = let of = built_is n is in record { leaf_size = of.0.leaf_size; has = of.0.has; fits = of.0.fits; some = of.1 }
 
-  fewer_living : (o : Option NewSegmentData) (number : ℕ) → ((n : NewSegmentData) → o ≡ Some n → IsBuiltOf D s.leaf (parts_among b.inputs s.parts) n × (1 ≤ length n.live.live))
+  fewer_living : (o : Option NewSegmentData) (number : ℕ)
+      → ((n : NewSegmentData) → o ≡ Some n → IsBuiltOf D s.leaf (parts_among b.inputs s.parts) n × (1 ≤ length n.live.live))
       → place_built number o ≤ sum_by (place_in number) (parts_among b.inputs s.parts)
   fewer_living None number of = omega arith
   fewer_living (Some n) number of = elim (cases_Bool (is_live n.live number)) [
@@ -92,11 +95,13 @@ module _ (D : ℕ) (told : Type 0) (files new_files : Files) {s : SetData} (name
     fewer = λ number. omega (arith, fewer_living (living b.built) number built_is);
   }
 
-  few_parts : (o : Option NewSegmentData) → Replaces D told s.names names new_files b.inputs o s.parts parts → ((n : NewSegmentData) → o ≡ Some n → IsBuiltOf D s.leaf (parts_among b.inputs s.parts) n × (1 ≤ length n.live.live))
+  few_parts : (o : Option NewSegmentData) → Replaces D told s.names names new_files b.inputs o s.parts parts
+      → ((n : NewSegmentData) → o ≡ Some n → IsBuiltOf D s.leaf (parts_among b.inputs s.parts) n × (1 ≤ length n.live.live))
       → length parts ≤ length s.parts
   few_parts None r of = let same : length parts ≡ length (parts_but b.inputs s.parts) = ap length r in omega (arith, length_parted b.inputs s.parts)
   few_parts (Some n) r of =
-      let live = live_number D s.leaf n (record { leaf_size = (of n refl).0.leaf_size; has = (of n refl).0.has; fits = (of n refl).0.fits; some = (of n refl).1 }) in
+      let live =
+      live_number D s.leaf n (record { leaf_size = (of n refl).0.leaf_size; has = (of n refl).0.has; fits = (of n refl).0.fits; some = (of n refl).1 }) in
       omega (
         arith,
         some (place_in live.0) (parts_among b.inputs s.parts) (some_place live.0 (parts_among b.inputs s.parts) ((of n refl).0.within live.0 live.1)),
@@ -134,7 +139,8 @@ module _ (D : ℕ) (told : Type 0) (files new_files : Files) {s : SetData} (name
   pub end_parts : IsEnded b s.parts parts
   end_parts = by b.built replaces
     where
-      by : (o : Option NewSegmentData) → Replaces D told s.names names new_files b.inputs (living o) s.parts parts → HasCome o (parts_but b.inputs s.parts) parts
+      by : (o : Option NewSegmentData) → Replaces D told s.names names new_files b.inputs (living o) s.parts parts
+          → HasCome o (parts_but b.inputs s.parts) parts
       by None r = r
       by (Some n) r = elim (living_cases n) [
         | inl none ↦ inl (none.0, subst (λ (o : Option NewSegmentData). Replaces D told s.names names new_files b.inputs o s.parts parts) none.1 r)

@@ -21,7 +21,10 @@ use Rattle.segment_set.proofs.Crowds.{among_crowded}
 -- ---- entries that are none of documents
 
 doubt_shows : (P : ℕ → Head → Type 0) (given : ℕ) (items : List Item) (d : Damage) → IsDoubt given items d → IsShown (LacksLeaf P) HasNoBody d
-doubt_shows P given items (Unequal file said found) h = let is : said ≡ given = h.1 in let more : given < found = h.2 in let apart : said ≢ found = omega arith in apart
+doubt_shows P given items (Unequal file said found) h =
+    let is : said ≡ given = h.1 in
+    let more : given < found = h.2 in
+    let apart : said ≢ found = omega arith in apart
 doubt_shows P given items (Doubled doc) h = tt
 doubt_shows P given items (Page file number bytes) h = absurd h
 doubt_shows P given items (Leaf file number offset len bytes) h = absurd h
@@ -33,16 +36,21 @@ doubt_shows P given items (Beyond doc next) h = absurd h
 -- what is known to be there of each is there of all
 all_merely : {A : Type 0} (P : A → Type 0) (xs : List A) → All (λ x. ∥ P x ∥₁) xs → ∥ All P xs ∥₁
 all_merely P [] h = merely (All-nil P)
-all_merely P (x ∷ xs) h = ∥∥₁_elim (All-head (λ y. ∥ P y ∥₁) x xs h) ∥∥₁_prop (λ p. ∥∥₁_map (all_merely P xs (All-tail (λ y. ∥ P y ∥₁) x xs h)) (λ ps. All-cons P x xs p ps))
+all_merely P (x ∷ xs) h =
+    ∥∥₁_elim (All-head (λ y. ∥ P y ∥₁) x xs h) ∥∥₁_prop (λ p. ∥∥₁_map (all_merely P xs (All-tail (λ y. ∥ P y ∥₁) x xs h)) (λ ps. All-cons P x xs p ps))
 
 -- entries that were gathered of segments whose heads are those of their files
 pub gathered_of_files : (D : ℕ) (files : Files) (ids : List ℕ) (parts : List Part) (items : List Item) → All (HasFileHead D files) parts
     → (All (HasOwnHead D files) parts → AreHeld D files (parts_among ids parts) items) → ∥ AreHeld D files (parts_among ids parts) items ∥₁
 gathered_of_files D files ids parts items heads held = ∥∥₁_map (all_merely (HasOwnHead D files) parts heads) held
 
-doubt_carried : (D : ℕ) (files : Files) (given : ℕ) (ids : List ℕ) (parts : List Part) (items : List Item) → AreAlone parts → AreHeld D files (parts_among ids parts) items → (d : Damage) → IsDoubt given items d
+doubt_carried : (D : ℕ) (files : Files) (given : ℕ) (ids : List ℕ) (parts : List Part) (items : List Item) → AreAlone parts
+    → AreHeld D files (parts_among ids parts) items → (d : Damage) → IsDoubt given items d
     → IsTrueOf (IsCrowdedIn D files parts) files d
-doubt_carried D files given ids parts items alone held (Unequal file said found) h = let is : said ≡ given = h.1 in let more : given < found = h.2 in OfGiven h.0 (omega arith)
+doubt_carried D files given ids parts items alone held (Unequal file said found) h =
+    let is : said ≡ given = h.1 in
+    let more : given < found = h.2 in
+    OfGiven h.0 (omega arith)
 doubt_carried D files given ids parts items alone held (Doubled doc) h = among_crowded D files ids parts items doc alone held h
 doubt_carried D files given ids parts items alone held (Page file number bytes) h = absurd h
 doubt_carried D files given ids parts items alone held (Leaf file number offset len bytes) h = absurd h
@@ -51,9 +59,13 @@ doubt_carried D files given ids parts items alone held (Missing file) h = absurd
 doubt_carried D files given ids parts items alone held (Size file size needed) h = absurd h
 doubt_carried D files given ids parts items alone held (Beyond doc next) h = absurd h
 
-pub doubt_evident : (T : Type 0) (D : ℕ) (files : Files) (given : ℕ) (ids : List ℕ) (parts : List Part) (items : List Item) (d : Damage) → (T → AreAlone parts) → (T → ∥ AreHeld D files (parts_among ids parts) items ∥₁)
+pub doubt_evident : (T : Type 0) (D : ℕ) (files : Files) (given : ℕ) (ids : List ℕ) (parts : List Part) (items : List Item) (d : Damage) → (T → AreAlone parts)
+    → (T → ∥ AreHeld D files (parts_among ids parts) items ∥₁)
     → IsDoubt given items d → IsEvidentIn D parts T files d
 doubt_evident T D files given ids parts items d alone held h = record {
   shows = merely (doubt_shows HasRanges given items d h);
-  of_files = λ t. record { shows = merely (doubt_shows (IsHeadIn files) given items d h); carries = ∥∥₁_map (held t) (λ read. doubt_carried D files given ids parts items (alone t) read d h) };
+  of_files = λ t. record {
+    shows = merely (doubt_shows (IsHeadIn files) given items d h);
+    carries = ∥∥₁_map (held t) (λ read. doubt_carried D files given ids parts items (alone t) read d h);
+  };
 }

@@ -28,21 +28,25 @@ head_alike D f g p q same file has =
     subst (λ (h : Head). ∥ IsHeadOf D (bytes_of (g (Segment h.id))) h ∥₁) (sym same)
     (subst (λ b. ∥ IsHeadOf D (bytes_of b) q.head ∥₁) (sym file) has)
 
-heads_alike : (D : ℕ) (f g : Files) (names : NameList) (parts : List Part) → All (IsNamed names) parts → ((m : FileName) → is_named names.names m ≡ true → g m ≡ f m)
+heads_alike : (D : ℕ) (f g : Files) (names : NameList) (parts : List Part) → All (IsNamed names) parts
+    → ((m : FileName) → is_named names.names m ≡ true → g m ≡ f m)
     → All (HasFileHead D f) parts → All (HasFileHead D g) parts
 heads_alike D f g names parts named same has k p lt = head_alike D f g (get_or parts k p) (get_or parts k p) refl (same _ (named k p lt)) (has k p lt)
 
-views_alike : (D : ℕ) (f g : Files) (names : NameList) (views : List NamedView) → All (λ v. All (IsNamed names) v.parts) views → ((m : FileName) → is_named names.names m ≡ true → g m ≡ f m)
+views_alike : (D : ℕ) (f g : Files) (names : NameList) (views : List NamedView) → All (λ v. All (IsNamed names) v.parts) views
+    → ((m : FileName) → is_named names.names m ≡ true → g m ≡ f m)
     → All (λ v. All (HasFileHead D f) v.parts) views → All (λ v. All (HasFileHead D g) v.parts) views
 views_alike D f g names views named same has k v lt = heads_alike D f g names _ (named k v lt) same (has k v lt)
 
 -- of segments that were there, and of canonical ones of new names
-pub faithful_parts : (D : ℕ) (f g : Files) (names : NameList) (old new : List Part) → All (IsNamed names) old → ((m : FileName) → is_named names.names m ≡ true → g m ≡ f m) → Follows names old new
+pub faithful_parts : (D : ℕ) (f g : Files) (names : NameList) (old new : List Part) → All (IsNamed names) old
+    → ((m : FileName) → is_named names.names m ≡ true → g m ≡ f m) → Follows names old new
     → AreCanonical D g names new → All (HasFileHead D f) old → All (HasFileHead D g) new
 faithful_parts D f g names old new named same follows canon has =
     All-weaker (Contains new) (HasFileHead D g) (λ p there. ⊎_elim
     (λ fresh. written p (canon p there fresh))
-    (λ r. head_alike D f g p r.0 r.2 (same (Segment r.0.head.id) (All-contains (IsNamed names) old r.0 named r.1)) (All-contains (HasFileHead D f) old r.0 has r.1))
+    (λ r. head_alike D f g p r.0 r.2 (same (Segment r.0.head.id) (All-contains (IsNamed names) old r.0 named r.1))
+    (All-contains (HasFileHead D f) old r.0 has r.1))
     (follows.each p there)) new (All-contains_itself new)
   where
     written : (p : Part) → HasCanonical D g p.head → HasFileHead D g p
@@ -54,13 +58,15 @@ faithful_parts D f g names old new named same follows canon has =
 pub faithful_cache : (D : ℕ) (f g : Files) (s t : SetData) → StaysButCache s t → g ≡ f → Agrees g t.cache → IsFaithful D f s → IsFaithful D g t
 faithful_cache D f g s t stays same agrees is = record {
   pages = agrees;
-  heads = subst (λ (h : Files). All (HasFileHead D h) t.parts) (sym same) (subst (All (HasFileHead D f)) (sym (ap (λ (u : SetData). u.parts) stays.is)) is.heads);
+  heads =
+      subst (λ (h : Files). All (HasFileHead D h) t.parts) (sym same) (subst (All (HasFileHead D f)) (sym (ap (λ (u : SetData). u.parts) stays.is)) is.heads);
   kept = subst (λ (h : Files). All (λ v. All (HasFileHead D h) v.parts) t.snapshots) (sym same)
       (subst (λ (vs : List NamedView). All (λ v. All (HasFileHead D f) v.parts) vs) (sym (ap (λ (u : SetData). u.snapshots) stays.is)) is.kept);
 }
 
 -- where merges and flushes arranged it anew
-pub faithful_rearranged : (D : ℕ) (told : Type 0) (f g : Files) (s t : SetData) → IsWell D s → Rearranges D told f g s t → told → (Agrees f s.cache → Agrees g t.cache) → IsFaithful D f s → IsFaithful D g t
+pub faithful_rearranged : (D : ℕ) (told : Type 0) (f g : Files) (s t : SetData) → IsWell D s → Rearranges D told f g s t → told
+    → (Agrees f s.cache → Agrees g t.cache) → IsFaithful D f s → IsFaithful D g t
 faithful_rearranged D told f g s t well moves is_told agrees is = record {
   pages = agrees is.pages;
   heads = faithful_parts D f g s.names s.parts t.parts well.named (moves.kept.files is_told) moves.follows (moves.canon is_told) is.heads;
@@ -69,18 +75,22 @@ faithful_rearranged D told f g s t well moves is_told agrees is = record {
 }
 
 -- where no named file changed
-pub faithful_named : (D : ℕ) (f g : Files) (s t : SetData) → IsWell D s → ((m : FileName) → is_named s.names.names m ≡ true → g m ≡ f m) → t.parts ≡ s.parts → t.snapshots ≡ s.snapshots → t.cache ≡ s.cache
+pub faithful_named : (D : ℕ) (f g : Files) (s t : SetData) → IsWell D s → ((m : FileName) → is_named s.names.names m ≡ true → g m ≡ f m) → t.parts ≡ s.parts
+    → t.snapshots ≡ s.snapshots → t.cache ≡ s.cache
     → IsFaithful D f s → IsFaithful D g t
 faithful_named D f g s t well same parts snapshots cache is = record {
   pages = subst (Agrees g) (sym cache) (agrees_other f g s.cache (λ id kept. same (Segment id) (well.cached id kept)) is.pages);
   heads = subst (All (HasFileHead D g)) (sym parts) (heads_alike D f g s.names s.parts well.named same is.heads);
-  kept = subst (λ (vs : List NamedView). All (λ v. All (HasFileHead D g) v.parts) vs) (sym snapshots) (views_alike D f g s.names s.snapshots well.kept same is.kept);
+  kept = subst (λ (vs : List NamedView). All (λ v. All (HasFileHead D g) v.parts) vs) (sym snapshots)
+      (views_alike D f g s.names s.snapshots well.kept same is.kept);
 }
 
 -- of names that were added and a commit that was saved
-pub faithful_saved : (D : ℕ) (told : Type 0) (f g : Files) (s : SetData) (names : NameList) (saved : Option CommitData) → IsWell D s → KeepsNamed told s.names names f g → told → IsFaithful D f s
+pub faithful_saved : (D : ℕ) (told : Type 0) (f g : Files) (s : SetData) (names : NameList) (saved : Option CommitData) → IsWell D s
+    → KeepsNamed told s.names names f g → told → IsFaithful D f s
     → IsFaithful D g (record s { names = names; saved = saved })
-faithful_saved D told f g s names saved well kept is_told is = faithful_named D f g s (record s { names = names; saved = saved }) well (kept.files is_told) refl refl refl is
+faithful_saved D told f g s names saved well kept is_told is =
+    faithful_named D f g s (record s { names = names; saved = saved }) well (kept.files is_told) refl refl refl is
 
 -- without the document of a number
 pub faithful_but : (D : ℕ) (files : Files) (number : ℕ) (s : SetData) → IsFaithful D files s → IsFaithful D files (set_but number s)

@@ -44,7 +44,8 @@ front_docs next xs ys make = record {
 }
 
 pub some_docs : (next : ℕ) (all some rest : List Item) (docs : List Document) → AreDocs next all docs → SameTotals all (some ++ rest) → MakeDocs next some
-some_docs next all some rest docs are same = front_docs next some rest (docs_make next (some ++ rest) docs (reordered next all (some ++ rest) docs are (permuted all (some ++ rest) same)))
+some_docs next all some rest docs are same =
+    front_docs next some rest (docs_make next (some ++ rest) docs (reordered next all (some ++ rest) docs are (permuted all (some ++ rest) same)))
 
 -- ---- what is built
 
@@ -54,13 +55,15 @@ filter_whole p (x ∷ xs) all =
     ap (λ (b : Bool). cond b (x ∷ filter p xs) (filter p xs)) (All-head (λ (y : Item). p y ≡ true) x xs all)
     ∙ ap (λ (ys : List Item). x ∷ ys) (filter_whole p xs (All-tail (λ (y : Item). p y ≡ true) x xs all))
 
-module _ (D : ℕ) (entries items : List Item) (n : NewSegmentData) (same : IsPermutation entries items) (has : HasEntries D items n) (live : is_live n.live ≡ (λ number. has_entry number entries)) where
+module _ (D : ℕ) (entries items : List Item) (n : NewSegmentData) (same : IsPermutation entries items) (has : HasEntries D items n)
+    (live : is_live n.live ≡ (λ number. has_entry number entries)) where
   pub live_is : (number : ℕ) → is_live n.live number ≡ has_entry number items
   live_is number = ap (λ (f : ℕ → Bool). f number) live ∙ list_any-IsPermutation (λ (x : Item). eqb x.doc number) entries items same
 
   -- all its entries are live
   pub all_live : All (λ (x : Item). is_live n.live x.doc ≡ true) items
-  all_live = All-weaker (Contains items) (λ (x : Item). is_live n.live x.doc ≡ true) (λ x there. live_is x.doc ∙ entry_there items x there) items (All-contains_itself items)
+  all_live = All-weaker (Contains items) (λ (x : Item). is_live n.live x.doc ≡ true) (λ x there. live_is x.doc ∙ entry_there items x there) items
+      (All-contains_itself items)
 
   pub holds_live : HoldsLive D entries n
   holds_live = record {
@@ -91,14 +94,17 @@ module _ (D : ℕ) (entries items : List Item) (n : NewSegmentData) (same : IsPe
       by (x ∷ xs) counted all h = some_live n.live x.doc (All-head (λ (y : Item). is_live n.live y.doc ≡ true) x xs all)
 
 -- a number of the entries is live in the segments that they came from
-pub within : (entries : List Item) (parts : List Part) → All (λ (x : Item). has_live x.doc parts ≡ true) entries → (number : ℕ) → has_entry number entries ≡ true → has_live number parts ≡ true
+pub within : (entries : List Item) (parts : List Part) → All (λ (x : Item). has_live x.doc parts ≡ true) entries → (number : ℕ)
+    → has_entry number entries ≡ true → has_live number parts ≡ true
 within entries parts all number there =
     let found = some_entry number entries there in
     subst (λ (m : ℕ). has_live m parts ≡ true) found.2 (All-contains (λ (x : Item). has_live x.doc parts ≡ true) entries found.0 all found.1)
 
 -- what is built of entries that are live in segments
-pub gathered_of : (D leaf : ℕ) (entries items : List Item) (n : NewSegmentData) (parts : List Part) → IsPermutation entries items → HasEntries D items n → is_live n.live ≡ (λ number. has_entry number entries)
-    → n.leaf ≡ leaf → IsLiveSet n.live → 1 ≤ length entries → All (λ (x : Item). has_live x.doc parts ≡ true) entries → AreUncrowded entries → IsGathered D leaf parts n
+pub gathered_of : (D leaf : ℕ) (entries items : List Item) (n : NewSegmentData) (parts : List Part) → IsPermutation entries items → HasEntries D items n
+    → is_live n.live ≡ (λ number. has_entry number entries)
+    → n.leaf ≡ leaf → IsLiveSet n.live → 1 ≤ length entries → All (λ (x : Item). has_live x.doc parts ≡ true) entries → AreUncrowded entries
+    → IsGathered D leaf parts n
 gathered_of D leaf entries items n parts same has live leaf_is set some all fair = record {
   made = made D entries items n same has live leaf leaf_is set some fair;
   all = merely (record { items = items; has = has; all = all_live D entries items n same has live });

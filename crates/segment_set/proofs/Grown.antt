@@ -32,14 +32,18 @@ named_apart names a b named free same = true≢false (sym named ∙ ap (λ (n : 
 
 -- The segments are read with these contents, which are as before at named ids; and their live entries are those of before, but that those of
 -- the segments of these ids gave way to the new ones.
-pub record Grown (D : ℕ) (old_files new_files : Files) (names : NameList) (c : Contents) (ids : List ℕ) (entries : List Item) (old new : List Part) : Type 0 where
+pub record Grown (D : ℕ) (old_files new_files : Files) (names : NameList) (c : Contents) (ids : List ℕ) (entries : List Item)
+    (old new : List Part) : Type 0 where
   pub after : Contents
   pub alike : IsAlike names old_files new_files c after
   pub now : AreRead D new_files after new
-  pub totals : (f : Item → ℕ) → sum_by f (live_in_parts after new) + sum_by f (live_in_parts c (parts_among ids old)) ≡ sum_by f entries + sum_by f (live_in_parts c old)
+  pub totals : (f : Item → ℕ)
+      → sum_by f (live_in_parts after new) + sum_by f (live_in_parts c (parts_among ids old)) ≡ sum_by f entries + sum_by f (live_in_parts c old)
 
-pub live_parted : (f : Item → ℕ) (c : Contents) (ids : List ℕ) (parts : List Part) → sum_by f (live_in_parts c (parts_among ids parts)) + sum_by f (live_in_parts c (parts_but ids parts)) ≡ sum_by f (live_in_parts c parts)
-live_parted f c ids parts = sym (sum_by-append f (live_in_parts c (parts_among ids parts)) (live_in_parts c (parts_but ids parts))) ∙ sym (parted_totals c ids parts f)
+pub live_parted : (f : Item → ℕ) (c : Contents) (ids : List ℕ) (parts : List Part)
+    → sum_by f (live_in_parts c (parts_among ids parts)) + sum_by f (live_in_parts c (parts_but ids parts)) ≡ sum_by f (live_in_parts c parts)
+live_parted f c ids parts =
+    sym (sum_by-append f (live_in_parts c (parts_among ids parts)) (live_in_parts c (parts_but ids parts))) ∙ sym (parted_totals c ids parts f)
 
 grown_none : (D : ℕ) (files new : Files) (names : NameList) (c : Contents) (ids : List ℕ) (entries : List Item) (old parts : List Part)
     → ((m : FileName) → is_named names.names m ≡ true → new m ≡ files m) → All (IsNamed names) old → AreRead D files c old
@@ -57,18 +61,23 @@ grown_none D files new names c ids entries old parts kept named reads none is = 
     same : IsAlike names files new c c
     same = record { files = λ id is. kept (Segment id) is; entries = λ id is. refl }
 
-grown_some : (D : ℕ) (told : Type 0) (files new : Files) (names after : NameList) (c : Contents) (ids : List ℕ) (entries : List Item) (n : NewSegmentData) (old parts : List Part)
+grown_some : (D : ℕ) (told : Type 0) (files new : Files) (names after : NameList) (c : Contents) (ids : List ℕ) (entries : List Item) (n : NewSegmentData)
+    (old parts : List Part)
     → ((m : FileName) → is_named names.names m ≡ true → new m ≡ files m) → All (IsNamed names) old → AreRead D files c old
     → told → HoldsLive D entries n → IsPut D told names after new ids n old parts → Grown D files new names c ids entries old parts
 grown_some D told files new names after c ids entries n old parts kept named reads is_told live put = record {
   after = d;
   alike = same;
-  now = read_placed D new d p (parts_but ids old) parts put.placed here (all_but (IsRead D new d) ids old (alike_read D names files new c d old same named reads));
+  now = read_placed D new d p (parts_but ids old) parts put.placed here
+      (all_but (IsRead D new d) ids old (alike_read D names files new c d old same named reads));
   totals = λ f.
-      let placed = placed_totals d p (parts_but ids old) parts put.placed f ∙ sum_by-append f (live_in_parts d (parts_but ids old)) (live_in_parts d (p ∷ [])) in
+      let placed =
+      placed_totals d p (parts_but ids old) parts put.placed f ∙ sum_by-append f (live_in_parts d (parts_but ids old)) (live_in_parts d (p ∷ [])) in
       let mine : sum_by f (live_in_parts d (p ∷ [])) ≡ sum_by f entries =
-      ap (sum_by f) (live_one d p) ∙ ap (λ (es : List Item). sum_by f (filter (λ (x : Item). is_live n.live x.doc) es)) (at_new c put.id live.items) ∙ live.same f in
-      let others : sum_by f (live_in_parts d (parts_but ids old)) ≡ sum_by f (live_in_parts c (parts_but ids old)) = ap (sum_by f) (alike_live names files new c d (parts_but ids old) same (all_but (IsNamed names) ids old named)) in
+      ap (sum_by f) (live_one d p) ∙ ap (λ (es : List Item). sum_by f (filter (λ (x : Item). is_live n.live x.doc) es)) (at_new c put.id live.items)
+      ∙ live.same f in
+      let others : sum_by f (live_in_parts d (parts_but ids old)) ≡ sum_by f (live_in_parts c (parts_but ids old)) =
+      ap (sum_by f) (alike_live names files new c d (parts_but ids old) same (all_but (IsNamed names) ids old named)) in
       omega (arith, live_parted f c ids old, placed, mine, others);
 }
   where
@@ -86,12 +95,14 @@ grown_some D told files new names after c ids entries n old parts kept named rea
 
     here : IsRead D new d p
     here = record {
-      held = subst (λ (es : List Item). IsSegment D (bytes_of (new (Segment put.id))) p.head es) (sym (at_new c put.id live.items)) (put.written is_told live.items live.has);
+      held = subst (λ (es : List Item). IsSegment D (bytes_of (new (Segment put.id))) p.head es) (sym (at_new c put.id live.items))
+          (put.written is_told live.items live.has);
       found = λ number is. subst (λ (es : List Item). has_entry number es ≡ true) (sym (at_new c put.id live.items)) (live.found number is);
     }
 
 -- what was built of entries took the place of segments
-pub grown : (D : ℕ) (told : Type 0) (files new : Files) (names after : NameList) (c : Contents) (ids : List ℕ) (entries : List Item) (built : Option NewSegmentData) (old parts : List Part)
+pub grown : (D : ℕ) (told : Type 0) (files new : Files) (names after : NameList) (c : Contents) (ids : List ℕ) (entries : List Item)
+    (built : Option NewSegmentData) (old parts : List Part)
     → ((m : FileName) → is_named names.names m ≡ true → new m ≡ files m) → All (IsNamed names) old → AreRead D files c old
     → told → MakesLive D entries built → Replaces D told names after new ids built old parts → Grown D files new names c ids entries old parts
 grown D told files new names after c ids entries None old parts kept named reads is_told makes replaces =
@@ -100,6 +111,7 @@ grown D told files new names after c ids entries (Some n) old parts kept named r
     grown_some D told files new names after c ids entries n old parts kept named reads is_told makes replaces
 
 -- a free id is that of none of the segments
-pub fresh_apart : (names : NameList) (parts : List Part) (id : ℕ) → All (IsNamed names) parts → is_named names.names (Segment id) ≡ false → is_among (ids_of parts) id ≡ false
+pub fresh_apart : (names : NameList) (parts : List Part) (id : ℕ) → All (IsNamed names) parts → is_named names.names (Segment id) ≡ false
+    → is_among (ids_of parts) id ≡ false
 fresh_apart names parts id named free =
     false_from_ne_true (is_among (ids_of parts) id) (λ there. true≢false (sym (ids_named names parts named id (among_to (ids_of parts) id there)) ∙ free))

@@ -21,7 +21,8 @@ pinned inputs parts = map (λ p. is_among inputs p.head.id) parts
 abbrev pub free_in : ℕ → List ℕ → Part → ℕ
 free_in level inputs p = one_if (is_of_level level p.head.entries && not (is_among inputs p.head.id))
 
-pub free_parts : (level : ℕ) (inputs : List ℕ) (parts : List Part) → free_count level (sizes_of parts) (pinned inputs parts) ≡ sum_by (free_in level inputs) parts
+pub free_parts : (level : ℕ) (inputs : List ℕ) (parts : List Part)
+    → free_count level (sizes_of parts) (pinned inputs parts) ≡ sum_by (free_in level inputs) parts
 unfolding free_count
 free_parts level inputs [] = refl
 free_parts level inputs (p ∷ ps) =
@@ -99,6 +100,7 @@ pins_counted inputs (p ∷ ps) =
     ∙ sym (sum_by-cons (λ (m : ℕ). one_if (is_among inputs m)) p.head.id (ids_of ps))
 
 -- where few segments are left beside the inputs, and few are inputs, there are few
-pub few_segments : (inputs : List ℕ) (parts : List Part) → IsStrictlyIncreasing (ids_of parts) → length inputs ≤ 64 → length parts ≤ 72 + count_by (λ pin. pin) (pinned inputs parts) → length parts < 200
+pub few_segments : (inputs : List ℕ) (parts : List Part) → IsStrictlyIncreasing (ids_of parts) → length inputs ≤ 64
+    → length parts ≤ 72 + count_by (λ pin. pin) (pinned inputs parts) → length parts < 200
 few_segments inputs parts up few left =
     omega (arith, left, pins_counted inputs parts, among_few inputs (ids_of parts) (AllPairs-from_increasing (ids_of parts) up), few)

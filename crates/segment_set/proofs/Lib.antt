@@ -4,6 +4,7 @@ pub mod Counted
 pub mod Well
 pub mod Buffered
 pub mod Changed
+pub mod DocumentEntries
 pub mod Snapped
 pub mod Viewed
 pub mod Sizes
@@ -21,7 +22,10 @@ pub mod Ended
 pub mod Causes
 pub mod Places
 pub mod Saving
+pub mod SavedSegments
+pub mod SavedCommit
 pub mod Sweeping
+pub mod Needed
 pub mod Attaching
 pub mod Leveled
 pub mod Listed

@@ -37,9 +37,11 @@ sets_parts parts all k p lt =
 
 -- ---- a set and a commit
 
-pub as_committed : (s : SetData) (k : CommitData) (heads : List Head) (lives : List LiveSet) (listed : List Listed) → heads ≡ heads_of s.parts → lives ≡ lives_of s.parts → listed ≡ k.listed
+pub as_committed : (s : SetData) (k : CommitData) (heads : List Head) (lives : List LiveSet) (listed : List Listed) → heads ≡ heads_of s.parts
+    → lives ≡ lives_of s.parts → listed ≡ k.listed
     → s.next ≡ k.next → s.given ≡ k.given → s.buffer ≡ []
-    → (map (λ (h : Head). h.id) heads ≡ map (λ (l : Listed). l.segment) listed) × (map (λ (v : LiveSet). length v.live) lives ≡ map (λ (l : Listed). l.live) listed) → IsAsCommitted s k
+    → (map (λ (h : Head). h.id) heads ≡ map (λ (l : Listed). l.segment) listed)
+    × (map (λ (v : LiveSet). length v.live) lives ≡ map (λ (l : Listed). l.live) listed) → IsAsCommitted s k
 as_committed s k heads lives listed h v l next given empty same = record {
   next = next;
   given = given;
@@ -48,8 +50,10 @@ as_committed s k heads lives listed h v l next given empty same = record {
   empty = empty;
 }
 
-pub listed_as : (s : SetData) (k : CommitData) (heads : List Head) (lives : List LiveSet) (listed : List Listed) → heads ≡ heads_of s.parts → lives ≡ lives_of s.parts → listed ≡ k.listed → IsAsCommitted s k
-    → (map (λ (h : Head). h.id) heads ≡ map (λ (l : Listed). l.segment) listed) × (map (λ (v : LiveSet). length v.live) lives ≡ map (λ (l : Listed). l.live) listed)
+pub listed_as : (s : SetData) (k : CommitData) (heads : List Head) (lives : List LiveSet) (listed : List Listed) → heads ≡ heads_of s.parts
+    → lives ≡ lives_of s.parts → listed ≡ k.listed → IsAsCommitted s k
+    → (map (λ (h : Head). h.id) heads ≡ map (λ (l : Listed). l.segment) listed)
+    × (map (λ (v : LiveSet). length v.live) lives ≡ map (λ (l : Listed). l.live) listed)
 listed_as s k heads lives listed h v l is = (
   ap (map (λ (x : Head). x.id)) h ∙ sym (ids_heads s.parts) ∙ is.ids ∙ ap (map (λ (x : Listed). x.segment)) (sym l),
   ap (map (λ (x : LiveSet). length x.live)) v ∙ counts_lives s.parts ∙ is.counts ∙ ap (map (λ (x : Listed). x.live)) (sym l),

@@ -13,7 +13,7 @@ use Rattle.documents.specs.Entries.{has_entry, is_among}
 use Rattle.documents.proofs.Lists.{cons_head, in_filter, nil_none}
 use Rattle.inner_pack.specs.Places.{front}
 use Rattle.inner_pack.specs.Trees.{IndexTree}
-use Rattle.inner_pack.proofs.OneTree.{one_index}
+use Rattle.inner_pack.proofs.OneIndex.{one_index}
 use Rattle.page_cache.specs.declared.cache.PageCache.{PageCache}
 use Rattle.segment_file.specs.Heads.{Head}
 use Rattle.segment_file.specs.Segments.{IsSegment, HoldsTree}
@@ -48,7 +48,8 @@ all_pass p [] few = All-nil (λ (x : Item). p x ≡ true)
 all_pass p (x ∷ xs) few = by (p x) refl (λ le. all_pass p xs le)
   where
     by : (b : Bool) → p x ≡ b → (length xs ≤ length (filter p xs) → All (λ y. p y ≡ true) xs) → All (λ y. p y ≡ true) (x ∷ xs)
-    by true is rest = All-cons (λ (y : Item). p y ≡ true) x xs is (rest (omega (arith, few, ap (λ (b : Bool). length (cond b (x ∷ filter p xs) (filter p xs))) is)))
+    by true is rest =
+        All-cons (λ (y : Item). p y ≡ true) x xs is (rest (omega (arith, few, ap (λ (b : Bool). length (cond b (x ∷ filter p xs) (filter p xs))) is)))
     by false is rest = absurd (omega (arith, few, ap (λ (b : Bool). length (cond b (x ∷ filter p xs) (filter p xs))) is, filter_few p xs))
 
 -- ---- segments
@@ -59,17 +60,24 @@ whole_lives D files c p whole read =
     let entries = c p.head.id in
     let live = filter (λ (x : Item). is_live p.live x.doc) entries in
     all_pass (λ (x : Item). is_live p.live x.doc) entries
-    (omega (arith, live_fit p.live live whole.set (λ number is. there number is), whole.live, segment_counted D (bytes_of (files (Segment p.head.id))) p.head entries read.held))
+    (omega (
+      arith,
+      live_fit p.live live whole.set (λ number is. there number is),
+      whole.live,
+      segment_counted D (bytes_of (files (Segment p.head.id))) p.head entries read.held,
+    ))
   where
     there : (number : ℕ) → is_live p.live number ≡ true → has_entry number (filter (λ (x : Item). is_live p.live x.doc) (c p.head.id)) ≡ true
     there number is =
         let found = some_entry number (c p.head.id) (read.found number is) in
         let passes : is_live p.live found.0.doc ≡ true = ap (is_live p.live) found.2 ∙ is in
         subst (λ (n : ℕ). has_entry n (filter (λ (x : Item). is_live p.live x.doc) (c p.head.id)) ≡ true) found.2
-        (entry_there (filter (λ (x : Item). is_live p.live x.doc) (c p.head.id)) found.0 (in_filter (λ (x : Item). is_live p.live x.doc) (c p.head.id) found.0 found.1 passes))
+        (entry_there (filter (λ (x : Item). is_live p.live x.doc) (c p.head.id)) found.0
+        (in_filter (λ (x : Item). is_live p.live x.doc) (c p.head.id) found.0 found.1 passes))
 
 -- a segment that was built of what was live
-pub built_lives : (D : ℕ) (told : Type 0) (before after : NameList) (files : Files) (ids : List ℕ) (n : NewSegmentData) (old new : List Part) (c : Contents) → told → ∥ HasLiveEntries D n ∥₁
+pub built_lives : (D : ℕ) (told : Type 0) (before after : NameList) (files : Files) (ids : List ℕ) (n : NewSegmentData) (old new : List Part) (c : Contents)
+    → told → ∥ HasLiveEntries D n ∥₁
     → (put : IsPut D told before after files ids n old new) → IsRead D files c (part_at put.id n) → All (λ x. is_live n.live x.doc ≡ true) (c put.id)
 built_lives D told before after files ids n old new c is_told all put read k d lt = ∥∥₁_elim all (hlevel props) (λ h.
     subst (λ (xs : List Item). All (λ x. is_live n.live x.doc ≡ true) xs)
@@ -81,7 +89,8 @@ abbrev pub AllLive : Contents → List Part → Type 0
 AllLive c parts = All (λ p. All (λ x. is_live p.live x.doc ≡ true) (c p.head.id)) parts
 
 -- one that changes nothing
-pub settled_lives : (D : ℕ) (files : Files) (c : Contents) (inputs ids : List ℕ) (parts : List Part) → ids ≡ filter (λ id. not (is_among inputs id)) (ids_of parts) → All IsWhole (parts_among ids parts) → AreRead D files c parts
+pub settled_lives : (D : ℕ) (files : Files) (c : Contents) (inputs ids : List ℕ) (parts : List Part)
+    → ids ≡ filter (λ id. not (is_among inputs id)) (ids_of parts) → All IsWhole (parts_among ids parts) → AreRead D files c parts
     → AllLive c (parts_but inputs parts)
 settled_lives D files c inputs ids parts are whole reads =
     let all : All IsWhole (parts_but inputs parts) = subst (All IsWhole) (among_free inputs ids parts are) whole in
@@ -89,7 +98,8 @@ settled_lives D files c inputs ids parts are whole reads =
     λ k p lt. whole_lives D files c _ (all k p lt) (read k p lt)
 
 -- one that builds a segment
-pub merged_lives : (D : ℕ) (told : Type 0) (leaf : ℕ) (before after : NameList) (files new_files : Files) (cache : PageCache) (inputs ids : List ℕ) (old new : List Part) (c : Contents) → told
+pub merged_lives : (D : ℕ) (told : Type 0) (leaf : ℕ) (before after : NameList) (files new_files : Files) (cache : PageCache) (inputs ids : List ℕ)
+    (old new : List Part) (c : Contents) → told
     → ids ≡ filter (λ id. not (is_among inputs id)) (ids_of old) → ((id : ℕ) → is_among inputs id ≡ true → is_named before.names (Segment id) ≡ true)
     → IsMerged D told leaf before after files new_files cache ids old new → AreRead D new_files c new → AllLive c (parts_but inputs new)
 merged_lives D told leaf before after files new_files cache inputs ids old new c is_told are named m reads = by m.built m.replaces m.gathered
@@ -97,19 +107,24 @@ merged_lives D told leaf before after files new_files cache inputs ids old new c
     none : parts_but inputs (parts_but ids old) ≡ []
     none = none_free inputs ids old are
 
-    by : (built : Option NewSegmentData) → Replaces D told before after new_files ids built old new → ((n : NewSegmentData) → built ≡ Some n → IsGathered D leaf (parts_among ids old) n) → AllLive c (parts_but inputs new)
+    by : (built : Option NewSegmentData) → Replaces D told before after new_files ids built old new
+        → ((n : NewSegmentData) → built ≡ Some n → IsGathered D leaf (parts_among ids old) n) → AllLive c (parts_but inputs new)
     by None r gathered = subst (AllLive c) (sym (ap (parts_but inputs) r ∙ none)) (All-nil (λ (p : Part). All (λ x. is_live p.live x.doc ≡ true) (c p.head.id)))
     by (Some n) r gathered =
-        All-weaker (Contains (parts_but inputs new)) (λ (p : Part). All (λ x. is_live p.live x.doc ≡ true) (c p.head.id)) each (parts_but inputs new) (All-contains_itself (parts_but inputs new))
+        All-weaker (Contains (parts_but inputs new)) (λ (p : Part). All (λ x. is_live p.live x.doc ≡ true) (c p.head.id)) each (parts_but inputs new)
+        (All-contains_itself (parts_but inputs new))
       where
         placed : IsPlaced (part_at r.id n) (parts_but inputs (parts_but ids old)) (parts_but inputs new)
-        placed = but_placed inputs (part_at r.id n) (parts_but ids old) new r.placed (free_id D told before after new_files ids old new inputs r.id r.fresh named)
+        placed =
+            but_placed inputs (part_at r.id n) (parts_but ids old) new r.placed (free_id D told before after new_files ids old new inputs r.id r.fresh named)
 
         here : Contains new (part_at r.id n)
-        here = subst (λ (ps : List Part). Contains ps (part_at r.id n)) (sym r.placed.after) (Contains-append_right r.placed.front (part_at r.id n ∷ r.placed.back) (part_at r.id n) (cons_head (part_at r.id n) r.placed.back))
+        here = subst (λ (ps : List Part). Contains ps (part_at r.id n)) (sym r.placed.after)
+            (Contains-append_right r.placed.front (part_at r.id n ∷ r.placed.back) (part_at r.id n) (cons_head (part_at r.id n) r.placed.back))
 
         alive : All (λ x. is_live n.live x.doc ≡ true) (c r.id)
-        alive = built_lives D told before after new_files ids n old new c is_told (gathered n refl).all r (All-contains (IsRead D new_files c) new (part_at r.id n) reads here)
+        alive = built_lives D told before after new_files ids n old new c is_told (gathered n refl).all r
+            (All-contains (IsRead D new_files c) new (part_at r.id n) reads here)
 
         each : (q : Part) → Contains (parts_but inputs new) q → All (λ x. is_live q.live x.doc ≡ true) (c q.head.id)
         each q there =

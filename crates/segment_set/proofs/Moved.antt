@@ -1,5 +1,6 @@
 -- A set in which what was built took the place of some segments: what every set keeps to, and how it is seen.
-use Rattle.std.proofs.Common.{◌≡◌, ℕ, ◌+◌, ◌≤◌, Bool, true, false, not, cond, List, ◌++◌, length, Option, None, Some, is_some, refl, sym, ap, subst, ◌∙◌, inl, inr, arith}
+use Rattle.std.proofs.Common.{◌≡◌, ℕ, ◌+◌, ◌≤◌, Bool, true, false, not, cond, List, ◌++◌, length}
+use Rattle.std.proofs.Common.{Option, None, Some, is_some, refl, sym, ap, subst, ◌∙◌, inl, inr, arith}
 use Rattle.std.proofs.Math.Logic.{∥∥₁_elim, ∥∥₁_prop}
 use Rattle.std.proofs.lemmas.Grind.{merely}
 use Rattle.std.specs.List.{All, sum_by}
@@ -37,25 +38,32 @@ moved s names parts buffer begun cache = record s { names = names; parts = parts
 
 -- Names were added and files written, and what was built took the place of the segments of these ids. No number has more places than before,
 -- where some of the buffer's entries are left.
-pub record Moves (D : ℕ) (told : Type 0) (files new_files : Files) (s : SetData) (names : NameList) (ids : List ℕ) (parts : List Part) (left : List Item) : Type 0 where
+pub record Moves (D : ℕ) (told : Type 0) (files new_files : Files) (s : SetData) (names : NameList) (ids : List ℕ) (parts : List Part)
+    (left : List Item) : Type 0 where
   pub kept : KeepsNamed told s.names names files new_files
   pub built : Option NewSegmentData
   pub replaces : Replaces D told s.names names new_files ids built s.parts parts
   pub made : (n : NewSegmentData) → built ≡ Some n → IsMade D s.leaf n
-  pub fewer : (number : ℕ) → place_built number built + one_if (has_entry number left) ≤ sum_by (place_in number) (parts_among ids s.parts) + one_if (has_entry number s.buffer)
+  pub fewer : (number : ℕ)
+      → place_built number built + one_if (has_entry number left) ≤ sum_by (place_in number) (parts_among ids s.parts) + one_if (has_entry number s.buffer)
 
-module _ (D : ℕ) (told : Type 0) (files new_files : Files) (s : SetData) (names : NameList) (ids : List ℕ) (parts : List Part) (left : List Item) (m : Moves D told files new_files s names ids parts left) where
+module _ (D : ℕ) (told : Type 0) (files new_files : Files) (s : SetData) (names : NameList) (ids : List ℕ) (parts : List Part) (left : List Item)
+    (m : Moves D told files new_files s names ids parts left) where
   -- ---- the set alone
 
   -- of these ids none is an input of the begun merge, whose inputs stay then
-  pub inputs_stay : IsWell D s → ((id : ℕ) → is_among ids id ≡ true → is_among (inputs_of s.begun) id ≡ false) → parts_among (inputs_of s.begun) parts ≡ parts_among (inputs_of s.begun) s.parts
+  pub inputs_stay : IsWell D s → ((id : ℕ) → is_among ids id ≡ true → is_among (inputs_of s.begun) id ≡ false)
+      → parts_among (inputs_of s.begun) parts ≡ parts_among (inputs_of s.begun) s.parts
   inputs_stay well apart =
       among_replaced D told s.names names new_files ids s.parts parts (inputs_of s.begun) m.built m.replaces apart (λ id among. named id among)
     where
       named : (id : ℕ) → is_among (inputs_of s.begun) id ≡ true → is_named s.names.names (Segment id) ≡ true
-      named id among = ids_named s.names s.parts well.named id (among_to (ids_of s.parts) id (All-contains (λ n. is_among (ids_of s.parts) n ≡ true) (inputs_of s.begun) id well.inputs (among_to (inputs_of s.begun) id among)))
+      named id among = ids_named s.names s.parts well.named id
+          (among_to (ids_of s.parts) id
+          (All-contains (λ n. is_among (ids_of s.parts) n ≡ true) (inputs_of s.begun) id well.inputs (among_to (inputs_of s.begun) id among)))
 
-  pub well_moved : IsWell D s → (begun : Option BegunMerge) (cache : PageCache) → length parts ≤ 200 → length left ≤ 16384 → IsNonDecreasingBy (λ x. x.doc) left → NoneTwice left → AreFew left
+  pub well_moved : IsWell D s → (begun : Option BegunMerge) (cache : PageCache) → length parts ≤ 200 → length left ≤ 16384 → IsNonDecreasingBy (λ x. x.doc) left
+      → NoneTwice left → AreFew left
       → All (λ id. is_among (ids_of parts) id ≡ true) (inputs_of begun) → length (inputs_of begun) ≤ 64
       → ((n : NewSegmentData) → built_of begun ≡ Some n → IsBuiltOf D s.leaf (parts_among (inputs_of begun) parts) n)
       → ((id : ℕ) → KeepsFile cache id → is_named s.names.names (Segment id) ≡ true)
@@ -73,8 +81,10 @@ module _ (D : ℕ) (told : Type 0) (files new_files : Files) (s : SetData) (name
     once = once;
     sixteen = sixteen;
     few = few;
-    leaf_size = all_replaced D told s.names names new_files ids s.parts parts (λ (p : Part). p.head.leaf ≡ s.leaf) m.built m.replaces (λ id n is named. (m.made n is).leaf_size) well.leaf_size;
-    live_fits = all_replaced D told s.names names new_files ids s.parts parts (λ (p : Part). length p.live.live ≤ p.head.entries) m.built m.replaces (λ id n is named. (m.made n is).fits) well.live_fits;
+    leaf_size = all_replaced D told s.names names new_files ids s.parts parts (λ (p : Part). p.head.leaf ≡ s.leaf) m.built m.replaces
+        (λ id n is named. (m.made n is).leaf_size) well.leaf_size;
+    live_fits = all_replaced D told s.names names new_files ids s.parts parts (λ (p : Part). length p.live.live ≤ p.head.entries) m.built m.replaces
+        (λ id n is named. (m.made n is).fits) well.live_fits;
     named = all_replaced D told s.names names new_files ids s.parts parts (IsNamed names) m.built m.replaces (λ id n is named. named)
         (All-weaker (IsNamed s.names) (IsNamed names) (λ p is. m.kept.more (Segment p.head.id) is) s.parts well.named);
     kept = λ k v lt. All-weaker (IsNamed s.names) (IsNamed names) (λ p is. m.kept.more (Segment p.head.id) is) _ (well.kept k v lt);
@@ -88,7 +98,8 @@ module _ (D : ℕ) (told : Type 0) (files new_files : Files) (s : SetData) (name
   }
 
   -- no number is live that wasn't
-  live_before : (number : ℕ) (begun : Option BegunMerge) (cache : PageCache) → is_live_in (moved s names parts left begun cache) number ≡ true → is_live_in s number ≡ true
+  live_before : (number : ℕ) (begun : Option BegunMerge) (cache : PageCache) → is_live_in (moved s names parts left begun cache) number ≡ true
+      → is_live_in s number ≡ true
   live_before number begun cache live =
       let total = total_replaced D told s.names names new_files ids s.parts parts number m.built m.replaces in
       live_from s.parts s.buffer (omega (arith, total, m.fewer number, places_from parts left live))
@@ -97,20 +108,24 @@ module _ (D : ℕ) (told : Type 0) (files new_files : Files) (s : SetData) (name
       both true = refl
       both false = refl
 
-      places_from : (ps : List Part) (es : List Item) → cond (has_live number ps) true (has_entry number es) ≡ true → 1 ≤ sum_by (place_in number) ps + one_if (has_entry number es)
+      places_from : (ps : List Part) (es : List Item) → cond (has_live number ps) true (has_entry number es) ≡ true
+          → 1 ≤ sum_by (place_in number) ps + one_if (has_entry number es)
       places_from ps es h = elim (cases_Bool (has_live number ps)) [
         | inl here ↦ omega (arith, some_place number ps here)
-        | inr none ↦ let there : has_entry number es ≡ true = sym (ap (λ (b : Bool). cond b true (has_entry number es)) none) ∙ h in omega (arith, ap one_if there)
+        | inr none ↦ let there : has_entry number es ≡ true = sym (ap (λ (b : Bool). cond b true (has_entry number es)) none) ∙ h in
+            omega (arith, ap one_if there)
       ]
 
-      live_from : (ps : List Part) (es : List Item) → 1 ≤ sum_by (place_in number) ps + one_if (has_entry number es) → cond (has_live number ps) true (has_entry number es) ≡ true
+      live_from : (ps : List Part) (es : List Item) → 1 ≤ sum_by (place_in number) ps + one_if (has_entry number es)
+          → cond (has_live number ps) true (has_entry number es) ≡ true
       live_from ps es h = elim (cases_Bool (has_entry number es)) [
         | inl there ↦ ap (cond (has_live number ps) true) there ∙ both (has_live number ps)
         | inr none ↦ ap (λ (b : Bool). cond b true (has_entry number es)) (live_placed number ps (omega (arith, h, ap one_if none)))
       ]
 
   pub stays_moved : (begun : Option BegunMerge) (cache : PageCache) → is_some begun ≡ is_some s.begun → StaysAlone s (moved s names parts left begun cache)
-  stays_moved begun cache same = record { leaf = refl; next = refl; given = refl; snapshots = refl; begun = same; live = λ number live. live_before number begun cache live }
+  stays_moved begun cache same =
+      record { leaf = refl; next = refl; given = refl; snapshots = refl; begun = same; live = λ number live. live_before number begun cache live }
 
   -- ---- the segments
 
@@ -120,22 +135,26 @@ module _ (D : ℕ) (told : Type 0) (files new_files : Files) (s : SetData) (name
       by : (built : Option NewSegmentData) → Replaces D told s.names names new_files ids built s.parts parts → Follows s.names s.parts parts
       by None r = subst (Follows s.names s.parts) (sym r) (follows_filter s.names (λ p. not (is_among ids p.head.id)) s.parts)
       by (Some n) r =
-          follows_placed s.names (part_at r.id n) s.parts (parts_but ids s.parts) parts r.placed r.fresh (follows_filter s.names (λ p. not (is_among ids p.head.id)) s.parts)
+          follows_placed s.names (part_at r.id n) s.parts (parts_but ids s.parts) parts r.placed r.fresh
+          (follows_filter s.names (λ p. not (is_among ids p.head.id)) s.parts)
 
   pub canon_moved : told → IsWell D s → AreCanonical D new_files s.names parts
   canon_moved is_told well = by m.built m.replaces m.made
     where
       canonical : (id : ℕ) (n : NewSegmentData) (items : List Item) → HasEntries D items n → IsCanonical D (part_at id n).head items
-      canonical id n items has = record { root = has.built.root; tree = has.built.tree; canon = has.built.canon; form = has.built.form; index = has.built.index }
+      canonical id n items has =
+          record { root = has.built.root; tree = has.built.tree; canon = has.built.canon; form = has.built.form; index = has.built.index }
 
       others : AreCanonical D new_files s.names (parts_but ids s.parts)
       others = canon_filter D new_files s.names (λ p. not (is_among ids p.head.id)) s.parts (canon_named D new_files s.names s.parts well.named)
 
-      by : (built : Option NewSegmentData) → Replaces D told s.names names new_files ids built s.parts parts → ((n : NewSegmentData) → built ≡ Some n → IsMade D s.leaf n) → AreCanonical D new_files s.names parts
+      by : (built : Option NewSegmentData) → Replaces D told s.names names new_files ids built s.parts parts
+          → ((n : NewSegmentData) → built ≡ Some n → IsMade D s.leaf n) → AreCanonical D new_files s.names parts
       by None r made = subst (AreCanonical D new_files s.names) (sym r) others
       by (Some n) r made =
           canon_placed D new_files s.names (part_at r.id n) (parts_but ids s.parts) parts r.placed
-          (∥∥₁_elim (made n refl).has ∥∥₁_prop (λ some. merely (some.items, r.written is_told some.items some.has, canonical r.id n some.items some.has, some.uncrowded))) others
+          (∥∥₁_elim (made n refl).has ∥∥₁_prop
+          (λ some. merely (some.items, r.written is_told some.items some.has, canonical r.id n some.items some.has, some.uncrowded))) others
 
   -- ---- how it is seen
 
@@ -166,13 +185,16 @@ module _ (D : ℕ) (told : Type 0) (files new_files : Files) (s : SetData) (name
       ))
     where
       g : Grown D files new_files s.names h.contents ids entries s.parts parts
-      g = grown D told files new_files s.names names h.contents ids entries m.built s.parts parts (m.kept.files is_told) well.named h.stands.now is_told makes m.replaces
+      g = grown D told files new_files s.names names h.contents ids entries m.built s.parts parts (m.kept.files is_told) well.named h.stands.now is_told makes
+          m.replaces
 
   -- a begun merge whose inputs stay stands
-  pub begun_moved : IsWell D s → ((id : ℕ) → is_among ids id ≡ true → is_among (inputs_of s.begun) id ≡ false) → (c d : Contents) → IsAlike s.names files new_files c d
+  pub begun_moved : IsWell D s → ((id : ℕ) → is_among ids id ≡ true → is_among (inputs_of s.begun) id ≡ false) → (c d : Contents)
+      → IsAlike s.names files new_files c d
       → BegunStands D c s.parts s.begun → BegunStands D d parts s.begun
   begun_moved well apart c d alike stands = by s.begun refl (alike_begun D s.names files new_files c d s.parts s.begun alike well.named stands)
     where
       by : (begun : Option BegunMerge) → s.begun ≡ begun → BegunStands D d s.parts begun → BegunStands D d parts begun
       by None is h = tt
-      by (Some b) is h = subst (λ (ps : List Part). MergesInto D d ps b.built) (sym (subst (λ (o : Option BegunMerge). parts_among (inputs_of o) parts ≡ parts_among (inputs_of o) s.parts) is (inputs_stay well apart))) h
+      by (Some b) is h = subst (λ (ps : List Part). MergesInto D d ps b.built)
+          (sym (subst (λ (o : Option BegunMerge). parts_among (inputs_of o) parts ≡ parts_among (inputs_of o) s.parts) is (inputs_stay well apart))) h

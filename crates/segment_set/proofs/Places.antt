@@ -1,5 +1,6 @@
 -- Which segments are chosen.
-use Rattle.std.proofs.Common.{◌≡◌, ℕ, zero, suc, ◌+◌, ◌≤◌, ◌<◌, Bool, true, false, not, ◌||◌, eqb, ltb, cond, List, [], ◌∷◌, ◌++◌, length, map, take, get_or, Some, append_assoc, refl, sym, ap, subst, ◌∙◌, arith}
+use Rattle.std.proofs.Common.{◌≡◌, ℕ, zero, suc, ◌+◌, ◌≤◌, ◌<◌, Bool, true, false, not, ◌||◌, eqb, ltb, cond, List, []}
+use Rattle.std.proofs.Common.{◌∷◌, ◌++◌, length, map, take, get_or, Some, append_assoc, refl, sym, ap, subst, ◌∙◌, arith}
 use Rattle.std.specs.List.{All, Contains, filter, slice_get}
 use Rattle.std.proofs.lemmas.Bool.{eq-eqb, eqb-true}
 use Rattle.std.proofs.lemmas.Bool.Decides.{nat_tests}
@@ -48,16 +49,22 @@ once_more (x ∷ xs) n = by (is_among xs n) (eqb x n) refl (once_more xs n)
     by true false is rest = ap (λ (ns : List ℕ). x ∷ filter (λ m. not (eqb m x)) ns) rest
     by false true is rest =
         ap (λ (ns : List ℕ). x ∷ filter (λ m. not (eqb m x)) ns) rest
-        ∙ ap (λ (ns : List ℕ). x ∷ ns) (filter-append (λ m. not (eqb m x)) (each_once xs) (n ∷ []) ∙ ap (λ b. filter (λ m. not (eqb m x)) (each_once xs) ++ cond (not b) (n ∷ []) []) (turned true is) ∙ append-nil (filter (λ m. not (eqb m x)) (each_once xs)))
+        ∙ ap (λ (ns : List ℕ). x ∷ ns)
+        (filter-append (λ m. not (eqb m x)) (each_once xs) (n ∷ [])
+        ∙ ap (λ b. filter (λ m. not (eqb m x)) (each_once xs) ++ cond (not b) (n ∷ []) []) (turned true is)
+        ∙ append-nil (filter (λ m. not (eqb m x)) (each_once xs)))
     by false false is rest =
         ap (λ (ns : List ℕ). x ∷ filter (λ m. not (eqb m x)) ns) rest
-        ∙ ap (λ (ns : List ℕ). x ∷ ns) (filter-append (λ m. not (eqb m x)) (each_once xs) (n ∷ []) ∙ ap (λ b. filter (λ m. not (eqb m x)) (each_once xs) ++ cond (not b) (n ∷ []) []) (turned false is))
+        ∙ ap (λ (ns : List ℕ). x ∷ ns)
+        (filter-append (λ m. not (eqb m x)) (each_once xs) (n ∷ [])
+        ∙ ap (λ b. filter (λ m. not (eqb m x)) (each_once xs) ++ cond (not b) (n ∷ []) []) (turned false is))
 
 among_filter : (keep : ℕ → Bool) (xs : List ℕ) (n : ℕ) → keep n ≡ true → is_among (filter keep xs) n ≡ is_among xs n
 among_filter keep [] n h = refl
 among_filter keep (x ∷ xs) n h = by (keep x) refl (eqb x n) refl (among_filter keep xs n h)
   where
-    by : (k : Bool) → keep x ≡ k → (e : Bool) → eqb x n ≡ e → is_among (filter keep xs) n ≡ is_among xs n → is_among (cond k (x ∷ filter keep xs) (filter keep xs)) n ≡ (e || is_among xs n)
+    by : (k : Bool) → keep x ≡ k → (e : Bool) → eqb x n ≡ e → is_among (filter keep xs) n ≡ is_among xs n
+        → is_among (cond k (x ∷ filter keep xs) (filter keep xs)) n ≡ (e || is_among xs n)
     by true k e is rest = ap (λ b. b || is_among (filter keep xs) n) is ∙ ap (λ b. e || b) rest
     by false k true is rest = let there : keep x ≡ true = ap keep (eqb-true x n is) ∙ h in cc
     by false k false is rest = rest
@@ -66,7 +73,8 @@ among_once : (xs : List ℕ) (n : ℕ) → is_among (each_once xs) n ≡ is_amon
 among_once [] n = refl
 among_once (x ∷ xs) n = by (eqb x n) refl (among_once xs n)
   where
-    by : (e : Bool) → eqb x n ≡ e → is_among (each_once xs) n ≡ is_among xs n → (e || is_among (filter (λ m. not (eqb m x)) (each_once xs)) n) ≡ (e || is_among xs n)
+    by : (e : Bool) → eqb x n ≡ e → is_among (each_once xs) n ≡ is_among xs n
+        → (e || is_among (filter (λ m. not (eqb m x)) (each_once xs)) n) ≡ (e || is_among xs n)
     by true is rest = refl
     by false is rest = among_filter (λ m. not (eqb m x)) (each_once xs) n (other is) ∙ rest
       where
@@ -87,12 +95,14 @@ module _ (count : ℕ) (seen : List ℕ) (p : ℕ) where
   below i = ltb i count
 
   -- one that is below the count and new, where there is room
-  pub place_more : length (firsts count seen) < 64 → ltb p count ≡ true → is_among (firsts count seen) p ≡ false → firsts count seen ++ p ∷ [] ≡ firsts count (seen ++ p ∷ [])
+  pub place_more : length (firsts count seen) < 64 → ltb p count ≡ true → is_among (firsts count seen) p ≡ false
+      → firsts count seen ++ p ∷ [] ≡ firsts count (seen ++ p ∷ [])
   place_more room here new =
       let whole : firsts count seen ≡ filter (λ i. ltb i count) (each_once seen) = take_short 64 (filter (λ i. ltb i count) (each_once seen)) room in
       let unseen : is_among seen p ≡ false =
       sym (among_once seen p) ∙ sym (among_filter (λ i. ltb i count) (each_once seen) p here) ∙ sym (ap (λ (ns : List ℕ). is_among ns p) whole) ∙ new in
-      let more : each_once (seen ++ p ∷ []) ≡ each_once seen ++ p ∷ [] = once_more seen p ∙ ap (λ b. cond b (each_once seen) (each_once seen ++ p ∷ [])) unseen in
+      let more : each_once (seen ++ p ∷ []) ≡ each_once seen ++ p ∷ [] =
+      once_more seen p ∙ ap (λ b. cond b (each_once seen) (each_once seen ++ p ∷ [])) unseen in
       let kept : filter (λ i. ltb i count) (each_once (seen ++ p ∷ [])) ≡ filter (λ i. ltb i count) (each_once seen) ++ p ∷ [] =
       ap (filter (λ i. ltb i count)) more
       ∙ filter-append (λ i. ltb i count) (each_once seen) (p ∷ [])
@@ -113,10 +123,12 @@ module _ (count : ℕ) (seen : List ℕ) (p : ℕ) where
           ∙ append-nil (filter (λ i. ltb i count) (each_once seen))
 
   -- one that stands there already
-  pub place_again : length (firsts count seen) < 64 → ltb p count ≡ true → is_among (firsts count seen) p ≡ true → firsts count seen ≡ firsts count (seen ++ p ∷ [])
+  pub place_again : length (firsts count seen) < 64 → ltb p count ≡ true → is_among (firsts count seen) p ≡ true
+      → firsts count seen ≡ firsts count (seen ++ p ∷ [])
   place_again room here there =
       let whole : firsts count seen ≡ filter (λ i. ltb i count) (each_once seen) = take_short 64 (filter (λ i. ltb i count) (each_once seen)) room in
-      let known : is_among seen p ≡ true = sym (among_once seen p) ∙ sym (among_filter (λ i. ltb i count) (each_once seen) p here) ∙ sym (ap (λ (ns : List ℕ). is_among ns p) whole) ∙ there in
+      let known : is_among seen p ≡ true =
+      sym (among_once seen p) ∙ sym (among_filter (λ i. ltb i count) (each_once seen) p here) ∙ sym (ap (λ (ns : List ℕ). is_among ns p) whole) ∙ there in
       ap (λ (ns : List ℕ). take 64 (filter (λ i. ltb i count) ns)) (sym (once_more seen p ∙ ap (λ b. cond b (each_once seen) (each_once seen ++ p ∷ [])) known))
 
 once_begins : (xs ys : List ℕ) → (zs : List ℕ) × (each_once (xs ++ ys) ≡ each_once xs ++ zs)
@@ -125,7 +137,8 @@ once_begins xs (y ∷ ys) =
     let rest = once_begins (xs ++ y ∷ []) ys in
     let more : List ℕ = cond (is_among xs y) [] (y ∷ []) in (
       more ++ rest.0,
-      ap each_once (sym (append_assoc xs (y ∷ []) ys)) ∙ rest.1 ∙ ap (λ (ns : List ℕ). ns ++ rest.0) (once_more xs y ∙ by (is_among xs y)) ∙ append_assoc (each_once xs) more rest.0,
+      ap each_once (sym (append_assoc xs (y ∷ []) ys)) ∙ rest.1 ∙ ap (λ (ns : List ℕ). ns ++ rest.0) (once_more xs y ∙ by (is_among xs y))
+          ∙ append_assoc (each_once xs) more rest.0,
     )
   where
     by : (b : Bool) → cond b (each_once xs) (each_once xs ++ y ∷ []) ≡ each_once xs ++ cond b [] (y ∷ [])
@@ -137,7 +150,8 @@ pub places_full : (count : ℕ) (seen rest : List ℕ) → length (firsts count 
 places_full count seen rest full =
     let more = once_begins seen rest in
     let long : 64 ≤ length (filter (λ i. ltb i count) (each_once seen)) = omega (arith, full, length-take 64 (filter (λ i. ltb i count) (each_once seen))) in
-    sym (ap (take 64) (ap (filter (λ i. ltb i count)) more.1 ∙ filter-append (λ i. ltb i count) (each_once seen) more.0) ∙ take-append-le 64 (filter (λ i. ltb i count) (each_once seen)) (filter (λ i. ltb i count) more.0) long)
+    sym (ap (take 64) (ap (filter (λ i. ltb i count)) more.1 ∙ filter-append (λ i. ltb i count) (each_once seen) more.0)
+    ∙ take-append-le 64 (filter (λ i. ltb i count) (each_once seen)) (filter (λ i. ltb i count) more.0) long)
 
 -- ---- ids at places
 
@@ -147,7 +161,8 @@ id_at (p ∷ ps) zero d lt = refl
 id_at (p ∷ ps) (suc i) d lt = id_at ps i d (omega (arith, lt))
 
 -- an id at one of these positions
-pub at_position : (ids positions : List ℕ) (id : ℕ) → is_among (map (λ i. get_or ids i 0) positions) id ≡ true → (i : ℕ) × Contains positions i × (get_or ids i 0 ≡ id)
+pub at_position : (ids positions : List ℕ) (id : ℕ) → is_among (map (λ i. get_or ids i 0) positions) id ≡ true
+    → (i : ℕ) × Contains positions i × (get_or ids i 0 ≡ id)
 at_position ids positions id there = of_map (λ i. get_or ids i 0) positions id (among_to (map (λ i. get_or ids i 0) positions) id there)
 
 pub get_map : (f : ℕ → Bool) (ids : List ℕ) (i : ℕ) (b : Bool) → i < length ids → slice_get (map f ids) i ≡ Some b → f (get_or ids i 0) ≡ b
@@ -168,7 +183,8 @@ one_kept p (x ∷ xs) (suc i) d lt h = by (p x) (one_kept p xs i d (omega (arith
     by false rest = rest
 
 -- two places that pass
-two_kept : {X : Type 0} (p : X → Bool) (xs : List X) (i j : ℕ) (d : X) → i < j → j < length xs → p (get_or xs i d) ≡ true → p (get_or xs j d) ≡ true → 2 ≤ length (filter p xs)
+two_kept : {X : Type 0} (p : X → Bool) (xs : List X) (i j : ℕ) (d : X) → i < j → j < length xs → p (get_or xs i d) ≡ true → p (get_or xs j d) ≡ true
+    → 2 ≤ length (filter p xs)
 two_kept p [] i j d lt in_range h k = absurd (omega (arith, in_range))
 two_kept p (x ∷ xs) i zero d lt in_range h k = absurd (omega (arith, lt))
 two_kept p (x ∷ xs) zero (suc j) d lt in_range h k = rw h (omega (arith, one_kept p xs j d (omega (arith, in_range)) k))
@@ -188,7 +204,8 @@ pub two_there : (parts : List Part) (positions : List ℕ) → 2 ≤ length posi
     → 2 ≤ length (parts_among (map (λ i. get_or (ids_of parts) i 0) positions) parts)
 two_there [] positions some rises within = absurd (omega (arith, within 0 0 (omega (arith, some))))
 two_there (q ∷ qs) positions some rises within =
-    two_kept (λ (p : Part). is_among ids p.head.id) (q ∷ qs) (get_or positions 0 0) (get_or positions 1 0) q (rises 0 (omega (arith, some))) (within 1 0 (omega (arith, some)))
+    two_kept (λ (p : Part). is_among ids p.head.id) (q ∷ qs) (get_or positions 0 0) (get_or positions 1 0) q (rises 0 (omega (arith, some)))
+    (within 1 0 (omega (arith, some)))
     (there 0 (omega (arith, some))) (there 1 (omega (arith, some)))
   where
     ids : List ℕ
@@ -203,7 +220,8 @@ two_there (q ∷ qs) positions some rises within =
 -- ---- one head after another
 
 -- at each place one head more
-pub heads_more : {X : Type 0} (f : Head → X) (heads : List Head) (i : ℕ) (head : Head) → i < length heads → head ≡ get_or heads i head → map f (take (i + 1) heads) ≡ map f (take i heads) ++ f head ∷ []
+pub heads_more : {X : Type 0} (f : Head → X) (heads : List Head) (i : ℕ) (head : Head) → i < length heads → head ≡ get_or heads i head
+    → map f (take (i + 1) heads) ≡ map f (take i heads) ++ f head ∷ []
 heads_more f heads i head lt is =
     ap (map f) (take_more heads i head lt ∙ ap (λ h. take i heads ++ h ∷ []) (sym is))
     ∙ map-append f (take i heads) (head ∷ [])
@@ -211,7 +229,8 @@ heads_more f heads i head lt is =
 -- an id that is none of these comes to the others
 pub kept_more : (keep : ℕ → Bool) (heads : List Head) (i : ℕ) (head : Head) → i < length heads → head ≡ get_or heads i head
     → filter keep (map (λ h. h.id) (take (i + 1) heads)) ≡ filter keep (map (λ h. h.id) (take i heads)) ++ cond (keep head.id) (head.id ∷ []) []
-kept_more keep heads i head lt is = ap (filter keep) (heads_more (λ h. h.id) heads i head lt is) ∙ filter-append keep (map (λ h. h.id) (take i heads)) (head.id ∷ [])
+kept_more keep heads i head lt is =
+    ap (filter keep) (heads_more (λ h. h.id) heads i head lt is) ∙ filter-append keep (map (λ h. h.id) (take i heads)) (head.id ∷ [])
 
 pub room_left : (n most : ℕ) → eqb n most ≡ false → n ≤ most → n < most
 room_left n most other le = grind (arith, nat_tests)

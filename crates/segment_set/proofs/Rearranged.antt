@@ -1,5 +1,6 @@
 -- One merge or flush after another.
-use Rattle.std.proofs.Common.{◌≡◌, ℕ, ◌≤◌, ◌<◌, eqb, cond, ltb, List, [], ◌∷◌, length, Result, Ok, Err, ◌^◌, refl, sym, subst, ◌∙◌, ◌⊎◌, inl, inr, ⊎_elim, arith}
+use Rattle.std.proofs.Common.{◌≡◌, ℕ, ◌≤◌, ◌<◌, eqb, cond, ltb, List, [], ◌∷◌, length, Result}
+use Rattle.std.proofs.Common.{Ok, Err, ◌^◌, refl, sym, subst, ◌∙◌, ◌⊎◌, inl, inr, ⊎_elim, arith}
 use Rattle.std.specs.List.{All, Contains, sum_by}
 use Rattle.std.specs.Result.{OnOk, OnErr}
 use Rattle.std.proofs.lemmas.Bool.{cases_Bool, ltb-false, ltb-true}
@@ -46,20 +47,24 @@ rearranges_none D told files s named = record {
   saved = refl;
 }
 
-pub rearranges_then : (D : ℕ) (told : Type 0) (f g h : Files) (a b c : SetData) → All (IsNamed b.names) b.parts → Rearranges D told f g a b → Rearranges D told g h b c → Rearranges D told f h a c
+pub rearranges_then : (D : ℕ) (told : Type 0) (f g h : Files) (a b c : SetData) → All (IsNamed b.names) b.parts → Rearranges D told f g a b
+    → Rearranges D told g h b c → Rearranges D told f h a c
 rearranges_then D told f g h a b c named first second = record {
   seen = λ t i sees. second.seen t i (first.seen t i sees);
   stays = stays_then a b c first.stays second.stays;
   kept = keeps_then told a.names b.names c.names f g h first.kept second.kept;
   follows = follows_then a.names b.names a.parts b.parts c.parts first.kept.more first.follows second.follows;
-  canon = λ t. canon_then D told a.names b.names c.names g h b.parts c.parts t second.kept first.kept.more named (first.canon t) second.follows (second.canon t);
+  canon = λ t.
+      canon_then D told a.names b.names c.names g h b.parts c.parts t second.kept first.kept.more named (first.canon t) second.follows (second.canon t);
   begun = second.begun ∙ first.begun;
   saved = second.saved ∙ first.saved;
 }
 
 -- what a call left that changed names, segments, buffer and cache
-pub rearranges_after : (D : ℕ) (told : Type 0) (files new_files : Files) {s : SetData} (names : NameList) (parts : List Part) (buffer : List Item) (cache : PageCache) → KeepsNamed told s.names names files new_files
-    → IsAfter D told files new_files s (moved s names parts buffer s.begun cache) → Rearranges D told files new_files s (moved s names parts buffer s.begun cache)
+pub rearranges_after : (D : ℕ) (told : Type 0) (files new_files : Files) {s : SetData} (names : NameList) (parts : List Part) (buffer : List Item)
+    (cache : PageCache) → KeepsNamed told s.names names files new_files
+    → IsAfter D told files new_files s (moved s names parts buffer s.begun cache)
+    → Rearranges D told files new_files s (moved s names parts buffer s.begun cache)
 rearranges_after D told files new_files names parts buffer cache kept after = record {
   seen = after.seen;
   stays = after.stays;
@@ -75,7 +80,8 @@ rearranges_after D told files new_files names parts buffer cache kept after = re
 pub entries_none : (D : ℕ) (told : Type 0) (files : Files) (s : SetData) → KeepsEntries D told files files s s
 entries_none D told files s = record { agrees = λ t agrees. agrees; entries = λ t agrees c reads. (c, reads, totals_none (live_in_parts c s.parts)) }
 
-pub entries_then : (D : ℕ) (told : Type 0) (f g h : Files) (a b c : SetData) → KeepsEntries D told f g a b → KeepsEntries D told g h b c → KeepsEntries D told f h a c
+pub entries_then : (D : ℕ) (told : Type 0) (f g h : Files) (a b c : SetData) → KeepsEntries D told f g a b → KeepsEntries D told g h b c
+    → KeepsEntries D told f h a c
 entries_then D told f g h a b c first second = record {
   agrees = λ t agrees. second.agrees t (first.agrees t agrees);
   entries = λ t agrees d reads.
@@ -84,24 +90,28 @@ entries_then D told f g h a b c first second = record {
       (last.0, last.1, totals_then (live_in_parts d a.parts) (live_in_parts mid.0 b.parts) (live_in_parts last.0 c.parts) mid.2 last.2);
 }
 
-pub entries_merged : (D : ℕ) (told : Type 0) (files new_files : Files) {s : SetData} (well : IsWell D s) (names : NameList) (ids : List ℕ) (parts : List Part) (cache : PageCache)
+pub entries_merged : (D : ℕ) (told : Type 0) (files new_files : Files) {s : SetData} (well : IsWell D s) (names : NameList) (ids : List ℕ) (parts : List Part)
+    (cache : PageCache)
     → KeepsNamed told s.names names files new_files
     → (told → Agrees files s.cache → Agrees files cache)
     → ((id : ℕ) → KeepsFile cache id → KeepsFile s.cache id ⊎ Contains (ids_of (parts_among ids s.parts)) id)
     → {T E : Type 0} (r : Result T E) → OnOk r (IsMerged D told s.leaf s.names names files new_files s.cache ids s.parts parts) → OnErr r (parts ≡ s.parts)
     → KeepsEntries D told files new_files s (moved s names parts s.buffer s.begun cache)
 entries_merged D told files new_files {s} well names ids parts cache kept agrees others r merged refused = record {
-  agrees = λ t agreed. agrees_other files new_files cache (λ id keeps. kept.files t (Segment id) (cached_more s.names s.parts s.cache cache ids well.named well.cached others id keeps)) (agrees t agreed);
+  agrees = λ t agreed. agrees_other files new_files cache
+      (λ id keeps. kept.files t (Segment id) (cached_more s.names s.parts s.cache cache ids well.named well.cached others id keeps)) (agrees t agreed);
   entries = λ t agreed c reads.
       let st = step D told files new_files s.cache s names ids parts kept r merged refused in
       let some = live_in_parts c (parts_among st.gone s.parts) in
-      let g = grown D told files new_files s.names names c st.gone some st.moves.built s.parts parts (kept.files t) well.named reads t (st.makes t agreed c reads) st.moves.replaces in
+      let g = grown D told files new_files s.names names c st.gone some st.moves.built s.parts parts (kept.files t) well.named reads t
+      (st.makes t agreed c reads) st.moves.replaces in
       (g.after, g.now, λ f. omega (arith, g.totals f));
 }
 
 -- ---- what a damage says of the set before
 
-damage_named : (D given : ℕ) (a b : SetData) (told : Type 0) (f g : Files) → Rearranges D told f g a b → (d : Damage) → IsMergeDamage D given b.names b.parts d → IsMergeDamage D given a.names a.parts d
+damage_named : (D given : ℕ) (a b : SetData) (told : Type 0) (f g : Files) → Rearranges D told f g a b → (d : Damage) → IsMergeDamage D given b.names b.parts d
+    → IsMergeDamage D given a.names a.parts d
 damage_named D given a b told f g moves d (Read p there shows) = ⊎_elim
     (λ fresh. New p.head fresh shows)
     (λ old. Read old.0 old.1 (subst (λ h. IsReadDamage D h d) old.2 shows))
@@ -110,12 +120,14 @@ damage_named D given a b told f g moves d (New head fresh shows) =
     New head (unnamed_before a.names.names b.names.names (Segment head.id) (moves.kept.more (Segment head.id)) fresh) shows
 damage_named D given a b told f g moves d (Doubt items doubt) = Doubt items doubt
 
-pub damage_before : (D : ℕ) (told : Type 0) (f g : Files) (a b : SetData) → Rearranges D told f g a b → (d : Damage) → IsMergeDamage D b.given b.names b.parts d → IsMergeDamage D a.given a.names a.parts d
+pub damage_before : (D : ℕ) (told : Type 0) (f g : Files) (a b : SetData) → Rearranges D told f g a b → (d : Damage) → IsMergeDamage D b.given b.names b.parts d
+    → IsMergeDamage D a.given a.names a.parts d
 damage_before D told f g a b moves d shows =
     damage_named D a.given a b told f g moves d (subst (λ n. IsMergeDamage D n b.names b.parts d) moves.stays.given shows)
 
 -- what is doubted of some entries is doubted of more
-pub doubt_more : (given : ℕ) (xs ys : List Item) → length ys ≤ length xs → ((f : Item → ℕ) → sum_by f ys ≤ sum_by f xs) → (d : Damage) → IsDoubt given ys d → IsDoubt given xs d
+pub doubt_more : (given : ℕ) (xs ys : List Item) → length ys ≤ length xs → ((f : Item → ℕ) → sum_by f ys ≤ sum_by f xs) → (d : Damage) → IsDoubt given ys d
+    → IsDoubt given xs d
 doubt_more given xs ys long fewer (Unequal file said found) h = (h.0, h.1, h.2, omega (arith, long, h.3))
 doubt_more given xs ys long fewer (Doubled doc) h = ⊎_elim
     (λ many. inl (omega (arith, many, fewer (λ x. cond (eqb x.doc doc) 1 0))))
@@ -136,7 +148,9 @@ doubt_same given xs ys same d h = doubt_more given xs ys (omega (arith, totals_l
 
 -- each number that waits is below 2 ^ 24
 pub waiting_below : {D : ℕ} (s : SetData) (well : IsWell D s) (es : List (Entry D)) → items_of es ≡ s.buffer → All (λ e. e.doc < 2 ^ 24) es
-waiting_below {D} s well es is = all es (subst (All (λ (x : Item). x.doc < 2 ^ 24)) (sym is) (All-weaker (Contains s.buffer) (λ (x : Item). x.doc < 2 ^ 24) below s.buffer (All-contains_itself s.buffer)))
+waiting_below {D} s well es is =
+    all es (subst (All (λ (x : Item). x.doc < 2 ^ 24)) (sym is)
+    (All-weaker (Contains s.buffer) (λ (x : Item). x.doc < 2 ^ 24) below s.buffer (All-contains_itself s.buffer)))
   where
     below : (x : Item) → Contains s.buffer x → x.doc < 2 ^ 24
     below x there = elim (cases_Bool (ltb x.doc s.next)) [
@@ -147,7 +161,8 @@ waiting_below {D} s well es is = all es (subst (All (λ (x : Item). x.doc < 2 ^ 
     all : (xs : List (Entry D)) → All (λ (x : Item). x.doc < 2 ^ 24) (items_of xs) → All (λ (e : Entry D). e.doc < 2 ^ 24) xs
     all [] h = All-nil (λ (e : Entry D). e.doc < 2 ^ 24)
     all (e ∷ xs) h =
-        All-cons (λ (d : Entry D). d.doc < 2 ^ 24) e xs (All-head (λ (x : Item). x.doc < 2 ^ 24) (item_of e) (items_of xs) h) (all xs (All-tail (λ (x : Item). x.doc < 2 ^ 24) (item_of e) (items_of xs) h))
+        All-cons (λ (d : Entry D). d.doc < 2 ^ 24) e xs (All-head (λ (x : Item). x.doc < 2 ^ 24) (item_of e) (items_of xs) h)
+        (all xs (All-tail (λ (x : Item). x.doc < 2 ^ 24) (item_of e) (items_of xs) h))
 
 pub empty_list : {X : Type 0} (xs : List X) → length xs ≡ 0 → xs ≡ []
 empty_list [] none = refl

@@ -36,9 +36,11 @@ other_value before now page.Failed cause = record { later = cause.later; fine = 
 other_value before now (page.Damaged d) cause = record { later = cause.later; fine = tt; failed = λ is. absurd cc }
 other_value before now page.Memory cause = record { later = cause.later; fine = tt; failed = λ is. absurd cc }
 
-pub same_cause : {T U : Type 0} (before now : ℕ) (f : PageFault) (r : Result T PageFault) → IsErrAnd r (λ y. y ≡ f) → HasPageCause {T = U} before now (Err f) → HasPageCause before now r
+pub same_cause : {T U : Type 0} (before now : ℕ) (f : PageFault) (r : Result T PageFault) → IsErrAnd r (λ y. y ≡ f) → HasPageCause {T = U} before now (Err f)
+    → HasPageCause before now r
 same_cause before now f (Ok x) h cause = absurd h
-same_cause {T} {U} before now f (Err e) h cause = subst (λ (y : PageFault). HasPageCause {T = T} before now (Err y)) (sym h) (other_value {T = T} {U = U} before now f cause)
+same_cause {T} {U} before now f (Err e) h cause =
+    subst (λ (y : PageFault). HasPageCause {T = T} before now (Err y)) (sym h) (other_value {T = T} {U = U} before now f cause)
 
 -- ---- want of memory
 
@@ -52,13 +54,16 @@ memory_caused {T} before now (Err e) h same = subst (λ (y : PageFault). HasPage
 
 -- ---- where no document is added
 
-pub add_damage : {T : Type 0} (P : Damage → Type 0) (f : PageFault) (r : Result T AddFault) → IsErrAnd r (λ y. y ≡ add_fault f) → FaultShows P f → OnAddDamage r P
+pub add_damage : {T : Type 0} (P : Damage → Type 0) (f : PageFault) (r : Result T AddFault) → IsErrAnd r (λ y. y ≡ add_fault f) → FaultShows P f
+    → OnAddDamage r P
 add_damage P f (Ok x) h shows = absurd h
 add_damage {T} P f (Err e) h shows = subst (λ (y : AddFault). OnAddDamage {T = T} (Err y) P) (sym h) (added_damage (Unit {0}) T P f shows)
 
-pub add_cause : {T U : Type 0} (before now : ℕ) (f : PageFault) (r : Result T AddFault) → IsErrAnd r (λ y. y ≡ add_fault f) → HasPageCause {T = U} before now (Err f) → HasCauseOf add.Failed before now r
+pub add_cause : {T U : Type 0} (before now : ℕ) (f : PageFault) (r : Result T AddFault) → IsErrAnd r (λ y. y ≡ add_fault f)
+    → HasPageCause {T = U} before now (Err f) → HasCauseOf add.Failed before now r
 add_cause before now f (Ok x) h cause = absurd h
-add_cause {T} {U} before now f (Err e) h cause = subst (λ (y : AddFault). HasCauseOf {T = T} add.Failed before now (Err y)) (sym h) (added_cause {T = U} {U = T} before now f cause)
+add_cause {T} {U} before now f (Err e) h cause =
+    subst (λ (y : AddFault). HasCauseOf {T = T} add.Failed before now (Err y)) (sym h) (added_cause {T = U} {U = T} before now f cause)
 
 pub add_not_full : {T : Type 0} (f : PageFault) (r : Result T AddFault) → IsErrAnd r (λ y. y ≡ add_fault f) → IsErrOf r add.Full → ⊥
 add_not_full f (Ok x) h is = absurd h
@@ -68,10 +73,12 @@ pub add_memory_damage : {T : Type 0} (P : Damage → Type 0) (r : Result T AddFa
 add_memory_damage P (Ok x) h = absurd h
 add_memory_damage {T} P (Err e) h = subst (λ (y : AddFault). OnAddDamage {T = T} (Err y) P) (sym h) tt
 
-pub add_memory_cause : {T : Type 0} (before now : ℕ) (r : Result T AddFault) → IsErrAnd r (λ y. y ≡ add.Memory) → now ≡ before → HasCauseOf add.Failed before now r
+pub add_memory_cause : {T : Type 0} (before now : ℕ) (r : Result T AddFault) → IsErrAnd r (λ y. y ≡ add.Memory) → now ≡ before
+    → HasCauseOf add.Failed before now r
 add_memory_cause before now (Ok x) h same = absurd h
 add_memory_cause {T} before now (Err e) h same =
-    subst (λ (y : AddFault). HasCauseOf {T = T} add.Failed before now (Err y)) (sym h) (record { later = omega (arith, same); fine = tt; failed = λ is. absurd cc })
+    subst (λ (y : AddFault). HasCauseOf {T = T} add.Failed before now (Err y)) (sym h)
+    (record { later = omega (arith, same); fine = tt; failed = λ is. absurd cc })
 
 pub add_memory_not_full : {T : Type 0} (r : Result T AddFault) → IsErrAnd r (λ y. y ≡ add.Memory) → IsErrOf r add.Full → ⊥
 add_memory_not_full (Ok x) h is = absurd h

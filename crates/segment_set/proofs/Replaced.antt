@@ -1,9 +1,11 @@
 -- Lists of segments of which some give way to another: sums, members and ids.
-use Rattle.std.proofs.Common.{◌≡◌, ℕ, ◌+◌, ◌≤◌, Bool, true, false, not, ◌&&◌, ◌||◌, cond, List, [], ◌∷◌, ◌++◌, length, refl, sym, ap, subst, ◌∙◌, inl, inr, arith}
+use Rattle.std.proofs.Common.{◌≡◌, ℕ, ◌+◌, ◌≤◌, Bool, true, false, not, ◌&&◌, ◌||◌, cond, List}
+use Rattle.std.proofs.Common.{[], ◌∷◌, ◌++◌, length, refl, sym, ap, subst, ◌∙◌, inl, inr, arith}
 use Rattle.std.specs.List.{All, Contains, sum_by}
 use Rattle.std.proofs.lemmas.Bool.{cases_Bool}
 use Rattle.std.proofs.lemmas.List.{length-append}
-use Rattle.std.proofs.lemmas.List.Elements.{All-append, All-cons, All-contains, All-contains_itself, All-filter, All-weaker, Contains-append_left, Contains-append_right, filter-append}
+use Rattle.std.proofs.lemmas.List.Elements.{All-append, All-cons, All-contains, All-contains_itself, All-filter}
+use Rattle.std.proofs.lemmas.List.Elements.{All-weaker, Contains-append_left, Contains-append_right, filter-append}
 use Rattle.std.proofs.lemmas.List.Filters.{length-filter_both, sum_by-filter_both}
 use Rattle.std.proofs.lemmas.List.Sums.{sum_by-append, sum_by-cons}
 use Rattle.live_bits.specs.LiveSet.{LiveSet, is_live}
@@ -71,15 +73,18 @@ live_placed number (p ∷ ps) h = elim (cases_Bool (is_live p.live number)) [
 -- ---- members
 
 pub all_front : {X : Type 0} (P : X → Type 0) (xs ys : List X) → All P (xs ++ ys) → All P xs
-all_front {X} P xs ys all = All-weaker (Contains xs) P (λ (x : X) there. All-contains P (xs ++ ys) x all (Contains-append_left xs ys x there)) xs (All-contains_itself xs)
+all_front {X} P xs ys all =
+    All-weaker (Contains xs) P (λ (x : X) there. All-contains P (xs ++ ys) x all (Contains-append_left xs ys x there)) xs (All-contains_itself xs)
 
 pub all_back : {X : Type 0} (P : X → Type 0) (xs ys : List X) → All P (xs ++ ys) → All P ys
-all_back {X} P xs ys all = All-weaker (Contains ys) P (λ (x : X) there. All-contains P (xs ++ ys) x all (Contains-append_right xs ys x there)) ys (All-contains_itself ys)
+all_back {X} P xs ys all =
+    All-weaker (Contains ys) P (λ (x : X) there. All-contains P (xs ++ ys) x all (Contains-append_right xs ys x there)) ys (All-contains_itself ys)
 
 pub all_placed : (P : Part → Type 0) (p : Part) (old new : List Part) → IsPlaced p old new → P p → All P old → All P new
 all_placed P p old new h here all =
     let both : All P (h.front ++ h.back) = subst (All P) h.before all in
-    subst (All P) (sym h.after) (All-append P h.front (p ∷ h.back) (all_front P h.front h.back both) (All-cons P p h.back here (all_back P h.front h.back both)))
+    subst (All P) (sym h.after)
+    (All-append P h.front (p ∷ h.back) (all_front P h.front h.back both) (All-cons P p h.back here (all_back P h.front h.back both)))
 
 pub all_but : (P : Part → Type 0) (ids : List ℕ) (parts : List Part) → All P parts → All P (parts_but ids parts)
 all_but P ids parts all = All-filter (λ (p : Part). not (is_among ids p.head.id)) P parts all
@@ -90,10 +95,12 @@ all_among P ids parts all = All-filter (λ (p : Part). is_among ids p.head.id) P
 -- ---- ids
 
 -- a segment that isn't one of these came between, and changes nothing among these
-pub among_placed : (ids : List ℕ) (p : Part) (old new : List Part) → IsPlaced p old new → is_among ids p.head.id ≡ false → parts_among ids new ≡ parts_among ids old
+pub among_placed : (ids : List ℕ) (p : Part) (old new : List Part) → IsPlaced p old new → is_among ids p.head.id ≡ false
+    → parts_among ids new ≡ parts_among ids old
 among_placed ids p old new h not_this =
     let here : Part → Bool = λ (q : Part). is_among ids q.head.id in
-    let skipped : parts_among ids (p ∷ h.back) ≡ parts_among ids h.back = ap (λ (b : Bool). cond b (p ∷ parts_among ids h.back) (parts_among ids h.back)) not_this in
+    let skipped : parts_among ids (p ∷ h.back) ≡ parts_among ids h.back =
+    ap (λ (b : Bool). cond b (p ∷ parts_among ids h.back) (parts_among ids h.back)) not_this in
     ap (parts_among ids) h.after
     ∙ filter-append here h.front (p ∷ h.back)
     ∙ ap (λ ps. parts_among ids h.front ++ ps) skipped
@@ -101,17 +108,20 @@ among_placed ids p old new h not_this =
     ∙ ap (parts_among ids) (sym h.before)
 
 -- segments of some ids stay where segments of ids apart from them go
-pub among_but : (ids others : List ℕ) (parts : List Part) → ((id : ℕ) → is_among others id ≡ true → is_among ids id ≡ false) → parts_among ids (parts_but others parts) ≡ parts_among ids parts
+pub among_but : (ids others : List ℕ) (parts : List Part) → ((id : ℕ) → is_among others id ≡ true → is_among ids id ≡ false)
+    → parts_among ids (parts_but others parts) ≡ parts_among ids parts
 among_but ids others parts apart =
     filter_twice (λ (q : Part). is_among ids q.head.id) (λ (q : Part). not (is_among others q.head.id)) parts
-    ∙ filter_alike (λ (q : Part). not (is_among others q.head.id) && is_among ids q.head.id) (λ (q : Part). is_among ids q.head.id) parts (λ q there. by (is_among others q.head.id) (is_among ids q.head.id) (apart q.head.id))
+    ∙ filter_alike (λ (q : Part). not (is_among others q.head.id) && is_among ids q.head.id) (λ (q : Part). is_among ids q.head.id) parts
+    (λ q there. by (is_among others q.head.id) (is_among ids q.head.id) (apart q.head.id))
   where
     by : (other here : Bool) → (other ≡ true → here ≡ false) → (not other && here) ≡ here
     by true here apart = sym (apart refl)
     by false here apart = refl
 
 -- a segment that came between others that go or stay
-pub but_placed : (ids : List ℕ) (p : Part) (old new : List Part) → IsPlaced p old new → is_among ids p.head.id ≡ false → IsPlaced p (parts_but ids old) (parts_but ids new)
+pub but_placed : (ids : List ℕ) (p : Part) (old new : List Part) → IsPlaced p old new → is_among ids p.head.id ≡ false
+    → IsPlaced p (parts_but ids old) (parts_but ids new)
 but_placed ids p old new h not_this = record {
   front = parts_but ids h.front;
   back = parts_but ids h.back;
@@ -131,14 +141,17 @@ pub id_of_part : (parts : List Part) (q : Part) → Contains parts q → is_amon
 id_of_part parts q there = among_from (ids_of parts) q.head.id (in_map (λ (p : Part). p.head.id) parts q there)
 
 -- ids that name segments still do where these stay
-pub ids_stay : (ids : List ℕ) (old new : List Part) → parts_among ids new ≡ parts_among ids old → All (λ id. is_among (ids_of old) id ≡ true) ids → All (λ id. is_among (ids_of new) id ≡ true) ids
+pub ids_stay : (ids : List ℕ) (old new : List Part) → parts_among ids new ≡ parts_among ids old → All (λ id. is_among (ids_of old) id ≡ true) ids
+    → All (λ id. is_among (ids_of new) id ≡ true) ids
 ids_stay ids old new same all =
-    All-weaker (Contains ids) (λ id. is_among (ids_of new) id ≡ true) (λ id there. stays id there (All-contains (λ n. is_among (ids_of old) n ≡ true) ids id all there)) ids (All-contains_itself ids)
+    All-weaker (Contains ids) (λ id. is_among (ids_of new) id ≡ true)
+    (λ id there. stays id there (All-contains (λ n. is_among (ids_of old) n ≡ true) ids id all there)) ids (All-contains_itself ids)
   where
     stays : (id : ℕ) → Contains ids id → is_among (ids_of old) id ≡ true → is_among (ids_of new) id ≡ true
     stays id there before =
         let part = id_there old id before in
         let among : is_among ids part.0.head.id ≡ true = among_from ids part.0.head.id (subst (Contains ids) (sym part.2) there) in
-        let kept : Contains (parts_among ids new) part.0 = subst (λ (ps : List Part). Contains ps part.0) (sym same) (in_filter (λ (q : Part). is_among ids q.head.id) old part.0 part.1 among) in
+        let kept : Contains (parts_among ids new) part.0 =
+        subst (λ (ps : List Part). Contains ps part.0) (sym same) (in_filter (λ (q : Part). is_among ids q.head.id) old part.0 part.1 among) in
         let now : Contains new part.0 = (of_filter (λ (q : Part). is_among ids q.head.id) new part.0 kept).0 in
         subst (λ (n : ℕ). is_among (ids_of new) n ≡ true) part.2 (id_of_part new part.0 now)

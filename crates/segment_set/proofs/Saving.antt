@@ -1,21 +1,13 @@
 -- What is saved of a set.
-use Rattle.std.proofs.Common.{◌≡◌, ℕ, zero, suc, ◌≤◌, ◌<◌, Bool, true, false, cond, get_or, List, [], ◌∷◌, ◌++◌, length, take, map, Option, Some, is_some, Result, Ok, Err, refl, sym, ap, subst, ◌∙◌, arith}
+use Rattle.std.proofs.Common.{◌≡◌, ℕ, true, false, cond, List, Option, is_some, Result, Ok, Err, refl, sym, ap, subst, ◌∙◌, arith}
 use Rattle.std.specs.Prelude.{IfOk, OnOk}
-use Rattle.std.specs.List.{All, AllPairs, AllZip, Contains, filter, list_any, slice_get}
-use Rattle.std.specs.List.Sorted.{IsStrictlyIncreasing}
-use Rattle.std.proofs.lemmas.Bool.{both_ways, false_from_ne_true}
-use Rattle.std.proofs.lemmas.Option.{get_or_from_slice_get, slice_get_within}
-use Rattle.std.proofs.lemmas.List.Kept.{AllPairs-from_increasing}
-use Rattle.std.proofs.lemmas.List.{append-nil}
-use Rattle.std.proofs.lemmas.List.Elements.{All-contains, All-contains_itself, All-cons, All-head, All-nil, All-tail, Contains-append_left, Contains-append_right}
+use Rattle.std.specs.List.{All, AllZip, list_any}
 use Rattle.outer_io.specs.declared.file_name.FileName.{FileName}
-use Rattle.outer_io.specs.declared.file_name.FileName.TheVariants.{Commit, CommitNew, Live, Segment}
+use Rattle.outer_io.specs.declared.file_name.FileName.TheVariants.{Commit, Live, Segment}
 use Rattle.outer_io.specs.Files.{Files, bytes_of}
 use Rattle.point_codec.specs.Points.{Item}
-use Rattle.live_bits.specs.LiveSet.{LiveSet, is_live}
-use Rattle.documents.specs.Entries.{AreDocs, has_entry, is_among}
-use Rattle.documents.proofs.Kept.{among_to}
-use Rattle.documents.proofs.Lists.{cons_head, in_map, of_map, pairs_head, pairs_tail}
+use Rattle.live_bits.specs.LiveSet.{is_live}
+use Rattle.documents.specs.Entries.{has_entry}
 use Rattle.page_cache.specs.declared.cache.PageCache.{PageCache}
 use Rattle.page_cache.specs.Cache.{Agrees, KeepsFile}
 use Rattle.page_cache.specs.declared.faults.Damage.{Damage}
@@ -26,32 +18,26 @@ use Rattle.page_cache.specs.Causes.{HasPageCause, HasStoreCause, page_fault}
 use Rattle.page_cache.specs.Evidence.{FaultShows, NotDamaged, OnDamage}
 use Rattle.page_cache.proofs.Damages.{on_damage_weaker}
 use Rattle.commit_list.specs.declared.listed.Listed.{Listed}
-use Rattle.commit_list.specs.Commits.{CommitData, IsCommit, IsListed}
-use Rattle.commit_list.specs.CommitFiles.{IsCommitFile}
+use Rattle.commit_list.specs.Commits.{CommitData}
 use Rattle.segment_file.specs.LiveFiles.{IsLiveFile}
-use Rattle.segment_file.specs.Segments.{IsSegment}
-use Rattle.stored_index.specs.Kept.{ListsFile}
-use Rattle.stored_index.specs.Segments.{SegmentData, all_live_entries, live_sets, places}
-use Rattle.stored_index.specs.Stored.{HoldAll, HoldsFiles, IsStored, index_of}
-use Rattle.stored_index.proofs.Pairwise.{zip_map, zip_moved, zip_same}
-use Rattle.stored_index.proofs.Whole.{stored_from}
-use Rattle.index_model.specs.State.{Index, at_rest}
-use Rattle.segment_view.specs.Parts.{Contents, IsRead, Part, ids_of, live_in_parts, lives_of}
-use Rattle.file_names.specs.Names.{NameList, IsNextGeneration, is_named}
-use Rattle.file_names.proofs.Listed.{others_stay}
+use Rattle.stored_index.proofs.Pairwise.{zip_moved}
+use Rattle.index_model.specs.State.{Index}
+use Rattle.segment_view.specs.Parts.{Part}
+use Rattle.file_names.specs.Names.{NameList, is_named}
 use Rattle.segment_set.specs.Sets.{IsNamed, IsWell, SetData}
 use Rattle.segment_set.specs.Seen.{Sees}
-use Rattle.segment_set.specs.Kept.{AreCanonical, IsCommitOf, KeepsNamed, StaysAlone}
+use Rattle.segment_set.specs.Kept.{AreCanonical, KeepsNamed, StaysAlone}
 use Rattle.segment_set.specs.Saved.{HasNextGeneration, IsSaved, StaysButSaved}
-use Rattle.segment_set.proofs.Replaced.{id_of_part}
 use Rattle.segment_set.proofs.Carried.{canon_named, canon_then, follows_none, unnamed_before}
 use Rattle.segment_set.proofs.Standing.{sees_alike, sees_like}
-use Rattle.index_opening.proofs.Ordered.{zip_pushed}
+use Rattle.segment_set.proofs.SavedSegments.{zip_left}
 
 -- ---- what every set keeps to, with other names
 
-pub well_other : (D : ℕ) (s : SetData) (names : NameList) (cache : PageCache) (saved : Option CommitData) → IsWell D s → All (IsNamed names) s.parts → All (λ v. All (IsNamed names) v.parts) s.snapshots
-    → is_named names.names Commit ≡ false → ((id : ℕ) → KeepsFile cache id → is_named names.names (Segment id) ≡ true) → IsWell D (record s { names = names; cache = cache; saved = saved })
+pub well_other : (D : ℕ) (s : SetData) (names : NameList) (cache : PageCache) (saved : Option CommitData) → IsWell D s → All (IsNamed names) s.parts
+    → All (λ v. All (IsNamed names) v.parts) s.snapshots
+    → is_named names.names Commit ≡ false → ((id : ℕ) → KeepsFile cache id → is_named names.names (Segment id) ≡ true)
+    → IsWell D (record s { names = names; cache = cache; saved = saved })
 well_other D s names cache saved well named kept own cached = record {
   some_dims = well.some_dims;
   few_dims = well.few_dims;
@@ -79,7 +65,8 @@ well_other D s names cache saved well named kept own cached = record {
 }
 
 -- with more of them
-pub well_names : (D : ℕ) (told : Type 0) (before after : Files) (s : SetData) (names : NameList) (saved : Option CommitData) → IsWell D s → KeepsNamed told s.names names before after
+pub well_names : (D : ℕ) (told : Type 0) (before after : Files) (s : SetData) (names : NameList) (saved : Option CommitData) → IsWell D s
+    → KeepsNamed told s.names names before after
     → IsWell D (record s { names = names; saved = saved })
 well_names D told before after s names saved well keeps =
     well_other D s names s.cache saved well
@@ -87,251 +74,6 @@ well_names D told before after s names saved well keeps =
     (λ k v lt j p jt. keeps.more _ (well.kept k v lt j p jt))
     (keeps.own ∙ well.own)
     (λ id kept. keeps.more (Segment id) (well.cached id kept))
-
--- ---- pairs
-
-pub zip_length : {A B : Type 0} (R : A → B → Type 0) (xs : List A) (ys : List B) → AllZip R xs ys → length xs ≡ length ys
-zip_length R [] [] p = refl
-zip_length R [] (y ∷ ys) p = absurd p
-zip_length R (x ∷ xs) [] p = absurd p
-zip_length R (x ∷ xs) (y ∷ ys) p = omega (arith, zip_length R xs ys p.1)
-
-pub zip_left : {A B : Type 0} (R : A → B → Type 0) (P : A → Type 0) (xs : List A) (ys : List B) → ((x : A) (y : B) → R x y → P x) → AllZip R xs ys → All P xs
-zip_left R P [] [] more p = All-nil P
-zip_left R P [] (y ∷ ys) more p = absurd p
-zip_left R P (x ∷ xs) [] more p = absurd p
-zip_left R P (x ∷ xs) (y ∷ ys) more p = All-cons P x xs (more x y p.0) (zip_left R P xs ys more p.1)
-
--- a fact of each on the right, beside the pairs
-pub zip_beside : {A B : Type 0} (R S : A → B → Type 0) (P : B → Type 0) (xs : List A) (ys : List B) → ((x : A) (y : B) → R x y → P y → S x y) → All P ys → AllZip R xs ys → AllZip S xs ys
-zip_beside R S P [] [] more all p = tt
-zip_beside R S P [] (y ∷ ys) more all p = absurd p
-zip_beside R S P (x ∷ xs) [] more all p = absurd p
-zip_beside R S P (x ∷ xs) (y ∷ ys) more all p = (more x y p.0 (All-head P y ys all), zip_beside R S P xs ys more (All-tail P y ys all) p.1)
-
-pub take_whole : {X : Type 0} (xs : List X) (i : ℕ) → length xs ≤ i → take i xs ≡ xs
-take_whole [] zero le = refl
-take_whole [] (suc i) le = refl
-take_whole (x ∷ xs) zero le = absurd (omega (arith, le))
-take_whole (x ∷ xs) (suc i) le = ap (λ ys. x ∷ ys) (take_whole xs i (omega (arith, le)))
-
-pub parts_before : (parts : List Part) (i : ℕ) (d : Part) → AllPairs (λ (m n : ℕ). m < n) (ids_of parts) → i < length parts → All (λ (q : Part). q.head.id < (get_or parts i d).head.id) (take i parts)
-parts_before [] i d up lt = absurd (omega (arith, lt))
-parts_before (p ∷ ps) zero d up lt = All-nil (λ (q : Part). q.head.id < p.head.id)
-parts_before (p ∷ ps) (suc i) d up lt =
-    let less : i < length ps = omega (arith, lt) in
-    All-cons (λ (q : Part). q.head.id < (get_or ps i d).head.id) p (take i ps)
-    (pairs_head (λ (m n : ℕ). m < n) p.head.id (ids_of ps) up (get_or ps i d).head.id (in_map (λ (q : Part). q.head.id) ps (get_or ps i d) (All-contains_itself ps i d less)))
-    (parts_before ps i d (pairs_tail (λ (m n : ℕ). m < n) p.head.id (ids_of ps) up) less)
-
--- ---- a segment that is saved stays so
-
-pub saved_kept : (told : Type 0) (before mid after : NameList) (f g : Files) (l : Listed) (p : Part) → KeepsNamed told mid after f g → after.next_segment ≡ mid.next_segment
-    → IsSaved told before mid f l p → IsSaved told before after g l p
-saved_kept told before mid after f g l p keeps next is = record {
-  segment = is.segment;
-  entries = is.entries;
-  live = is.live;
-  may = subst (λ n. IsListed n l) (sym next) is.may;
-  fresh = is.fresh;
-  named = keeps.more (Live l.segment l.generation) is.named;
-  rule = is.rule;
-  written = λ t. subst (λ b. IsLiveFile l.segment l.generation (bytes_of b) p.live) (sym (keeps.files t (Live l.segment l.generation) is.named)) (is.written t);
-}
-
--- since a time when the list had fewer names, but no fewer of this segment's live bits
-pub saved_since : (told : Type 0) (first before after : NameList) (files : Files) (l : Listed) (p : Part) → ((m : FileName) → is_named first.names m ≡ true → is_named before.names m ≡ true)
-    → ((n : ℕ) → is_named before.names (Live p.head.id n) ≡ is_named first.names (Live p.head.id n)) → IsSaved told before after files l p → IsSaved told first after files l p
-saved_since told first before after files l p more same is = record {
-  segment = is.segment;
-  entries = is.entries;
-  live = is.live;
-  may = is.may;
-  fresh = unnamed_before first.names before.names (Live l.segment l.generation) (more (Live l.segment l.generation)) is.fresh;
-  named = is.named;
-  rule = subst (λ (taken : ℕ → Bool). IsNextGeneration taken l.generation) (λ i n. like n i) is.rule;
-  written = is.written;
-}
-  where
-    like : (n : ℕ) → is_named before.names (Live l.segment n) ≡ is_named first.names (Live l.segment n)
-    like n = subst (λ (id : ℕ). is_named before.names (Live id n) ≡ is_named first.names (Live id n)) (sym is.segment) (same n)
-
-pub all_saved_kept : (told : Type 0) (before mid after : NameList) (f g : Files) (listed : List Listed) (parts : List Part) → KeepsNamed told mid after f g → after.next_segment ≡ mid.next_segment
-    → AllZip (IsSaved told before mid f) listed parts → AllZip (IsSaved told before after g) listed parts
-all_saved_kept told before mid after f g listed parts keeps next =
-    zip_moved (IsSaved told before mid f) (IsSaved told before after g) listed parts (λ l p there. saved_kept told before mid after f g l p keeps next)
-
--- one more
-pub saved_more : (told : Type 0) (before mid after : NameList) (f g : Files) (listed : List Listed) (parts more : List Part) (l : Listed) (p : Part) → KeepsNamed told mid after f g
-    → ((m : FileName) → is_named before.names m ≡ true → is_named mid.names m ≡ true) → ((n : ℕ) → is_named mid.names (Live p.head.id n) ≡ is_named before.names (Live p.head.id n))
-    → after.next_segment ≡ mid.next_segment → more ≡ parts ++ p ∷ []
-    → AllZip (IsSaved told before mid f) listed parts → IsSaved told mid after g l p → AllZip (IsSaved told before after g) (listed ++ l ∷ []) more
-saved_more told before mid after f g listed parts more l p keeps earlier same next is all one =
-    subst (AllZip (IsSaved told before after g) (listed ++ l ∷ [])) (sym is)
-    (zip_pushed (IsSaved told before after g) listed parts l p (all_saved_kept told before mid after f g listed parts keeps next all) (saved_since told before mid after g l p earlier same one))
-
--- ---- names of live bits, one segment after another
-
--- an id that is none of the segments and not that of one more
-pub later_among : (parts : List Part) (p : Part) (id : ℕ) → is_among (ids_of (parts ++ p ∷ [])) id ≡ false → (is_among (ids_of parts) id ≡ false) × (id ≡ p.head.id → ⊥)
-later_among parts p id none = (
-  false_from_ne_true (is_among (ids_of parts) id) (λ among.
-      let found = of_map (λ (q : Part). q.head.id) parts id (among_to (ids_of parts) id among) in
-      both_ways (is_among (ids_of (parts ++ p ∷ [])) id) none
-      (subst (λ (n : ℕ). is_among (ids_of (parts ++ p ∷ [])) n ≡ true) found.2 (id_of_part (parts ++ p ∷ []) found.0 (Contains-append_left parts (p ∷ []) found.0 found.1)))),
-  λ same. both_ways (is_among (ids_of (parts ++ p ∷ [])) id) none
-      (subst (λ (n : ℕ). is_among (ids_of (parts ++ p ∷ [])) n ≡ true) (sym same) (id_of_part (parts ++ p ∷ []) p (Contains-append_right parts (p ∷ []) p (cons_head p [])))),
-)
-
--- a name joined of the live bits of another segment
-pub other_live : (names : List FileName) (segment generation id n : ℕ) → (id ≡ segment → ⊥) → is_named (names ++ Live segment generation ∷ []) (Live id n) ≡ is_named names (Live id n)
-other_live names segment generation id n other = others_stay names (Live segment generation) (Live id n) (λ e. other (live_id id n segment generation e))
-  where
-    live_id : (a m b k : ℕ) → Live a m ≡ Live b k → a ≡ b
-    live_id a m b k e = cc
-
--- the next segment's id is none of those before
-pub later_id : (parts : List Part) (i : ℕ) (p : Part) → IsStrictlyIncreasing (ids_of parts) → slice_get parts i ≡ Some p → is_among (ids_of (take i parts)) p.head.id ≡ false
-later_id parts i p up at = false_from_ne_true (is_among (ids_of (take i parts)) p.head.id) (λ among.
-    let found = of_map (λ (q : Part). q.head.id) (take i parts) p.head.id (among_to (ids_of (take i parts)) p.head.id among) in
-    omega (arith, found.2, All-contains (λ (q : Part). q.head.id < p.head.id) (take i parts) found.0 less found.1))
-  where
-    less : All (λ (q : Part). q.head.id < p.head.id) (take i parts)
-    less =
-        subst (λ (r : Part). All (λ (q : Part). q.head.id < r.head.id) (take i parts)) (get_or_from_slice_get parts i p p at)
-        (parts_before parts i p (AllPairs-from_increasing (ids_of parts) up) (slice_get_within parts i p at))
-
--- ---- the commit
-
--- a line of the commit and its segment
-abbrev pub IsLine : ℕ → Listed → Part → Type 0
-IsLine n l p = (l.segment ≡ p.head.id) × IsListed n l
-
-pub saved_lines : (told : Type 0) (before after : NameList) (files : Files) (n : ℕ) (listed : List Listed) (parts : List Part) → n ≡ after.next_segment → AllZip (IsSaved told before after files) listed parts → AllZip (IsLine n) listed parts
-saved_lines told before after files n listed parts same =
-    zip_moved (IsSaved told before after files) (IsLine n) listed parts (λ l p there saved. (saved.segment, subst (λ m. IsListed m l) (sym same) saved.may))
-
-pub is_commit : (D : ℕ) (s : SetData) (n : ℕ) (listed : List Listed) → IsWell D s → IsStrictlyIncreasing (ids_of s.parts) → AllZip (IsLine n) listed s.parts
-    → IsCommit (record { dims = D; leaf = s.leaf; next = s.next; given = s.given; next_segment = n; listed = listed })
-is_commit D s n listed well ascend all = record {
-  ranges = record {
-    some_dims = well.some_dims;
-    most_dims = well.few_dims;
-    least_leaf = well.least_leaf;
-    most_leaf = well.greatest_leaf;
-    numbered = well.numbered;
-    most_given = well.most_given;
-    few = let few = well.few in let long = zip_length (IsLine n) listed s.parts all in omega arith;
-  };
-  segments = record {
-    rising = subst IsStrictlyIncreasing (zip_same (IsLine n) (λ (l : Listed). l.segment) (λ (p : Part). p.head.id) (λ l p r. sym r.0) listed s.parts all) ascend;
-    each = zip_left (IsLine n) (IsListed n) listed s.parts (λ l p r. r.1) all;
-  };
-}
-
--- the files that are listed are named
-pub listed_named : (told : Type 0) (before : NameList) (files : Files) (names : NameList) (c : CommitData) (parts : List Part) → All (IsNamed names) parts → AllZip (IsSaved told before names files) c.listed parts
-    → (m : FileName) → ListsFile c m → is_named names.names m ≡ true
-listed_named told before files names c parts named all (Segment id) (l, there, is) =
-    subst (λ n. is_named names.names (Segment n) ≡ true) is (All-contains (λ (k : Listed). is_named names.names (Segment k.segment) ≡ true) c.listed l segments there)
-  where
-    segments : All (λ (k : Listed). is_named names.names (Segment k.segment) ≡ true) c.listed
-    segments = zip_left (λ (k : Listed) (p : Part). is_named names.names (Segment k.segment) ≡ true) (λ (k : Listed). is_named names.names (Segment k.segment) ≡ true) c.listed parts (λ k p h. h)
-        (zip_beside (IsSaved told before names files) (λ (k : Listed) (p : Part). is_named names.names (Segment k.segment) ≡ true) (IsNamed names) c.listed parts
-        (λ k p saved is. ap (λ n. is_named names.names (Segment n)) saved.segment ∙ is) named all)
-listed_named told before files names c parts named all (Live id generation) (l, there, is, at) =
-    subst (λ n. is_named names.names (Live n generation) ≡ true) is
-    (subst (λ n. is_named names.names (Live l.segment n) ≡ true) at
-    (All-contains (λ (k : Listed). is_named names.names (Live k.segment k.generation) ≡ true) c.listed l
-    (zip_left (IsSaved told before names files) (λ (k : Listed). is_named names.names (Live k.segment k.generation) ≡ true) c.listed parts (λ k p saved. saved.named) all) there))
-listed_named told before files names c parts named all Commit none = absurd none
-listed_named told before files names c parts named all CommitNew none = absurd none
-
-pub commit_of_set : (D : ℕ) (told : Type 0) (before : NameList) (files : Files) (s : SetData) (n : ℕ) (listed : List Listed) → n ≡ s.names.next_segment → IsWell D s → AllZip (IsSaved told before s.names files) listed s.parts
-    → IsCommitOf D s (record { dims = D; leaf = s.leaf; next = s.next; given = s.given; next_segment = n; listed = listed })
-commit_of_set D told before files s n listed same well all = record {
-  dims = refl;
-  leaf = refl;
-  next = refl;
-  given = refl;
-  next_segment = same;
-  lists = zip_moved (IsSaved told before s.names files) (λ (l : Listed) (p : Part). (l.segment ≡ p.head.id) × (l.entries ≡ p.head.entries) × (l.live ≡ length p.live.live)) listed s.parts
-      (λ l p there saved. (saved.segment, saved.entries, saved.live)) all;
-  named = listed_named told before files s.names (record { dims = D; leaf = s.leaf; next = s.next; given = s.given; next_segment = n; listed = listed }) s.parts well.named all;
-}
-
--- ---- what is stored with it
-
--- a segment of the set, as the files hold it
-abbrev pub data_of : Contents → Part → SegmentData
-data_of c p = record { head = p.head; entries = c p.head.id; live = p.live }
-
-sets_of : (c : Contents) (parts : List Part) → live_sets (map (data_of c) parts) ≡ lives_of parts
-sets_of c [] = refl
-sets_of c (p ∷ ps) = ap (λ (ss : List LiveSet). p.live ∷ ss) (sets_of c ps)
-
-entries_of : (c : Contents) (parts : List Part) → all_live_entries (map (data_of c) parts) ≡ live_in_parts c parts
-entries_of c [] = refl
-entries_of c (p ∷ ps) = ap (λ (xs : List Item). filter (λ (x : Item). is_live p.live x.doc) (c p.head.id) ++ xs) (entries_of c ps)
-
--- what is known of a segment of the set and its line in the commit
-abbrev IsPartSaved : (D leaf : ℕ) (told : Type 0) (before : NameList) → Files → NameList → Contents → Listed → Part → Type 0
-IsPartSaved D leaf told before now names contents l p = IsSaved told before names now l p × IsRead D now contents p × (p.head.leaf ≡ leaf)
-
--- a commit that was saved of a set, whose buffer is empty, is stored once its file says it and as long as the files that it lists stay
-pub saved_is_stored : (D : ℕ) (told : Type 0) (before : NameList) (now : Files) (s : SetData) (c : CommitData) (i : Index) → told → IsWell D s → s.buffer ≡ [] → IsCommitOf D s c
-    → AllZip (IsSaved told before s.names now) c.listed s.parts → Sees D now s i
-    → (files : Files) → IsCommitFile (bytes_of (files Commit)) c → ((m : FileName) → ListsFile c m → files m ≡ now m) → IsStored files (Some (at_rest i))
-saved_is_stored D told before now s c i t well empty commit all seen files says same =
-    subst (λ (x : Index). IsStored files (Some x)) is (stored_from files c parts i.docs says held alone docs few)
-  where
-    contents : Contents
-    contents = seen.contents
-
-    parts : List SegmentData
-    parts = map (data_of contents) s.parts
-
-    entries : all_live_entries parts ≡ live_in_parts contents s.parts ++ s.buffer
-    entries = entries_of contents s.parts ∙ sym (append-nil (live_in_parts contents s.parts)) ∙ ap (λ (xs : List Item). live_in_parts contents s.parts ++ xs) (sym empty)
-
-    one : (l : Listed) (p : Part) → Contains c.listed l → IsPartSaved D s.leaf told before now s.names contents l p → HoldsFiles files c l (data_of contents p)
-    one l p there (saved, read, leaf) =
-        let bytes : bytes_of (files (Segment l.segment)) ≡ bytes_of (now (Segment p.head.id)) = ap bytes_of (same (Segment l.segment) (l, there, refl)) ∙ ap (λ n. bytes_of (now (Segment n))) saved.segment in
-        record {
-          segment = subst (λ n. IsSegment n (bytes_of (files (Segment l.segment))) p.head (contents p.head.id)) (sym commit.dims)
-              (subst (λ (b : List ℕ). IsSegment D b p.head (contents p.head.id)) (sym bytes) read.held);
-          live = subst (λ (b : List ℕ). IsLiveFile l.segment l.generation b p.live) (sym (ap bytes_of (same (Live l.segment l.generation) (l, there, refl, refl)))) (saved.written t);
-          id = sym saved.segment;
-          leaf_size = leaf ∙ sym commit.leaf;
-          count = sym saved.entries;
-          live_count = sym saved.live;
-          found = read.found;
-        }
-
-    held : HoldAll files c parts
-    held = zip_map (IsPartSaved D s.leaf told before now s.names contents) (HoldsFiles files c) (data_of contents) c.listed s.parts one
-        (zip_beside (IsSaved told before s.names now) (IsPartSaved D s.leaf told before now s.names contents) (λ (p : Part). IsRead D now contents p × (p.head.leaf ≡ s.leaf)) c.listed s.parts
-        (λ l p saved facts. (saved, facts.0, facts.1)) (λ k d lt. (seen.stands.now k d lt, well.leaf_size k d lt)) all)
-
-    alone : (number : ℕ) → places number (live_sets parts) ≤ 1
-    alone number = subst (λ (ss : List LiveSet). places number ss ≤ 1) (sym (sets_of contents s.parts)) (omega (arith, well.spread.alone number))
-
-    docs : AreDocs c.next (all_live_entries parts) i.docs
-    docs = subst (λ n. AreDocs n (all_live_entries parts) i.docs) (sym commit.next) (subst (λ (xs : List Item). AreDocs s.next xs i.docs) (sym entries) seen.docs)
-
-    few : length (all_live_entries parts) ≤ c.given
-    few = let long = ap length entries in let most = seen.few in let given = commit.given in omega arith
-
-    is : index_of c i.docs ≡ at_rest i
-    is = λ j. record {
-      dims = (commit.dims ∙ sym seen.dims) j;
-      leaf = (commit.leaf ∙ sym seen.leaf) j;
-      next = (commit.next ∙ sym seen.next) j;
-      given = (commit.given ∙ sym seen.given) j;
-      docs = i.docs;
-      snapshots = [];
-      begun = false;
-    }
 
 -- ---- answers
 
@@ -349,7 +91,8 @@ if_ok_both (Err e) P Q R more p q = tt
 
 -- ---- the set alone
 
-pub well_saved : (D : ℕ) (told : Type 0) (before after : Files) (s t : SetData) → IsWell D s → KeepsNamed told s.names t.names before after → StaysButSaved s t → IsWell D t
+pub well_saved : (D : ℕ) (told : Type 0) (before after : Files) (s t : SetData) → IsWell D s → KeepsNamed told s.names t.names before after → StaysButSaved s t
+    → IsWell D t
 well_saved D told before after s t well keeps alone = subst (IsWell D) (sym is) (well_names D told before after s t.names t.saved well keeps)
   where
     is : t ≡ record s { names = t.names; saved = t.saved }
@@ -379,10 +122,12 @@ but_saved s v same names saved = record {
 }
 
 -- what is seen stays where only names join, files are written under them, and a commit is kept
-pub sees_saved : (D : ℕ) (told : Type 0) (before after : Files) (s t : SetData) (i : Index) → told → IsWell D s → KeepsNamed told s.names t.names before after → StaysButSaved s t → Sees D before s i → Sees D after t i
+pub sees_saved : (D : ℕ) (told : Type 0) (before after : Files) (s t : SetData) (i : Index) → told → IsWell D s → KeepsNamed told s.names t.names before after
+    → StaysButSaved s t → Sees D before s i → Sees D after t i
 sees_saved D told before after s t i to well keeps alone seen =
     let there = sees_alike D before after s i well told to t.names keeps seen in
-    sees_like D after s t i (record { leaf = alone.leaf; next = alone.next; given = alone.given; snapshots = alone.snapshots }) alone.parts alone.buffer alone.begun
+    sees_like D after s t i (record { leaf = alone.leaf; next = alone.next; given = alone.given; snapshots = alone.snapshots }) alone.parts alone.buffer
+    alone.begun
     (subst (Agrees after) (sym alone.cache) there.stands.agrees) there
 
 pub stays_saved : (s t : SetData) → StaysButSaved s t → StaysAlone s t
@@ -397,31 +142,40 @@ stays_saved s t alone = record {
 }
 
 -- the segments are the same, so those whose files weren't named before are canonical still
-pub canon_saved : (D : ℕ) (told : Type 0) (first : NameList) (before after : Files) (s t : SetData) → told → IsWell D s → KeepsNamed told s.names t.names before after → ((m : FileName) → is_named first.names m ≡ true → is_named s.names.names m ≡ true)
+pub canon_saved : (D : ℕ) (told : Type 0) (first : NameList) (before after : Files) (s t : SetData) → told → IsWell D s
+    → KeepsNamed told s.names t.names before after → ((m : FileName) → is_named first.names m ≡ true → is_named s.names.names m ≡ true)
     → StaysButSaved s t → AreCanonical D before first s.parts → AreCanonical D after first t.parts
 canon_saved D told first before after s t to well keeps more alone canon =
     subst (AreCanonical D after first) (sym alone.parts)
-    (canon_then D told first s.names t.names before after s.parts s.parts to keeps more well.named canon (follows_none s.names s.parts) (canon_named D after s.names s.parts well.named))
+    (canon_then D told first s.names t.names before after s.parts s.parts to keeps more well.named canon (follows_none s.names s.parts)
+    (canon_named D after s.names s.parts well.named))
 
-pub all_fresh : (told : Type 0) (first before after : NameList) (files : Files) (listed : List Listed) (parts : List Part) → ((m : FileName) → is_named first.names m ≡ true → is_named before.names m ≡ true)
+pub all_fresh : (told : Type 0) (first before after : NameList) (files : Files) (listed : List Listed) (parts : List Part)
+    → ((m : FileName) → is_named first.names m ≡ true → is_named before.names m ≡ true)
     → AllZip (IsSaved told before after files) listed parts → All (λ (l : Listed). is_named first.names (Live l.segment l.generation) ≡ false) listed
 all_fresh told first before after files listed parts more all =
     zip_left (IsSaved told before after files) (λ (l : Listed). is_named first.names (Live l.segment l.generation) ≡ false) listed parts
     (λ l p saved. unnamed_before first.names before.names (Live l.segment l.generation) (more (Live l.segment l.generation)) saved.fresh) all
 
-pub all_next : (told : Type 0) (before after : NameList) (files : Files) (listed : List Listed) (parts : List Part) → AllZip (IsSaved told before after files) listed parts → All (HasNextGeneration before) listed
-all_next told before after files listed parts all = zip_left (IsSaved told before after files) (HasNextGeneration before) listed parts (λ l p saved. saved.rule) all
+pub all_next : (told : Type 0) (before after : NameList) (files : Files) (listed : List Listed) (parts : List Part)
+    → AllZip (IsSaved told before after files) listed parts → All (HasNextGeneration before) listed
+all_next told before after files listed parts all =
+    zip_left (IsSaved told before after files) (HasNextGeneration before) listed parts (λ l p saved. saved.rule) all
 
-pub all_written : (told : Type 0) (before after : NameList) (files : Files) (listed : List Listed) (parts others : List Part) → told → others ≡ parts → AllZip (IsSaved told before after files) listed parts
+pub all_written : (told : Type 0) (before after : NameList) (files : Files) (listed : List Listed) (parts others : List Part) → told → others ≡ parts
+    → AllZip (IsSaved told before after files) listed parts
     → AllZip (λ (l : Listed) (p : Part). IsLiveFile l.segment l.generation (bytes_of (files (Live l.segment l.generation))) p.live) listed others
 all_written told before after files listed parts others t same all =
     subst (AllZip (λ (l : Listed) (p : Part). IsLiveFile l.segment l.generation (bytes_of (files (Live l.segment l.generation))) p.live) listed) (sym same)
-    (zip_moved (IsSaved told before after files) (λ (l : Listed) (p : Part). IsLiveFile l.segment l.generation (bytes_of (files (Live l.segment l.generation))) p.live) listed parts (λ l p there saved. saved.written t) all)
+    (zip_moved (IsSaved told before after files)
+    (λ (l : Listed) (p : Part). IsLiveFile l.segment l.generation (bytes_of (files (Live l.segment l.generation))) p.live) listed parts
+    (λ l p there saved. saved.written t) all)
 
 -- ---- what an error says
 
 -- a fault of a write, where a call may meet damage too
-pub seg_cause : {T U : Type 0} (before now : ℕ) (f : StoreFault) → HasStoreCause {T = U} before now (Err f) → HasPageCause {T = T} before now (Err (page_fault f))
+pub seg_cause : {T U : Type 0} (before now : ℕ) (f : StoreFault) → HasStoreCause {T = U} before now (Err f)
+    → HasPageCause {T = T} before now (Err (page_fault f))
 seg_cause before now store.Failed cause = record { later = cause.later; fine = tt; failed = λ e. cause.failed refl }
 seg_cause before now store.Memory cause = record { later = cause.later; fine = tt; failed = λ e. absurd cc }
 

@@ -21,17 +21,20 @@ pub before_same : (s t : SetData) → t ≡ s → IsAsBefore s t
 before_same s t same = subst (λ (u : SetData). IsAsBefore u t) same (before_itself t)
 
 -- after a refusal the set is told by its fields
-pub before_moved : (s was : SetData) → was ≡ s → (names : NameList) (parts : List Part) (buffer : List Item) (cache : PageCache) → parts ≡ was.parts → buffer ≡ was.buffer
+pub before_moved : (s was : SetData) → was ≡ s → (names : NameList) (parts : List Part) (buffer : List Item) (cache : PageCache) → parts ≡ was.parts
+    → buffer ≡ was.buffer
     → IsAsBefore s (moved was names parts buffer was.begun cache)
 before_moved s was view names parts buffer cache p b =
     subst (λ (u : SetData). IsAsBefore u (moved was names parts buffer was.begun cache)) view (record { is = λ i. moved was names (p i) (b i) was.begun cache })
 
-pub but_parts : (s was : SetData) → was ≡ s → (names : NameList) (parts : List Part) (cache : PageCache) → StaysButParts s (moved was names parts was.buffer was.begun cache)
+pub but_parts : (s was : SetData) → was ≡ s → (names : NameList) (parts : List Part) (cache : PageCache)
+    → StaysButParts s (moved was names parts was.buffer was.begun cache)
 but_parts s was view names parts cache = subst (λ (u : SetData). StaysButParts u (moved was names parts was.buffer was.begun cache)) view (record { is = refl })
 
 -- ---- merges
 
-choices_one : (D : ℕ) (told : Type 0) (old : Moment) (spots : List Moment) (mid new : Moment) → MergesChoices D told old spots mid → MergesChoice D told mid new → MergesChoices D told old (spots ++ new ∷ []) new
+choices_one : (D : ℕ) (told : Type 0) (old : Moment) (spots : List Moment) (mid new : Moment) → MergesChoices D told old spots mid → MergesChoice D told mid new
+    → MergesChoices D told old (spots ++ new ∷ []) new
 choices_one D told old [] mid new done one = (subst (λ (s : Moment). MergesChoice D told s new) done one, refl)
 choices_one D told old (s ∷ spots) mid new done one = (done.0, choices_one D told s spots mid new done.1 one)
 
@@ -43,13 +46,16 @@ settles_one D told old mid new done one = record { spots = done.spots ++ new ∷
 
 -- a merge of the segments that were chosen
 pub merges_chosen : (D : ℕ) (told : Type 0) (old new : Moment) (ids these : List ℕ) → these ≡ ids
-    → (positions : List ℕ) × IsChoice (sizes_of old.set.parts) (pins_of old.set.begun old.set.parts) positions × (ids ≡ map (λ i. get_or (ids_of old.set.parts) i 0) positions)
-    → IsMerged D told old.set.leaf old.set.names new.set.names old.files new.files old.set.cache these old.set.parts new.set.parts → StaysButParts old.set new.set → MergesChoice D told old new
+    → (positions : List ℕ) × IsChoice (sizes_of old.set.parts) (pins_of old.set.begun old.set.parts) positions
+    × (ids ≡ map (λ i. get_or (ids_of old.set.parts) i 0) positions)
+    → IsMerged D told old.set.leaf old.set.names new.set.names old.files new.files old.set.cache these old.set.parts new.set.parts
+    → StaysButParts old.set new.set → MergesChoice D told old new
 merges_chosen D told old new ids these same chosen merged alone = record {
   positions = chosen.0;
   choice = chosen.1;
   merges = record {
-    merged = subst (λ (ns : List ℕ). IsMerged D told old.set.leaf old.set.names new.set.names old.files new.files old.set.cache ns old.set.parts new.set.parts) (same ∙ chosen.2) merged;
+    merged = subst (λ (ns : List ℕ). IsMerged D told old.set.leaf old.set.names new.set.names old.files new.files old.set.cache ns old.set.parts new.set.parts)
+        (same ∙ chosen.2) merged;
     alone = alone;
   };
 }
@@ -67,7 +73,8 @@ left_settled D told old t left = (left.0, flushes_settled D told old left.0 left
 
 -- what waited went to a segment, where the set is told by its fields
 pub spills_moved : (D : ℕ) (told : Type 0) (files new_files : Files) (s was : SetData) → was ≡ s → (names : NameList) (parts : List Part) (buffer : List Item)
-    → IsSpilled D told was.leaf was.names names new_files was.buffer was.parts parts → buffer ≡ [] → WritesBuffer D told (moment files s) (moment new_files (moved was names parts buffer was.begun was.cache))
+    → IsSpilled D told was.leaf was.names names new_files was.buffer was.parts parts → buffer ≡ []
+    → WritesBuffer D told (moment files s) (moment new_files (moved was names parts buffer was.begun was.cache))
 spills_moved D told files new_files s was view names parts buffer spilled none =
     subst (λ (u : SetData). WritesBuffer D told (moment files u) (moment new_files (moved was names parts buffer was.begun was.cache))) view
     (record { spilled = spilled; alone = λ i. moved was names parts (none i) was.begun was.cache })

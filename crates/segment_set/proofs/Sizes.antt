@@ -26,7 +26,13 @@ entry_fits (suc (suc (suc (suc (suc (suc (suc zero))))))) h = lit< tt
 entry_fits (suc (suc (suc (suc (suc (suc (suc (suc zero)))))))) h = lit< tt
 entry_fits (suc (suc (suc (suc (suc (suc (suc (suc (suc n))))))))) h = absurd (omega (arith, h))
 
-pub set_fits : (n : ℕ) → n ≤ 8 → up 8 (up 8 (up 8 (144 + up 8 (max 1 (max (8 + up 8 (24 + up 8 (max 1 (max (8 + up 8 (up 8 (up 4 (up 2 (0 + up 8 (up 8 (0 + up 8 (up 8 (12 + up 4 (up 4 (0 + up 4 (0 + n * 4)) + up 4 (0 + n * 4))) + 24)) + 24)) + 2) + 4) + 40)) 1)))) 1))) + 168) + 56) < 2 ^ 63
+pub set_fits : (n : ℕ) → n ≤ 8
+    → up 8 (up 8 (up 8
+    (144 + up 8 (max 1
+    (max (8 + up 8
+    (24 + up 8 (max 1
+    (max (8 + up 8 (up 8 (up 4 (up 2 (0 + up 8 (up 8 (0 + up 8 (up 8 (12 + up 4 (up 4 (0 + up 4 (0 + n * 4)) + up 4 (0 + n * 4))) + 24)) + 24)) + 2) + 4) + 40))
+    1)))) 1))) + 168) + 56) < 2 ^ 63
 set_fits zero h = lit< tt
 set_fits (suc zero) h = lit< tt
 set_fits (suc (suc zero)) h = lit< tt

@@ -32,7 +32,8 @@ sees_snapped D files s i name seen = record {
   contents = seen.contents;
   stands = record {
     now = seen.stands.now;
-    kept = All-push (λ (v : NamedView). AreRead D files seen.contents v.parts) s.snapshots (record { name = name; parts = s.parts; buffer = s.buffer }) seen.stands.kept seen.stands.now;
+    kept = All-push (λ (v : NamedView). AreRead D files seen.contents v.parts) s.snapshots (record { name = name; parts = s.parts; buffer = s.buffer })
+        seen.stands.kept seen.stands.now;
     begun = seen.stands.begun;
     agrees = seen.stands.agrees;
   };
@@ -43,7 +44,8 @@ sees_snapped D files s i name seen = record {
   begun = seen.begun;
   docs = seen.docs;
   few = seen.few;
-  snapshots = zip_push (ShowsSnapshot seen.contents s.next) s.snapshots i.snapshots (record { name = name; parts = s.parts; buffer = s.buffer }) (record { name = name; docs = i.docs }) seen.snapshots
+  snapshots = zip_push (ShowsSnapshot seen.contents s.next) s.snapshots i.snapshots (record { name = name; parts = s.parts; buffer = s.buffer })
+      (record { name = name; docs = i.docs }) seen.snapshots
       (record { name = refl; docs = seen.docs });
 }
 
@@ -64,7 +66,8 @@ well_snapped D s name few well = record {
   leaf_size = well.leaf_size;
   live_fits = well.live_fits;
   named = well.named;
-  kept = All-push (λ (v : NamedView). All (IsNamed s.names) v.parts) s.snapshots (record { name = name; parts = s.parts; buffer = s.buffer }) well.kept well.named;
+  kept =
+      All-push (λ (v : NamedView). All (IsNamed s.names) v.parts) s.snapshots (record { name = name; parts = s.parts; buffer = s.buffer }) well.kept well.named;
   own = well.own;
   few_snapshots = omega (arith, few, length_push s.snapshots (record { name = name; parts = s.parts; buffer = s.buffer }));
   rooms = All-push (λ (v : NamedView). length v.buffer ≤ 16384) s.snapshots (record { name = name; parts = s.parts; buffer = s.buffer }) well.rooms well.room;
@@ -90,10 +93,12 @@ released : (c : Contents) (next : ℕ) (name : List ℕ) (views : List NamedView
 released c next name [] [] shown = tt
 released c next name [] (t ∷ ts) shown = absurd shown
 released c next name (v ∷ vs) [] shown = absurd shown
-released c next name (v ∷ vs) (t ∷ ts) shown = by (is_other name v) (is_other_shown name t) (ap (λ n. not (bytes_eq n name)) shown.0.name) (released c next name vs ts shown.1)
+released c next name (v ∷ vs) (t ∷ ts) shown =
+    by (is_other name v) (is_other_shown name t) (ap (λ n. not (bytes_eq n name)) shown.0.name) (released c next name vs ts shown.1)
   where
     by : (a b : Bool) → a ≡ b → AllZip (ShowsSnapshot c next) (filter (is_other name) vs) (filter (is_other_shown name) ts)
-        → AllZip (ShowsSnapshot c next) (cond a (v ∷ filter (is_other name) vs) (filter (is_other name) vs)) (cond b (t ∷ filter (is_other_shown name) ts) (filter (is_other_shown name) ts))
+        → AllZip (ShowsSnapshot c next) (cond a (v ∷ filter (is_other name) vs) (filter (is_other name) vs))
+        (cond b (t ∷ filter (is_other_shown name) ts) (filter (is_other_shown name) ts))
     by true true e rest = (shown.0, rest)
     by true false e rest = absurd cc
     by false true e rest = absurd cc
@@ -202,14 +207,16 @@ well_rested D s well = record {
 
 -- ---- the set from its fields
 
-pub snapped_is : (s : SetData) (name : List ℕ) (before now : List NamedView) (parts : List Part) (buffer : List Item) → before ≡ s.snapshots → parts ≡ s.parts → buffer ≡ s.buffer
+pub snapped_is : (s : SetData) (name : List ℕ) (before now : List NamedView) (parts : List Part) (buffer : List Item) → before ≡ s.snapshots → parts ≡ s.parts
+    → buffer ≡ s.buffer
     → now ≡ before ++ record { name = name; parts = parts; buffer = buffer } ∷ [] → record s { snapshots = now } ≡ set_snapped name s
 snapped_is s name before now parts buffer b p x is = λ i. record s { snapshots = whole i }
   where
     whole : now ≡ s.snapshots ++ record { name = name; parts = s.parts; buffer = s.buffer } ∷ []
     whole = is ∙ (λ i. b i ++ record { name = name; parts = p i; buffer = x i } ∷ [])
 
-pub released_is : (s : SetData) (name : List ℕ) (now : List NamedView) → now ≡ filter (λ (v : NamedView). not (bytes_eq v.name name)) s.snapshots → record s { snapshots = now } ≡ set_released name s
+pub released_is : (s : SetData) (name : List ℕ) (now : List NamedView) → now ≡ filter (λ (v : NamedView). not (bytes_eq v.name name)) s.snapshots
+    → record s { snapshots = now } ≡ set_released name s
 released_is s name now is = λ i. record s { snapshots = is i }
 
 pub rested_is : (s : SetData) (now : List NamedView) → now ≡ [] → record s { snapshots = now; begun = None } ≡ set_rested s

@@ -27,7 +27,8 @@ use Rattle.segment_set.proofs.Moved.{moved}
 
 -- ---- what is read
 
-among_totals : (c : Contents) (ids : List ℕ) (parts : List Part) (buffer : List Item) → SameTotals (live_in_parts c parts ++ buffer) (live_in_parts c (parts_among ids parts) ++ (live_in_parts c (parts_but ids parts) ++ buffer))
+among_totals : (c : Contents) (ids : List ℕ) (parts : List Part) (buffer : List Item)
+    → SameTotals (live_in_parts c parts ++ buffer) (live_in_parts c (parts_among ids parts) ++ (live_in_parts c (parts_but ids parts) ++ buffer))
 among_totals c ids parts buffer f =
     omega (
       arith,
@@ -39,29 +40,39 @@ among_totals c ids parts buffer f =
     )
 
 -- the live entries of some segments are those of documents
-pub merge_docs : (D : ℕ) (files : Files) (s : SetData) (i : Index) (h : Sees D files s i) (ids : List ℕ) → MakeDocs s.next (live_in_parts h.contents (parts_among ids s.parts))
+pub merge_docs : (D : ℕ) (files : Files) (s : SetData) (i : Index) (h : Sees D files s i) (ids : List ℕ)
+    → MakeDocs s.next (live_in_parts h.contents (parts_among ids s.parts))
 merge_docs D files s i h ids =
-    some_docs s.next (entries_seen h.contents s.parts s.buffer) (live_in_parts h.contents (parts_among ids s.parts)) (live_in_parts h.contents (parts_but ids s.parts) ++ s.buffer) i.docs h.docs
+    some_docs s.next (entries_seen h.contents s.parts s.buffer) (live_in_parts h.contents (parts_among ids s.parts))
+    (live_in_parts h.contents (parts_but ids s.parts) ++ s.buffer) i.docs h.docs
     (among_totals h.contents ids s.parts s.buffer)
 
 -- and no more than the points given
-pub merge_few : (D : ℕ) (files : Files) (s : SetData) (i : Index) (h : Sees D files s i) (ids : List ℕ) → length (live_in_parts h.contents (parts_among ids s.parts)) ≤ s.given
+pub merge_few : (D : ℕ) (files : Files) (s : SetData) (i : Index) (h : Sees D files s i) (ids : List ℕ)
+    → length (live_in_parts h.contents (parts_among ids s.parts)) ≤ s.given
 merge_few D files s i h ids =
     let some = live_in_parts h.contents (parts_among ids s.parts) in
     let rest = live_in_parts h.contents (parts_but ids s.parts) ++ s.buffer in
-    omega (arith, h.few, totals_length (entries_seen h.contents s.parts s.buffer) (some ++ rest) (among_totals h.contents ids s.parts s.buffer), length-append some rest)
+    omega (
+      arith,
+      h.few,
+      totals_length (entries_seen h.contents s.parts s.buffer) (some ++ rest) (among_totals h.contents ids s.parts s.buffer),
+      length-append some rest,
+    )
 
 -- ---- the inputs of a merge that is begun
 
 pub places_within : (which : List ℕ) (count : ℕ) → All (λ i. i < count) (take 64 (filter (λ i. ltb i count) (each_once which)))
 places_within which count =
     All-take (λ i. i < count) 64 (filter (λ i. ltb i count) (each_once which))
-    (All-weaker (λ i. ltb i count ≡ true) (λ i. i < count) (λ i h. ltb-true i count h) (filter (λ i. ltb i count) (each_once which)) (filter_passes (λ i. ltb i count) (each_once which)))
+    (All-weaker (λ i. ltb i count ≡ true) (λ i. i < count) (λ i h. ltb-true i count h) (filter (λ i. ltb i count) (each_once which))
+    (filter_passes (λ i. ltb i count) (each_once which)))
 
 pub chosen_there : (which ids : List ℕ) → All (λ id. is_among ids id ≡ true) (chosen_ids which ids)
 chosen_there which ids =
     All-map (λ id. is_among ids id ≡ true) (λ i. get_or ids i 0) (take 64 (filter (λ i. ltb i (length ids)) (each_once which)))
-    (All-weaker (λ i. i < length ids) (λ i. is_among ids (get_or ids i 0) ≡ true) (λ i lt. among_from ids (get_or ids i 0) (Contains-get_or ids i 0 lt)) (take 64 (filter (λ i. ltb i (length ids)) (each_once which))) (places_within which (length ids)))
+    (All-weaker (λ i. i < length ids) (λ i. is_among ids (get_or ids i 0) ≡ true) (λ i lt. among_from ids (get_or ids i 0) (Contains-get_or ids i 0 lt))
+    (take 64 (filter (λ i. ltb i (length ids)) (each_once which))) (places_within which (length ids)))
 
 pub chosen_few : (which ids : List ℕ) → length (chosen_ids which ids) ≤ 64
 chosen_few which ids =
@@ -70,7 +81,8 @@ chosen_few which ids =
 
 -- ---- a merge that is begun
 
-pub begun_well : (D : ℕ) {s : SetData} (well : IsWell D s) (b : BegunMerge) (cache : PageCache) → All (λ id. is_among (ids_of s.parts) id ≡ true) b.inputs → length b.inputs ≤ 64
+pub begun_well : (D : ℕ) {s : SetData} (well : IsWell D s) (b : BegunMerge) (cache : PageCache) → All (λ id. is_among (ids_of s.parts) id ≡ true) b.inputs
+    → length b.inputs ≤ 64
     → ((n : NewSegmentData) → b.built ≡ Some n → IsGathered D s.leaf (parts_among b.inputs s.parts) n)
     → ((id : ℕ) → KeepsFile cache id → is_named s.names.names (Segment id) ≡ true) → IsWell D (moved s s.names s.parts s.buffer (Some b) cache)
 begun_well D {s} well b cache inputs few gathered cached = record {
@@ -104,7 +116,8 @@ pub gathered_merges : (D : ℕ) (c : Contents) (inputs : List Part) (o : Option 
 gathered_merges D c inputs None h = h
 gathered_merges D c inputs (Some n) h = record { items = h.items; has = h.has; found = h.found; same = h.same }
 
-pub begun_seen : (D : ℕ) (files : Files) (s : SetData) (i : Index) (h : Sees D files s i) (b : BegunMerge) (cache : PageCache) → MergesInto D h.contents (parts_among b.inputs s.parts) b.built → Agrees files cache
+pub begun_seen : (D : ℕ) (files : Files) (s : SetData) (i : Index) (h : Sees D files s i) (b : BegunMerge) (cache : PageCache)
+    → MergesInto D h.contents (parts_among b.inputs s.parts) b.built → Agrees files cache
     → Sees D files (moved s s.names s.parts s.buffer (Some b) cache) (record i { begun = true })
 begun_seen D files s i h b cache merges agrees = record {
   contents = h.contents;
@@ -120,7 +133,8 @@ begun_seen D files s i h b cache merges agrees = record {
 }
 
 -- the ids at the first places are the inputs
-pub chosen_is : (which places inputs : List ℕ) (parts : List Part) → places ≡ take 64 (filter (λ i. ltb i (length parts)) (each_once which)) → inputs ≡ map (λ i. get_or (ids_of parts) i 0) places
+pub chosen_is : (which places inputs : List ℕ) (parts : List Part) → places ≡ take 64 (filter (λ i. ltb i (length parts)) (each_once which))
+    → inputs ≡ map (λ i. get_or (ids_of parts) i 0) places
     → inputs ≡ chosen_ids which (ids_of parts)
 chosen_is which places inputs parts are at =
     at

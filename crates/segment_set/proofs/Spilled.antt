@@ -33,7 +33,8 @@ few_none number = omega arith
 pub some_is : {X : Type 0} (x y : X) → Some x ≡ Some y → x ≡ y
 some_is x y h = cc
 
-module _ (D : ℕ) (told : Type 0) (files new_files : Files) {s : SetData} (names : NameList) (parts : List Part) (kept : KeepsNamed told s.names names files new_files)
+module _ (D : ℕ) (told : Type 0) (files new_files : Files) {s : SetData} (names : NameList) (parts : List Part)
+    (kept : KeepsNamed told s.names names files new_files)
     (sp : IsSpilled D told s.leaf s.names names new_files s.buffer s.parts parts) (well : IsWell D s) where
   spill_moves : Moves D told files new_files s names [] parts []
   spill_moves = record {
@@ -51,9 +52,11 @@ module _ (D : ℕ) (told : Type 0) (files new_files : Files) {s : SetData} (name
 
   pub spill_well : length s.parts < 200 → IsWell D (moved s names parts [] s.begun s.cache)
   spill_well few =
-      let stay : parts_among (inputs_of s.begun) parts ≡ parts_among (inputs_of s.begun) s.parts = inputs_stay D told files new_files s names [] parts [] spill_moves well apart_none in
+      let stay : parts_among (inputs_of s.begun) parts ≡ parts_among (inputs_of s.begun) s.parts =
+      inputs_stay D told files new_files s names [] parts [] spill_moves well apart_none in
       well_moved D told files new_files s names [] parts [] spill_moves well s.begun s.cache
-      (omega (arith, few, length_replaced D told s.names names new_files [] s.parts parts (Some sp.n) sp.put)) (omega arith) (λ i j d le lt. absurd (omega (arith, lt))) none_twice_none few_none
+      (omega (arith, few, length_replaced D told s.names names new_files [] s.parts parts (Some sp.n) sp.put)) (omega arith)
+      (λ i j d le lt. absurd (omega (arith, lt))) none_twice_none few_none
       (ids_stay (inputs_of s.begun) s.parts parts stay well.inputs) well.few_inputs
       (λ n is. subst (λ (ps : List Part). IsBuiltOf D s.leaf ps n) (sym stay) (well.built n is)) well.cached
 
@@ -76,16 +79,19 @@ module _ (D : ℕ) (told : Type 0) (files new_files : Files) {s : SetData} (name
     where
       same : SameTotals (live_in_parts h.contents (parts_among [] s.parts) ++ s.buffer) (s.buffer ++ [])
       same f =
-          let none : sum_by f (live_in_parts h.contents (parts_among [] s.parts)) ≡ 0 = ap (λ (ps : List Part). sum_by f (live_in_parts h.contents ps)) (none_among s.parts) in
+          let none : sum_by f (live_in_parts h.contents (parts_among [] s.parts)) ≡ 0 =
+          ap (λ (ps : List Part). sum_by f (live_in_parts h.contents ps)) (none_among s.parts) in
           omega (arith, none, sum_by-append f (live_in_parts h.contents (parts_among [] s.parts)) s.buffer, ap (sum_by f) (append-nil s.buffer))
 
 -- nothing was written but perhaps a file under a new name, and the set is as it was
-pub refused_after : (D : ℕ) (told : Type 0) (files new_files : Files) {s : SetData} (well : IsWell D s) (names : NameList) → KeepsNamed told s.names names files new_files
+pub refused_after : (D : ℕ) (told : Type 0) (files new_files : Files) {s : SetData} (well : IsWell D s) (names : NameList)
+    → KeepsNamed told s.names names files new_files
     → IsAfter D told files new_files s (moved s names s.parts s.buffer s.begun s.cache)
 refused_after D told files new_files {s} well names kept =
     merge_after D told files new_files well names [] s.parts s.cache kept (λ id h. cc) (λ t agrees. agrees) (λ id h. inl h) {T = ℕ} {E = ℕ} (Err 0) tt refl
 
-pub spill_after : (D : ℕ) (told : Type 0) (files new_files : Files) {s : SetData} (well : IsWell D s) (names : NameList) (parts : List Part) (left : List Item) → length s.parts < 200
+pub spill_after : (D : ℕ) (told : Type 0) (files new_files : Files) {s : SetData} (well : IsWell D s) (names : NameList) (parts : List Part) (left : List Item)
+    → length s.parts < 200
     → KeepsNamed told s.names names files new_files → {T E : Type 0} (r : Result T E)
     → OnOk r (IsSpilled D told s.leaf s.names names new_files s.buffer s.parts parts × (left ≡ [])) → OnErr r ((parts ≡ s.parts) × (left ≡ s.buffer))
     → IsAfter D told files new_files s (moved s names parts left s.begun s.cache)
@@ -99,5 +105,6 @@ spill_after D told files new_files {s} well names parts left few kept r spilled 
   })
   | inr same ↦
       subst (λ (es : List Item). IsAfter D told files new_files s (moved s names parts es s.begun s.cache)) (sym same.1)
-      (subst (λ (ps : List Part). IsAfter D told files new_files s (moved s names ps s.buffer s.begun s.cache)) (sym same.0) (refused_after D told files new_files well names kept))
+      (subst (λ (ps : List Part). IsAfter D told files new_files s (moved s names ps s.buffer s.begun s.cache)) (sym same.0)
+      (refused_after D told files new_files well names kept))
 ]

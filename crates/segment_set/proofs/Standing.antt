@@ -1,5 +1,6 @@
 -- A set stands over files, and is seen as an index, as long as what it has of them stays.
-use Rattle.std.proofs.Common.{◌≡◌, ℕ, ◌+◌, ◌≤◌, Bool, true, eqb, cond, List, [], ◌∷◌, ◌++◌, length, Option, Some, None, is_some, refl, sym, ap, subst, ◌∙◌, arith}
+use Rattle.std.proofs.Common.{◌≡◌, ℕ, ◌+◌, ◌≤◌, Bool, true, eqb, cond, List, [], ◌∷◌, ◌++◌, length}
+use Rattle.std.proofs.Common.{Option, Some, None, is_some, refl, sym, ap, subst, ◌∙◌, arith}
 use Rattle.std.specs.List.{All, AllZip, Contains, filter, sum_by}
 use Rattle.std.proofs.lemmas.List.Elements.{All-contains, All-filter, All-head, All-tail}
 use Rattle.std.proofs.lemmas.List.Sums.{sum_by-append, sum_by-cons}
@@ -37,7 +38,8 @@ pub totals_then : (xs ys zs : List Item) → SameTotals xs ys → SameTotals ys 
 totals_then xs ys zs first second f = second f ∙ first f
 
 pub totals_append : (xs ys us vs : List Item) → SameTotals xs us → SameTotals ys vs → SameTotals (xs ++ ys) (us ++ vs)
-totals_append xs ys us vs first second f = sum_by-append f us vs ∙ ap (λ n. n + sum_by f vs) (first f) ∙ ap (λ n. sum_by f xs + n) (second f) ∙ sym (sum_by-append f xs ys)
+totals_append xs ys us vs first second f =
+    sum_by-append f us vs ∙ ap (λ n. n + sum_by f vs) (first f) ∙ ap (λ n. sum_by f xs + n) (second f) ∙ sym (sum_by-append f xs ys)
 
 pub totals_length : (xs ys : List Item) → SameTotals xs ys → length ys ≡ length xs
 totals_length xs ys same = sym (counts ys) ∙ same (λ _. 1) ∙ counts xs
@@ -49,7 +51,8 @@ totals_length xs ys same = sym (counts ys) ∙ same (λ _. 1) ∙ counts xs
 -- ---- the files of the segments
 
 -- the list has the names of the segments' files
-pub ids_named : (names : NameList) (parts : List Part) → All (IsNamed names) parts → (id : ℕ) → Contains (ids_of parts) id → is_named names.names (Segment id) ≡ true
+pub ids_named : (names : NameList) (parts : List Part) → All (IsNamed names) parts → (id : ℕ) → Contains (ids_of parts) id
+    → is_named names.names (Segment id) ≡ true
 ids_named names parts all id there =
     let r = of_map (λ (p : Part). p.head.id) parts id there in
     subst (λ n. is_named names.names (Segment n) ≡ true) r.2 (All-contains (IsNamed names) parts r.0 all r.1)
@@ -59,18 +62,22 @@ pub record IsAlike (names : NameList) (old new : Files) (c d : Contents) : Type 
   pub files : (id : ℕ) → is_named names.names (Segment id) ≡ true → new (Segment id) ≡ old (Segment id)
   pub entries : (id : ℕ) → is_named names.names (Segment id) ≡ true → d id ≡ c id
 
-pub alike_kept : (told : Type 0) (names more : NameList) (old new : Files) (c : Contents) → told → KeepsNamed told names more old new → IsAlike names old new c c
+pub alike_kept : (told : Type 0) (names more : NameList) (old new : Files) (c : Contents) → told → KeepsNamed told names more old new
+    → IsAlike names old new c c
 alike_kept told names more old new c t keeps = record { files = λ id named. keeps.files t (Segment id) named; entries = λ id named. refl }
 
 -- the entries of one more segment, of another id
 abbrev pub with_entries : Contents → ℕ → List Item → Contents
 with_entries c id items = λ n. cond (eqb n id) items (c n)
 
-pub alike_read : (D : ℕ) (names : NameList) (old new : Files) (c d : Contents) (parts : List Part) → IsAlike names old new c d → All (IsNamed names) parts → AreRead D old c parts → AreRead D new d parts
+pub alike_read : (D : ℕ) (names : NameList) (old new : Files) (c d : Contents) (parts : List Part) → IsAlike names old new c d → All (IsNamed names) parts
+    → AreRead D old c parts → AreRead D new d parts
 alike_read D names old new c d parts same named read =
-    read_alike D old new c d parts (λ id there. same.files id (ids_named names parts named id there)) (λ id there. same.entries id (ids_named names parts named id there)) read
+    read_alike D old new c d parts (λ id there. same.files id (ids_named names parts named id there))
+    (λ id there. same.entries id (ids_named names parts named id there)) read
 
-pub alike_live : (names : NameList) (old new : Files) (c d : Contents) (parts : List Part) → IsAlike names old new c d → All (IsNamed names) parts → live_in_parts d parts ≡ live_in_parts c parts
+pub alike_live : (names : NameList) (old new : Files) (c d : Contents) (parts : List Part) → IsAlike names old new c d → All (IsNamed names) parts
+    → live_in_parts d parts ≡ live_in_parts c parts
 alike_live names old new c d parts same named = live_alike c d parts (λ id there. same.entries id (ids_named names parts named id there))
 
 pub named_among : (names : NameList) (keep : Part → Bool) (parts : List Part) → All (IsNamed names) parts → All (IsNamed names) (filter keep parts)
@@ -90,13 +97,15 @@ alike_shown names old new c d next (v ∷ vs) [] same named shown = absurd shown
 alike_shown names old new c d next (v ∷ vs) (t ∷ ts) same named shown = (
   record {
     name = shown.0.name;
-    docs = subst (λ (xs : List Item). AreDocs next (xs ++ v.buffer) t.docs) (sym (alike_live names old new c d v.parts same (All-head (λ w. All (IsNamed names) w.parts) v vs named))) shown.0.docs;
+    docs = subst (λ (xs : List Item). AreDocs next (xs ++ v.buffer) t.docs)
+        (sym (alike_live names old new c d v.parts same (All-head (λ w. All (IsNamed names) w.parts) v vs named))) shown.0.docs;
   },
   alike_shown names old new c d next vs ts same (All-tail (λ w. All (IsNamed names) w.parts) v vs named) shown.1,
 )
 
 -- how many numbers beyond the documents' are given doesn't matter
-pub shown_later : (c : Contents) (m n : ℕ) (views : List NamedView) (ts : List Snapshot) → m ≤ n → AllZip (ShowsSnapshot c m) views ts → AllZip (ShowsSnapshot c n) views ts
+pub shown_later : (c : Contents) (m n : ℕ) (views : List NamedView) (ts : List Snapshot) → m ≤ n → AllZip (ShowsSnapshot c m) views ts
+    → AllZip (ShowsSnapshot c n) views ts
 shown_later c m n [] [] le shown = tt
 shown_later c m n [] (t ∷ ts) le shown = absurd shown
 shown_later c m n (v ∷ vs) [] le shown = absurd shown
@@ -105,24 +114,29 @@ shown_later c m n (v ∷ vs) (t ∷ ts) le shown =
 
 -- ---- the set stands
 
-pub alike_merges : (D : ℕ) (names : NameList) (old new : Files) (c d : Contents) (inputs : List Part) (n : Option NewSegmentData) → IsAlike names old new c d → All (IsNamed names) inputs
+pub alike_merges : (D : ℕ) (names : NameList) (old new : Files) (c d : Contents) (inputs : List Part) (n : Option NewSegmentData) → IsAlike names old new c d
+    → All (IsNamed names) inputs
     → MergesInto D c inputs n → MergesInto D d inputs n
 alike_merges D names old new c d inputs None same named none = alike_live names old new c d inputs same named ∙ none
 alike_merges D names old new c d inputs (Some n) same named is = record {
   items = is.items;
   has = is.has;
   found = is.found;
-  same = subst (λ (xs : List Item). SameTotals xs (filter (λ (x : Item). is_live n.live x.doc) is.items)) (sym (alike_live names old new c d inputs same named)) is.same;
+  same = subst (λ (xs : List Item). SameTotals xs (filter (λ (x : Item). is_live n.live x.doc) is.items)) (sym (alike_live names old new c d inputs same named))
+      is.same;
 }
 
-pub alike_begun : (D : ℕ) (names : NameList) (old new : Files) (c d : Contents) (parts : List Part) (begun : Option BegunMerge) → IsAlike names old new c d → All (IsNamed names) parts
+pub alike_begun : (D : ℕ) (names : NameList) (old new : Files) (c d : Contents) (parts : List Part) (begun : Option BegunMerge) → IsAlike names old new c d
+    → All (IsNamed names) parts
     → BegunStands D c parts begun → BegunStands D d parts begun
 alike_begun D names old new c d parts None same named stands = tt
 alike_begun D names old new c d parts (Some b) same named stands =
-    alike_merges D names old new c d (parts_among b.inputs parts) b.built same (named_among names (λ (p : Part). is_among b.inputs p.head.id) parts named) stands
+    alike_merges D names old new c d (parts_among b.inputs parts) b.built same (named_among names (λ (p : Part). is_among b.inputs p.head.id) parts named)
+    stands
 
 -- over other files, which have the same for each named segment
-pub stands_alike : (D : ℕ) (old new : Files) (c d : Contents) (s : SetData) → IsWell D s → IsAlike s.names old new c d → StandsOver D old c s → StandsOver D new d s
+pub stands_alike : (D : ℕ) (old new : Files) (c d : Contents) (s : SetData) → IsWell D s → IsAlike s.names old new c d → StandsOver D old c s
+    → StandsOver D new d s
 stands_alike D old new c d s well same stands = record {
   now = alike_read D s.names old new c d s.parts same well.named stands.now;
   kept = alike_kept_views D s.names old new c d s.snapshots same well.kept stands.kept;
@@ -131,7 +145,8 @@ stands_alike D old new c d s well same stands = record {
 }
 
 -- another set of the same segments
-pub stands_like : (D : ℕ) (files : Files) (c : Contents) (s t : SetData) → t.parts ≡ s.parts → t.snapshots ≡ s.snapshots → t.begun ≡ s.begun → Agrees files t.cache
+pub stands_like : (D : ℕ) (files : Files) (c : Contents) (s t : SetData) → t.parts ≡ s.parts → t.snapshots ≡ s.snapshots → t.begun ≡ s.begun
+    → Agrees files t.cache
     → StandsOver D files c s → StandsOver D files c t
 stands_like D files c s t parts snapshots begun agrees stands = record {
   now = subst (AreRead D files c) (sym parts) stands.now;
@@ -143,7 +158,8 @@ stands_like D files c s t parts snapshots begun agrees stands = record {
 -- ---- the set is seen
 
 -- over other files, which have the same for each named segment
-pub sees_alike : (D : ℕ) (old new : Files) (s : SetData) (i : Index) → IsWell D s → (told : Type 0) → told → (more : NameList) → KeepsNamed told s.names more old new → Sees D old s i → Sees D new s i
+pub sees_alike : (D : ℕ) (old new : Files) (s : SetData) (i : Index) → IsWell D s → (told : Type 0) → told → (more : NameList)
+    → KeepsNamed told s.names more old new → Sees D old s i → Sees D new s i
 sees_alike D old new s i well told t more keeps seen = record {
   contents = seen.contents;
   stands = stands_alike D old new seen.contents seen.contents s well (alike_kept told s.names more old new seen.contents t keeps) seen.stands;
@@ -168,7 +184,8 @@ pub like_itself : (s : SetData) → IsLike s s
 like_itself s = record { leaf = refl; next = refl; given = refl; snapshots = refl }
 
 -- another set over other files, with the same entries in whatever order
-pub sees_moved : (D : ℕ) (old new : Files) (s t : SetData) (i : Index) (d : Contents) (seen : Sees D old s i) → IsWell D s → IsAlike s.names old new seen.contents d
+pub sees_moved : (D : ℕ) (old new : Files) (s t : SetData) (i : Index) (d : Contents) (seen : Sees D old s i) → IsWell D s
+    → IsAlike s.names old new seen.contents d
     → StandsOver D new d t → IsLike s t → SameTotals (entries_seen seen.contents s.parts s.buffer) (entries_seen d t.parts t.buffer)
     → Sees D new t (record i { begun = is_some t.begun })
 sees_moved D old new s t i d seen well same stands like totals = record {
@@ -195,7 +212,8 @@ sees_moved D old new s t i d seen well same stands like totals = record {
 pub sees_same : (D : ℕ) (files : Files) (s : SetData) (i : Index) (b : Bool) → b ≡ i.begun → Sees D files s (record i { begun = b }) → Sees D files s i
 sees_same D files s i b same seen = subst (λ v. Sees D files s (record i { begun = v })) same seen
 
-pub sees_like : (D : ℕ) (files : Files) (s t : SetData) (i : Index) → IsLike s t → t.parts ≡ s.parts → t.buffer ≡ s.buffer → t.begun ≡ s.begun → Agrees files t.cache → Sees D files s i → Sees D files t i
+pub sees_like : (D : ℕ) (files : Files) (s t : SetData) (i : Index) → IsLike s t → t.parts ≡ s.parts → t.buffer ≡ s.buffer → t.begun ≡ s.begun
+    → Agrees files t.cache → Sees D files s i → Sees D files t i
 sees_like D files s t i like parts buffer begun agrees seen = record {
   contents = seen.contents;
   stands = stands_like D files seen.contents s t parts like.snapshots begun agrees seen.stands;

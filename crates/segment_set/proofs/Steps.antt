@@ -1,5 +1,6 @@
 -- What one merge, one flush and the end of a merge do to a set.
-use Rattle.std.proofs.Common.{◌≡◌, ℕ, ◌≤◌, true, false, List, [], ◌∷◌, length, Option, None, Some, Result, Ok, Err, is_some, refl, sym, ap, subst, ◌∙◌, ◌⊎◌, inl, inr, arith}
+use Rattle.std.proofs.Common.{◌≡◌, ℕ, ◌≤◌, true, false, List, [], ◌∷◌, length, Option, None, Some}
+use Rattle.std.proofs.Common.{Result, Ok, Err, is_some, refl, sym, ap, subst, ◌∙◌, ◌⊎◌, inl, inr, arith}
 use Rattle.std.specs.List.{All, Contains, sum_by}
 use Rattle.std.specs.Result.{OnOk, OnErr}
 use Rattle.std.proofs.lemmas.Bool.{cases_Bool}
@@ -48,14 +49,16 @@ live_number D leaf n made = by n.live.live refl made.some
 -- ---- one merge
 
 -- some of these segments, all or none, gave way to what was built of them
-pub record IsStep (D : ℕ) (told : Type 0) (files new_files : Files) (cache : PageCache) (s : SetData) (names : NameList) (ids : List ℕ) (parts : List Part) : Type 0 where
+pub record IsStep (D : ℕ) (told : Type 0) (files new_files : Files) (cache : PageCache) (s : SetData) (names : NameList) (ids : List ℕ)
+    (parts : List Part) : Type 0 where
   pub gone : List ℕ
   pub some : (id : ℕ) → is_among gone id ≡ true → is_among ids id ≡ true
   pub moves : Moves D told files new_files s names gone parts s.buffer
   pub makes : told → Agrees files cache → (c : Contents) → AreRead D files c s.parts → MakesLive D (live_in_parts c (parts_among gone s.parts)) moves.built
   pub few : length parts ≤ length s.parts
 
-module _ (D : ℕ) (told : Type 0) (files new_files : Files) (cache : PageCache) (s : SetData) (names : NameList) (ids : List ℕ) (parts : List Part) (kept : KeepsNamed told s.names names files new_files) where
+module _ (D : ℕ) (told : Type 0) (files new_files : Files) (cache : PageCache) (s : SetData) (names : NameList) (ids : List ℕ) (parts : List Part)
+    (kept : KeepsNamed told s.names names files new_files) where
   step_none : parts ≡ s.parts → IsStep D told files new_files cache s names ids parts
   step_none same = record {
     gone = [];
@@ -71,7 +74,8 @@ module _ (D : ℕ) (told : Type 0) (files new_files : Files) (cache : PageCache)
     few = subst (λ (ps : List Part). length parts ≤ length ps) same (omega arith);
   }
 
-  fewer_built : (built : Option NewSegmentData) (inputs : List Part) (number : ℕ) → ((n : NewSegmentData) → built ≡ Some n → is_live n.live number ≡ true → has_live number inputs ≡ true)
+  fewer_built : (built : Option NewSegmentData) (inputs : List Part) (number : ℕ)
+      → ((n : NewSegmentData) → built ≡ Some n → is_live n.live number ≡ true → has_live number inputs ≡ true)
       → place_built number built ≤ sum_by (place_in number) inputs
   fewer_built None inputs number within = omega arith
   fewer_built (Some n) inputs number within = elim (cases_Bool (is_live n.live number)) [
@@ -79,7 +83,8 @@ module _ (D : ℕ) (told : Type 0) (files new_files : Files) (cache : PageCache)
     | inr dead ↦ omega (arith, ap one_if dead)
   ]
 
-  length_built : (built : Option NewSegmentData) (inputs : List Part) → ((n : NewSegmentData) → built ≡ Some n → IsGathered D s.leaf inputs n) → (built ≡ None) ⊎ (1 ≤ length inputs)
+  length_built : (built : Option NewSegmentData) (inputs : List Part) → ((n : NewSegmentData) → built ≡ Some n → IsGathered D s.leaf inputs n)
+      → (built ≡ None) ⊎ (1 ≤ length inputs)
   length_built None inputs gathered = inl refl
   length_built (Some n) inputs gathered =
       let live = live_number D s.leaf n (gathered n refl).made in
@@ -109,28 +114,35 @@ module _ (D : ℕ) (told : Type 0) (files new_files : Files) (cache : PageCache)
     where
       fewer : m.built ≡ None → length parts ≤ length s.parts
       fewer none =
-          let only : parts ≡ parts_but ids s.parts = subst (λ (o : Option NewSegmentData). Replaces D told s.names names new_files ids o s.parts parts) none m.replaces in
+          let only : parts ≡ parts_but ids s.parts =
+          subst (λ (o : Option NewSegmentData). Replaces D told s.names names new_files ids o s.parts parts) none m.replaces in
           let same : length parts ≡ length (parts_but ids s.parts) = ap length only in
           omega (arith, length_parted ids s.parts)
 
-  pub step : {T E : Type 0} (r : Result T E) → OnOk r (IsMerged D told s.leaf s.names names files new_files cache ids s.parts parts) → OnErr r (parts ≡ s.parts) → IsStep D told files new_files cache s names ids parts
+  pub step : {T E : Type 0} (r : Result T E) → OnOk r (IsMerged D told s.leaf s.names names files new_files cache ids s.parts parts) → OnErr r (parts ≡ s.parts)
+      → IsStep D told files new_files cache s names ids parts
   step r merged refused = elim (ok_or_err r merged refused) [ inl m ↦ step_merged m | inr same ↦ step_none same ]
 
 -- a cache that keeps pages of more segments, all of them named
-pub cached_more : (names : NameList) (parts : List Part) (before after : PageCache) (ids : List ℕ) → All (IsNamed names) parts → ((id : ℕ) → KeepsFile before id → is_named names.names (Segment id) ≡ true)
-    → ((id : ℕ) → KeepsFile after id → KeepsFile before id ⊎ Contains (ids_of (parts_among ids parts)) id) → (id : ℕ) → KeepsFile after id → is_named names.names (Segment id) ≡ true
+pub cached_more : (names : NameList) (parts : List Part) (before after : PageCache) (ids : List ℕ) → All (IsNamed names) parts
+    → ((id : ℕ) → KeepsFile before id → is_named names.names (Segment id) ≡ true)
+    → ((id : ℕ) → KeepsFile after id → KeepsFile before id ⊎ Contains (ids_of (parts_among ids parts)) id) → (id : ℕ) → KeepsFile after id
+    → is_named names.names (Segment id) ≡ true
 cached_more names parts before after ids named cached others id keeps = elim (others id keeps) [
   | inl old ↦ cached id old
   | inr read ↦ ids_named names (parts_among ids parts) (all_among (IsNamed names) ids parts named) id read
 ]
 
-module _ (D : ℕ) (told : Type 0) (files new_files : Files) (before : PageCache) {s : SetData} (names : NameList) (ids : List ℕ) (parts : List Part) (st : IsStep D told files new_files before s names ids parts) (well : IsWell D s) where
+module _ (D : ℕ) (told : Type 0) (files new_files : Files) (before : PageCache) {s : SetData} (names : NameList) (ids : List ℕ) (parts : List Part)
+    (st : IsStep D told files new_files before s names ids parts) (well : IsWell D s) where
   abbrev pub IsApart : Type 0
   IsApart = (id : ℕ) → is_among ids id ≡ true → is_among (inputs_of s.begun) id ≡ false
 
-  pub step_well : IsApart → (cache : PageCache) → ((id : ℕ) → KeepsFile cache id → is_named s.names.names (Segment id) ≡ true) → IsWell D (moved s names parts s.buffer s.begun cache)
+  pub step_well : IsApart → (cache : PageCache) → ((id : ℕ) → KeepsFile cache id → is_named s.names.names (Segment id) ≡ true)
+      → IsWell D (moved s names parts s.buffer s.begun cache)
   step_well apart cache cached =
-      let stay : parts_among (inputs_of s.begun) parts ≡ parts_among (inputs_of s.begun) s.parts = inputs_stay D told files new_files s names st.gone parts s.buffer st.moves well (λ id h. apart id (st.some id h)) in
+      let stay : parts_among (inputs_of s.begun) parts ≡ parts_among (inputs_of s.begun) s.parts =
+      inputs_stay D told files new_files s names st.gone parts s.buffer st.moves well (λ id h. apart id (st.some id h)) in
       well_moved D told files new_files s names st.gone parts s.buffer st.moves well s.begun cache
       (omega (arith, st.few, well.few)) well.room well.ordered well.once well.sixteen
       (ids_stay (inputs_of s.begun) s.parts parts stay well.inputs) well.few_inputs
@@ -145,14 +157,16 @@ module _ (D : ℕ) (told : Type 0) (files new_files : Files) (before : PageCache
   pub step_canon : told → AreCanonical D new_files s.names parts
   step_canon is_told = canon_moved D told files new_files s names st.gone parts s.buffer st.moves is_told well
 
-  pub step_seen : told → IsApart → (i : Index) → Sees D files s i → before ≡ s.cache → (cache : PageCache) → ((id : ℕ) → KeepsFile cache id → is_named s.names.names (Segment id) ≡ true) → (Agrees files before → Agrees files cache)
+  pub step_seen : told → IsApart → (i : Index) → Sees D files s i → before ≡ s.cache → (cache : PageCache)
+      → ((id : ℕ) → KeepsFile cache id → is_named s.names.names (Segment id) ≡ true) → (Agrees files before → Agrees files cache)
       → Sees D new_files (moved s names parts s.buffer s.begun cache) i
   step_seen is_told apart i h is cache cached agrees =
       let agreed : Agrees files before = subst (Agrees files) (sym is) h.stands.agrees in
       sees_same D new_files (moved s names parts s.buffer s.begun cache) i (is_some s.begun) (sym h.begun)
       (seen_moved D told files new_files s names st.gone parts s.buffer st.moves is_told well i h (live_in_parts h.contents (parts_among st.gone s.parts))
       (st.makes is_told agreed h.contents h.stands.now) (λ f. refl) s.begun cache
-      (λ d alike. begun_moved D told files new_files s names st.gone parts s.buffer st.moves well (λ id e. apart id (st.some id e)) h.contents d alike h.stands.begun)
+      (λ d alike.
+      begun_moved D told files new_files s names st.gone parts s.buffer st.moves well (λ id e. apart id (st.some id e)) h.contents d alike h.stands.begun)
       cached (agrees agreed))
 
 -- ---- what a call leaves
@@ -166,7 +180,8 @@ pub record IsAfter (D : ℕ) (told : Type 0) (files new_files : Files) (s t : Se
   pub follows : Follows s.names s.parts t.parts
   pub canon : told → AreCanonical D new_files s.names t.parts
 
-pub merge_after : (D : ℕ) (told : Type 0) (files new_files : Files) {s : SetData} (well : IsWell D s) (names : NameList) (ids : List ℕ) (parts : List Part) (cache : PageCache)
+pub merge_after : (D : ℕ) (told : Type 0) (files new_files : Files) {s : SetData} (well : IsWell D s) (names : NameList) (ids : List ℕ) (parts : List Part)
+    (cache : PageCache)
     → KeepsNamed told s.names names files new_files
     → ((id : ℕ) → is_among ids id ≡ true → is_among (inputs_of s.begun) id ≡ false)
     → (told → Agrees files s.cache → Agrees files cache)

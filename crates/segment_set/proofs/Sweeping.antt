@@ -1,119 +1,33 @@
 -- What is swept away, and what stays.
-use Rattle.std.proofs.Common.{◌≡◌, ◌≢◌, ℕ, zero, suc, ◌+◌, ◌≤◌, ◌<◌, ◌↔◌, ◌-◌, inl, inr, ⊎_elim, Bool, true, false, not, ◌||◌, cond, List, [], ◌∷◌, length, take, get_or, Some, None, refl, sym, ap, subst, ◌∙◌, arith}
-use Rattle.std.specs.List.{All, Contains, filter, list_any, slice_get}
+use Rattle.std.proofs.Common.{◌≡◌, ◌≢◌, ℕ, zero, suc, ◌+◌, ◌≤◌, ◌<◌, ◌-◌, inl, inr, ⊎_elim, Bool, true, false, not}
+use Rattle.std.proofs.Common.{cond, List, [], ◌∷◌, length, take, get_or, Some, None, refl, sym, ap, subst, ◌∙◌, arith}
+use Rattle.std.specs.List.{All, Contains, filter, slice_get}
 use Rattle.std.proofs.lemmas.Bool.{both_ways}
 use Rattle.std.proofs.lemmas.List.{take_more}
 use Rattle.std.proofs.lemmas.Option.{get_or_from_slice_get, slice_get_within}
 use Rattle.std.proofs.lemmas.List.Elements.{All-contains, All-cons, All-contains_itself, All-head, All-nil, All-push, All-tail, All-weaker}
 use Rattle.std.proofs.lemmas.List.Sums.{count_by-le-length, length-filter}
 use Rattle.outer_io.specs.declared.file_name.FileName.{FileName}
-use Rattle.outer_io.specs.declared.file_name.FileName.TheVariants.{Commit, CommitNew, Live, Segment}
+use Rattle.outer_io.specs.declared.file_name.FileName.TheVariants.{Commit, Segment}
 use Rattle.outer_io.specs.Files.{Files, SameBut}
 use Rattle.outer_io.specs.Names.{same_name}
 use Rattle.outer_io.proofs.Names.{same_name-false, same_name-other, same_name-refl, same_name-true}
-use Rattle.documents.specs.Entries.{is_among}
-use Rattle.documents.proofs.Kept.{among_from, among_to}
-use Rattle.documents.proofs.Lists.{cons_cases, cons_head, cons_tail, in_map, nil_none, of_map}
+use Rattle.documents.proofs.Lists.{cons_cases, nil_none}
 use Rattle.page_cache.specs.declared.cache.PageCache.{PageCache}
 use Rattle.page_cache.specs.Cache.{Agrees, KeepsFile}
 use Rattle.commit_list.specs.Commits.{CommitData}
-use Rattle.stored_index.specs.Kept.{ListsFile}
 use Rattle.index_model.specs.State.{Index}
-use Rattle.segment_view.specs.Parts.{Part, ids_of}
+use Rattle.segment_view.specs.Parts.{Part}
 use Rattle.file_names.specs.Names.{NameList, is_named}
 use Rattle.file_names.proofs.Listed.{contains-is_named, gone, is_named-contains, others_kept}
-use Rattle.segment_set.specs.Sets.{IsNamed, IsWell, NamedView, SetData}
+use Rattle.segment_set.specs.Sets.{IsNamed, IsWell, SetData}
 use Rattle.segment_set.specs.Seen.{Sees}
-use Rattle.segment_set.specs.Kept.{IsNeeded, StaysButFiles, ViewNeeds}
-use Rattle.segment_set.specs.Swept.{IsShown, IsSwept, IsUnneeded, shows_file}
-use Rattle.segment_set.proofs.Saving.{take_whole, well_other}
+use Rattle.segment_set.specs.Kept.{IsNeeded, StaysButFiles}
+use Rattle.segment_set.specs.Swept.{IsSwept, IsUnneeded}
+use Rattle.segment_set.proofs.Saving.{well_other}
+use Rattle.segment_set.proofs.SavedSegments.{take_whole}
 use Rattle.segment_set.proofs.Standing.{IsLike, sees_like, stands_alike}
-
--- ---- which files a view needs
-
-pub any_found : {X : Type 0} (p : X → Bool) (xs : List X) → list_any p xs ≡ true → (x : X) × Contains xs x × (p x ≡ true)
-any_found p [] e = absurd (both_ways false refl e)
-any_found {X} p (x ∷ xs) e = by (p x) refl (any_found p xs)
-  where
-    right_of : (a b : Bool) → (a || b) ≡ true → a ≡ false → b ≡ true
-    right_of true b h none = absurd (both_ways true none refl)
-    right_of false b h none = h
-
-    by : (b : Bool) → p x ≡ b → (list_any p xs ≡ true → (y : X) × Contains xs y × (p y ≡ true)) → (y : X) × Contains (x ∷ xs) y × (p y ≡ true)
-    by true is rest = (x, cons_head x xs, is)
-    by false is rest = let found = rest (right_of (p x) (list_any p xs) e is) in (found.0, cons_tail x xs found.0 found.1, found.2)
-
-or_left : (a b : Bool) → a ≡ true → (a || b) ≡ true
-or_left true b e = refl
-or_left false b e = absurd (both_ways false refl e)
-
-or_right : (a b : Bool) → b ≡ true → (a || b) ≡ true
-or_right true b e = refl
-or_right false b e = e
-
-or_cases : {P : Type 0} (a b : Bool) → (a || b) ≡ true → (a ≡ true → P) → (b ≡ true → P) → P
-or_cases true b e left right = left refl
-or_cases false b e left right = right e
-
-pub found_any : {X : Type 0} (p : X → Bool) (xs : List X) (x : X) → Contains xs x → p x ≡ true → list_any p xs ≡ true
-found_any p [] x there is = nil_none x _ there
-found_any p (y ∷ ys) x there is = ⊎_elim (λ e. or_left (p y) (list_any p ys) (ap p e ∙ is)) (λ later. or_right (p y) (list_any p ys) (found_any p ys x later is)) (cons_cases y ys x there)
-
-among_needs : (parts : List Part) (id : ℕ) → is_among (ids_of parts) id ≡ true → ViewNeeds parts (Segment id)
-among_needs parts id among = let r = of_map (λ (p : Part). p.head.id) parts id (among_to (ids_of parts) id among) in (r.0, r.1, ap Segment (sym r.2))
-
-needs_among : (parts : List Part) (id : ℕ) → ViewNeeds parts (Segment id) → is_among (ids_of parts) id ≡ true
-needs_among parts id (p, there, is) = among_from (ids_of parts) id (subst (Contains (ids_of parts)) (same p is) (in_map (λ (q : Part). q.head.id) parts p there))
-  where
-    same : (q : Part) → Segment id ≡ Segment q.head.id → q.head.id ≡ id
-    same q e = cc
-
-shown_by : (s : SetData) (id : ℕ) → shows_file s (Segment id) ≡ true → IsShown s (Segment id)
-shown_by s id e = or_cases (is_among (ids_of s.parts) id) (list_any (λ (v : NamedView). is_among (ids_of v.parts) id) s.snapshots) e
-    (λ now. inl (among_needs s.parts id now))
-    (λ kept. let found = any_found (λ (v : NamedView). is_among (ids_of v.parts) id) s.snapshots kept in inr (found.0, found.1, among_needs found.0.parts id found.2))
-
-shown_has : (s : SetData) (id : ℕ) → IsShown s (Segment id) → shows_file s (Segment id) ≡ true
-shown_has s id shown = ⊎_elim
-    (λ now. or_left (is_among (ids_of s.parts) id) (list_any (λ (v : NamedView). is_among (ids_of v.parts) id) s.snapshots) (needs_among s.parts id now))
-    (λ (v, there, need). or_right (is_among (ids_of s.parts) id) (list_any (λ (w : NamedView). is_among (ids_of w.parts) id) s.snapshots)
-    (found_any (λ (w : NamedView). is_among (ids_of w.parts) id) s.snapshots v there (needs_among v.parts id need)))
-    shown
-
--- only files of segments are needed by views
-pub shown_segment : {P : Type 0} (s : SetData) (name : FileName) → IsShown s name → ((id : ℕ) → name ≡ Segment id → P) → P
-shown_segment s name shown here = ⊎_elim (λ (p, there, is). here p.head.id is) (λ (v, kept, need). here need.0.head.id need.2) shown
-
-pub file_shown : (s : SetData) (name : FileName) → shows_file s name ≡ true → IsShown s name
-file_shown s (Segment id) e = shown_by s id e
-file_shown s (Live segment generation) e = absurd cc
-file_shown s Commit e = absurd cc
-file_shown s CommitNew e = absurd cc
-
-file_not_shown : (s : SetData) (name : FileName) → shows_file s name ≡ false → IsShown s name → ⊥
-file_not_shown s (Segment id) e shown = both_ways (shows_file s (Segment id)) e (shown_has s id shown)
-file_not_shown s (Live segment generation) e shown = shown_segment s (Live segment generation) shown (λ id is. cc)
-file_not_shown s Commit e shown = shown_segment s Commit shown (λ id is. cc)
-file_not_shown s CommitNew e shown = shown_segment s CommitNew shown (λ id is. cc)
-
--- the commit lists the file, or doesn't
-pub unneeded_unlisted : (s : SetData) (c : CommitData) (name : FileName) (r : Bool) → (r ≡ true) ↔ ListsFile c name → shows_file s name ≡ false
-    → r ≡ false → IsUnneeded s c name
-unneeded_unlisted s c name r lists hidden e = record {
-  shown = file_not_shown s name hidden;
-  listed = λ listed. both_ways r e (lists.1 listed);
-}
-
-pub not_needed : (s : SetData) (c : CommitData) (name : FileName) → IsUnneeded s c name → IsNeeded s c name → ⊥
-not_needed s c name un need = ⊎_elim (λ listed. un.listed listed) (λ shown. un.shown shown) need
-
--- ---- sets that differ in names and cache alone need the same
-
-pub needed_still : (s t : SetData) (c : CommitData) (m : FileName) → StaysButFiles s t → IsNeeded s c m → IsNeeded t c m
-needed_still s t c m alone need = subst (λ (u : SetData). IsNeeded u c m) (sym alone.is) need
-
-pub needed_before : (s t : SetData) (c : CommitData) (m : FileName) → StaysButFiles s t → IsNeeded t c m → IsNeeded s c m
-needed_before s t c m alone need = subst (λ (u : SetData). IsNeeded u c m) alone.is need
+use Rattle.segment_set.proofs.Needed.{not_needed, needed_still, needed_before}
 
 -- ---- sweeps, one after another
 
@@ -158,7 +72,10 @@ pub swept_torn : (told : Type 0) (k : CommitData) (s t : SetData) (before after 
     → is_named s.names.names Commit ≡ false → IsUnneeded s k name
     → t ≡ record s { cache = t.cache } → (told → SameBut name before after) → IsSwept told k s t before after
 swept_torn told k s t before after name named own un is same = record {
-  alone = record { is = is ∙ ap (λ (n : NameList). record s { names = n; cache = t.cache }) (sym names); next_segment = ap (λ (n : NameList). n.next_segment) names };
+  alone = record {
+    is = is ∙ ap (λ (n : NameList). record s { names = n; cache = t.cache }) (sym names);
+    next_segment = ap (λ (n : NameList). n.next_segment) names;
+  };
   fewer = λ m there. ap (λ (n : NameList). is_named n.names m) (sym names) ∙ there;
   named = λ m need there. ap (λ (n : NameList). is_named n.names m) names ∙ there;
   needed = λ to m need. same to m (λ e. not_needed s k name un (subst (IsNeeded s k) e need));
@@ -179,9 +96,13 @@ pub swept_removed : (told : Type 0) (k : CommitData) (s t : SetData) (before aft
     → t ≡ record s { names = names_but name s.names; cache = t.cache } → (told → SameBut name before after) → (told → after name ≡ None)
     → IsSwept told k s t before after
 swept_removed told k s t before after name named own un is same none_there = record {
-  alone = record { is = is ∙ ap (λ (n : NameList). record s { names = n; cache = t.cache }) (sym names); next_segment = ap (λ (n : NameList). n.next_segment) names };
+  alone = record {
+    is = is ∙ ap (λ (n : NameList). record s { names = n; cache = t.cache }) (sym names);
+    next_segment = ap (λ (n : NameList). n.next_segment) names;
+  };
   fewer = λ m there. fewer m (ap (λ (n : NameList). is_named n.names m) (sym names) ∙ there);
-  named = λ m need there. ap (λ (n : NameList). is_named n.names m) names ∙ others_kept s.names.names name m (λ e. not_needed s k name un (subst (IsNeeded s k) e need)) ∙ there;
+  named = λ m need there.
+      ap (λ (n : NameList). is_named n.names m) names ∙ others_kept s.names.names name m (λ e. not_needed s k name un (subst (IsNeeded s k) e need)) ∙ there;
   needed = λ to m need. same to m (λ e. not_needed s k name un (subst (IsNeeded s k) e need));
   others = λ to m none. same to m (λ e. both_ways (is_named s.names.names m) none (ap (is_named s.names.names) e ∙ named));
   commit = λ to. same to Commit (λ e. both_ways (is_named s.names.names Commit) own (ap (is_named s.names.names) e ∙ named));
@@ -192,7 +113,8 @@ swept_removed told k s t before after name named own un is same none_there = rec
     names = ap (λ (u : SetData). u.names) is
 
     not_it : (m : FileName) → is_named (names_but name s.names).names m ≡ true → m ≢ name
-    not_it m there e = both_ways (is_named (names_but name s.names).names name) (gone s.names.names name) (ap (is_named (names_but name s.names).names) (sym e) ∙ there)
+    not_it m there e =
+        both_ways (is_named (names_but name s.names).names name) (gone s.names.names name) (ap (is_named (names_but name s.names).names) (sym e) ∙ there)
 
     fewer : (m : FileName) → is_named (names_but name s.names).names m ≡ true → is_named s.names.names m ≡ true
     fewer m there = sym (others_kept s.names.names name m (not_it m there)) ∙ there
@@ -210,25 +132,30 @@ swept_removed told k s t before after name named own un is same none_there = rec
 module _ (D : ℕ) (s : SetData) (k : CommitData) (name : FileName) (cache : PageCache) (well : IsWell D s)
     (named : is_named s.names.names name ≡ true) (un : IsUnneeded s k name)
     (fewer : (id : ℕ) → KeepsFile cache id → KeepsFile s.cache id) (none : (id : ℕ) → name ≡ Segment id → KeepsFile cache id → ⊥) where
-  still_named : (parts : List Part) → All (IsNamed s.names) parts → ((p : Part) → Contains parts p → Segment p.head.id ≢ name) → All (IsNamed (names_but name s.names)) parts
+  still_named : (parts : List Part) → All (IsNamed s.names) parts → ((p : Part) → Contains parts p → Segment p.head.id ≢ name)
+      → All (IsNamed (names_but name s.names)) parts
   still_named parts named apart k p lt =
       others_kept s.names.names name (Segment (get_or parts k p).head.id) (apart (get_or parts k p) (All-contains_itself parts k p lt)) ∙ named k p lt
 
   pub well_swept : IsWell D (record s { names = names_but name s.names; cache = cache })
   well_swept = well_other D s (names_but name s.names) cache s.saved well
       (still_named s.parts well.named (λ p there e. un.shown (inl (p, there, sym e))))
-      (λ k v lt. still_named (get_or s.snapshots k v).parts (well.kept k v lt) (λ p there e. un.shown (inr (get_or s.snapshots k v, All-contains_itself s.snapshots k v lt, (p, there, sym e)))))
+      (λ k v lt. still_named (get_or s.snapshots k v).parts (well.kept k v lt)
+      (λ p there e. un.shown (inr (get_or s.snapshots k v, All-contains_itself s.snapshots k v lt, (p, there, sym e)))))
       (others_kept s.names.names name Commit (λ e. both_ways (is_named s.names.names Commit) well.own (ap (is_named s.names.names) e ∙ named)) ∙ well.own)
       (λ id keeps. others_kept s.names.names name (Segment id) (λ e. none id (sym e) keeps) ∙ well.cached id (fewer id keeps))
 
-  pub sees_swept : (before after : Files) (t : SetData) (i : Index) → SameBut name before after → Agrees before cache → IsLike s t → t.parts ≡ s.parts → t.buffer ≡ s.buffer → t.begun ≡ s.begun → t.cache ≡ cache
+  pub sees_swept : (before after : Files) (t : SetData) (i : Index) → SameBut name before after → Agrees before cache → IsLike s t → t.parts ≡ s.parts
+      → t.buffer ≡ s.buffer → t.begun ≡ s.begun → t.cache ≡ cache
       → Sees D before s i → Sees D after t i
   sees_swept before after t i same agrees like parts buffer begun is seen =
       let mid : SetData = record s { names = names_but name s.names; cache = cache } in
-      let first : Sees D before mid i = sees_like D before s mid i (record { leaf = refl; next = refl; given = refl; snapshots = refl }) refl refl refl agrees seen in
+      let first : Sees D before mid i =
+      sees_like D before s mid i (record { leaf = refl; next = refl; given = refl; snapshots = refl }) refl refl refl agrees seen in
       let second : Sees D after mid i = record {
         contents = first.contents;
-        stands = stands_alike D before after first.contents first.contents mid well_swept (record { files = λ id there. same (Segment id) (not_it (Segment id) there); entries = λ id there. refl }) first.stands;
+        stands = stands_alike D before after first.contents first.contents mid well_swept
+            (record { files = λ id there. same (Segment id) (not_it (Segment id) there); entries = λ id there. refl }) first.stands;
         dims = first.dims;
         leaf = first.leaf;
         next = first.next;
@@ -238,15 +165,18 @@ module _ (D : ℕ) (s : SetData) (k : CommitData) (name : FileName) (cache : Pag
         few = first.few;
         snapshots = first.snapshots;
       } in
-      sees_like D after mid t i (record { leaf = like.leaf; next = like.next; given = like.given; snapshots = like.snapshots }) parts buffer begun (subst (Agrees after) (sym is) second.stands.agrees) second
+      sees_like D after mid t i (record { leaf = like.leaf; next = like.next; given = like.given; snapshots = like.snapshots }) parts buffer begun
+      (subst (Agrees after) (sym is) second.stands.agrees) second
     where
       not_it : (m : FileName) → is_named (names_but name s.names).names m ≡ true → m ≢ name
-      not_it m there e = both_ways (is_named (names_but name s.names).names name) (gone s.names.names name) (ap (is_named (names_but name s.names).names) (sym e) ∙ there)
+      not_it m there e =
+          both_ways (is_named (names_but name s.names).names name) (gone s.names.names name) (ap (is_named (names_but name s.names).names) (sym e) ∙ there)
 
 -- ---- the list of names
 
 -- names at the front that are all kept stay the front
-pub front_kept : {X : Type 0} (P : X → Type 0) (keep : X → Bool) (xs : List X) (n : ℕ) → All P (take n xs) → ((x : X) → P x → keep x ≡ true) → All P (take n (filter keep xs))
+pub front_kept : {X : Type 0} (P : X → Type 0) (keep : X → Bool) (xs : List X) (n : ℕ) → All P (take n xs) → ((x : X) → P x → keep x ≡ true)
+    → All P (take n (filter keep xs))
 front_kept P keep [] n all kept = all
 front_kept P keep (x ∷ xs) zero all kept = All-nil P
 front_kept P keep (x ∷ xs) (suc n) all kept =
@@ -262,8 +192,10 @@ fewer_left {X} keep (y ∷ ys) x there out = by (keep y) refl (λ later. fewer_l
     most : length (filter keep ys) ≤ length ys
     most = omega (arith, length-filter keep ys, count_by-le-length keep ys)
 
-    by : (b : Bool) → keep y ≡ b → (Contains ys x → length (filter keep ys) < length ys) → length (cond b (y ∷ filter keep ys) (filter keep ys)) < length (y ∷ ys)
-    by true is rest = ⊎_elim (λ e. absurd (both_ways (keep y) (ap keep e ∙ out) is)) (λ later. let less = rest later in omega (arith, less)) (cons_cases y ys x there)
+    by : (b : Bool) → keep y ≡ b → (Contains ys x → length (filter keep ys) < length ys)
+        → length (cond b (y ∷ filter keep ys) (filter keep ys)) < length (y ∷ ys)
+    by true is rest =
+        ⊎_elim (λ e. absurd (both_ways (keep y) (ap keep e ∙ out) is)) (λ later. let less = rest later in omega (arith, less)) (cons_cases y ys x there)
     by false is rest = omega (arith, most)
 
 pub front_more : {X : Type 0} (P : X → Type 0) (xs : List X) (i : ℕ) (x : X) → slice_get xs i ≡ Some x → All P (take i xs) → P x → All P (take (i + 1) xs)
@@ -274,25 +206,29 @@ front_more P xs i x at all here =
 pub named_at : (ns : List FileName) (i : ℕ) (name : FileName) → slice_get ns i ≡ Some name → is_named ns name ≡ true
 named_at ns i name at = contains-is_named ns name (i, slice_get_within ns i name at, get_or_from_slice_get ns i name name at)
 
-pub shorter_at : (ns left : List FileName) (i : ℕ) (name : FileName) → slice_get ns i ≡ Some name → left ≡ filter (λ (n : FileName). not (same_name n name)) ns → length left - i < length ns - i
+pub shorter_at : (ns left : List FileName) (i : ℕ) (name : FileName) → slice_get ns i ≡ Some name → left ≡ filter (λ (n : FileName). not (same_name n name)) ns
+    → length left - i < length ns - i
 shorter_at ns left i name at is =
     let lt = slice_get_within ns i name at in
     let less = fewer_left (λ (n : FileName). not (same_name n name)) ns name (i, lt, get_or_from_slice_get ns i name name at) (ap not (same_name-refl name)) in
     let long = ap length is in
     omega (arith, lt, less, long)
 
-pub front_left : (P : FileName → Type 0) (ns left : List FileName) (i : ℕ) (name : FileName) → left ≡ filter (λ (n : FileName). not (same_name n name)) ns → (P name → ⊥) → All P (take i ns) → All P (take i left)
+pub front_left : (P : FileName → Type 0) (ns left : List FileName) (i : ℕ) (name : FileName) → left ≡ filter (λ (n : FileName). not (same_name n name)) ns
+    → (P name → ⊥) → All P (take i ns) → All P (take i left)
 front_left P ns left i name is none all =
     subst (λ (ls : List FileName). All P (take i ls)) (sym is)
     (front_kept P (λ (n : FileName). not (same_name n name)) ns i all (λ n p. ap not (same_name-other n name (λ e. none (subst P e p)))))
 
 -- ---- the whole list
 
-pub all_needed : (s : SetData) (c : CommitData) (names : List FileName) (i : ℕ) → length names ≤ i → All (IsNeeded s c) (take i names) → (m : FileName) → is_named names m ≡ true → IsNeeded s c m
+pub all_needed : (s : SetData) (c : CommitData) (names : List FileName) (i : ℕ) → length names ≤ i → All (IsNeeded s c) (take i names) → (m : FileName)
+    → is_named names m ≡ true → IsNeeded s c m
 all_needed s c names i le all m named =
     All-contains (IsNeeded s c) names m (subst (All (IsNeeded s c)) (take_whole names i le) all) (is_named-contains names m named)
 
-pub gone_all : (told : Type 0) (s t : SetData) (f g : Files) (c : CommitData) → IsSwept told c s t f g → told → ((m : FileName) → is_named t.names.names m ≡ true → IsNeeded s c m)
+pub gone_all : (told : Type 0) (s t : SetData) (f g : Files) (c : CommitData) → IsSwept told c s t f g → told
+    → ((m : FileName) → is_named t.names.names m ≡ true → IsNeeded s c m)
     → (m : FileName) → is_named s.names.names m ≡ true → (IsNeeded s c m → ⊥) → g m ≡ None
 gone_all told s t f g c swept to needed m there not_so = by (is_named t.names.names m) refl
   where

@@ -26,7 +26,8 @@ IsTrusted told D files s = IsTrue told × IsFaithful D files s
 -- ---- what stays theirs
 
 -- what was built took the place of segments, or a refusal left them, and the cache stays
-pub faithful_replaced : (D : ℕ) (told : Type 0) (f g : Files) (s t : SetData) → IsWell D s → KeepsNamed told s.names t.names f g → Follows s.names s.parts t.parts → (told → AreCanonical D g s.names t.parts)
+pub faithful_replaced : (D : ℕ) (told : Type 0) (f g : Files) (s t : SetData) → IsWell D s → KeepsNamed told s.names t.names f g
+    → Follows s.names s.parts t.parts → (told → AreCanonical D g s.names t.parts)
     → t.snapshots ≡ s.snapshots → t.cache ≡ s.cache → told → IsFaithful D f s → IsFaithful D g t
 faithful_replaced D told f g s t well kept follows canon snapshots cache is_told faithful =
     let others = faithful_named D f g s (record t { parts = s.parts }) well (kept.files is_told) refl snapshots cache faithful in
@@ -37,7 +38,8 @@ faithful_replaced D told f g s t well kept follows canon snapshots cache is_told
     }
 
 -- a call that looks at segments, and may begin a merge. `s` is the set as its fields have it, `t` as the caller sees it
-pub faithful_looked : (D : ℕ) (told : Bool) (f g : Files) (s t : SetData) (ids : List ℕ) (begun : Option BegunMerge) (cache : PageCache) → s ≡ t → IsCalm told f g s.cache cache ids → IsTrue told → IsFaithful D f t
+pub faithful_looked : (D : ℕ) (told : Bool) (f g : Files) (s t : SetData) (ids : List ℕ) (begun : Option BegunMerge) (cache : PageCache) → s ≡ t
+    → IsCalm told f g s.cache cache ids → IsTrue told → IsFaithful D f t
     → IsFaithful D g (record s { begun = begun; cache = cache })
 faithful_looked D told f g s t ids begun cache same calm is_told faithful =
     let was = subst (IsFaithful D f) (sym same) faithful in
@@ -52,17 +54,21 @@ faithful_with D files points s faithful = record { pages = faithful.pages; heads
 
 -- what is evident of the cache and the segments of now is so of the set
 pub on_evident_set : {X : Type 0} (D : ℕ) (told : Bool) (f g : Files) (s t : SetData) (r : Result X PageFault) → s ≡ t → IsSpread s.next s.parts s.buffer
-    → OnDamage r (IsEvidentIn D s.parts (IsTrue told × Agrees f s.cache × All (HasFileHead D f) s.parts × AreAlone s.parts) g) → OnDamage r (IsEvidentIn D t.parts (IsTrusted told D f t) g)
+    → OnDamage r (IsEvidentIn D s.parts (IsTrue told × Agrees f s.cache × All (HasFileHead D f) s.parts × AreAlone s.parts) g)
+    → OnDamage r (IsEvidentIn D t.parts (IsTrusted told D f t) g)
 on_evident_set D told f g s t r same spread evident =
     subst (λ (u : SetData). OnDamage r (IsEvidentIn D u.parts (IsTrusted told D f u) g)) same
     (on_less_with (IsCrowdedIn D g s.parts) (IsTrue told × Agrees f s.cache × All (HasFileHead D f) s.parts × AreAlone s.parts) (IsTrusted told D f s) g r
     (λ trusted. (trusted.0, trusted.1.pages, trusted.1.heads, λ number. omega (arith, spread.alone number))) evident)
 
 -- and of a set before, from which what is kept stays theirs
-pub on_evident_before : {X : Type 0} (D : ℕ) (told : Bool) (f g h : Files) (s t u : SetData) (r : Result X PageFault) → All (IsNamed t.names) t.parts → Rearranges D (IsTrue told) f g s t
-    → KeepsNamed (IsTrue told) t.names u.names g h → (IsTrue told → IsFaithful D f s → IsFaithful D g t) → OnDamage r (IsEvidentIn D t.parts (IsTrusted told D g t) h)
+pub on_evident_before : {X : Type 0} (D : ℕ) (told : Bool) (f g h : Files) (s t u : SetData) (r : Result X PageFault) → All (IsNamed t.names) t.parts
+    → Rearranges D (IsTrue told) f g s t
+    → KeepsNamed (IsTrue told) t.names u.names g h → (IsTrue told → IsFaithful D f s → IsFaithful D g t)
+    → OnDamage r (IsEvidentIn D t.parts (IsTrusted told D g t) h)
     → OnDamage r (IsEvidentIn D s.parts (IsTrusted told D f s) h)
 on_evident_before D told f g h s t u r named moves kept stays =
-    on_evident_twice (IsCrowdedIn D h t.parts) (IsCrowdedIn D h s.parts) (IsTrusted told D g t) (IsTrusted told D f s) h r (λ trusted. (trusted.0, stays trusted.0 trusted.1))
+    on_evident_twice (IsCrowdedIn D h t.parts) (IsCrowdedIn D h s.parts) (IsTrusted told D g t) (IsTrusted told D f s) h r
+    (λ trusted. (trusted.0, stays trusted.0 trusted.1))
     (λ trusted number crowd. merely (crowded_before D g h s.names s.parts t.parts number moves.follows (moves.canon trusted.0)
     (λ p there. kept.files trusted.0 (Segment p.head.id) (All-contains (IsNamed t.names) t.parts p named there)) crowd))

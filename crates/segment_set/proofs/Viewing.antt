@@ -29,7 +29,8 @@ use Rattle.segment_set.specs.Faithful.{HasFileHead, IsFaithful}
 use Rattle.index_opening.proofs.Ordered.{zip_right}
 use Rattle.segment_set.proofs.Attaching.{attached}
 use Rattle.segment_set.proofs.Empty.{empty_set}
-use Rattle.index_opening.proofs.Evident.{on_evident_at, on_part_evident}
+use Rattle.index_opening.proofs.Evident.{on_evident_at}
+use Rattle.index_opening.proofs.LeafEvident.{on_part_evident}
 use Rattle.segment_set.proofs.Snapped.{set_released, set_snapped}
 use Rattle.segment_set.proofs.Viewed.{viewed_all}
 
@@ -45,8 +46,10 @@ looked_faithful D told f g s t ids cache same calm told_is keeps =
     subst (λ (h : Files). IsFaithful D h (record s { cache = cache })) (sym (calm.files told_is))
     (record { pages = calm.agrees told_is here.pages; heads = here.heads; kept = here.kept })
 
-pub looked_evident : {X : Type 0} (D : ℕ) (told : Bool) (f g : Files) (s t : SetData) (view : Option (List ℕ)) (segments : List Part) (ids : List ℕ) (cache : PageCache) (r : Result X PageFault) → s ≡ t
-    → segments ≡ viewed_parts view t → IsCalm told f g s.cache cache ids → OnDamage r (IsPartDamage D segments) → (IsTrue told → Agrees f s.cache → OnDamage r (IsLeafDamageOf f))
+pub looked_evident : {X : Type 0} (D : ℕ) (told : Bool) (f g : Files) (s t : SetData) (view : Option (List ℕ)) (segments : List Part) (ids : List ℕ)
+    (cache : PageCache) (r : Result X PageFault) → s ≡ t
+    → segments ≡ viewed_parts view t → IsCalm told f g s.cache cache ids → OnDamage r (IsPartDamage D segments)
+    → (IsTrue told → Agrees f s.cache → OnDamage r (IsLeafDamageOf f))
     → OnDamage r (IsEvident (IsTrue told × IsFaithful D f t) g)
 looked_evident D told f g s t view segments ids cache r same is calm shown of_files =
     on_evident_at IsTwice (IsTrue told × IsFaithful D f t) (IsTrue told × IsFaithful D f t) f g r (λ h. h) (λ h. calm.files h.0)
@@ -59,7 +62,8 @@ pub faithful_snapped : (D : ℕ) (files : Files) (s : SetData) (name : List ℕ)
 faithful_snapped D files s name keeps = record {
   pages = keeps.pages;
   heads = keeps.heads;
-  kept = All-push (λ (v : NamedView). All (HasFileHead D files) v.parts) s.snapshots (record { name = name; parts = s.parts; buffer = s.buffer }) keeps.kept keeps.heads;
+  kept = All-push (λ (v : NamedView). All (HasFileHead D files) v.parts) s.snapshots (record { name = name; parts = s.parts; buffer = s.buffer }) keeps.kept
+      keeps.heads;
 }
 
 pub faithful_released : (D : ℕ) (files : Files) (s : SetData) (name : List ℕ) → IsFaithful D files s → IsFaithful D files (set_released name s)
@@ -81,29 +85,35 @@ faithful_empty D leaf names cache files agrees = record {
 -- the head of a listed segment is that of the file of its own id
 listed_head : (D : ℕ) (files : Files) (c : CommitData) (s : Listed) (p : Part) → c.dims ≡ D → HasHead c.dims files s p.head → HasFileHead D files p
 listed_head D files c s p dims has =
-    merely (subst (λ n. IsHeadOf D (bytes_of (files (Segment n))) p.head) (sym has.id) (subst (λ n. IsHeadOf n (bytes_of (files (Segment s.segment))) p.head) dims has.is))
+    merely (subst (λ n. IsHeadOf D (bytes_of (files (Segment n))) p.head) (sym has.id)
+    (subst (λ n. IsHeadOf n (bytes_of (files (Segment s.segment))) p.head) dims has.is))
 
-pub faithful_attached : (D : ℕ) (told : Type 0) (files : Files) (c : CommitData) (names : NameList) (parts : List Part) (cache : PageCache) → c.dims ≡ D → told → AllZip (IsOpened told files c) c.listed parts
+pub faithful_attached : (D : ℕ) (told : Type 0) (files : Files) (c : CommitData) (names : NameList) (parts : List Part) (cache : PageCache) → c.dims ≡ D → told
+    → AllZip (IsOpened told files c) c.listed parts
     → Agrees files cache → IsFaithful D files (attached c names parts cache)
 faithful_attached D told files c names parts cache dims t all agrees = record {
   pages = agrees;
-  heads = zip_right (IsOpened told files c) (λ (s : Listed). Unit {0}) (HasFileHead D files) c.listed parts (λ s p u one. listed_head D files c s p dims (one.head t)) (λ k s lt. tt) all;
+  heads = zip_right (IsOpened told files c) (λ (s : Listed). Unit {0}) (HasFileHead D files) c.listed parts
+      (λ s p u one. listed_head D files c s p dims (one.head t)) (λ k s lt. tt) all;
   kept = All-nil (λ (v : NamedView). All (HasFileHead D files) v.parts);
 }
 
 -- ---- the set after a file is taken away that no view needs
 
-heads_still : (D : ℕ) (before after : Files) (name : FileName) (parts : List Part) → SameBut name before after → ((p : Part) → Contains parts p → Segment p.head.id ≢ name) → All (HasFileHead D before) parts
+heads_still : (D : ℕ) (before after : Files) (name : FileName) (parts : List Part) → SameBut name before after
+    → ((p : Part) → Contains parts p → Segment p.head.id ≢ name) → All (HasFileHead D before) parts
     → All (HasFileHead D after) parts
 heads_still D before after name parts same apart all k p lt =
     subst (λ (file : Option (List ℕ)). ∥ IsHeadOf D (bytes_of file) (get_or parts k p).head ∥₁)
     (sym (same (Segment (get_or parts k p).head.id) (apart (get_or parts k p) (All-contains_itself parts k p lt)))) (all k p lt)
 
-pub faithful_swept : (D : ℕ) (s t : SetData) (k : CommitData) (name : FileName) (before after : Files) → IsUnneeded s k name → ((id : ℕ) → name ≡ Segment id → KeepsFile t.cache id → ⊥) → SameBut name before after
+pub faithful_swept : (D : ℕ) (s t : SetData) (k : CommitData) (name : FileName) (before after : Files) → IsUnneeded s k name
+    → ((id : ℕ) → name ≡ Segment id → KeepsFile t.cache id → ⊥) → SameBut name before after
     → Agrees before t.cache → t.parts ≡ s.parts → t.snapshots ≡ s.snapshots → IsFaithful D before s → IsFaithful D after t
 faithful_swept D s t k name before after un none same agrees parts snapshots keeps = record {
   pages = agrees_other before after t.cache (λ id kept. same (Segment id) (λ e. none id (sym e) kept)) agrees;
-  heads = subst (All (HasFileHead D after)) (sym parts) (heads_still D before after name s.parts same (λ p there e. un.shown (inl (p, there, sym e))) keeps.heads);
+  heads =
+      subst (All (HasFileHead D after)) (sym parts) (heads_still D before after name s.parts same (λ p there e. un.shown (inl (p, there, sym e))) keeps.heads);
   kept = subst (All (λ (v : NamedView). All (HasFileHead D after) v.parts)) (sym snapshots)
       (λ k v lt. heads_still D before after name (get_or s.snapshots k v).parts same
       (λ p there e. un.shown (inr (get_or s.snapshots k v, All-contains_itself s.snapshots k v lt, (p, there, sym e)))) (keeps.kept k v lt));

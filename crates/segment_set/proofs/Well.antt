@@ -1,5 +1,6 @@
 -- What every set keeps to, after each change.
-use Rattle.std.proofs.Common.{◌≡◌, ℕ, ◌+◌, ◌≤◌, Bool, true, false, not, ◌&&◌, ◌||◌, eqb, cond, List, [], ◌∷◌, length, Option, Some, None, refl, sym, ap, subst, ◌∙◌, arith}
+use Rattle.std.proofs.Common.{◌≡◌, ℕ, ◌+◌, ◌≤◌, Bool, true, false, not, ◌&&◌, ◌||◌, eqb, cond, List}
+use Rattle.std.proofs.Common.{[], ◌∷◌, length, Option, Some, None, refl, sym, ap, subst, ◌∙◌, arith}
 use Rattle.std.specs.List.{All, filter}
 use Rattle.std.proofs.lemmas.Bool.{eqb-true}
 use Rattle.std.proofs.lemmas.List.{length-map}
@@ -34,13 +35,15 @@ has_filtered keeps m (x ∷ xs) = by (keeps x.doc) refl (eqb x.doc m) refl (has_
     and_false false = refl
 
     by : (k : Bool) → keeps x.doc ≡ k → (e : Bool) → eqb x.doc m ≡ e → has_entry m (filter (λ (y : Item). keeps y.doc) xs) ≡ (has_entry m xs && keeps m)
-        → has_entry m (cond k (x ∷ filter (λ (y : Item). keeps y.doc) xs) (filter (λ (y : Item). keeps y.doc) xs)) ≡ ((eqb x.doc m || has_entry m xs) && keeps m)
+        → has_entry m (cond k (x ∷ filter (λ (y : Item). keeps y.doc) xs) (filter (λ (y : Item). keeps y.doc) xs))
+        ≡ ((eqb x.doc m || has_entry m xs) && keeps m)
     by true k true e rest = ap (λ b. b || has_entry m (filter (λ (y : Item). keeps y.doc) xs)) e
         ∙ sym (ap (λ b. (b || has_entry m xs) && keeps m) e ∙ sym (ap keeps (eqb-true x.doc m e)) ∙ k)
     by true k false e rest = ap (λ b. b || has_entry m (filter (λ (y : Item). keeps y.doc) xs)) e ∙ rest ∙ ap (λ b. (b || has_entry m xs) && keeps m) (sym e)
     by false k true e rest =
         let dead : keeps m ≡ false = sym (ap keeps (eqb-true x.doc m e)) ∙ k in
-        rest ∙ ap (λ b. has_entry m xs && b) dead ∙ and_false (has_entry m xs) ∙ sym (and_false (eqb x.doc m || has_entry m xs)) ∙ ap (λ b. (eqb x.doc m || has_entry m xs) && b) (sym dead)
+        rest ∙ ap (λ b. has_entry m xs && b) dead ∙ and_false (has_entry m xs) ∙ sym (and_false (eqb x.doc m || has_entry m xs))
+        ∙ ap (λ b. (eqb x.doc m || has_entry m xs) && b) (sym dead)
     by false k false e rest = rest ∙ ap (λ b. (b || has_entry m xs) && keeps m) (sym e)
 
 pub left_of : (a b : Bool) → (a && b) ≡ true → a ≡ true
@@ -63,7 +66,8 @@ places_cons m s ss = sum_by-cons (λ (t : LiveSet). cond (is_live t m) 1 0) s ss
 pub fewer_places : (number m : ℕ) (parts : List Part) → places m (lives_of (cleared number parts)) ≤ places m (lives_of parts)
 fewer_places number m [] = omega arith
 fewer_places number m (p ∷ ps) =
-    let one = cond_le (is_live (without number p.live) m) (is_live p.live m) (λ e. left_of (is_live p.live m) (not (eqb m number)) (sym (is_live-without p.live number m) ∙ e)) in
+    let one = cond_le (is_live (without number p.live) m) (is_live p.live m)
+    (λ e. left_of (is_live p.live m) (not (eqb m number)) (sym (is_live-without p.live number m) ∙ e)) in
     omega (arith, one, places_cons m (without number p.live) (lives_of (cleared number ps)), places_cons m p.live (lives_of ps), fewer_places number m ps)
 
 -- the number is live exactly where it was and is another one
@@ -100,7 +104,8 @@ among_cleared number ids [] = refl
 among_cleared number ids (p ∷ ps) = by (is_among ids p.head.id) (among_cleared number ids ps)
   where
     by : (b : Bool) → parts_among ids (cleared number ps) ≡ cleared number (parts_among ids ps)
-        → cond b (record p { live = without number p.live } ∷ parts_among ids (cleared number ps)) (parts_among ids (cleared number ps)) ≡ cleared number (cond b (p ∷ parts_among ids ps) (parts_among ids ps))
+        → cond b (record p { live = without number p.live } ∷ parts_among ids (cleared number ps)) (parts_among ids (cleared number ps))
+        ≡ cleared number (cond b (p ∷ parts_among ids ps) (parts_among ids ps))
     by true rest = ap (λ (qs : List Part). record p { live = without number p.live } ∷ qs) rest
     by false rest = rest
 
@@ -114,18 +119,23 @@ built_back : (number : ℕ) (begun : Option BegunMerge) (n : NewSegmentData) →
 built_back number None n is = cc
 built_back number (Some b) n is = by b.built refl is
   where
-    by : (o : Option NewSegmentData) → b.built ≡ o → built_but number o ≡ Some n → (old : NewSegmentData) × (b.built ≡ Some old) × (n ≡ record old { live = without number old.live })
+    by : (o : Option NewSegmentData) → b.built ≡ o → built_but number o ≡ Some n
+        → (old : NewSegmentData) × (b.built ≡ Some old) × (n ≡ record old { live = without number old.live })
     by None e h = cc
     by (Some old) e h = (old, e, cc)
 
-built_of_but : (D leaf number : ℕ) (inputs : List Part) (n : NewSegmentData) → IsBuiltOf D leaf inputs n → IsBuiltOf D leaf (cleared number inputs) (record n { live = without number n.live })
+built_of_but : (D leaf number : ℕ) (inputs : List Part) (n : NewSegmentData) → IsBuiltOf D leaf inputs n
+    → IsBuiltOf D leaf (cleared number inputs) (record n { live = without number n.live })
 built_of_but D leaf number inputs n is = record {
   leaf_size = is.leaf_size;
-  has = ∥∥₁_elim is.has ∥∥₁_prop (λ some. merely (record { items = some.items; has = record { built = some.has.built; counted = some.has.counted; fits = some.has.fits }; uncrowded = some.uncrowded }));
+  has = ∥∥₁_elim is.has ∥∥₁_prop
+      (λ some. merely
+      (record { items = some.items; has = record { built = some.has.built; counted = some.has.counted; fits = some.has.fits }; uncrowded = some.uncrowded }));
   fits = omega (arith, is.fits, length_but number n.live);
   within = λ m live.
       let both = sym (is_live-without n.live number m) ∙ live in
-      any_cleared number m inputs ∙ ap (λ b. b && not (eqb m number)) (is.within m (left_of (is_live n.live m) (not (eqb m number)) both)) ∙ right_of (is_live n.live m) (not (eqb m number)) both;
+      any_cleared number m inputs ∙ ap (λ b. b && not (eqb m number)) (is.within m (left_of (is_live n.live m) (not (eqb m number)) both))
+      ∙ right_of (is_live n.live m) (not (eqb m number)) both;
 }
   where
     right_of : (a b : Bool) → (a && b) ≡ true → b ≡ true
@@ -143,14 +153,20 @@ well_but D number s well = record {
   most_given = well.most_given;
   spread = spread_fewer s.next s.parts (cleared number s.parts) s.buffer (entries_but number s.buffer) (λ m. fewer_places number m s.parts)
       (λ m e. left_of (has_entry m s.buffer) (not (eqb m number)) (sym (has_filtered (λ n. not (eqb n number)) m s.buffer) ∙ e)) well.spread;
-  room = omega (arith, well.room, length-filter (λ (x : Item). not (eqb x.doc number)) s.buffer, count_by-le-length (λ (x : Item). not (eqb x.doc number)) s.buffer);
+  room = omega (
+    arith,
+    well.room,
+    length-filter (λ (x : Item). not (eqb x.doc number)) s.buffer,
+    count_by-le-length (λ (x : Item). not (eqb x.doc number)) s.buffer,
+  );
   ordered = IsNonDecreasingBy-filter (λ (x : Item). x.doc) (λ (x : Item). not (eqb x.doc number)) s.buffer well.ordered;
   once = none_twice_filter (λ (x : Item). not (eqb x.doc number)) s.buffer well.once;
   sixteen = few_filter (λ (x : Item). not (eqb x.doc number)) s.buffer well.sixteen;
   few = omega (arith, well.few, length-map s.parts clear);
   leaf_size = All-map (λ (p : Part). p.head.leaf ≡ s.leaf) clear s.parts well.leaf_size;
   live_fits = All-map (λ (p : Part). length p.live.live ≤ p.head.entries) clear s.parts
-      (All-weaker (λ (p : Part). length p.live.live ≤ p.head.entries) (λ (p : Part). length (without number p.live).live ≤ p.head.entries) (λ p h. omega (arith, h, length_but number p.live)) s.parts well.live_fits);
+      (All-weaker (λ (p : Part). length p.live.live ≤ p.head.entries) (λ (p : Part). length (without number p.live).live ≤ p.head.entries)
+      (λ p h. omega (arith, h, length_but number p.live)) s.parts well.live_fits);
   named = All-map (IsNamed s.names) clear s.parts well.named;
   kept = well.kept;
   own = well.own;
@@ -173,7 +189,8 @@ well_but D number s well = record {
 
 -- ---- another cache
 
-pub well_cache : (D : ℕ) (s : SetData) (cache : PageCache) → IsWell D s → ((id : ℕ) → KeepsFile cache id → is_named s.names.names (Segment id) ≡ true) → IsWell D (record s { cache = cache })
+pub well_cache : (D : ℕ) (s : SetData) (cache : PageCache) → IsWell D s → ((id : ℕ) → KeepsFile cache id → is_named s.names.names (Segment id) ≡ true)
+    → IsWell D (record s { cache = cache })
 well_cache D s cache well cached = record {
   some_dims = well.some_dims;
   few_dims = well.few_dims;

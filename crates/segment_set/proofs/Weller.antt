@@ -13,7 +13,8 @@ use Rattle.segment_build.specs.NewSegments.{NewSegmentData}
 use Rattle.file_names.specs.Names.{NameList, is_named}
 use Rattle.segment_set.specs.Sets.{IsSpread}
 use Rattle.segment_set.specs.Merges.{part_at, Replaces}
-use Rattle.segment_set.proofs.Replaced.{one_if, place_in, places_in, parted, length_parted, total_placed, length_placed, all_placed, all_but, among_placed, among_but}
+use Rattle.segment_set.proofs.Replaced.{one_if, place_in, places_in, parted, length_parted, total_placed}
+use Rattle.segment_set.proofs.Replaced.{length_placed, all_placed, all_but, among_placed, among_but}
 
 -- 1 where the number is live in what was built
 abbrev pub place_built : ℕ → Option NewSegmentData → ℕ
@@ -30,15 +31,20 @@ module _ (D : ℕ) (told : Type 0) (before after : NameList) (files : Files) (id
   -- places of the others, and of what came
   pub total_replaced : (number : ℕ) (built : Option NewSegmentData) → Replaces D told before after files ids built old new
       → sum_by (place_in number) new + sum_by (place_in number) (parts_among ids old) ≡ place_built number built + sum_by (place_in number) old
-  total_replaced number None r = let same : sum_by (place_in number) new ≡ sum_by (place_in number) (parts_but ids old) = ap (sum_by (place_in number)) r in omega (arith, parted (place_in number) ids old)
-  total_replaced number (Some n) r = omega (arith, total_placed (place_in number) (part_at r.id n) (parts_but ids old) new r.placed, parted (place_in number) ids old)
+  total_replaced number None r =
+      let same : sum_by (place_in number) new ≡ sum_by (place_in number) (parts_but ids old) = ap (sum_by (place_in number)) r in
+      omega (arith, parted (place_in number) ids old)
+  total_replaced number (Some n) r =
+      omega (arith, total_placed (place_in number) (part_at r.id n) (parts_but ids old) new r.placed, parted (place_in number) ids old)
 
-  pub length_replaced : (built : Option NewSegmentData) → Replaces D told before after files ids built old new → length new + length (parts_among ids old) ≤ length old + 1
+  pub length_replaced : (built : Option NewSegmentData) → Replaces D told before after files ids built old new
+      → length new + length (parts_among ids old) ≤ length old + 1
   length_replaced None r = let same : length new ≡ length (parts_but ids old) = ap length r in omega (arith, length_parted ids old)
   length_replaced (Some n) r = omega (arith, length_placed (part_at r.id n) (parts_but ids old) new r.placed, length_parted ids old)
 
   -- the new one is none of these where these are named
-  pub free_id : (these : List ℕ) (id : ℕ) → is_named before.names (Segment id) ≡ false → ((n : ℕ) → is_among these n ≡ true → is_named before.names (Segment n) ≡ true) → is_among these id ≡ false
+  pub free_id : (these : List ℕ) (id : ℕ) → is_named before.names (Segment id) ≡ false
+      → ((n : ℕ) → is_among these n ≡ true → is_named before.names (Segment n) ≡ true) → is_among these id ≡ false
   free_id these id free named = false_from_ne_true (is_among these id) (λ among. true≢false (sym (named id among) ∙ free))
 
   -- segments of other ids, whose files are named, stay
@@ -54,8 +60,10 @@ module _ (D : ℕ) (told : Type 0) (before after : NameList) (files : Files) (id
   no_entry false h = refl
 
   -- each number is live in one place alone
-  pub spread_replaced : (next : ℕ) (built : Option NewSegmentData) (buffer left : List Item) → Replaces D told before after files ids built old new → IsSpread next old buffer
-      → ((number : ℕ) → place_built number built + one_if (has_entry number left) ≤ sum_by (place_in number) (parts_among ids old) + one_if (has_entry number buffer))
+  pub spread_replaced : (next : ℕ) (built : Option NewSegmentData) (buffer left : List Item) → Replaces D told before after files ids built old new
+      → IsSpread next old buffer
+      → ((number : ℕ)
+      → place_built number built + one_if (has_entry number left) ≤ sum_by (place_in number) (parts_among ids old) + one_if (has_entry number buffer))
       → IsSpread next new left
   spread_replaced next built buffer left r spread fewer = record {
     alone = λ number. omega (arith, spread.alone number, fewer number, total_replaced number built r, places_in number old, places_in number new);

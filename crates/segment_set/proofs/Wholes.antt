@@ -1,5 +1,6 @@
 -- A merge of all segments.
-use Rattle.std.proofs.Common.{◌≡◌, ℕ, ◌+◌, ◌≤◌, Bool, true, false, cond, not, ◌&&◌, List, [], ◌∷◌, length, take, Option, None, Some, refl, sym, ap, subst, ◌∙◌, arith}
+use Rattle.std.proofs.Common.{◌≡◌, ℕ, ◌+◌, ◌≤◌, Bool, true, false, cond, not, ◌&&◌, List, [], ◌∷◌}
+use Rattle.std.proofs.Common.{length, take, Option, None, Some, refl, sym, ap, subst, ◌∙◌, arith}
 use Rattle.std.proofs.Math.Logic.{∥∥₁_elim}
 use Rattle.std.proofs.Props.{props}
 use Rattle.std.specs.List.{All, Contains, filter, slice_get}
@@ -80,10 +81,12 @@ abbrev pub IsOne : List Part → Type 0
 IsOne parts = (length parts ≤ 1) × All (λ p. p.head.index.form ≡ 3) parts
 
 -- where merging would change nothing there is one already
-pub settled_one : (inputs ids : List ℕ) (parts : List Part) → ids ≡ filter (λ id. not (is_among inputs id)) (ids_of parts) → length ids ≤ 1 → All IsWhole (parts_among ids parts) → IsOne (parts_but inputs parts)
+pub settled_one : (inputs ids : List ℕ) (parts : List Part) → ids ≡ filter (λ id. not (is_among inputs id)) (ids_of parts) → length ids ≤ 1
+    → All IsWhole (parts_among ids parts) → IsOne (parts_but inputs parts)
 settled_one inputs ids parts are few whole = (
   omega (arith, few, length_free inputs ids parts are),
-  All-weaker IsWhole (λ (p : Part). p.head.index.form ≡ 3) (λ p w. w.form) (parts_but inputs parts) (subst (All IsWhole) (among_free inputs ids parts are) whole),
+  All-weaker IsWhole (λ (p : Part). p.head.index.form ≡ 3) (λ p w. w.form) (parts_but inputs parts)
+      (subst (All IsWhole) (among_free inputs ids parts are) whole),
 )
 
 -- what is built has an index of form 3
@@ -91,7 +94,8 @@ built_form : (D : ℕ) (n : NewSegmentData) → ∥ HasUncrowded D n ∥₁ → 
 built_form D n has = ∥∥₁_elim has (hlevel props) (λ some. some.has.built.form)
 
 -- where all that are no inputs are merged what is built is the only one of them
-pub merged_one : (D : ℕ) (told : Type 0) (leaf : ℕ) (before after : NameList) (files new_files : Files) (cache : PageCache) (inputs ids : List ℕ) (old new : List Part)
+pub merged_one : (D : ℕ) (told : Type 0) (leaf : ℕ) (before after : NameList) (files new_files : Files) (cache : PageCache) (inputs ids : List ℕ)
+    (old new : List Part)
     → ids ≡ filter (λ id. not (is_among inputs id)) (ids_of old) → ((id : ℕ) → is_among inputs id ≡ true → is_named before.names (Segment id) ≡ true)
     → IsMerged D told leaf before after files new_files cache ids old new → IsOne (parts_but inputs new)
 merged_one D told leaf before after files new_files cache inputs ids old new are named m = by m.built m.replaces (λ n is. (m.gathered n is).made.has)
@@ -99,17 +103,21 @@ merged_one D told leaf before after files new_files cache inputs ids old new are
     none : parts_but inputs (parts_but ids old) ≡ []
     none = none_free inputs ids old are
 
-    by : (built : Option NewSegmentData) → Replaces D told before after new_files ids built old new → ((n : NewSegmentData) → built ≡ Some n → ∥ HasUncrowded D n ∥₁) → IsOne (parts_but inputs new)
+    by : (built : Option NewSegmentData) → Replaces D told before after new_files ids built old new
+        → ((n : NewSegmentData) → built ≡ Some n → ∥ HasUncrowded D n ∥₁) → IsOne (parts_but inputs new)
     by None r has = subst IsOne (sym (ap (parts_but inputs) r ∙ none)) (omega arith, All-nil (λ (p : Part). p.head.index.form ≡ 3))
     by (Some n) r has =
-        let placed = but_placed inputs (part_at r.id n) (parts_but ids old) new r.placed (free_id D told before after new_files ids old new inputs r.id r.fresh named) in (
+        let placed = but_placed inputs (part_at r.id n) (parts_but ids old) new r.placed
+        (free_id D told before after new_files ids old new inputs r.id r.fresh named) in (
           omega (arith, length_placed (part_at r.id n) (parts_but inputs (parts_but ids old)) (parts_but inputs new) placed, ap length none),
-          all_placed (λ (p : Part). p.head.index.form ≡ 3) (part_at r.id n) (parts_but inputs (parts_but ids old)) (parts_but inputs new) placed (built_form D n (has n refl))
+          all_placed (λ (p : Part). p.head.index.form ≡ 3) (part_at r.id n) (parts_but inputs (parts_but ids old)) (parts_but inputs new) placed
+              (built_form D n (has n refl))
               (subst (All (λ (p : Part). p.head.index.form ≡ 3)) (sym none) (All-nil (λ (p : Part). p.head.index.form ≡ 3))),
         )
 
 -- at each place one segment more
-pub wholes_more : (ids : List ℕ) (parts : List Part) (i : ℕ) (p : Part) → slice_get parts i ≡ Some p → All IsWhole (parts_among ids (take i parts)) → (is_among ids p.head.id ≡ true → IsWhole p)
+pub wholes_more : (ids : List ℕ) (parts : List Part) (i : ℕ) (p : Part) → slice_get parts i ≡ Some p → All IsWhole (parts_among ids (take i parts))
+    → (is_among ids p.head.id ≡ true → IsWhole p)
     → All IsWhole (parts_among ids (take (i + 1) parts))
 wholes_more ids parts i p at all here =
     subst (λ (ps : List Part). All IsWhole (parts_among ids ps)) (sym (parts_more parts i p at))
@@ -126,7 +134,8 @@ kept_whole true false h is = cc
 kept_whole false whole h is = cc
 
 -- one that isn't whole is none of segments that all are
-pub not_whole : (ids : List ℕ) (parts : List Part) (p : Part) (among whole : Bool) → Contains parts p → among ≡ is_among ids p.head.id → (IsWhole p → whole ≡ true) → (among && not whole) ≡ true → All IsWhole (parts_among ids parts) → ⊥
+pub not_whole : (ids : List ℕ) (parts : List Part) (p : Part) (among whole : Bool) → Contains parts p → among ≡ is_among ids p.head.id
+    → (IsWhole p → whole ≡ true) → (among && not whole) ≡ true → All IsWhole (parts_among ids parts) → ⊥
 not_whole ids parts p true true there among is h all = cc
 not_whole ids parts p true false there among is h all =
     let here = All-contains IsWhole (parts_among ids parts) p all (in_filter (λ (q : Part). is_among ids q.head.id) parts p there (sym among)) in

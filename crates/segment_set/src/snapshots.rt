@@ -57,7 +57,8 @@ impl<const D: usize> SegmentSet<D> {
     pub fn snapshot(&mut self, alloc: Global, name: Name) -> Result<(), SnapFault>
         ensures seen { (files : Files) (i : Index) → Sees D files self.old i
             → OnOk result
-            (Sees D files self.new (record i { snapshots = i.snapshots ++ record { name = name; docs = i.docs } ∷ [] })) }
+            (Sees D files self.new
+            (record i { snapshots = i.snapshots ++ record { name = name; docs = i.docs } ∷ [] })) }
         ensures faithful { (files : Files) → IsFaithful D files self.old → IsFaithful D files self.new }
         ensures taken { IsErrOf result Taken ↔ (has_name name self.old.snapshots ≡ true) }
         ensures too_many { IsErrOf result TooMany ↔

@@ -1,5 +1,6 @@
 -- Numbers in ascending order.
-use Rattle.std.proofs.Common.{◌≡◌, ℕ, ◌<◌, ◌≤◌, ◌+◌, true, false, ◌≢◌, eqb, List, [], ◌∷◌, ◌++◌, length, get_or, take, drop, map, sym, ap, subst, ◌∙◌, ◌⊎◌, inl, inr, arith}
+use Rattle.std.proofs.Common.{◌≡◌, ℕ, ◌<◌, ◌≤◌, ◌+◌, true, false, ◌≢◌, eqb, List, [], ◌∷◌, ◌++◌, length}
+use Rattle.std.proofs.Common.{get_or, take, drop, map, sym, ap, subst, ◌∙◌, ◌⊎◌, inl, inr, arith}
 use Rattle.std.specs.List.{All, AllPairs, Contains, insert}
 use Rattle.std.specs.List.Sorted.{IsStrictlyIncreasing}
 use Rattle.std.proofs.lemmas.Bool.{eq-eqb}
@@ -27,9 +28,11 @@ pub increasing_from_pairs : (xs : List ℕ) → AllPairs (λ x y. x < y) xs → 
 increasing_from_pairs xs h = λ k lt. h k (k + 1) 0 (omega arith) lt
 
 -- a number put between the lesser and the greater ones
-pub increasing-insert : (xs : List ℕ) (i y : ℕ) → IsStrictlyIncreasing xs → All (λ x. x < y) (take i xs) → All (λ x. y < x) (drop i xs) → IsStrictlyIncreasing (insert xs i y)
+pub increasing-insert : (xs : List ℕ) (i y : ℕ) → IsStrictlyIncreasing xs → All (λ x. x < y) (take i xs) → All (λ x. y < x) (drop i xs)
+    → IsStrictlyIncreasing (insert xs i y)
 increasing-insert xs i y up below above =
-    let whole : AllPairs (λ (a b : ℕ). a < b) (take i xs ++ drop i xs) = subst (λ (zs : List ℕ). AllPairs (λ (a b : ℕ). a < b) zs) (sym (take-append-drop i xs)) (AllPairs-from_increasing xs up) in
+    let whole : AllPairs (λ (a b : ℕ). a < b) (take i xs ++ drop i xs) =
+    subst (λ (zs : List ℕ). AllPairs (λ (a b : ℕ). a < b) zs) (sym (take-append-drop i xs)) (AllPairs-from_increasing xs up) in
     increasing_from_pairs (insert xs i y)
     (pairs_append (λ (a b : ℕ). a < b) (take i xs) (y ∷ drop i xs)
     (pairs_left (λ (a b : ℕ). a < b) (take i xs) (drop i xs) whole)
@@ -48,7 +51,8 @@ ids-insert heads i head =
     ∙ ap (λ (ns : List ℕ). ns ++ head.id ∷ map (λ (h : Head). h.id) (drop i heads)) (sym (take-map (λ (h : Head). h.id) i heads))
     ∙ ap (λ (ns : List ℕ). take i (map (λ (h : Head). h.id) heads) ++ head.id ∷ ns) (sym (drop-map (λ (h : Head). h.id) i heads))
 
-pub ids_ascend : (heads : List Head) (i : ℕ) (head : Head) → IsStrictlyIncreasing (map (λ h. h.id) heads) → All (λ h. h.id < head.id) (take i heads) → All (λ h. head.id < h.id) (drop i heads)
+pub ids_ascend : (heads : List Head) (i : ℕ) (head : Head) → IsStrictlyIncreasing (map (λ h. h.id) heads) → All (λ h. h.id < head.id) (take i heads)
+    → All (λ h. head.id < h.id) (drop i heads)
     → IsStrictlyIncreasing (map (λ h. h.id) (insert heads i head))
 ids_ascend heads i head up below above =
     subst IsStrictlyIncreasing (sym (ids-insert heads i head))
@@ -61,15 +65,19 @@ pub other_id : (heads : List Head) (id i : ℕ) (d : Head) → is_among (map (λ
 other_id heads id i d fresh within same =
     let at : get_or (map (λ (h : Head). h.id) heads) i 0 ≡ id = get_or-map (λ (h : Head). h.id) heads i d 0 within ∙ same in
     let found : is_among (map (λ (h : Head). h.id) heads) id ≡ true =
-    list_any_at (λ n. eqb n id) (map (λ (h : Head). h.id) heads) i 0 (subst (λ n. i < n) (sym (length-map heads (λ (h : Head). h.id))) within) (eq-eqb (get_or (map (λ (h : Head). h.id) heads) i 0) id at) in
+    list_any_at (λ n. eqb n id) (map (λ (h : Head). h.id) heads) i 0 (subst (λ n. i < n) (sym (length-map heads (λ (h : Head). h.id))) within)
+    (eq-eqb (get_or (map (λ (h : Head). h.id) heads) i 0) id at) in
     cc
 
 -- from a head with a greater id on all have greater ones
-pub above_place : (heads : List Head) (i id : ℕ) (d : Head) → IsStrictlyIncreasing (map (λ h. h.id) heads) → i < length heads → id < (get_or heads i d).id → All (λ h. id < h.id) (drop i heads)
+pub above_place : (heads : List Head) (i id : ℕ) (d : Head) → IsStrictlyIncreasing (map (λ h. h.id) heads) → i < length heads → id < (get_or heads i d).id
+    → All (λ h. id < h.id) (drop i heads)
 above_place heads i id d up within lt k e klt =
     let ids : List ℕ = map (λ (h : Head). h.id) heads in
     let fits : i + k < length heads = omega (arith, klt, length-drop i heads) in
     let here : get_or ids i 0 ≡ (get_or heads i d).id = get_or-map (λ (h : Head). h.id) heads i d 0 within in
     let there : get_or ids (i + k) 0 ≡ (get_or heads (i + k) e).id = get_or-map (λ (h : Head). h.id) heads (i + k) e 0 fits in
-    let le : get_or ids i 0 ≤ get_or ids (i + k) 0 = non_decreasing_from_sorted ids (sorted_from_strictly_increasing ids up) i (i + k) 0 (omega arith) (subst (λ n. i + k < n) (sym (length-map heads (λ (h : Head). h.id))) fits) in
+    let le : get_or ids i 0 ≤ get_or ids (i + k) 0 =
+    non_decreasing_from_sorted ids (sorted_from_strictly_increasing ids up) i (i + k) 0 (omega arith)
+    (subst (λ n. i + k < n) (sym (length-map heads (λ (h : Head). h.id))) fits) in
     subst (λ (h : Head). id < h.id) (sym (get_or-drop i heads k e)) (omega (arith, lt, here, there, le))

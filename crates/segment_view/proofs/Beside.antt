@@ -1,5 +1,6 @@
 -- Heads and live sets that are kept beside each other.
-use Rattle.std.proofs.Common.{◌≡◌, ℕ, ◌<◌, ◌≤◌, ◌+◌, zero, suc, Bool, true, false, not, cond, eqb, ◌||◌, min, List, [], ◌∷◌, ◌++◌, length, take, drop, map, get_or, refl, sym, ap, subst, ◌∙◌, arith, Some}
+use Rattle.std.proofs.Common.{◌≡◌, ℕ, ◌<◌, ◌≤◌, ◌+◌, zero, suc, Bool, true, false, not, cond, eqb, ◌||◌, min, List}
+use Rattle.std.proofs.Common.{[], ◌∷◌, ◌++◌, length, take, drop, map, get_or, refl, sym, ap, subst, ◌∙◌, arith, Some}
 use Rattle.std.specs.Prelude.{IsTrue, ◌↔◌}
 use Rattle.std.specs.List.{All, insert, remove, filter, list_any, slice_get}
 use Rattle.std.specs.List.Sorted.{IsStrictlyIncreasing}
@@ -42,20 +43,23 @@ pub parts_again : (parts : List Part) → parts_of (heads_of parts) (lives_of pa
 parts_again [] = refl
 parts_again (p ∷ ps) = ap (λ zs. p ∷ zs) (parts_again ps)
 
-pub parts-append : (heads more : List Head) (lives others : List LiveSet) → length lives ≡ length heads → parts_of (heads ++ more) (lives ++ others) ≡ parts_of heads lives ++ parts_of more others
+pub parts-append : (heads more : List Head) (lives others : List LiveSet) → length lives ≡ length heads
+    → parts_of (heads ++ more) (lives ++ others) ≡ parts_of heads lives ++ parts_of more others
 parts-append [] more [] others e = refl
 parts-append [] more (l ∷ ls) others e = absurd (omega (arith, e))
 parts-append (h ∷ hs) more [] others e = absurd (omega (arith, e))
 parts-append (h ∷ hs) more (l ∷ ls) others e = ap (λ zs. part_of h l ∷ zs) (parts-append hs more ls others (omega (arith, e)))
 
-pub parts-take : (n : ℕ) (heads : List Head) (lives : List LiveSet) → length lives ≡ length heads → parts_of (take n heads) (take n lives) ≡ take n (parts_of heads lives)
+pub parts-take : (n : ℕ) (heads : List Head) (lives : List LiveSet) → length lives ≡ length heads
+    → parts_of (take n heads) (take n lives) ≡ take n (parts_of heads lives)
 parts-take zero heads lives e = refl
 parts-take (suc n) [] [] e = refl
 parts-take (suc n) [] (l ∷ ls) e = absurd (omega (arith, e))
 parts-take (suc n) (h ∷ hs) [] e = absurd (omega (arith, e))
 parts-take (suc n) (h ∷ hs) (l ∷ ls) e = ap (λ zs. part_of h l ∷ zs) (parts-take n hs ls (omega (arith, e)))
 
-pub parts-drop : (n : ℕ) (heads : List Head) (lives : List LiveSet) → length lives ≡ length heads → parts_of (drop n heads) (drop n lives) ≡ drop n (parts_of heads lives)
+pub parts-drop : (n : ℕ) (heads : List Head) (lives : List LiveSet) → length lives ≡ length heads
+    → parts_of (drop n heads) (drop n lives) ≡ drop n (parts_of heads lives)
 parts-drop zero heads lives e = refl
 parts-drop (suc n) [] [] e = refl
 parts-drop (suc n) [] (l ∷ ls) e = absurd (omega (arith, e))
@@ -88,7 +92,8 @@ parts-remove heads lives i e =
     ∙ ap (λ (zs : List Part). take i (parts_of heads lives) ++ zs) (parts-drop (suc i) heads lives e)
 
 -- the live sets changed in place
-pub parts-without : (number : ℕ) (heads : List Head) (lives : List LiveSet) → parts_of heads (map (without number) lives) ≡ cleared number (parts_of heads lives)
+pub parts-without : (number : ℕ) (heads : List Head) (lives : List LiveSet)
+    → parts_of heads (map (without number) lives) ≡ cleared number (parts_of heads lives)
 parts-without number [] lives = refl
 parts-without number (h ∷ hs) [] = refl
 parts-without number (h ∷ hs) (l ∷ ls) = ap (λ zs. part_of h (without number l) ∷ zs) (parts-without number hs ls)
@@ -100,24 +105,32 @@ live_parts number [] (l ∷ ls) e = absurd (omega (arith, e))
 live_parts number (h ∷ hs) [] e = absurd (omega (arith, e))
 live_parts number (h ∷ hs) (l ∷ ls) e = ap (λ b. is_live l number || b) (live_parts number hs ls (omega (arith, e)))
 
-pub entries_parts : (heads : List Head) (lives : List LiveSet) → length lives ≡ length heads → map (λ (h : Head). h.entries) heads ≡ map (λ (p : Part). p.head.entries) (parts_of heads lives)
+pub entries_parts : (heads : List Head) (lives : List LiveSet) → length lives ≡ length heads
+    → map (λ (h : Head). h.entries) heads ≡ map (λ (p : Part). p.head.entries) (parts_of heads lives)
 entries_parts [] lives e = refl
 entries_parts (h ∷ hs) [] e = absurd (omega (arith, e))
 entries_parts (h ∷ hs) (l ∷ ls) e = ap (λ ns. h.entries ∷ ns) (entries_parts hs ls (omega (arith, e)))
 
-pub empty_iff : (heads : List Head) (lives : List LiveSet) → length lives ≡ length heads → (b : Bool) → b ≡ eqb (length heads) 0 → IsTrue b ↔ (parts_of heads lives ≡ [])
+pub empty_iff : (heads : List Head) (lives : List LiveSet) → length lives ≡ length heads → (b : Bool) → b ≡ eqb (length heads) 0
+    → IsTrue b ↔ (parts_of heads lives ≡ [])
 empty_iff [] lives e b is = (λ _. refl, λ _. is)
 empty_iff (h ∷ hs) [] e b is = absurd (omega (arith, e))
 empty_iff (h ∷ hs) (l ∷ ls) e b is = (λ t. absurd (omega (arith, eqb-true (length (h ∷ hs)) 0 (sym is ∙ t))), λ k. cc)
 
 -- ---- a segment comes
 
-pub in_step-insert : (D : ℕ) (heads : List Head) (lives : List LiveSet) (i : ℕ) (head : Head) (live : LiveSet) → AreInStep D heads lives → length heads < 16777216 → i ≤ length heads
+pub in_step-insert : (D : ℕ) (heads : List Head) (lives : List LiveSet) (i : ℕ) (head : Head) (live : LiveSet) → AreInStep D heads lives
+    → length heads < 16777216 → i ≤ length heads
     → All (λ h. h.id < head.id) (take i heads) → All (λ h. head.id < h.id) (drop i heads) → AreInStep D (insert heads i head) (insert lives i live)
 in_step-insert D heads lives i head live a room within below above =
     let long = length-insert heads i head within in
     let both = length-insert lives i live (omega (arith, within, a.same)) in
-    record { few_dims = a.few_dims; same = omega (arith, long, both, a.same); ascend = ids_ascend heads i head a.ascend below above; few = omega (arith, long, room) }
+    record {
+      few_dims = a.few_dims;
+      same = omega (arith, long, both, a.same);
+      ascend = ids_ascend heads i head a.ascend below above;
+      few = omega (arith, long, room);
+    }
 
 pub placed-insert : (heads : List Head) (lives : List LiveSet) (i : ℕ) (head : Head) (live : LiveSet) → length lives ≡ length heads
     → IsPlaced (part_of head live) (parts_of heads lives) (parts_of (insert heads i head) (insert lives i live))
@@ -129,7 +142,8 @@ placed-insert heads lives i head live e = record {
 }
 
 -- the same where the place was sought in a list that is seen to be that of the heads
-pub in_step_put : (D : ℕ) (heads seen put : List Head) (lives sets : List LiveSet) (place number : ℕ) (head : Head) (live : LiveSet) → AreInStep D heads lives → seen ≡ heads → number ≡ head.id
+pub in_step_put : (D : ℕ) (heads seen put : List Head) (lives sets : List LiveSet) (place number : ℕ) (head : Head) (live : LiveSet) → AreInStep D heads lives
+    → seen ≡ heads → number ≡ head.id
     → length heads < 16777216 → place ≤ length seen → All (λ h. h.id < number) (take place seen) → All (λ h. number < h.id) (drop place seen)
     → put ≡ insert heads place head → sets ≡ insert lives place live → AreInStep D put sets
 in_step_put D heads seen put lives sets place number head live a same is room within below above heads_put lives_put =
@@ -139,11 +153,13 @@ in_step_put D heads seen put lives sets place number head live a same is room wi
     (subst (λ (hs : List Head). All (λ h. h.id < head.id) (take place hs)) same (subst (λ n. All (λ h. h.id < n) (take place seen)) is below))
     (subst (λ (hs : List Head). All (λ h. head.id < h.id) (drop place hs)) same (subst (λ n. All (λ h. n < h.id) (drop place seen)) is above))))
 
-pub placed_put : (heads put : List Head) (lives sets : List LiveSet) (parts : List Part) (place : ℕ) (head : Head) (live : LiveSet) → length lives ≡ length heads → parts_of heads lives ≡ parts
+pub placed_put : (heads put : List Head) (lives sets : List LiveSet) (parts : List Part) (place : ℕ) (head : Head) (live : LiveSet)
+    → length lives ≡ length heads → parts_of heads lives ≡ parts
     → put ≡ insert heads place head → sets ≡ insert lives place live → IsPlaced (part_of head live) parts (parts_of put sets)
 placed_put heads put lives sets parts place head live same is heads_put lives_put =
     subst (λ (ps : List Part). IsPlaced (part_of head live) ps (parts_of put sets)) is
-    (subst (λ (ps : List Part). IsPlaced (part_of head live) (parts_of heads lives) ps) (ap (λ (hs : List Head). parts_of hs (insert lives place live)) (sym heads_put) ∙ ap (parts_of put) (sym lives_put))
+    (subst (λ (ps : List Part). IsPlaced (part_of head live) (parts_of heads lives) ps)
+    (ap (λ (hs : List Head). parts_of hs (insert lives place live)) (sym heads_put) ∙ ap (parts_of put) (sym lives_put))
     (placed-insert heads lives place head live same))
 
 pub ids_in_step : (D : ℕ) (heads : List Head) (lives : List LiveSet) → AreInStep D heads lives → IsStrictlyIncreasing (ids_of (parts_of heads lives))
@@ -156,15 +172,18 @@ ids-but ids [] = refl
 ids-but ids (p ∷ ps) = by (is_among ids p.head.id) (ids-but ids ps)
   where
     by : (b : Bool) → ids_of (parts_but ids ps) ≡ filter (λ n. not (is_among ids n)) (ids_of ps)
-        → ids_of (cond (not b) (p ∷ parts_but ids ps) (parts_but ids ps)) ≡ cond (not b) (p.head.id ∷ filter (λ n. not (is_among ids n)) (ids_of ps)) (filter (λ n. not (is_among ids n)) (ids_of ps))
+        → ids_of (cond (not b) (p ∷ parts_but ids ps) (parts_but ids ps))
+        ≡ cond (not b) (p.head.id ∷ filter (λ n. not (is_among ids n)) (ids_of ps)) (filter (λ n. not (is_among ids n)) (ids_of ps))
     by true e = e
     by false e = ap (λ ns. p.head.id ∷ ns) e
 
-pub in_step_but : (D : ℕ) (ids : List ℕ) (heads kept : List Head) (lives sets : List LiveSet) → AreInStep D heads lives → length sets ≡ length kept → parts_of kept sets ≡ parts_but ids (parts_of heads lives)
+pub in_step_but : (D : ℕ) (ids : List ℕ) (heads kept : List Head) (lives sets : List LiveSet) → AreInStep D heads lives → length sets ≡ length kept
+    → parts_of kept sets ≡ parts_but ids (parts_of heads lives)
     → AreInStep D kept sets
 in_step_but D ids heads kept lives sets a same is =
     let up : IsStrictlyIncreasing (ids_of (parts_but ids (parts_of heads lives))) =
-    subst IsStrictlyIncreasing (sym (ids-but ids (parts_of heads lives))) (IsStrictlyIncreasing-filter (λ n. not (is_among ids n)) (ids_of (parts_of heads lives)) (ids_in_step D heads lives a)) in
+    subst IsStrictlyIncreasing (sym (ids-but ids (parts_of heads lives)))
+    (IsStrictlyIncreasing-filter (λ n. not (is_among ids n)) (ids_of (parts_of heads lives)) (ids_in_step D heads lives a)) in
     let fewer = length-filter_both (λ (p : Part). is_among ids p.head.id) (λ (p : Part). not (is_among ids p.head.id)) (λ p. refl) (parts_of heads lives) in
     let left = sym (length_parts kept sets same) ∙ ap length is in
     record {
@@ -176,7 +195,8 @@ in_step_but D ids heads kept lives sets a same is =
 
 -- ---- a number taken out of one set after another
 
-pub cleared_more : (number : ℕ) (sets now : List LiveSet) (i : ℕ) (set : LiveSet) (was : Bool) → i < length sets → now ≡ map (without number) (take i sets) ++ drop i sets → set ≡ get_or now i set
+pub cleared_more : (number : ℕ) (sets now : List LiveSet) (i : ℕ) (set : LiveSet) (was : Bool) → i < length sets
+    → now ≡ map (without number) (take i sets) ++ drop i sets → set ≡ get_or now i set
     → was ≡ list_any (λ s. is_live s number) (take i sets) → (was || is_live set number) ≡ list_any (λ s. is_live s number) (take (i + 1) sets)
 cleared_more number sets now i set was within is read so_far =
     let front : length (map (without number) (take i sets)) ≡ i = length-map (take i sets) (without number) ∙ length-take-le i sets (omega (arith, within)) in

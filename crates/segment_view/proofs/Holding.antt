@@ -16,7 +16,8 @@ held_one D files p xs h = record { front_items = xs; back_items = []; front_hold
 pub held_other : (D : ℕ) (files : Files) (ids : List ℕ) (p : Part) → is_among ids p.head.id ≡ false → AreHeld D files (parts_among ids (p ∷ [])) []
 held_other D files ids p other = subst (λ (b : Bool). AreHeld D files (cond b (p ∷ []) []) []) (sym other) refl
 
-pub held-append : (D : ℕ) (files : Files) (ps qs : List Part) (xs ys : List Item) → AreHeld D files ps xs → AreHeld D files qs ys → AreHeld D files (ps ++ qs) (xs ++ ys)
+pub held-append : (D : ℕ) (files : Files) (ps qs : List Part) (xs ys : List Item) → AreHeld D files ps xs → AreHeld D files qs ys
+    → AreHeld D files (ps ++ qs) (xs ++ ys)
 held-append D files [] qs xs ys a b = subst (λ (zs : List Item). AreHeld D files qs (zs ++ ys)) (sym a) b
 held-append D files (p ∷ ps) qs xs ys a b = record {
   front_items = a.front_items;
@@ -27,7 +28,8 @@ held-append D files (p ∷ ps) qs xs ys a b = record {
 }
 
 -- one segment more
-pub held_more : (D : ℕ) (files : Files) (ids : List ℕ) (parts : List Part) (i : ℕ) (p : Part) (xs more : List Item) → slice_get parts i ≡ Some p → AreHeld D files (parts_among ids (take i parts)) xs
+pub held_more : (D : ℕ) (files : Files) (ids : List ℕ) (parts : List Part) (i : ℕ) (p : Part) (xs more : List Item) → slice_get parts i ≡ Some p
+    → AreHeld D files (parts_among ids (take i parts)) xs
     → AreHeld D files (parts_among ids (p ∷ [])) more → AreHeld D files (parts_among ids (take (i + 1) parts)) (xs ++ more)
 held_more D files ids parts i p xs more is a b =
     subst (λ (ps : List Part). AreHeld D files ps (xs ++ more)) (sym (among_more ids parts i p is))

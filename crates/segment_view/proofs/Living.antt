@@ -1,10 +1,12 @@
 -- The live entries of segments.
-use Rattle.std.proofs.Common.{◌≡◌, ℕ, ◌+◌, ◌<◌, ◌≤◌, ◌^◌, Bool, true, false, not, ◌||◌, ◌&&◌, eqb, cond, List, [], ◌∷◌, ◌++◌, length, take, refl, sym, ap, subst, ◌∙◌, arith, Some}
+use Rattle.std.proofs.Common.{◌≡◌, ℕ, ◌+◌, ◌<◌, ◌≤◌, ◌^◌, Bool, true, false, not, ◌||◌, ◌&&◌, eqb, cond}
+use Rattle.std.proofs.Common.{List, [], ◌∷◌, ◌++◌, length, take, refl, sym, ap, subst, ◌∙◌, arith, Some}
 use Rattle.std.specs.List.{All, Contains, filter, list_any, slice_get, sum_by}
 use Rattle.std.proofs.lemmas.Bool.{eqb-true}
 use Rattle.std.proofs.lemmas.List.{take_more, append-nil}
 use Rattle.std.proofs.lemmas.List.Concat.{flat_map-append}
-use Rattle.std.proofs.lemmas.List.Elements.{All-append, All-cons, All-contains, All-head, All-map, All-nil, All-tail, All-weaker, Contains-get_or, filter-append}
+use Rattle.std.proofs.lemmas.List.Elements.{All-append, All-cons, All-contains, All-head, All-map}
+use Rattle.std.proofs.lemmas.List.Elements.{All-nil, All-tail, All-weaker, Contains-get_or, filter-append}
 use Rattle.std.proofs.lemmas.List.Folds.{list_any-append, list_any_at}
 use Rattle.std.proofs.lemmas.List.Sums.{sum_by-append}
 use Rattle.std.proofs.lemmas.Option.{get_or_from_slice_get, slice_get_within}
@@ -21,7 +23,8 @@ use Rattle.documents.proofs.Kept.{among_to}
 use Rattle.segment_file.specs.Heads.{Head}
 use Rattle.segment_file.specs.Segments.{IsSegment}
 use Rattle.nearest_query.specs.Segments.{live_in, AreSegments}
-use Rattle.segment_view.specs.Parts.{Part, part_of, Contents, IsRead, AreRead, IsPlaced, heads_of, lives_of, ids_of, live_in_parts, parts_among, parts_but, has_live, cleared}
+use Rattle.segment_view.specs.Parts.{Part, part_of, Contents, IsRead, AreRead, IsPlaced, heads_of, lives_of}
+use Rattle.segment_view.specs.Parts.{ids_of, live_in_parts, parts_among, parts_but, has_live, cleared}
 
 abbrev pub live_of : Contents → Part → List Item
 live_of c p = filter (λ x. is_live p.live x.doc) (c p.head.id)
@@ -56,9 +59,11 @@ live_alike c d (p ∷ ps) same =
 
 -- ---- a number taken out
 
-one_cleared : (s : LiveSet) (number : ℕ) (xs : List Item) → filter (λ (x : Item). is_live (without number s) x.doc) xs ≡ entries_but number (filter (λ (x : Item). is_live s x.doc) xs)
+one_cleared : (s : LiveSet) (number : ℕ) (xs : List Item)
+    → filter (λ (x : Item). is_live (without number s) x.doc) xs ≡ entries_but number (filter (λ (x : Item). is_live s x.doc) xs)
 one_cleared s number xs =
-    filter_alike (λ (x : Item). is_live (without number s) x.doc) (λ (x : Item). is_live s x.doc && not (eqb x.doc number)) xs (λ x h. is_live-without s number x.doc)
+    filter_alike (λ (x : Item). is_live (without number s) x.doc) (λ (x : Item). is_live s x.doc && not (eqb x.doc number)) xs
+    (λ x h. is_live-without s number x.doc)
     ∙ sym (filter_twice (λ (x : Item). not (eqb x.doc number)) (λ (x : Item). is_live s x.doc) xs)
 
 pub live_cleared : (c : Contents) (number : ℕ) (parts : List Part) → live_in_parts c (cleared number parts) ≡ entries_but number (live_in_parts c parts)
@@ -92,11 +97,14 @@ any_cleared number m (p ∷ ps) =
 
 -- ---- by totals
 
-pub placed_totals : (c : Contents) (p : Part) (old new : List Part) → IsPlaced p old new → SameTotals (live_in_parts c old ++ live_in_parts c (p ∷ [])) (live_in_parts c new)
+pub placed_totals : (c : Contents) (p : Part) (old new : List Part) → IsPlaced p old new
+    → SameTotals (live_in_parts c old ++ live_in_parts c (p ∷ [])) (live_in_parts c new)
 placed_totals c p old new put = λ f.
-    let whole = ap (λ (ps : List Part). sum_by f (live_in_parts c ps)) put.after ∙ ap (sum_by f) (live-append c put.front (p ∷ put.back)) ∙ sum_by-append f (live_in_parts c put.front) (live_in_parts c (p ∷ put.back)) in
+    let whole = ap (λ (ps : List Part). sum_by f (live_in_parts c ps)) put.after ∙ ap (sum_by f) (live-append c put.front (p ∷ put.back))
+    ∙ sum_by-append f (live_in_parts c put.front) (live_in_parts c (p ∷ put.back)) in
     let rest = sum_by-append f (live_of c p) (live_in_parts c put.back) in
-    let others = ap (λ (ps : List Part). sum_by f (live_in_parts c ps)) put.before ∙ ap (sum_by f) (live-append c put.front put.back) ∙ sum_by-append f (live_in_parts c put.front) (live_in_parts c put.back) in
+    let others = ap (λ (ps : List Part). sum_by f (live_in_parts c ps)) put.before ∙ ap (sum_by f) (live-append c put.front put.back)
+    ∙ sum_by-append f (live_in_parts c put.front) (live_in_parts c put.back) in
     let both = sum_by-append f (live_in_parts c old) (live_in_parts c (p ∷ [])) in
     let one = ap (sum_by f) (live_one c p) in
     omega (arith, whole, rest, others, both, one)
@@ -108,7 +116,8 @@ parted_sums c ids f (p ∷ ps) =
     by (is_among ids p.head.id) (parted_sums c ids f ps)
   where
     by : (b : Bool) → sum_by f (live_in_parts c (parts_among ids ps)) + sum_by f (live_in_parts c (parts_but ids ps)) ≡ sum_by f (live_in_parts c ps)
-        → sum_by f (live_in_parts c (cond b (p ∷ parts_among ids ps) (parts_among ids ps))) + sum_by f (live_in_parts c (cond (not b) (p ∷ parts_but ids ps) (parts_but ids ps))) ≡ sum_by f (live_in_parts c (p ∷ ps))
+        → sum_by f (live_in_parts c (cond b (p ∷ parts_among ids ps) (parts_among ids ps)))
+        + sum_by f (live_in_parts c (cond (not b) (p ∷ parts_but ids ps) (parts_but ids ps))) ≡ sum_by f (live_in_parts c (p ∷ ps))
     by true rest =
         let here = sum_by-append f (live_of c p) (live_in_parts c (parts_among ids ps)) in
         let all = sum_by-append f (live_of c p) (live_in_parts c ps) in
@@ -118,7 +127,8 @@ parted_sums c ids f (p ∷ ps) =
         let all = sum_by-append f (live_of c p) (live_in_parts c ps) in
         omega (arith, rest, here, all)
 
-pub parted_totals : (c : Contents) (ids : List ℕ) (parts : List Part) → SameTotals (live_in_parts c (parts_among ids parts) ++ live_in_parts c (parts_but ids parts)) (live_in_parts c parts)
+pub parted_totals : (c : Contents) (ids : List ℕ) (parts : List Part)
+    → SameTotals (live_in_parts c (parts_among ids parts) ++ live_in_parts c (parts_but ids parts)) (live_in_parts c parts)
 parted_totals c ids parts = λ f.
     let whole = parted_sums c ids f parts in
     let both = sum_by-append f (live_in_parts c (parts_among ids parts)) (live_in_parts c (parts_but ids parts)) in
@@ -135,7 +145,10 @@ pub read_cleared : (D : ℕ) (files : Files) (c : Contents) (number : ℕ) (part
 read_cleared D files c number parts all =
     All-map (IsRead D files c) (λ (p : Part). part_of p.head (without number p.live)) parts
     (All-weaker (IsRead D files c) (λ (p : Part). IsRead D files c (part_of p.head (without number p.live)))
-    (λ p r. record { held = r.held; found = λ m live. r.found m (first (is_live p.live m) (not (eqb m number)) (sym (is_live-without p.live number m) ∙ live)) }) parts all)
+    (λ p r. record {
+      held = r.held;
+      found = λ m live. r.found m (first (is_live p.live m) (not (eqb m number)) (sym (is_live-without p.live number m) ∙ live));
+    }) parts all)
   where
     first : (a b : Bool) → (a && b) ≡ true → a ≡ true
     first true b e = refl
@@ -154,9 +167,11 @@ read_alike D old new c d (p ∷ ps) files same all =
           (subst (λ b. IsSegment D (bytes_of b) p.head (c p.head.id)) (sym file) r.held);
       found = λ m live. ap (has_entry m) entries ∙ r.found m live;
     })
-    (read_alike D old new c d ps (λ id h. files id (cons_tail p.head.id (ids_of ps) id h)) (λ id h. same id (cons_tail p.head.id (ids_of ps) id h)) (All-tail (IsRead D old c) p ps all))
+    (read_alike D old new c d ps (λ id h. files id (cons_tail p.head.id (ids_of ps) id h)) (λ id h. same id (cons_tail p.head.id (ids_of ps) id h))
+    (All-tail (IsRead D old c) p ps all))
 
-pub read_placed : (D : ℕ) (files : Files) (c : Contents) (p : Part) (old new : List Part) → IsPlaced p old new → IsRead D files c p → AreRead D files c old → AreRead D files c new
+pub read_placed : (D : ℕ) (files : Files) (c : Contents) (p : Part) (old new : List Part) → IsPlaced p old new → IsRead D files c p → AreRead D files c old
+    → AreRead D files c new
 read_placed D files c p old new put r all =
     let whole : AreRead D files c (put.front ++ put.back) = subst (AreRead D files c) put.before all in
     subst (AreRead D files c) (sym put.after)
@@ -166,7 +181,8 @@ read_placed D files c p old new put r all =
   where
     front_read : (xs ys : List Part) → AreRead D files c (xs ++ ys) → AreRead D files c xs
     front_read [] ys h = All-nil (IsRead D files c)
-    front_read (x ∷ xs) ys h = All-cons (IsRead D files c) x xs (All-head (IsRead D files c) x (xs ++ ys) h) (front_read xs ys (All-tail (IsRead D files c) x (xs ++ ys) h))
+    front_read (x ∷ xs) ys h =
+        All-cons (IsRead D files c) x xs (All-head (IsRead D files c) x (xs ++ ys) h) (front_read xs ys (All-tail (IsRead D files c) x (xs ++ ys) h))
 
     back_read : (xs ys : List Part) → AreRead D files c (xs ++ ys) → AreRead D files c ys
     back_read [] ys h = h
@@ -187,7 +203,8 @@ none_dead keeps number (x ∷ xs) dead = by (none_dead keeps number xs dead) (ke
     by rest true e = ap (λ b. b || has_entry number (filter (λ (y : Item). keeps y.doc) xs)) (other e (eqb x.doc number) refl) ∙ rest
     by rest false e = rest
 
-all_live : (keeps : ℕ → Bool) (number : ℕ) (xs : List Item) → keeps number ≡ true → has_entry number (filter (λ (x : Item). keeps x.doc) xs) ≡ has_entry number xs
+all_live : (keeps : ℕ → Bool) (number : ℕ) (xs : List Item) → keeps number ≡ true
+    → has_entry number (filter (λ (x : Item). keeps x.doc) xs) ≡ has_entry number xs
 all_live keeps number [] live = refl
 all_live keeps number (x ∷ xs) live = by (all_live keeps number xs live) (keeps x.doc) refl
   where
@@ -196,11 +213,13 @@ all_live keeps number (x ∷ xs) live = by (all_live keeps number xs live) (keep
     other dead false e = refl
 
     by : has_entry number (filter (λ (y : Item). keeps y.doc) xs) ≡ has_entry number xs
-        → (b : Bool) → keeps x.doc ≡ b → has_entry number (cond b (x ∷ filter (λ (y : Item). keeps y.doc) xs) (filter (λ (y : Item). keeps y.doc) xs)) ≡ has_entry number (x ∷ xs)
+        → (b : Bool) → keeps x.doc ≡ b
+        → has_entry number (cond b (x ∷ filter (λ (y : Item). keeps y.doc) xs) (filter (λ (y : Item). keeps y.doc) xs)) ≡ has_entry number (x ∷ xs)
     by rest true e = ap (λ b. eqb x.doc number || b) rest
     by rest false e = rest ∙ ap (λ b. b || has_entry number xs) (sym (other e (eqb x.doc number) refl))
 
-pub live_numbers : (D : ℕ) (files : Files) (c : Contents) (number : ℕ) (parts : List Part) → AreRead D files c parts → has_live number parts ≡ has_entry number (live_in_parts c parts)
+pub live_numbers : (D : ℕ) (files : Files) (c : Contents) (number : ℕ) (parts : List Part) → AreRead D files c parts
+    → has_live number parts ≡ has_entry number (live_in_parts c parts)
 live_numbers D files c number [] all = refl
 live_numbers D files c number (p ∷ ps) all =
     ap (λ b. b || has_live number ps) (one (is_live p.live number) refl)
@@ -219,7 +238,8 @@ live_below s number set live =
     let within = All-contains (λ n. (s.base ≤ n) × (n < s.base + s.span)) s.live number set.within (among_to s.live number live) in
     omega (arith, within.1, set.limit)
 
-pub numbers_below : {D : ℕ} (s : LiveSet) (entries : List (Entry D)) → IsLiveSet s → All (λ (x : Item). is_live s x.doc ≡ true) (items_of entries) → All (λ (e : Entry D). e.doc < 2 ^ 24) entries
+pub numbers_below : {D : ℕ} (s : LiveSet) (entries : List (Entry D)) → IsLiveSet s → All (λ (x : Item). is_live s x.doc ≡ true) (items_of entries)
+    → All (λ (e : Entry D). e.doc < 2 ^ 24) entries
 numbers_below {D} s [] set all = All-nil (λ (e : Entry D). e.doc < 2 ^ 24)
 numbers_below {D} s (e ∷ es) set all =
     All-cons (λ (x : Entry D). x.doc < 2 ^ 24) e es
@@ -235,26 +255,31 @@ pub nothing_live : (c : Contents) (p : Part) → length p.live.live ≡ 0 → li
 nothing_live c p none = live_one c p ∙ ap (λ (f : ℕ → Bool). filter (λ (x : Item). f x.doc) (c p.head.id)) ((none_live p.live).0 none) ∙ none_kept (c p.head.id)
 
 -- a number that is live in a segment is so in those among which it is
-pub live_in_one : (ids : List ℕ) (p : Part) (number : ℕ) → is_among ids p.head.id ≡ true → is_live p.live number ≡ true → has_live number (parts_among ids (p ∷ [])) ≡ true
+pub live_in_one : (ids : List ℕ) (p : Part) (number : ℕ) → is_among ids p.head.id ≡ true → is_live p.live number ≡ true
+    → has_live number (parts_among ids (p ∷ [])) ≡ true
 live_in_one ids p number e live = ap (λ b. has_live number (cond b (p ∷ []) [])) e ∙ ap (λ b. b || false) live
 
 any_in : (test : Part → Bool) (parts : List Part) (p : Part) → Contains parts p → test p ≡ true → list_any test parts ≡ true
 any_in test parts p (k, h, e) t = list_any_at test parts k p h (ap test e ∙ t)
 
-pub live_widens : (ids : List ℕ) (parts : List Part) (p : Part) (number : ℕ) → Contains parts p → has_live number (parts_among ids (p ∷ [])) ≡ true → has_live number (parts_among ids parts) ≡ true
+pub live_widens : (ids : List ℕ) (parts : List Part) (p : Part) (number : ℕ) → Contains parts p → has_live number (parts_among ids (p ∷ [])) ≡ true
+    → has_live number (parts_among ids parts) ≡ true
 live_widens ids parts p number there h = by (is_among ids p.head.id) refl h
   where
     by : (b : Bool) → is_among ids p.head.id ≡ b → has_live number (cond b (p ∷ []) []) ≡ true → has_live number (parts_among ids parts) ≡ true
     by true e k =
-        any_in (λ (q : Part). is_live q.live number) (parts_among ids parts) p (in_filter (λ (q : Part). is_among ids q.head.id) parts p there e) (or_false (is_live p.live number) k)
+        any_in (λ (q : Part). is_live q.live number) (parts_among ids parts) p (in_filter (λ (q : Part). is_among ids q.head.id) parts p there e)
+        (or_false (is_live p.live number) k)
       where
         or_false : (b : Bool) → (b || false) ≡ true → b ≡ true
         or_false true e = refl
         or_false false e = e
     by false e k = cc
 
-pub all_widen : (ids : List ℕ) (parts : List Part) (p : Part) (xs more : List Item) → Contains parts p → All (λ (x : Item). has_live x.doc (parts_among ids parts) ≡ true) xs
+pub all_widen : (ids : List ℕ) (parts : List Part) (p : Part) (xs more : List Item) → Contains parts p
+    → All (λ (x : Item). has_live x.doc (parts_among ids parts) ≡ true) xs
     → All (λ (x : Item). has_live x.doc (parts_among ids (p ∷ [])) ≡ true) more → All (λ (x : Item). has_live x.doc (parts_among ids parts) ≡ true) (xs ++ more)
 all_widen ids parts p xs more there all new =
     All-append (λ (x : Item). has_live x.doc (parts_among ids parts) ≡ true) xs more all
-    (All-weaker (λ (x : Item). has_live x.doc (parts_among ids (p ∷ [])) ≡ true) (λ (x : Item). has_live x.doc (parts_among ids parts) ≡ true) (λ x h. live_widens ids parts p x.doc there h) more new)
+    (All-weaker (λ (x : Item). has_live x.doc (parts_among ids (p ∷ [])) ≡ true) (λ (x : Item). has_live x.doc (parts_among ids parts) ≡ true)
+    (λ x h. live_widens ids parts p x.doc there h) more new)

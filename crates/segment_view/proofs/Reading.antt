@@ -20,7 +20,8 @@ use Rattle.segment_view.proofs.Beside.{ids_heads}
 pub calm_none : (told : Bool) (files : Files) (cache : PageCache) (ids : List ℕ) → IsCalm told files files cache cache ids
 calm_none told files cache ids = record { files = λ _. refl; agrees = λ _ h. h; others = λ id h. inl h }
 
-pub calm_then : (told : Bool) (old mid new : Files) (before between after : PageCache) (ids : List ℕ) → IsCalm told old mid before between ids → IsCalm told mid new between after ids
+pub calm_then : (told : Bool) (old mid new : Files) (before between after : PageCache) (ids : List ℕ) → IsCalm told old mid before between ids
+    → IsCalm told mid new between after ids
     → IsCalm told old new before after ids
 calm_then told old mid new before between after ids a b = record {
   files = λ t. b.files t ∙ a.files t;
@@ -28,12 +29,15 @@ calm_then told old mid new before between after ids a b = record {
   others = λ id h. ⊎_elim (λ k. a.others id k) (λ k. inr k) (b.others id h);
 }
 
-pub calm_more : (told : Bool) (old new : Files) (before after : PageCache) (ids more : List ℕ) → ((id : ℕ) → Contains ids id → Contains more id) → IsCalm told old new before after ids
+pub calm_more : (told : Bool) (old new : Files) (before after : PageCache) (ids more : List ℕ) → ((id : ℕ) → Contains ids id → Contains more id)
+    → IsCalm told old new before after ids
     → IsCalm told old new before after more
-calm_more told old new before after ids more f a = record { files = a.files; agrees = a.agrees; others = λ id h. ⊎_elim (λ k. inl k) (λ k. inr (f id k)) (a.others id h) }
+calm_more told old new before after ids more f a =
+    record { files = a.files; agrees = a.agrees; others = λ id h. ⊎_elim (λ k. inl k) (λ k. inr (f id k)) (a.others id h) }
 
 -- the cache agrees with the files that a calm call left
-pub agrees_after : (told : Bool) (old new : Files) (before after : PageCache) (ids : List ℕ) → IsCalm told old new before after ids → IsTrue told → Agrees old before → Agrees new after
+pub agrees_after : (told : Bool) (old new : Files) (before after : PageCache) (ids : List ℕ) → IsCalm told old new before after ids → IsTrue told
+    → Agrees old before → Agrees new after
 agrees_after told old new before after ids a t h = subst (λ f. Agrees f after) (sym (a.files t)) (a.agrees t h)
 
 -- ---- a segment of a list
@@ -45,7 +49,8 @@ id_in parts p there id h = ⊎_elim
     (cons_cases p.head.id [] id h)
 
 -- the segment's id, where it is among some, is among those of the list
-pub among_in : (ids : List ℕ) (parts : List Part) (p : Part) → Contains parts p → (id : ℕ) → Contains (ids_of (parts_among ids (p ∷ []))) id → Contains (ids_of (parts_among ids parts)) id
+pub among_in : (ids : List ℕ) (parts : List Part) (p : Part) → Contains parts p → (id : ℕ) → Contains (ids_of (parts_among ids (p ∷ []))) id
+    → Contains (ids_of (parts_among ids parts)) id
 among_in ids parts p there id h = by (is_among ids p.head.id) refl h
   where
     by : (b : Bool) → is_among ids p.head.id ≡ b → Contains (ids_of (cond b (p ∷ []) [])) id → Contains (ids_of (parts_among ids parts)) id
@@ -54,7 +59,9 @@ among_in ids parts p there id h = by (is_among ids p.head.id) refl h
 
 -- told by ids, as the nearest query tells it by heads
 pub id_of : (parts : List Part) (id : ℕ) → HasId (heads_of parts) id → Contains (ids_of parts) id
-id_of parts id h = subst (Contains (ids_of parts)) h.2 (subst (λ (ns : List ℕ). Contains ns h.0.id) (sym (ids_heads parts)) (in_map (λ (x : Head). x.id) (heads_of parts) h.0 h.1))
+id_of parts id h =
+    subst (Contains (ids_of parts)) h.2
+    (subst (λ (ns : List ℕ). Contains ns h.0.id) (sym (ids_heads parts)) (in_map (λ (x : Head). x.id) (heads_of parts) h.0 h.1))
 
 -- ---- one segment, whose id is among some
 
@@ -62,7 +69,8 @@ pub among_one : (ids : List ℕ) (p : Part) → is_among ids p.head.id ≡ true 
 among_one ids p e = ap (λ b. cond b (p ∷ []) []) e
 
 -- what a walk over its file keeps to
-pub calm_alone : (told : Bool) (old new : Files) (before after : PageCache) (id : ℕ) → (IsTrue told → new ≡ old) → (IsTrue told → Agrees old before → Agrees old after)
+pub calm_alone : (told : Bool) (old new : Files) (before after : PageCache) (id : ℕ) → (IsTrue told → new ≡ old)
+    → (IsTrue told → Agrees old before → Agrees old after)
     → ((i : ℕ) → KeepsFile after i → KeepsFile before i ⊎ (i ≡ id)) → IsCalm told old new before after (id ∷ [])
 calm_alone told old new before after id files agrees others = record {
   files = files;
@@ -73,10 +81,13 @@ calm_alone told old new before after id files agrees others = record {
 -- ---- damages
 
 -- a damage of a segment, where its id is among some, is one of those of the list
-pub part_among : {T : Type 0} (D : ℕ) (ids : List ℕ) (parts : List Part) (p : Part) → Contains parts p → (r : Result T PageFault) → OnDamage r (IsPartDamage D (parts_among ids (p ∷ []))) → OnDamage r (IsPartDamage D (parts_among ids parts))
-part_among D ids parts p there r = on_damage (IsPartDamage D (parts_among ids (p ∷ []))) (IsPartDamage D (parts_among ids parts)) r (λ d h. (h.0, here h.0 h.1, h.2))
+pub part_among : {T : Type 0} (D : ℕ) (ids : List ℕ) (parts : List Part) (p : Part) → Contains parts p → (r : Result T PageFault)
+    → OnDamage r (IsPartDamage D (parts_among ids (p ∷ []))) → OnDamage r (IsPartDamage D (parts_among ids parts))
+part_among D ids parts p there r =
+    on_damage (IsPartDamage D (parts_among ids (p ∷ []))) (IsPartDamage D (parts_among ids parts)) r (λ d h. (h.0, here h.0 h.1, h.2))
   where
     here : (q : Part) → Contains (parts_among ids (p ∷ [])) q → Contains (parts_among ids parts) q
     here q is =
         let of = of_filter (λ (x : Part). is_among ids x.head.id) (p ∷ []) q is in
-        in_filter (λ (x : Part). is_among ids x.head.id) parts q (⊎_elim (λ e. subst (Contains parts) e there) (λ k. nil_none q (Contains parts q) k) (cons_cases p [] q of.0)) of.1
+        in_filter (λ (x : Part). is_among ids x.head.id) parts q
+        (⊎_elim (λ e. subst (Contains parts) e there) (λ k. nil_none q (Contains parts q) k) (cons_cases p [] q of.0)) of.1

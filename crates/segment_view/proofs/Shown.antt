@@ -48,7 +48,8 @@ head_seen D head seen ranges e spelled = ∥∥₁_map spelled (λ q. record { r
 -- segments of one id are one, where the ids ascend
 same_part : (parts : List Part) (p q : Part) → AllPairs (λ m n. m < n) (ids_of parts) → Contains parts p → Contains parts q → p.head.id ≡ q.head.id → p ≡ q
 same_part [] p q up a b e = nil_none p (p ≡ q) a
-same_part (x ∷ xs) p q up a b e = by (λ here there. same_part xs p q (pairs_tail (λ m n. m < n) x.head.id (ids_of xs) up) here there e) (cons_cases x xs p a) (cons_cases x xs q b)
+same_part (x ∷ xs) p q up a b e =
+    by (λ here there. same_part xs p q (pairs_tail (λ m n. m < n) x.head.id (ids_of xs) up) here there e) (cons_cases x xs p a) (cons_cases x xs q b)
   where
     above : (r : Part) → Contains xs r → x.head.id < r.head.id
     above r there = pairs_head (λ m n. m < n) x.head.id (ids_of xs) up r.head.id (in_map (λ (s : Part). s.head.id) xs r there)
@@ -95,12 +96,14 @@ read_names D head d h = ∥∥₁_elim h (hlevel props) (λ r. leaf_names D head
 part_named : (D : ℕ) (parts : List Part) (d : Damage) → IsStrictlyIncreasing (ids_of parts) → ∥ IsPartDamage D parts d ∥₁ → IsPartDamage D parts d
 part_named D parts d up some =
     let among : is_among (ids_of parts) (id_named d) ≡ true = ∥∥₁_elim some (hlevel props) (λ s.
-    among_from (ids_of parts) (id_named d) (subst (Contains (ids_of parts)) (sym (read_names D s.0.head d s.2)) (in_map (λ (q : Part). q.head.id) parts s.0 s.1))) in
+    among_from (ids_of parts) (id_named d)
+    (subst (Contains (ids_of parts)) (sym (read_names D s.0.head d s.2)) (in_map (λ (q : Part). q.head.id) parts s.0 s.1))) in
     let p = of_map (λ (q : Part). q.head.id) parts (id_named d) (among_to (ids_of parts) (id_named d) among) in (
       p.0,
       p.1,
       ∥∥₁_elim some ∥∥₁_prop (λ s.
-          subst (λ (q : Part). IsReadDamage D q.head d) (same_part parts s.0 p.0 (AllPairs-from_increasing (ids_of parts) up) s.1 p.1 (sym (read_names D s.0.head d s.2) ∙ sym p.2)) s.2),
+          subst (λ (q : Part). IsReadDamage D q.head d)
+          (same_part parts s.0 p.0 (AllPairs-from_increasing (ids_of parts) up) s.1 p.1 (sym (read_names D s.0.head d s.2) ∙ sym p.2)) s.2),
     )
 
 -- ---- trees of all
@@ -110,7 +113,8 @@ tree_before : IndexTree → (ℕ → IndexTree) → ℕ → IndexTree
 tree_before t trees zero = t
 tree_before t trees (suc n) = trees n
 
-before_have : (D : ℕ) (head : Head) (heads : List Head) (trees : ℕ → IndexTree) → (q : IsSpelled D head.index) → HaveTrees D heads trees → HaveTrees D (head ∷ heads) (tree_before q.tree trees)
+before_have : (D : ℕ) (head : Head) (heads : List Head) (trees : ℕ → IndexTree) → (q : IsSpelled D head.index) → HaveTrees D heads trees
+    → HaveTrees D (head ∷ heads) (tree_before q.tree trees)
 unfolding tree_before
 before_have D head heads trees q have zero within = (q.root, q.has)
 before_have D head heads trees q have (suc n) within = have n (omega (arith, within))
@@ -120,20 +124,24 @@ some_trees : (D : ℕ) (heads : List Head) → All (λ h. ∥ IsHead D h ∥₁)
 some_trees D [] all = merely (λ n. Leaf 0 (record { lo = []; hi = [] }), λ i within. absurd (omega (arith, within)))
 some_trees D (head ∷ heads) all =
     ∥∥₁_elim (all 0 no_head (omega arith)) ∥∥₁_prop (λ is.
-    ∥∥₁_map (some_trees D heads (All-tail (λ h. ∥ IsHead D h ∥₁) head heads all)) (λ some. (tree_before is.spelled.tree some.0, before_have D head heads some.0 is.spelled some.1)))
+    ∥∥₁_map (some_trees D heads (All-tail (λ h. ∥ IsHead D h ∥₁) head heads all))
+    (λ some. (tree_before is.spelled.tree some.0, before_have D head heads some.0 is.spelled some.1)))
 
 -- the segment at the place of a damage
-part_at : (D : ℕ) (parts : List Part) (trees : ℕ → IndexTree) (d : Damage) → All (λ h. ∥ IsHead D h ∥₁) (heads_of parts) → HaveTrees D (heads_of parts) trees → IsSegmentDamage D (heads_of parts) trees d → IsPartDamage D parts d
+part_at : (D : ℕ) (parts : List Part) (trees : ℕ → IndexTree) (d : Damage) → All (λ h. ∥ IsHead D h ∥₁) (heads_of parts) → HaveTrees D (heads_of parts) trees
+    → IsSegmentDamage D (heads_of parts) trees d → IsPartDamage D parts d
 part_at D parts trees d all have (i, within, leaf) =
     let p = of_map (λ (q : Part). q.head) parts (get_or (heads_of parts) i no_head) (All-contains_itself (heads_of parts) i no_head within) in (
       p.0,
       p.1,
       subst (λ (h : Head). IsReadDamage D h d) (sym p.2)
-          (∥∥₁_map (all i no_head within) (λ is. record { ranges = is.ranges; root = (have i within).0; tree = trees i; has = (have i within).1; shows = leaf })),
+          (∥∥₁_map (all i no_head within)
+          (λ is. record { ranges = is.ranges; root = (have i within).0; tree = trees i; has = (have i within).1; shows = leaf })),
     )
 
 -- what is shown of trees of all segments is shown
-pub parts_shown : {T : Type 0} (D : ℕ) (parts : List Part) (r : Result T PageFault) → IsStrictlyIncreasing (ids_of parts) → All (λ h. ∥ IsHead D h ∥₁) (heads_of parts)
+pub parts_shown : {T : Type 0} (D : ℕ) (parts : List Part) (r : Result T PageFault) → IsStrictlyIncreasing (ids_of parts)
+    → All (λ h. ∥ IsHead D h ∥₁) (heads_of parts)
     → ((trees : ℕ → IndexTree) → HaveTrees D (heads_of parts) trees → OnDamage r (IsSegmentDamage D (heads_of parts) trees)) → OnDamage r (IsPartDamage D parts)
 parts_shown D parts (Ok v) up all shown = tt
 parts_shown D parts (Err Failed) up all shown = tt

@@ -1,7 +1,9 @@
 -- What a loop over segments has come to, one segment at a time.
-use Rattle.std.proofs.Common.{◌≡◌, ℕ, ◌+◌, ◌<◌, ◌≤◌, suc, Bool, true, false, not, cond, List, [], ◌∷◌, ◌++◌, length, take, drop, get_or, sym, ap, subst, ◌∙◌, arith, Some, ℤ}
+use Rattle.std.proofs.Common.{◌≡◌, ℕ, ◌+◌, ◌<◌, ◌≤◌, suc, Bool, true, false, not, cond, List, [], ◌∷◌}
+use Rattle.std.proofs.Common.{◌++◌, length, take, drop, get_or, sym, ap, subst, ◌∙◌, arith, Some, ℤ}
 use Rattle.std.specs.List.{remove, slice_get}
-use Rattle.std.proofs.lemmas.List.{map-append, take-append-drop, drop_more, append_assoc, take_at, drop_at, length-take-le, length_push, length-append, get_or_append_left, get_or-take, get_or-map}
+use Rattle.std.proofs.lemmas.List.{map-append, take-append-drop, drop_more, append_assoc, take_at, drop_at, length-take-le}
+use Rattle.std.proofs.lemmas.List.{length_push, length-append, get_or_append_left, get_or-take, get_or-map}
 use Rattle.std.proofs.lemmas.List.Elements.{filter-append}
 use Rattle.std.proofs.lemmas.List.Sums.{sum_by-append}
 use Rattle.std.proofs.lemmas.Option.{get_or_from_slice_get, slice_get_within, slice_get-get_or}
@@ -31,10 +33,12 @@ leaves-append xs ys =
     ap leaves_in (map-append (λ (p : Part). p.head) xs ys)
     ∙ sum_by-append (λ (h : Head). h.index.leaves) (heads_of xs) (heads_of ys)
 
-pub leaves_more : (parts : List Part) (i : ℕ) (p : Part) → slice_get parts i ≡ Some p → leaves_in (heads_of (take (i + 1) parts)) ≡ leaves_in (heads_of (take i parts)) + leaves_in (heads_of (p ∷ []))
+pub leaves_more : (parts : List Part) (i : ℕ) (p : Part) → slice_get parts i ≡ Some p
+    → leaves_in (heads_of (take (i + 1) parts)) ≡ leaves_in (heads_of (take i parts)) + leaves_in (heads_of (p ∷ []))
 leaves_more parts i p is = ap (λ (ps : List Part). leaves_in (heads_of ps)) (parts_more parts i p is) ∙ leaves-append (take i parts) (p ∷ [])
 
-pub leaves_upto : (parts : List Part) (i : ℕ) (p : Part) → slice_get parts i ≡ Some p → leaves_in (heads_of (take i parts)) + leaves_in (heads_of (p ∷ [])) ≤ leaves_in (heads_of parts)
+pub leaves_upto : (parts : List Part) (i : ℕ) (p : Part) → slice_get parts i ≡ Some p
+    → leaves_in (heads_of (take i parts)) + leaves_in (heads_of (p ∷ [])) ≤ leaves_in (heads_of parts)
 leaves_upto parts i p is =
     let whole = ap (λ (ps : List Part). leaves_in (heads_of ps)) (sym (split_at parts i p is)) ∙ leaves-append (take i parts ++ p ∷ []) (drop (i + 1) parts) in
     let front = leaves-append (take i parts) (p ∷ []) in
@@ -42,11 +46,13 @@ leaves_upto parts i p is =
 
 -- ---- of the segments of some ids
 
-pub among_more : (ids : List ℕ) (parts : List Part) (i : ℕ) (p : Part) → slice_get parts i ≡ Some p → parts_among ids (take (i + 1) parts) ≡ parts_among ids (take i parts) ++ parts_among ids (p ∷ [])
+pub among_more : (ids : List ℕ) (parts : List Part) (i : ℕ) (p : Part) → slice_get parts i ≡ Some p
+    → parts_among ids (take (i + 1) parts) ≡ parts_among ids (take i parts) ++ parts_among ids (p ∷ [])
 among_more ids parts i p is = ap (parts_among ids) (parts_more parts i p is) ∙ filter-append (λ (q : Part). is_among ids q.head.id) (take i parts) (p ∷ [])
 
 pub leaves_among_more : (ids : List ℕ) (parts : List Part) (i : ℕ) (p : Part) → slice_get parts i ≡ Some p
-    → leaves_in (heads_of (parts_among ids (take (i + 1) parts))) ≡ leaves_in (heads_of (parts_among ids (take i parts))) + leaves_in (heads_of (parts_among ids (p ∷ [])))
+    → leaves_in (heads_of (parts_among ids (take (i + 1) parts)))
+    ≡ leaves_in (heads_of (parts_among ids (take i parts))) + leaves_in (heads_of (parts_among ids (p ∷ [])))
 leaves_among_more ids parts i p is =
     ap (λ (ps : List Part). leaves_in (heads_of ps)) (among_more ids parts i p is) ∙ leaves-append (parts_among ids (take i parts)) (parts_among ids (p ∷ []))
 
@@ -62,12 +68,14 @@ leaves_among_upto ids parts i p is =
 
 pub live_among_more : (c : Contents) (ids : List ℕ) (parts : List Part) (i : ℕ) (p : Part) → slice_get parts i ≡ Some p
     → live_in_parts c (parts_among ids (take (i + 1) parts)) ≡ live_in_parts c (parts_among ids (take i parts)) ++ live_in_parts c (parts_among ids (p ∷ []))
-live_among_more c ids parts i p is = ap (live_in_parts c) (among_more ids parts i p is) ∙ live-append c (parts_among ids (take i parts)) (parts_among ids (p ∷ []))
+live_among_more c ids parts i p is =
+    ap (live_in_parts c) (among_more ids parts i p is) ∙ live-append c (parts_among ids (take i parts)) (parts_among ids (p ∷ []))
 
 -- ---- numbers that are found
 
 pub found_parts_more : (test : List ℤ → Bool) (c : Contents) (parts : List Part) (i : ℕ) (p : Part) → slice_get parts i ≡ Some p
-    → numbers_found test (live_in_parts c (take (i + 1) parts)) ≡ numbers_found test (live_in_parts c (take i parts)) ++ numbers_found test (live_in_parts c (p ∷ []))
+    → numbers_found test (live_in_parts c (take (i + 1) parts))
+    ≡ numbers_found test (live_in_parts c (take i parts)) ++ numbers_found test (live_in_parts c (p ∷ []))
 found_parts_more test c parts i p is =
     ap (λ (ps : List Part). numbers_found test (live_in_parts c ps)) (parts_more parts i p is)
     ∙ ap (numbers_found test) (live-append c (take i parts) (p ∷ []))
@@ -83,17 +91,21 @@ pub record Upto (D : ℕ) (count : Head → IndexTree → ℕ) (parts : List Par
   pub within : before + here ≤ n
 
 -- of a count of the front that ends with a place
-pub counted_more : (D : ℕ) (count : Head → IndexTree → ℕ) (parts : List Part) (i : ℕ) (p : Part) (n : ℕ) → slice_get parts i ≡ Some p → AreCounted D count (heads_of (take (i + 1) parts)) n → Upto D count parts i p n
+pub counted_more : (D : ℕ) (count : Head → IndexTree → ℕ) (parts : List Part) (i : ℕ) (p : Part) (n : ℕ) → slice_get parts i ≡ Some p
+    → AreCounted D count (heads_of (take (i + 1) parts)) n → Upto D count parts i p n
 counted_more D count parts i p n is all =
     let h = halves D count (heads_of (take i parts)) (p.head ∷ []) n
-    (subst (λ (hs : List Head). AreCounted D count hs n) (ap heads_of (parts_more parts i p is) ∙ map-append (λ (q : Part). q.head) (take i parts) (p ∷ [])) all) in
+    (subst (λ (hs : List Head). AreCounted D count hs n) (ap heads_of (parts_more parts i p is) ∙ map-append (λ (q : Part). q.head) (take i parts) (p ∷ []))
+    all) in
     record { before = h.left; here = h.right; of_before = h.of_left; of_here = h.of_right; within = omega (arith, h.sum) }
 
 -- of a count of all
-pub counted_upto : (D : ℕ) (count : Head → IndexTree → ℕ) (parts : List Part) (i : ℕ) (p : Part) (n : ℕ) → slice_get parts i ≡ Some p → AreCounted D count (heads_of parts) n → Upto D count parts i p n
+pub counted_upto : (D : ℕ) (count : Head → IndexTree → ℕ) (parts : List Part) (i : ℕ) (p : Part) (n : ℕ) → slice_get parts i ≡ Some p
+    → AreCounted D count (heads_of parts) n → Upto D count parts i p n
 counted_upto D count parts i p n is all =
     let h = halves D count (heads_of (take (i + 1) parts)) (heads_of (drop (i + 1) parts)) n
-    (subst (λ (hs : List Head). AreCounted D count hs n) (ap heads_of (sym (take-append-drop (i + 1) parts)) ∙ map-append (λ (q : Part). q.head) (take (i + 1) parts) (drop (i + 1) parts)) all) in
+    (subst (λ (hs : List Head). AreCounted D count hs n)
+    (ap heads_of (sym (take-append-drop (i + 1) parts)) ∙ map-append (λ (q : Part). q.head) (take (i + 1) parts) (drop (i + 1) parts)) all) in
     let u = counted_more D count parts i p h.left is h.of_left in
     record { before = u.before; here = u.here; of_before = u.of_before; of_here = u.of_here; within = omega (arith, u.within, h.sum) }
 
@@ -110,7 +122,8 @@ remove_at front rest p i len =
     let left : drop (suc i) ((front ++ p ∷ []) ++ rest) ≡ rest = drop_at (front ++ p ∷ []) rest (suc i) (omega (arith, length_push front p, len)) in
     ap (λ (ps : List Part). ps ++ drop (suc i) ((front ++ p ∷ []) ++ rest)) kept ∙ ap (λ (ps : List Part). front ++ ps) left
 
-one_but : (ids : List ℕ) (p : Part) (rest : List Part) (b : Bool) → is_among ids p.head.id ≡ b → parts_but ids (p ∷ rest) ≡ cond (not b) (p ∷ parts_but ids rest) (parts_but ids rest)
+one_but : (ids : List ℕ) (p : Part) (rest : List Part) (b : Bool) → is_among ids p.head.id ≡ b
+    → parts_but ids (p ∷ rest) ≡ cond (not b) (p ∷ parts_but ids rest) (parts_but ids rest)
 one_but ids p rest b e = ap (λ c. cond (not c) (p ∷ parts_but ids rest) (parts_but ids rest)) e
 
 pub out_kept : (ids : List ℕ) (parts : List Part) (i : ℕ) (p : Part) → slice_get parts i ≡ Some p → is_among ids p.head.id ≡ false
@@ -143,11 +156,13 @@ out_place ids parts heads lives i head same now within read =
     ap (λ (ps : List Part). get_or ps i d) now
     ∙ get_or_append_left (take (i + 1) parts) (parts_but ids (drop (i + 1) parts)) d i front
     ∙ get_or-take (i + 1) parts i d (omega arith) in
-    let inside : i < length (parts_of heads lives) = omega (arith, front, ap length now, length-append (take (i + 1) parts) (parts_but ids (drop (i + 1) parts))) in
+    let inside : i < length (parts_of heads lives) =
+    omega (arith, front, ap length now, length-append (take (i + 1) parts) (parts_but ids (drop (i + 1) parts))) in
     record {
       part = get_or parts i d;
       is = slice_get-get_or parts i d within;
-      has = ap (λ (q : Part). q.head) (sym here) ∙ sym (get_or-map (λ (q : Part). q.head) (parts_of heads lives) i d head inside) ∙ ap (λ (hs : List Head). get_or hs i head) (heads_parts heads lives same) ∙ sym read;
+      has = ap (λ (q : Part). q.head) (sym here) ∙ sym (get_or-map (λ (q : Part). q.head) (parts_of heads lives) i d head inside)
+          ∙ ap (λ (hs : List Head). get_or hs i head) (heads_parts heads lives same) ∙ sym read;
     }
 
 pub out_room : (ids : List ℕ) (parts now : List Part) (i : ℕ) → now ≡ take i parts ++ parts_but ids (drop i parts) → i ≤ length parts → i ≤ length now

@@ -2,7 +2,8 @@
 use Rattle.std.proofs.Common.{◌≡◌, ◌≢◌, ℕ, ◌+◌, ◌≤◌, ◌<◌, Bool, false, eqb, cond, List, [], ◌∷◌, ◌++◌, refl, sym, ap, subst, ◌∙◌, inl, inr, arith}
 use Rattle.std.specs.List.{All, AllPairs, Contains, count_by}
 use Rattle.std.proofs.lemmas.Bool.{cases_Bool, eqb-true}
-use Rattle.std.proofs.lemmas.List.Elements.{All-nil, All-cons, All-head, All-tail, All-append, All-contains, All-contains_itself, All-weaker, Contains-append_left, Contains-append_right}
+use Rattle.std.proofs.lemmas.List.Elements.{All-nil, All-cons, All-head, All-tail, All-append, All-contains}
+use Rattle.std.proofs.lemmas.List.Elements.{All-contains_itself, All-weaker, Contains-append_left, Contains-append_right}
 use Rattle.std.proofs.lemmas.List.Kept.{AllPairs-cons}
 use Rattle.std.proofs.lemmas.List.Sums.{sum_by-cons, sum_by-append}
 use Rattle.point_codec.specs.Points.{Item}
@@ -40,40 +41,51 @@ none_of_dead d number dead =
 count-append : (number : ℕ) (xs ys : List Item) → count_by (numbered number) (xs ++ ys) ≡ count_by (numbered number) xs + count_by (numbered number) ys
 count-append number xs ys = sum_by-append (λ (y : Item). cond (numbered number y) 1 0) xs ys
 
-few_in_all : (next : ℕ) (parts : List SegmentData) → ((number : ℕ) → places number (live_sets parts) ≤ 1) → All (λ (d : SegmentData). MakeDocs next (live_entries d)) parts
+few_in_all : (next : ℕ) (parts : List SegmentData) → ((number : ℕ) → places number (live_sets parts) ≤ 1)
+    → All (λ (d : SegmentData). MakeDocs next (live_entries d)) parts
     → (number : ℕ) → count_by (numbered number) (all_live_entries parts) ≤ 16
 few_in_all next [] alone make number = omega arith
 few_in_all next (d ∷ ds) alone make number = elim (cases_Bool (is_live d.live number)) [
   | inl here ↦
       let none : count_by (numbered number) (all_live_entries ds) ≡ 0 =
       no_entries number (all_live_entries ds)
-      (λ x h e. omega (arith, alone number, live_first number d.live (live_sets ds) here, subst (λ (n : ℕ). 1 ≤ places n (live_sets ds)) e (entry_live ds x h))) in
-      omega (arith, count-append number (live_entries d) (all_live_entries ds), none, (All-head (λ (e : SegmentData). MakeDocs next (live_entries e)) d ds make).few number)
+      (λ x h e.
+      omega (arith, alone number, live_first number d.live (live_sets ds) here, subst (λ (n : ℕ). 1 ≤ places n (live_sets ds)) e (entry_live ds x h))) in
+      omega (
+        arith,
+        count-append number (live_entries d) (all_live_entries ds),
+        none,
+        (All-head (λ (e : SegmentData). MakeDocs next (live_entries e)) d ds make).few number,
+      )
   | inr dead ↦
       omega (
         arith,
         count-append number (live_entries d) (all_live_entries ds),
         none_of_dead d number dead,
-        few_in_all next ds (λ n. omega (arith, alone n, rest_le n d.live (live_sets ds))) (All-tail (λ (e : SegmentData). MakeDocs next (live_entries e)) d ds make) number,
+        few_in_all next ds (λ n. omega (arith, alone n, rest_le n d.live (live_sets ds)))
+            (All-tail (λ (e : SegmentData). MakeDocs next (live_entries e)) d ds make) number,
       )
 ]
 
 -- ---- of each segment, so of all
 
-below_in_all : (next : ℕ) (parts : List SegmentData) → All (λ (d : SegmentData). MakeDocs next (live_entries d)) parts → All (λ (x : Item). x.doc < next) (all_live_entries parts)
+below_in_all : (next : ℕ) (parts : List SegmentData) → All (λ (d : SegmentData). MakeDocs next (live_entries d)) parts
+    → All (λ (x : Item). x.doc < next) (all_live_entries parts)
 below_in_all next [] make = All-nil (λ (x : Item). x.doc < next)
 below_in_all next (d ∷ ds) make =
     All-append (λ (x : Item). x.doc < next) (live_entries d) (all_live_entries ds)
     (All-head (λ (e : SegmentData). MakeDocs next (live_entries e)) d ds make).below
     (below_in_all next ds (All-tail (λ (e : SegmentData). MakeDocs next (live_entries e)) d ds make))
 
-once_in_all : (next : ℕ) (parts : List SegmentData) → ((number : ℕ) → places number (live_sets parts) ≤ 1) → All (λ (d : SegmentData). MakeDocs next (live_entries d)) parts
+once_in_all : (next : ℕ) (parts : List SegmentData) → ((number : ℕ) → places number (live_sets parts) ≤ 1)
+    → All (λ (d : SegmentData). MakeDocs next (live_entries d)) parts
     → AllPairs Apart (all_live_entries parts)
 once_in_all next [] alone make = pairs_none Apart
 once_in_all next (d ∷ ds) alone make =
     pairs_append Apart (live_entries d) (all_live_entries ds)
     (All-head (λ (e : SegmentData). MakeDocs next (live_entries e)) d ds make).once
-    (once_in_all next ds (λ n. omega (arith, alone n, rest_le n d.live (live_sets ds))) (All-tail (λ (e : SegmentData). MakeDocs next (live_entries e)) d ds make))
+    (once_in_all next ds (λ n. omega (arith, alone n, rest_le n d.live (live_sets ds)))
+    (All-tail (λ (e : SegmentData). MakeDocs next (live_entries e)) d ds make))
     (λ x y here there same.
     let live = (of_filter (λ (z : Item). is_live d.live z.doc) d.entries x here).1 in
     omega (
@@ -83,7 +95,8 @@ once_in_all next (d ∷ ds) alone make =
       subst (λ (z : Item). 1 ≤ places z.doc (live_sets ds)) (sym same) (entry_live ds y there),
     ))
 
-make_all : (next : ℕ) (parts : List SegmentData) → ((number : ℕ) → places number (live_sets parts) ≤ 1) → All (λ (d : SegmentData). MakeDocs next (live_entries d)) parts → MakeDocs next (all_live_entries parts)
+make_all : (next : ℕ) (parts : List SegmentData) → ((number : ℕ) → places number (live_sets parts) ≤ 1)
+    → All (λ (d : SegmentData). MakeDocs next (live_entries d)) parts → MakeDocs next (all_live_entries parts)
 make_all next parts alone make = record {
   below = below_in_all next parts make;
   few = few_in_all next parts alone make;
@@ -105,14 +118,16 @@ pairs_right (x ∷ xs) ys h = pairs_right xs ys (pairs_tail Apart x (xs ++ ys) h
 
 make_left : (next : ℕ) (xs ys : List Item) → MakeDocs next (xs ++ ys) → MakeDocs next xs
 make_left next xs ys make = record {
-  below = All-weaker (Contains xs) (λ (x : Item). x.doc < next) (λ x h. All-contains (λ (y : Item). y.doc < next) (xs ++ ys) x make.below (Contains-append_left xs ys x h)) xs (All-contains_itself xs);
+  below = All-weaker (Contains xs) (λ (x : Item). x.doc < next)
+      (λ x h. All-contains (λ (y : Item). y.doc < next) (xs ++ ys) x make.below (Contains-append_left xs ys x h)) xs (All-contains_itself xs);
   few = λ number. omega (arith, count-append number xs ys, make.few number);
   once = pairs_left xs ys make.once;
 }
 
 make_right : (next : ℕ) (xs ys : List Item) → MakeDocs next (xs ++ ys) → MakeDocs next ys
 make_right next xs ys make = record {
-  below = All-weaker (Contains ys) (λ (x : Item). x.doc < next) (λ x h. All-contains (λ (y : Item). y.doc < next) (xs ++ ys) x make.below (Contains-append_right xs ys x h)) ys (All-contains_itself ys);
+  below = All-weaker (Contains ys) (λ (x : Item). x.doc < next)
+      (λ x h. All-contains (λ (y : Item). y.doc < next) (xs ++ ys) x make.below (Contains-append_right xs ys x h)) ys (All-contains_itself ys);
   few = λ number. omega (arith, count-append number xs ys, make.few number);
   once = pairs_right xs ys make.once;
 }
@@ -123,9 +138,11 @@ make_each next (d ∷ ds) make =
     All-cons (λ (e : SegmentData). MakeDocs next (live_entries e)) d ds (make_left next (live_entries d) (all_live_entries ds) make)
     (make_each next ds (make_right next (live_entries d) (all_live_entries ds) make))
 
-pub docs_of_each : (next : ℕ) (parts : List SegmentData) → ((number : ℕ) → places number (live_sets parts) ≤ 1) → All (λ (d : SegmentData). MakeDocs next (live_entries d)) parts
+pub docs_of_each : (next : ℕ) (parts : List SegmentData) → ((number : ℕ) → places number (live_sets parts) ≤ 1)
+    → All (λ (d : SegmentData). MakeDocs next (live_entries d)) parts
     → (docs : List Document) × AreDocs next (all_live_entries parts) docs
 docs_of_each next parts alone make = docs_from next (all_live_entries parts) (make_all next parts alone make)
 
-pub each_of_docs : (next : ℕ) (parts : List SegmentData) (docs : List Document) → AreDocs next (all_live_entries parts) docs → All (λ (d : SegmentData). MakeDocs next (live_entries d)) parts
+pub each_of_docs : (next : ℕ) (parts : List SegmentData) (docs : List Document) → AreDocs next (all_live_entries parts) docs
+    → All (λ (d : SegmentData). MakeDocs next (live_entries d)) parts
 each_of_docs next parts docs are = make_each next parts (docs_make next (all_live_entries parts) docs are)

@@ -23,7 +23,8 @@ one_fewer : (number : ℕ) (xs : List Item) → has_entry number xs ≡ true →
 one_fewer number [] h = cc
 one_fewer number (x ∷ xs) h = by (eqb x.doc number) refl (one_fewer number xs)
   where
-    by : (b : Bool) → eqb x.doc number ≡ b → (has_entry number xs ≡ true → length (entries_but number xs) + 1 ≤ length xs) → length (entries_but number (x ∷ xs)) + 1 ≤ length (x ∷ xs)
+    by : (b : Bool) → eqb x.doc number ≡ b → (has_entry number xs ≡ true → length (entries_but number xs) + 1 ≤ length xs)
+        → length (entries_but number (x ∷ xs)) + 1 ≤ length (x ∷ xs)
     by true e more = rw e (omega (arith, fewer number xs))
     by false e more = rw e (omega (arith, more (sym (ap (λ (b : Bool). b || has_entry number xs) e) ∙ h)))
 
@@ -31,13 +32,15 @@ still_there : (number other : ℕ) (xs : List Item) → number < other → has_e
 still_there number other xs lt h =
     let found = some_entry other xs h in
     let kept : not (eqb found.0.doc number) ≡ true = is_other found.0.doc (omega (arith, found.2, lt)) in
-    subst (λ (n : ℕ). has_entry n (entries_but number xs) ≡ true) found.2 (entry_there (entries_but number xs) found.0 (in_filter (λ (x : Item). not (eqb x.doc number)) xs found.0 found.1 kept))
+    subst (λ (n : ℕ). has_entry n (entries_but number xs) ≡ true) found.2
+    (entry_there (entries_but number xs) found.0 (in_filter (λ (x : Item). not (eqb x.doc number)) xs found.0 found.1 kept))
   where
     is_other : (m : ℕ) → number < m → not (eqb m number) ≡ true
     is_other m less = grind (arith, nat_tests)
 
 -- numbers that are different and have entries are no more than the entries
-numbers_fit : (numbers : List ℕ) (xs : List Item) → AllPairs (λ (m n : ℕ). m < n) numbers → ((n : ℕ) → Contains numbers n → has_entry n xs ≡ true) → length numbers ≤ length xs
+numbers_fit : (numbers : List ℕ) (xs : List Item) → AllPairs (λ (m n : ℕ). m < n) numbers → ((n : ℕ) → Contains numbers n → has_entry n xs ≡ true)
+    → length numbers ≤ length xs
 numbers_fit [] xs up has = omega arith
 numbers_fit (n ∷ ns) xs up has =
     omega (
@@ -51,10 +54,12 @@ live_number : (live : LiveSet) (number : ℕ) → Contains live.live number → 
 unfolding is_live
 live_number live number h = among_from live.live number h
 
-pub live_fit : (live : LiveSet) (xs : List Item) → IsLiveSet live → ((number : ℕ) → is_live live number ≡ true → has_entry number xs ≡ true) → length live.live ≤ length xs
+pub live_fit : (live : LiveSet) (xs : List Item) → IsLiveSet live → ((number : ℕ) → is_live live number ≡ true → has_entry number xs ≡ true)
+    → length live.live ≤ length xs
 live_fit live xs set found = numbers_fit live.live xs (AllPairs-from_increasing live.live set.ascending) (λ n h. found n (live_number live n h))
 
-pub may_be_listed : (D : ℕ) (bytes : List ℕ) (head : Head) (entries : List Item) (live : LiveSet) (generation next_segment : ℕ) → IsSegment D bytes head entries → IsLiveSet live
+pub may_be_listed : (D : ℕ) (bytes : List ℕ) (head : Head) (entries : List Item) (live : LiveSet) (generation next_segment : ℕ) → IsSegment D bytes head entries
+    → IsLiveSet live
     → ((number : ℕ) → is_live live number ≡ true → has_entry number entries ≡ true) → head.id < next_segment
     → IsListed next_segment (record { segment = head.id; generation = generation; entries = head.entries; live = length live.live })
 may_be_listed D bytes head entries live generation next_segment h set found below =

@@ -34,7 +34,8 @@ opening_once files m n (inl p) (inr q) = absurd (never_without files n q p.0)
 opening_once files m n (inr p) (inl q) = absurd (never_without files m p q.0)
 opening_once files m n (inr p) (inr q) = index_once files m n p q
 
-pub opening_of : (files : Files) (c : CommitData) (docs : List Document) (held : HoldsIndex files c docs) → IsOpening files (opening_pages files c (map head_in held.parts))
+pub opening_of : (files : Files) (c : CommitData) (docs : List Document) (held : HoldsIndex files c docs)
+    → IsOpening files (opening_pages files c (map head_in held.parts))
 opening_of files c docs held = inr (record {
   commit = c;
   says = held.commit;
@@ -61,14 +62,16 @@ pages_grow files (t ∷ ts) (h ∷ hs) s head same = omega (arith, pages_grow fi
 abbrev pub SameLive : Files → Files → List Listed → Type 0
 SameLive old new listed = (s : Listed) → Contains listed s → new (Live s.segment s.generation) ≡ old (Live s.segment s.generation)
 
-pages_still : (old new : Files) (listed : List Listed) (heads : List Head) → SameLive old new listed → segments_pages new listed heads ≡ segments_pages old listed heads
+pages_still : (old new : Files) (listed : List Listed) (heads : List Head) → SameLive old new listed
+    → segments_pages new listed heads ≡ segments_pages old listed heads
 pages_still old new [] heads same = refl
 pages_still old new (s ∷ ss) [] same = refl
 pages_still old new (s ∷ ss) (h ∷ hs) same =
     ap (λ (n : ℕ). n + segments_pages new ss hs) (ap (λ (b : Option (List ℕ)). 1 + index_pages h + length (bytes_of b) / 4096) (same s (cons_head s ss)))
     ∙ ap (λ (n : ℕ). listed_pages old s h + n) (pages_still old new ss hs (λ t there. same t (cons_tail s ss t there)))
 
-heads_still : (old new : Files) (c : CommitData) (heads : List Head) → SameKept old new → ((name : FileName) → ListsFile c name → new name ≡ old name) → HaveHeads old c heads → HaveHeads new c heads
+heads_still : (old new : Files) (c : CommitData) (heads : List Head) → SameKept old new → ((name : FileName) → ListsFile c name → new name ≡ old name)
+    → HaveHeads old c heads → HaveHeads new c heads
 heads_still old new c heads kept same h =
     zip_moved (HasHead c.dims old) (HasHead c.dims new) c.listed heads
     (λ s g there has. record {
@@ -86,7 +89,8 @@ index_still old new pages kept p =
       have = heads_still old new p.commit p.heads kept same p.have;
       is = p.is
           ∙ ap (λ (b : Option (List ℕ)). length (bytes_of b) / 4096 + segments_pages old p.commit.listed p.heads) (sym kept.commit)
-          ∙ ap (λ (n : ℕ). length (bytes_of (new Commit)) / 4096 + n) (sym (pages_still old new p.commit.listed p.heads (λ s there. same (Live s.segment s.generation) (s, there, refl, refl))));
+          ∙ ap (λ (n : ℕ). length (bytes_of (new Commit)) / 4096 + n)
+          (sym (pages_still old new p.commit.listed p.heads (λ s there. same (Live s.segment s.generation) (s, there, refl, refl))));
     }
 
 pub opening_still : (old new : Files) (pages : ℕ) → SameKept old new → IsOpening old pages → IsOpening new pages

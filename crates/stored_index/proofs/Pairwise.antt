@@ -4,7 +4,8 @@ use Rattle.std.specs.List.{AllZip, Contains}
 use Rattle.documents.proofs.Lists.{cons_head, cons_tail, cons_cases, nil_none}
 
 -- where each element has one partner at most, a list has one too
-pub zip_once : {A B : Type 0} (R : A → B → Type 0) → ((a : A) (x y : B) → R a x → R a y → x ≡ y) → (ks : List A) (xs ys : List B) → AllZip R ks xs → AllZip R ks ys → xs ≡ ys
+pub zip_once : {A B : Type 0} (R : A → B → Type 0) → ((a : A) (x y : B) → R a x → R a y → x ≡ y) → (ks : List A) (xs ys : List B) → AllZip R ks xs
+    → AllZip R ks ys → xs ≡ ys
 zip_once R once [] [] [] p q = refl
 zip_once R once [] [] (y ∷ ys) p q = absurd q
 zip_once R once [] (x ∷ xs) ys p q = absurd p
@@ -16,14 +17,16 @@ zip_once {A} {B} R once (k ∷ ks) (x ∷ xs) (y ∷ ys) p q =
     λ i. front i ∷ back i
 
 -- another relation that follows for each pair, the partners mapped
-pub zip_map : {A B C : Type 0} (R : A → B → Type 0) (S : A → C → Type 0) (f : B → C) (ks : List A) (xs : List B) → ((a : A) (x : B) → Contains ks a → R a x → S a (f x)) → AllZip R ks xs → AllZip S ks (map f xs)
+pub zip_map : {A B C : Type 0} (R : A → B → Type 0) (S : A → C → Type 0) (f : B → C) (ks : List A) (xs : List B)
+    → ((a : A) (x : B) → Contains ks a → R a x → S a (f x)) → AllZip R ks xs → AllZip S ks (map f xs)
 zip_map R S f [] [] more p = tt
 zip_map R S f [] (x ∷ xs) more p = absurd p
 zip_map R S f (k ∷ ks) [] more p = absurd p
 zip_map R S f (k ∷ ks) (x ∷ xs) more p = (more k x (cons_head k ks) p.0, zip_map R S f ks xs (λ a y h. more a y (cons_tail k ks a h)) p.1)
 
 -- and not mapped
-pub zip_moved : {A B : Type 0} (R S : A → B → Type 0) (ks : List A) (xs : List B) → ((a : A) (x : B) → Contains ks a → R a x → S a x) → AllZip R ks xs → AllZip S ks xs
+pub zip_moved : {A B : Type 0} (R S : A → B → Type 0) (ks : List A) (xs : List B) → ((a : A) (x : B) → Contains ks a → R a x → S a x) → AllZip R ks xs
+    → AllZip S ks xs
 zip_moved R S [] [] more p = tt
 zip_moved R S [] (x ∷ xs) more p = absurd p
 zip_moved R S (k ∷ ks) [] more p = absurd p
@@ -40,7 +43,8 @@ partner_of {A} {B} R (k ∷ ks) (y ∷ ys) p x h = elim (cons_cases y ys x h) [
 ]
 
 -- maps that agree for each pair give one list
-pub zip_same : {A B C : Type 0} (R : A → B → Type 0) (f : A → C) (g : B → C) → ((a : A) (x : B) → R a x → g x ≡ f a) → (ks : List A) (xs : List B) → AllZip R ks xs → map g xs ≡ map f ks
+pub zip_same : {A B C : Type 0} (R : A → B → Type 0) (f : A → C) (g : B → C) → ((a : A) (x : B) → R a x → g x ≡ f a) → (ks : List A) (xs : List B)
+    → AllZip R ks xs → map g xs ≡ map f ks
 zip_same R f g same [] [] p = refl
 zip_same R f g same [] (x ∷ xs) p = absurd p
 zip_same R f g same (k ∷ ks) [] p = absurd p

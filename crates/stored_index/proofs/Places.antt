@@ -10,7 +10,8 @@ use Rattle.point_codec.specs.Points.{Item}
 use Rattle.live_bits.specs.LiveSet.{LiveSet, is_live}
 use Rattle.documents.specs.Documents.{Document, is_live as is_live_doc}
 use Rattle.documents.specs.Entries.{has_entry}
-use Rattle.documents.proofs.Lists.{cons_cases, cons_head, cons_tail, nil_none, in_filter, in_flat_map, of_map, of_filter, of_flat_map, in_map, pairs_head, pairs_tail, pairs_none}
+use Rattle.documents.proofs.Lists.{cons_cases, cons_head, cons_tail, nil_none, in_filter, in_flat_map, of_map}
+use Rattle.documents.proofs.Lists.{of_filter, of_flat_map, in_map, pairs_head, pairs_tail, pairs_none}
 use Rattle.documents.proofs.Kept.{live as live_docs}
 use Rattle.documents.proofs.Members.{doc_of}
 use Rattle.commit_list.specs.Commits.{CommitData}
@@ -48,7 +49,8 @@ pub apart_from : (sets : List LiveSet) → ((number : ℕ) → places number set
 apart_from [] alone = pairs_none AreApart
 apart_from (x ∷ xs) alone =
     AllPairs-cons AreApart x xs
-    (All-weaker (Contains xs) (AreApart x) (λ y h number here there. omega (arith, alone number, live_first number x xs here, some_place number xs y h there)) xs (All-contains_itself xs))
+    (All-weaker (Contains xs) (AreApart x) (λ y h number here there. omega (arith, alone number, live_first number x xs here, some_place number xs y h there))
+    xs (All-contains_itself xs))
     (apart_from xs (λ number. omega (arith, alone number, rest_le number x xs)))
 
 pub alone_from : (sets : List LiveSet) → AllPairs AreApart sets → (number : ℕ) → places number sets ≤ 1
@@ -73,7 +75,8 @@ some_entry number (x ∷ xs) h = elim (cases_Bool (eqb x.doc number)) [
 ]
 
 -- a live number's entry is a live entry
-live_entry : (files : Files) (c : CommitData) (parts : List SegmentData) (held : HoldAll files c parts) (number : ℕ) (d : SegmentData) → Contains parts d → is_live d.live number ≡ true
+live_entry : (files : Files) (c : CommitData) (parts : List SegmentData) (held : HoldAll files c parts) (number : ℕ) (d : SegmentData) → Contains parts d
+    → is_live d.live number ≡ true
     → (x : Item) × Contains (all_live_entries parts) x × (x.doc ≡ number)
 live_entry files c parts held number d h live =
     let part = partner_of (HoldsFiles files c) c.listed parts held d h in
@@ -81,14 +84,16 @@ live_entry files c parts held number d h live =
     let is : is_live d.live entry.0.doc ≡ true = ap (is_live d.live) entry.2 ∙ live in
     (entry.0, in_flat_map live_entries parts d entry.0 h (in_filter (λ (x : Item). is_live d.live x.doc) d.entries entry.0 entry.1 is), entry.2)
 
-live_below : (files : Files) (c : CommitData) (docs : List Document) (held : HoldsIndex files c docs) (number : ℕ) (d : SegmentData) → Contains held.parts d → is_live d.live number ≡ true → number < c.next
+live_below : (files : Files) (c : CommitData) (docs : List Document) (held : HoldsIndex files c docs) (number : ℕ) (d : SegmentData) → Contains held.parts d
+    → is_live d.live number ≡ true → number < c.next
 live_below files c docs held number d h live =
     let entry = live_entry files c held.parts held.segments number d h live in
     let doc = doc_of c.next (all_live_entries held.parts) docs held.are_docs entry.0 entry.1 in
     let below = All-contains (λ (e : Document). e.number < c.next) docs doc.0 held.are_docs.below doc.1 in
     omega (arith, below, doc.2, entry.2)
 
-pub none_from_next : (files : Files) (c : CommitData) (docs : List Document) (held : HoldsIndex files c docs) (number : ℕ) → c.next ≤ number → places number (live_sets held.parts) ≡ 0
+pub none_from_next : (files : Files) (c : CommitData) (docs : List Document) (held : HoldsIndex files c docs) (number : ℕ) → c.next ≤ number
+    → places number (live_sets held.parts) ≡ 0
 none_from_next files c docs held number le =
     no_place number (live_sets held.parts)
     (λ s h live.
@@ -124,7 +129,8 @@ placed number (x ∷ xs) some = elim (cases_Bool (is_live x number)) [
       (found.0, cons_tail x xs found.0 found.1, found.2)
 ]
 
-pub doc_of_place : (files : Files) (c : CommitData) (docs : List Document) (held : HoldsIndex files c docs) (number : ℕ) → 1 ≤ places number (live_sets held.parts) → is_live_doc number docs ≡ true
+pub doc_of_place : (files : Files) (c : CommitData) (docs : List Document) (held : HoldsIndex files c docs) (number : ℕ)
+    → 1 ≤ places number (live_sets held.parts) → is_live_doc number docs ≡ true
 doc_of_place files c docs held number some =
     let set = placed number (live_sets held.parts) some in
     let part = of_map set_in held.parts set.0 set.1 in
@@ -132,7 +138,8 @@ doc_of_place files c docs held number some =
     live_docs c.next (all_live_entries held.parts) docs number held.are_docs
     ∙ subst (λ (n : ℕ). has_entry n (all_live_entries held.parts) ≡ true) entry.2 (entry_there (all_live_entries held.parts) entry.0 entry.1)
 
-pub place_of_doc : (files : Files) (c : CommitData) (docs : List Document) (held : HoldsIndex files c docs) (number : ℕ) → is_live_doc number docs ≡ true → 1 ≤ places number (live_sets held.parts)
+pub place_of_doc : (files : Files) (c : CommitData) (docs : List Document) (held : HoldsIndex files c docs) (number : ℕ) → is_live_doc number docs ≡ true
+    → 1 ≤ places number (live_sets held.parts)
 place_of_doc files c docs held number live =
     let entry = some_entry number (all_live_entries held.parts) (sym (live_docs c.next (all_live_entries held.parts) docs number held.are_docs) ∙ live) in
     subst (λ (n : ℕ). 1 ≤ places n (live_sets held.parts)) entry.2 (entry_live held.parts entry.0 entry.1)

@@ -17,7 +17,8 @@ use Rattle.stored_index.specs.Segments.{SegmentData, all_live_entries, live_sets
 use Rattle.stored_index.specs.Stored.{HoldsFiles, HoldAll, HoldsIndex, HoldsState, IsStored, index_of}
 use Rattle.stored_index.proofs.Parts.{EntriesOnce, all_once}
 
-pub docs_once : EntriesOnce → (files : Files) (c : CommitData) (docs others : List Document) → HoldsIndex files c docs → HoldsIndex files c others → docs ≡ others
+pub docs_once : EntriesOnce → (files : Files) (c : CommitData) (docs others : List Document) → HoldsIndex files c docs → HoldsIndex files c others
+    → docs ≡ others
 docs_once once files c docs others p q =
     let parts = all_once once files c p.parts q.parts p.segments q.segments in
     one_list c.next c.next (all_live_entries q.parts) (all_live_entries q.parts) docs others
@@ -40,7 +41,8 @@ state_once once files (Some i) None p q = absurd (never_without files i p q)
 state_once once files (Some i) (Some j) p q = ap Some (index_once once files i j p q)
 
 -- the index that is held for the commit that the Commit file says
-pub held_for : (files : Files) (c : CommitData) (state : State) → IsStored files state → IsCommitFile (bytes_of (files Commit)) c → (docs : List Document) × HoldsIndex files c docs × (state ≡ Some (index_of c docs))
+pub held_for : (files : Files) (c : CommitData) (state : State) → IsStored files state → IsCommitFile (bytes_of (files Commit)) c
+    → (docs : List Document) × HoldsIndex files c docs × (state ≡ Some (index_of c docs))
 held_for files c None p says = let there = (file_there (files Commit) c says).0 in cc
 held_for files c (Some i) p says =
     let commit : p.commit ≡ c = one_file (bytes_of (files Commit)) p.commit c p.holds.commit says in
@@ -48,7 +50,8 @@ held_for files c (Some i) p says =
 
 -- ---- from its pieces
 
-pub stored_from : (files : Files) (c : CommitData) (parts : List SegmentData) (docs : List Document) → IsCommitFile (bytes_of (files Commit)) c → HoldAll files c parts
+pub stored_from : (files : Files) (c : CommitData) (parts : List SegmentData) (docs : List Document) → IsCommitFile (bytes_of (files Commit)) c
+    → HoldAll files c parts
     → ((number : ℕ) → places number (live_sets parts) ≤ 1) → AreDocs c.next (all_live_entries parts) docs → length (all_live_entries parts) ≤ c.given
     → IsStored files (Some (index_of c docs))
 stored_from files c parts docs says held alone are few = record {
@@ -59,4 +62,5 @@ stored_from files c parts docs says held alone are few = record {
 
 pub none_stored : (files : Files) (c : CommitData) → IsCommitFile (bytes_of (files Commit)) c → c.listed ≡ [] → IsStored files (Some (index_of c []))
 none_stored files c says none =
-    stored_from files c [] [] says (subst (λ (listed : List Listed). AllZip (HoldsFiles files c) listed []) (sym none) tt) (λ number. omega arith) (no_docs c.next) (omega arith)
+    stored_from files c [] [] says (subst (λ (listed : List Listed). AllZip (HoldsFiles files c) listed []) (sym none) tt) (λ number. omega arith)
+    (no_docs c.next) (omega arith)

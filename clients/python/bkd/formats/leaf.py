@@ -13,7 +13,8 @@ Box = tuple[tuple[int, ...], tuple[int, ...]]
 
 @dataclass(frozen=True, slots=True)
 class Leaf:
-    """The entries of a leaf: the documents' numbers, and of each dimension the coordinates, in the order of the leaf."""
+    """The entries of a leaf: the documents' numbers, and of each dimension the coordinates,
+    in the order of the leaf."""
 
     numbers: tuple[int, ...]
     columns: tuple[tuple[int, ...], ...]

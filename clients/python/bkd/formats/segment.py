@@ -86,7 +86,8 @@ def open_segment(folder: str, listed: Listed, commit: Commit) -> Segment:
             raise file.unequal(commit.dims, head.dims)
         file.need_pages(1 + pages_for(head.index_length) + head.leaf_pages)
         tree = _tree(file, head)
-        for said, found in ((head.leaf_pages, tree.leaf_pages), (commit.leaf, head.leaf), (listed.entries, head.entries)):
+        for said, found in ((head.leaf_pages, tree.leaf_pages), (commit.leaf, head.leaf),
+                            (listed.entries, head.entries)):
             if said != found:
                 raise file.unequal(said, found)
         return Segment(folder, listed.segment, head, tree)

@@ -60,7 +60,8 @@ class Stored:
             if len(counts) != part.listed.live:
                 raise Damaged(Damage("unequal", part.live_name, said=part.listed.live, found=len(counts)))
         crowded = {number for counts in found for number, count in counts.items() if count > _MOST_POINTS}
-        crowded |= self._with_equal_points({number for counts in found for number, count in counts.items() if count > 1})
+        crowded |= self._with_equal_points({number for counts in found for number, count in counts.items()
+                                            if count > 1})
         if crowded:
             raise Damaged(Damage("doubled", document=min(crowded)))
         total = sum(counts.total() for counts in found)

@@ -52,7 +52,8 @@ class Documents:
 def documents_of(given: Any, dims: int) -> Documents:
     """Documents of an array of shape (n, dims), a point each, or of an iterable of what `Index.add` takes.
 
-    What has a coordinate beyond 32 bits, or not 1 to 16 points, raises ValueError, and what is no whole number TypeError.
+    What has a coordinate beyond 32 bits, or not 1 to 16 points, raises ValueError, and what is no whole number
+    TypeError.
     """
     if hasattr(given, "dtype"):
         if given.dtype.kind not in "iu":

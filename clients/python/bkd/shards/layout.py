@@ -104,7 +104,8 @@ def _walk(cells: Cells, points: Array, rows: Array, places: Array) -> None:
     _walk(above, points, rows[~is_below], places)
 
 
-def create(path: Folder, folders: Sequence[Folder], dims: int = 2, leaf: int | None = None, by: str = "number") -> Layout:
+def create(path: Folder, folders: Sequence[Folder], dims: int = 2, leaf: int | None = None,
+           by: str = "number") -> Layout:
     """Writes the layout of a new index, and answers it. A file that is there raises FileExistsError.
 
     The folders are paths as the workers see them; each is made with its first documents.

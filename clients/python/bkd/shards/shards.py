@@ -35,7 +35,8 @@ class Shards:
     time; the layout is read when it is opened.
     """
 
-    def __init__(self, path: Folder, client: Client, program: Any, workers: Mapping[str, str] | None, owns: bool) -> None:
+    def __init__(self, path: Folder, client: Client, program: Any, workers: Mapping[str, str] | None,
+                 owns: bool) -> None:
         self._path = path
         self.layout = Layout.read(path)
         self._client = client
@@ -108,7 +109,8 @@ class Shards:
         return self.ask([nearest(k, at)])[0]
 
     def ask(self, queries: Sequence[Query]) -> list[Any]:
-        """What many queries of `box`, `polygon` and `nearest` of `bkd.shards` find; each folder does them in one run."""
+        """What many queries of `box`, `polygon` and `nearest` of `bkd.shards` find;
+        each folder does them in one run."""
         where = {place: [i for i, query in enumerate(queries) if self._may_find(place, query)] for place in self._all()}
         asked = {place: (self._program, [queries[i] for i in rows]) for place, rows in where.items() if rows}
         found: list[list[Any]] = [[] for _ in queries]
@@ -136,13 +138,16 @@ class Shards:
         addresses = sorted(self._client.scheduler_info()["workers"])
         if asked and not addresses:
             raise WorkerLost(self.layout.folders[min(asked)], "there is no worker")
-        bound = {place: self._workers.get(self.layout.folders[place]) or addresses[place % len(addresses)] for place in asked}
-        return self._gathered({place: self._submit(task, place, words, bound[place]) for place, words in asked.items()}, bound)
+        bound = {place: self._workers.get(self.layout.folders[place]) or addresses[place % len(addresses)]
+                 for place in asked}
+        return self._gathered({place: self._submit(task, place, words, bound[place])
+                               for place, words in asked.items()}, bound)
 
     def _again(self, task: Callable[..., Any], asked: Mapping[int, tuple[Any, ...]]) -> dict[int, Any]:
         """Runs a task that changes nothing on folders: on any worker, and on another where that one dies."""
         bound = {place: self._workers.get(self.layout.folders[place]) for place in asked}
-        return self._gathered({place: self._submit(task, place, words, bound[place]) for place, words in asked.items()}, bound)
+        return self._gathered({place: self._submit(task, place, words, bound[place])
+                               for place, words in asked.items()}, bound)
 
     def _submit(self, task: Callable[..., Any], place: int, words: tuple[Any, ...], worker: str | None) -> Future:
         only: dict[str, Any] = {} if worker is None else {"workers": [worker], "allow_other_workers": False}
@@ -208,8 +213,8 @@ def open(path: Folder, client: Client | str | None = None, *, program: Any = Non
     """Opens the index of a layout that `bkd.shards.create` wrote.
 
     `client` is a Dask client, the address of a scheduler, or None for a local cluster, and is waited for `wait_for`
-    seconds until it has a worker. `program` is found on the workers as `bkd.open` finds it. `workers` gives folders that
-    aren't shared, each with the address of the worker that has it.
+    seconds until it has a worker. `program` is found on the workers as `bkd.open` finds it. `workers` gives folders
+    that aren't shared, each with the address of the worker that has it.
     """
     owns = not isinstance(client, Client)
     found = client if isinstance(client, Client) else Client(client)

@@ -51,7 +51,8 @@ def _keys(folder: str) -> Array:
 
 
 def add(folder: str, words: Any, dims: int, leaf: int | None, documents: Documents, keys: Array) -> int:
-    """Adds documents with their keys in one run, which commits all of them, and answers how many. A full index adds none."""
+    """Adds documents with their keys in one run, which commits all of them, and answers how many.
+    A full index adds none."""
     program = find(words)
     os.makedirs(folder, exist_ok=True)
     with _held(folder) as held:
@@ -112,7 +113,8 @@ def about(folder: str) -> tuple[int, int]:
 
 
 def ask(folder: str, words: Any, queries: Sequence[Query]) -> list[Any]:
-    """What queries find in a folder, in one run: of boxes and polygons keys, of the nearest (distance, key) in that order."""
+    """What queries find in a folder, in one run: of boxes and polygons keys, of the nearest (distance, key)
+    in that order."""
     if read_commit(folder) is None:
         return [[] if query.k else numpy.empty(0, dtype=numpy.int64) for query in queries]
     program = find(words)
@@ -126,7 +128,8 @@ def ask(folder: str, words: Any, queries: Sequence[Query]) -> list[Any]:
 
 def _nearest(program: Program, folder: str, query: Query, near: Any, keys: Array, is_ordered: bool,
              held: int | None) -> list[tuple[int, int]]:
-    """The k least by (distance, key). Of equally far ones the program tells those of the least numbers, so more are asked for."""
+    """The k least by (distance, key). Of equally far ones the program tells those of the least numbers,
+    so more are asked for."""
     asked = query.k
     while not is_ordered and len(near) == asked and near[-1][1] == near[query.k - 1][1]:
         if asked == _MOST:

@@ -1,4 +1,5 @@
-"""python -m bkd.view FOLDER [--port N] [--program PATH]: shows the index of a folder in a page on the loopback address."""
+"""python -m bkd.view FOLDER [--port N] [--program PATH]: shows the index of a folder in a page on
+the loopback address."""
 from __future__ import annotations
 
 import argparse

@@ -23,7 +23,9 @@ class Axes:
     def sides(self, cell: Box) -> tuple[int, int, int, int]:
         """Left, bottom, right and top of a cell."""
         low, high = cell
-        return (low[self.x], 0, high[self.x], 0) if self.y is None else (low[self.x], low[self.y], high[self.x], high[self.y])
+        if self.y is None:
+            return (low[self.x], 0, high[self.x], 0)
+        return (low[self.x], low[self.y], high[self.x], high[self.y])
 
 
 @dataclass(frozen=True)
@@ -74,12 +76,14 @@ class Contents:
         """The commit's numbers, the segments, and the least cell round all entries."""
         commit = self.stored.commit
         roots = [part.segment.tree.root for part in self.stored.parts]
-        bounds = [[min(c) for c in zip(*(low for low, _ in roots))], [max(c) for c in zip(*(high for _, high in roots))]]
+        bounds = [[min(c) for c in zip(*(low for low, _ in roots))],
+                  [max(c) for c in zip(*(high for _, high in roots))]]
         segments = [
             {"id": part.listed.segment, "form": part.segment.head.form, "entries": part.listed.entries,
              "live": part.listed.live, "leaves": part.segment.head.leaves, "leafPages": part.segment.head.leaf_pages}
             for part in self.stored.parts]
-        return {"folder": os.path.abspath(self.stored.folder), "dims": commit.dims, "leaf": commit.leaf, "next": commit.next,
+        return {"folder": os.path.abspath(self.stored.folder), "dims": commit.dims, "leaf": commit.leaf,
+                "next": commit.next,
                 "given": commit.given, "segments": segments, "bounds": bounds if roots else None}
 
     def cells(self, axes: Axes, frame: Frame) -> list[dict[str, Any]]:
@@ -110,7 +114,8 @@ class Contents:
             ys = leaf.columns[axes.y] if axes.y is not None else (0,) * len(leaf.live)
             for x, y, live in zip(leaf.columns[axes.x], ys, leaf.live):
                 if live and frame.has(x, y):
-                    place = min(int((x - frame.left) * across), columns - 1), min(int((y - frame.bottom) * up), rows - 1)
+                    place = (min(int((x - frame.left) * across), columns - 1),
+                             min(int((y - frame.bottom) * up), rows - 1))
                     counts[place] = counts.get(place, 0) + 1
         return [(column, row, n) for (column, row), n in sorted(counts.items())]
 

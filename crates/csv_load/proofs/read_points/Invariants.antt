@@ -10,7 +10,8 @@ abbrev pub invariant-loop-points : goal.invariant-loop-points
 invariant-loop-points g l = record {
   reading : IsReading l.reader;
   counted : l.row + length (bytes_left l.reader) ≤ length l.b;
-  same : before (coordinates_of l.points.items) (each_ok (point_of l.width l.places) (l.row + 1) (records_left l.reader)) ≡ points_of l.columns (records_of l.b);
+  same : before (coordinates_of l.points.items) (each_ok (point_of l.width l.places) (l.row + 1) (records_left l.reader))
+      ≡ points_of l.columns (records_of l.b);
 }
 
 abbrev pub decreases-loop-points : goal.decreases-loop-points

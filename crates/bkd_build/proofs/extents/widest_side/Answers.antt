@@ -13,9 +13,11 @@ loop-d-preserved g c =
     let r = region_of c.args.cell.now in
     let h = c.loop-d.invariant in
     elim c.if-other-greatest.branch [
-      | then-other-greatest w ↦ (let more : width r c.loop-d.widest < width r c.loop-d.d = omega (arith, w.if-other-greatest.true, h.is, c.width-other.ensures) in
+      | then-other-greatest w ↦
+          (let more : width r c.loop-d.widest < width r c.loop-d.d = omega (arith, w.if-other-greatest.true, h.is, c.width-other.ensures) in
           rw (w.widest-is, w.greatest-is) (record { side = wider_side c.loop-d.d c.loop-d.widest r h.side more; is = c.width-other.ensures }))
-      | else-other-greatest w ↦ (let le : width r c.loop-d.d ≤ width r c.loop-d.widest = omega (arith, w.if-other-greatest.false, h.is, c.width-other.ensures) in
+      | else-other-greatest w ↦
+          (let le : width r c.loop-d.d ≤ width r c.loop-d.widest = omega (arith, w.if-other-greatest.false, h.is, c.width-other.ensures) in
           rw (w.widest-is, w.greatest-is) (record { side = same_side c.loop-d.d c.loop-d.widest r h.side le; is = h.is }))
     ]
 

@@ -20,4 +20,5 @@ returns c =
     IfOk-weaker c.decode.result (λ (found : Option CommitData). MatchOption found (HasNoCommit (take n payloads)) (SpellsCommit (take n payloads)))
     (λ (found : Option CommitData). MatchOption found (HasNoFilled payloads) (SpellsFilled payloads))
     (λ found. filled_answer payloads n found c.requires.begins c.requires.long zeros)
-    (subst (λ (xs : List ℕ). IfOk c.decode.result (λ (found : Option CommitData). MatchOption found (HasNoCommit xs) (SpellsCommit xs))) c.split_at.ensures.front c.decode.ensures)
+    (subst (λ (xs : List ℕ). IfOk c.decode.result (λ (found : Option CommitData). MatchOption found (HasNoCommit xs) (SpellsCommit xs)))
+    c.split_at.ensures.front c.decode.ensures)

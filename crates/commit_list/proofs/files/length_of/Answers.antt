@@ -14,7 +14,9 @@ returns-in_ok-bytes-in-None-clause-shown c =
 
 pub returns-in_ok-bytes-in-None-clause-damage : goal.returns-in_ok-bytes-in-None-clause-damage
 returns-in_ok-bytes-in-None-clause-damage c = λ files first.
-    rw c.no_commit.ensures (first_payloads files _ _ c.in_ok-bytes-in-None.bytes.items (first_of files c.args.first.now c.requires first) (c.in_ok-bytes-in-None.ensures.items ∙ c.payload-in-None.ensures.bytes))
+    rw c.no_commit.ensures
+    (first_payloads files _ _ c.in_ok-bytes-in-None.bytes.items (first_of files c.args.first.now c.requires first)
+    (c.in_ok-bytes-in-None.ensures.items ∙ c.payload-in-None.ensures.bytes))
 
 pub returns-in_ok-bytes-in-None-clause-whole : goal.returns-in_ok-bytes-in-None-clause-whole
 returns-in_ok-bytes-in-None-clause-whole c = λ n b. absurd (c.in-None.ensures.none n (subst (λ (xs : List ℕ). BeginsBody xs n) (sym c.payload.ensures.bytes) b))

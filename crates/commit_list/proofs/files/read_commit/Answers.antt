@@ -12,7 +12,9 @@ pub returns-in_err-first-clause-damage : goal.returns-in_err-first-clause-damage
 returns-in_err-first-clause-damage g c = λ told.
     let files = g.F.Pages.files c.args.folder.now in
     let e = err_from_is_err_and c.from_residual.result c.from_residual.ensures.1 in
-    rw (e.1, e.2) (found_fault_of files c.in_err-first.field-0.0 (c.in_err-first.ensures.absent told) c.in_err-first.ensures.shown c.in_err-first.ensures.needed (c.in_err-first.ensures.damage told))
+    rw (e.1, e.2)
+    (found_fault_of files c.in_err-first.field-0.0 (c.in_err-first.ensures.absent told) c.in_err-first.ensures.shown c.in_err-first.ensures.needed
+    (c.in_err-first.ensures.damage told))
 
 pub returns-in_err-first-clause-whole : goal.returns-in_err-first-clause-whole
 returns-in_err-first-clause-whole g c = λ told d h.
@@ -29,7 +31,9 @@ pub returns-in_err-commit-clause-whole : goal.returns-in_err-commit-clause-whole
 returns-in_err-commit-clause-whole g c = λ told d h.
     let p = err_from_is_err_and c.from_residual-in_err-commit.result c.from_residual-in_err-commit.ensures.1 in
     let same = sym (c.find.ensures.files told) in
-    rw (p.1, p.2) (c.in_err-commit.ensures.whole told (subst (λ (f : Files). IsFirstPage f c.in-Some.first) same (rw c.in-Some.is at (c.in_ok-first.ensures.first told))) d (subst (λ (f : Files). IsCommitFile (bytes_of (f Commit)) d) same h))
+    rw (p.1, p.2)
+    (c.in_err-commit.ensures.whole told (subst (λ (f : Files). IsFirstPage f c.in-Some.first) same (rw c.in-Some.is at (c.in_ok-first.ensures.first told))) d
+    (subst (λ (f : Files). IsCommitFile (bytes_of (f Commit)) d) same h))
 
 -- ---- how much is read
 
@@ -39,7 +43,9 @@ returns-in_err-first-clause-most g c = λ told d h. omega (arith, file_long (byt
 pub returns-in_err-commit-clause-most : goal.returns-in_err-commit-clause-most
 returns-in_err-commit-clause-most g c = λ told d h.
     let same = sym (c.find.ensures.files told) in
-    let most = c.in_err-commit.ensures.most told (subst (λ (f : Files). IsFirstPage f c.in-Some.first) same (rw c.in-Some.is at (c.in_ok-first.ensures.first told))) d (subst (λ (f : Files). IsCommitFile (bytes_of (f Commit)) d) same h) in
+    let most = c.in_err-commit.ensures.most told
+    (subst (λ (f : Files). IsFirstPage f c.in-Some.first) same (rw c.in-Some.is at (c.in_ok-first.ensures.first told))) d
+    (subst (λ (f : Files). IsCommitFile (bytes_of (f Commit)) d) same h) in
     omega (arith, rw (c.find.ensures.files told) at most, c.find.ensures.reads)
 
 pub returns-in_err-commit-clause-unread : goal.returns-in_err-commit-clause-unread

@@ -34,7 +34,8 @@ returns-in_err-payloads-clause-damage g c = λ told first.
     let files = g.F.Pages.files c.args.folder.now in
     let e = err_from_is_err_and c.from_residual-in_err-payloads.result c.from_residual-in_err-payloads.ensures.1 in
     rw (e.1, e.2)
-    (joined_fault_of files c.pages_for-pages.result c.in_err-payloads.field-0.0 (first_is_there files c.args.first.now c.in_err-payloads.field-0.0 c.requires first)
+    (joined_fault_of files c.pages_for-pages.result c.in_err-payloads.field-0.0
+    (first_is_there files c.args.first.now c.in_err-payloads.field-0.0 c.requires first)
     (sym (first_of files c.args.first.now c.requires first).size_is ∙ c.in_ok-check_size.ensures.ok.0 refl)
     c.in_err-payloads.ensures.shown c.in_err-payloads.ensures.within (c.in_err-payloads.ensures.damage told))
 
@@ -46,10 +47,14 @@ returns-in_err-check_size-clause-whole g c = λ told first d h.
     absurd (cc)
 
 pub returns-in_err-payloads-clause-reads : goal.returns-in_err-payloads-clause-reads
-returns-in_err-payloads-clause-reads g c = let short = begins-short _ _ c.in_ok-length.ensures.begins in omega (arith, short.1, c.pages_for-pages.ensures, c.all_payloads.ensures.reads)
+returns-in_err-payloads-clause-reads g c =
+    let short = begins-short _ _ c.in_ok-length.ensures.begins in
+    omega (arith, short.1, c.pages_for-pages.ensures, c.all_payloads.ensures.reads)
 
 pub returns-clause-reads : goal.returns-clause-reads
-returns-clause-reads g c = let short = begins-short _ _ c.in_ok-length.ensures.begins in omega (arith, short.1, c.pages_for-pages.ensures, c.all_payloads.ensures.reads)
+returns-clause-reads g c =
+    let short = begins-short _ _ c.in_ok-length.ensures.begins in
+    omega (arith, short.1, c.pages_for-pages.ensures, c.all_payloads.ensures.reads)
 
 pub returns-clause-found : goal.returns-clause-found
 returns-clause-found g c = λ told first.
@@ -61,7 +66,8 @@ returns-clause-found g c = λ told first.
     let are = c.in_ok-payloads.ensures.pages told first in
     let same = c.in_ok-payloads.ensures.payloads told first in
     let len : length payloads ≡ 4064 * pages = omega (arith, c.in_ok-payloads.ensures.len, c.in_ok-payloads.payloads.ok.0) in
-    IfOk-weaker c.commit_of.result (SpellsFilled payloads) (IsCommitFile (bytes_of (files Commit))) (λ d h. file_so (bytes_of (files Commit)) payloads pages d long are same len h) c.commit_of.ensures.found
+    IfOk-weaker c.commit_of.result (SpellsFilled payloads) (IsCommitFile (bytes_of (files Commit)))
+    (λ d h. file_so (bytes_of (files Commit)) payloads pages d long are same len h) c.commit_of.ensures.found
 
 pub returns-clause-damage : goal.returns-clause-damage
 returns-clause-damage g c = λ told first.

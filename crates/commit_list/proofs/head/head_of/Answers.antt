@@ -14,7 +14,8 @@ pub returns-in_err-head-clause-none : goal.returns-in_err-head-clause-none
 returns-in_err-head-clause-none c =
     rw c.from_residual-in_err-head.ensures
     (λ h rest e.
-    let same = magic_unique c.in_ok-layout.layout h.layout (cursor_rest c.take_layout.new.cursor) (spell_numbers h ++ rest) (sym c.in_ok-layout.ensures.taken ∙ c.new-cursor.ensures ∙ e ∙ head-parts h rest) in
+    let same = magic_unique c.in_ok-layout.layout h.layout (cursor_rest c.take_layout.new.cursor) (spell_numbers h ++ rest)
+    (sym c.in_ok-layout.ensures.taken ∙ c.new-cursor.ensures ∙ e ∙ head-parts h rest) in
     let short = c.in_err-head.ensures.short in
     omega (arith, short, ap length same.1, numbers-length h rest, ap given_length same.0))
 

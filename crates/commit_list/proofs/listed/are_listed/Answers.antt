@@ -7,12 +7,14 @@ loop-s-init c = reaches-none c.args.next_segment c.args.listed.now
 
 pub loop-s-preserved : goal.loop-s-preserved
 loop-s-preserved c =
-    reaches-more c.args.next_segment c.args.listed.now c.loop-s.s-index c.loop-s.least _ c.loop-s-test.true (c.if-not-is_listed.ensures.0 refl) c.if-s-least.false c.loop-s.invariant
+    reaches-more c.args.next_segment c.args.listed.now c.loop-s.s-index c.loop-s.least _ c.loop-s-test.true (c.if-not-is_listed.ensures.0 refl)
+    c.if-s-least.false c.loop-s.invariant
 
 pub returns-then-s-least : goal.returns-then-s-least
 returns-then-s-least c = (
   λ t. absurd (cc),
-  λ are. absurd (reaches-not c.args.next_segment c.args.listed.now c.loop-s.s-index c.loop-s.least _ c.loop-s-test.true c.if-s-least.true c.loop-s.invariant are),
+  λ are.
+      absurd (reaches-not c.args.next_segment c.args.listed.now c.loop-s.s-index c.loop-s.least _ c.loop-s-test.true c.if-s-least.true c.loop-s.invariant are),
 )
 
 pub returns-then-not-is_listed : goal.returns-then-not-is_listed
@@ -22,6 +24,7 @@ pub returns : goal.returns
 returns c = (
   λ t.
       let all : c.loop-s.s-index ≡ length c.args.listed.now = omega arith in
-      reaches-all c.args.next_segment c.args.listed.now c.loop-s.least (subst (λ (n : ℕ). Reaches c.args.next_segment c.args.listed.now n c.loop-s.least) all c.loop-s.invariant),
+      reaches-all c.args.next_segment c.args.listed.now c.loop-s.least
+      (subst (λ (n : ℕ). Reaches c.args.next_segment c.args.listed.now n c.loop-s.least) all c.loop-s.invariant),
   λ are. refl,
 )

@@ -9,7 +9,8 @@ loop-i-init c = reads-none c.args.bytes.now (cursor_rest c.new-cursor.result) c.
 
 pub loop-i-preserved : goal.loop-i-preserved
 loop-i-preserved c =
-    reads-more c.args.bytes.now (cursor_rest c.loop-i.cursor) (cursor_rest c.take_listed.new.cursor) c.loop-i._i c.loop-i.listed.items c.push.new.self.items c.in-Some.s
+    reads-more c.args.bytes.now (cursor_rest c.loop-i.cursor) (cursor_rest c.take_listed.new.cursor) c.loop-i._i c.loop-i.listed.items c.push.new.self.items
+    c.in-Some.s
     c.in-Some.ensures.fits c.in-Some.ensures.taken c.in_ok-push.ensures.items c.loop-i.invariant
 
 pub returns-in_default : goal.returns-in_default
@@ -30,4 +31,5 @@ pub returns : goal.returns
 returns c =
     let all : c.loop-i._i ≡ c.args.count = omega arith in
     subst (λ (n : ℕ). SpellsList c.args.bytes.now n c.loop-i.listed.items) all
-    (reads-all c.args.bytes.now (cursor_rest c.loop-i.cursor) c.loop-i._i c.loop-i.listed.items (sym c.rest.ensures ∙ none_left c.rest.result.now (eqb-true _ _ (sym c.if-not-is_empty.ensures))) c.loop-i.invariant)
+    (reads-all c.args.bytes.now (cursor_rest c.loop-i.cursor) c.loop-i._i c.loop-i.listed.items
+    (sym c.rest.ensures ∙ none_left c.rest.result.now (eqb-true _ _ (sym c.if-not-is_empty.ensures))) c.loop-i.invariant)

@@ -6,7 +6,8 @@ use Rattle.csv_load.proofs.fields.is_at.Goals as goal
 
 pub returns-in-Some : goal.returns-in-Some
 returns-in-Some c =
-    let at = get_or_from_slice_get (fields_of c.args.header.now) c.args.i c.in-Some.field.now [] (got (fields_of c.args.header.now) c.args.i c.in-Some.field c.in-Some.ensures.value) in
+    let at = get_or_from_slice_get (fields_of c.args.header.now) c.args.i c.in-Some.field.now []
+    (got (fields_of c.args.header.now) c.args.i c.in-Some.field c.in-Some.ensures.value) in
     rw at c.eq.ensures
 
 pub returns-in-None : goal.returns-in-None

@@ -12,7 +12,8 @@ returns-in-None-clause-fault g c =
     let fields = fields_of c.args.fields.now in
     let places = c.args.places.now in
     point_of-wide c.args.width places c.args.row fields (sym c.len.ensures ∙ c.if-len-width.false)
-    ∙ write-fault (value_of fields c.args.row) places c.loop-k.k (get_or places c.loop-k.k 0) c.loop-k.c _ (fault.Value c.args.row c.loop-k.k) (omega (arith, c.told-places)) (sym (get_or_default_zero places c.loop-k.k _ (omega (arith, c.told-places))))
+    ∙ write-fault (value_of fields c.args.row) places c.loop-k.k (get_or places c.loop-k.k 0) c.loop-k.c _ (fault.Value c.args.row c.loop-k.k)
+    (omega (arith, c.told-places)) (sym (get_or_default_zero places c.loop-k.k _ (omega (arith, c.told-places))))
     (rw (← c.in-None.ensures) refl) c.loop-k.invariant.same
 
 pub loop-k-preserved : goal.loop-k-preserved
@@ -22,7 +23,9 @@ loop-k-preserved g c =
     let round : to_z w32 (of_z w32 c.in-Some.value) ≡ c.in-Some.value = search rules in
     record {
       width = rw length-set c.loop-k.invariant.width;
-      same = rw round (write-yes (value_of fields c.args.row) places c.loop-k.k (get_or places c.loop-k.k 0) c.loop-k.c _ c.in-Some.value (omega (arith, c.told-places)) (omega arith) (sym (get_or_default_zero places c.loop-k.k _ (omega (arith, c.told-places))))
+      same = rw round
+          (write-yes (value_of fields c.args.row) places c.loop-k.k (get_or places c.loop-k.k 0) c.loop-k.c _ c.in-Some.value (omega (arith, c.told-places))
+          (omega arith) (sym (get_or_default_zero places c.loop-k.k _ (omega (arith, c.told-places))))
           (rw (← c.in-Some.ensures) refl) c.loop-k.invariant.same);
     }
 

@@ -6,7 +6,8 @@ use Rattle.csv_load.proofs.fields.value_of.Goals as goal
 
 pub returns-in_err-field : goal.returns-in_err-field
 returns-in_err-field c =
-    let none : slice_get (fields_of c.args.fields.now) c.args.place ≡ None = sym (field_at-is (fields_of c.args.fields.now) c.args.place) ∙ sym c.in_err-field.ensures.value in
+    let none : slice_get (fields_of c.args.fields.now) c.args.place ≡ None =
+    sym (field_at-is (fields_of c.args.fields.now) c.args.place) ∙ sym c.in_err-field.ensures.value in
     rw (c.from_residual.ensures, none) refl
 
 pub returns : goal.returns

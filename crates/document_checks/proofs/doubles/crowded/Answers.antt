@@ -19,7 +19,8 @@ use Rattle.document_checks.proofs.doubles.crowded.Goals as goal
 ascending : (g : Over) (c : goal.After-drop-list g) → IsSorted by_number (items_of c.as_slice.result.now)
 ascending g c =
     let f = λ (e : Entry g.row.D). item_of e in
-    let sorted = c.sort_unstable_by.ensures.sorted (λ (a b : Entry g.row.D). is_lt (by_number (f a) (f b))) (ranks_by item_total f) (always_returns_same _ _ _ (λ a r h k. search rules)) in
+    let sorted = c.sort_unstable_by.ensures.sorted (λ (a b : Entry g.row.D). is_lt (by_number (f a) (f b))) (ranks_by item_total f)
+    (always_returns_same _ _ _ (λ a r h k. search rules)) in
     subst (λ (xs : List (Entry g.row.D)). IsSorted by_number (items_of xs)) (sym c.as_slice.ensures.value)
     (sorted-map (λ (x y : Item). is_lt (by_number x y)) f c.sort_unstable_by.new.self.items sorted)
 

@@ -19,7 +19,8 @@ collected : (g : Over) (c : goal.After-drop-again-2 g) → items_of c.in_ok-list
 unfolding kept
 collected g c =
     ap items_of c.in_ok-list.ensures
-    ∙ ap (λ (marks : List ℕ). items_of (filter (λ (e : Entry g.row.D). is_marked marks (e.doc - c.reach-least.result.0)) c.args.entries.now)) c.as_slice.ensures.value
+    ∙ ap (λ (marks : List ℕ). items_of (filter (λ (e : Entry g.row.D). is_marked marks (e.doc - c.reach-least.result.0)) c.args.entries.now))
+    c.as_slice.ensures.value
     ∙ items-filter (kept g c) c.args.entries.now
 
 marked : (g : Over) (c : goal.After-drop-again-2 g) (n : ℕ) → 2 ≤ count_of n (items_of c.args.entries.now) → (x : Item) → eqb x.doc n ≡ true → kept g c x ≡ true
@@ -27,7 +28,8 @@ unfolding kept
 marked g c n two x is =
     let told = rw c.in-Some.is at c.in_ok-again.ensures.some in
     let same = eqb-true x.doc n is in
-    ap (λ (m : ℕ). is_marked c.in-Some.again.items (m - c.reach-least.result.0)) same ∙ told n (subst (λ (m : ℕ). 2 ≤ m) (count_entries n c.args.entries.now) two)
+    ap (λ (m : ℕ). is_marked c.in-Some.again.items (m - c.reach-least.result.0)) same
+    ∙ told n (subst (λ (m : ℕ). 2 ≤ m) (count_entries n c.args.entries.now) two)
 
 pub returns-in_default-clause-none : goal.returns-in_default-clause-none
 returns-in_default-clause-none g c =

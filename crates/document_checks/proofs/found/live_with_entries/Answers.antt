@@ -22,12 +22,14 @@ pub overflow_sub-result : goal.overflow_sub-result
 overflow_sub-result g c =
     let numbers = c.args.live.now.live in
     let entries = c.args.entries.now in
-    let left : c.loop-entry.left.live ≡ bare entries numbers = c.loop-entry.invariant ∙ ap (λ (es : List (Entry g.row.D)). bare es numbers) (take_all c.loop-entry.entry-index entries (omega arith)) in
+    let left : c.loop-entry.left.live ≡ bare entries numbers =
+    c.loop-entry.invariant ∙ ap (λ (es : List (Entry g.row.D)). bare es numbers) (take_all c.loop-entry.entry-index entries (omega arith)) in
     omega (arith, ap (λ (ns : List ℕ). length ns) left, count_found numbers entries, c.live_count.ensures.value, c.live_count-2.ensures.value)
 
 pub returns : goal.returns
 returns g c =
     let numbers = c.args.live.now.live in
     let entries = c.args.entries.now in
-    let left : c.loop-entry.left.live ≡ bare entries numbers = c.loop-entry.invariant ∙ ap (λ (es : List (Entry g.row.D)). bare es numbers) (take_all c.loop-entry.entry-index entries (omega arith)) in
+    let left : c.loop-entry.left.live ≡ bare entries numbers =
+    c.loop-entry.invariant ∙ ap (λ (es : List (Entry g.row.D)). bare es numbers) (take_all c.loop-entry.entry-index entries (omega arith)) in
     omega (arith, ap (λ (ns : List ℕ). length ns) left, count_found numbers entries, c.live_count.ensures.value, c.live_count-2.ensures.value)

@@ -9,18 +9,22 @@ loop-i-init c n le lt = dead_none c.args.live.now c.args.from c.base.ensures.set
 
 pub loop-i-preserved : goal.loop-i-preserved
 loop-i-preserved c n le lt =
-    dead_more c.args.live.now c.args.from (c.max-first.result + 64 * c.loop-i.i) c.word-word.result c.loop-i.invariant c.word-word.ensures (omega arith) n le (omega (arith, lt))
+    dead_more c.args.live.now c.args.from (c.max-first.result + 64 * c.loop-i.i) c.word-word.result c.loop-i.invariant c.word-word.ensures (omega arith) n le
+    (omega (arith, lt))
 
 pub returns-then-word-ne0-clause-before : goal.returns-then-word-ne0-clause-before
 returns-then-word-ne0-clause-before c n le lt =
-    dead_before c.args.live.now c.args.from (c.max-first.result + 64 * c.loop-i.i) c.word-word.result c.loop-i.invariant c.word-word.ensures (omega arith) (omega arith) n le
+    dead_before c.args.live.now c.args.from (c.max-first.result + 64 * c.loop-i.i) c.word-word.result c.loop-i.invariant c.word-word.ensures (omega arith)
+    (omega arith) n le
     (omega (arith, lt, c.min.ensures))
 
 pub returns-then-word-ne0-clause-found : goal.returns-then-word-ne0-clause-found
 returns-then-word-ne0-clause-found c lt =
     let at = c.max-first.result + 64 * c.loop-i.i in
-    let is : at + trailing_zeros w64 c.word-word.result ≡ c.min.result = omega (arith, lt, c.min.ensures) in
-    (omega (arith, is, c.max-first.ensures), subst (λ (n : ℕ). is_live c.args.live.now n ≡ true) is (live_there c.args.live.now at c.word-word.result c.word-word.ensures (omega arith) (omega arith)))
+    let is : at + trailing_zeros w64 c.word-word.result ≡ c.min.result = omega (arith, lt, c.min.ensures) in (
+      omega (arith, is, c.max-first.ensures),
+      subst (λ (n : ℕ). is_live c.args.live.now n ≡ true) is (live_there c.args.live.now at c.word-word.result c.word-word.ensures (omega arith) (omega arith)),
+    )
 
 pub returns-then-word-ne0-clause-above : goal.returns-then-word-ne0-clause-above
 returns-then-word-ne0-clause-above c n high = dead_above c.args.live.now n c.base.ensures.set high

@@ -1,5 +1,5 @@
 use Rattle.std.proofs.Common.{take}
-use Rattle.document_checks.proofs.LivePlaces.{IsCounted}
+use Rattle.document_checks.proofs.MarkedSets.{IsCounted}
 use Rattle.document_checks.proofs.placing.least_doubled.Given as goal
 
 abbrev pub invariant-loop-live : goal.invariant-loop-live

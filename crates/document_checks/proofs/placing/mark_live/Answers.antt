@@ -20,7 +20,8 @@ pub returns-then-doubled-ne0-clause-once : goal.returns-then-doubled-ne0-clause-
 returns-then-doubled-ne0-clause-once c n lt =
     let w = c.mark_word-doubled in
     once_before c.args.marks.now c.loop-at.marks c.args.live.now c.loop-at.at c.loop-at.invariant
-    w.new.words c.word.result w.result c.word.ensures w.ensures.were w.ensures.after (omega arith) (omega arith) n (omega (arith, lt, c.min-then-doubled-ne0.ensures))
+    w.new.words c.word.result w.result c.word.ensures w.ensures.were w.ensures.after (omega arith) (omega arith) n
+    (omega (arith, lt, c.min-then-doubled-ne0.ensures))
 
 pub returns-then-doubled-ne0-clause-found : goal.returns-then-doubled-ne0-clause-found
 returns-then-doubled-ne0-clause-found c lt =
@@ -34,7 +35,8 @@ pub returns-then-doubled-ne0-clause-after : goal.returns-then-doubled-ne0-clause
 returns-then-doubled-ne0-clause-after c n lt =
     let w = c.mark_word-doubled in
     joined_before c.args.marks.now c.loop-at.marks c.args.live.now c.loop-at.at c.loop-at.invariant
-    w.new.words c.word.result w.result c.word.ensures w.ensures.were w.ensures.after (omega arith) (omega arith) n (omega (arith, lt, c.min-then-doubled-ne0.ensures))
+    w.new.words c.word.result w.result c.word.ensures w.ensures.were w.ensures.after (omega arith) (omega arith) n
+    (omega (arith, lt, c.min-then-doubled-ne0.ensures))
 
 pub returns-clause-once : goal.returns-clause-once
 returns-clause-once c =

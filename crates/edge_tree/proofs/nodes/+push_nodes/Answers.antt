@@ -9,7 +9,8 @@ use Rattle.edge_tree.proofs.nodes.+push_nodes.Goals.{then-runs-eq1, else-runs-eq
 use Rattle.edge_tree.proofs.nodes.+push_nodes.Goals as goal
 
 stands : (t : ℕ) (c : goal.After-result-1 t)
-    → Stands (map ends_of c.args.edges.now) c.args.nodes.now.items c.if-runs-eq1.nodes.items (all_in (map ends_of c.args.edges.now) c.args.runs.now) c.if-runs-eq1.node
+    → Stands (map ends_of c.args.edges.now) c.args.nodes.now.items c.if-runs-eq1.nodes.items (all_in (map ends_of c.args.edges.now) c.args.runs.now)
+    c.if-runs-eq1.node
 stands t c =
     let begins : c.len-before.result ≡ length c.args.nodes.now.items = search rules in
     let middle : ℕ = length c.args.runs.now / 2 in

@@ -19,8 +19,10 @@ returns-in-Ok-Blank c =
 
 pub returns-in_ok-put_refusal-in-Ok-Create : goal.returns-in_ok-put_refusal-in-Ok-Create
 returns-in_ok-put_refusal-in-Ok-Create c =
-    let reads : read None c.args.line.now ≡ Says (asks.Create c.in-Ok-Create.field-0-0 c.in-Ok-Create.field-0-1) = rw c.in-Ok-Create.field-0-is at c.in-Ok-Create.ensures.reads in
-    first_told c.args.number c.args.line.now (Says (asks.Create c.in-Ok-Create.field-0-0 c.in-Ok-Create.field-0-1)) _ _ (refusal (refused_text c.args.number why.NotQuery)) true reads refl
+    let reads : read None c.args.line.now ≡ Says (asks.Create c.in-Ok-Create.field-0-0 c.in-Ok-Create.field-0-1) =
+    rw c.in-Ok-Create.field-0-is at c.in-Ok-Create.ensures.reads in
+    first_told c.args.number c.args.line.now (Says (asks.Create c.in-Ok-Create.field-0-0 c.in-Ok-Create.field-0-1))
+    _ _ (refusal (refused_text c.args.number why.NotQuery)) true reads refl
     c.in_ok-put_refusal-in-Ok-Create.ensures.ok refl
 
 pub returns-in_ok-put_line_fault-in-Err : goal.returns-in_ok-put_line_fault-in-Err

@@ -24,4 +24,5 @@ pub returns-in-Err : goal.returns-in-Err
 returns-in-Err g c =
     let other : c.in-Err.fault ≢ fault.Memory = search rules in
     explains_refused _ _ _ _ _ _ c.refuse_line.result refl refl refl refl c.refuse_line.ensures.refused c.refuse_line.ensures.memory
-    (λ s e. line_unread g.row.D _ _ s c.args.number c.args.line.now c.in-Err.fault e (fault_read (request_of {D = g.row.D}) c.in-Err.fault _ other c.in-Err.ensures.reads))
+    (λ s e. line_unread g.row.D _ _ s c.args.number c.args.line.now c.in-Err.fault e
+    (fault_read (request_of {D = g.row.D}) c.in-Err.fault _ other c.in-Err.ensures.reads))

@@ -19,7 +19,9 @@ returns-in_err-found g c =
       seen = c.nearest.ensures.seen;
       alone = c.nearest.ensures.alone;
       files = c.nearest.ensures.files;
-      reads = λ told s e t tells. c.nearest.ensures.reads told e.seen.contents e.seen.stands (nearby g.row.D c.args.k _ _ c.args.at.now.c s e) (nearby_is g.row.D c.args.k _ _ c.args.at.now.c s e) t.touched (near_touches g.row.D c.args.k _ _ c.args.at.now.c s e t tells);
+      reads = λ told s e t tells.
+          c.nearest.ensures.reads told e.seen.contents e.seen.stands (nearby g.row.D c.args.k _ _ c.args.at.now.c s e)
+          (nearby_is g.row.D c.args.k _ _ c.args.at.now.c s e) t.touched (near_touches g.row.D c.args.k _ _ c.args.at.now.c s e t tells);
       cause = c.in_err-found.ensures.cause;
       whole = c.in_err-found.ensures.whole;
       faithful = c.nearest.ensures.faithful;
@@ -33,7 +35,9 @@ returns-in_err-put_near g c =
       seen = c.nearest.ensures.seen;
       alone = c.nearest.ensures.alone;
       files = c.nearest.ensures.files;
-      reads = λ told s e t tells. c.nearest.ensures.reads told e.seen.contents e.seen.stands (nearby g.row.D c.args.k _ _ c.args.at.now.c s e) (nearby_is g.row.D c.args.k _ _ c.args.at.now.c s e) t.touched (near_touches g.row.D c.args.k _ _ c.args.at.now.c s e t tells);
+      reads = λ told s e t tells.
+          c.nearest.ensures.reads told e.seen.contents e.seen.stands (nearby g.row.D c.args.k _ _ c.args.at.now.c s e)
+          (nearby_is g.row.D c.args.k _ _ c.args.at.now.c s e) t.touched (near_touches g.row.D c.args.k _ _ c.args.at.now.c s e t tells);
       cause = c.in_ok-found.ensures.cause;
       whole = c.in_ok-found.ensures.whole;
       faithful = c.nearest.ensures.faithful;
@@ -46,12 +50,16 @@ returns g c =
       seen = c.nearest.ensures.seen;
       alone = c.nearest.ensures.alone;
       files = c.nearest.ensures.files;
-      reads = λ told s e t tells. c.nearest.ensures.reads told e.seen.contents e.seen.stands (nearby g.row.D c.args.k _ _ c.args.at.now.c s e) (nearby_is g.row.D c.args.k _ _ c.args.at.now.c s e) t.touched (near_touches g.row.D c.args.k _ _ c.args.at.now.c s e t tells);
+      reads = λ told s e t tells.
+          c.nearest.ensures.reads told e.seen.contents e.seen.stands (nearby g.row.D c.args.k _ _ c.args.at.now.c s e)
+          (nearby_is g.row.D c.args.k _ _ c.args.at.now.c s e) t.touched (near_touches g.row.D c.args.k _ _ c.args.at.now.c s e t tells);
       cause = c.in_ok-found.ensures.cause;
       whole = c.in_ok-found.ensures.whole;
       faithful = c.nearest.ensures.faithful;
       evident = c.in_ok-found.ensures.evident;
     })
-    (λ told s e. near_told g.row.D c.args.k _ _ c.args.at.now.c s e _ _ c.in_ok-found.found.items c.survey_near-touched.result c.len.result _ _ c.survey_near-touched.ensures
+    (λ told s e. near_told g.row.D c.args.k _ _ c.args.at.now.c s e _ _ c.in_ok-found.found.items c.survey_near-touched.result c.len.result
+    _ _ c.survey_near-touched.ensures
     (ap (λ (u : SetData). heads_of u.parts) c.nearest.ensures.alone.is) (c.reach.ensures ∙ ap (λ ns. reach c.args.k (found_of ns)) c.as_slice.ensures.value)
-    (c.in_ok-found.ensures.found told e.index e.seen e.index.docs refl) (c.len.ensures ∙ c.in_ok-found.found.ok.0 ∙ sym (length-map c.in_ok-found.found.items (λ (n : Near). (n.dist2, n.doc)))) c.in_ok-put_near.ensures)
+    (c.in_ok-found.ensures.found told e.index e.seen e.index.docs refl)
+    (c.len.ensures ∙ c.in_ok-found.found.ok.0 ∙ sym (length-map c.in_ok-found.found.items (λ (n : Near). (n.dist2, n.doc)))) c.in_ok-put_near.ensures)

@@ -15,4 +15,5 @@ returns-in_err-shape g c =
 pub returns : goal.returns
 returns g c = explains_as g.row.D _ _ _ _ _ c.tell_shape.result
     (λ s t e. polygon_to g.row.D _ _ s e 0 t c.in_ok-shape.shape.edges c.args.rings.now (ap (λ (a : Asked). a.edges) c.in_ok-shape.ensures))
-    (λ s t e. polygon_from g.row.D _ _ s e 0 t c.in_ok-shape.shape.edges c.args.rings.now (ap (λ (a : Asked). a.edges) c.in_ok-shape.ensures)) c.tell_shape.ensures
+    (λ s t e. polygon_from g.row.D _ _ s e 0 t c.in_ok-shape.shape.edges c.args.rings.now (ap (λ (a : Asked). a.edges) c.in_ok-shape.ensures))
+    c.tell_shape.ensures

@@ -3,7 +3,8 @@ use Rattle.std.proofs.Common.{Err, List, length, refl, ap, ◌∙◌, Bool, ℤ}
 use Rattle.std.proofs.lemmas.Result.{err_from_is_err_and}
 use Rattle.page_cache.specs.declared.faults.PageFault.{PageFault}
 use Rattle.documents.specs.Documents.{hits}
-use Rattle.explain_queries.proofs.Explaining.{explains_done, explains_fault, explains_unsaid, shape_told, shape_touches, touched_as}
+use Rattle.explain_queries.proofs.Explaining.{explains_done, explains_fault, explains_unsaid, shape_told, shape_touches}
+use Rattle.explain_queries.proofs.Reaches.{touched_as}
 use Rattle.explain_queries.proofs.explain.tell_shape.Goals as goal
 
 pub returns-in_err-hits : goal.returns-in_err-hits
@@ -13,7 +14,9 @@ returns-in_err-hits g c =
       seen = c.visit.ensures.seen;
       alone = c.visit.ensures.alone;
       files = c.visit.ensures.files;
-      reads = λ told s e t tells. c.visit.ensures.reads t.touched (touched_as g.row.D _ _ _ _ _ t.touched c.survey-tally.ensures.has c.survey-tally.ensures.crosses (shape_touches g.row.D _ _ _ _ s t e tells));
+      reads = λ told s e t tells.
+          c.visit.ensures.reads t.touched
+          (touched_as g.row.D _ _ _ _ _ t.touched c.survey-tally.ensures.has c.survey-tally.ensures.crosses (shape_touches g.row.D _ _ _ _ s t e tells));
       cause = c.in_err-hits.ensures.cause;
       whole = c.in_err-hits.ensures.whole;
       faithful = c.visit.ensures.faithful;
@@ -27,7 +30,9 @@ returns-in_err-put_shape g c =
       seen = c.visit.ensures.seen;
       alone = c.visit.ensures.alone;
       files = c.visit.ensures.files;
-      reads = λ told s e t tells. c.visit.ensures.reads t.touched (touched_as g.row.D _ _ _ _ _ t.touched c.survey-tally.ensures.has c.survey-tally.ensures.crosses (shape_touches g.row.D _ _ _ _ s t e tells));
+      reads = λ told s e t tells.
+          c.visit.ensures.reads t.touched
+          (touched_as g.row.D _ _ _ _ _ t.touched c.survey-tally.ensures.has c.survey-tally.ensures.crosses (shape_touches g.row.D _ _ _ _ s t e tells));
       cause = c.in_ok-hits.ensures.cause;
       whole = c.in_ok-hits.ensures.whole;
       faithful = c.visit.ensures.faithful;
@@ -40,11 +45,16 @@ returns g c =
       seen = c.visit.ensures.seen;
       alone = c.visit.ensures.alone;
       files = c.visit.ensures.files;
-      reads = λ told s e t tells. c.visit.ensures.reads t.touched (touched_as g.row.D _ _ _ _ _ t.touched c.survey-tally.ensures.has c.survey-tally.ensures.crosses (shape_touches g.row.D _ _ _ _ s t e tells));
+      reads = λ told s e t tells.
+          c.visit.ensures.reads t.touched
+          (touched_as g.row.D _ _ _ _ _ t.touched c.survey-tally.ensures.has c.survey-tally.ensures.crosses (shape_touches g.row.D _ _ _ _ s t e tells));
       cause = c.in_ok-hits.ensures.cause;
       whole = c.in_ok-hits.ensures.whole;
       faithful = c.visit.ensures.faithful;
       evident = c.in_ok-hits.ensures.evident;
     })
-    (λ told s e. shape_told g.row.D _ _ _ _ c.survey-tally.result.tested c.survey-tally.result.touched c.len.result _ _ s e c.survey-tally.ensures.tested c.survey-tally.ensures.touched
-    (c.len.ensures ∙ c.in_ok-hits.hits.ok.0 ∙ ap length (c.in_ok-hits.ensures.found told e.index e.seen e.index.docs refl ∙ ap (λ (f : List ℤ → Bool). hits f e.index.docs) c.survey-tally.ensures.has)) c.in_ok-put_shape.ensures)
+    (λ told s e. shape_told g.row.D _ _ _ _ c.survey-tally.result.tested c.survey-tally.result.touched c.len.result _ _ s e c.survey-tally.ensures.tested
+    c.survey-tally.ensures.touched
+    (c.len.ensures ∙ c.in_ok-hits.hits.ok.0
+    ∙ ap length (c.in_ok-hits.ensures.found told e.index e.seen e.index.docs refl ∙ ap (λ (f : List ℤ → Bool). hits f e.index.docs) c.survey-tally.ensures.has))
+    c.in_ok-put_shape.ensures)

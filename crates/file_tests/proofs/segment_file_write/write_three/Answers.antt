@@ -22,7 +22,9 @@ write_segment-requires c =
       search rules,
       (
         search rules,
-        merely (can_write_three c.in_ok-index.index (region_of c.line-wide.result) (region_of c.line-narrow.result) c.in_ok-leaf.field-0 c.in_ok-leaf-2.field-0 c.in_ok-leaf-3.field-0
-            xs ys zs leaves has c.line-wide.ensures c.line-narrow.ensures c.in_ok-leaf.ensures.long c.in_ok-leaf-2.ensures.long c.in_ok-leaf-3.ensures.long first second third),
+        merely (can_write_three c.in_ok-index.index (region_of c.line-wide.result) (region_of c.line-narrow.result) c.in_ok-leaf.field-0 c.in_ok-leaf-2.field-0
+            c.in_ok-leaf-3.field-0
+            xs ys zs leaves has c.line-wide.ensures c.line-narrow.ensures c.in_ok-leaf.ensures.long c.in_ok-leaf-2.ensures.long c.in_ok-leaf-3.ensures.long
+            first second third),
       ),
     )

@@ -9,7 +9,7 @@ use Rattle.commit_list.specs.CommitFiles.{IsCommitFile}
 use Rattle.segment_file.specs.Damages.{IsLeafDamageOf}
 use Rattle.index_opening.specs.Evidence.{IsTwice}
 use Rattle.index_opening.specs.Opened.{IsOpened}
-use Rattle.index_opening.proofs.Evident.{on_part_evident}
+use Rattle.index_opening.proofs.LeafEvident.{on_part_evident}
 use Rattle.index_opening.proofs.Listed.{undefined_fault}
 use Rattle.index_opening.proofs.Named.{part_found}
 use Rattle.folder_check.specs.Found.{AreFine, HasSegment, IsWrong}
@@ -61,7 +61,8 @@ returns-in_err-findings-clause-evident g c =
     let fault = c.in_err-findings.field-0.0 in
     let e = err_from_is_err_and c.from_residual-in_err-findings.result c.from_residual-in_err-findings.ensures.1 in
     rw (e.1, e.2)
-    (on_part_evident {X = Unit {0}} (IsTwice files) (IsTrue g.F.Pages.told × IsCommitFile (bytes_of (files Commit)) c.args.c.now) g.row.D files parts (Err fault)
+    (on_part_evident {X = Unit {0}} (IsTwice files) (IsTrue g.F.Pages.told × IsCommitFile (bytes_of (files Commit)) c.args.c.now) g.row.D files parts
+    (Err fault)
     (λ t. file_heads (IsTrue g.F.Pages.told) g.row.D files c.args.c.now parts t.0 c.requires c.in_ok-segments.ensures.opened)
     (λ t. subst (λ (f : Files). FaultShows (IsLeafDamageOf f) fault) (c.in_ok-segments.ensures.files t.0) (c.in_err-findings.ensures.damage t.0))
     c.in_err-findings.ensures.shown)
@@ -71,15 +72,18 @@ judge-requires g c =
     let found = ap length c.as_slice.ensures.value in
     let each = c.in_ok-findings.ensures.each in
     let listed = ap length c.listed.ensures.value in
-    let parts = zip_long (IsOpened (IsTrue g.F.Pages.told) (g.F.Pages.files c.args.folder.now) c.args.c.now) c.args.c.now.listed c.in_ok-segments.segments c.in_ok-segments.ensures.opened in
+    let parts = zip_long (IsOpened (IsTrue g.F.Pages.told) (g.F.Pages.files c.args.folder.now) c.args.c.now) c.args.c.now.listed c.in_ok-segments.segments
+    c.in_ok-segments.ensures.opened in
     omega (arith, found, each, listed, parts)
 
 pub returns-clause-holds : goal.returns-clause-holds
 returns-clause-holds g c = λ told says.
     on_fine_holds (g.F.Pages.files c.args.folder.now) c.args.c.now c.in_ok-findings.findings.items c.judge.result
-    (known_of (IsTrue g.F.Pages.told) g.row.D (g.F.Pages.files c.args.folder.now) (g.F.Pages.files c.open_index.new.folder) c.args.c.now c.in_ok-segments.segments c.in_ok-findings.findings.items told (c.in_ok-segments.ensures.files told) c.requires says
+    (known_of (IsTrue g.F.Pages.told) g.row.D (g.F.Pages.files c.args.folder.now) (g.F.Pages.files c.open_index.new.folder) c.args.c.now
+    c.in_ok-segments.segments c.in_ok-findings.findings.items told (c.in_ok-segments.ensures.files told) c.requires says
     c.in_ok-segments.ensures.opened c.in_ok-segments.ensures.placed (c.in_ok-findings.ensures.found told))
-    (handed (λ ls n fs. OnOk c.judge.result (AreFine ls n fs)) _ _ _ _ _ _ c.listed.ensures.value c.given.ensures.value c.as_slice.ensures.value c.judge.ensures.fine)
+    (handed (λ ls n fs. OnOk c.judge.result (AreFine ls n fs)) _ _ _ _ _ _ c.listed.ensures.value c.given.ensures.value c.as_slice.ensures.value
+    c.judge.ensures.fine)
 
 pub returns-clause-files : goal.returns-clause-files
 returns-clause-files g c = λ told. c.in_ok-findings.ensures.files told ∙ c.in_ok-segments.ensures.files told
@@ -98,17 +102,22 @@ returns-clause-reads g c = λ told heads sets have lives.
 pub returns-clause-undefined : goal.returns-clause-undefined
 returns-clause-undefined g c = λ told says.
     on_wrong_undefined c.one_segment.ensures.items (g.F.Pages.files c.args.folder.now) c.args.c.now c.in_ok-findings.findings.items c.judge.result
-    (known_of (IsTrue g.F.Pages.told) g.row.D (g.F.Pages.files c.args.folder.now) (g.F.Pages.files c.open_index.new.folder) c.args.c.now c.in_ok-segments.segments c.in_ok-findings.findings.items told (c.in_ok-segments.ensures.files told) c.requires says
+    (known_of (IsTrue g.F.Pages.told) g.row.D (g.F.Pages.files c.args.folder.now) (g.F.Pages.files c.open_index.new.folder) c.args.c.now
+    c.in_ok-segments.segments c.in_ok-findings.findings.items told (c.in_ok-segments.ensures.files told) c.requires says
     c.in_ok-segments.ensures.opened c.in_ok-segments.ensures.placed (c.in_ok-findings.ensures.found told))
-    (handed (λ ls n fs. OnDamage c.judge.result (IsWrong ls n fs)) _ _ _ _ _ _ c.listed.ensures.value c.given.ensures.value c.as_slice.ensures.value c.judge.ensures.wrong)
+    (handed (λ ls n fs. OnDamage c.judge.result (IsWrong ls n fs)) _ _ _ _ _ _ c.listed.ensures.value c.given.ensures.value c.as_slice.ensures.value
+    c.judge.ensures.wrong)
 
 pub returns-clause-evident : goal.returns-clause-evident
 returns-clause-evident g c =
     let files = g.F.Pages.files c.args.folder.now in
-    on_wrong_evident (IsTrue g.F.Pages.told × IsCommitFile (bytes_of (files Commit)) c.args.c.now) files c.args.c.now c.in_ok-findings.findings.items c.judge.result
-    (λ t. known_of (IsTrue g.F.Pages.told) g.row.D (g.F.Pages.files c.args.folder.now) (g.F.Pages.files c.open_index.new.folder) c.args.c.now c.in_ok-segments.segments c.in_ok-findings.findings.items t.0 (c.in_ok-segments.ensures.files t.0) c.requires t.1
+    on_wrong_evident (IsTrue g.F.Pages.told × IsCommitFile (bytes_of (files Commit)) c.args.c.now) files c.args.c.now c.in_ok-findings.findings.items
+    c.judge.result
+    (λ t. known_of (IsTrue g.F.Pages.told) g.row.D (g.F.Pages.files c.args.folder.now) (g.F.Pages.files c.open_index.new.folder) c.args.c.now
+    c.in_ok-segments.segments c.in_ok-findings.findings.items t.0 (c.in_ok-segments.ensures.files t.0) c.requires t.1
     c.in_ok-segments.ensures.opened c.in_ok-segments.ensures.placed (c.in_ok-findings.ensures.found t.0))
-    (handed (λ ls n fs. OnDamage c.judge.result (IsWrong ls n fs)) _ _ _ _ _ _ c.listed.ensures.value c.given.ensures.value c.as_slice.ensures.value c.judge.ensures.wrong)
+    (handed (λ ls n fs. OnDamage c.judge.result (IsWrong ls n fs)) _ _ _ _ _ _ c.listed.ensures.value c.given.ensures.value c.as_slice.ensures.value
+    c.judge.ensures.wrong)
 
 pub returns-in_err-findings-clause-named : goal.returns-in_err-findings-clause-named
 returns-in_err-findings-clause-named g c = λ told says.

@@ -18,7 +18,8 @@ use Rattle.folder_check.proofs.checking.checked.Goals as goal
 
 pub returns-in_err-commit-clause-reads : goal.returns-in_err-commit-clause-reads
 returns-in_err-commit-clause-reads g c = λ told pages checking.
-    pages_read (g.F.Pages.files c.args.folder.now) pages (g.F.Pages.reads c.args.folder.now) (g.F.Pages.reads c.read_commit.new.folder) (g.F.Pages.reads c.read_commit.new.folder)
+    pages_read (g.F.Pages.files c.args.folder.now) pages (g.F.Pages.reads c.args.folder.now) (g.F.Pages.reads c.read_commit.new.folder)
+    (g.F.Pages.reads c.read_commit.new.folder)
     (c.in_err-commit.ensures.unread told) (c.in_err-commit.ensures.most told) refl checking
 
 pub returns-in_err-commit-clause-undefined : goal.returns-in_err-commit-clause-undefined
@@ -26,27 +27,34 @@ returns-in_err-commit-clause-undefined g c = λ told.
     let files = g.F.Pages.files c.args.folder.now in
     let e = err_from_is_err_and c.from_residual.result c.from_residual.ensures.1 in
     rw (e.1, e.2)
-    (undefined_fault files c.in_err-commit.field-0.0 (commit_undefined files c.in_err-commit.field-0.0 (c.in_err-commit.ensures.absent told) (c.in_err-commit.ensures.whole told)))
+    (undefined_fault files c.in_err-commit.field-0.0
+    (commit_undefined files c.in_err-commit.field-0.0 (c.in_err-commit.ensures.absent told) (c.in_err-commit.ensures.whole told)))
 
 pub returns-in_err-check_commit-clause-reads : goal.returns-in_err-check_commit-clause-reads
 returns-in_err-check_commit-clause-reads g c = λ told pages checking.
-    pages_all (g.F.Pages.files c.args.folder.now) c.in-Some.commit pages (g.F.Pages.reads c.args.folder.now) (g.F.Pages.reads c.read_commit.new.folder) (g.F.Pages.reads c.check_commit.new.folder)
+    pages_all (g.F.Pages.files c.args.folder.now) c.in-Some.commit pages (g.F.Pages.reads c.args.folder.now) (g.F.Pages.reads c.read_commit.new.folder)
+    (g.F.Pages.reads c.check_commit.new.folder)
     (rw c.in-Some.is at (c.in_ok-commit.ensures.found told)) (c.in_ok-commit.ensures.most told)
-    (read_at (g.F.Pages.files c.args.folder.now) (g.F.Pages.files c.read_commit.new.folder) c.in-Some.commit (g.F.Pages.reads c.read_commit.new.folder) (g.F.Pages.reads c.check_commit.new.folder) (c.in_ok-commit.ensures.files told) (c.in_err-check_commit.ensures.reads told))
+    (read_at (g.F.Pages.files c.args.folder.now) (g.F.Pages.files c.read_commit.new.folder) c.in-Some.commit (g.F.Pages.reads c.read_commit.new.folder)
+    (g.F.Pages.reads c.check_commit.new.folder) (c.in_ok-commit.ensures.files told) (c.in_err-check_commit.ensures.reads told))
     checking
 
 pub returns-in_err-ok_line-clause-reads : goal.returns-in_err-ok_line-clause-reads
 returns-in_err-ok_line-clause-reads g c = λ told pages checking.
-    pages_all (g.F.Pages.files c.args.folder.now) c.in-Some.commit pages (g.F.Pages.reads c.args.folder.now) (g.F.Pages.reads c.read_commit.new.folder) (g.F.Pages.reads c.check_commit.new.folder)
+    pages_all (g.F.Pages.files c.args.folder.now) c.in-Some.commit pages (g.F.Pages.reads c.args.folder.now) (g.F.Pages.reads c.read_commit.new.folder)
+    (g.F.Pages.reads c.check_commit.new.folder)
     (rw c.in-Some.is at (c.in_ok-commit.ensures.found told)) (c.in_ok-commit.ensures.most told)
-    (read_at (g.F.Pages.files c.args.folder.now) (g.F.Pages.files c.read_commit.new.folder) c.in-Some.commit (g.F.Pages.reads c.read_commit.new.folder) (g.F.Pages.reads c.check_commit.new.folder) (c.in_ok-commit.ensures.files told) (c.in_ok-check_commit.ensures.reads told))
+    (read_at (g.F.Pages.files c.args.folder.now) (g.F.Pages.files c.read_commit.new.folder) c.in-Some.commit (g.F.Pages.reads c.read_commit.new.folder)
+    (g.F.Pages.reads c.check_commit.new.folder) (c.in_ok-commit.ensures.files told) (c.in_ok-check_commit.ensures.reads told))
     checking
 
 pub returns-clause-reads : goal.returns-clause-reads
 returns-clause-reads g c = λ told pages checking.
-    pages_all (g.F.Pages.files c.args.folder.now) c.in-Some.commit pages (g.F.Pages.reads c.args.folder.now) (g.F.Pages.reads c.read_commit.new.folder) (g.F.Pages.reads c.check_commit.new.folder)
+    pages_all (g.F.Pages.files c.args.folder.now) c.in-Some.commit pages (g.F.Pages.reads c.args.folder.now) (g.F.Pages.reads c.read_commit.new.folder)
+    (g.F.Pages.reads c.check_commit.new.folder)
     (rw c.in-Some.is at (c.in_ok-commit.ensures.found told)) (c.in_ok-commit.ensures.most told)
-    (read_at (g.F.Pages.files c.args.folder.now) (g.F.Pages.files c.read_commit.new.folder) c.in-Some.commit (g.F.Pages.reads c.read_commit.new.folder) (g.F.Pages.reads c.check_commit.new.folder) (c.in_ok-commit.ensures.files told) (c.in_ok-check_commit.ensures.reads told))
+    (read_at (g.F.Pages.files c.args.folder.now) (g.F.Pages.files c.read_commit.new.folder) c.in-Some.commit (g.F.Pages.reads c.read_commit.new.folder)
+    (g.F.Pages.reads c.check_commit.new.folder) (c.in_ok-commit.ensures.files told) (c.in_ok-check_commit.ensures.reads told))
     checking
 
 pub live_documents-requires : goal.live_documents-requires
@@ -65,7 +73,9 @@ returns-clause-tells g c = λ told.
       docs = held.0;
       holds = holds;
       told = c.in_ok-ok_line.ensures
-          ∙ ap (ok_text commit) (c.live_documents.ensures ∙ ap (λ (ss : List Listed). sum_by (λ (s : Listed). s.live) ss) c.listed.ensures.value ∙ sym (documents_counted files commit held.0 holds));
+          ∙ ap (ok_text commit)
+          (c.live_documents.ensures ∙ ap (λ (ss : List Listed). sum_by (λ (s : Listed). s.live) ss) c.listed.ensures.value
+          ∙ sym (documents_counted files commit held.0 holds));
     })
 
 pub returns-in_err-commit-clause-named : goal.returns-in_err-commit-clause-named

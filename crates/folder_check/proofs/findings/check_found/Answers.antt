@@ -5,4 +5,5 @@ use Rattle.folder_check.proofs.findings.check_found.Goals as goal
 
 pub loop-i-preserved : goal.loop-i-preserved
 loop-i-preserved c =
-    zip_step HasAll c.args.listed.now c.args.findings.now c.loop-i.i _ _ c.loop-i-test.true (omega (arith, c.loop-i-test.true, c.requires)) c.if-s-found.false c.loop-i.invariant
+    zip_step HasAll c.args.listed.now c.args.findings.now c.loop-i.i _ _ c.loop-i-test.true (omega (arith, c.loop-i-test.true, c.requires)) c.if-s-found.false
+    c.loop-i.invariant

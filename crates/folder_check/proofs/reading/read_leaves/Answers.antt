@@ -24,7 +24,8 @@ loop-i-preserved g c =
     let files = g.F.Pages.files c.args.folder.now in
     record {
       files = λ told. one.files told ∙ was.files told;
-      agrees = λ told. subst (λ (f : Files). Agrees f c.read_segment.new.cache) (was.files told) (one.agrees told (subst (λ (f : Files). Agrees f c.loop-i.cache) (sym (was.files told)) (was.agrees told)));
+      agrees = λ told. subst (λ (f : Files). Agrees f c.read_segment.new.cache) (was.files told)
+          (one.agrees told (subst (λ (f : Files). Agrees f c.loop-i.cache) (sym (was.files told)) (was.agrees told)));
       faults = one.cause.fine ∙ was.faults;
       reads = λ told own.
           let step = pages_more files parts c.loop-i.i p c.part.ensures in
@@ -32,12 +33,16 @@ loop-i-preserved g c =
           let there = part_in parts c.loop-i.i p c.part.ensures in
           let here = one_read g.row.D files (g.F.Pages.files c.loop-i.folder) parts p _ _ (was.files told) own there (one.reads told) in
           omega (arith, step, before, here);
-      each = let is = ap length c.in_ok-extend_from_slice.ensures.items in let more = length_push c.loop-i.findings.items c.in_ok-finding.finding in let was_long = was.each in omega (arith, is, more, was_long);
+      each =
+          let is = ap length c.in_ok-extend_from_slice.ensures.items in
+          let more = length_push c.loop-i.findings.items c.in_ok-finding.finding in
+          let was_long = was.each in omega (arith, is, more, was_long);
       found = λ told own.
           found_more g.row.D files parts c.loop-i.i p c.loop-i.findings.items _ c.in_ok-finding.finding c.part.ensures c.in_ok-extend_from_slice.ensures.items
           (subst (λ (f : Files). IsFinding g.row.D f p c.in_ok-finding.finding) (was.files told)
           (one.found told (subst (λ (f : Files). Agrees f c.loop-i.cache) (sym (was.files told)) (was.agrees told))
-          (subst (λ (f : Files). HasOwnHead g.row.D f p) (sym (was.files told)) (All-contains (HasOwnHead g.row.D files) parts p own (part_in parts c.loop-i.i p c.part.ensures)))))
+          (subst (λ (f : Files). HasOwnHead g.row.D f p) (sym (was.files told))
+          (All-contains (HasOwnHead g.row.D files) parts p own (part_in parts c.loop-i.i p c.part.ensures)))))
           (was.found told own);
     }
 
@@ -60,7 +65,9 @@ pub returns-in_err-finding-clause-shown : goal.returns-in_err-finding-clause-sho
 returns-in_err-finding-clause-shown g c =
     let e = err_from_is_err_and c.from_residual-in_err-finding.result c.from_residual-in_err-finding.ensures.1 in
     let p = part_of c.part.result.0.now c.part.result.1.now in
-    rw (e.1, e.2) (fault_of_part g.row.D c.args.segments.now p c.in_err-finding.field-0.0 (part_in c.args.segments.now c.loop-i.i p c.part.ensures) c.in_err-finding.ensures.shown)
+    rw (e.1, e.2)
+    (fault_of_part g.row.D c.args.segments.now p c.in_err-finding.field-0.0 (part_in c.args.segments.now c.loop-i.i p c.part.ensures)
+    c.in_err-finding.ensures.shown)
 
 pub returns-in_err-finding-clause-damage : goal.returns-in_err-finding-clause-damage
 returns-in_err-finding-clause-damage g c = λ told.
@@ -78,7 +85,8 @@ returns-in_err-finding-clause-whole g c = λ told have.
     rw (e.1, e.2)
     (c.in_err-finding.ensures.whole told (subst (λ (f : Files). Agrees f c.loop-i.cache) (sym same) (c.loop-i.invariant.agrees told))
     (subst (λ (f : Files). HasSegment g.row.D f p) (sym same)
-    (All-contains (HasSegment g.row.D (g.F.Pages.files c.args.folder.now)) c.args.segments.now p have (part_in c.args.segments.now c.loop-i.i p c.part.ensures))))
+    (All-contains (HasSegment g.row.D (g.F.Pages.files c.args.folder.now)) c.args.segments.now p have
+    (part_in c.args.segments.now c.loop-i.i p c.part.ensures))))
 
 pub returns-in_err-extend_from_slice-clause-reads : goal.returns-in_err-extend_from_slice-clause-reads
 returns-in_err-extend_from_slice-clause-reads g c = λ told own.

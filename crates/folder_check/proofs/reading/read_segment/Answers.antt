@@ -15,7 +15,8 @@ pub returns-in_err-entries-clause-shown : goal.returns-in_err-entries-clause-sho
 returns-in_err-entries-clause-shown g c =
     let e = err_from_is_err_and c.from_residual.result c.from_residual.ensures.1 in
     rw (e.1, e.2)
-    (read_shown {T = Unit {0}} g.row.D c.args.head.now c.index.result.now (Err c.in_err-entries.field-0.0) c.index.ensures.ranges c.index.ensures.value c.is_spelled.ensures c.in_err-entries.ensures.shown)
+    (read_shown {T = Unit {0}} g.row.D c.args.head.now c.index.result.now (Err c.in_err-entries.field-0.0) c.index.ensures.ranges c.index.ensures.value
+    c.is_spelled.ensures c.in_err-entries.ensures.shown)
 
 pub returns-in_err-entries-clause-reads : goal.returns-in_err-entries-clause-reads
 returns-in_err-entries-clause-reads g c = λ told own.

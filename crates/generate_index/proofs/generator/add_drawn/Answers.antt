@@ -16,8 +16,10 @@ adds-init g c = record { makes = makes_none _ _ _ tt; given = c.requires.none; d
 pub adds-preserved : goal.adds-preserved
 adds-preserved g c = record {
   makes = makes_then _ _ _ _ _ _ _ tt _ c.adds.invariant.makes
-      (makes_add _ c.args.draws.now c.adds.number _ _ _ _ (c.point-point.ensures.point c.args.draws.now c.adds.number c.adds.invariant.drawn) (c.documents_deleted.ensures.none c.args.draws.now c.adds.number)
-      (c.documents_deleted.ensures.none c.args.draws.now (c.adds.number + 1)) (c.documents_added.ensures.more c.args.draws.now c.adds.number) c.in_ok-add_point.ensures);
+      (makes_add _ c.args.draws.now c.adds.number _ _ _ _ (c.point-point.ensures.point c.args.draws.now c.adds.number c.adds.invariant.drawn)
+      (c.documents_deleted.ensures.none c.args.draws.now c.adds.number)
+      (c.documents_deleted.ensures.none c.args.draws.now (c.adds.number + 1)) (c.documents_added.ensures.more c.args.draws.now c.adds.number)
+      c.in_ok-add_point.ensures);
   given = c.in_ok-add_point.ensures.given ∙ ap (λ n. n + 1) c.adds.invariant.given;
   drawn = c.point-point.ensures.after c.args.draws.now c.adds.number c.adds.invariant.drawn;
   within = omega (arith, c.adds-test.true);
@@ -28,8 +30,10 @@ returns-in_err-add_point-clause-makes g c =
     let p = err_from_is_err_and c.from_residual.result c.from_residual.ensures.1 in
     makes_stopped _ _ _ _ _ _ c.in_err-add_point.field-0.0 _ (p.1 ∙ ap (λ (e : PageFault). Err e) p.2)
     (makes_then _ _ _ _ _ _ _ tt _ c.adds.invariant.makes
-    (makes_add _ c.args.draws.now c.adds.number _ _ _ _ (c.point-point.ensures.point c.args.draws.now c.adds.number c.adds.invariant.drawn) (c.documents_deleted.ensures.none c.args.draws.now c.adds.number)
-    (c.documents_deleted.ensures.none c.args.draws.now (c.adds.number + 1)) (c.documents_added.ensures.more c.args.draws.now c.adds.number) c.in_err-add_point.ensures))
+    (makes_add _ c.args.draws.now c.adds.number _ _ _ _ (c.point-point.ensures.point c.args.draws.now c.adds.number c.adds.invariant.drawn)
+    (c.documents_deleted.ensures.none c.args.draws.now c.adds.number)
+    (c.documents_deleted.ensures.none c.args.draws.now (c.adds.number + 1)) (c.documents_added.ensures.more c.args.draws.now c.adds.number)
+    c.in_err-add_point.ensures))
 
 pub returns-clause-makes : goal.returns-clause-makes
 returns-clause-makes g c =

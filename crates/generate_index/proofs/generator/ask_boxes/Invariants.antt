@@ -10,7 +10,8 @@ invariant-boxes g l = record {
   makes : (seed n : ℕ) → Makes {T = Unit {0}} (IsTrue g.F.Pages.told) (IsMade seed n n) (IsMade seed n n)
       (record { files = g.F.Pages.files l.initial.folder; session = l.initial.session; faults = g.F.Pages.faults l.initial.folder })
       (record { files = g.F.Pages.files l.folder; session = l.session; faults = g.F.Pages.faults l.folder }) (Ok tt);
-  hits : IsTrue g.F.Pages.told → (seed n : ℕ) → IsMade seed n n (record { files = g.F.Pages.files l.initial.folder; session = l.initial.session; faults = g.F.Pages.faults l.initial.folder })
+  hits : IsTrue g.F.Pages.told → (seed n : ℕ)
+      → IsMade seed n n (record { files = g.F.Pages.files l.initial.folder; session = l.initial.session; faults = g.F.Pages.faults l.initial.folder })
       → l.initial.draws ≡ draw seed (2 * n) → l.hits ≡ box_hits (made_docs seed n) (points seed n l.boxes);
   drawn : (seed n : ℕ) → l.initial.draws ≡ draw seed (2 * n) → l.draws ≡ draw seed (2 * (n + l.boxes));
   within : l.boxes ≤ 64;

@@ -23,16 +23,21 @@ pub queries-preserved : goal.queries-preserved
 queries-preserved g c = record {
   makes = λ seed n.
       makes_ok _ _ _ _ _ c.in_ok-found.found tt (makes_then _ _ _ _ _ _ _ tt _ (c.queries.invariant.makes seed n)
-      (makes_reads _ (drawn_index seed n n) _ _ _ (λ t. c.nearest_to.ensures.seen t (drawn_index seed n n)) c.nearest_to.ensures.guards c.nearest_to.ensures.files c.nearest_to.ensures.parts c.in_ok-found.ensures.cause
+      (makes_reads _ (drawn_index seed n n) _ _ _ (λ t. c.nearest_to.ensures.seen t (drawn_index seed n n)) c.nearest_to.ensures.guards
+      c.nearest_to.ensures.files c.nearest_to.ensures.parts c.in_ok-found.ensures.cause
       (λ t. c.in_ok-found.ensures.whole t (drawn_index seed n n)) c.nearest_to.ensures.faithful c.in_ok-found.ensures.evident));
   near = λ told seed n before drawn.
       let at = c.queries.invariant.drawn seed n drawn in
       let sees = (c.queries.invariant.makes seed n).made told before in
-      c.saturating_add-near.ensures ∙ near_more seed n (n + 64) c.queries.queries _ _ _ _ (c.point-at.ensures.point seed (n + 64 + c.queries.queries) at) (omega (arith, c.queries-test.true)) (c.sums_are_small.ensures.near seed n n (n + 64))
+      c.saturating_add-near.ensures
+      ∙ near_more seed n (n + 64) c.queries.queries _ _ _ _ (c.point-at.ensures.point seed (n + 64 + c.queries.queries) at) (omega (arith, c.queries-test.true))
+      (c.sums_are_small.ensures.near seed n n (n + 64))
       (c.queries.invariant.near told seed n before drawn) (c.in_ok-found.ensures.found told (drawn_index seed n n) sees)
-      (subst (λ ns. sum_by (λ (f : ℕ × ℕ). f.0) (found_of ns) < 2 ^ 128 → c.distances_of.result ≡ sum_by (λ (f : ℕ × ℕ). f.0) (found_of ns)) c.as_slice.ensures.value c.distances_of.ensures);
+      (subst (λ ns. sum_by (λ (f : ℕ × ℕ). f.0) (found_of ns) < 2 ^ 128 → c.distances_of.result ≡ sum_by (λ (f : ℕ × ℕ). f.0) (found_of ns))
+      c.as_slice.ensures.value c.distances_of.ensures);
   drawn = λ seed n drawn.
-      c.point-at.ensures.after seed (n + 64 + c.queries.queries) (c.queries.invariant.drawn seed n drawn) ∙ ap (λ k. draw seed (2 * k)) (let more : n + 64 + c.queries.queries + 1 ≡ n + 64 + (c.queries.queries + 1) = omega arith in more);
+      c.point-at.ensures.after seed (n + 64 + c.queries.queries) (c.queries.invariant.drawn seed n drawn)
+      ∙ ap (λ k. draw seed (2 * k)) (let more : n + 64 + c.queries.queries + 1 ≡ n + 64 + (c.queries.queries + 1) = omega arith in more);
   within = omega (arith, c.queries-test.true);
 }
 
@@ -41,7 +46,8 @@ returns-in_err-found-clause-makes g c = λ seed n.
     let p = err_from_is_err_and c.from_residual.result c.from_residual.ensures.1 in
     makes_stopped _ _ _ _ _ _ c.in_err-found.field-0.0 _ (p.1 ∙ ap (λ (e : PageFault). Err e) p.2)
     (makes_then _ _ _ _ _ _ _ tt _ (c.queries.invariant.makes seed n)
-    (makes_reads _ (drawn_index seed n n) _ _ _ (λ t. c.nearest_to.ensures.seen t (drawn_index seed n n)) c.nearest_to.ensures.guards c.nearest_to.ensures.files c.nearest_to.ensures.parts c.in_err-found.ensures.cause
+    (makes_reads _ (drawn_index seed n n) _ _ _ (λ t. c.nearest_to.ensures.seen t (drawn_index seed n n)) c.nearest_to.ensures.guards c.nearest_to.ensures.files
+    c.nearest_to.ensures.parts c.in_err-found.ensures.cause
     (λ t. c.in_err-found.ensures.whole t (drawn_index seed n n)) c.nearest_to.ensures.faithful c.in_err-found.ensures.evident))
 
 pub returns-clause-makes : goal.returns-clause-makes

@@ -12,7 +12,8 @@ use Rattle.generate_index.proofs.generator.delete_tenths.Goals as goal
 pub deletes-init : goal.deletes-init
 deletes-init c = record {
   made = λ files faults seed before. before;
-  live = λ files faults seed before. sym (ap length (c.documents_deleted.ensures.none seed c.args.docs) ∙ length-map-range_with_len (document seed) 0 c.args.docs);
+  live = λ files faults seed before.
+      sym (ap length (c.documents_deleted.ensures.none seed c.args.docs) ∙ length-map-range_with_len (document seed) 0 c.args.docs);
   guards = λ files guards. guards;
   faithful = λ files faithful. faithful;
   traced = λ files traced. traced;
@@ -23,12 +24,14 @@ deletes-init c = record {
 pub deletes-preserved : goal.deletes-preserved
 deletes-preserved c = record {
   made = λ files faults seed before.
-      subst (λ (docs : List Document). Sees 2 files c.take_out-goes.new.self.set (record (drawn_index seed c.args.docs c.args.docs) { docs = docs })) (sym (c.documents_deleted.ensures.more seed c.args.docs c.deletes.number c.deletes.invariant.tenth))
+      subst (λ (docs : List Document). Sees 2 files c.take_out-goes.new.self.set (record (drawn_index seed c.args.docs c.args.docs) { docs = docs }))
+      (sym (c.documents_deleted.ensures.more seed c.args.docs c.deletes.number c.deletes.invariant.tenth))
       (c.take_out-goes.ensures.seen files (drawn_index seed c.args.docs c.deletes.number) (c.deletes.invariant.made files faults seed before));
   live = λ files faults seed before.
       let seen = c.deletes.invariant.made files faults seed before in
       c.left-live.ensures
-      ∙ left_is c.deletes.number c.deletes.live (kept c.deletes.number (documents seed c.args.docs)) c.take_out-goes.result seen.docs.ascend (c.take_out-goes.ensures.live files (drawn_index seed c.args.docs c.deletes.number) seen)
+      ∙ left_is c.deletes.number c.deletes.live (kept c.deletes.number (documents seed c.args.docs)) c.take_out-goes.result seen.docs.ascend
+      (c.take_out-goes.ensures.live files (drawn_index seed c.args.docs c.deletes.number) seen)
       (c.deletes.invariant.live files faults seed before)
       ∙ ap length (sym (c.documents_deleted.ensures.more seed c.args.docs c.deletes.number c.deletes.invariant.tenth));
   guards = λ files guards. c.take_out-goes.ensures.guards files (c.deletes.invariant.guards files guards);

@@ -10,26 +10,39 @@ use Rattle.generate_index.proofs.generator.fill.Goals as goal
 pub returns-in_err-add_drawn-clause-makes : goal.returns-in_err-add_drawn-clause-makes
 returns-in_err-add_drawn-clause-makes g c =
     let p = err_from_is_err_and c.from_residual.result c.from_residual.ensures.1 in
-    makes_stopped _ _ _ _ _ _ c.in_err-add_drawn.field-0.0 _ (p.1 ∙ ap (λ (e : PageFault). Err e) p.2) (makes_by (IsTrue g.F.Pages.told) _ c.args.seed c.args.docs _ _ _ c.new-draws.ensures c.in_err-add_drawn.ensures.makes)
+    makes_stopped _ _ _ _ _ _ c.in_err-add_drawn.field-0.0 _ (p.1 ∙ ap (λ (e : PageFault). Err e) p.2)
+    (makes_by (IsTrue g.F.Pages.told) _ c.args.seed c.args.docs _ _ _ c.new-draws.ensures c.in_err-add_drawn.ensures.makes)
 
 pub returns-in_err-hits-clause-makes : goal.returns-in_err-hits-clause-makes
 returns-in_err-hits-clause-makes g c =
     let p = err_from_is_err_and c.from_residual-in_err-hits.result c.from_residual-in_err-hits.ensures.1 in
     makes_stopped _ _ _ _ _ _ c.in_err-hits.field-0.0 _ (p.1 ∙ ap (λ (e : PageFault). Err e) p.2)
-    (makes_then _ _ _ _ _ _ _ c.delete_tenths-live.result _ (makes_then _ _ _ _ _ _ _ tt _ (makes_by (IsTrue g.F.Pages.told) _ c.args.seed c.args.docs _ _ _ c.new-draws.ensures c.in_ok-add_drawn.ensures.makes) (makes_deletes _ c.args.seed c.args.docs _ _ _ _ c.delete_tenths-live.result c.delete_tenths-live.ensures.made c.delete_tenths-live.ensures.guards c.delete_tenths-live.ensures.faithful c.delete_tenths-live.ensures.traced c.delete_tenths-live.ensures.canon)) (c.in_err-hits.ensures.makes c.args.seed c.args.docs))
+    (makes_then _ _ _ _ _ _ _ c.delete_tenths-live.result
+    _ (makes_then _ _ _ _ _ _ _ tt _ (makes_by (IsTrue g.F.Pages.told) _ c.args.seed c.args.docs _ _ _ c.new-draws.ensures c.in_ok-add_drawn.ensures.makes)
+    (makes_deletes _ c.args.seed c.args.docs _ _ _ _ c.delete_tenths-live.result c.delete_tenths-live.ensures.made c.delete_tenths-live.ensures.guards
+    c.delete_tenths-live.ensures.faithful c.delete_tenths-live.ensures.traced c.delete_tenths-live.ensures.canon))
+    (c.in_err-hits.ensures.makes c.args.seed c.args.docs))
 
 pub returns-in_err-near-clause-makes : goal.returns-in_err-near-clause-makes
 returns-in_err-near-clause-makes g c =
     let p = err_from_is_err_and c.from_residual-in_err-near.result c.from_residual-in_err-near.ensures.1 in
     makes_stopped _ _ _ _ _ _ c.in_err-near.field-0.0 _ (p.1 ∙ ap (λ (e : PageFault). Err e) p.2)
     (makes_then _ _ _ _ _ _ _ c.in_ok-hits.hits _
-    (makes_then _ _ _ _ _ _ _ c.delete_tenths-live.result _ (makes_then _ _ _ _ _ _ _ tt _ (makes_by (IsTrue g.F.Pages.told) _ c.args.seed c.args.docs _ _ _ c.new-draws.ensures c.in_ok-add_drawn.ensures.makes) (makes_deletes _ c.args.seed c.args.docs _ _ _ _ c.delete_tenths-live.result c.delete_tenths-live.ensures.made c.delete_tenths-live.ensures.guards c.delete_tenths-live.ensures.faithful c.delete_tenths-live.ensures.traced c.delete_tenths-live.ensures.canon)) (c.in_ok-hits.ensures.makes c.args.seed c.args.docs)) (c.in_err-near.ensures.makes c.args.seed c.args.docs))
+    (makes_then _ _ _ _ _ _ _ c.delete_tenths-live.result
+    _ (makes_then _ _ _ _ _ _ _ tt _ (makes_by (IsTrue g.F.Pages.told) _ c.args.seed c.args.docs _ _ _ c.new-draws.ensures c.in_ok-add_drawn.ensures.makes)
+    (makes_deletes _ c.args.seed c.args.docs _ _ _ _ c.delete_tenths-live.result c.delete_tenths-live.ensures.made c.delete_tenths-live.ensures.guards
+    c.delete_tenths-live.ensures.faithful c.delete_tenths-live.ensures.traced c.delete_tenths-live.ensures.canon))
+    (c.in_ok-hits.ensures.makes c.args.seed c.args.docs)) (c.in_err-near.ensures.makes c.args.seed c.args.docs))
 
 pub returns-clause-makes : goal.returns-clause-makes
 returns-clause-makes g c =
     makes_ok _ _ _ _ _ c.in_ok-near.near _
     (makes_then _ _ _ _ _ _ _ c.in_ok-hits.hits _
-    (makes_then _ _ _ _ _ _ _ c.delete_tenths-live.result _ (makes_then _ _ _ _ _ _ _ tt _ (makes_by (IsTrue g.F.Pages.told) _ c.args.seed c.args.docs _ _ _ c.new-draws.ensures c.in_ok-add_drawn.ensures.makes) (makes_deletes _ c.args.seed c.args.docs _ _ _ _ c.delete_tenths-live.result c.delete_tenths-live.ensures.made c.delete_tenths-live.ensures.guards c.delete_tenths-live.ensures.faithful c.delete_tenths-live.ensures.traced c.delete_tenths-live.ensures.canon)) (c.in_ok-hits.ensures.makes c.args.seed c.args.docs)) (c.in_ok-near.ensures.makes c.args.seed c.args.docs))
+    (makes_then _ _ _ _ _ _ _ c.delete_tenths-live.result
+    _ (makes_then _ _ _ _ _ _ _ tt _ (makes_by (IsTrue g.F.Pages.told) _ c.args.seed c.args.docs _ _ _ c.new-draws.ensures c.in_ok-add_drawn.ensures.makes)
+    (makes_deletes _ c.args.seed c.args.docs _ _ _ _ c.delete_tenths-live.result c.delete_tenths-live.ensures.made c.delete_tenths-live.ensures.guards
+    c.delete_tenths-live.ensures.faithful c.delete_tenths-live.ensures.traced c.delete_tenths-live.ensures.canon))
+    (c.in_ok-hits.ensures.makes c.args.seed c.args.docs)) (c.in_ok-near.ensures.makes c.args.seed c.args.docs))
 
 pub returns-clause-summary : goal.returns-clause-summary
 returns-clause-summary g c told before =

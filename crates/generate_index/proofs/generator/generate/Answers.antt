@@ -20,14 +20,17 @@ use Rattle.generate_index.proofs.generator.generate.Goals as goal
 pub returns-in-Ok-Some-clause-generates : goal.returns-in-Ok-Some-clause-generates
 returns-in-Ok-Some-clause-generates g c = λ told state h.
     let same = c.in-Ok-Some.ensures.files told in
-    ends_there (g.F.Pages.files c.read_commit.new.folder) state c.args.docs c.args.seed _ _ (λ none. commit_there (g.F.Pages.files c.args.folder.now) _ (rw c.in-Ok-Some.field-0-is at (c.in-Ok-Some.ensures.found told)) (ap (λ (f : Files). f Commit) (sym same) ∙ none))
+    ends_there (g.F.Pages.files c.read_commit.new.folder) state c.args.docs c.args.seed
+    _ _ (λ none. commit_there (g.F.Pages.files c.args.folder.now) _ (rw c.in-Ok-Some.field-0-is at (c.in-Ok-Some.ensures.found told))
+    (ap (λ (f : Files). f Commit) (sym same) ∙ none))
     (subst (λ (f : Files). IsStored f state) (sym same) h) c.in_ok-put_exists-in-Ok-Some.ensures
 
 pub returns-in-Ok-None-clause-generates : goal.returns-in-Ok-None-clause-generates
 returns-in-Ok-None-clause-generates g c = λ told state h.
     let same = c.in-Ok-None.ensures.files told in
     let none = rw c.in-Ok-None.field-0-is at (c.in-Ok-None.ensures.found told) in
-    subst (λ (s : State). DoesWhole (g.F.Pages.files c.generate_first.new.folder) s (generated s c.args.docs c.args.seed) c.args.text.now.items c.generate_first.new.text.items c.generate_first.result) (sym (none_there (g.F.Pages.files c.args.folder.now) state none h))
+    subst (λ (s : State). DoesWhole (g.F.Pages.files c.generate_first.new.folder) s (generated s c.args.docs c.args.seed) c.args.text.now.items
+    c.generate_first.new.text.items c.generate_first.result) (sym (none_there (g.F.Pages.files c.args.folder.now) state none h))
     (c.generate_first.ensures.generates told (ap (λ (f : Files). f Commit) same ∙ none))
 
 pub returns-in-Ok-None-clause-canon : goal.returns-in-Ok-None-clause-canon
@@ -38,15 +41,21 @@ returns-in-Ok-None-clause-canon g c = λ told state h.
 
 pub returns-clause-generates : goal.returns-clause-generates
 returns-clause-generates g c = λ told state h.
-    ends_unread Bool (g.F.Pages.files c.args.folder.now) (g.F.Pages.files c.read_commit.new.folder) state (generated state c.args.docs c.args.seed) c.args.text.now.items c.args.text.now.items c.in-Err.fault _ refl (state_undamaged (g.F.Pages.files c.args.folder.now) state h (c.in-Err.ensures.absent told) (c.in-Err.ensures.whole told)) (c.in-Err.ensures.files told) h
+    ends_unread Bool (g.F.Pages.files c.args.folder.now) (g.F.Pages.files c.read_commit.new.folder) state (generated state c.args.docs c.args.seed)
+    c.args.text.now.items c.args.text.now.items c.in-Err.fault _ refl
+    (state_undamaged (g.F.Pages.files c.args.folder.now) state h (c.in-Err.ensures.absent told) (c.in-Err.ensures.whole told)) (c.in-Err.ensures.files told) h
 
 pub returns-clause-evident : goal.returns-clause-evident
-returns-clause-evident g c = unread_evident (IsTrue g.F.Pages.told) (g.F.Pages.files c.args.folder.now) (g.F.Pages.files c.read_commit.new.folder) c.in-Err.fault c.in-Err.ensures.files c.in-Err.ensures.damage c.in-Err.ensures.shown
+returns-clause-evident g c =
+    unread_evident (IsTrue g.F.Pages.told) (g.F.Pages.files c.args.folder.now) (g.F.Pages.files c.read_commit.new.folder) c.in-Err.fault c.in-Err.ensures.files
+    c.in-Err.ensures.damage c.in-Err.ensures.shown
 
 pub returns-in-Ok-None-clause-evident : goal.returns-in-Ok-None-clause-evident
 returns-in-Ok-None-clause-evident g c =
-    on_evident_less (IsTrue g.F.Pages.told × (g.F.Pages.files c.read_commit.new.folder Commit ≡ None)) (IsTrue g.F.Pages.told) (g.F.Pages.files c.generate_first.new.folder) c.generate_first.result
-    (λ told. (told, ap (λ (f : Files). f Commit) (c.in-Ok-None.ensures.files told) ∙ rw c.in-Ok-None.field-0-is at (c.in-Ok-None.ensures.found told))) c.generate_first.ensures.evident
+    on_evident_less (IsTrue g.F.Pages.told × (g.F.Pages.files c.read_commit.new.folder Commit ≡ None)) (IsTrue g.F.Pages.told)
+    (g.F.Pages.files c.generate_first.new.folder) c.generate_first.result
+    (λ told. (told, ap (λ (f : Files). f Commit) (c.in-Ok-None.ensures.files told) ∙ rw c.in-Ok-None.field-0-is at (c.in-Ok-None.ensures.found told)))
+    c.generate_first.ensures.evident
 
 pub returns-in_err-put_exists-in-Ok-Some-clause-evident : goal.returns-in_err-put_exists-in-Ok-Some-clause-evident
 returns-in_err-put_exists-in-Ok-Some-clause-evident g c =
@@ -67,12 +76,14 @@ returns-clause-cause g c = fault_to _ _ c.in-Err.fault c.in-Err.ensures.cause
 
 pub returns-in_err-put_exists-in-Ok-Some-clause-cause : goal.returns-in_err-put_exists-in-Ok-Some-clause-cause
 returns-in_err-put_exists-in-Ok-Some-clause-cause g c =
-    let p = err_from_is_err_and c.from_residual.result c.from_residual.ensures.1 in rw (p.1 ∙ ap (λ (e : PageFault). Err e) p.2) (memory_cause _ _ c.in-Ok-Some.ensures.cause.later)
+    let p = err_from_is_err_and c.from_residual.result c.from_residual.ensures.1 in
+    rw (p.1 ∙ ap (λ (e : PageFault). Err e) p.2) (memory_cause _ _ c.in-Ok-Some.ensures.cause.later)
 
 pub returns-in_err-put_exists-in-Ok-Some-clause-generates : goal.returns-in_err-put_exists-in-Ok-Some-clause-generates
 returns-in_err-put_exists-in-Ok-Some-clause-generates g c = λ told state h.
     let p = err_from_is_err_and c.from_residual.result c.from_residual.ensures.1 in
-    ends_untold (g.F.Pages.files c.read_commit.new.folder) state (generated state c.args.docs c.args.seed) c.args.text.now.items c.put_exists.new.text.items _ (p.1 ∙ ap (λ (e : PageFault). Err e) p.2)
+    ends_untold (g.F.Pages.files c.read_commit.new.folder) state (generated state c.args.docs c.args.seed) c.args.text.now.items c.put_exists.new.text.items
+    _ (p.1 ∙ ap (λ (e : PageFault). Err e) p.2)
     (subst (λ (f : Files). IsStored f state) (sym (c.in-Ok-Some.ensures.files told)) h)
 
 pub returns-in-Ok-Some-clause-levels : goal.returns-in-Ok-Some-clause-levels
@@ -91,9 +102,11 @@ returns-in-Ok-None-clause-undone g c = λ told.
     (c.generate_first.ensures.undone told (ap (λ (f : Files). f Commit) same ∙ rw c.in-Ok-None.field-0-is at (c.in-Ok-None.ensures.found told)))
 
 pub returns-clause-undone : goal.returns-clause-undone
-returns-clause-undone g c = λ told. fault_kept (g.F.Pages.files c.args.folder.now) (g.F.Pages.files c.read_commit.new.folder) (kept_equal _ _ (c.in-Err.ensures.files told)) c.in-Err.fault
+returns-clause-undone g c = λ told.
+    fault_kept (g.F.Pages.files c.args.folder.now) (g.F.Pages.files c.read_commit.new.folder) (kept_equal _ _ (c.in-Err.ensures.files told)) c.in-Err.fault
 
 pub returns-in_err-put_exists-in-Ok-Some-clause-undone : goal.returns-in_err-put_exists-in-Ok-Some-clause-undone
 returns-in_err-put_exists-in-Ok-Some-clause-undone g c = λ told.
     let p = err_from_is_err_and c.from_residual.result c.from_residual.ensures.1 in
-    undone_kept (g.F.Pages.files c.args.folder.now) (g.F.Pages.files c.read_commit.new.folder) _ _ (p.1 ∙ ap (λ (e : PageFault). Err e) p.2) (kept_equal _ _ (c.in-Ok-Some.ensures.files told))
+    undone_kept (g.F.Pages.files c.args.folder.now) (g.F.Pages.files c.read_commit.new.folder) _ _ (p.1 ∙ ap (λ (e : PageFault). Err e) p.2)
+    (kept_equal _ _ (c.in-Ok-Some.ensures.files told))

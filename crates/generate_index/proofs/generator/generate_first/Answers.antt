@@ -9,7 +9,8 @@ use Rattle.index_core.proofs.Undone.{begins_none, levels_after, undone_after, un
 use Rattle.stored_index.proofs.KeptFiles.{kept_itself}
 use Rattle.drawn_points.specs.Generated.{generated}
 use Rattle.generate_index.specs.Generates.{drawn_index}
-use Rattle.generate_index.proofs.Ended.{cause_done, created, ends_early, ends_made, ends_uncommitted, ends_uncreated, ends_unsaid, fault_evident, made_canon, memory_evident}
+use Rattle.generate_index.proofs.Ended.{cause_done, created, ends_early, ends_made, ends_uncommitted}
+use Rattle.generate_index.proofs.Ended.{ends_uncreated, ends_unsaid, fault_evident, made_canon, memory_evident}
 use Rattle.generate_index.proofs.Making.{created_trusts, makes_trusts}
 use Rattle.generate_index.proofs.generator.generate_first.Goals as goal
 
@@ -25,24 +26,34 @@ fill-requires-clause-none g c κs within = sym (c.in_ok-session.ensures.seen (g.
 pub returns-in_err-session-clause-generates : goal.returns-in_err-session-clause-generates
 returns-in_err-session-clause-generates g c told none =
     let p = err_from_is_err_and c.from_residual.result c.from_residual.ensures.1 in
-    ends_uncreated (g.F.Pages.files c.args.folder.now) (generated None c.args.docs c.args.seed) c.args.text.now.items c.args.text.now.items _ (p.1 ∙ ap (λ (e : PageFault). Err e) p.2) none
+    ends_uncreated (g.F.Pages.files c.args.folder.now) (generated None c.args.docs c.args.seed) c.args.text.now.items c.args.text.now.items
+    _ (p.1 ∙ ap (λ (e : PageFault). Err e) p.2) none
 
 pub returns-in_err-summary-clause-generates : goal.returns-in_err-summary-clause-generates
 returns-in_err-summary-clause-generates g c told none =
     let p = err_from_is_err_and c.from_residual-in_err-summary.result c.from_residual-in_err-summary.ensures.1 in
-    ends_early _ c.args.seed c.args.docs _ _ (generated None c.args.docs c.args.seed) c.args.text.now.items c.args.text.now.items c.in_err-summary.field-0.0 _ (p.1 ∙ ap (λ (e : PageFault). Err e) p.2) c.in_err-summary.ensures.makes told (created c.args.seed c.greatest_leaf.result (g.F.Pages.files c.args.folder.now) c.in_ok-session.session (g.F.Pages.faults c.args.folder.now) c.greatest_leaf.ensures (c.documents_deleted.ensures.none c.args.seed 0) (c.documents_added.ensures.none c.args.seed) none (c.in_ok-session.ensures.seen (g.F.Pages.files c.args.folder.now))
+    ends_early _ c.args.seed c.args.docs _ _ (generated None c.args.docs c.args.seed) c.args.text.now.items c.args.text.now.items c.in_err-summary.field-0.0
+    _ (p.1 ∙ ap (λ (e : PageFault). Err e) p.2) c.in_err-summary.ensures.makes told
+    (created c.args.seed c.greatest_leaf.result (g.F.Pages.files c.args.folder.now) c.in_ok-session.session (g.F.Pages.faults c.args.folder.now)
+    c.greatest_leaf.ensures (c.documents_deleted.ensures.none c.args.seed 0) (c.documents_added.ensures.none c.args.seed) none
+    (c.in_ok-session.ensures.seen (g.F.Pages.files c.args.folder.now))
     (c.in_ok-session.ensures.guards (g.F.Pages.files c.args.folder.now) none) c.in_ok-session.ensures.bare)
 
 pub returns-in_err-put_summary-clause-generates : goal.returns-in_err-put_summary-clause-generates
 returns-in_err-put_summary-clause-generates g c told none =
     let p = err_from_is_err_and c.from_residual-in_err-put_summary.result c.from_residual-in_err-put_summary.ensures.1 in
-    ends_unsaid _ c.args.seed c.args.docs _ _ c.in_ok-summary.summary (generated None c.args.docs c.args.seed) c.args.text.now.items c.put_summary.new.text.items _ (p.1 ∙ ap (λ (e : PageFault). Err e) p.2) c.in_ok-summary.ensures.makes told (created c.args.seed c.greatest_leaf.result (g.F.Pages.files c.args.folder.now) c.in_ok-session.session (g.F.Pages.faults c.args.folder.now) c.greatest_leaf.ensures (c.documents_deleted.ensures.none c.args.seed 0) (c.documents_added.ensures.none c.args.seed) none (c.in_ok-session.ensures.seen (g.F.Pages.files c.args.folder.now))
+    ends_unsaid _ c.args.seed c.args.docs _ _ c.in_ok-summary.summary (generated None c.args.docs c.args.seed) c.args.text.now.items
+    c.put_summary.new.text.items _ (p.1 ∙ ap (λ (e : PageFault). Err e) p.2) c.in_ok-summary.ensures.makes told
+    (created c.args.seed c.greatest_leaf.result (g.F.Pages.files c.args.folder.now) c.in_ok-session.session (g.F.Pages.faults c.args.folder.now)
+    c.greatest_leaf.ensures (c.documents_deleted.ensures.none c.args.seed 0) (c.documents_added.ensures.none c.args.seed) none
+    (c.in_ok-session.ensures.seen (g.F.Pages.files c.args.folder.now))
     (c.in_ok-session.ensures.guards (g.F.Pages.files c.args.folder.now) none) c.in_ok-session.ensures.bare)
 
 pub returns-in_err-commit-clause-generates : goal.returns-in_err-commit-clause-generates
 returns-in_err-commit-clause-generates g c told none =
     let p = err_from_is_err_and c.from_residual-in_err-commit.result c.from_residual-in_err-commit.ensures.1 in
-    ends_uncommitted _ c.args.seed c.args.docs _ _ _ c.in_ok-summary.summary c.args.text.now.items c.put_summary.new.text.items c.in_err-commit.field-0.0 _ (p.1 ∙ ap (λ (e : PageFault). Err e) p.2) (c.index_made.ensures c.args.seed c.args.docs (omega (arith, c.requires))) c.in_ok-summary.ensures.makes
+    ends_uncommitted _ c.args.seed c.args.docs _ _ _ c.in_ok-summary.summary c.args.text.now.items c.put_summary.new.text.items c.in_err-commit.field-0.0
+    _ (p.1 ∙ ap (λ (e : PageFault). Err e) p.2) (c.index_made.ensures c.args.seed c.args.docs (omega (arith, c.requires))) c.in_ok-summary.ensures.makes
     (record {
       seen = c.in_err-commit.ensures.seen;
       guards = c.in_err-commit.ensures.guards;
@@ -55,13 +66,19 @@ returns-in_err-commit-clause-generates g c told none =
       cause = c.in_err-commit.ensures.cause;
       whole = c.in_err-commit.ensures.whole;
     })
-    told (created c.args.seed c.greatest_leaf.result (g.F.Pages.files c.args.folder.now) c.in_ok-session.session (g.F.Pages.faults c.args.folder.now) c.greatest_leaf.ensures (c.documents_deleted.ensures.none c.args.seed 0) (c.documents_added.ensures.none c.args.seed) none (c.in_ok-session.ensures.seen (g.F.Pages.files c.args.folder.now))
+    told (created c.args.seed c.greatest_leaf.result (g.F.Pages.files c.args.folder.now) c.in_ok-session.session (g.F.Pages.faults c.args.folder.now)
+    c.greatest_leaf.ensures (c.documents_deleted.ensures.none c.args.seed 0) (c.documents_added.ensures.none c.args.seed) none
+    (c.in_ok-session.ensures.seen (g.F.Pages.files c.args.folder.now))
     (c.in_ok-session.ensures.guards (g.F.Pages.files c.args.folder.now) none) c.in_ok-session.ensures.bare)
 
 pub returns-clause-generates : goal.returns-clause-generates
 returns-clause-generates g c told none =
-    ends_made _ c.args.seed c.args.docs _ _ _ c.in_ok-summary.summary tt _ _ _ _ c.args.text.now.items c.put_summary.new.text.items (c.index_made.ensures c.args.seed c.args.docs (omega (arith, c.requires))) c.in_ok-put_summary.ensures
-    (c.in_ok-summary.ensures.summary told (created c.args.seed c.greatest_leaf.result (g.F.Pages.files c.args.folder.now) c.in_ok-session.session (g.F.Pages.faults c.args.folder.now) c.greatest_leaf.ensures (c.documents_deleted.ensures.none c.args.seed 0) (c.documents_added.ensures.none c.args.seed) none (c.in_ok-session.ensures.seen (g.F.Pages.files c.args.folder.now))
+    ends_made _ c.args.seed c.args.docs _ _ _ c.in_ok-summary.summary tt _ _ _ _ c.args.text.now.items c.put_summary.new.text.items
+    (c.index_made.ensures c.args.seed c.args.docs (omega (arith, c.requires))) c.in_ok-put_summary.ensures
+    (c.in_ok-summary.ensures.summary told
+    (created c.args.seed c.greatest_leaf.result (g.F.Pages.files c.args.folder.now) c.in_ok-session.session (g.F.Pages.faults c.args.folder.now)
+    c.greatest_leaf.ensures (c.documents_deleted.ensures.none c.args.seed 0) (c.documents_added.ensures.none c.args.seed) none
+    (c.in_ok-session.ensures.seen (g.F.Pages.files c.args.folder.now))
     (c.in_ok-session.ensures.guards (g.F.Pages.files c.args.folder.now) none) c.in_ok-session.ensures.bare).made) c.in_ok-summary.ensures.makes
     (record {
       seen = c.in_ok-commit.ensures.seen;
@@ -75,7 +92,9 @@ returns-clause-generates g c told none =
       cause = c.in_ok-commit.ensures.cause;
       whole = c.in_ok-commit.ensures.whole;
     })
-    told (created c.args.seed c.greatest_leaf.result (g.F.Pages.files c.args.folder.now) c.in_ok-session.session (g.F.Pages.faults c.args.folder.now) c.greatest_leaf.ensures (c.documents_deleted.ensures.none c.args.seed 0) (c.documents_added.ensures.none c.args.seed) none (c.in_ok-session.ensures.seen (g.F.Pages.files c.args.folder.now))
+    told (created c.args.seed c.greatest_leaf.result (g.F.Pages.files c.args.folder.now) c.in_ok-session.session (g.F.Pages.faults c.args.folder.now)
+    c.greatest_leaf.ensures (c.documents_deleted.ensures.none c.args.seed 0) (c.documents_added.ensures.none c.args.seed) none
+    (c.in_ok-session.ensures.seen (g.F.Pages.files c.args.folder.now))
     (c.in_ok-session.ensures.guards (g.F.Pages.files c.args.folder.now) none) c.in_ok-session.ensures.bare)
 
 pub returns-clause-canon : goal.returns-clause-canon
@@ -93,7 +112,9 @@ returns-clause-canon g c told none =
       cause = c.in_ok-commit.ensures.cause;
       whole = c.in_ok-commit.ensures.whole;
     })
-    told (created c.args.seed c.greatest_leaf.result (g.F.Pages.files c.args.folder.now) c.in_ok-session.session (g.F.Pages.faults c.args.folder.now) c.greatest_leaf.ensures (c.documents_deleted.ensures.none c.args.seed 0) (c.documents_added.ensures.none c.args.seed) none (c.in_ok-session.ensures.seen (g.F.Pages.files c.args.folder.now))
+    told (created c.args.seed c.greatest_leaf.result (g.F.Pages.files c.args.folder.now) c.in_ok-session.session (g.F.Pages.faults c.args.folder.now)
+    c.greatest_leaf.ensures (c.documents_deleted.ensures.none c.args.seed 0) (c.documents_added.ensures.none c.args.seed) none
+    (c.in_ok-session.ensures.seen (g.F.Pages.files c.args.folder.now))
     (c.in_ok-session.ensures.guards (g.F.Pages.files c.args.folder.now) none) c.in_ok-session.ensures.bare)
 
 -- a damage
@@ -105,8 +126,12 @@ returns-in_err-session-clause-evident g c =
 pub returns-in_err-summary-clause-evident : goal.returns-in_err-summary-clause-evident
 returns-in_err-summary-clause-evident g c =
     let p = err_from_is_err_and c.from_residual-in_err-summary.result c.from_residual-in_err-summary.ensures.1 in
-    fault_evident (IsTrue g.F.Pages.told) (g.F.Pages.files c.args.folder.now Commit ≡ None) (Trusts 2 (g.F.Pages.files c.args.folder.now) c.in_ok-session.session) (g.F.Pages.files c.fill.new.folder) c.in_err-summary.field-0.0 _ (p.1 ∙ ap (λ (e : PageFault). Err e) p.2)
-    (λ told none. created_trusts (g.F.Pages.files c.args.folder.now) c.in_ok-session.session (c.in_ok-session.ensures.guards (g.F.Pages.files c.args.folder.now) none) (c.in_ok-session.ensures.faithful (g.F.Pages.files c.args.folder.now)) c.in_ok-session.ensures.bare)
+    fault_evident (IsTrue g.F.Pages.told) (g.F.Pages.files c.args.folder.now Commit ≡ None)
+    (Trusts 2 (g.F.Pages.files c.args.folder.now) c.in_ok-session.session) (g.F.Pages.files c.fill.new.folder) c.in_err-summary.field-0.0
+    _ (p.1 ∙ ap (λ (e : PageFault). Err e) p.2)
+    (λ told none. created_trusts (g.F.Pages.files c.args.folder.now) c.in_ok-session.session
+    (c.in_ok-session.ensures.guards (g.F.Pages.files c.args.folder.now) none) (c.in_ok-session.ensures.faithful (g.F.Pages.files c.args.folder.now))
+    c.in_ok-session.ensures.bare)
     c.in_err-summary.ensures.makes.evident
 
 pub returns-in_err-put_summary-clause-evident : goal.returns-in_err-put_summary-clause-evident
@@ -117,15 +142,18 @@ returns-in_err-put_summary-clause-evident g c =
 pub returns-in_err-commit-clause-evident : goal.returns-in_err-commit-clause-evident
 returns-in_err-commit-clause-evident g c =
     let p = err_from_is_err_and c.from_residual-in_err-commit.result c.from_residual-in_err-commit.ensures.1 in
-    fault_evident (IsTrue g.F.Pages.told) (g.F.Pages.files c.args.folder.now Commit ≡ None) (Trusts 2 (g.F.Pages.files c.fill.new.folder) c.fill.new.session) (g.F.Pages.files c.commit.new.folder) c.in_err-commit.field-0.0 _ (p.1 ∙ ap (λ (e : PageFault). Err e) p.2)
+    fault_evident (IsTrue g.F.Pages.told) (g.F.Pages.files c.args.folder.now Commit ≡ None) (Trusts 2 (g.F.Pages.files c.fill.new.folder) c.fill.new.session)
+    (g.F.Pages.files c.commit.new.folder) c.in_err-commit.field-0.0 _ (p.1 ∙ ap (λ (e : PageFault). Err e) p.2)
     (λ told none. makes_trusts _ _ _ _ _ _ c.in_ok-summary.ensures.makes told
-    (created_trusts (g.F.Pages.files c.args.folder.now) c.in_ok-session.session (c.in_ok-session.ensures.guards (g.F.Pages.files c.args.folder.now) none) (c.in_ok-session.ensures.faithful (g.F.Pages.files c.args.folder.now)) c.in_ok-session.ensures.bare))
+    (created_trusts (g.F.Pages.files c.args.folder.now) c.in_ok-session.session (c.in_ok-session.ensures.guards (g.F.Pages.files c.args.folder.now) none)
+    (c.in_ok-session.ensures.faithful (g.F.Pages.files c.args.folder.now)) c.in_ok-session.ensures.bare))
     c.in_err-commit.ensures.evident
 
 -- the folder's faults
 pub returns-in_err-session-clause-cause : goal.returns-in_err-session-clause-cause
 returns-in_err-session-clause-cause g c =
-    let p = err_from_is_err_and c.from_residual.result c.from_residual.ensures.1 in rw (p.1 ∙ ap (λ (e : PageFault). Err e) p.2) (memory_cause _ _ (omega arith))
+    let p = err_from_is_err_and c.from_residual.result c.from_residual.ensures.1 in
+    rw (p.1 ∙ ap (λ (e : PageFault). Err e) p.2) (memory_cause _ _ (omega arith))
 
 pub returns-in_err-summary-clause-cause : goal.returns-in_err-summary-clause-cause
 returns-in_err-summary-clause-cause g c =
@@ -140,7 +168,8 @@ returns-in_err-put_summary-clause-cause g c =
 pub returns-in_err-commit-clause-cause : goal.returns-in_err-commit-clause-cause
 returns-in_err-commit-clause-cause g c =
     let p = err_from_is_err_and c.from_residual-in_err-commit.result c.from_residual-in_err-commit.ensures.1 in
-    rw (p.1 ∙ ap (λ (e : PageFault). Err e) p.2) (cause_then _ _ _ _ c.in_ok-summary.ensures.makes.cause.fine (fault_to _ _ c.in_err-commit.field-0.0 c.in_err-commit.ensures.cause))
+    rw (p.1 ∙ ap (λ (e : PageFault). Err e) p.2)
+    (cause_then _ _ _ _ c.in_ok-summary.ensures.makes.cause.fine (fault_to _ _ c.in_err-commit.field-0.0 c.in_err-commit.ensures.cause))
 
 pub returns-clause-cause : goal.returns-clause-cause
 returns-clause-cause g c = cause_done _ _ _ c.in_ok-summary.summary tt false c.in_ok-summary.ensures.makes.cause c.in_ok-commit.ensures.cause
@@ -149,24 +178,28 @@ returns-clause-cause g c = cause_done _ _ _ c.in_ok-summary.summary tt false c.i
 pub returns-in_err-session-clause-undone : goal.returns-in_err-session-clause-undone
 returns-in_err-session-clause-undone g c told none =
     let p = err_from_is_err_and c.from_residual.result c.from_residual.ensures.1 in
-    undone_kept (g.F.Pages.files c.args.folder.now) (g.F.Pages.files c.args.folder.now) _ _ (p.1 ∙ ap (λ (e : PageFault). Err e) p.2) (kept_itself (g.F.Pages.files c.args.folder.now))
+    undone_kept (g.F.Pages.files c.args.folder.now) (g.F.Pages.files c.args.folder.now) _ _ (p.1 ∙ ap (λ (e : PageFault). Err e) p.2)
+    (kept_itself (g.F.Pages.files c.args.folder.now))
 
 pub returns-in_err-summary-clause-undone : goal.returns-in_err-summary-clause-undone
 returns-in_err-summary-clause-undone g c told none =
     let p = err_from_is_err_and c.from_residual-in_err-summary.result c.from_residual-in_err-summary.ensures.1 in
-    undone_kept (g.F.Pages.files c.args.folder.now) (g.F.Pages.files c.fill.new.folder) _ _ (p.1 ∙ ap (λ (e : PageFault). Err e) p.2) (c.in_err-summary.ensures.makes.kept told (c.in_ok-session.ensures.guards (g.F.Pages.files c.args.folder.now) none))
+    undone_kept (g.F.Pages.files c.args.folder.now) (g.F.Pages.files c.fill.new.folder) _ _ (p.1 ∙ ap (λ (e : PageFault). Err e) p.2)
+    (c.in_err-summary.ensures.makes.kept told (c.in_ok-session.ensures.guards (g.F.Pages.files c.args.folder.now) none))
 
 pub returns-in_err-put_summary-clause-undone : goal.returns-in_err-put_summary-clause-undone
 returns-in_err-put_summary-clause-undone g c told none =
     let p = err_from_is_err_and c.from_residual-in_err-put_summary.result c.from_residual-in_err-put_summary.ensures.1 in
-    undone_kept (g.F.Pages.files c.args.folder.now) (g.F.Pages.files c.fill.new.folder) _ _ (p.1 ∙ ap (λ (e : PageFault). Err e) p.2) (c.in_ok-summary.ensures.makes.kept told (c.in_ok-session.ensures.guards (g.F.Pages.files c.args.folder.now) none))
+    undone_kept (g.F.Pages.files c.args.folder.now) (g.F.Pages.files c.fill.new.folder) _ _ (p.1 ∙ ap (λ (e : PageFault). Err e) p.2)
+    (c.in_ok-summary.ensures.makes.kept told (c.in_ok-session.ensures.guards (g.F.Pages.files c.args.folder.now) none))
 
 pub returns-in_err-commit-clause-undone : goal.returns-in_err-commit-clause-undone
 returns-in_err-commit-clause-undone g c told none =
     let p = err_from_is_err_and c.from_residual-in_err-commit.result c.from_residual-in_err-commit.ensures.1 in
     let guards = (c.in_ok-session.ensures.guards (g.F.Pages.files c.args.folder.now) none) in
     rw (p.1 ∙ ap (λ (e : PageFault). Err e) p.2)
-    (undone_after {T = Bool} (g.F.Pages.files c.args.folder.now) (g.F.Pages.files c.fill.new.folder) (g.F.Pages.files c.commit.new.folder) (Err c.in_err-commit.field-0.0) (c.in_ok-summary.ensures.makes.kept told guards)
+    (undone_after {T = Bool} (g.F.Pages.files c.args.folder.now) (g.F.Pages.files c.fill.new.folder) (g.F.Pages.files c.commit.new.folder)
+    (Err c.in_err-commit.field-0.0) (c.in_ok-summary.ensures.makes.kept told guards)
     (c.in_err-commit.ensures.undone told (c.in_ok-summary.ensures.makes.guards told guards)))
 
 pub returns-clause-undone : goal.returns-clause-undone
@@ -175,7 +208,12 @@ returns-clause-undone g c told none = tt
 pub returns-clause-levels : goal.returns-clause-levels
 returns-clause-levels g c told none =
     let guards = (c.in_ok-session.ensures.guards (g.F.Pages.files c.args.folder.now) none) in
-    let seen = c.in_ok-summary.ensures.makes.made told (created c.args.seed c.greatest_leaf.result (g.F.Pages.files c.args.folder.now) c.in_ok-session.session (g.F.Pages.faults c.args.folder.now) c.greatest_leaf.ensures (c.documents_deleted.ensures.none c.args.seed 0) (c.documents_added.ensures.none c.args.seed) none (c.in_ok-session.ensures.seen (g.F.Pages.files c.args.folder.now))
+    let seen = c.in_ok-summary.ensures.makes.made told
+    (created c.args.seed c.greatest_leaf.result (g.F.Pages.files c.args.folder.now) c.in_ok-session.session (g.F.Pages.faults c.args.folder.now)
+    c.greatest_leaf.ensures (c.documents_deleted.ensures.none c.args.seed 0) (c.documents_added.ensures.none c.args.seed) none
+    (c.in_ok-session.ensures.seen (g.F.Pages.files c.args.folder.now))
     (c.in_ok-session.ensures.guards (g.F.Pages.files c.args.folder.now) none) c.in_ok-session.ensures.bare).made in
-    levels_after (g.F.Pages.files c.args.folder.now) (g.F.Pages.files c.fill.new.folder) (g.F.Pages.files c.commit.new.folder) (c.in_ok-summary.ensures.makes.kept told guards)
-    (c.in_ok-commit.ensures.few told (c.in_ok-summary.ensures.makes.guards told guards) (begins_none 2 (g.F.Pages.files c.fill.new.folder) c.fill.new.session.set (drawn_index c.args.seed c.args.docs c.args.docs) seen refl))
+    levels_after (g.F.Pages.files c.args.folder.now) (g.F.Pages.files c.fill.new.folder) (g.F.Pages.files c.commit.new.folder)
+    (c.in_ok-summary.ensures.makes.kept told guards)
+    (c.in_ok-commit.ensures.few told (c.in_ok-summary.ensures.makes.guards told guards)
+    (begins_none 2 (g.F.Pages.files c.fill.new.folder) c.fill.new.session.set (drawn_index c.args.seed c.args.docs c.args.docs) seen refl))

@@ -6,4 +6,6 @@ use Rattle.documents.specs.Documents.{passes}
 use Rattle.index_model.proofs.held.delete_in.Goals as goal
 
 pub returns : goal.returns
-returns g c = filter_same _ (λ d. not (passes (in_box (record { lo = c.args.lo.now.c; hi = c.args.hi.now.c })) d)) _ (λ x b f k. search rules) _ _ c.retain.ensures.filtered
+returns g c =
+    filter_same _ (λ d. not (passes (in_box (record { lo = c.args.lo.now.c; hi = c.args.hi.now.c })) d)) _ (λ x b f k. search rules)
+    _ _ c.retain.ensures.filtered

@@ -9,8 +9,10 @@ use Rattle.index_opening.proofs.opening.open_all.Goals as goal
 pub returns-in_err-head-clause-reads : goal.returns-in_err-head-clause-reads
 returns-in_err-head-clause-reads g c = λ told heads sets have lives.
     let before = c.loop-s.invariant.reads told heads sets have lives in
-    let here = reads_next (g.F.Pages.files c.args.folder.now) (g.F.Pages.files c.loop-s.folder) c.args.c.now c.listed-listed.result.now c.loop-s.s-index _ heads sets
-    (g.F.Pages.reads c.loop-s.folder) (g.F.Pages.reads c.open_one.new.folder) c.listed-listed.ensures.value (c.loop-s.invariant.files told) c.loop-s-test.true have lives (c.in_err-head.ensures.reads told) in
+    let here =
+    reads_next (g.F.Pages.files c.args.folder.now) (g.F.Pages.files c.loop-s.folder) c.args.c.now c.listed-listed.result.now c.loop-s.s-index _ heads sets
+    (g.F.Pages.reads c.loop-s.folder) (g.F.Pages.reads c.open_one.new.folder) c.listed-listed.ensures.value (c.loop-s.invariant.files told) c.loop-s-test.true
+    have lives (c.in_err-head.ensures.reads told) in
     omega (arith, before, here)
 
 pub returns-in_err-head-clause-whole : goal.returns-in_err-head-clause-whole
@@ -26,29 +28,37 @@ insert-requires g c =
       search rules,
       (
         search rules,
-        fresh_next (IsTrue g.F.Pages.told) (g.F.Pages.files c.args.folder.now) c.args.c.now c.listed-listed.result.now c.loop-s.s-index _ c.loop-s.segments c.in_ok-head.head.id
-            c.listed-listed.ensures.value c.listed-listed.ensures.commit.segments.rising c.loop-s-test.true c.loop-s.invariant.opened c.in_ok-head.ensures.opened.listed.id,
+        fresh_next (IsTrue g.F.Pages.told) (g.F.Pages.files c.args.folder.now) c.args.c.now c.listed-listed.result.now c.loop-s.s-index _ c.loop-s.segments
+            c.in_ok-head.head.id
+            c.listed-listed.ensures.value c.listed-listed.ensures.commit.segments.rising c.loop-s-test.true c.loop-s.invariant.opened
+            c.in_ok-head.ensures.opened.listed.id,
       ),
     )
 
 pub returns-in_err-insert-clause-reads : goal.returns-in_err-insert-clause-reads
 returns-in_err-insert-clause-reads g c = λ told heads sets have lives.
     let before = c.loop-s.invariant.reads told heads sets have lives in
-    let here = reads_next (g.F.Pages.files c.args.folder.now) (g.F.Pages.files c.loop-s.folder) c.args.c.now c.listed-listed.result.now c.loop-s.s-index _ heads sets
-    (g.F.Pages.reads c.loop-s.folder) (g.F.Pages.reads c.open_one.new.folder) c.listed-listed.ensures.value (c.loop-s.invariant.files told) c.loop-s-test.true have lives (c.in_ok-head.ensures.reads told) in
+    let here =
+    reads_next (g.F.Pages.files c.args.folder.now) (g.F.Pages.files c.loop-s.folder) c.args.c.now c.listed-listed.result.now c.loop-s.s-index _ heads sets
+    (g.F.Pages.reads c.loop-s.folder) (g.F.Pages.reads c.open_one.new.folder) c.listed-listed.ensures.value (c.loop-s.invariant.files told) c.loop-s-test.true
+    have lives (c.in_ok-head.ensures.reads told) in
     omega (arith, before, here)
 
 pub loop-s-preserved : goal.loop-s-preserved
 loop-s-preserved g c = record {
-  opened = opened_next (IsTrue g.F.Pages.told) (g.F.Pages.files c.loop-s.folder) (g.F.Pages.files c.args.folder.now) c.args.c.now c.listed-listed.result.now c.loop-s.s-index _
-      (part_of c.in_ok-head.head c.in_ok-head.live) c.loop-s.segments c.insert.new.self c.listed-listed.ensures.value c.loop-s.invariant.files c.listed-listed.ensures.commit.segments.rising c.loop-s-test.true
+  opened = opened_next (IsTrue g.F.Pages.told) (g.F.Pages.files c.loop-s.folder) (g.F.Pages.files c.args.folder.now) c.args.c.now c.listed-listed.result.now
+      c.loop-s.s-index _
+      (part_of c.in_ok-head.head c.in_ok-head.live) c.loop-s.segments c.insert.new.self c.listed-listed.ensures.value c.loop-s.invariant.files
+      c.listed-listed.ensures.commit.segments.rising c.loop-s-test.true
       c.loop-s.invariant.opened c.in_ok-head.ensures.opened c.in_ok-insert.ensures.placed c.in_ok-insert.ensures.ascend;
   files = λ told. c.in_ok-head.ensures.files told ∙ c.loop-s.invariant.files told;
   faults = c.in_ok-head.ensures.cause.fine ∙ c.loop-s.invariant.faults;
   reads = λ told heads sets have lives.
       let before = c.loop-s.invariant.reads told heads sets have lives in
-      let here = reads_next (g.F.Pages.files c.args.folder.now) (g.F.Pages.files c.loop-s.folder) c.args.c.now c.listed-listed.result.now c.loop-s.s-index _ heads sets
-      (g.F.Pages.reads c.loop-s.folder) (g.F.Pages.reads c.open_one.new.folder) c.listed-listed.ensures.value (c.loop-s.invariant.files told) c.loop-s-test.true have lives (c.in_ok-head.ensures.reads told) in
+      let here =
+      reads_next (g.F.Pages.files c.args.folder.now) (g.F.Pages.files c.loop-s.folder) c.args.c.now c.listed-listed.result.now c.loop-s.s-index _ heads sets
+      (g.F.Pages.reads c.loop-s.folder) (g.F.Pages.reads c.open_one.new.folder) c.listed-listed.ensures.value (c.loop-s.invariant.files told) c.loop-s-test.true
+      have lives (c.in_ok-head.ensures.reads told) in
       omega (arith, before, here);
 }
 

@@ -13,7 +13,8 @@ invariant-loop-s g l = record {
   opened : AllZip (IsOpened (IsTrue g.F.Pages.told) (g.F.Pages.files l.initial.folder) l.c) (take l.s-index l.c.listed) l.segments;
   files : IsTrue g.F.Pages.told → g.F.Pages.files l.folder ≡ g.F.Pages.files l.initial.folder;
   faults : g.F.Pages.faults l.folder ≡ g.F.Pages.faults l.initial.folder;
-  reads : IsTrue g.F.Pages.told → (heads : List Head) (sets : List LiveSet) → HaveHeads (g.F.Pages.files l.initial.folder) l.c heads → HaveLive (g.F.Pages.files l.initial.folder) l.c sets
+  reads : IsTrue g.F.Pages.told → (heads : List Head) (sets : List LiveSet) → HaveHeads (g.F.Pages.files l.initial.folder) l.c heads
+      → HaveLive (g.F.Pages.files l.initial.folder) l.c sets
       → g.F.Pages.reads l.folder + segments_pages (g.F.Pages.files l.initial.folder) (drop l.s-index l.c.listed) (drop l.s-index heads)
       ≤ g.F.Pages.reads l.initial.folder + segments_pages (g.F.Pages.files l.initial.folder) l.c.listed heads;
 }

@@ -9,7 +9,8 @@ use Rattle.index_opening.proofs.opening.open_head.Goals as goal
 pub returns-in_err-head-clause-whole : goal.returns-in_err-head-clause-whole
 returns-in_err-head-clause-whole g c = λ told d held.
     let e = err_from_is_err_and c.from_residual.result c.from_residual.ensures.1 in
-    rw (e.1, e.2) (c.in_err-head.ensures.whole told d.head held.id (is_held g.row.D (g.F.Pages.files c.args.folder.now) c.args.c.now c.args.s d c.requires held))
+    rw (e.1, e.2)
+    (c.in_err-head.ensures.whole told d.head held.id (is_held g.row.D (g.F.Pages.files c.args.folder.now) c.args.c.now c.args.s d c.requires held))
 
 pub returns-in_err-agree-clause-damage : goal.returns-in_err-agree-clause-damage
 returns-in_err-agree-clause-damage g c = λ told.
@@ -18,7 +19,8 @@ returns-in_err-agree-clause-damage g c = λ told.
     let e = err_from_is_err_and c.from_residual-in_err-agree.result c.from_residual-in_err-agree.ensures.1 in
     rw (e.1, e.2)
     (pair_fault files c.args.c.now c.args.s (Segment c.args.s.segment) c.from.result c.from-2.result c.in_err-agree.field-0.0
-    (leaf_pair files c.args.c.now c.args.s c.in_ok-head.head c.from.result c.from-2.result has (c.from.ensures ∙ c.leaf-leaf.ensures.value) (c.from-2.ensures ∙ c.leaf_size.ensures))
+    (leaf_pair files c.args.c.now c.args.s c.in_ok-head.head c.from.result c.from-2.result has (c.from.ensures ∙ c.leaf-leaf.ensures.value)
+    (c.from-2.ensures ∙ c.leaf_size.ensures))
     c.in_err-agree.ensures.pair)
 
 pub returns-in_err-agree-clause-whole : goal.returns-in_err-agree-clause-whole
@@ -29,7 +31,8 @@ returns-in_err-agree-clause-whole g c = λ told d held.
     let e = err_from_is_err_and c.from_residual-in_err-agree.result c.from_residual-in_err-agree.ensures.1 in
     rw (e.1, e.2)
     (equal_fault (Segment c.args.s.segment) c.from.result c.from-2.result c.in_err-agree.field-0.0
-    (c.from.ensures ∙ c.leaf-leaf.ensures.value ∙ sym held.leaf_size ∙ sym (c.from-2.ensures ∙ c.leaf_size.ensures ∙ ap (λ (h : Head). h.leaf) same)) c.in_err-agree.ensures.pair)
+    (c.from.ensures ∙ c.leaf-leaf.ensures.value ∙ sym held.leaf_size ∙ sym (c.from-2.ensures ∙ c.leaf_size.ensures ∙ ap (λ (h : Head). h.leaf) same))
+    c.in_err-agree.ensures.pair)
 
 pub returns-in_err-agree-2-clause-damage : goal.returns-in_err-agree-2-clause-damage
 returns-in_err-agree-2-clause-damage g c = λ told.

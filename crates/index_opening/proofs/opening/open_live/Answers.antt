@@ -12,7 +12,8 @@ returns-in_err-agree-clause-damage g c = λ told commit.
     let e = err_from_is_err_and c.from_residual-in_err-agree.result c.from_residual-in_err-agree.ensures.1 in
     rw (e.1, e.2)
     (pair_fault files commit c.args.s (Live c.args.s.segment c.args.s.generation) c.from.result c.from-2.result c.in_err-agree.field-0.0
-    (live_pair files commit c.args.s c.in_ok-live.live c.from.result c.from-2.result (c.in_ok-live.ensures.live told) c.from.ensures (c.from-2.ensures ∙ c.live_count.ensures.value))
+    (live_pair files commit c.args.s c.in_ok-live.live c.from.result c.from-2.result (c.in_ok-live.ensures.live told) c.from.ensures
+    (c.from-2.ensures ∙ c.live_count.ensures.value))
     c.in_err-agree.ensures.pair)
 
 pub returns-in_err-agree-clause-whole : goal.returns-in_err-agree-clause-whole
@@ -22,7 +23,8 @@ returns-in_err-agree-clause-whole g c = λ told commit d held.
     let e = err_from_is_err_and c.from_residual-in_err-agree.result c.from_residual-in_err-agree.ensures.1 in
     rw (e.1, e.2)
     (equal_fault (Live c.args.s.segment c.args.s.generation) c.from.result c.from-2.result c.in_err-agree.field-0.0
-    (c.from.ensures ∙ sym held.live_count ∙ sym (c.from-2.ensures ∙ c.live_count.ensures.value ∙ ap (λ (l : LiveSet). length l.live) same)) c.in_err-agree.ensures.pair)
+    (c.from.ensures ∙ sym held.live_count ∙ sym (c.from-2.ensures ∙ c.live_count.ensures.value ∙ ap (λ (l : LiveSet). length l.live) same))
+    c.in_err-agree.ensures.pair)
 
 pub returns-in_err-live-clause-damage : goal.returns-in_err-live-clause-damage
 returns-in_err-live-clause-damage g c = λ told commit.

@@ -13,7 +13,8 @@ use Rattle.stored_index.specs.Segments.{places}
 use Rattle.segment_view.specs.Parts.{lives_of}
 use Rattle.document_checks.specs.Placed.{IsPlaced}
 use Rattle.index_opening.specs.Damages.{IsAttachDamage, IsAttachDamageOf, IsListedDamage, IsListedDamageOf, IsMisplaced}
-use Rattle.index_opening.proofs.Listed.{listed_of, listed_shown, misplaced_at, misplaced_of, misplaced_shown, opened_heads, opened_lives, undefined_fault, whole_listed, whole_placed}
+use Rattle.index_opening.proofs.Listed.{listed_of, listed_shown, misplaced_at, misplaced_of, misplaced_shown}
+use Rattle.index_opening.proofs.Listed.{opened_heads, opened_lives, undefined_fault, whole_listed, whole_placed}
 use Rattle.index_opening.proofs.Evident.{on_attach_evident}
 use Rattle.index_opening.proofs.Named.{attach_found}
 use Rattle.page_cache.specs.Evidence.{FaultShows}
@@ -24,7 +25,9 @@ pub returns-in_err-segments-clause-undefined : goal.returns-in_err-segments-clau
 returns-in_err-segments-clause-undefined g c = λ told says.
     let files = g.F.Pages.files c.args.folder.now in
     let e = err_from_is_err_and c.from_residual.result c.from_residual.ensures.1 in
-    rw (e.1, e.2) (undefined_fault files c.in_err-segments.field-0.0 (whole_listed files c.args.c.now c.in_err-segments.field-0.0 (c.in_err-segments.ensures.whole told) says))
+    rw (e.1, e.2)
+    (undefined_fault files c.in_err-segments.field-0.0
+    (whole_listed files c.args.c.now c.in_err-segments.field-0.0 (c.in_err-segments.ensures.whole told) says))
 
 pub returns-in_err-segments-clause-evident : goal.returns-in_err-segments-clause-evident
 returns-in_err-segments-clause-evident g c =
@@ -33,9 +36,11 @@ returns-in_err-segments-clause-evident g c =
     let e = err_from_is_err_and c.from_residual.result c.from_residual.ensures.1 in
     rw (e.1, e.2)
     (on_attach_evident {X = Unit {0}} (IsTrue g.F.Pages.told × IsCommitFile (bytes_of (files Commit)) c.args.c.now) files c.args.c.now (Err fault) (λ h. h.1)
-    (λ h. fault_weaker fault (λ (d : Damage). (s : Listed) × Contains c.args.c.now.listed s × IsListedDamageOf files c.args.c.now s d) (IsAttachDamageOf files c.args.c.now) (listed_of files c.args.c.now)
+    (λ h. fault_weaker fault (λ (d : Damage). (s : Listed) × Contains c.args.c.now.listed s × IsListedDamageOf files c.args.c.now s d)
+    (IsAttachDamageOf files c.args.c.now) (listed_of files c.args.c.now)
     (c.in_err-segments.ensures.damage h.0))
-    (fault_weaker fault (λ (d : Damage). (s : Listed) × Contains c.args.c.now.listed s × IsListedDamage s d) (IsAttachDamage c.args.c.now) (listed_shown c.args.c.now) c.in_err-segments.ensures.shown))
+    (fault_weaker fault (λ (d : Damage). (s : Listed) × Contains c.args.c.now.listed s × IsListedDamage s d) (IsAttachDamage c.args.c.now)
+    (listed_shown c.args.c.now) c.in_err-segments.ensures.shown))
 
 pub returns-in_err-check_numbers-clause-undefined : goal.returns-in_err-check_numbers-clause-undefined
 returns-in_err-check_numbers-clause-undefined g c = λ told says.
@@ -46,7 +51,8 @@ returns-in_err-check_numbers-clause-undefined g c = λ told says.
     let shown = misplaced_at _ _ _ sets c.in_err-check_numbers.field-0.0 c.next.ensures.value c.lives.ensures c.in_err-check_numbers.ensures.shown in
     rw (e.1, e.2)
     (undefined_fault files c.in_err-check_numbers.field-0.0
-    (whole_placed files c.args.c.now parts c.in_err-check_numbers.field-0.0 (opened_heads (IsTrue g.F.Pages.told) files c.args.c.now parts told c.in_ok-segments.ensures.opened)
+    (whole_placed files c.args.c.now parts c.in_err-check_numbers.field-0.0
+    (opened_heads (IsTrue g.F.Pages.told) files c.args.c.now parts told c.in_ok-segments.ensures.opened)
     (opened_lives (IsTrue g.F.Pages.told) files c.args.c.now parts told c.in_ok-segments.ensures.opened) shown says))
 
 pub returns-in_err-check_numbers-clause-evident : goal.returns-in_err-check_numbers-clause-evident
@@ -58,7 +64,8 @@ returns-in_err-check_numbers-clause-evident g c =
     let shown = misplaced_at _ _ _ sets fault c.next.ensures.value c.lives.ensures c.in_err-check_numbers.ensures.shown in
     rw (e.1, e.2)
     (on_attach_evident {X = Unit {0}} (IsTrue g.F.Pages.told × IsCommitFile (bytes_of (files Commit)) c.args.c.now) files c.args.c.now (Err fault) (λ h. h.1)
-    (λ h. misplaced_of files c.args.c.now sets fault (opened_lives (IsTrue g.F.Pages.told) files c.args.c.now c.in_ok-segments.segments h.0 c.in_ok-segments.ensures.opened) shown)
+    (λ h. misplaced_of files c.args.c.now sets fault
+    (opened_lives (IsTrue g.F.Pages.told) files c.args.c.now c.in_ok-segments.segments h.0 c.in_ok-segments.ensures.opened) shown)
     (fault_weaker fault (IsMisplaced (λ doc. 1 ≤ places doc sets) (λ doc. 2 ≤ places doc sets) c.args.c.now.next) (IsAttachDamage c.args.c.now)
     (misplaced_shown (λ doc. 1 ≤ places doc sets) (λ doc. 2 ≤ places doc sets) c.args.c.now) shown))
 

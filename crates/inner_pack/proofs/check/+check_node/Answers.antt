@@ -54,7 +54,8 @@ returns-then-not-is_in_cell-clause-only g t c t' h =
     let at_is : to_z w32 (of_z w32 c.in_ok-head.head.at) ≡ c.in_ok-head.head.at = to_z-of_z hf in
     let says = c.in_ok-head.ensures.only s path sp.d sp.x l r room fits node in
     let inside = node.cells.0 in
-    let here = subst (λ (d : ℕ). IsInCell D path d (to_z w32 (of_z w32 head.at))) (sym says.dimension) (subst (λ (x : ℤ). IsInCell D path sp.d x) (sym (at_is ∙ says.value)) inside) in
+    let here = subst (λ (d : ℕ). IsInCell D path d (to_z w32 (of_z w32 head.at))) (sym says.dimension)
+    (subst (λ (x : ℤ). IsInCell D path sp.d x) (sym (at_is ∙ says.value)) inside) in
     absurd (true≢false (sym (c.is_in_cell.ensures.1 here) ∙ c.if-not-is_in_cell.true))
 
 pub returns-in_err-left-clause-only : goal.returns-in_err-left-clause-only
@@ -79,10 +80,15 @@ returns-in_err-left-clause-only g t c t' h =
     let hf : FitsSigned w32 c.in_ok-head.head.at = search rules in
     let at_is : to_z w32 (of_z w32 c.in_ok-head.head.at) ≡ c.in_ok-head.head.at = to_z-of_z hf in
     let says = c.in_ok-head.ensures.only s path sp.d sp.x l r room fits node in
-    let moved : c.with_key-references.result ≡ slice_set refs sp.d (key sp.x) = c.with_key-references.ensures ∙ (λ i. slice_set refs (says.dimension i) (says.key_is i)) in
-    let lpath : region_of c.split-left_path.result.0 ≡ left_of path sp.d sp.x = c.split-left_path.ensures.left ∙ (λ i. left_of path (says.dimension i) ((at_is ∙ says.value) i)) in
-    let rpath : region_of c.split-left_path.result.1 ≡ right_of path sp.d sp.x = c.split-left_path.ensures.right ∙ (λ i. right_of path (says.dimension i) ((at_is ∙ says.value) i)) in
-    let lnode = said_otherwise D form (n - n / 2) s s (left_of path sp.d sp.x) (region_of c.split-left_path.result.0) (slice_set refs sp.d (key sp.x)) c.with_key-references.result head.left.bytes.now head.left.places.now l refl lpath moved (left_node D form n s path refs b p sp.d sp.x l r head node says) in
+    let moved : c.with_key-references.result ≡ slice_set refs sp.d (key sp.x) =
+    c.with_key-references.ensures ∙ (λ i. slice_set refs (says.dimension i) (says.key_is i)) in
+    let lpath : region_of c.split-left_path.result.0 ≡ left_of path sp.d sp.x =
+    c.split-left_path.ensures.left ∙ (λ i. left_of path (says.dimension i) ((at_is ∙ says.value) i)) in
+    let rpath : region_of c.split-left_path.result.1 ≡ right_of path sp.d sp.x =
+    c.split-left_path.ensures.right ∙ (λ i. right_of path (says.dimension i) ((at_is ∙ says.value) i)) in
+    let lnode = said_otherwise D form (n - n / 2) s s (left_of path sp.d sp.x) (region_of c.split-left_path.result.0) (slice_set refs sp.d (key sp.x))
+    c.with_key-references.result head.left.bytes.now head.left.places.now l refl lpath moved
+    (left_node D form n s path refs b p sp.d sp.x l r head node says) in
     absurd (c.in_err-left.ensures.only l lnode)
 
 pub returns-in_err-right-clause-only : goal.returns-in_err-right-clause-only
@@ -107,13 +113,20 @@ returns-in_err-right-clause-only g t c t' h =
     let hf : FitsSigned w32 c.in_ok-head.head.at = search rules in
     let at_is : to_z w32 (of_z w32 c.in_ok-head.head.at) ≡ c.in_ok-head.head.at = to_z-of_z hf in
     let says = c.in_ok-head.ensures.only s path sp.d sp.x l r room fits node in
-    let moved : c.with_key-references.result ≡ slice_set refs sp.d (key sp.x) = c.with_key-references.ensures ∙ (λ i. slice_set refs (says.dimension i) (says.key_is i)) in
-    let lpath : region_of c.split-left_path.result.0 ≡ left_of path sp.d sp.x = c.split-left_path.ensures.left ∙ (λ i. left_of path (says.dimension i) ((at_is ∙ says.value) i)) in
-    let rpath : region_of c.split-left_path.result.1 ≡ right_of path sp.d sp.x = c.split-left_path.ensures.right ∙ (λ i. right_of path (says.dimension i) ((at_is ∙ says.value) i)) in
-    let lnode = said_otherwise D form (n - n / 2) s s (left_of path sp.d sp.x) (region_of c.split-left_path.result.0) (slice_set refs sp.d (key sp.x)) c.with_key-references.result head.left.bytes.now head.left.places.now l refl lpath moved (left_node D form n s path refs b p sp.d sp.x l r head node says) in
+    let moved : c.with_key-references.result ≡ slice_set refs sp.d (key sp.x) =
+    c.with_key-references.ensures ∙ (λ i. slice_set refs (says.dimension i) (says.key_is i)) in
+    let lpath : region_of c.split-left_path.result.0 ≡ left_of path sp.d sp.x =
+    c.split-left_path.ensures.left ∙ (λ i. left_of path (says.dimension i) ((at_is ∙ says.value) i)) in
+    let rpath : region_of c.split-left_path.result.1 ≡ right_of path sp.d sp.x =
+    c.split-left_path.ensures.right ∙ (λ i. right_of path (says.dimension i) ((at_is ∙ says.value) i)) in
+    let lnode = said_otherwise D form (n - n / 2) s s (left_of path sp.d sp.x) (region_of c.split-left_path.result.0) (slice_set refs sp.d (key sp.x))
+    c.with_key-references.result head.left.bytes.now head.left.places.now l refl lpath moved
+    (left_node D form n s path refs b p sp.d sp.x l r head node says) in
     let lspan = c.in_ok-left.ensures.only l lnode in
     let found = right_found e (spot_of c.in_ok-left.left.end) l r (left_lengths l r node.lengths) lspan.end in
-    let rnode = said_otherwise D form (n / 2) (right_begin s l r) (fitted (spot_of c.in_ok-left.left.end) (first_length r)) (right_of path sp.d sp.x) (region_of c.split-left_path.result.1) (slice_set refs sp.d (key sp.x)) c.with_key-references.result head.right.bytes.now head.right.places.now r found rpath moved (right_node D form n s path refs b p sp.d sp.x l r head node says) in
+    let rnode = said_otherwise D form (n / 2) (right_begin s l r) (fitted (spot_of c.in_ok-left.left.end) (first_length r)) (right_of path sp.d sp.x)
+    (region_of c.split-left_path.result.1) (slice_set refs sp.d (key sp.x)) c.with_key-references.result head.right.bytes.now head.right.places.now r found
+    rpath moved (right_node D form n s path refs b p sp.d sp.x l r head node says) in
     absurd (c.in_err-right.ensures.only r rnode)
 
 pub returns-then-not-tells-clause-only : goal.returns-then-not-tells-clause-only
@@ -138,13 +151,20 @@ returns-then-not-tells-clause-only g t c t' h =
     let hf : FitsSigned w32 c.in_ok-head.head.at = search rules in
     let at_is : to_z w32 (of_z w32 c.in_ok-head.head.at) ≡ c.in_ok-head.head.at = to_z-of_z hf in
     let says = c.in_ok-head.ensures.only s path sp.d sp.x l r room fits node in
-    let moved : c.with_key-references.result ≡ slice_set refs sp.d (key sp.x) = c.with_key-references.ensures ∙ (λ i. slice_set refs (says.dimension i) (says.key_is i)) in
-    let lpath : region_of c.split-left_path.result.0 ≡ left_of path sp.d sp.x = c.split-left_path.ensures.left ∙ (λ i. left_of path (says.dimension i) ((at_is ∙ says.value) i)) in
-    let rpath : region_of c.split-left_path.result.1 ≡ right_of path sp.d sp.x = c.split-left_path.ensures.right ∙ (λ i. right_of path (says.dimension i) ((at_is ∙ says.value) i)) in
-    let lnode = said_otherwise D form (n - n / 2) s s (left_of path sp.d sp.x) (region_of c.split-left_path.result.0) (slice_set refs sp.d (key sp.x)) c.with_key-references.result head.left.bytes.now head.left.places.now l refl lpath moved (left_node D form n s path refs b p sp.d sp.x l r head node says) in
+    let moved : c.with_key-references.result ≡ slice_set refs sp.d (key sp.x) =
+    c.with_key-references.ensures ∙ (λ i. slice_set refs (says.dimension i) (says.key_is i)) in
+    let lpath : region_of c.split-left_path.result.0 ≡ left_of path sp.d sp.x =
+    c.split-left_path.ensures.left ∙ (λ i. left_of path (says.dimension i) ((at_is ∙ says.value) i)) in
+    let rpath : region_of c.split-left_path.result.1 ≡ right_of path sp.d sp.x =
+    c.split-left_path.ensures.right ∙ (λ i. right_of path (says.dimension i) ((at_is ∙ says.value) i)) in
+    let lnode = said_otherwise D form (n - n / 2) s s (left_of path sp.d sp.x) (region_of c.split-left_path.result.0) (slice_set refs sp.d (key sp.x))
+    c.with_key-references.result head.left.bytes.now head.left.places.now l refl lpath moved
+    (left_node D form n s path refs b p sp.d sp.x l r head node says) in
     let lspan = c.in_ok-left.ensures.only l lnode in
     let found = right_found e (spot_of c.in_ok-left.left.end) l r (left_lengths l r node.lengths) lspan.end in
-    let rnode = said_otherwise D form (n / 2) (right_begin s l r) (fitted (spot_of c.in_ok-left.left.end) (first_length r)) (right_of path sp.d sp.x) (region_of c.split-left_path.result.1) (slice_set refs sp.d (key sp.x)) c.with_key-references.result head.right.bytes.now head.right.places.now r found rpath moved (right_node D form n s path refs b p sp.d sp.x l r head node says) in
+    let rnode = said_otherwise D form (n / 2) (right_begin s l r) (fitted (spot_of c.in_ok-left.left.end) (first_length r)) (right_of path sp.d sp.x)
+    (region_of c.split-left_path.result.1) (slice_set refs sp.d (key sp.x)) c.with_key-references.result head.right.bytes.now head.right.places.now r found
+    rpath moved (right_node D form n s path refs b p sp.d sp.x l r head node says) in
     let rspan = c.in_ok-right.ensures.only r rnode in
     let begin : spot_of c.in_ok-right.right.begin ≡ right_begin s l r = rspan.begin ∙ found in
     let low : c.in_ok-left.left.begin.page ≡ s.page = ap (λ (v : Spot). v.page) lspan.begin in
@@ -176,8 +196,11 @@ returns-clause-found g t c =
     let lower = slice_set refs head.dimension (key head.at) in
     let moved : lower ≡ c.with_key-references.result = sym (c.with_key-references.ensures ∙ (λ i. slice_set refs head.dimension (is_head.key_is i))) in
     let found = right_found e (spot_of c.in_ok-left.left.end) l r left.is.lengths left.span.end in
-    let lnode = said_otherwise D form (n - n / 2) s s (region_of c.split-left_path.result.0) (left_of path head.dimension head.at) c.with_key-references.result lower head.left.bytes.now head.left.places.now l refl (sym (c.split-left_path.ensures.left ∙ (λ i. left_of path head.dimension (at_is i)))) moved left.is in
-    let rnode = said_otherwise D form (n / 2) (fitted (spot_of c.in_ok-left.left.end) (first_length r)) (right_begin s l r) (region_of c.split-left_path.result.1) (right_of path head.dimension head.at) c.with_key-references.result lower head.right.bytes.now head.right.places.now r (sym found) (sym (c.split-left_path.ensures.right ∙ (λ i. right_of path head.dimension (at_is i)))) moved right.is in
+    let lnode = said_otherwise D form (n - n / 2) s s (region_of c.split-left_path.result.0) (left_of path head.dimension head.at) c.with_key-references.result
+    lower head.left.bytes.now head.left.places.now l refl (sym (c.split-left_path.ensures.left ∙ (λ i. left_of path head.dimension (at_is i)))) moved left.is in
+    let rnode = said_otherwise D form (n / 2) (fitted (spot_of c.in_ok-left.left.end) (first_length r)) (right_begin s l r)
+    (region_of c.split-left_path.result.1) (right_of path head.dimension head.at) c.with_key-references.result lower head.right.bytes.now head.right.places.now
+    r (sym found) (sym (c.split-left_path.ensures.right ∙ (λ i. right_of path head.dimension (at_is i)))) moved right.is in
     let begin : spot_of c.in_ok-right.right.begin ≡ right_begin s l r = right.span.begin ∙ found in
     let low : c.in_ok-left.left.begin.page ≡ s.page = ap (λ (v : Spot). v.page) left.span.begin in
     let high : c.in_ok-right.right.begin.page ≡ (right_begin s l r).page = ap (λ (v : Spot). v.page) begin in
@@ -194,10 +217,12 @@ returns-clause-found g t c =
       right_bytes = rnode.spelled;
       right_places = rnode.told;
     } in
-    let span = split_span e (spot_of c.in_ok-left.left.begin) (spot_of c.in_ok-left.left.end) (spot_of c.in_ok-right.right.end) (Split head.dimension head.at l r) head.dimension head.at l r refl left.span.begin left.span.end right.span.end in
+    let span = split_span e (spot_of c.in_ok-left.left.begin) (spot_of c.in_ok-left.left.end) (spot_of c.in_ok-right.right.end)
+    (Split head.dimension head.at l r) head.dimension head.at l r refl left.span.begin left.span.end right.span.end in
     record {
       tree = Split head.dimension head.at l r;
-      is = joined_node D form n s path refs b p l r head head.left.bytes.now head.left.places.now head.right.bytes.now head.right.places.now lower two (subst (λ (x : ℤ). IsInCell D path head.dimension x) at_is (c.is_in_cell.ensures.0 c.if-not-is_in_cell.false)) lnode rnode is_head says;
+      is = joined_node D form n s path refs b p l r head head.left.bytes.now head.left.places.now head.right.bytes.now head.right.places.now lower two
+          (subst (λ (x : ℤ). IsInCell D path head.dimension x) at_is (c.is_in_cell.ensures.0 c.if-not-is_in_cell.false)) lnode rnode is_head says;
       span = record { begin = span.0; end = span.1 };
     }
 
@@ -223,13 +248,21 @@ returns-clause-only g t c t' h =
     let hf : FitsSigned w32 c.in_ok-head.head.at = search rules in
     let at_is : to_z w32 (of_z w32 c.in_ok-head.head.at) ≡ c.in_ok-head.head.at = to_z-of_z hf in
     let says = c.in_ok-head.ensures.only s path sp.d sp.x l r room fits node in
-    let moved : c.with_key-references.result ≡ slice_set refs sp.d (key sp.x) = c.with_key-references.ensures ∙ (λ i. slice_set refs (says.dimension i) (says.key_is i)) in
-    let lpath : region_of c.split-left_path.result.0 ≡ left_of path sp.d sp.x = c.split-left_path.ensures.left ∙ (λ i. left_of path (says.dimension i) ((at_is ∙ says.value) i)) in
-    let rpath : region_of c.split-left_path.result.1 ≡ right_of path sp.d sp.x = c.split-left_path.ensures.right ∙ (λ i. right_of path (says.dimension i) ((at_is ∙ says.value) i)) in
-    let lnode = said_otherwise D form (n - n / 2) s s (left_of path sp.d sp.x) (region_of c.split-left_path.result.0) (slice_set refs sp.d (key sp.x)) c.with_key-references.result head.left.bytes.now head.left.places.now l refl lpath moved (left_node D form n s path refs b p sp.d sp.x l r head node says) in
+    let moved : c.with_key-references.result ≡ slice_set refs sp.d (key sp.x) =
+    c.with_key-references.ensures ∙ (λ i. slice_set refs (says.dimension i) (says.key_is i)) in
+    let lpath : region_of c.split-left_path.result.0 ≡ left_of path sp.d sp.x =
+    c.split-left_path.ensures.left ∙ (λ i. left_of path (says.dimension i) ((at_is ∙ says.value) i)) in
+    let rpath : region_of c.split-left_path.result.1 ≡ right_of path sp.d sp.x =
+    c.split-left_path.ensures.right ∙ (λ i. right_of path (says.dimension i) ((at_is ∙ says.value) i)) in
+    let lnode = said_otherwise D form (n - n / 2) s s (left_of path sp.d sp.x) (region_of c.split-left_path.result.0) (slice_set refs sp.d (key sp.x))
+    c.with_key-references.result head.left.bytes.now head.left.places.now l refl lpath moved
+    (left_node D form n s path refs b p sp.d sp.x l r head node says) in
     let lspan = c.in_ok-left.ensures.only l lnode in
     let found = right_found e (spot_of c.in_ok-left.left.end) l r (left_lengths l r node.lengths) lspan.end in
-    let rnode = said_otherwise D form (n / 2) (right_begin s l r) (fitted (spot_of c.in_ok-left.left.end) (first_length r)) (right_of path sp.d sp.x) (region_of c.split-left_path.result.1) (slice_set refs sp.d (key sp.x)) c.with_key-references.result head.right.bytes.now head.right.places.now r found rpath moved (right_node D form n s path refs b p sp.d sp.x l r head node says) in
+    let rnode = said_otherwise D form (n / 2) (right_begin s l r) (fitted (spot_of c.in_ok-left.left.end) (first_length r)) (right_of path sp.d sp.x)
+    (region_of c.split-left_path.result.1) (slice_set refs sp.d (key sp.x)) c.with_key-references.result head.right.bytes.now head.right.places.now r found
+    rpath moved (right_node D form n s path refs b p sp.d sp.x l r head node says) in
     let rspan = c.in_ok-right.ensures.only r rnode in
-    let span = split_span e (spot_of c.in_ok-left.left.begin) (spot_of c.in_ok-left.left.end) (spot_of c.in_ok-right.right.end) t' sp.d sp.x l r sp.is lspan.begin lspan.end rspan.end in
+    let span = split_span e (spot_of c.in_ok-left.left.begin) (spot_of c.in_ok-left.left.end) (spot_of c.in_ok-right.right.end) t' sp.d sp.x l r sp.is
+    lspan.begin lspan.end rspan.end in
     record { begin = span.0; end = span.1 }

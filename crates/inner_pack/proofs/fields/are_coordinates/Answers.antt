@@ -9,4 +9,5 @@ loop-d-preserved g c = below_more (λ k. FitsSigned w32 (get_or c.coordinates-c.
 pub returns-clause-fit : goal.returns-clause-fit
 returns-clause-fit g c =
     subst Fit c.coordinates-c.ensures.value
-    (All-from_get_or (λ (x : ℤ). FitsSigned w32 x) c.coordinates-c.result.now (pos 0) (λ k lt. c.loop-d.invariant k (omega (arith, lt, ap length c.coordinates-c.ensures.value, c.coordinates-c.ensures.long, c.loop-d-test.false))))
+    (All-from_get_or (λ (x : ℤ). FitsSigned w32 x) c.coordinates-c.result.now (pos 0)
+    (λ k lt. c.loop-d.invariant k (omega (arith, lt, ap length c.coordinates-c.ensures.value, c.coordinates-c.ensures.long, c.loop-d-test.false))))

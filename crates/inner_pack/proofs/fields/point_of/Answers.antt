@@ -11,10 +11,12 @@ loop-d-preserved g c =
     record {
       long = search rules;
       read = key_more l.c c.args.front.now l.d _ (omega (arith, l.invariant.long, c.loop-d-test.true)) l.invariant.read
-          (ap key (to_z-of_z fits) ∙ c.from_sortable.ensures.is ∙ sym (four_at c.args.front.now (4 * l.d) (omega (arith, c.requires.long, c.loop-d-test.true))));
+          (ap key (to_z-of_z fits) ∙ c.from_sortable.ensures.is
+          ∙ sym (four_at c.args.front.now (4 * l.d) (omega (arith, c.requires.long, c.loop-d-test.true))));
     }
 
 pub returns : goal.returns
 returns g c =
     let l = c.loop-d in
-    sym (ap (flat_map key) (take_all l.d l.c (omega (arith, l.invariant.long, c.loop-d-test.false)))) ∙ l.invariant.read ∙ take_all (4 * l.d) c.args.front.now (omega (arith, c.requires.long, c.loop-d-test.false))
+    sym (ap (flat_map key) (take_all l.d l.c (omega (arith, l.invariant.long, c.loop-d-test.false)))) ∙ l.invariant.read
+    ∙ take_all (4 * l.d) c.args.front.now (omega (arith, c.requires.long, c.loop-d-test.false))

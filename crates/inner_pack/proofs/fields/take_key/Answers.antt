@@ -7,7 +7,9 @@ pub returns-then-shared_length-prefix-clause-only : goal.returns-then-shared_len
 returns-then-shared_length-prefix-clause-only c k rest long sh e =
     let p = c.args.prefix in
     let back = c.in_ok-back.ensures.only (drop p k) rest (length-drop p k ∙ ap (λ n. n - p) long) e in
-    c.if-shared_length-prefix.true (c.shared_length.ensures.value ∙ ap (λ t. shared t c.args.reference) (key_again k c.args.reference c.in_ok-back.back.now c.joined-key.result p sh back.0 c.joined-key.ensures.value) ∙ sh)
+    c.if-shared_length-prefix.true
+    (c.shared_length.ensures.value
+    ∙ ap (λ t. shared t c.args.reference) (key_again k c.args.reference c.in_ok-back.back.now c.joined-key.result p sh back.0 c.joined-key.ensures.value) ∙ sh)
 
 pub returns-clause-only : goal.returns-clause-only
 returns-clause-only c k rest long sh e =

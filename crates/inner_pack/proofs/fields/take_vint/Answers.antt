@@ -11,7 +11,8 @@ pub returns-clause-found : goal.returns-clause-found
 returns-clause-found c =
     let n = c.in-Ok.n in
     let lt : n < 2 ^ 32 = search rules in
-    sym c.new-cursor.ensures ∙ taken c.new-cursor.result.bytes.now c.take_vint.new.self.bytes.now n lt c.in-Ok.ensures.ok ∙ ap (λ (t : List ℕ). vint n ++ t) (sym c.rest.ensures)
+    sym c.new-cursor.ensures ∙ taken c.new-cursor.result.bytes.now c.take_vint.new.self.bytes.now n lt c.in-Ok.ensures.ok
+    ∙ ap (λ (t : List ℕ). vint n ++ t) (sym c.rest.ensures)
 
 pub returns-clause-only : goal.returns-clause-only
 returns-clause-only c n rest lt e =

@@ -1,4 +1,5 @@
-use Rattle.std.proofs.Common.{◌≡◌, ◌+◌, ◌-◌, ◌*◌, ◌/◌, ◌%◌, ◌≤◌, ◌∷◌, ◌++◌, ◌∙◌, ℕ, List, refl, sym, ap, arith, rules, drop, length, slice_set, slice_index_or, [], to_z-of_z, FitsSigned, w32}
+use Rattle.std.proofs.Common.{◌≡◌, ◌+◌, ◌-◌, ◌*◌, ◌/◌, ◌%◌, ◌≤◌, ◌∷◌, ◌++◌, ◌∙◌, ℕ, List, refl, sym, ap, arith}
+use Rattle.std.proofs.Common.{rules, drop, length, slice_set, slice_index_or, [], to_z-of_z, FitsSigned, w32}
 use Rattle.point_codec.specs.Keys.{key}
 use Rattle.byte_cursor.specs.Vint.{vint}
 use Rattle.inner_pack.specs.Trees.{Split}
@@ -59,7 +60,8 @@ returns-in_err-key-clause-only g c form leaves s path d x l r packed room fits h
     let a = c.in_ok-code.ensures.only (5 * d + p) r1 n.is in
     let sd : c.in_ok-code.code / 5 ≡ d = omega (arith, a.0, n.few) in
     let sp : c.in_ok-code.code % 5 ≡ p = omega (arith, a.0, n.few) in
-    let same : shared (key x) c.reference_in-reference.result ≡ c.in_ok-code.code % 5 = ap (shared (key x)) (c.reference_in-reference.ensures.value ∙ ap (λ i. slice_index_or c.args.references.now i []) sd) ∙ sym sp in
+    let same : shared (key x) c.reference_in-reference.result ≡ c.in_ok-code.code % 5 =
+    ap (shared (key x)) (c.reference_in-reference.ensures.value ∙ ap (λ i. slice_index_or c.args.references.now i []) sd) ∙ sym sp in
     let at1 : c.in_ok-code.rest.now ≡ drop (c.in_ok-code.code % 5) (key x) ++ r2 = a.1 ∙ ap (λ i. drop i (key x) ++ r2) (sym sp) in
     absurd (c.in_err-key.ensures.only (key x) r2 (key_long x) same at1)
 
@@ -80,7 +82,8 @@ returns-in_err-pages-clause-only g c form leaves s path d x l r packed room fits
     let a = c.in_ok-code.ensures.only (5 * d + p) r1 n.is in
     let sd : c.in_ok-code.code / 5 ≡ d = omega (arith, a.0, n.few) in
     let sp : c.in_ok-code.code % 5 ≡ p = omega (arith, a.0, n.few) in
-    let same : shared (key x) c.reference_in-reference.result ≡ c.in_ok-code.code % 5 = ap (shared (key x)) (c.reference_in-reference.ensures.value ∙ ap (λ i. slice_index_or c.args.references.now i []) sd) ∙ sym sp in
+    let same : shared (key x) c.reference_in-reference.result ≡ c.in_ok-code.code % 5 =
+    ap (shared (key x)) (c.reference_in-reference.ensures.value ∙ ap (λ i. slice_index_or c.args.references.now i []) sd) ∙ sym sp in
     let at1 : c.in_ok-code.rest.now ≡ drop (c.in_ok-code.code % 5) (key x) ++ r2 = a.1 ∙ ap (λ i. drop i (key x) ++ r2) (sym sp) in
     let k = c.in_ok-key.ensures.only (key x) r2 (key_long x) same at1 in
     absurd (c.in_err-pages.ensures.only (right.page - s.page) r3 n.pages k.1)
@@ -102,7 +105,8 @@ returns-in_err-offset-clause-only g c form leaves s path d x l r packed room fit
     let a = c.in_ok-code.ensures.only (5 * d + p) r1 n.is in
     let sd : c.in_ok-code.code / 5 ≡ d = omega (arith, a.0, n.few) in
     let sp : c.in_ok-code.code % 5 ≡ p = omega (arith, a.0, n.few) in
-    let same : shared (key x) c.reference_in-reference.result ≡ c.in_ok-code.code % 5 = ap (shared (key x)) (c.reference_in-reference.ensures.value ∙ ap (λ i. slice_index_or c.args.references.now i []) sd) ∙ sym sp in
+    let same : shared (key x) c.reference_in-reference.result ≡ c.in_ok-code.code % 5 =
+    ap (shared (key x)) (c.reference_in-reference.ensures.value ∙ ap (λ i. slice_index_or c.args.references.now i []) sd) ∙ sym sp in
     let at1 : c.in_ok-code.rest.now ≡ drop (c.in_ok-code.code % 5) (key x) ++ r2 = a.1 ∙ ap (λ i. drop i (key x) ++ r2) (sym sp) in
     let k = c.in_ok-key.ensures.only (key x) r2 (key_long x) same at1 in
     let v = c.in_ok-pages.ensures.only (right.page - s.page) r3 n.pages k.1 in
@@ -125,7 +129,8 @@ returns-in_err-left_length-clause-only g c form leaves s path d x l r packed roo
     let a = c.in_ok-code.ensures.only (5 * d + p) r1 n.is in
     let sd : c.in_ok-code.code / 5 ≡ d = omega (arith, a.0, n.few) in
     let sp : c.in_ok-code.code % 5 ≡ p = omega (arith, a.0, n.few) in
-    let same : shared (key x) c.reference_in-reference.result ≡ c.in_ok-code.code % 5 = ap (shared (key x)) (c.reference_in-reference.ensures.value ∙ ap (λ i. slice_index_or c.args.references.now i []) sd) ∙ sym sp in
+    let same : shared (key x) c.reference_in-reference.result ≡ c.in_ok-code.code % 5 =
+    ap (shared (key x)) (c.reference_in-reference.ensures.value ∙ ap (λ i. slice_index_or c.args.references.now i []) sd) ∙ sym sp in
     let at1 : c.in_ok-code.rest.now ≡ drop (c.in_ok-code.code % 5) (key x) ++ r2 = a.1 ∙ ap (λ i. drop i (key x) ++ r2) (sym sp) in
     let k = c.in_ok-key.ensures.only (key x) r2 (key_long x) same at1 in
     let v = c.in_ok-pages.ensures.only (right.page - s.page) r3 n.pages k.1 in
@@ -149,7 +154,8 @@ returns-then-offset-gt4064-clause-only g c form leaves s path d x l r packed roo
     let a = c.in_ok-code.ensures.only (5 * d + p) r1 n.is in
     let sd : c.in_ok-code.code / 5 ≡ d = omega (arith, a.0, n.few) in
     let sp : c.in_ok-code.code % 5 ≡ p = omega (arith, a.0, n.few) in
-    let same : shared (key x) c.reference_in-reference.result ≡ c.in_ok-code.code % 5 = ap (shared (key x)) (c.reference_in-reference.ensures.value ∙ ap (λ i. slice_index_or c.args.references.now i []) sd) ∙ sym sp in
+    let same : shared (key x) c.reference_in-reference.result ≡ c.in_ok-code.code % 5 =
+    ap (shared (key x)) (c.reference_in-reference.ensures.value ∙ ap (λ i. slice_index_or c.args.references.now i []) sd) ∙ sym sp in
     let at1 : c.in_ok-code.rest.now ≡ drop (c.in_ok-code.code % 5) (key x) ++ r2 = a.1 ∙ ap (λ i. drop i (key x) ++ r2) (sym sp) in
     let k = c.in_ok-key.ensures.only (key x) r2 (key_long x) same at1 in
     let v = c.in_ok-pages.ensures.only (right.page - s.page) r3 n.pages k.1 in
@@ -173,7 +179,8 @@ returns-in_err-left-clause-only g c form leaves s path d x l r packed room fits 
     let a = c.in_ok-code.ensures.only (5 * d + p) r1 n.is in
     let sd : c.in_ok-code.code / 5 ≡ d = omega (arith, a.0, n.few) in
     let sp : c.in_ok-code.code % 5 ≡ p = omega (arith, a.0, n.few) in
-    let same : shared (key x) c.reference_in-reference.result ≡ c.in_ok-code.code % 5 = ap (shared (key x)) (c.reference_in-reference.ensures.value ∙ ap (λ i. slice_index_or c.args.references.now i []) sd) ∙ sym sp in
+    let same : shared (key x) c.reference_in-reference.result ≡ c.in_ok-code.code % 5 =
+    ap (shared (key x)) (c.reference_in-reference.ensures.value ∙ ap (λ i. slice_index_or c.args.references.now i []) sd) ∙ sym sp in
     let at1 : c.in_ok-code.rest.now ≡ drop (c.in_ok-code.code % 5) (key x) ++ r2 = a.1 ∙ ap (λ i. drop i (key x) ++ r2) (sym sp) in
     let k = c.in_ok-key.ensures.only (key x) r2 (key_long x) same at1 in
     let v = c.in_ok-pages.ensures.only (right.page - s.page) r3 n.pages k.1 in
@@ -217,7 +224,8 @@ returns-clause-only g c form leaves s path d x l r packed room fits h =
     let a = c.in_ok-code.ensures.only (5 * d + p) r1 n.is in
     let sd : c.in_ok-code.code / 5 ≡ d = omega (arith, a.0, n.few) in
     let sp : c.in_ok-code.code % 5 ≡ p = omega (arith, a.0, n.few) in
-    let same : shared (key x) c.reference_in-reference.result ≡ c.in_ok-code.code % 5 = ap (shared (key x)) (c.reference_in-reference.ensures.value ∙ ap (λ i. slice_index_or c.args.references.now i []) sd) ∙ sym sp in
+    let same : shared (key x) c.reference_in-reference.result ≡ c.in_ok-code.code % 5 =
+    ap (shared (key x)) (c.reference_in-reference.ensures.value ∙ ap (λ i. slice_index_or c.args.references.now i []) sd) ∙ sym sp in
     let at1 : c.in_ok-code.rest.now ≡ drop (c.in_ok-code.code % 5) (key x) ++ r2 = a.1 ∙ ap (λ i. drop i (key x) ++ r2) (sym sp) in
     let k = c.in_ok-key.ensures.only (key x) r2 (key_long x) same at1 in
     let v = c.in_ok-pages.ensures.only (right.page - s.page) r3 n.pages k.1 in

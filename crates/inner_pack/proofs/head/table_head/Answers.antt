@@ -26,20 +26,24 @@ pub returns-in_err-first-clause-only : goal.returns-in_err-first-clause-only
 returns-in_err-first-clause-only g c references s path d x l r room fits h =
     let n = table_node g.row.D 1 c.args.leaves s path references c.args.part.bytes.now c.args.part.places.now d x l r refl h in
     let p = c.in_ok-left_places.ensures.only (places_table s l) (places_table (right_begin s l r) r) n.long n.split in
-    absurd (c.in_err-first.ensures.only (first_place s l) (tail_places s l) (omega (arith, room)) (omega (arith, n.first_length_fits)) (omega (arith, n.first_length_fits)) (p.0 ∙ n.first))
+    absurd (c.in_err-first.ensures.only (first_place s l) (tail_places s l) (omega (arith, room)) (omega (arith, n.first_length_fits))
+    (omega (arith, n.first_length_fits)) (p.0 ∙ n.first))
 
 pub returns-in_err-middle-clause-only : goal.returns-in_err-middle-clause-only
 returns-in_err-middle-clause-only g c references s path d x l r room fits h =
     let n = table_node g.row.D 1 c.args.leaves s path references c.args.part.bytes.now c.args.part.places.now d x l r refl h in
     let p = c.in_ok-left_places.ensures.only (places_table s l) (places_table (right_begin s l r) r) n.long n.split in
-    absurd (c.in_err-middle.ensures.only (first_place (right_begin s l r) r) (tail_places (right_begin s l r) r) (omega (arith, room, n.to, c.requires.leaves)) (omega (arith, n.middle_length_fits)) (omega (arith, n.middle_length_fits)) (p.1 ∙ n.middle))
+    absurd (c.in_err-middle.ensures.only (first_place (right_begin s l r) r) (tail_places (right_begin s l r) r) (omega (arith, room, n.to, c.requires.leaves))
+    (omega (arith, n.middle_length_fits)) (omega (arith, n.middle_length_fits)) (p.1 ∙ n.middle))
 
 pub returns-in_err-pages-clause-only : goal.returns-in_err-pages-clause-only
 returns-in_err-pages-clause-only g c references s path d x l r room fits h =
     let n = table_node g.row.D 1 c.args.leaves s path references c.args.part.bytes.now c.args.part.places.now d x l r refl h in
     let p = c.in_ok-left_places.ensures.only (places_table s l) (places_table (right_begin s l r) r) n.long n.split in
-    let f = c.in_ok-first.ensures.only (first_place s l) (tail_places s l) (omega (arith, room)) (omega (arith, n.first_length_fits)) (omega (arith, n.first_length_fits)) (p.0 ∙ n.first) in
-    let m = c.in_ok-middle.ensures.only (first_place (right_begin s l r) r) (tail_places (right_begin s l r) r) (omega (arith, room, n.to, c.requires.leaves)) (omega (arith, n.middle_length_fits)) (omega (arith, n.middle_length_fits)) (p.1 ∙ n.middle) in
+    let f = c.in_ok-first.ensures.only (first_place s l) (tail_places s l) (omega (arith, room)) (omega (arith, n.first_length_fits))
+    (omega (arith, n.first_length_fits)) (p.0 ∙ n.first) in
+    let m = c.in_ok-middle.ensures.only (first_place (right_begin s l r) r) (tail_places (right_begin s l r) r) (omega (arith, room, n.to, c.requires.leaves))
+    (omega (arith, n.middle_length_fits)) (omega (arith, n.middle_length_fits)) (p.1 ∙ n.middle) in
     let low : c.in_ok-first.first.page ≡ s.page = ap (λ (t : Placed). t.at.page) f.0 in
     let high : c.in_ok-middle.middle.page ≡ (right_begin s l r).page = ap (λ (t : Placed). t.at.page) m.0 in
     absurd (omega (arith, c.in_err-pages.ensures, low, high, n.from))
@@ -59,8 +63,10 @@ returns-clause-only g c references s path d x l r room fits h =
     let a = c.in_ok-dimension.ensures.only d (key x) (cuts_table l ++ cuts_table r) h.cells.0.dimension (key_long x) n.cut in
     let b = c.in_ok-left.ensures.only (cuts_table l) (cuts_table r) n.cuts a.2 in
     let p = c.in_ok-left_places.ensures.only (places_table s l) (places_table (right_begin s l r) r) n.long n.split in
-    let f = c.in_ok-first.ensures.only (first_place s l) (tail_places s l) (omega (arith, room)) (omega (arith, n.first_length_fits)) (omega (arith, n.first_length_fits)) (p.0 ∙ n.first) in
-    let m = c.in_ok-middle.ensures.only (first_place (right_begin s l r) r) (tail_places (right_begin s l r) r) (omega (arith, room, n.to, c.requires.leaves)) (omega (arith, n.middle_length_fits)) (omega (arith, n.middle_length_fits)) (p.1 ∙ n.middle) in
+    let f = c.in_ok-first.ensures.only (first_place s l) (tail_places s l) (omega (arith, room)) (omega (arith, n.first_length_fits))
+    (omega (arith, n.first_length_fits)) (p.0 ∙ n.first) in
+    let m = c.in_ok-middle.ensures.only (first_place (right_begin s l r) r) (tail_places (right_begin s l r) r) (omega (arith, room, n.to, c.requires.leaves))
+    (omega (arith, n.middle_length_fits)) (omega (arith, n.middle_length_fits)) (p.1 ∙ n.middle) in
     let low : c.in_ok-first.first.page ≡ s.page = ap (λ (t : Placed). t.at.page) f.0 in
     let high : c.in_ok-middle.middle.page ≡ (right_begin s l r).page = ap (λ (t : Placed). t.at.page) m.0 in
     let sf : FitsSigned w32 c.from_sortable.result = search rules in

@@ -6,24 +6,30 @@ use Rattle.inner_pack.specs.Bodies.{cell_bytes}
 use Rattle.inner_pack.specs.Spelled.{tree_bytes, IsTreeIn}
 use Rattle.inner_pack.proofs.CellLemmas.{length-cell}
 use Rattle.inner_pack.proofs.SpelledLemmas.{body_is}
-use Rattle.inner_pack.proofs.OneTree.{index_tree}
+use Rattle.inner_pack.proofs.OneIndex.{index_tree}
 use Rattle.inner_pack.proofs.index.checked.Goals as goal
 
 pub returns-in_err-front-clause-only : goal.returns-in_err-front-clause-only
 returns-in_err-front-clause-only g c root t h =
-    absurd (c.in_err-front.ensures.only (cell_bytes root) (tree_bytes c.args.form (map key root.lo) t) (length-cell g.row.D root h.tree.root_cell) (h.is ∙ body_is c.args.form root t))
+    absurd (c.in_err-front.ensures.only (cell_bytes root) (tree_bytes c.args.form (map key root.lo) t) (length-cell g.row.D root h.tree.root_cell)
+    (h.is ∙ body_is c.args.form root t))
 
 pub returns-in_err-root-clause-only : goal.returns-in_err-root-clause-only
 returns-in_err-root-clause-only g c root t h =
-    let both = c.in_ok-front.ensures.only (cell_bytes root) (tree_bytes c.args.form (map key root.lo) t) (length-cell g.row.D root h.tree.root_cell) (h.is ∙ body_is c.args.form root t) in
+    let both = c.in_ok-front.ensures.only (cell_bytes root) (tree_bytes c.args.form (map key root.lo) t) (length-cell g.row.D root h.tree.root_cell)
+    (h.is ∙ body_is c.args.form root t) in
     absurd (c.in_err-root.ensures.only root h.tree.root_cell both.0)
 
 pub returns-in_err-pages-clause-only : goal.returns-in_err-pages-clause-only
 returns-in_err-pages-clause-only g c root t h =
-    let both = c.in_ok-front.ensures.only (cell_bytes root) (tree_bytes c.args.form (map key root.lo) t) (length-cell g.row.D root h.tree.root_cell) (h.is ∙ body_is c.args.form root t) in
+    let both = c.in_ok-front.ensures.only (cell_bytes root) (tree_bytes c.args.form (map key root.lo) t) (length-cell g.row.D root h.tree.root_cell)
+    (h.is ∙ body_is c.args.form root t) in
     let same = c.in_ok-root.ensures.only root h.tree.root_cell both.0 in
     let whole = h.is ∙ body_is c.args.form root t ∙ ap (λ (x : List ℕ). cell_bytes root ++ x) (sym both.1) in
-    absurd (true≢false (sym (c.in_err-pages.ensures.only t (subst (λ (r : Region). IsTreeIn g.row.D c.args.form c.args.leaves r c.in_ok-front.rest.now t) (sym same) (index_tree g.row.D c.args.form c.args.leaves c.args.b.now c.in_ok-front.rest.now root t h whole)))))
+    absurd (true≢false
+    (sym (c.in_err-pages.ensures.only t
+    (subst (λ (r : Region). IsTreeIn g.row.D c.args.form c.args.leaves r c.in_ok-front.rest.now t) (sym same)
+    (index_tree g.row.D c.args.form c.args.leaves c.args.b.now c.in_ok-front.rest.now root t h whole)))))
 
 pub returns-clause-found : goal.returns-clause-found
 returns-clause-found g c =

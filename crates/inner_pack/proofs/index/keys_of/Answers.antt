@@ -10,7 +10,8 @@ loop-d-preserved g c =
     let long : length coordinates ≡ g.row.D = ap length c.coordinates-c.ensures.value ∙ c.coordinates-c.ensures.long in
     record {
       long = length-set l.keys l.d c.sortable.result ∙ l.invariant.long;
-      filled = keys_more l.keys coordinates l.d c.sortable.result (pos 0) (omega (arith, l.invariant.long, c.loop-d-test.true)) (omega (arith, long, c.loop-d-test.true)) (search rules)
+      filled = keys_more l.keys coordinates l.d c.sortable.result (pos 0) (omega (arith, l.invariant.long, c.loop-d-test.true))
+          (omega (arith, long, c.loop-d-test.true)) (search rules)
           l.invariant.filled;
     }
 

@@ -24,7 +24,8 @@ returns-clause-found g c =
       cell = o.cell;
       inside = o.inside;
       path_cell = o.path_cell;
-      spelled = t.2 ∙ ap (λ (x : List ℕ). vint c.in_ok-length.length ++ x) o.spelled ∙ sym (leaf_bytes_is c.args.form c.in_ok-length.length (region_of c.in_ok-own.own));
+      spelled = t.2 ∙ ap (λ (x : List ℕ). vint c.in_ok-length.length ++ x) o.spelled
+          ∙ sym (leaf_bytes_is c.args.form c.in_ok-length.length (region_of c.in_ok-own.own));
     }
 
 pub returns-clause-only : goal.returns-clause-only

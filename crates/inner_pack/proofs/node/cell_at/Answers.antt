@@ -13,7 +13,8 @@ unreachable-requires g c =
     let path = region_of c.args.path.now in
     not_there c.requires.some (λ q.
     let lf = leaf_node g.row.D c.args.form c.args.leaves q.begin path q.references c.args.b.now q.places q.tree one q.is in
-    c.in_default.ensures.only lf.size lf.own (to_packed_leaf g.row.D c.args.form c.args.leaves q.begin path q.references c.args.b.now q.places lf.size lf.own packed lf.node))
+    c.in_default.ensures.only lf.size lf.own
+    (to_packed_leaf g.row.D c.args.form c.args.leaves q.begin path q.references c.args.b.now q.places lf.size lf.own packed lf.node))
 
 pub returns : goal.returns
 returns g c s references places t h =
@@ -21,4 +22,5 @@ returns g c s references places t h =
     let packed : 2 ≤ c.args.form = omega (arith, c.if-form-ne3.false) in
     let path = region_of c.args.path.now in
     let lf = leaf_node g.row.D c.args.form c.args.leaves s path references c.args.b.now places t one h in
-    (c.in-Some.ensures.only lf.size lf.own (to_packed_leaf g.row.D c.args.form c.args.leaves s path references c.args.b.now places lf.size lf.own packed lf.node)).1 ∙ sym (ap (cell_of path) lf.is)
+    (c.in-Some.ensures.only lf.size lf.own
+    (to_packed_leaf g.row.D c.args.form c.args.leaves s path references c.args.b.now places lf.size lf.own packed lf.node)).1 ∙ sym (ap (cell_of path) lf.is)

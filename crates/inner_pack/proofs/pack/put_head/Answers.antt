@@ -11,10 +11,13 @@ returns-clause-spelled g c =
     let old = c.args.out.now.items in
     let k = shared (key head.at) (get_or references head.dimension []) in
     let is : c.sortable-key.result ≡ key head.at = search rules in
-    let same = shared_key c.shared_length-shared.result c.sortable-key.result (get_or references head.dimension []) head.at c.shared_length-shared.ensures.value is in
+    let same =
+    shared_key c.shared_length-shared.result c.sortable-key.result (get_or references head.dimension []) head.at c.shared_length-shared.ensures.value is in
     let rest = ap (λ (t : List ℕ). c.put_u8.new.out.items ++ t) (key_rest head.at c.sortable-key.result c.shared_length-shared.result k is same) in
-    turned old c.put_vint-3.new.out.items c.turn.new.out.items (head_bytes references head.dimension head.at head.pages head.offset head.left) c.len-from.result (search rules)
-    (head_joined references head.dimension head.at head.pages head.offset head.left old c.put_u8.new.out.items c.put_slice.new.out.items c.put_vint.new.out.items
+    turned old c.put_vint-3.new.out.items c.turn.new.out.items (head_bytes references head.dimension head.at head.pages head.offset head.left) c.len-from.result
+    (search rules)
+    (head_joined references head.dimension head.at head.pages head.offset head.left old c.put_u8.new.out.items c.put_slice.new.out.items
+    c.put_vint.new.out.items
     c.put_vint-2.new.out.items c.put_vint-3.new.out.items
     (c.in_ok-put_u8.ensures.ok ∙ ap (λ (n : ℕ). old ++ (5 * head.dimension + n) ∷ []) same)
     (c.in_ok-put_slice.ensures.ok ∙ rest)
@@ -27,12 +30,14 @@ pub returns-clause-room : goal.returns-clause-room
 returns-clause-room g c =
     let head = c.args.head.now in
     let references = c.args.references.now in
-    let longer = length-turned c.args.out.now.items c.turn.new.out.items (head_bytes references head.dimension head.at head.pages head.offset head.left) (returns-clause-spelled g c) in
+    let longer = length-turned c.args.out.now.items c.turn.new.out.items (head_bytes references head.dimension head.at head.pages head.offset head.left)
+    (returns-clause-spelled g c) in
     let short = length-head references head.dimension head.at head.pages head.offset head.left (length-key head.at) (omega arith) (omega arith) (omega arith) in
     omega arith
 
 pub returns-clause-more : goal.returns-clause-more
 returns-clause-more g c =
     let head = c.args.head.now in
-    let longer = length-turned c.args.out.now.items c.turn.new.out.items (head_bytes c.args.references.now head.dimension head.at head.pages head.offset head.left) (returns-clause-spelled g c) in
+    let longer = length-turned c.args.out.now.items c.turn.new.out.items
+    (head_bytes c.args.references.now head.dimension head.at head.pages head.offset head.left) (returns-clause-spelled g c) in
     omega arith

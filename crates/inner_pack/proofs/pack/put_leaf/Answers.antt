@@ -12,7 +12,8 @@ returns-clause-spelled g c =
     let own = region_of c.args.own.now in
     turned old c.put_cell.new.out.items c.turn.new.out.items (leaf_bytes 3 c.args.size own) c.len-from.result (search rules)
     (leaf_joined old c.put_vint.new.out.items c.put_cell.new.out.items c.args.size own
-    (vint_appended old c.put_vint.new.out.items c.from.result c.args.size (search rules) (omega arith) c.in_ok-put_vint.ensures.ok) c.in_ok-put_cell.ensures.spelled)
+    (vint_appended old c.put_vint.new.out.items c.from.result c.args.size (search rules) (omega arith) c.in_ok-put_vint.ensures.ok)
+    c.in_ok-put_cell.ensures.spelled)
     c.turn.ensures
 
 pub returns-clause-room : goal.returns-clause-room

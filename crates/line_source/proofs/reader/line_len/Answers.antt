@@ -7,5 +7,6 @@ use Rattle.line_source.proofs.reader.line_len.Goals as goal
 
 pub returns-clause-value : goal.returns-clause-value
 returns-clause-value c =
-    let found = position_from_yields_List (λ b. b == 10) _ _ c.position.result c.position.ensures.ran (YieldsList-from_slice c.args.bytes.now (search rules)) (λ x b q k. search (rules, tests)) in
+    let found = position_from_yields_List (λ b. b == 10) _ _ c.position.result c.position.ensures.ran (YieldsList-from_slice c.args.bytes.now (search rules))
+    (λ x b q k. search (rules, tests)) in
     rw (c.unwrap_or.ensures, found) (position_or_length (λ b. b == 10) c.args.bytes.now)

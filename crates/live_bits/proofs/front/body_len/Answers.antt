@@ -6,7 +6,8 @@ pub returns-clause-some : goal.returns-clause-some
 returns-clause-some c = λ s body x y long h e.
     let f = c.in_ok-sizes.sizes in
     let fits = c.in_ok-sizes.ensures.fits in
-    let front = front_of c.args.segment c.args.generation s c.args.front.now body x y f.base f.span f.count _ long h e fits.0 fits.1 fits.2 c.in_ok-sizes.ensures.some in
+    let front = front_of c.args.segment c.args.generation s c.args.front.now body x y f.base f.span f.count _ long h e fits.0 fits.1 fits.2
+    c.in_ok-sizes.ensures.some in
     front.len
 
 pub returns-in_err-sizes-clause-none : goal.returns-in_err-sizes-clause-none
@@ -18,12 +19,14 @@ pub returns-then-sizes-gt-LIMIT-clause-none : goal.returns-then-sizes-gt-LIMIT-c
 returns-then-sizes-gt-LIMIT-clause-none c = λ s body x y long h e.
     let f = c.in_ok-sizes.sizes in
     let fits = c.in_ok-sizes.ensures.fits in
-    let front = front_of c.args.segment c.args.generation s c.args.front.now body x y f.base f.span f.count _ long h e fits.0 fits.1 fits.2 c.in_ok-sizes.ensures.some in
+    let front = front_of c.args.segment c.args.generation s c.args.front.now body x y f.base f.span f.count _ long h e fits.0 fits.1 fits.2
+    c.in_ok-sizes.ensures.some in
     omega arith
 
 pub returns-then-sizes-clause-none : goal.returns-then-sizes-clause-none
 returns-then-sizes-clause-none c = λ s body x y long h e.
     let f = c.in_ok-sizes.sizes in
     let fits = c.in_ok-sizes.ensures.fits in
-    let front = front_of c.args.segment c.args.generation s c.args.front.now body x y f.base f.span f.count _ long h e fits.0 fits.1 fits.2 c.in_ok-sizes.ensures.some in
+    let front = front_of c.args.segment c.args.generation s c.args.front.now body x y f.base f.span f.count _ long h e fits.0 fits.1 fits.2
+    c.in_ok-sizes.ensures.some in
     omega arith

@@ -7,7 +7,8 @@ returns-in-Some c j lt =
     let found = c.in-Some.ensures.cases in
     let bytes = c.args.bytes.now in
     let from = c.min.result in
-    let behind : length (take (length bytes - from) (drop from bytes)) ≡ length bytes - from = length-take-le (length bytes - from) (drop from bytes) (omega (arith, length-drop from bytes)) in
+    let behind : length (take (length bytes - from) (drop from bytes)) ≡ length bytes - from =
+    length-take-le (length bytes - from) (drop from bytes) (omega (arith, length-drop from bytes)) in
     let inside : j < length bytes - from = omega (arith, behind, found.enough) in
     let place : from + j ≡ c.args.at + j = omega (arith, behind, found.enough) in
     ap (λ (l : List ℕ). get_or l j 0) found.same

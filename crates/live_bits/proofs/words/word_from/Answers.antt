@@ -8,7 +8,8 @@ returns-then-shift-eq0 c k lt =
     let bytes : (j : ℕ) → get_or c.eight_bytes.result j 0 < 256 = search rules in
     let eight : IsEight c.args.bits.now (c.args.i / 8) c.eight_bytes.result = record { bytes = bytes; same = c.eight_bytes.ensures } in
     let same : 8 * (c.args.i / 8) + k ≡ c.args.i + k = omega arith in
-    ap (λ (n : ℕ). has_bit n k) c.from_le_bytes-low.ensures ∙ low_bit c.args.bits.now c.eight_bytes.result (c.args.i / 8) k eight lt ∙ ap (is_set c.args.bits.now) same
+    ap (λ (n : ℕ). has_bit n k) c.from_le_bytes-low.ensures ∙ low_bit c.args.bits.now c.eight_bytes.result (c.args.i / 8) k eight lt
+    ∙ ap (is_set c.args.bits.now) same
 
 pub returns : goal.returns
 returns c k lt =

@@ -30,4 +30,5 @@ returns-in_err-put_full-in-None g c =
 pub returns-in_ok-put_full-in-None : goal.returns-in_ok-put_full-in-None
 returns-in_ok-put_full-in-None g c =
     let long = length-map c.args.points.now (λ (q : Point g.row.D). q.c) in
-    loading_full g.row.D _ _ _ _ _ (coordinates_of c.args.points.now) _ _ c.in_ok-put_full-in-None.ensures (omega (arith, long, c.in-None.ensures, c.given.ensures.value))
+    loading_full g.row.D _ _ _ _ _ (coordinates_of c.args.points.now) _ _ c.in_ok-put_full-in-None.ensures
+    (omega (arith, long, c.in-None.ensures, c.given.ensures.value))

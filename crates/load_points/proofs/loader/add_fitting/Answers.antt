@@ -7,7 +7,8 @@ use Rattle.point_codec.specs.Seen.{coordinates_of}
 use Rattle.point_codec.specs.declared.coordinates.Point.{Point}
 use Rattle.segment_set.proofs.Sizes.{point_fits}
 use Rattle.index_core.proofs.Sizes.{session_fits}
-use Rattle.load_points.proofs.Loading.{adding_stopped, all_loaded, commit_stopped, loads_no_memory, told_count}
+use Rattle.load_points.proofs.Loading.{adding_stopped, all_loaded, commit_stopped, loads_no_memory}
+use Rattle.load_points.proofs.LoadAnswers.{told_count}
 use Rattle.load_points.proofs.loader.add_fitting.Goals as goal
 
 pub next-requires : goal.next-requires
@@ -27,13 +28,15 @@ returns-in_err-put_loaded g c =
 pub returns-in_err-add_points : goal.returns-in_err-add_points
 returns-in_err-add_points g c =
     let p = err_from_is_err_and c.from_residual-in_err-add_points.result c.from_residual-in_err-add_points.ensures.1 in
-    adding_stopped g.row.D _ _ (coordinates_of c.args.points.now) _ _ _ _ c.in_err-add_points.field-0.0 _ (p.1 ∙ ap (λ (e : PageFault). Err e) p.2) c.in_err-add_points.ensures
+    adding_stopped g.row.D _ _ (coordinates_of c.args.points.now) _ _ _ _ c.in_err-add_points.field-0.0 _ (p.1 ∙ ap (λ (e : PageFault). Err e) p.2)
+    c.in_err-add_points.ensures
 
 pub returns-in_err-commit : goal.returns-in_err-commit
 returns-in_err-commit g c =
     let p = err_from_is_err_and c.from_residual-in_err-commit.result c.from_residual-in_err-commit.ensures.1 in
     let long = length-map c.args.points.now (λ (q : Point g.row.D). q.c) in
-    commit_stopped g.row.D _ (coordinates_of c.args.points.now) _ _ _ tt _ _ c.in_err-commit.field-0.0 _ (p.1 ∙ ap (λ (e : PageFault). Err e) p.2) (omega (arith, c.requires.fits, long)) c.in_ok-add_points.ensures
+    commit_stopped g.row.D _ (coordinates_of c.args.points.now) _ _ _ tt _ _ c.in_err-commit.field-0.0 _ (p.1 ∙ ap (λ (e : PageFault). Err e) p.2)
+    (omega (arith, c.requires.fits, long)) c.in_ok-add_points.ensures
     (record {
       seen = c.in_err-commit.ensures.seen;
       guards = c.in_err-commit.ensures.guards;

@@ -4,7 +4,8 @@ use Rattle.point_codec.specs.Seen.{coordinates_of}
 use Rattle.segment_set.proofs.Sizes.{point_fits}
 use Rattle.index_core.proofs.Sizes.{session_fits}
 use Rattle.load_points.proofs.Counted.{loaded_points}
-use Rattle.load_points.proofs.Loading.{file_refused, loads_as, loads_no_memory}
+use Rattle.load_points.proofs.Loading.{loads_as, loads_no_memory}
+use Rattle.load_points.proofs.LoadAnswers.{file_refused}
 use Rattle.load_points.proofs.loader.load_into.Goals as goal
 
 pub add_all-requires-after_bounds : goal.add_all-requires-after_bounds
@@ -13,7 +14,8 @@ add_all-requires-after_bounds g c κs = λ _. (session_fits g.row.D c.requires.f
 pub returns-in-Ok : goal.returns-in-Ok
 returns-in-Ok g c =
     loads_as _ _ _ _ _ _ _ _ _ c.add_all.result (λ trusts. trusts) (λ stored l. l)
-    (λ stored l. loaded_points g.row.D stored c.args.input.now c.args.columns.now _ c.requires.named (c.in-Ok.ensures.points ∙ ap (λ ps. Ok (coordinates_of ps)) (sym c.as_slice.ensures.value)))
+    (λ stored l. loaded_points g.row.D stored c.args.input.now c.args.columns.now _ c.requires.named
+    (c.in-Ok.ensures.points ∙ ap (λ ps. Ok (coordinates_of ps)) (sym c.as_slice.ensures.value)))
     c.add_all.ensures
 
 pub returns-in-Err-Memory : goal.returns-in-Err-Memory
@@ -21,4 +23,5 @@ returns-in-Err-Memory g c = loads_no_memory _ _ _ _ _ _ _ _ _ refl (λ stored l.
 
 pub returns-in-Err : goal.returns-in-Err
 returns-in-Err g c =
-    file_refused _ _ _ _ _ _ _ c.args.input.now c.args.columns.now c.in-Err.fault c.refuse_file.result (λ stored l. l.keeps) (c.in-Err.ensures.fault (search rules)) (c.refuse_file.ensures _ _)
+    file_refused _ _ _ _ _ _ _ c.args.input.now c.args.columns.now c.in-Err.fault c.refuse_file.result (λ stored l. l.keeps)
+    (c.in-Err.ensures.fault (search rules)) (c.refuse_file.ensures _ _)

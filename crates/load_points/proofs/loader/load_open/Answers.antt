@@ -11,4 +11,6 @@ pub returns-then-count : goal.returns-then-count
 returns-then-count g c = loads_as _ _ _ _ _ _ _ _ _ c.load_into.result (λ trusts. trusts) (λ stored h. h.0) (λ stored h. refl) c.load_into.ensures
 
 pub returns-else-count : goal.returns-else-count
-returns-else-count g c = loads_as _ _ _ _ _ _ _ _ _ c.refuse_dims.result (λ trusts. tt) (λ stored h. h.1) (λ stored h. refl) (loads_told _ _ _ _ _ _ c.refuse_dims.result (c.refuse_dims.ensures _ _))
+returns-else-count g c =
+    loads_as _ _ _ _ _ _ _ _ _ c.refuse_dims.result (λ trusts. tt) (λ stored h. h.1) (λ stored h. refl)
+    (loads_told _ _ _ _ _ _ c.refuse_dims.result (c.refuse_dims.ensures _ _))

@@ -2,21 +2,25 @@
 use Rattle.std.proofs.Common.{Some, refl, inl}
 use Rattle.index_core.proofs.Sizes.{session_fits}
 use Rattle.index_core.proofs.Undone.{fault_kept, kept_equal}
-use Rattle.load_points.proofs.Loading.{attached_loading, evident_still, has_dims, loads_after, loads_fault, starts_keeps, starts_still, trusts_still}
+use Rattle.load_points.proofs.Loading.{attached_loading, loads_after, loads_fault}
+use Rattle.load_points.proofs.LoadAnswers.{evident_still, has_dims, starts_keeps, starts_still, trusts_still}
 use Rattle.load_points.proofs.loader.load_over.Goals as goal
 
 pub attach-requires : goal.attach-requires
 attach-requires g c = (session_fits g.row.D c.requires.most_dims, c.requires.dims)
 
 pub load_open-requires-after_bounds : goal.load_open-requires-after_bounds
-load_open-requires-after_bounds g c κs = λ _. (session_fits g.row.D c.requires.most_dims, (c.requires.least_dims, (c.requires.most_dims, (c.requires.some, c.requires.few))))
+load_open-requires-after_bounds g c κs = λ _.
+    (session_fits g.row.D c.requires.most_dims, (c.requires.least_dims, (c.requires.most_dims, (c.requires.some, c.requires.few))))
 
 pub returns-in-Ok : goal.returns-in-Ok
 returns-in-Ok g c =
     loads_after _ _ _ _ _ _ _ _ _ _ c.load_open.result c.in-Ok.ensures.files refl c.in-Ok.ensures.cause
-    (λ told says. trusts_still g.row.D _ _ _ (c.in-Ok.ensures.files told) (c.in-Ok.ensures.guards told says) (c.in-Ok.ensures.faithful told) (c.in-Ok.ensures.traced told says))
+    (λ told says. trusts_still g.row.D _ _ _ (c.in-Ok.ensures.files told) (c.in-Ok.ensures.guards told says) (c.in-Ok.ensures.faithful told)
+    (c.in-Ok.ensures.traced told says))
     (λ told stored h. starts_still g.row.D _ _ c.args.commit _ stored (c.in-Ok.ensures.files told)
-    (attached_loading g.row.D _ c.args.commit _ stored (c.in-Ok.ensures.seen told h.0) (c.in-Ok.ensures.guards told h.0) c.in-Ok.ensures.unchanged h) (has_dims g.row.D _ c.args.commit stored c.requires.dims h))
+    (attached_loading g.row.D _ c.args.commit _ stored (c.in-Ok.ensures.seen told h.0) (c.in-Ok.ensures.guards told h.0) c.in-Ok.ensures.unchanged h)
+    (has_dims g.row.D _ c.args.commit stored c.requires.dims h))
     c.load_open.ensures
 
 pub returns-in-Err : goal.returns-in-Err
@@ -24,4 +28,5 @@ returns-in-Err g c =
     loads_fault _ _ _ _ _ _ c.in-Err.fault _ refl (λ told stored h. inl (starts_keeps _ _ _ stored (c.in-Err.ensures.files told) h))
     (λ told stored h. c.in-Err.ensures.whole told h.0 (Some h.1.0) h.1.2) c.in-Err.ensures.cause
     (evident_still _ _ (g.F.Pages.files c.args.folder.now) (g.F.Pages.files c.attach.new.folder) c.in-Err.fault c.in-Err.ensures.files c.in-Err.ensures.evident)
-    (λ told says. fault_kept (g.F.Pages.files c.args.folder.now) (g.F.Pages.files c.attach.new.folder) (kept_equal _ _ (c.in-Err.ensures.files told)) c.in-Err.fault)
+    (λ told says.
+    fault_kept (g.F.Pages.files c.args.folder.now) (g.F.Pages.files c.attach.new.folder) (kept_equal _ _ (c.in-Err.ensures.files told)) c.in-Err.fault)

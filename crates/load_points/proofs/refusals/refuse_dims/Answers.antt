@@ -3,7 +3,8 @@ use Rattle.std.proofs.Common.{Err, rules, refl, ap, ◌∙◌}
 use Rattle.std.proofs.lemmas.Result.{err_from_is_err_and}
 use Rattle.page_cache.specs.declared.faults.PageFault.{PageFault}
 use Rattle.load_points.specs.Loaded.{dims_text}
-use Rattle.load_points.proofs.Loading.{dims_refused, file_refused, loads_no_memory, loads_refused}
+use Rattle.load_points.proofs.Loading.{loads_no_memory, loads_refused}
+use Rattle.load_points.proofs.LoadAnswers.{dims_refused, file_refused}
 use Rattle.load_points.proofs.refusals.refuse_dims.Goals as goal
 
 pub returns-in_err-put_dims-in-Ok : goal.returns-in_err-put_dims-in-Ok
@@ -21,4 +22,5 @@ returns-in-Err-Memory c files faults = loads_no_memory _ _ _ _ files faults _ _ 
 
 pub returns-in-Err : goal.returns-in-Err
 returns-in-Err c files faults =
-    file_refused _ _ _ files faults _ _ c.args.input.now c.args.columns.now c.in-Err.fault c.refuse_file.result (λ stored h. h.0) (c.in-Err.ensures.fault (search rules)) (c.refuse_file.ensures files faults)
+    file_refused _ _ _ files faults _ _ c.args.input.now c.args.columns.now c.in-Err.fault c.refuse_file.result (λ stored h. h.0)
+    (c.in-Err.ensures.fault (search rules)) (c.refuse_file.ensures files faults)

@@ -12,4 +12,5 @@ returns-in_err-put_csv_fault c files faults =
     loads_no_memory _ _ _ _ files faults _ _ _ (p.1 ∙ ap (λ (e : PageFault). Err e) p.2) (λ stored h. h)
 
 pub returns : goal.returns
-returns c files faults = loads_refused _ _ _ _ files faults _ _ (csv_text c.args.columns.now c.args.fault.now) c.in_ok-put_csv_fault.ensures (λ stored h. h) (λ stored h. refl)
+returns c files faults =
+    loads_refused _ _ _ _ files faults _ _ (csv_text c.args.columns.now c.args.fault.now) c.in_ok-put_csv_fault.ensures (λ stored h. h) (λ stored h. refl)

@@ -3,12 +3,15 @@ use Rattle.std.proofs.Common.{◌≡◌, ◌++◌, List, ℕ, codes, decimal, ap
 use Rattle.load_points.proofs.texts.put_no_number.Goals as goal
 
 -- what was there, the record, the column's name, and the rest
-joined : (text word digits column name rest line : List ℕ) → (((text ++ (word ++ digits)) ++ column) ++ name) ++ (rest ++ line) ≡ text ++ (((((word ++ digits) ++ column) ++ name) ++ rest) ++ line)
+joined : (text word digits column name rest line : List ℕ)
+    → (((text ++ (word ++ digits)) ++ column) ++ name) ++ (rest ++ line) ≡ text ++ (((((word ++ digits) ++ column) ++ name) ++ rest) ++ line)
 joined text word digits column name rest line = simp append_assoc
 
-all_put : (a b c d e word digits column name rest line : List ℕ) → b ≡ a ++ (word ++ digits) → c ≡ b ++ column → d ≡ c ++ name → e ≡ d ++ (rest ++ line) → e ≡ a ++ (((((word ++ digits) ++ column) ++ name) ++ rest) ++ line)
+all_put : (a b c d e word digits column name rest line : List ℕ) → b ≡ a ++ (word ++ digits) → c ≡ b ++ column → d ≡ c ++ name → e ≡ d ++ (rest ++ line)
+    → e ≡ a ++ (((((word ++ digits) ++ column) ++ name) ++ rest) ++ line)
 all_put a b c d e word digits column name rest line first second third fourth =
-    fourth ∙ ap (λ (x : List ℕ). x ++ (rest ++ line)) (third ∙ ap (λ (x : List ℕ). x ++ name) (second ∙ ap (λ (x : List ℕ). x ++ column) first)) ∙ joined a word digits column name rest line
+    fourth ∙ ap (λ (x : List ℕ). x ++ (rest ++ line)) (third ∙ ap (λ (x : List ℕ). x ++ name) (second ∙ ap (λ (x : List ℕ). x ++ column) first))
+    ∙ joined a word digits column name rest line
 
 pub returns : goal.returns
 returns c =

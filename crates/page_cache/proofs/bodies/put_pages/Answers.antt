@@ -14,6 +14,8 @@ pages-preserved c = record {
   rest = rest_more c.args.body.now c.pages.rest.now c.split_at.result.1.now c.pages.i c.pages.invariant.rest
       (c.split_at.ensures.back ∙ ap (λ (n : ℕ). drop n c.pages.rest.now) c.min.ensures);
   room = omega arith;
-  put = put_more c.args.name.now c.args.first c.args.body.now c.pages.rest.now c.split_at.result.0.now c.pages.i c.reserve.new.self.items c.pages.out.items c.put_page.new.out.items
-      c.pages-test.true c.pages.invariant.rest (c.split_at.ensures.front ∙ ap (λ (n : ℕ). take n c.pages.rest.now) c.min.ensures) c.pages.invariant.put c.put_page.ensures.page;
+  put = put_more c.args.name.now c.args.first c.args.body.now c.pages.rest.now c.split_at.result.0.now c.pages.i c.reserve.new.self.items c.pages.out.items
+      c.put_page.new.out.items
+      c.pages-test.true c.pages.invariant.rest (c.split_at.ensures.front ∙ ap (λ (n : ℕ). take n c.pages.rest.now) c.min.ensures) c.pages.invariant.put
+      c.put_page.ensures.page;
 }

@@ -19,6 +19,8 @@ add-requires c = c.requires c.in-Some.page.now.value.b (
 
 pub returns-in-Some : goal.returns-in-Some
 returns-in-Some c =
-    let found : lookup (same_key c.args.key) c.args.pages.now.entries ≡ Some c.in-Some.page.now = sym c.peek_mut.ensures.value ∙ ap option_copied_mut c.in-Some.is in
-    let same = ap (λ (p : Box PageBytes Global). set_value (same_key c.args.key) c.args.pages.now.entries p) c.add.ensures ∙ value_again c.args.key c.args.pages.now.entries c.in-Some.page.now found in
+    let found : lookup (same_key c.args.key) c.args.pages.now.entries ≡ Some c.in-Some.page.now =
+    sym c.peek_mut.ensures.value ∙ ap option_copied_mut c.in-Some.is in
+    let same = ap (λ (p : Box PageBytes Global). set_value (same_key c.args.key) c.args.pages.now.entries p) c.add.ensures
+    ∙ value_again c.args.key c.args.pages.now.entries c.in-Some.page.now found in
     λ i. record { entries = same i; cap = c.args.pages.now.cap }

@@ -9,7 +9,8 @@ use Rattle.page_cache.proofs.kept.kept_page.Goals as goal
 
 pub unreachable-requires : goal.unreachable-requires
 unreachable-requires c =
-    kept.none_has c.args.key c.args.pages.now.entries (kept.none_of_value c.args.key c.args.pages.now.entries (sym c.peek.ensures ∙ ap option_copied c.in-None.is)) c.requires
+    kept.none_has c.args.key c.args.pages.now.entries
+    (kept.none_of_value c.args.key c.args.pages.now.entries (sym c.peek.ensures ∙ ap option_copied c.in-None.is)) c.requires
 
 pub returns-clause-only : goal.returns-clause-only
 returns-clause-only c = λ bytes found.

@@ -5,6 +5,7 @@ use Rattle.page_file.specs.declared.page.PageBytes.{PageBytes}
 use Rattle.page_cache.specs.declared.key.PageKey.{PageKey}
 use Rattle.page_cache.specs.Keys.{is_of_other}
 use Rattle.page_cache.proofs.KeptPages as kept
+use Rattle.page_cache.proofs.TakenOut as taken_out
 use Rattle.page_cache.proofs.kept.take_file_out.Goals as goal
 
 pub turns-preserved : goal.turns-preserved
@@ -13,9 +14,11 @@ turns-preserved c =
     let few : c.len-kept.result - (c.turns.counter + 1) < length c.args.pages.now.entries = let whole = c.turns.invariant.whole in omega arith in
     record {
       whole = c.turns.invariant.whole;
-      turned = kept.turned_more (λ (e : PageKey × Box PageBytes Global). is_of_other c.args.id e.0) c.args.pages.now.entries c.turns.pages.entries c.turn.new.pages.entries
+      turned = taken_out.turned_more (λ (e : PageKey × Box PageBytes Global). is_of_other c.args.id e.0) c.args.pages.now.entries c.turns.pages.entries
+          c.turn.new.pages.entries
           (c.len-kept.result - (c.turns.counter + 1)) few
-          (subst (λ (n : ℕ). c.turns.pages.entries ≡ filter (λ (e : PageKey × Box PageBytes Global). is_of_other c.args.id e.0) (drop n c.args.pages.now.entries) ++ take n c.args.pages.now.entries)
+          (subst (λ (n : ℕ). c.turns.pages.entries
+          ≡ filter (λ (e : PageKey × Box PageBytes Global). is_of_other c.args.id e.0) (drop n c.args.pages.now.entries) ++ take n c.args.pages.now.entries)
           down c.turns.invariant.turned)
           c.turn.ensures.turned;
       room = c.turn.ensures.room ∙ c.turns.invariant.room;

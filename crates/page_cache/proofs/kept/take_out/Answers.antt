@@ -13,10 +13,12 @@ returns-clause-none c = kept.taken_none c.args.key c.args.pages.now.entries c.pa
 
 pub returns-clause-gone : goal.returns-clause-gone
 returns-clause-gone c = λ has.
-    kept.taken_gone c.args.key c.args.pages.now.entries c.len-kept.ensures.valid.0 (subst (λ (l : Kept). HasKey l c.args.key) (ap (λ p. p.entries) c.pop.ensures.entries) has)
+    kept.taken_gone c.args.key c.args.pages.now.entries c.len-kept.ensures.valid.0
+    (subst (λ (l : Kept). HasKey l c.args.key) (ap (λ p. p.entries) c.pop.ensures.entries) has)
 
 pub returns-clause-fewer : goal.returns-clause-fewer
-returns-clause-fewer c = λ e has. Contains-remove_entry (same_key c.args.key) c.args.pages.now.entries e (subst (λ (l : Kept). Contains l e) (ap (λ p. p.entries) c.pop.ensures.entries) has)
+returns-clause-fewer c = λ e has.
+    Contains-remove_entry (same_key c.args.key) c.args.pages.now.entries e (subst (λ (l : Kept). Contains l e) (ap (λ p. p.entries) c.pop.ensures.entries) has)
 
 pub returns-clause-order : goal.returns-clause-order
 returns-clause-order c = ap (λ p. keys_of p.entries) c.pop.ensures.entries ∙ kept.keys_without c.args.key c.args.pages.now.entries
@@ -28,4 +30,6 @@ returns-clause-stays c = λ e has. elim (kept.taken_stays c.args.key c.args.page
 ]
 
 pub returns-clause-same : goal.returns-clause-same
-returns-clause-same c = kept.taken_same c.args.key c.args.pages.now.entries c.pop.new.self.entries c.page_of.result (c.page_of.ensures ∙ c.pop.ensures.value) (ap (λ p. p.entries) c.pop.ensures.entries)
+returns-clause-same c =
+    kept.taken_same c.args.key c.args.pages.now.entries c.pop.new.self.entries c.page_of.result (c.page_of.ensures ∙ c.pop.ensures.value)
+    (ap (λ p. p.entries) c.pop.ensures.entries)

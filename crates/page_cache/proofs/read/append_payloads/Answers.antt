@@ -32,7 +32,8 @@ pages-preserved g c = record {
       let page = rw same at (c.in_ok-page-2.ensures.bytes told) in
       let came : c.payload_bytes.result.now ≡ payload_of (page_at (bytes_of (g.F.Pages.files c.args.folder.now c.args.name.now)) (1 + c.pages.i)) =
       c.payload_bytes.ensures.bytes ∙ ap (λ (p : PageBytes). payload_of p.b) c.deref.ensures ∙ ap payload_of page in
-      payloads_grown (bytes_of (g.F.Pages.files c.args.folder.now c.args.name.now)) c.args.out.now.items c.pages.out.items c.payload_bytes.result.now c.extend_from_slice.new.self.items
+      payloads_grown (bytes_of (g.F.Pages.files c.args.folder.now c.args.name.now)) c.args.out.now.items c.pages.out.items c.payload_bytes.result.now
+      c.extend_from_slice.new.self.items
       1 c.pages.i c.in_ok-extend_from_slice.ensures.items (c.pages.invariant.payloads told) came;
   pages = λ told.
       let same = c.pages.invariant.files told in
@@ -57,4 +58,5 @@ returns-in_err-page-2-clause-damage g c = λ told.
     let same = c.pages.invariant.files told in
     rw (p.1, p.2, ← same) (fault_both c.in_err-page-2.field-0.0 (IsPageDamage c.args.name.now (1 + c.pages.i))
     (IsPageDamageOf (g.F.Pages.files c.pages.folder) (1 + c.pages.i)) (IsFileDamageOf (g.F.Pages.files c.pages.folder))
-    (λ d. file_from_page_of (g.F.Pages.files c.pages.folder) c.args.name.now (1 + c.pages.i) d (λ none. absurd (omega arith))) c.in_err-page-2.ensures.shown (c.in_err-page-2.ensures.damage told))
+    (λ d. file_from_page_of (g.F.Pages.files c.pages.folder) c.args.name.now (1 + c.pages.i) d (λ none. absurd (omega arith))) c.in_err-page-2.ensures.shown
+    (c.in_err-page-2.ensures.damage told))

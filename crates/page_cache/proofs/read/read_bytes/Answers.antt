@@ -9,5 +9,6 @@ returns-clause-whole g c = λ told full.
 
 pub returns-clause-none : goal.returns-clause-none
 returns-clause-none g c = λ told short.
-    short_is_none (g.F.Pages.files c.args.folder.now) c.args.name.now c.args.number (4096 * c.from.result) c.in_ok-count.count c.args.page.now.b c.read_at.new.buf
+    short_is_none (g.F.Pages.files c.args.folder.now) c.args.name.now c.args.number (4096 * c.from.result) c.in_ok-count.count c.args.page.now.b
+    c.read_at.new.buf
     (omega arith) (omega arith) short (c.in_ok-count.ensures.bytes told)

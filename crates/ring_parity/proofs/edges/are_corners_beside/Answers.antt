@@ -17,25 +17,35 @@ second_decides r s false b p q e = e
 
 pub returns-then-are_less : goal.returns-then-are_less
 returns-then-are_less c =
-    let products : AreProducts (ends_of c.args.e.now) (region_of c.args.c.now) (kept c.product-south.result) (kept c.product-north.result) (kept c.product-west.result) (kept c.product-east.result) = record {
+    let products : AreProducts (ends_of c.args.e.now) (region_of c.args.c.now) (kept c.product-south.result) (kept c.product-north.result)
+    (kept c.product-west.result) (kept c.product-east.result) = record {
       south_is = kept_is c.product-south.result c.product-south.ensures.small ∙ c.product-south.ensures.value;
       north_is = kept_is c.product-north.result c.product-north.ensures.small ∙ c.product-north.ensures.value;
       west_is = kept_is c.product-west.result c.product-west.ensures.small ∙ c.product-west.ensures.value;
       east_is = kept_is c.product-east.result c.product-east.ensures.small ∙ c.product-east.ensures.value;
     } in
-    first_holds c.are_less.result (list_all (is_left (ends_of c.args.e.now)) (corners (region_of c.args.c.now))) (list_all (is_right (ends_of c.args.e.now)) (corners (region_of c.args.c.now)))
-    (c.are_less.ensures ∙ corners_left (ends_of c.args.e.now) (region_of c.args.c.now) (kept c.product-south.result) (kept c.product-north.result) (kept c.product-west.result) (kept c.product-east.result) products)
+    first_holds c.are_less.result (list_all (is_left (ends_of c.args.e.now)) (corners (region_of c.args.c.now)))
+    (list_all (is_right (ends_of c.args.e.now)) (corners (region_of c.args.c.now)))
+    (c.are_less.ensures
+    ∙ corners_left (ends_of c.args.e.now) (region_of c.args.c.now) (kept c.product-south.result) (kept c.product-north.result) (kept c.product-west.result)
+    (kept c.product-east.result) products)
     c.if-are_less.true
 
 pub returns-else-are_less : goal.returns-else-are_less
 returns-else-are_less c =
-    let products : AreProducts (ends_of c.args.e.now) (region_of c.args.c.now) (kept c.product-south.result) (kept c.product-north.result) (kept c.product-west.result) (kept c.product-east.result) = record {
+    let products : AreProducts (ends_of c.args.e.now) (region_of c.args.c.now) (kept c.product-south.result) (kept c.product-north.result)
+    (kept c.product-west.result) (kept c.product-east.result) = record {
       south_is = kept_is c.product-south.result c.product-south.ensures.small ∙ c.product-south.ensures.value;
       north_is = kept_is c.product-north.result c.product-north.ensures.small ∙ c.product-north.ensures.value;
       west_is = kept_is c.product-west.result c.product-west.ensures.small ∙ c.product-west.ensures.value;
       east_is = kept_is c.product-east.result c.product-east.ensures.small ∙ c.product-east.ensures.value;
     } in
-    second_decides c.are_less.result c.are_less-else-are_less.result (list_all (is_left (ends_of c.args.e.now)) (corners (region_of c.args.c.now))) (list_all (is_right (ends_of c.args.e.now)) (corners (region_of c.args.c.now)))
-    (c.are_less.ensures ∙ corners_left (ends_of c.args.e.now) (region_of c.args.c.now) (kept c.product-south.result) (kept c.product-north.result) (kept c.product-west.result) (kept c.product-east.result) products)
+    second_decides c.are_less.result c.are_less-else-are_less.result (list_all (is_left (ends_of c.args.e.now)) (corners (region_of c.args.c.now)))
+    (list_all (is_right (ends_of c.args.e.now)) (corners (region_of c.args.c.now)))
+    (c.are_less.ensures
+    ∙ corners_left (ends_of c.args.e.now) (region_of c.args.c.now) (kept c.product-south.result) (kept c.product-north.result) (kept c.product-west.result)
+    (kept c.product-east.result) products)
     c.if-are_less.false
-    (c.are_less-else-are_less.ensures ∙ corners_right (ends_of c.args.e.now) (region_of c.args.c.now) (kept c.product-south.result) (kept c.product-north.result) (kept c.product-west.result) (kept c.product-east.result) products)
+    (c.are_less-else-are_less.ensures
+    ∙ corners_right (ends_of c.args.e.now) (region_of c.args.c.now) (kept c.product-south.result) (kept c.product-north.result) (kept c.product-west.result)
+    (kept c.product-east.result) products)

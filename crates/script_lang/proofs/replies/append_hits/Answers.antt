@@ -15,7 +15,8 @@ write_digits-start-requires c =
 pub loop-doc-preserved : goal.loop-doc-preserved
 loop-doc-preserved c = (
   number_said c.args.docs.now c.loop-doc.doc-index _ c.write_digits-start.result _ _ _ _ c.loop-doc.line c.write_digits-start.new.buf c.loop-doc-test.true
-      c.from.ensures (c.write_digits-start.auto.buf ∙ c.from.array_long) c.loop-doc.invariant.0 c.write_digits-start.ensures.written c.loop-doc.invariant.1 c.in_ok-extend_from_slice.ensures.items,
+      c.from.ensures (c.write_digits-start.auto.buf ∙ c.from.array_long) c.loop-doc.invariant.0 c.write_digits-start.ensures.written c.loop-doc.invariant.1
+      c.in_ok-extend_from_slice.ensures.items,
   line_ends _ c.write_digits-start.result c.loop-doc.line c.write_digits-start.new.buf c.write_digits-start.ensures.start
       c.write_digits-start.ensures.written c.loop-doc.invariant.1,
 )

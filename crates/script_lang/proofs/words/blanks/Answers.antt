@@ -8,5 +8,6 @@ use Rattle.script_lang.proofs.words.blanks.Goals as goal
 
 pub returns-clause-value : goal.returns-clause-value
 returns-clause-value c =
-    let found = position_from_yields_List (λ b. not (is_blank b)) _ _ c.position.result c.position.ensures.ran (YieldsList-from_bytes c.args.text.now (search rules)) (λ x b q k. search (rules, tests)) in
+    let found = position_from_yields_List (λ b. not (is_blank b)) _ _ c.position.result c.position.ensures.ran
+    (YieldsList-from_bytes c.args.text.now (search rules)) (λ x b q k. search (rules, tests)) in
     rw (c.unwrap_or.ensures, found) (first_failing is_blank c.args.text.now)

@@ -7,14 +7,17 @@ use Rattle.script_run.proofs.answers.answer_first.Goals as goal
 use Rattle.script_run.specs.Languages.{answer}
 
 pub returns-clause-opening : goal.returns-clause-opening
-returns-clause-opening g c = known_is (IsOpening (answer c.args.language c.args.number None c.args.line.now)) c.in_ok-opening.opening c.send.result c.send.ensures.known c.in_ok-opening.ensures.opening
+returns-clause-opening g c =
+    known_is (IsOpening (answer c.args.language c.args.number None c.args.line.now)) c.in_ok-opening.opening c.send.result c.send.ensures.known
+    c.in_ok-opening.ensures.opening
 
 pub returns-clause-limits : goal.returns-clause-limits
 returns-clause-limits g c = known_is IsWithin c.in_ok-opening.opening c.send.result c.send.ensures.known c.in_ok-opening.ensures.limits
 
 pub returns-clause-text : goal.returns-clause-text
 returns-clause-text g c = λ sink. sent_as _ _ _ _ c.send.result
-    (c.as_slice.ensures.value ∙ c.in_ok-opening.ensures.text ∙ ap (λ (w : List ℕ). w ++ (answer c.args.language c.args.number None c.args.line.now).text) c.clear.ensures.items) (c.send.ensures.text sink)
+    (c.as_slice.ensures.value ∙ c.in_ok-opening.ensures.text
+    ∙ ap (λ (w : List ℕ). w ++ (answer c.args.language c.args.number None c.args.line.now).text) c.clear.ensures.items) (c.send.ensures.text sink)
 
 pub returns-clause-cause : goal.returns-clause-cause
 returns-clause-cause g c = only_sink c.send.result c.send.ensures.cause

@@ -11,8 +11,10 @@ use Rattle.script_run.proofs.answers.obey.Goals as goal
 
 pub returns-in-Ok-Done-clause-replies : goal.returns-in-Ok-Done-clause-replies
 returns-in-Ok-Done-clause-replies g c = λ told i stored h bytes reads.
-    done_replies c.args.work.now.language g.row.D _ _ _ _ i stored c.args.number bytes (request_of c.args.command.now) _ h reads _ (rw c.in-Ok-Done.field-0-is at (c.in-Ok-Done.ensures.does told i h.seen (λ e. h.guards)))
-    (c.in-Ok-Done.ensures.guards told h.guards) (rw c.in-Ok-Done.field-0-is at (c.in-Ok-Done.ensures.kept told h.guards)) (c.in-Ok-Done.ensures.stored told i h.seen h.guards)
+    done_replies c.args.work.now.language g.row.D _ _ _ _ i stored c.args.number bytes (request_of c.args.command.now) _ h reads
+    _ (rw c.in-Ok-Done.field-0-is at (c.in-Ok-Done.ensures.does told i h.seen (λ e. h.guards)))
+    (c.in-Ok-Done.ensures.guards told h.guards) (rw c.in-Ok-Done.field-0-is at (c.in-Ok-Done.ensures.kept told h.guards))
+    (c.in-Ok-Done.ensures.stored told i h.seen h.guards)
 
 pub returns-in-Ok-Done-clause-cause : goal.returns-in-Ok-Done-clause-cause
 returns-in-Ok-Done-clause-cause g c = page_done _ _ c.in-Ok-Done.field-0 false c.in-Ok-Done.ensures.cause
@@ -21,7 +23,8 @@ pub returns-in-Ok-Refused-clause-replies : goal.returns-in-Ok-Refused-clause-rep
 returns-in-Ok-Refused-clause-replies g c = λ told i stored h bytes reads.
     refused_replies c.args.work.now.language g.row.D _ _ _ _ i stored c.args.number bytes (request_of c.args.command.now) _ h reads _ _ c.in-Ok-Refused.why
     (rw c.in-Ok-Refused.field-0-is at (c.in-Ok-Refused.ensures.does told i h.seen (λ e. h.guards)))
-    (c.in-Ok-Refused.ensures.guards told h.guards) (rw c.in-Ok-Refused.field-0-is at (c.in-Ok-Refused.ensures.kept told h.guards)) (c.in-Ok-Refused.ensures.stored told i h.seen h.guards)
+    (c.in-Ok-Refused.ensures.guards told h.guards) (rw c.in-Ok-Refused.field-0-is at (c.in-Ok-Refused.ensures.kept told h.guards))
+    (c.in-Ok-Refused.ensures.stored told i h.seen h.guards)
     c.refuse.result c.refuse.ensures.refused c.refuse.ensures.memory
 
 pub returns-in-Ok-Refused-clause-cause : goal.returns-in-Ok-Refused-clause-cause
@@ -29,7 +32,8 @@ returns-in-Ok-Refused-clause-cause g c = page_then _ _ c.in-Ok-Refused.field-0 c
 
 pub returns-in-Err-clause-replies : goal.returns-in-Err-clause-replies
 returns-in-Err-clause-replies g c = λ told i stored h bytes reads.
-    fault_replies c.args.work.now.language g.row.D _ _ _ _ i stored c.args.number bytes (request_of c.args.command.now) c.args.reply.now.items h reads c.args.reply.now.items c.in-Err.fault (c.in-Err.ensures.whole told i h.seen (λ e. h.guards))
+    fault_replies c.args.work.now.language g.row.D _ _ _ _ i stored c.args.number bytes (request_of c.args.command.now) c.args.reply.now.items h reads
+    c.args.reply.now.items c.in-Err.fault (c.in-Err.ensures.whole told i h.seen (λ e. h.guards))
     (c.in-Err.ensures.kept told h.guards) (c.in-Err.ensures.stored told i h.seen h.guards)
 
 pub returns-in-Err-clause-cause : goal.returns-in-Err-clause-cause
@@ -38,7 +42,8 @@ returns-in-Err-clause-cause g c = page_same _ _ c.in-Err.fault c.in-Err.ensures.
 pub returns-in-Ok-Done-clause-passes : goal.returns-in-Ok-Done-clause-passes
 returns-in-Ok-Done-clause-passes g c = λ told i stored h bytes reads.
     passes_to c.args.work.now.language g.row.D _ i bytes _ _ (Ok c.in-Ok-Done.field-0) _ (λ e. refl)
-    (passes_applied c.args.work.now.language g.row.D (IsTrue g.F.Pages.told) told c.args.number i bytes (request_of c.args.command.now) _ _ _ _ (Ok c.in-Ok-Done.field-0) h.seen reads (record {
+    (passes_applied c.args.work.now.language g.row.D (IsTrue g.F.Pages.told) told c.args.number i bytes (request_of c.args.command.now)
+    _ _ _ _ (Ok c.in-Ok-Done.field-0) h.seen reads (record {
       does = c.in-Ok-Done.ensures.does told i h.seen (λ e. h.guards);
       canon = c.in-Ok-Done.ensures.canon told i h.seen h.guards;
       kept = c.in-Ok-Done.ensures.kept told h.guards;
@@ -54,7 +59,8 @@ returns-in-Ok-Done-clause-passes g c = λ told i stored h bytes reads.
 pub returns-in-Ok-Refused-clause-passes : goal.returns-in-Ok-Refused-clause-passes
 returns-in-Ok-Refused-clause-passes g c = λ told i stored h bytes reads.
     passes_to c.args.work.now.language g.row.D _ i bytes _ _ (Ok c.in-Ok-Refused.field-0) c.refuse.result (λ e. refl)
-    (passes_applied c.args.work.now.language g.row.D (IsTrue g.F.Pages.told) told c.args.number i bytes (request_of c.args.command.now) _ _ _ _ (Ok c.in-Ok-Refused.field-0) h.seen reads (record {
+    (passes_applied c.args.work.now.language g.row.D (IsTrue g.F.Pages.told) told c.args.number i bytes (request_of c.args.command.now)
+    _ _ _ _ (Ok c.in-Ok-Refused.field-0) h.seen reads (record {
       does = c.in-Ok-Refused.ensures.does told i h.seen (λ e. h.guards);
       canon = c.in-Ok-Refused.ensures.canon told i h.seen h.guards;
       kept = c.in-Ok-Refused.ensures.kept told h.guards;
@@ -70,7 +76,8 @@ returns-in-Ok-Refused-clause-passes g c = λ told i stored h bytes reads.
 pub returns-in-Err-clause-passes : goal.returns-in-Err-clause-passes
 returns-in-Err-clause-passes g c = λ told i stored h bytes reads.
     passes_to {S = Applied} c.args.work.now.language g.row.D _ i bytes _ _ (Err c.in-Err.fault) _ (λ e. e)
-    (passes_applied c.args.work.now.language g.row.D (IsTrue g.F.Pages.told) told c.args.number i bytes (request_of c.args.command.now) _ _ _ _ (Err c.in-Err.fault) h.seen reads (record {
+    (passes_applied c.args.work.now.language g.row.D (IsTrue g.F.Pages.told) told c.args.number i bytes (request_of c.args.command.now)
+    _ _ _ _ (Err c.in-Err.fault) h.seen reads (record {
       does = c.in-Err.ensures.does told i h.seen (λ e. h.guards);
       canon = c.in-Err.ensures.canon told i h.seen h.guards;
       kept = c.in-Err.ensures.kept told h.guards;
@@ -84,16 +91,25 @@ returns-in-Err-clause-passes g c = λ told i stored h bytes reads.
     }))
 
 pub returns-in-Ok-Done-clause-trusts : goal.returns-in-Ok-Done-clause-trusts
-returns-in-Ok-Done-clause-trusts g c = λ told h. record { guards = c.in-Ok-Done.ensures.guards told h.guards; faithful = c.in-Ok-Done.ensures.faithful told h.faithful; traced = c.in-Ok-Done.ensures.traced told h }
+returns-in-Ok-Done-clause-trusts g c = λ told h. record {
+  guards = c.in-Ok-Done.ensures.guards told h.guards;
+  faithful = c.in-Ok-Done.ensures.faithful told h.faithful;
+  traced = c.in-Ok-Done.ensures.traced told h;
+}
 
 pub returns-in-Ok-Refused-clause-trusts : goal.returns-in-Ok-Refused-clause-trusts
-returns-in-Ok-Refused-clause-trusts g c = λ told h. record { guards = c.in-Ok-Refused.ensures.guards told h.guards; faithful = c.in-Ok-Refused.ensures.faithful told h.faithful; traced = c.in-Ok-Refused.ensures.traced told h }
+returns-in-Ok-Refused-clause-trusts g c = λ told h. record {
+  guards = c.in-Ok-Refused.ensures.guards told h.guards;
+  faithful = c.in-Ok-Refused.ensures.faithful told h.faithful;
+  traced = c.in-Ok-Refused.ensures.traced told h;
+}
 
 pub returns-in-Ok-Refused-clause-evident : goal.returns-in-Ok-Refused-clause-evident
 returns-in-Ok-Refused-clause-evident g c = memory_shows _ c.refuse.result c.refuse.ensures.memory
 
 pub returns-in-Err-clause-trusts : goal.returns-in-Err-clause-trusts
-returns-in-Err-clause-trusts g c = λ told h. record { guards = c.in-Err.ensures.guards told h.guards; faithful = c.in-Err.ensures.faithful told h.faithful; traced = c.in-Err.ensures.traced told h }
+returns-in-Err-clause-trusts g c = λ told h.
+    record { guards = c.in-Err.ensures.guards told h.guards; faithful = c.in-Err.ensures.faithful told h.faithful; traced = c.in-Err.ensures.traced told h }
 
 pub returns-in-Err-clause-evident : goal.returns-in-Err-clause-evident
 returns-in-Err-clause-evident g c = c.in-Err.ensures.evident

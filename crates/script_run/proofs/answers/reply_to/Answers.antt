@@ -27,7 +27,8 @@ returns-in-Err-Memory-clause-cause g c = page_memory _
 pub returns-in-Err-clause-replies : goal.returns-in-Err-clause-replies
 returns-in-Err-clause-replies g c = λ told i stored h bytes same.
     let other : c.in-Err.fault ≢ range.Memory = search rules in
-    unread_replies c.args.work.now.language g.row.D _ _ i stored c.args.number bytes _ _ c.in-Err.fault h (same ∙ fault_read (request_of {D = g.row.D}) c.in-Err.fault _ other c.in-Err.ensures.reads)
+    unread_replies c.args.work.now.language g.row.D _ _ i stored c.args.number bytes _ _ c.in-Err.fault h
+    (same ∙ fault_read (request_of {D = g.row.D}) c.in-Err.fault _ other c.in-Err.ensures.reads)
     c.refuse_line.result c.refuse_line.ensures.refused c.refuse_line.ensures.memory
 
 pub returns-in-Err-clause-cause : goal.returns-in-Err-clause-cause
@@ -42,7 +43,8 @@ returns-in-Err-Memory-clause-passes g c = λ told i stored h bytes same. passes_
 pub returns-in-Err-clause-passes : goal.returns-in-Err-clause-passes
 returns-in-Err-clause-passes g c = λ told i stored h bytes same.
     let other : c.in-Err.fault ≢ range.Memory = search rules in
-    passes_unread c.args.work.now.language g.row.D c.args.number i bytes c.in-Err.fault _ c.refuse_line.result h.seen.dims (same ∙ fault_read (request_of {D = g.row.D}) c.in-Err.fault _ other c.in-Err.ensures.reads)
+    passes_unread c.args.work.now.language g.row.D c.args.number i bytes c.in-Err.fault _ c.refuse_line.result h.seen.dims
+    (same ∙ fault_read (request_of {D = g.row.D}) c.in-Err.fault _ other c.in-Err.ensures.reads)
 
 pub returns-in-Ok-clause-trusts : goal.returns-in-Ok-clause-trusts
 returns-in-Ok-clause-trusts g c = c.obey.ensures.trusts

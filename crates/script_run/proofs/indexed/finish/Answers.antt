@@ -1,7 +1,8 @@
 -- What the lines left is committed and the session closed, or the run stops.
 use Rattle.std.proofs.Common.{ℕ, refl}
 use Rattle.script_run.proofs.Calling.{fault_stops}
-use Rattle.script_run.proofs.Lined.{stops_end, ok_cause, fault_cause}
+use Rattle.script_run.proofs.Lined.{ok_cause, fault_cause}
+use Rattle.script_run.proofs.SoFar.{stops_end}
 use Rattle.script_run.proofs.Leading.{closes_by, closes_fails}
 use Rattle.script_run.proofs.Shown.{fault_at, fault_shows}
 use Rattle.script_run.proofs.indexed.finish.Goals as goal
@@ -14,7 +15,8 @@ returns-in-Ok-clause-cause g c = λ sink. ok_cause _ _ sink _ c.args.refused c.i
 
 pub returns-in-Err-clause-ends : goal.returns-in-Err-clause-ends
 returns-in-Err-clause-ends g c = λ told i stored h.
-    stops_end _ _ i stored c.args.refused c.in-Err.fault (c.in-Err.ensures.whole told i h.seen) h.keeps (c.in-Err.ensures.stored told i h.seen h.guards) c.stopped.result c.stopped.ensures
+    stops_end _ _ i stored c.args.refused c.in-Err.fault (c.in-Err.ensures.whole told i h.seen) h.keeps (c.in-Err.ensures.stored told i h.seen h.guards)
+    c.stopped.result c.stopped.ensures
 
 pub returns-in-Err-clause-cause : goal.returns-in-Err-clause-cause
 returns-in-Err-clause-cause g c = λ sink. fault_cause _ _ sink c.in-Err.fault c.in-Err.ensures.cause c.stopped.result c.stopped.ensures

@@ -11,7 +11,8 @@ use Rattle.script_run.proofs.Going.{refused_more, at_most_one}
 use Rattle.script_run.proofs.Halting.{halted_no_source, memory_cause, no_source, halted_cause, halted_ends, halted_keeps, halted_shows}
 use Rattle.script_run.proofs.Lined.{cause_to}
 use Rattle.script_run.proofs.Passing.{on_ok}
-use Rattle.script_run.proofs.Reading.{closes_halted, gives_line, gives_none, going_ends, going_first, going_halts, going_on, going_stops, going_wants, none_read, of_all, of_left, of_line, one_read, quiet_first, quiet_on, reads_alike}
+use Rattle.script_run.proofs.Reading.{closes_halted, gives_line, gives_none, going_ends, going_first, going_halts, going_on, going_stops}
+use Rattle.script_run.proofs.Reading.{going_wants, none_read, of_all, of_left, of_line, one_read, quiet_first, quiet_on, reads_alike}
 use Rattle.script_run.proofs.Shown.{same_stop, stop_less}
 use Rattle.script_run.proofs.indexed.run_made.Goals as goal
 use Rattle.script_run.specs.Languages.{meaning}
@@ -43,17 +44,22 @@ pub lines-preserved : goal.lines-preserved
 lines-preserved g c =
     let so_far = c.lines.invariant.so_far in
     let yes : c.in-Ok-true.field-0 ≡ true = search rules in
-    let gives = gives_line (IsTrue g.S.Source.told) c.lines.reader (g.S.Source.left c.lines.input) c.next_line.new.self (g.S.Source.left c.next_line.new.source) c.next_line.new.line.items c.in-Ok-true.field-0 yes c.in-Ok-true.ensures.gives in
-    let alike = reads_alike c.args.work.now.language (Some g.row.D) gives.line c.next_line.new.line.items c.as_slice.result.now gives.bytes_are c.as_slice.ensures.value in
+    let gives = gives_line (IsTrue g.S.Source.told) c.lines.reader (g.S.Source.left c.lines.input) c.next_line.new.self (g.S.Source.left c.next_line.new.source)
+    c.next_line.new.line.items c.in-Ok-true.field-0 yes c.in-Ok-true.ensures.gives in
+    let alike = reads_alike c.args.work.now.language (Some g.row.D) gives.line c.next_line.new.line.items c.as_slice.result.now gives.bytes_are
+    c.as_slice.ensures.value in
     record {
       so_far = (
         one_read _ _ _ c.lines.reader _ so_far.0 _ _ _ gives,
         λ told i stored h more.
             let going = so_far.1 told i stored h (gives.line ∷ more) in
             rw (append_assoc so_far.0.lines (gives.line ∷ []) more)
-            (going_on c.args.work.now.language _ g.row.D _ _ i stored _ _ _ _ _ _ _ gives.line more going _ _ c.in-Ok.is_refused _ (refused_more c.lines.refused c.in-Ok.is_refused _ _ refl c.from-refused.ensures)
-            (c.in-Ok.ensures.answers told going.goes.index going.goes.stored going.goes.stands gives.line alike) (c.in-Ok.ensures.passes told going.goes.index going.goes.stored going.goes.stands gives.line alike)),
-        λ told h. quiet_on c.args.work.now.language g.row.D so_far.0.lines gives.line _ _ _ (so_far.2 told h) (λ quiet. c.in-Ok.ensures.kept told (c.lines.invariant.trusts told h) (ap asks_commit (sym alike) ∙ quiet)),
+            (going_on c.args.work.now.language _ g.row.D _ _ i stored _ _ _ _ _ _ _ gives.line more going _ _ c.in-Ok.is_refused
+            _ (refused_more c.lines.refused c.in-Ok.is_refused _ _ refl c.from-refused.ensures)
+            (c.in-Ok.ensures.answers told going.goes.index going.goes.stored going.goes.stands gives.line alike)
+            (c.in-Ok.ensures.passes told going.goes.index going.goes.stored going.goes.stands gives.line alike)),
+        λ told h. quiet_on c.args.work.now.language g.row.D so_far.0.lines gives.line _ _ _ (so_far.2 told h)
+            (λ quiet. c.in-Ok.ensures.kept told (c.lines.invariant.trusts told h) (ap asks_commit (sym alike) ∙ quiet)),
       );
       trusts = λ told h. c.in-Ok.ensures.trusts told (c.lines.invariant.trusts told h);
       counted = omega (arith, c.lines.invariant.counted, at_most_one _ _ c.from-refused.ensures);
@@ -66,15 +72,20 @@ pub returns-in-Err-clause-does : goal.returns-in-Err-clause-does
 returns-in-Err-clause-does g c =
     let so_far = c.lines.invariant.so_far in
     let yes : c.in-Ok-true.field-0 ≡ true = search rules in
-    let gives = gives_line (IsTrue g.S.Source.told) c.lines.reader (g.S.Source.left c.lines.input) c.next_line.new.self (g.S.Source.left c.next_line.new.source) c.next_line.new.line.items c.in-Ok-true.field-0 yes c.in-Ok-true.ensures.gives in
-    let alike = reads_alike c.args.work.now.language (Some g.row.D) gives.line c.next_line.new.line.items c.as_slice.result.now gives.bytes_are c.as_slice.ensures.value in
+    let gives = gives_line (IsTrue g.S.Source.told) c.lines.reader (g.S.Source.left c.lines.input) c.next_line.new.self (g.S.Source.left c.next_line.new.source)
+    c.next_line.new.line.items c.in-Ok-true.field-0 yes c.in-Ok-true.ensures.gives in
+    let alike = reads_alike c.args.work.now.language (Some g.row.D) gives.line c.next_line.new.line.items c.as_slice.result.now gives.bytes_are
+    c.as_slice.ensures.value in
     λ told. of_line _ _ _ c.lines.reader _ so_far.0 _ _ _ _ gives (λ i stored h.
     let going = so_far.1 told i stored h (gives.line ∷ lines_left c.next_line.new.self (g.S.Source.left c.next_line.new.source)) in
     going_stops c.args.work.now.language _ g.row.D _ _ i stored _ _ _ _ _ _ _ gives.line _ going _ _ c.in-Err.stop _
-    (c.in-Err.ensures.answers told going.goes.index going.goes.stored going.goes.stands gives.line alike) (c.in-Err.ensures.passes told going.goes.index going.goes.stored going.goes.stands gives.line alike))
+    (c.in-Err.ensures.answers told going.goes.index going.goes.stored going.goes.stands gives.line alike)
+    (c.in-Err.ensures.passes told going.goes.index going.goes.stored going.goes.stands gives.line alike))
 
 pub returns-in-Err-clause-cause : goal.returns-in-Err-clause-cause
-returns-in-Err-clause-cause g c = cause_from {T = ℕ} _ _ _ _ _ _ (Err c.in-Err.stop) c.lines.invariant.folder_later c.lines.invariant.sink_later (cause_to _ _ _ _ c.in-Err.stop c.in-Err.ensures.cause)
+returns-in-Err-clause-cause g c =
+    cause_from {T = ℕ} _ _ _ _ _ _ (Err c.in-Err.stop) c.lines.invariant.folder_later c.lines.invariant.sink_later
+    (cause_to _ _ _ _ c.in-Err.stop c.in-Err.ensures.cause)
 
 pub returns-in-Err-clause-source : goal.returns-in-Err-clause-source
 returns-in-Err-clause-source g c = no_source _ _ _ (omega (arith, c.lines.invariant.source_later, c.in-Ok-true.ensures.cause.later)) (λ e. cc)
@@ -83,64 +94,84 @@ pub returns-in-Err-clause-undone : goal.returns-in-Err-clause-undone
 returns-in-Err-clause-undone g c =
     let so_far = c.lines.invariant.so_far in
     let yes : c.in-Ok-true.field-0 ≡ true = search rules in
-    let gives = gives_line (IsTrue g.S.Source.told) c.lines.reader (g.S.Source.left c.lines.input) c.next_line.new.self (g.S.Source.left c.next_line.new.source) c.next_line.new.line.items c.in-Ok-true.field-0 yes c.in-Ok-true.ensures.gives in
-    let alike = reads_alike c.args.work.now.language (Some g.row.D) gives.line c.next_line.new.line.items c.as_slice.result.now gives.bytes_are c.as_slice.ensures.value in
+    let gives = gives_line (IsTrue g.S.Source.told) c.lines.reader (g.S.Source.left c.lines.input) c.next_line.new.self (g.S.Source.left c.next_line.new.source)
+    c.next_line.new.line.items c.in-Ok-true.field-0 yes c.in-Ok-true.ensures.gives in
+    let alike = reads_alike c.args.work.now.language (Some g.row.D) gives.line c.next_line.new.line.items c.as_slice.result.now gives.bytes_are
+    c.as_slice.ensures.value in
     λ told. of_line _ _ _ c.lines.reader _ so_far.0 _ _ _ _ gives (λ h quiet.
     let next = (so_far.2 told h).kept (gives.line ∷ lines_left c.next_line.new.self (g.S.Source.left c.next_line.new.source)) quiet in
-    stop_kept ℕ _ _ c.in-Err.stop (kept_after _ _ _ next.0 (c.in-Err.ensures.kept told (c.lines.invariant.trusts told h) (ap asks_commit (sym alike) ∙ next.1.0))))
+    stop_kept ℕ _ _ c.in-Err.stop
+    (kept_after _ _ _ next.0 (c.in-Err.ensures.kept told (c.lines.invariant.trusts told h) (ap asks_commit (sym alike) ∙ next.1.0))))
 
 pub returns-in-Err-clause-evident : goal.returns-in-Err-clause-evident
 returns-in-Err-clause-evident g c =
-    stop_less {X = ℕ} (IsTrue g.F.Pages.told × Trusts g.row.D (g.F.Pages.files c.lines.folder) c.lines.session) (IsTrue g.F.Pages.told × Trusts g.row.D (g.F.Pages.files c.args.folder.now) c.args.session.now)
-    (g.F.Pages.files c.answer_line.new.folder) (Err c.in-Err.stop) (λ p. (p.0, c.lines.invariant.trusts p.0 p.1)) (same_stop Bool ℕ _ c.in-Err.stop c.in-Err.ensures.evident)
+    stop_less {X = ℕ} (IsTrue g.F.Pages.told × Trusts g.row.D (g.F.Pages.files c.lines.folder) c.lines.session)
+    (IsTrue g.F.Pages.told × Trusts g.row.D (g.F.Pages.files c.args.folder.now) c.args.session.now)
+    (g.F.Pages.files c.answer_line.new.folder) (Err c.in-Err.stop) (λ p. (p.0, c.lines.invariant.trusts p.0 p.1))
+    (same_stop Bool ℕ _ c.in-Err.stop c.in-Err.ensures.evident)
 
 pub returns-in-Ok-false-clause-does : goal.returns-in-Ok-false-clause-does
 returns-in-Ok-false-clause-does g c =
     let no : c.in-Ok-false.field-0 ≡ false = search rules in
     let so_far = c.lines.invariant.so_far in
-    λ told. of_all _ _ _ c.lines.reader _ so_far.0 _ c.next_line.new.self (g.S.Source.left c.next_line.new.source) (gives_none (IsTrue g.S.Source.told) c.lines.reader (g.S.Source.left c.lines.input) c.next_line.new.self (g.S.Source.left c.next_line.new.source) c.next_line.new.line.items c.in-Ok-false.field-0 no c.in-Ok-false.ensures.gives) (λ i stored h.
+    λ told. of_all _ _ _ c.lines.reader _ so_far.0 _ c.next_line.new.self (g.S.Source.left c.next_line.new.source)
+    (gives_none (IsTrue g.S.Source.told) c.lines.reader (g.S.Source.left c.lines.input) c.next_line.new.self (g.S.Source.left c.next_line.new.source)
+    c.next_line.new.line.items c.in-Ok-false.field-0 no c.in-Ok-false.ensures.gives) (λ i stored h.
     let going = so_far.1 told i stored h [] in
-    let ends = going_ends c.args.work.now.language _ g.row.D _ _ i stored _ _ _ _ _ _ _ going _ c.finish.result c.halted.result (c.finish.ensures.ends told going.goes.index going.goes.stored going.goes.stands)
-    (closes_halted g.row.D going.goes.index _ _ c.finish.result c.halted.result c.halted.ensures (c.finish.ensures.closes told going.goes.index going.goes.stored going.goes.stands)) in
+    let ends = going_ends c.args.work.now.language _ g.row.D _ _ i stored _ _ _ _ _ _ _ going _ c.finish.result c.halted.result
+    (c.finish.ensures.ends told going.goes.index going.goes.stored going.goes.stands)
+    (closes_halted g.row.D going.goes.index _ _ c.finish.result c.halted.result c.halted.ensures
+    (c.finish.ensures.closes told going.goes.index going.goes.stored going.goes.stands)) in
     (halted_ends (meaning c.args.work.now.language) _ _ _ _ c.finish.result c.halted.result c.halted.ensures ends.0, ends.1))
 
 pub returns-in-Ok-false-clause-read : goal.returns-in-Ok-false-clause-read
 returns-in-Ok-false-clause-read g c =
     let no : c.in-Ok-false.field-0 ≡ false = search rules in
-    let none = gives_none (IsTrue g.S.Source.told) c.lines.reader (g.S.Source.left c.lines.input) c.next_line.new.self (g.S.Source.left c.next_line.new.source) c.next_line.new.line.items c.in-Ok-false.field-0 no c.in-Ok-false.ensures.gives in
+    let none = gives_none (IsTrue g.S.Source.told) c.lines.reader (g.S.Source.left c.lines.input) c.next_line.new.self (g.S.Source.left c.next_line.new.source)
+    c.next_line.new.line.items c.in-Ok-false.field-0 no c.in-Ok-false.ensures.gives in
     λ source knows. on_ok c.halted.result (none source (c.lines.invariant.so_far.0.ended source knows)).1
 
 pub returns-in-Ok-false-clause-cause : goal.returns-in-Ok-false-clause-cause
 returns-in-Ok-false-clause-cause g c =
-    halted_cause _ _ _ _ c.finish.result c.halted.result c.halted.ensures (cause_from _ _ _ _ _ _ c.finish.result c.lines.invariant.folder_later c.lines.invariant.sink_later (c.finish.ensures.cause _))
+    halted_cause _ _ _ _ c.finish.result c.halted.result c.halted.ensures
+    (cause_from _ _ _ _ _ _ c.finish.result c.lines.invariant.folder_later c.lines.invariant.sink_later (c.finish.ensures.cause _))
 
 pub returns-in-Ok-false-clause-source : goal.returns-in-Ok-false-clause-source
 returns-in-Ok-false-clause-source g c =
-    no_source _ _ c.halted.result (omega (arith, c.lines.invariant.source_later, c.in-Ok-false.ensures.cause.later)) (halted_no_source c.finish.result c.halted.result c.halted.ensures)
+    no_source _ _ c.halted.result (omega (arith, c.lines.invariant.source_later, c.in-Ok-false.ensures.cause.later))
+    (halted_no_source c.finish.result c.halted.result c.halted.ensures)
 
 pub returns-in-Ok-false-clause-undone : goal.returns-in-Ok-false-clause-undone
 returns-in-Ok-false-clause-undone g c =
     let no : c.in-Ok-false.field-0 ≡ false = search rules in
     let so_far = c.lines.invariant.so_far in
-    λ told. of_all _ _ _ c.lines.reader _ so_far.0 _ c.next_line.new.self (g.S.Source.left c.next_line.new.source) (gives_none (IsTrue g.S.Source.told) c.lines.reader (g.S.Source.left c.lines.input) c.next_line.new.self (g.S.Source.left c.next_line.new.source) c.next_line.new.line.items c.in-Ok-false.field-0 no c.in-Ok-false.ensures.gives) (λ h quiet.
+    λ told. of_all _ _ _ c.lines.reader _ so_far.0 _ c.next_line.new.self (g.S.Source.left c.next_line.new.source)
+    (gives_none (IsTrue g.S.Source.told) c.lines.reader (g.S.Source.left c.lines.input) c.next_line.new.self (g.S.Source.left c.next_line.new.source)
+    c.next_line.new.line.items c.in-Ok-false.field-0 no c.in-Ok-false.ensures.gives) (λ h quiet.
     halted_keeps (g.F.Pages.files c.args.folder.now) (g.F.Pages.files c.finish.new.folder) c.finish.result c.halted.result c.halted.ensures
     (stop_after _ _ _ c.finish.result ((so_far.2 told h).kept [] quiet).0 (c.finish.ensures.undone told (c.lines.invariant.trusts told h))))
 
 pub returns-in-Ok-false-clause-evident : goal.returns-in-Ok-false-clause-evident
 returns-in-Ok-false-clause-evident g c =
     halted_shows _ c.finish.result c.halted.result c.halted.ensures
-    (stop_less (IsTrue g.F.Pages.told × Trusts g.row.D (g.F.Pages.files c.lines.folder) c.lines.session) (IsTrue g.F.Pages.told × Trusts g.row.D (g.F.Pages.files c.args.folder.now) c.args.session.now)
+    (stop_less (IsTrue g.F.Pages.told × Trusts g.row.D (g.F.Pages.files c.lines.folder) c.lines.session)
+    (IsTrue g.F.Pages.told × Trusts g.row.D (g.F.Pages.files c.args.folder.now) c.args.session.now)
     (g.F.Pages.files c.finish.new.folder) c.finish.result (λ p. (p.0, c.lines.invariant.trusts p.0 p.1)) c.finish.ensures.evident)
 
 pub returns-in-Err-Failed-clause-does : goal.returns-in-Err-Failed-clause-does
 returns-in-Err-Failed-clause-does g c =
     let so_far = c.lines.invariant.so_far in
-    λ told. of_left _ _ _ c.lines.reader _ so_far.0 _ (λ i stored h. going_halts c.args.work.now.language _ g.row.D _ _ i stored _ _ _ _ _ _ _ _ (so_far.1 told i stored h (lines_left c.lines.reader (g.S.Source.left c.lines.input))) _)
+    λ told. of_left _ _ _ c.lines.reader _ so_far.0
+    _ (λ i stored h. going_halts c.args.work.now.language _ g.row.D _ _ i stored
+    _ _ _ _ _ _ _ _ (so_far.1 told i stored h (lines_left c.lines.reader (g.S.Source.left c.lines.input))) _)
 
 pub returns-in-Err-Failed-clause-source : goal.returns-in-Err-Failed-clause-source
 returns-in-Err-Failed-clause-source g c =
     let cause = rw c.in-Err-Failed.field-0-is at c.in-Err-Failed.ensures.cause in
-    record { later = omega (arith, c.lines.invariant.source_later, cause.later); failed = λ e. rose_from _ _ _ c.lines.invariant.source_later (cause.failed refl) }
+    record {
+      later = omega (arith, c.lines.invariant.source_later, cause.later);
+      failed = λ e. rose_from _ _ _ c.lines.invariant.source_later (cause.failed refl);
+    }
 
 pub returns-in-Err-Failed-clause-undone : goal.returns-in-Err-Failed-clause-undone
 returns-in-Err-Failed-clause-undone g c =
@@ -150,7 +181,9 @@ returns-in-Err-Failed-clause-undone g c =
 pub returns-in-Err-Memory-clause-does : goal.returns-in-Err-Memory-clause-does
 returns-in-Err-Memory-clause-does g c =
     let so_far = c.lines.invariant.so_far in
-    λ told. of_left _ _ _ c.lines.reader _ so_far.0 _ (λ i stored h. going_wants c.args.work.now.language _ g.row.D _ _ i stored _ _ _ _ _ _ _ _ (so_far.1 told i stored h (lines_left c.lines.reader (g.S.Source.left c.lines.input))) _)
+    λ told. of_left _ _ _ c.lines.reader _ so_far.0
+    _ (λ i stored h. going_wants c.args.work.now.language _ g.row.D _ _ i stored
+    _ _ _ _ _ _ _ _ (so_far.1 told i stored h (lines_left c.lines.reader (g.S.Source.left c.lines.input))) _)
 
 pub returns-in-Err-Memory-clause-cause : goal.returns-in-Err-Memory-clause-cause
 returns-in-Err-Memory-clause-cause g c = memory_cause _ _ _ _ c.lines.invariant.folder_later c.lines.invariant.sink_later
@@ -166,7 +199,9 @@ returns-in-Err-Memory-clause-undone g c =
 pub returns-clause-does : goal.returns-clause-does
 returns-clause-does g c =
     let so_far = c.lines.invariant.so_far in
-    λ told. of_left _ _ _ c.lines.reader _ so_far.0 _ (λ i stored h. going_wants c.args.work.now.language _ g.row.D _ _ i stored _ _ _ _ _ _ _ _ (so_far.1 told i stored h (lines_left c.lines.reader (g.S.Source.left c.lines.input))) _)
+    λ told. of_left _ _ _ c.lines.reader _ so_far.0
+    _ (λ i stored h. going_wants c.args.work.now.language _ g.row.D _ _ i stored
+    _ _ _ _ _ _ _ _ (so_far.1 told i stored h (lines_left c.lines.reader (g.S.Source.left c.lines.input))) _)
 
 pub returns-clause-cause : goal.returns-clause-cause
 returns-clause-cause g c = memory_cause _ _ _ _ c.lines.invariant.folder_later c.lines.invariant.sink_later

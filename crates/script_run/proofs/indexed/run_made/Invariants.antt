@@ -9,11 +9,13 @@ use Rattle.script_run.proofs.indexed.run_made.Given as goal
 abbrev pub invariant-lines : goal.invariant-lines
 invariant-lines g l = record {
   so_far : (has : HasRead (IsTrue g.S.Source.told) l.initial.reader (g.S.Source.left l.initial.input) l.reader (g.S.Source.left l.input))
-      × (IsTrue g.F.Pages.told → (i : Index) → (stored : State) → Stands g.row.D (g.F.Pages.files l.initial.folder) l.initial.session i stored → (more : List (List ℕ))
+      × (IsTrue g.F.Pages.told → (i : Index) → (stored : State) → Stands g.row.D (g.F.Pages.files l.initial.folder) l.initial.session i stored
+      → (more : List (List ℕ))
       → Going l.fn.work.language (IsTrue g.K.Sink.told) g.row.D l.fn.tally.line l.fn.tally.refused i stored (g.K.Sink.written l.initial.out)
       (record { files = g.F.Pages.files l.initial.folder; session = l.initial.session; reads = g.F.Pages.reads l.initial.folder }) (has.lines ++ more)
       (record { files = g.F.Pages.files l.folder; session = l.session; reads = g.F.Pages.reads l.folder }) l.line l.refused more (g.K.Sink.written l.out))
-      × (IsTrue g.F.Pages.told → Trusts g.row.D (g.F.Pages.files l.initial.folder) l.initial.session → Quiet l.fn.work.language g.row.D has.lines (g.F.Pages.files l.initial.folder) (g.F.Pages.files l.folder));
+      × (IsTrue g.F.Pages.told → Trusts g.row.D (g.F.Pages.files l.initial.folder) l.initial.session
+      → Quiet l.fn.work.language g.row.D has.lines (g.F.Pages.files l.initial.folder) (g.F.Pages.files l.folder));
   trusts : IsTrue g.F.Pages.told → Trusts g.row.D (g.F.Pages.files l.initial.folder) l.initial.session → Trusts g.row.D (g.F.Pages.files l.folder) l.session;
   counted : l.refused ≤ l.line;
   folder_later : g.F.Pages.faults l.initial.folder ≤ g.F.Pages.faults l.folder;

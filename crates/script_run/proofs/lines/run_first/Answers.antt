@@ -33,8 +33,10 @@ pub lines-preserved : goal.lines-preserved
 lines-preserved g c =
     let so_far = c.lines.invariant.so_far in
     let yes : c.in-Ok-true.field-0 ≡ true = search rules in
-    let gives = gives_line (IsTrue g.S.Source.told) c.lines.reader (g.S.Source.left c.lines.input) c.next_line.new.self (g.S.Source.left c.next_line.new.source) c.next_line.new.line.items c.in-Ok-true.field-0 yes c.in-Ok-true.ensures.gives in
-    let is = first_alike c.args.work.now.language c.lines.line gives.line c.as_slice.result.now (reads_alike c.args.work.now.language None gives.line c.next_line.new.line.items c.as_slice.result.now gives.bytes_are c.as_slice.ensures.value) in
+    let gives = gives_line (IsTrue g.S.Source.told) c.lines.reader (g.S.Source.left c.lines.input) c.next_line.new.self (g.S.Source.left c.next_line.new.source)
+    c.next_line.new.line.items c.in-Ok-true.field-0 yes c.in-Ok-true.ensures.gives in
+    let is = first_alike c.args.work.now.language c.lines.line gives.line c.as_slice.result.now
+    (reads_alike c.args.work.now.language None gives.line c.next_line.new.line.items c.as_slice.result.now gives.bytes_are c.as_slice.ensures.value) in
     let same = rw c.in-Ok-Nothing.field-0-is at c.in-Ok-Nothing.ensures.opening in
     let state = ap (λ (a : Answer). a.state) is ∙ same.state in
     record {
@@ -59,8 +61,10 @@ pub returns-in-Ok-Made-clause-does : goal.returns-in-Ok-Made-clause-does
 returns-in-Ok-Made-clause-does g c =
     let so_far = c.lines.invariant.so_far in
     let yes : c.in-Ok-true.field-0 ≡ true = search rules in
-    let gives = gives_line (IsTrue g.S.Source.told) c.lines.reader (g.S.Source.left c.lines.input) c.next_line.new.self (g.S.Source.left c.next_line.new.source) c.next_line.new.line.items c.in-Ok-true.field-0 yes c.in-Ok-true.ensures.gives in
-    let is = first_alike c.args.work.now.language c.lines.line gives.line c.as_slice.result.now (reads_alike c.args.work.now.language None gives.line c.next_line.new.line.items c.as_slice.result.now gives.bytes_are c.as_slice.ensures.value) in
+    let gives = gives_line (IsTrue g.S.Source.told) c.lines.reader (g.S.Source.left c.lines.input) c.next_line.new.self (g.S.Source.left c.next_line.new.source)
+    c.next_line.new.line.items c.in-Ok-true.field-0 yes c.in-Ok-true.ensures.gives in
+    let is = first_alike c.args.work.now.language c.lines.line gives.line c.as_slice.result.now
+    (reads_alike c.args.work.now.language None gives.line c.next_line.new.line.items c.as_slice.result.now gives.bytes_are c.as_slice.ensures.value) in
     let made = rw c.in-Ok-Made.field-0-is at c.in-Ok-Made.ensures.opening in
     let same = ap (λ f. g.F.Pages.files f) c.lines.invariant.folder in
     let state = ap (λ (a : Answer). a.state) is ∙ made.0 in
@@ -70,7 +74,8 @@ returns-in-Ok-Made-clause-does g c =
     let still : g.F.Pages.files c.lines.folder Commit ≡ None = rw same none in
     let done = does (new_index c.in-Ok-Made.dims c.in-Ok-Made.leaf) None (still, refl, refl) in
     rw (append_assoc so_far.0.lines (gives.line ∷ []) ls) (
-      made_ends c.args.work.now.language _ _ _ _ _ so.0 gives.line ls refl (new_index c.in-Ok-Made.dims c.in-Ok-Made.leaf) _ state (ap (λ (a : Answer). a.refused) is ∙ made.1)
+      made_ends c.args.work.now.language _ _ _ _ _ so.0 gives.line ls refl (new_index c.in-Ok-Made.dims c.in-Ok-Made.leaf) _ state
+          (ap (λ (a : Answer). a.refused) is ∙ made.1)
           (λ sink. c.in-Ok-Made.ensures.text sink ∙ ap (λ (a : Answer). g.K.Sink.written c.lines.out ++ a.text) (sym is)) _ _ c.run_from.result done.0,
       leads_same c.args.work.now.language None _ _ _ _ _ _ _ c.run_from.result same (ap (λ f. g.F.Pages.reads f) c.lines.invariant.folder)
           (made_leads c.args.work.now.language _ _ _ so.1 gives.line ls refl c.in-Ok-Made.dims c.in-Ok-Made.leaf state _ _ _ _ still c.run_from.result done.1),
@@ -80,13 +85,15 @@ returns-in-Ok-Made-clause-does g c =
 pub returns-in-Ok-Made-clause-read : goal.returns-in-Ok-Made-clause-read
 returns-in-Ok-Made-clause-read g c =
     let yes : c.in-Ok-true.field-0 ≡ true = search rules in
-    let gives = gives_line (IsTrue g.S.Source.told) c.lines.reader (g.S.Source.left c.lines.input) c.next_line.new.self (g.S.Source.left c.next_line.new.source) c.next_line.new.line.items c.in-Ok-true.field-0 yes c.in-Ok-true.ensures.gives in
+    let gives = gives_line (IsTrue g.S.Source.told) c.lines.reader (g.S.Source.left c.lines.input) c.next_line.new.self (g.S.Source.left c.next_line.new.source)
+    c.next_line.new.line.items c.in-Ok-true.field-0 yes c.in-Ok-true.ensures.gives in
     λ source knows. c.run_from.ensures.read source (gives.ended source (c.lines.invariant.so_far.0.ended source knows))
 
 pub returns-in-Ok-Made-clause-cause : goal.returns-in-Ok-Made-clause-cause
 returns-in-Ok-Made-clause-cause g c =
     let same = ap (λ f. g.F.Pages.faults f) c.lines.invariant.folder in
-    halt_cause_from _ _ _ _ _ _ c.run_from.result (omega (arith, same)) (omega (arith, c.lines.invariant.sink_later, c.answer_first.ensures.later)) c.run_from.ensures.cause
+    halt_cause_from _ _ _ _ _ _ c.run_from.result (omega (arith, same)) (omega (arith, c.lines.invariant.sink_later, c.answer_first.ensures.later))
+    c.run_from.ensures.cause
 
 pub returns-in-Ok-Made-clause-source : goal.returns-in-Ok-Made-clause-source
 returns-in-Ok-Made-clause-source g c =
@@ -101,13 +108,18 @@ pub returns-in-Err-clause-does : goal.returns-in-Err-clause-does
 returns-in-Err-clause-does g c =
     let so_far = c.lines.invariant.so_far in
     let yes : c.in-Ok-true.field-0 ≡ true = search rules in
-    let gives = gives_line (IsTrue g.S.Source.told) c.lines.reader (g.S.Source.left c.lines.input) c.next_line.new.self (g.S.Source.left c.next_line.new.source) c.next_line.new.line.items c.in-Ok-true.field-0 yes c.in-Ok-true.ensures.gives in
-    let is = first_alike c.args.work.now.language c.lines.line gives.line c.as_slice.result.now (reads_alike c.args.work.now.language None gives.line c.next_line.new.line.items c.as_slice.result.now gives.bytes_are c.as_slice.ensures.value) in
+    let gives = gives_line (IsTrue g.S.Source.told) c.lines.reader (g.S.Source.left c.lines.input) c.next_line.new.self (g.S.Source.left c.next_line.new.source)
+    c.next_line.new.line.items c.in-Ok-true.field-0 yes c.in-Ok-true.ensures.gives in
+    let is = first_alike c.args.work.now.language c.lines.line gives.line c.as_slice.result.now
+    (reads_alike c.args.work.now.language None gives.line c.next_line.new.line.items c.as_slice.result.now gives.bytes_are c.as_slice.ensures.value) in
     let same = ap (λ f. g.F.Pages.files f) c.lines.invariant.folder in
     λ told. of_line _ _ _ c.lines.reader _ so_far.0 _ _ _ _ gives (λ none.
     let still : g.F.Pages.files c.lines.folder Commit ≡ None = rw same none in (
-      stops_first c.args.work.now.language _ (g.F.Pages.files c.lines.folder) _ _ _ _ _ (so_far.1 (gives.line ∷ lines_left c.next_line.new.self (g.S.Source.left c.next_line.new.source))).0 still gives.line _ refl c.in-Err.stop c.in-Err.ensures.cause
-          (λ sink. subst (λ (a : Answer). IsCut a.text (g.K.Sink.written c.lines.out) (g.K.Sink.written c.answer_first.new.out) c.in-Err.stop) (sym is) (c.in-Err.ensures.text sink)),
+      stops_first c.args.work.now.language _ (g.F.Pages.files c.lines.folder)
+          _ _ _ _ _ (so_far.1 (gives.line ∷ lines_left c.next_line.new.self (g.S.Source.left c.next_line.new.source))).0 still gives.line _ refl c.in-Err.stop
+          c.in-Err.ensures.cause
+          (λ sink. subst (λ (a : Answer). IsCut a.text (g.K.Sink.written c.lines.out) (g.K.Sink.written c.answer_first.new.out) c.in-Err.stop) (sym is)
+          (c.in-Err.ensures.text sink)),
       leads_none c.args.work.now.language None _ _ _ _ _ _ same (ap (λ f. g.F.Pages.reads f) c.lines.invariant.folder),
     ))
 
@@ -127,7 +139,9 @@ returns-in-Ok-false-clause-does g c =
     let no : c.in-Ok-false.field-0 ≡ false = search rules in
     let so_far = c.lines.invariant.so_far in
     let same = ap (λ f. g.F.Pages.files f) c.lines.invariant.folder in
-    λ told. of_all _ _ _ c.lines.reader _ so_far.0 _ c.next_line.new.self (g.S.Source.left c.next_line.new.source) (gives_none (IsTrue g.S.Source.told) c.lines.reader (g.S.Source.left c.lines.input) c.next_line.new.self (g.S.Source.left c.next_line.new.source) c.next_line.new.line.items c.in-Ok-false.field-0 no c.in-Ok-false.ensures.gives) (λ none.
+    λ told. of_all _ _ _ c.lines.reader _ so_far.0 _ c.next_line.new.self (g.S.Source.left c.next_line.new.source)
+    (gives_none (IsTrue g.S.Source.told) c.lines.reader (g.S.Source.left c.lines.input) c.next_line.new.self (g.S.Source.left c.next_line.new.source)
+    c.next_line.new.line.items c.in-Ok-false.field-0 no c.in-Ok-false.ensures.gives) (λ none.
     let still : g.F.Pages.files c.lines.folder Commit ≡ None = rw same none in (
       finishes_first c.args.work.now.language _ _ _ _ _ (so_far.1 []).0 (g.F.Pages.files c.lines.folder) still refl,
       leads_none c.args.work.now.language None _ _ _ _ _ _ same (ap (λ f. g.F.Pages.reads f) c.lines.invariant.folder),
@@ -136,7 +150,8 @@ returns-in-Ok-false-clause-does g c =
 pub returns-in-Ok-false-clause-read : goal.returns-in-Ok-false-clause-read
 returns-in-Ok-false-clause-read g c =
     let no : c.in-Ok-false.field-0 ≡ false = search rules in
-    let none = gives_none (IsTrue g.S.Source.told) c.lines.reader (g.S.Source.left c.lines.input) c.next_line.new.self (g.S.Source.left c.next_line.new.source) c.next_line.new.line.items c.in-Ok-false.field-0 no c.in-Ok-false.ensures.gives in
+    let none = gives_none (IsTrue g.S.Source.told) c.lines.reader (g.S.Source.left c.lines.input) c.next_line.new.self (g.S.Source.left c.next_line.new.source)
+    c.next_line.new.line.items c.in-Ok-false.field-0 no c.in-Ok-false.ensures.gives in
     λ source knows. (none source (c.lines.invariant.so_far.0.ended source knows)).1
 
 pub returns-in-Ok-false-clause-cause : goal.returns-in-Ok-false-clause-cause
@@ -156,7 +171,8 @@ returns-in-Err-Failed-clause-does g c =
     let same = ap (λ f. g.F.Pages.files f) c.lines.invariant.folder in
     λ told. of_left _ _ _ c.lines.reader _ so_far.0 _ (λ none.
     let still : g.F.Pages.files c.lines.folder Commit ≡ None = rw same none in (
-      halts_first c.args.work.now.language _ _ _ _ _ (so_far.1 (lines_left c.lines.reader (g.S.Source.left c.lines.input))).0 (g.F.Pages.files c.lines.folder) still,
+      halts_first c.args.work.now.language _ _ _ _ _ (so_far.1 (lines_left c.lines.reader (g.S.Source.left c.lines.input))).0 (g.F.Pages.files c.lines.folder)
+          still,
       leads_none c.args.work.now.language None _ _ _ _ _ _ same (ap (λ f. g.F.Pages.reads f) c.lines.invariant.folder),
     ))
 
@@ -166,7 +182,10 @@ returns-in-Err-Failed-clause-cause g c = (omega (arith, ap (λ f. g.F.Pages.faul
 pub returns-in-Err-Failed-clause-source : goal.returns-in-Err-Failed-clause-source
 returns-in-Err-Failed-clause-source g c =
     let cause = rw c.in-Err-Failed.field-0-is at c.in-Err-Failed.ensures.cause in
-    record { later = omega (arith, c.lines.invariant.source_later, cause.later); failed = λ e. rose_from _ _ _ c.lines.invariant.source_later (cause.failed refl) }
+    record {
+      later = omega (arith, c.lines.invariant.source_later, cause.later);
+      failed = λ e. rose_from _ _ _ c.lines.invariant.source_later (cause.failed refl);
+    }
 
 pub returns-in-Err-Memory-clause-does : goal.returns-in-Err-Memory-clause-does
 returns-in-Err-Memory-clause-does g c =
@@ -174,12 +193,14 @@ returns-in-Err-Memory-clause-does g c =
     let same = ap (λ f. g.F.Pages.files f) c.lines.invariant.folder in
     λ told. of_left _ _ _ c.lines.reader _ so_far.0 _ (λ none.
     let still : g.F.Pages.files c.lines.folder Commit ≡ None = rw same none in (
-      memory_first c.args.work.now.language _ _ _ _ _ (so_far.1 (lines_left c.lines.reader (g.S.Source.left c.lines.input))).0 (g.F.Pages.files c.lines.folder) still,
+      memory_first c.args.work.now.language _ _ _ _ _ (so_far.1 (lines_left c.lines.reader (g.S.Source.left c.lines.input))).0 (g.F.Pages.files c.lines.folder)
+          still,
       leads_none c.args.work.now.language None _ _ _ _ _ _ same (ap (λ f. g.F.Pages.reads f) c.lines.invariant.folder),
     ))
 
 pub returns-in-Err-Memory-clause-cause : goal.returns-in-Err-Memory-clause-cause
-returns-in-Err-Memory-clause-cause g c = memory_cause _ _ _ _ (omega (arith, ap (λ f. g.F.Pages.faults f) c.lines.invariant.folder)) c.lines.invariant.sink_later
+returns-in-Err-Memory-clause-cause g c =
+    memory_cause _ _ _ _ (omega (arith, ap (λ f. g.F.Pages.faults f) c.lines.invariant.folder)) c.lines.invariant.sink_later
 
 pub returns-in-Err-Memory-clause-source : goal.returns-in-Err-Memory-clause-source
 returns-in-Err-Memory-clause-source g c = no_source _ _ _ (omega (arith, c.lines.invariant.source_later, c.in-Err-Memory.ensures.cause.later)) (λ e. cc)
@@ -190,7 +211,8 @@ returns-clause-does g c =
     let same = ap (λ f. g.F.Pages.files f) c.lines.invariant.folder in
     λ told. of_left _ _ _ c.lines.reader _ so_far.0 _ (λ none.
     let still : g.F.Pages.files c.lines.folder Commit ≡ None = rw same none in (
-      memory_first c.args.work.now.language _ _ _ _ _ (so_far.1 (lines_left c.lines.reader (g.S.Source.left c.lines.input))).0 (g.F.Pages.files c.lines.folder) still,
+      memory_first c.args.work.now.language _ _ _ _ _ (so_far.1 (lines_left c.lines.reader (g.S.Source.left c.lines.input))).0 (g.F.Pages.files c.lines.folder)
+          still,
       leads_none c.args.work.now.language None _ _ _ _ _ _ same (ap (λ f. g.F.Pages.reads f) c.lines.invariant.folder),
     ))
 

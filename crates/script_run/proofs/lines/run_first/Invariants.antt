@@ -10,7 +10,9 @@ use Rattle.script_run.specs.Languages.{meaning}
 abbrev pub invariant-lines : goal.invariant-lines
 invariant-lines g l = record {
   so_far : (has : HasRead (IsTrue g.S.Source.told) l.initial.reader (g.S.Source.left l.initial.input) l.reader (g.S.Source.left l.input))
-      × ((more : List (List ℕ)) → Progress (meaning l.fn.work.language) (IsTrue g.K.Sink.told) (place_off 1 0 (has.lines ++ more) (g.K.Sink.written l.initial.out)) (place_off l.line l.refused more (g.K.Sink.written l.out))
+      × ((more : List (List ℕ))
+      → Progress (meaning l.fn.work.language) (IsTrue g.K.Sink.told) (place_off 1 0 (has.lines ++ more) (g.K.Sink.written l.initial.out))
+      (place_off l.line l.refused more (g.K.Sink.written l.out))
       × Nears l.fn.work.language (has.lines ++ more) l.line more);
   counted : l.refused ≤ l.line;
   folder : l.folder ≡ l.initial.folder;

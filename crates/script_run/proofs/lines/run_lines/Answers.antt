@@ -24,7 +24,8 @@ returns-in-Err-clause-does g c = λ told. (
   lines_of (g.S.Source.left c.args.input.now),
   λ source. refl,
   λ state h. (
-    stops_here {told = IsTrue g.K.Sink.told} (meaning c.args.work.now.language) (start state (lines_of (g.S.Source.left c.args.input.now)) (g.K.Sink.written c.args.out.now)) _ _ (λ _. refl) (inl h),
+    stops_here {told = IsTrue g.K.Sink.told} (meaning c.args.work.now.language)
+        (start state (lines_of (g.S.Source.left c.args.input.now)) (g.K.Sink.written c.args.out.now)) _ _ (λ _. refl) (inl h),
     leads_none c.args.work.now.language state _ _ _ _ _ _ refl refl,
   ),
 )

@@ -13,7 +13,8 @@ use Rattle.script_run.proofs.Halting.{halt_cause_from, halt_less, halted_no_sour
 use Rattle.script_run.proofs.Lined.{unopened, fault_cause, from_none, from_some, not_damaged}
 use Rattle.script_run.proofs.Reading.{of_any, of_same}
 use Rattle.script_run.proofs.Shown.{fault_at, fault_shows, says_after}
-use Rattle.script_run.proofs.Starting.{leads_first, leads_some, leads_unread}
+use Rattle.script_run.proofs.Starting.{leads_some}
+use Rattle.script_run.proofs.StartStored.{leads_first, leads_unread}
 use Rattle.script_run.proofs.lines.run_read.Goals as goal
 use Rattle.script_run.specs.Languages.{meaning}
 
@@ -21,8 +22,10 @@ pub returns-in-Ok-None-clause-does : goal.returns-in-Ok-None-clause-does
 returns-in-Ok-None-clause-does g c = λ told.
     let none = rw c.in-Ok-None.field-0-is at (c.in-Ok-None.ensures.found told) in
     of_same _ c.args.reader.now (g.S.Source.left c.args.input.now) _ _ (λ lines does state h. (
-      from_none c.args.work.now.language (IsTrue g.K.Sink.told) _ _ _ _ state (c.in-Ok-None.ensures.files told) none h lines _ c.run_first.result (λ still. (does still).0),
-      leads_first c.args.work.now.language state lines _ _ _ _ _ _ c.run_first.result (c.in-Ok-None.ensures.files told) h none (c.in-Ok-None.ensures.unread told none) (λ still. (does still).1),
+      from_none c.args.work.now.language (IsTrue g.K.Sink.told) _ _ _ _ state (c.in-Ok-None.ensures.files told) none h lines _ c.run_first.result
+          (λ still. (does still).0),
+      leads_first c.args.work.now.language state lines _ _ _ _ _ _ c.run_first.result (c.in-Ok-None.ensures.files told) h none
+          (c.in-Ok-None.ensures.unread told none) (λ still. (does still).1),
     )) (c.run_first.ensures.does told)
 
 pub returns-in-Ok-None-clause-cause : goal.returns-in-Ok-None-clause-cause
@@ -32,8 +35,10 @@ pub returns-in-Ok-Some-clause-does : goal.returns-in-Ok-Some-clause-does
 returns-in-Ok-Some-clause-does g c = λ told.
     let says = rw c.in-Ok-Some.field-0-is at (c.in-Ok-Some.ensures.found told) in
     of_same _ c.args.reader.now (g.S.Source.left c.args.input.now) _ _ (λ lines does state h. (
-      from_some c.args.work.now.language (IsTrue g.K.Sink.told) _ _ _ _ c.in-Ok-Some.commit state (c.in-Ok-Some.ensures.files told) says h lines _ c.run_from.result (λ i stored from. (does i stored from).0),
-      leads_some c.args.work.now.language state lines _ _ _ _ _ _ c.run_from.result (c.in-Ok-Some.ensures.files told) h c.in-Ok-Some.commit says (c.in-Ok-Some.ensures.most told c.in-Ok-Some.commit says) (λ i stored from. (does i stored from).1),
+      from_some c.args.work.now.language (IsTrue g.K.Sink.told) _ _ _ _ c.in-Ok-Some.commit state (c.in-Ok-Some.ensures.files told) says h lines
+          _ c.run_from.result (λ i stored from. (does i stored from).0),
+      leads_some c.args.work.now.language state lines _ _ _ _ _ _ c.run_from.result (c.in-Ok-Some.ensures.files told) h c.in-Ok-Some.commit says
+          (c.in-Ok-Some.ensures.most told c.in-Ok-Some.commit says) (λ i stored from. (does i stored from).1),
     )) (c.run_from.ensures.does told)
 
 pub returns-in-Ok-Some-clause-cause : goal.returns-in-Ok-Some-clause-cause
@@ -41,14 +46,19 @@ returns-in-Ok-Some-clause-cause g c = halt_cause_from _ _ _ _ _ _ c.run_from.res
 
 pub returns-in-Err-clause-does : goal.returns-in-Err-clause-does
 returns-in-Err-clause-does g c = λ told. of_any _ c.args.reader.now (g.S.Source.left c.args.input.now) _ (λ lines state h. (
-  halted_ends (meaning c.args.work.now.language) (IsTrue g.K.Sink.told) (start state lines (g.K.Sink.written c.args.out.now)) _ _ c.stopped.result c.halted.result c.halted.ensures
+  halted_ends (meaning c.args.work.now.language) (IsTrue g.K.Sink.told) (start state lines (g.K.Sink.written c.args.out.now)) _ _ c.stopped.result
+      c.halted.result c.halted.ensures
       (unopened c.args.work.now.language (IsTrue g.K.Sink.told) (start state lines (g.K.Sink.written c.args.out.now)) _ _ _ c.in-Err.fault
-      (not_damaged (g.F.Pages.files c.args.folder.now) state h (c.in-Err.ensures.absent told) (c.in-Err.ensures.whole told)) (c.in-Err.ensures.files told) h c.stopped.result c.stopped.ensures refl),
-  leads_unread c.args.work.now.language state lines _ _ _ _ c.halted.result _ (c.in-Err.ensures.files told) (c.in-Err.ensures.unread told) (c.in-Err.ensures.most told) (c.halted.ensures ∙ ap halted c.stopped.ensures),
+      (not_damaged (g.F.Pages.files c.args.folder.now) state h (c.in-Err.ensures.absent told) (c.in-Err.ensures.whole told)) (c.in-Err.ensures.files told) h
+      c.stopped.result c.stopped.ensures refl),
+  leads_unread c.args.work.now.language state lines _ _ _ _ c.halted.result _ (c.in-Err.ensures.files told) (c.in-Err.ensures.unread told)
+      (c.in-Err.ensures.most told) (c.halted.ensures ∙ ap halted c.stopped.ensures),
 ))
 
 pub returns-in-Err-clause-cause : goal.returns-in-Err-clause-cause
-returns-in-Err-clause-cause g c = halted_cause _ _ _ _ c.stopped.result c.halted.result c.halted.ensures (fault_cause _ _ _ c.in-Err.fault c.in-Err.ensures.cause c.stopped.result c.stopped.ensures)
+returns-in-Err-clause-cause g c =
+    halted_cause _ _ _ _ c.stopped.result c.halted.result c.halted.ensures
+    (fault_cause _ _ _ c.in-Err.fault c.in-Err.ensures.cause c.stopped.result c.stopped.ensures)
 
 pub returns-in-Err-clause-source : goal.returns-in-Err-clause-source
 returns-in-Err-clause-source g c = no_source _ _ c.halted.result (omega arith) (halted_no_source c.stopped.result c.halted.result c.halted.ensures)
@@ -58,22 +68,30 @@ returns-in-Err-clause-read g c = λ source knows. rw (c.halted.ensures, c.stoppe
 
 pub returns-in-Ok-None-clause-evident : goal.returns-in-Ok-None-clause-evident
 returns-in-Ok-None-clause-evident g c =
-    halt_less _ _ _ c.run_first.result (λ told. (told, ap (λ (f : Files). f Commit) (c.in-Ok-None.ensures.files told) ∙ rw c.in-Ok-None.field-0-is at (c.in-Ok-None.ensures.found told))) c.run_first.ensures.evident
+    halt_less _ _ _ c.run_first.result
+    (λ told. (told, ap (λ (f : Files). f Commit) (c.in-Ok-None.ensures.files told) ∙ rw c.in-Ok-None.field-0-is at (c.in-Ok-None.ensures.found told)))
+    c.run_first.ensures.evident
 
 pub returns-in-Ok-Some-clause-evident : goal.returns-in-Ok-Some-clause-evident
 returns-in-Ok-Some-clause-evident g c =
-    halt_less _ _ _ c.run_from.result (λ told. (told, says_after _ _ c.in-Ok-Some.commit (c.in-Ok-Some.ensures.files told) (rw c.in-Ok-Some.field-0-is at (c.in-Ok-Some.ensures.found told)))) c.run_from.ensures.evident
+    halt_less _ _ _ c.run_from.result
+    (λ told. (told, says_after _ _ c.in-Ok-Some.commit (c.in-Ok-Some.ensures.files told) (rw c.in-Ok-Some.field-0-is at (c.in-Ok-Some.ensures.found told))))
+    c.run_from.ensures.evident
 
 pub returns-in-Err-clause-evident : goal.returns-in-Err-clause-evident
 returns-in-Err-clause-evident g c =
     halted_shows _ c.stopped.result c.halted.result c.halted.ensures
     (fault_shows _ c.in-Err.fault
-    (fault_at _ _ _ _ c.in-Err.fault (λ told. told) c.in-Err.ensures.files (on_commit_evident {X = Option CommitData} (IsTrue g.F.Pages.told) (g.F.Pages.files c.args.folder.now) (Err c.in-Err.fault) c.in-Err.ensures.damage c.in-Err.ensures.shown))
+    (fault_at _ _ _ _ c.in-Err.fault (λ told. told) c.in-Err.ensures.files
+    (on_commit_evident {X = Option CommitData} (IsTrue g.F.Pages.told) (g.F.Pages.files c.args.folder.now) (Err c.in-Err.fault) c.in-Err.ensures.damage
+    c.in-Err.ensures.shown))
     c.stopped.result c.stopped.ensures)
 
 pub returns-in-Ok-None-clause-undone : goal.returns-in-Ok-None-clause-undone
 returns-in-Ok-None-clause-undone g c = λ told.
-    of_any _ c.args.reader.now (g.S.Source.left c.args.input.now) _ (λ lines listed says quiet. absurd (no_commit (g.F.Pages.files c.args.folder.now) listed says (rw c.in-Ok-None.field-0-is at (c.in-Ok-None.ensures.found told))))
+    of_any _ c.args.reader.now (g.S.Source.left c.args.input.now)
+    _ (λ lines listed says quiet.
+    absurd (no_commit (g.F.Pages.files c.args.folder.now) listed says (rw c.in-Ok-None.field-0-is at (c.in-Ok-None.ensures.found told))))
 
 pub returns-in-Ok-Some-clause-undone : goal.returns-in-Ok-Some-clause-undone
 returns-in-Ok-Some-clause-undone g c = λ told.
@@ -88,4 +106,6 @@ pub returns-in-Err-clause-undone : goal.returns-in-Err-clause-undone
 returns-in-Err-clause-undone g c = λ told.
     of_any _ c.args.reader.now (g.S.Source.left c.args.input.now) _ (λ lines listed says quiet.
     halted_keeps (g.F.Pages.files c.args.folder.now) (g.F.Pages.files c.read_commit.new.folder) c.stopped.result c.halted.result c.halted.ensures
-    (rw c.stopped.ensures (fault_stops ℕ (g.F.Pages.files c.args.folder.now) (g.F.Pages.files c.read_commit.new.folder) c.in-Err.fault (fault_kept _ _ (kept_equal _ _ (c.in-Err.ensures.files told)) c.in-Err.fault))))
+    (rw c.stopped.ensures
+    (fault_stops ℕ (g.F.Pages.files c.args.folder.now) (g.F.Pages.files c.read_commit.new.folder) c.in-Err.fault
+    (fault_kept _ _ (kept_equal _ _ (c.in-Err.ensures.files told)) c.in-Err.fault))))

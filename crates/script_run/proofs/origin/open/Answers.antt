@@ -13,15 +13,18 @@ use Rattle.script_run.proofs.origin.open.Goals as goal
 
 pub create-requires : goal.create-requires
 create-requires g c =
-    let made = rw c.in-New.is at c.requires.made in
-    (session_fits g.row.D c.requires.few, ((c.requires.some, c.requires.few), (made.2, subst (λ (n : ℕ). c.in-New.leaf ≤ greatest_leaf n) (rw c.in-New.is at c.requires.dims) made.3)))
+    let made = rw c.in-New.is at c.requires.made in (
+      session_fits g.row.D c.requires.few,
+      ((c.requires.some, c.requires.few), (made.2, subst (λ (n : ℕ). c.in-New.leaf ≤ greatest_leaf n) (rw c.in-New.is at c.requires.dims) made.3)),
+    )
 
 pub attach-requires : goal.attach-requires
 attach-requires g c = (session_fits g.row.D c.requires.few, rw c.in-Stored.is at c.requires.dims)
 
 pub returns-in_ok-create-in-New-clause-stands : goal.returns-in_ok-create-in-New-clause-stands
 returns-in_ok-create-in-New-clause-stands g c = λ told i stored h.
-    made_stands g.row.D _ _ _ _ i stored (rw c.in-New.is at c.requires.dims) (c.in_ok-create-in-New.ensures.seen _) (c.in_ok-create-in-New.ensures.guards _) (rw c.in-New.is at h)
+    made_stands g.row.D _ _ _ _ i stored (rw c.in-New.is at c.requires.dims) (c.in_ok-create-in-New.ensures.seen _) (c.in_ok-create-in-New.ensures.guards _)
+    (rw c.in-New.is at h)
 
 pub returns-in_ok-create-in-New-clause-cause : goal.returns-in_ok-create-in-New-clause-cause
 returns-in_ok-create-in-New-clause-cause g c = page_none _ _
@@ -39,7 +42,8 @@ returns-in_err-create-in-New-clause-whole g c = λ told i stored h.
 pub returns-in-Stored-clause-stands : goal.returns-in-Stored-clause-stands
 returns-in-Stored-clause-stands g c = λ told i stored h.
     let from = rw c.in-Stored.is at h in
-    attached_stands g.row.D _ _ i stored c.attach.result (c.attach.ensures.seen told from.0 i from.1) (c.attach.ensures.guards told from.0) (c.attach.ensures.files told) from.1 from.2
+    attached_stands g.row.D _ _ i stored c.attach.result (c.attach.ensures.seen told from.0 i from.1) (c.attach.ensures.guards told from.0)
+    (c.attach.ensures.files told) from.1 from.2
 
 pub returns-in-Stored-clause-whole : goal.returns-in-Stored-clause-whole
 returns-in-Stored-clause-whole g c = λ told i stored h.
@@ -48,7 +52,9 @@ returns-in-Stored-clause-whole g c = λ told i stored h.
 
 pub returns-in_ok-create-in-New-clause-opens : goal.returns-in_ok-create-in-New-clause-opens
 returns-in_ok-create-in-New-clause-opens g c = λ told i stored h.
-    rw c.in-New.is (opens_new g.row.D _ _ _ _ _ i stored (rw c.in-New.is at c.requires.dims) c.in_ok-create-in-New.ensures.seen c.in_ok-create-in-New.ensures.bare (rw c.in-New.is at h))
+    rw c.in-New.is
+    (opens_new g.row.D _ _ _ _ _ i stored (rw c.in-New.is at c.requires.dims) c.in_ok-create-in-New.ensures.seen c.in_ok-create-in-New.ensures.bare
+    (rw c.in-New.is at h))
 
 pub returns-in_err-create-in-New-clause-opens : goal.returns-in_err-create-in-New-clause-opens
 returns-in_err-create-in-New-clause-opens g c = λ told i stored h.
@@ -59,12 +65,14 @@ pub returns-in-Stored-clause-opens : goal.returns-in-Stored-clause-opens
 returns-in-Stored-clause-opens g c = λ told i stored h.
     let from = rw c.in-Stored.is at h in
     rw c.in-Stored.is
-    (opens_stored g.row.D _ _ _ _ c.in-Stored.commit i stored (rw c.in-Stored.is at c.requires.dims) (c.attach.ensures.files told) from (c.attach.ensures.reads told) c.attach.result
+    (opens_stored g.row.D _ _ _ _ c.in-Stored.commit i stored (rw c.in-Stored.is at c.requires.dims) (c.attach.ensures.files told) from
+    (c.attach.ensures.reads told) c.attach.result
     (c.attach.ensures.seen told from.0 i from.1) (c.attach.ensures.guards told from.0) c.attach.ensures.unchanged c.attach.ensures.listed)
 
 pub returns-in_ok-create-in-New-clause-trusts : goal.returns-in_ok-create-in-New-clause-trusts
 returns-in_ok-create-in-New-clause-trusts g c = λ told there.
-    bare_trusts g.row.D _ _ (c.in_ok-create-in-New.ensures.guards _) (c.in_ok-create-in-New.ensures.faithful _) c.in_ok-create-in-New.ensures.bare (rw c.in-New.is at there)
+    bare_trusts g.row.D _ _ (c.in_ok-create-in-New.ensures.guards _) (c.in_ok-create-in-New.ensures.faithful _) c.in_ok-create-in-New.ensures.bare
+    (rw c.in-New.is at there)
 
 pub returns-in_err-create-in-New-clause-trusts : goal.returns-in_err-create-in-New-clause-trusts
 returns-in_err-create-in-New-clause-trusts g c = λ told there.
@@ -78,7 +86,8 @@ returns-in_err-create-in-New-clause-evident g c =
 
 pub returns-in-Stored-clause-trusts : goal.returns-in-Stored-clause-trusts
 returns-in-Stored-clause-trusts g c = λ told there.
-    attached_trusts g.row.D _ _ c.attach.result (c.attach.ensures.files told) (c.attach.ensures.guards told (rw c.in-Stored.is at there)) (c.attach.ensures.faithful told) (c.attach.ensures.traced told (rw c.in-Stored.is at there))
+    attached_trusts g.row.D _ _ c.attach.result (c.attach.ensures.files told) (c.attach.ensures.guards told (rw c.in-Stored.is at there))
+    (c.attach.ensures.faithful told) (c.attach.ensures.traced told (rw c.in-Stored.is at there))
 
 pub returns-in-Stored-clause-evident : goal.returns-in-Stored-clause-evident
 returns-in-Stored-clause-evident g c =

@@ -19,32 +19,39 @@ use Rattle.segment_file.proofs.leaf.leaf_in.Given as given
 use Rattle.segment_file.proofs.leaf.leaf_in.Goals as goal
 
 -- what is read is the place's part of the page that is viewed
-part : (g : given.Over) (c : goal.After-read_part g) → c.part_of-part.result.now ≡ part_of c.args.place.offset c.args.place.length c.noted_view-known.result.0.bytes.now.b
+part : (g : given.Over) (c : goal.After-read_part g)
+    → c.part_of-part.result.now ≡ part_of c.args.place.offset c.args.place.length c.noted_view-known.result.0.bytes.now.b
 part g c = c.part_of-part.ensures ∙ ap (λ (x : List ℕ). take c.args.place.length (drop c.args.place.offset x)) c.payload.ensures.bytes
 
 count : (g : given.Over) (c : goal.After-read_part g) (first : ℕ) (s : Spot) (path : Region) (len : ℕ) (own : Region)
     → IsAt {D = g.row.D} c.args.node.now first s path (Leaf len own) → c.count_of-count.result ≡ count_of c.args.head.now first
-count g c first s path len own at = c.count_of-count.ensures ∙ ap (λ (n : ℕ). count_of c.args.head.now n) (c.first_leaf.ensures.number first s path (Leaf len own) at)
+count g c first s path len own at =
+    c.count_of-count.ensures ∙ ap (λ (n : ℕ). count_of c.args.head.now n) (c.first_leaf.ensures.number first s path (Leaf len own) at)
 
 of_file : (g : given.Over) (c : goal.After-read_part g) (files : Files) → Rattle.page_cache.specs.Cache.Agrees files c.args.cache.now
     → c.noted_view-known.result.0.bytes.now.b ≡ page_at (bytes_of (files (Segment c.args.head.now.id))) (page_of c.args.head.now c.args.place.page)
 of_file g c files agrees = rw (← c.id.ensures, ← c.page_of.ensures) (c.noted_view-known.ensures.file files agrees)
 
-valid : (g : given.Over) (c : goal.After-read_part g) → IsPage 1 c.args.head.now.id (page_of c.args.head.now c.args.place.page) c.noted_view-known.result.0.bytes.now.b
-valid g c = let place = c.noted_view-known.ensures.place in rw (← c.id.ensures, ← c.page_of.ensures, ← place.0, ← place.1, ← place.2) c.noted_view-known.result.0.valid
+valid : (g : given.Over) (c : goal.After-read_part g)
+    → IsPage 1 c.args.head.now.id (page_of c.args.head.now c.args.place.page) c.noted_view-known.result.0.bytes.now.b
+valid g c =
+    let place = c.noted_view-known.ensures.place in
+    rw (← c.id.ensures, ← c.page_of.ensures, ← place.0, ← place.1, ← place.2) c.noted_view-known.result.0.valid
 
 pub returns-clause-some : goal.returns-clause-some
 returns-clause-some g c =
     some_weaker c.read_part.result _ _
     (λ view h files first s path len own agrees at place.
-    holds_leaf g.row.D (bytes_of (files (Segment c.args.head.now.id))) c.noted_view-known.result.0.bytes.now.b c.args.head.now first s len own view c.args.place (of_file g c files agrees) (valid g c) place
+    holds_leaf g.row.D (bytes_of (files (Segment c.args.head.now.id))) c.noted_view-known.result.0.bytes.now.b c.args.head.now first s len own view c.args.place
+    (of_file g c files agrees) (valid g c) place
     (rw (part g c, count g c first s path len own at, c.cell-cell.ensures first s path (Leaf len own) at) at h))
     c.read_part.ensures.some
 
 pub returns-clause-count : goal.returns-clause-count
 returns-clause-count g c =
     some_weaker c.read_part.result _ _
-    (λ view h first s path t at. h.counted ∙ c.count_of-count.ensures ∙ ap (λ (n : ℕ). count_of c.args.head.now n) (c.first_leaf.ensures.number first s path t at))
+    (λ view h first s path t at.
+    h.counted ∙ c.count_of-count.ensures ∙ ap (λ (n : ℕ). count_of c.args.head.now n) (c.first_leaf.ensures.number first s path t at))
     c.read_part.ensures.some
 
 pub returns-clause-none : goal.returns-clause-none
@@ -52,7 +59,8 @@ returns-clause-none g c =
     none_weaker c.read_part.result _ _
     (λ h files first s path len own agrees at place items holds.
     h items (rw (part g c, count g c first s path len own at, c.cell-cell.ensures first s path (Leaf len own) at)
-    (leaf_spells g.row.D (bytes_of (files (Segment c.args.head.now.id))) c.noted_view-known.result.0.bytes.now.b c.args.head.now first s len own items c.args.place (of_file g c files agrees) place holds)))
+    (leaf_spells g.row.D (bytes_of (files (Segment c.args.head.now.id))) c.noted_view-known.result.0.bytes.now.b c.args.head.now first s len own items
+    c.args.place (of_file g c files agrees) place holds)))
     c.read_part.ensures.none
 
 pub returns-clause-bad : goal.returns-clause-bad

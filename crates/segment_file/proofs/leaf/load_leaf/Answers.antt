@@ -27,7 +27,8 @@ returns-in_err-load-clause-hit g c = λ first s path t at kept.
 pub returns-in_err-load-clause-whole : goal.returns-in_err-load-clause-whole
 returns-in_err-load-clause-whole g c = λ told first s path t at page.
     let p = c.in-Some.ensures.some first s path t at in
-    let here : IsFilePage (Segment c.id.result) (bytes_of (g.F.Pages.files c.args.folder.now (Segment c.id.result))) c.page_of.result = rw (c.id.ensures, c.page_of.ensures, p.page) page in
+    let here : IsFilePage (Segment c.id.result) (bytes_of (g.F.Pages.files c.args.folder.now (Segment c.id.result))) c.page_of.result =
+    rw (c.id.ensures, c.page_of.ensures, p.page) page in
     let e = err_from_is_err_and c.from_residual.result c.from_residual.ensures.1 in
     rw (e.1, e.2) (c.in_err-load.ensures.whole told here)
 

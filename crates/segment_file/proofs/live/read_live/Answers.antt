@@ -20,7 +20,8 @@ returns-in_err-first-clause-damage g c = λ told.
     let files = g.F.Pages.files c.args.folder.now in
     let e = err_from_is_err_and c.from_residual.result c.from_residual.ensures.1 in
     rw (e.1, e.2)
-    (live_fault_of files name (SizeNeeds 4096) c.in_err-first.field-0.0 (short_first files name) c.in_err-first.ensures.shown c.in_err-first.ensures.needed (c.in_err-first.ensures.damage told))
+    (live_fault_of files name (SizeNeeds 4096) c.in_err-first.field-0.0 (short_first files name) c.in_err-first.ensures.shown c.in_err-first.ensures.needed
+    (c.in_err-first.ensures.damage told))
 
 pub returns-in_err-first-clause-whole : goal.returns-in_err-first-clause-whole
 returns-in_err-first-clause-whole g c = λ told live file.
@@ -36,7 +37,8 @@ returns-in_err-len-clause-damage g c = λ told.
     let e = err_from_is_err_and c.from_residual-in_err-len.result c.from_residual-in_err-len.ensures.1 in
     rw (e.1, e.2)
     (fault_weaker c.in_err-len.field-0.0 (IsBodyDamage name c.payload.result.now) (IsLiveDamageOf files)
-    (λ d carried. body_damage_of files name (first_payload c.in_ok-first.first) d (first_payloads files c.in_ok-first.first name c.in_ok-first.ensures.name (c.in_ok-first.ensures.first told)) (rw (← c.payload.ensures.bytes) carried))
+    (λ d carried. body_damage_of files name (first_payload c.in_ok-first.first) d
+    (first_payloads files c.in_ok-first.first name c.in_ok-first.ensures.name (c.in_ok-first.ensures.first told)) (rw (← c.payload.ensures.bytes) carried))
     c.in_err-len.ensures.carried)
 
 pub returns-in_err-len-clause-whole : goal.returns-in_err-len-clause-whole
@@ -44,11 +46,13 @@ returns-in_err-len-clause-whole g c = λ told live file.
     let name = Live c.args.id c.args.generation in
     let files = g.F.Pages.files c.args.folder.now in
     let f = first_of c.args.id c.args.generation (bytes_of (files name)) live file in
-    let payload : c.payload.result.now ≡ payload_of (page_at (bytes_of (files name)) 0) = c.payload.ensures.bytes ∙ first_payload_is files c.in_ok-first.first name c.in_ok-first.ensures.name (c.in_ok-first.ensures.first told) in
+    let payload : c.payload.result.now ≡ payload_of (page_at (bytes_of (files name)) 0) =
+    c.payload.ensures.bytes ∙ first_payload_is files c.in_ok-first.first name c.in_ok-first.ensures.name (c.in_ok-first.ensures.first told) in
     let e = err_from_is_err_and c.from_residual-in_err-len.result c.from_residual-in_err-len.ensures.1 in
     rw (e.1, e.2)
     (fault_both c.in_err-len.field-0.0 (IsLiveDamage c.args.id c.args.generation) (IsBodyDamage name c.payload.result.now) (λ _. ⊥)
-    (λ d shown carried. no_live_damage c.args.id c.args.generation live f.body c.payload.result.now f.rest d f.set (ap (λ (l : List ℕ). l ++ f.rest) payload ∙ f.begins) shown carried)
+    (λ d shown carried. no_live_damage c.args.id c.args.generation live f.body c.payload.result.now f.rest d f.set
+    (ap (λ (l : List ℕ). l ++ f.rest) payload ∙ f.begins) shown carried)
     c.in_err-len.ensures.shown c.in_err-len.ensures.carried)
 
 pub returns-in_err-check_size-clause-damage : goal.returns-in_err-check_size-clause-damage
@@ -60,7 +64,8 @@ returns-in_err-check_size-clause-damage g c = λ told.
     let e = err_from_is_err_and c.from_residual-in_err-check_size.result c.from_residual-in_err-check_size.ensures.1 in
     rw (e.1, e.2)
     (fault_weaker c.in_err-check_size.field-0.0 (IsSizeDamage (first_name first) (first_size first) (4096 * c.pages_for-pages.result)) (IsLiveDamageOf files)
-    (λ d had. live_size_of files first c.args.id c.args.generation c.in_ok-len.len c.pages_for-pages.result d (c.in_ok-first.ensures.first told) c.in_ok-first.ensures.name says c.pages_for-pages.ensures had)
+    (λ d had. live_size_of files first c.args.id c.args.generation c.in_ok-len.len c.pages_for-pages.result d (c.in_ok-first.ensures.first told)
+    c.in_ok-first.ensures.name says c.pages_for-pages.ensures had)
     c.in_err-check_size.ensures.size)
 
 pub returns-in_err-check_size-clause-whole : goal.returns-in_err-check_size-clause-whole
@@ -68,10 +73,12 @@ returns-in_err-check_size-clause-whole g c = λ told live file.
     let name = Live c.args.id c.args.generation in
     let files = g.F.Pages.files c.args.folder.now in
     let f = first_of c.args.id c.args.generation (bytes_of (files name)) live file in
-    let payload : c.payload.result.now ≡ payload_of (page_at (bytes_of (files name)) 0) = c.payload.ensures.bytes ∙ first_payload_is files c.in_ok-first.first name c.in_ok-first.ensures.name (c.in_ok-first.ensures.first told) in
+    let payload : c.payload.result.now ≡ payload_of (page_at (bytes_of (files name)) 0) =
+    c.payload.ensures.bytes ∙ first_payload_is files c.in_ok-first.first name c.in_ok-first.ensures.name (c.in_ok-first.ensures.first told) in
     let same = said_right c.args.id c.args.generation (bytes_of (files name)) c.payload.result.now live c.in_ok-len.len f payload c.in_ok-len.ensures.len in
     let size : first_size c.in_ok-first.first ≡ 4096 * c.pages_for-pages.result =
-    first_size_is files c.in_ok-first.first name c.in_ok-first.ensures.name (c.in_ok-first.ensures.first told) ∙ f.size ∙ ap (λ (n : ℕ). 4096 * pages_for n) same ∙ ap (λ (n : ℕ). 4096 * n) (sym c.pages_for-pages.ensures) in
+    first_size_is files c.in_ok-first.first name c.in_ok-first.ensures.name (c.in_ok-first.ensures.first told) ∙ f.size
+    ∙ ap (λ (n : ℕ). 4096 * pages_for n) same ∙ ap (λ (n : ℕ). 4096 * n) (sym c.pages_for-pages.ensures) in
     absurd (let no_ok = c.in_err-check_size.ensures.ok.1 size in cc)
 
 pub returns-in_err-joined-clause-damage : goal.returns-in_err-joined-clause-damage
@@ -79,18 +86,21 @@ returns-in_err-joined-clause-damage g c = λ told.
     let name = Live c.args.id c.args.generation in
     let files = g.F.Pages.files c.args.folder.now in
     let pages = c.pages_for-pages.result in
-    let size : length (bytes_of (files name)) ≡ 4096 * pages = sym (first_size_is files c.in_ok-first.first name c.in_ok-first.ensures.name (c.in_ok-first.ensures.first told)) ∙ c.in_ok-check_size.ensures.ok.0 refl in
+    let size : length (bytes_of (files name)) ≡ 4096 * pages =
+    sym (first_size_is files c.in_ok-first.first name c.in_ok-first.ensures.name (c.in_ok-first.ensures.first told)) ∙ c.in_ok-check_size.ensures.ok.0 refl in
     let found = rw (c.read.ensures.files told) at (c.in_err-joined.ensures.damage told) in
     let e = err_from_is_err_and c.from_residual-in_err-joined.result c.from_residual-in_err-joined.ensures.1 in
     rw (e.1, e.2)
-    (live_fault_of files name (SizeWithin (4096 * pages)) c.in_err-joined.field-0.0 (never_cut files name pages pages (omega arith) size) c.in_err-joined.ensures.shown c.in_err-joined.ensures.within found)
+    (live_fault_of files name (SizeWithin (4096 * pages)) c.in_err-joined.field-0.0 (never_cut files name pages pages (omega arith) size)
+    c.in_err-joined.ensures.shown c.in_err-joined.ensures.within found)
 
 pub returns-in_err-joined-clause-whole : goal.returns-in_err-joined-clause-whole
 returns-in_err-joined-clause-whole g c = λ told live file.
     let name = Live c.args.id c.args.generation in
     let files = g.F.Pages.files c.args.folder.now in
     let f = first_of c.args.id c.args.generation (bytes_of (files name)) live file in
-    let payload : c.payload.result.now ≡ payload_of (page_at (bytes_of (files name)) 0) = c.payload.ensures.bytes ∙ first_payload_is files c.in_ok-first.first name c.in_ok-first.ensures.name (c.in_ok-first.ensures.first told) in
+    let payload : c.payload.result.now ≡ payload_of (page_at (bytes_of (files name)) 0) =
+    c.payload.ensures.bytes ∙ first_payload_is files c.in_ok-first.first name c.in_ok-first.ensures.name (c.in_ok-first.ensures.first told) in
     let same = said_right c.args.id c.args.generation (bytes_of (files name)) c.payload.result.now live c.in_ok-len.len f payload c.in_ok-len.ensures.len in
     let pages_are : pages_for (length f.body) ≡ c.pages_for-pages.result = ap (λ (n : ℕ). pages_for n) same ∙ sym c.pages_for-pages.ensures in
     let pages : ArePages name (bytes_of (files name)) 1 c.pages_for-pages.result = λ n from below. f.pages n (omega arith) (omega arith) in
@@ -101,7 +111,8 @@ pub set_of-requires-clause-said : goal.set_of-requires-clause-said
 set_of-requires-clause-said g c = λ s body x y h e.
     let front = c.in_ok-joined.ensures.front in
     c.in_ok-len.ensures.len s body (front.0 ++ x) y h
-    (ap (λ (l : List ℕ). l ++ (front.0 ++ x)) c.payload.ensures.bytes ∙ sym (append_assoc (first_payload c.in_ok-first.first) front.0 x) ∙ ap (λ (l : List ℕ). l ++ x) (sym front.1) ∙ e)
+    (ap (λ (l : List ℕ). l ++ (front.0 ++ x)) c.payload.ensures.bytes ∙ sym (append_assoc (first_payload c.in_ok-first.first) front.0 x)
+    ∙ ap (λ (l : List ℕ). l ++ x) (sym front.1) ∙ e)
 
 pub returns-clause-live : goal.returns-clause-live
 returns-clause-live g c = λ told.
@@ -113,7 +124,8 @@ returns-clause-live g c = λ told.
     let payloads = rw (c.read.ensures.files told, c.pages_for-pages.ensures) at (c.in_ok-joined.ensures.payloads told there) in
     let pages = rw (c.read.ensures.files told, c.pages_for-pages.ensures) at (c.in_ok-joined.ensures.pages told there) in
     let size : length bytes ≡ 4096 * pages_for c.in_ok-len.len =
-    sym (first_size_is files c.in_ok-first.first name c.in_ok-first.ensures.name first) ∙ c.in_ok-check_size.ensures.ok.0 refl ∙ ap (λ (n : ℕ). 4096 * n) c.pages_for-pages.ensures in
+    sym (first_size_is files c.in_ok-first.first name c.in_ok-first.ensures.name first) ∙ c.in_ok-check_size.ensures.ok.0 refl
+    ∙ ap (λ (n : ℕ). 4096 * n) c.pages_for-pages.ensures in
     IfOk-both c.set_of.result _ _ _
     (λ live set long. live_file c.args.id c.args.generation bytes c.in_ok-joined.joined.items live c.in_ok-len.len set long size pages payloads)
     c.set_of.ensures.set c.set_of.ensures.long
@@ -127,7 +139,8 @@ returns-clause-whole g c = λ told live file.
     let name = Live c.args.id c.args.generation in
     let files = g.F.Pages.files c.args.folder.now in
     let f = first_of c.args.id c.args.generation (bytes_of (files name)) live file in
-    let payload : c.payload.result.now ≡ payload_of (page_at (bytes_of (files name)) 0) = c.payload.ensures.bytes ∙ first_payload_is files c.in_ok-first.first name c.in_ok-first.ensures.name (c.in_ok-first.ensures.first told) in
+    let payload : c.payload.result.now ≡ payload_of (page_at (bytes_of (files name)) 0) =
+    c.payload.ensures.bytes ∙ first_payload_is files c.in_ok-first.first name c.in_ok-first.ensures.name (c.in_ok-first.ensures.first told) in
     let same = said_right c.args.id c.args.generation (bytes_of (files name)) c.payload.result.now live c.in_ok-len.len f payload c.in_ok-len.ensures.len in
     let there : IsFirstPage (g.F.Pages.files c.read.new.folder) c.in_ok-first.first = rw (c.read.ensures.files told) (c.in_ok-first.ensures.first told) in
     let payloads = rw (c.read.ensures.files told, c.pages_for-pages.ensures) at (c.in_ok-joined.ensures.payloads told there) in
@@ -158,7 +171,8 @@ returns-in_err-joined-clause-reads g c = λ told live file.
     let name = Live c.args.id c.args.generation in
     let files = g.F.Pages.files c.args.folder.now in
     let f = first_of c.args.id c.args.generation (bytes_of (files name)) live file in
-    let payload : c.payload.result.now ≡ payload_of (page_at (bytes_of (files name)) 0) = c.payload.ensures.bytes ∙ first_payload_is files c.in_ok-first.first name c.in_ok-first.ensures.name (c.in_ok-first.ensures.first told) in
+    let payload : c.payload.result.now ≡ payload_of (page_at (bytes_of (files name)) 0) =
+    c.payload.ensures.bytes ∙ first_payload_is files c.in_ok-first.first name c.in_ok-first.ensures.name (c.in_ok-first.ensures.first told) in
     let same = said_right c.args.id c.args.generation (bytes_of (files name)) c.payload.result.now live c.in_ok-len.len f payload c.in_ok-len.ensures.len in
     let pages_are : pages_for (length f.body) ≡ c.pages_for-pages.result = ap (λ (n : ℕ). pages_for n) same ∙ sym c.pages_for-pages.ensures in
     omega (arith, f.size, pages_are, c.read.ensures.reads, c.all_payloads.ensures.reads)
@@ -168,7 +182,8 @@ returns-clause-reads g c = λ told live file.
     let name = Live c.args.id c.args.generation in
     let files = g.F.Pages.files c.args.folder.now in
     let f = first_of c.args.id c.args.generation (bytes_of (files name)) live file in
-    let payload : c.payload.result.now ≡ payload_of (page_at (bytes_of (files name)) 0) = c.payload.ensures.bytes ∙ first_payload_is files c.in_ok-first.first name c.in_ok-first.ensures.name (c.in_ok-first.ensures.first told) in
+    let payload : c.payload.result.now ≡ payload_of (page_at (bytes_of (files name)) 0) =
+    c.payload.ensures.bytes ∙ first_payload_is files c.in_ok-first.first name c.in_ok-first.ensures.name (c.in_ok-first.ensures.first told) in
     let same = said_right c.args.id c.args.generation (bytes_of (files name)) c.payload.result.now live c.in_ok-len.len f payload c.in_ok-len.ensures.len in
     let pages_are : pages_for (length f.body) ≡ c.pages_for-pages.result = ap (λ (n : ℕ). pages_for n) same ∙ sym c.pages_for-pages.ensures in
     omega (arith, f.size, pages_are, c.read.ensures.reads, c.all_payloads.ensures.reads)

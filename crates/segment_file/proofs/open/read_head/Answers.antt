@@ -23,7 +23,8 @@ returns-in_err-first-clause-damage g c = λ told.
     let files = g.F.Pages.files c.args.folder.now in
     let e = err_from_is_err_and c.from_residual.result c.from_residual.ensures.1 in
     rw (e.1, e.2)
-    (head_fault_of g.row.D files name (SizeNeeds 4096) c.in_err-first.field-0.0 (short_first files name) c.in_err-first.ensures.shown c.in_err-first.ensures.needed (c.in_err-first.ensures.damage told))
+    (head_fault_of g.row.D files name (SizeNeeds 4096) c.in_err-first.field-0.0 (short_first files name) c.in_err-first.ensures.shown
+    c.in_err-first.ensures.needed (c.in_err-first.ensures.damage told))
 
 pub returns-in_err-first-clause-whole : goal.returns-in_err-first-clause-whole
 returns-in_err-first-clause-whole g c = λ told h ids file.
@@ -38,7 +39,8 @@ returns-in_err-fields-clause-damage g c = λ told.
     let e = err_from_is_err_and c.from_residual-in_err-fields.result c.from_residual-in_err-fields.ensures.1 in
     rw (e.1, e.2)
     (fault_weaker c.in_err-fields.field-0.0 (IsBodyDamage name c.payload.result.now) (IsHeadDamageOf g.row.D files)
-    (λ d carried. head_body_of g.row.D files name (first_payload c.in_ok-first.first) d (first_payloads files c.in_ok-first.first name c.in_ok-first.ensures.name (c.in_ok-first.ensures.first told)) (rw (← c.payload.ensures.bytes) carried))
+    (λ d carried. head_body_of g.row.D files name (first_payload c.in_ok-first.first) d
+    (first_payloads files c.in_ok-first.first name c.in_ok-first.ensures.name (c.in_ok-first.ensures.first told)) (rw (← c.payload.ensures.bytes) carried))
     c.in_err-fields.ensures.carried)
 
 pub returns-in_err-fields-clause-whole : goal.returns-in_err-fields-clause-whole
@@ -46,18 +48,21 @@ returns-in_err-fields-clause-whole g c = λ told h ids file.
     let name = Segment c.args.id in
     let files = g.F.Pages.files c.args.folder.now in
     let p = head_parts g.row.D (bytes_of (files name)) c.args.id h ids file in
-    let payload : c.payload.result.now ≡ payload_of (page_at (bytes_of (files name)) 0) = c.payload.ensures.bytes ∙ first_payload_is files c.in_ok-first.first name c.in_ok-first.ensures.name (c.in_ok-first.ensures.first told) in
+    let payload : c.payload.result.now ≡ payload_of (page_at (bytes_of (files name)) 0) =
+    c.payload.ensures.bytes ∙ first_payload_is files c.in_ok-first.first name c.in_ok-first.ensures.name (c.in_ok-first.ensures.first told) in
     let e = err_from_is_err_and c.from_residual-in_err-fields.result c.from_residual-in_err-fields.ensures.1 in
     rw (e.1, e.2)
     (fault_both c.in_err-fields.field-0.0 (IsHeadDamage c.args.id) (IsBodyDamage name c.payload.result.now) (λ _. ⊥)
-    (λ d shown carried. no_head_damage c.args.id g.row.D (pages_of p.tree) h c.payload.result.now (filled h.index.bytes) d p.fits p.head (ap (λ (l : List ℕ). l ++ filled h.index.bytes) (payload ∙ p.payload)) shown carried)
+    (λ d shown carried. no_head_damage c.args.id g.row.D (pages_of p.tree) h c.payload.result.now (filled h.index.bytes) d p.fits p.head
+    (ap (λ (l : List ℕ). l ++ filled h.index.bytes) (payload ∙ p.payload)) shown carried)
     c.in_err-fields.ensures.shown c.in_err-fields.ensures.carried)
 
 pub returns-in_err-agree-clause-damage : goal.returns-in_err-agree-clause-damage
 returns-in_err-agree-clause-damage g c = λ told.
     let name = Segment c.args.id in
     let files = g.F.Pages.files c.args.folder.now in
-    let payload : c.payload.result.now ≡ payload_of (page_at (bytes_of (files name)) 0) = c.payload.ensures.bytes ∙ first_payload_is files c.in_ok-first.first name c.in_ok-first.ensures.name (c.in_ok-first.ensures.first told) in
+    let payload : c.payload.result.now ≡ payload_of (page_at (bytes_of (files name)) 0) =
+    c.payload.ensures.bytes ∙ first_payload_is files c.in_ok-first.first name c.in_ok-first.ensures.name (c.in_ok-first.ensures.first told) in
     let dims : c.in_ok-fields.fields.dims ≡ slice_index (payload_of (page_at (bytes_of (files name)) 0)) 8 =
     sym (dims_at (fields_said c.in_ok-fields.fields)) ∙ ap (λ (l : List ℕ). slice_index l 8) (sym c.in_ok-fields.ensures.fields.is ∙ payload) in
     let e = err_from_is_err_and c.from_residual-in_err-agree.result c.from_residual-in_err-agree.ensures.1 in
@@ -72,7 +77,8 @@ returns-in_err-agree-clause-whole g c = λ told h ids file.
     let name = Segment c.args.id in
     let files = g.F.Pages.files c.args.folder.now in
     let p = head_parts g.row.D (bytes_of (files name)) c.args.id h ids file in
-    let payload : c.payload.result.now ≡ payload_of (page_at (bytes_of (files name)) 0) = c.payload.ensures.bytes ∙ first_payload_is files c.in_ok-first.first name c.in_ok-first.ensures.name (c.in_ok-first.ensures.first told) in
+    let payload : c.payload.result.now ≡ payload_of (page_at (bytes_of (files name)) 0) =
+    c.payload.ensures.bytes ∙ first_payload_is files c.in_ok-first.first name c.in_ok-first.ensures.name (c.in_ok-first.ensures.first told) in
     let said = head_said g.row.D (bytes_of (files name)) c.args.id h p c.payload.result.now c.in_ok-fields.fields payload c.in_ok-fields.ensures.fields in
     let dims : g.row.D ≡ c.from.result = sym (ap (λ (x : Fields). x.dims) said) ∙ sym c.from.ensures in
     absurd (let no_ok = c.in_err-agree.ensures.ok.1 dims in cc)
@@ -89,8 +95,10 @@ returns-in_err-check_size-clause-whole g c = λ told h ids file.
     let name = Segment c.args.id in
     let files = g.F.Pages.files c.args.folder.now in
     let p = head_parts g.row.D (bytes_of (files name)) c.args.id h ids file in
-    let payload : c.payload.result.now ≡ payload_of (page_at (bytes_of (files name)) 0) = c.payload.ensures.bytes ∙ first_payload_is files c.in_ok-first.first name c.in_ok-first.ensures.name (c.in_ok-first.ensures.first told) in
+    let payload : c.payload.result.now ≡ payload_of (page_at (bytes_of (files name)) 0) =
+    c.payload.ensures.bytes ∙ first_payload_is files c.in_ok-first.first name c.in_ok-first.ensures.name (c.in_ok-first.ensures.first told) in
     let said = head_said g.row.D (bytes_of (files name)) c.args.id h p c.payload.result.now c.in_ok-fields.fields payload c.in_ok-fields.ensures.fields in
     let size : first_size c.in_ok-first.first ≡ 4096 * (1 + pages_for c.in_ok-fields.fields.index_length + c.in_ok-fields.fields.leaf_pages) =
-    first_size_is files c.in_ok-first.first name c.in_ok-first.ensures.name (c.in_ok-first.ensures.first told) ∙ p.size ∙ ap (λ (x : Fields). 4096 * (1 + pages_for x.index_length + x.leaf_pages)) (sym said) in
+    first_size_is files c.in_ok-first.first name c.in_ok-first.ensures.name (c.in_ok-first.ensures.first told) ∙ p.size
+    ∙ ap (λ (x : Fields). 4096 * (1 + pages_for x.index_length + x.leaf_pages)) (sym said) in
     absurd (let no_ok = c.in_err-check_size.ensures.ok.1 size in cc)

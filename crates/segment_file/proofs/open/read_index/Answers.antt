@@ -31,7 +31,8 @@ returns-in_err-payloads-clause-whole g c = λ told h ids file payload.
     let files = g.F.Pages.files c.args.folder.now in
     let p = head_parts g.row.D (bytes_of (files name)) c.args.id h ids file in
     let said = head_said g.row.D (bytes_of (files name)) c.args.id h p c.args.payload.now c.args.fields payload c.requires.fields in
-    let count : pages_for (length h.index.bytes) ≡ c.pages_for-pages.result = ap (λ (x : Fields). pages_for x.index_length) (sym said) ∙ sym c.pages_for-pages.ensures in
+    let count : pages_for (length h.index.bytes) ≡ c.pages_for-pages.result =
+    ap (λ (x : Fields). pages_for x.index_length) (sym said) ∙ sym c.pages_for-pages.ensures in
     let pages : ArePages name (bytes_of (files name)) 1 (1 + c.pages_for-pages.result) = λ n from below. p.pages n (omega arith) (omega arith) in
     let e = err_from_is_err_and c.from_residual.result c.from_residual.ensures.1 in
     rw (e.1, e.2) (c.in_err-payloads.ensures.whole told pages)
@@ -40,7 +41,8 @@ pub returns-clause-damage : goal.returns-clause-damage
 returns-clause-damage g c = λ told page payload size.
     let name = Segment c.args.id in
     let files = g.F.Pages.files c.args.folder.now in
-    let are = head_payloads files c.args.id c.pages_for-pages.result c.args.payload.now c.in_ok-payloads.payloads.items page payload (c.in_ok-payloads.ensures.payloads told) (c.in_ok-payloads.ensures.pages told) in
+    let are = head_payloads files c.args.id c.pages_for-pages.result c.args.payload.now c.in_ok-payloads.payloads.items page payload
+    (c.in_ok-payloads.ensures.payloads told) (c.in_ok-payloads.ensures.pages told) in
     on_damage_weaker c.index_of.result (IsBodyDamage name (c.args.payload.now ++ c.in_ok-payloads.payloads.items)) (IsHeadDamageOf g.row.D files)
     (λ d carried. head_body_of g.row.D files name (c.args.payload.now ++ c.in_ok-payloads.payloads.items) d are carried)
     c.index_of.ensures.carried
@@ -52,11 +54,14 @@ returns-clause-whole g c = λ told h ids file payload.
     let p = head_parts g.row.D (bytes_of (files name)) c.args.id h ids file in
     let said = head_said g.row.D (bytes_of (files name)) c.args.id h p c.args.payload.now c.args.fields payload c.requires.fields in
     let count : c.pages_for-pages.result ≡ pages_for (length h.index.bytes) = c.pages_for-pages.ensures ∙ ap (λ (x : Fields). pages_for x.index_length) said in
-    let index : c.in_ok-payloads.payloads.items ≡ filled h.index.bytes = c.in_ok-payloads.ensures.payloads told ∙ ap (λ (n : ℕ). payloads_of (bytes_of (files name)) 1 n) count ∙ p.index in
+    let index : c.in_ok-payloads.payloads.items ≡ filled h.index.bytes =
+    c.in_ok-payloads.ensures.payloads told ∙ ap (λ (n : ℕ). payloads_of (bytes_of (files name)) 1 n) count ∙ p.index in
     let first : c.args.payload.now ≡ filled (fields_bytes (fields_of g.row.D h (pages_of p.tree))) = payload ∙ p.payload in
-    let whole : c.args.payload.now ++ c.in_ok-payloads.payloads.items ++ [] ≡ filled (fields_bytes (fields_of g.row.D h (pages_of p.tree))) ++ filled h.index.bytes =
+    let whole : c.args.payload.now ++ c.in_ok-payloads.payloads.items ++ []
+    ≡ filled (fields_bytes (fields_of g.row.D h (pages_of p.tree))) ++ filled h.index.bytes =
     append-nil (c.args.payload.now ++ c.in_ok-payloads.payloads.items) ∙ ap (λ (l : List ℕ). l ++ c.in_ok-payloads.payloads.items) first
     ∙ ap (λ (l : List ℕ). filled (fields_bytes (fields_of g.row.D h (pages_of p.tree))) ++ l) index in
     on_damage_both c.index_of.result (IsHeadDamage c.args.id) (IsBodyDamage name (c.args.payload.now ++ c.in_ok-payloads.payloads.items)) (λ _. ⊥)
-    (λ d shown carried. no_head_damage c.args.id g.row.D (pages_of p.tree) h (c.args.payload.now ++ c.in_ok-payloads.payloads.items) [] d p.fits p.head whole shown carried)
+    (λ d shown carried.
+    no_head_damage c.args.id g.row.D (pages_of p.tree) h (c.args.payload.now ++ c.in_ok-payloads.payloads.items) [] d p.fits p.head whole shown carried)
     c.index_of.ensures.shown c.index_of.ensures.carried

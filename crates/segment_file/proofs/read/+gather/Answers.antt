@@ -37,14 +37,17 @@ returns-in_err-gather-in-Some-clause-shown g t c = λ first s path u at.
     let e = err_from_is_err_and c.from_residual.result c.from_residual.ensures.1 in
     rw (e.1, e.2)
     (fault_weaker c.in_err-gather-in-Some.field-0.0 (IsLeafDamage g.row.D c.args.head.now first s k.l) (IsLeafDamage g.row.D c.args.head.now first s u)
-    (λ d h. subst (λ (v : IndexTree). IsLeafDamage g.row.D c.args.head.now first s v d) (sym k.is) (left_damage g.row.D c.args.head.now first s k.l k.r k.dimension k.value d h))
+    (λ d h. subst (λ (v : IndexTree). IsLeafDamage g.row.D c.args.head.now first s v d) (sym k.is)
+    (left_damage g.row.D c.args.head.now first s k.l k.r k.dimension k.value d h))
     (c.in_err-gather-in-Some.ensures.shown first s (left_of path k.dimension k.value) k.l k.left_is))
 
 pub returns-in_ok-gather-in-Some-clause-shown : goal.returns-in_ok-gather-in-Some-clause-shown
 returns-in_ok-gather-in-Some-clause-shown g t c = λ first s path u at.
     let k = c.in-Some.ensures.some first s path u at in
-    on_damage_weaker c.gather-in-Some.result (IsLeafDamage g.row.D c.args.head.now (first + leaf_count k.l) (right_begin s k.l k.r) k.r) (IsLeafDamage g.row.D c.args.head.now first s u)
-    (λ d h. subst (λ (v : IndexTree). IsLeafDamage g.row.D c.args.head.now first s v d) (sym k.is) (right_damage g.row.D c.args.head.now first s k.l k.r k.dimension k.value d h))
+    on_damage_weaker c.gather-in-Some.result (IsLeafDamage g.row.D c.args.head.now (first + leaf_count k.l) (right_begin s k.l k.r) k.r)
+    (IsLeafDamage g.row.D c.args.head.now first s u)
+    (λ d h. subst (λ (v : IndexTree). IsLeafDamage g.row.D c.args.head.now first s v d) (sym k.is)
+    (right_damage g.row.D c.args.head.now first s k.l k.r k.dimension k.value d h))
     (c.gather-in-Some.ensures.shown (first + leaf_count k.l) (right_begin s k.l k.r) (right_of path k.dimension k.value) k.r k.right_is)
 
 pub returns-in_err-gather-in-Some-clause-whole : goal.returns-in_err-gather-in-Some-clause-whole
@@ -53,7 +56,8 @@ returns-in_err-gather-in-Some-clause-whole g t c = λ told agrees first s path u
     let bytes = bytes_of (g.F.Pages.files c.args.folder.now (Segment c.args.head.now.id)) in
     let halves = subst (λ (v : IndexTree). HoldsTree g.row.D bytes c.args.head.now first s v items) k.is holds in
     let e = err_from_is_err_and c.from_residual.result c.from_residual.ensures.1 in
-    rw (e.1, e.2) (c.in_err-gather-in-Some.ensures.whole told agrees first s (left_of path k.dimension k.value) k.l k.left_is halves.front_items halves.front_holds)
+    rw (e.1, e.2)
+    (c.in_err-gather-in-Some.ensures.whole told agrees first s (left_of path k.dimension k.value) k.l k.left_is halves.front_items halves.front_holds)
 
 pub returns-in_ok-gather-in-Some-clause-whole : goal.returns-in_ok-gather-in-Some-clause-whole
 returns-in_ok-gather-in-Some-clause-whole g t c = λ told agrees first s path u at items holds.
@@ -61,7 +65,8 @@ returns-in_ok-gather-in-Some-clause-whole g t c = λ told agrees first s path u 
     let bytes = bytes_of (g.F.Pages.files c.args.folder.now (Segment c.args.head.now.id)) in
     let halves = subst (λ (v : IndexTree). HoldsTree g.row.D bytes c.args.head.now first s v items) k.is holds in
     let after : Agrees (g.F.Pages.files c.gather.new.folder) c.gather.new.cache = rw (c.gather.ensures.files told) (c.gather.ensures.agrees told agrees) in
-    c.gather-in-Some.ensures.whole told after (first + leaf_count k.l) (right_begin s k.l k.r) (right_of path k.dimension k.value) k.r k.right_is halves.back_items
+    c.gather-in-Some.ensures.whole told after (first + leaf_count k.l) (right_begin s k.l k.r) (right_of path k.dimension k.value) k.r k.right_is
+    halves.back_items
     (rw (c.gather.ensures.files told) halves.back_holds)
 
 pub returns-in_ok-gather-in-Some-clause-gathers : goal.returns-in_ok-gather-in-Some-clause-gathers
@@ -70,10 +75,14 @@ returns-in_ok-gather-in-Some-clause-gathers g t c = λ told agrees first s path 
     let bytes = bytes_of (g.F.Pages.files c.args.folder.now (Segment c.args.head.now.id)) in
     let left = c.in_ok-gather-in-Some.ensures.gathers told agrees first s (left_of path k.dimension k.value) k.l k.left_is in
     let after : Agrees (g.F.Pages.files c.gather.new.folder) c.gather.new.cache = rw (c.gather.ensures.files told) (c.gather.ensures.agrees told agrees) in
-    let right = c.gather-in-Some.ensures.gathers told after (first + leaf_count k.l) (right_begin s k.l k.r) (right_of path k.dimension k.value) k.r k.right_is in
+    let right =
+    c.gather-in-Some.ensures.gathers told after (first + leaf_count k.l) (right_begin s k.l k.r) (right_of path k.dimension k.value) k.r k.right_is in
     OnOk-weaker c.gather-in-Some.result _ _
-    (λ r. subst (λ (v : IndexTree). Gathers g.row.D bytes c.args.head.now first s v c.args.live.now (items_of c.args.entries.now.items) (items_of c.gather-in-Some.new.entries.items)) (sym k.is)
-    (gathers_join g.row.D bytes c.args.head.now first s k.l k.r k.dimension k.value c.args.live.now (items_of c.args.entries.now.items) (items_of c.gather.new.entries.items) (items_of c.gather-in-Some.new.entries.items) left (rw (c.gather.ensures.files told) at r)))
+    (λ r. subst (λ (v : IndexTree).
+    Gathers g.row.D bytes c.args.head.now first s v c.args.live.now (items_of c.args.entries.now.items) (items_of c.gather-in-Some.new.entries.items))
+    (sym k.is)
+    (gathers_join g.row.D bytes c.args.head.now first s k.l k.r k.dimension k.value c.args.live.now (items_of c.args.entries.now.items)
+    (items_of c.gather.new.entries.items) (items_of c.gather-in-Some.new.entries.items) left (rw (c.gather.ensures.files told) at r)))
     right
 
 pub returns-in_ok-gather-in-Some-clause-live : goal.returns-in_ok-gather-in-Some-clause-live

@@ -18,7 +18,8 @@ pub returns-in_err-place-clause-whole : goal.returns-in_err-place-clause-whole
 returns-in_err-place-clause-whole g c = λ told agrees first s path t at items holds.
     let bytes = bytes_of (g.F.Pages.files c.args.folder.now (Segment c.args.head.now.id)) in
     let e = err_from_is_err_and c.from_residual.result c.from_residual.ensures.1 in
-    rw (e.1, e.2) (c.in_err-place.ensures.whole told first s path t at (page_of_leaf g.row.D bytes c.args.head.now c.args.node.now first s path t items at c.requires holds))
+    rw (e.1, e.2)
+    (c.in_err-place.ensures.whole told first s path t at (page_of_leaf g.row.D bytes c.args.head.now c.args.node.now first s path t items at c.requires holds))
 
 pub returns-in_default-clause-shown : goal.returns-in_default-clause-shown
 returns-in_default-clause-shown g c = λ first s path t at. c.bad_leaf.ensures.shown first s path t at (c.in_ok-place.ensures.place first s path t at)
@@ -30,7 +31,8 @@ returns-in_default-clause-whole g c = λ told agrees first s path t at items hol
     let leaf = place.is in
     absurd (c.in_default.ensures.none (g.F.Pages.files c.args.folder.now) first s path c.in_ok-place.place.length place.own after
     (subst (λ (u : IndexTree). IsAt c.args.node.now first s path u) leaf at) (subst (λ (u : IndexTree). IsPlaceOf c.in_ok-place.place s u) leaf place) items
-    (subst (λ (u : IndexTree). HoldsTree g.row.D (bytes_of (g.F.Pages.files c.args.folder.now (Segment c.args.head.now.id))) c.args.head.now first s u items) leaf holds))
+    (subst (λ (u : IndexTree). HoldsTree g.row.D (bytes_of (g.F.Pages.files c.args.folder.now (Segment c.args.head.now.id))) c.args.head.now first s u items)
+    leaf holds))
 
 pub returns-clause-gathers : goal.returns-clause-gathers
 returns-clause-gathers g c = λ told agrees first s path t at.

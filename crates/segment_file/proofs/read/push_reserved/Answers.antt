@@ -10,7 +10,8 @@ loop-i-preserved g c =
     let inside : c.loop-i.i < length c.args.view.now = omega arith in
     let m = one_more c.args.view.now c.loop-i.i inside in
     record {
-      all = filter_more (λ (x : Item). is_live c.args.live.now x.doc) (items_of c.args.entries.now.items) (items_of c.loop-i.entries.items) (items_of c.push_if_live.new.entries.items) c.args.view.now c.loop-i.i m.0 m.2
+      all = filter_more (λ (x : Item). is_live c.args.live.now x.doc) (items_of c.args.entries.now.items) (items_of c.loop-i.entries.items)
+          (items_of c.push_if_live.new.entries.items) c.args.view.now c.loop-i.i m.0 m.2
           c.loop-i.invariant.all (c.push_if_live.ensures.one m.0 m.1);
       live = λ h. c.push_if_live.ensures.live (c.loop-i.invariant.live h);
       room = omega (arith, c.loop-i.invariant.room, c.push_if_live.ensures.room.0, c.push_if_live.ensures.room.1);

@@ -9,5 +9,6 @@ returns-clause-put g c = λ told payloads leaves h.
     let over : 4064 < length c.args.page.now.items + length c.args.leaf.now = (let a = c.args.page.now.ok.0 in omega arith) in (
       payloads ++ filled c.args.page.now.items,
       rw (← c.as_slice.ensures.value) (c.in_ok-push.ensures.put told payloads h),
-      lay_next payloads c.args.page.now.items c.args.leaf.now leaves over ∙ ap (λ (l : List ℕ). payloads ++ filled c.args.page.now.items ++ laid_pages (l ++ c.args.leaf.now) leaves) (sym c.clear.ensures.items),
+      lay_next payloads c.args.page.now.items c.args.leaf.now leaves over
+          ∙ ap (λ (l : List ℕ). payloads ++ filled c.args.page.now.items ++ laid_pages (l ++ c.args.leaf.now) leaves) (sym c.clear.ensures.items),
     )

@@ -9,7 +9,8 @@ loop-leaf-preserved g c =
     let i = c.loop-leaf.invariant in
     let fits = c.in_ok-make_room.ensures.fits in
     let same : c.as_slice-in-loop-leaf.result.now ≡ c.as_slice.result.now = c.as_slice-in-loop-leaf.ensures ∙ sym c.as_slice.ensures in
-    let new_page : c.extend_from_slice.new.self.items ≡ c.make_room.new.page.items ++ c.as_slice.result.now = c.in_ok-extend_from_slice.ensures.items ∙ ap (λ (l : List ℕ). c.make_room.new.page.items ++ l) same in
+    let new_page : c.extend_from_slice.new.self.items ≡ c.make_room.new.page.items ++ c.as_slice.result.now =
+    c.in_ok-extend_from_slice.ensures.items ∙ ap (λ (l : List ℕ). c.make_room.new.page.items ++ l) same in
     let item : c.as_slice.result.now ≡ get_or c.args.leaves.now c.loop-leaf.leaf-index c.as_slice.result.now =
     subst (λ (l : List ℕ). l ≡ get_or c.args.leaves.now c.loop-leaf.leaf-index l) (sym c.as_slice.ensures) c.leaf-item.is in
     record {
@@ -21,7 +22,8 @@ loop-leaf-preserved g c =
           let step = c.in_ok-make_room.ensures.put told now.0 (drop (c.loop-leaf.leaf-index + 1) c.args.leaves.now) (rw i.id now.1) in (
             step.0,
             rw (← i.id) step.1,
-            laid_more (payloads ++ laid_pages [] c.args.leaves.now) now.0 step.0 c.loop-leaf.page.items c.extend_from_slice.new.self.items c.as_slice.result.now c.args.leaves.now c.loop-leaf.leaf-index c.loop-leaf-test.true item now.2
+            laid_more (payloads ++ laid_pages [] c.args.leaves.now) now.0 step.0 c.loop-leaf.page.items c.extend_from_slice.new.self.items c.as_slice.result.now
+                c.args.leaves.now c.loop-leaf.leaf-index c.loop-leaf-test.true item now.2
                 (step.2 ∙ ap (λ (l : List ℕ). step.0 ++ laid_pages l (drop (c.loop-leaf.leaf-index + 1) c.args.leaves.now)) (sym new_page)),
           );
       others = λ told other ne. c.make_room.ensures.others told other (rw i.id ne) ∙ i.others told other ne;
@@ -36,6 +38,7 @@ returns-clause-put g c = λ told.
     (λ f payloads h.
     let now = i.put told payloads h in
     let paged = f now.0 (rw i.id now.1) in
-    let all = laid_all (payloads ++ laid_pages [] c.args.leaves.now) now.0 c.loop-leaf.page.items c.args.leaves.now c.loop-leaf.leaf-index (omega arith) now.2 in
+    let all =
+    laid_all (payloads ++ laid_pages [] c.args.leaves.now) now.0 c.loop-leaf.page.items c.args.leaves.now c.loop-leaf.leaf-index (omega arith) now.2 in
     rw (← i.id, all, ← c.as_slice-2.ensures.value) paged)
     (c.push.ensures.put told)

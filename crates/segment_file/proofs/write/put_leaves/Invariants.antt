@@ -11,8 +11,11 @@ invariant-loop-leaf g l = record {
   pages : piece_pages l.pieces ≤ piece_pages l.initial.pieces + l.leaf-index;
   page : length l.page.items ≤ 4064;
   put : IsTrue g.F.Pages.told → (payloads : List ℕ)
-      → IsPaged (Segment (piece_id l.initial.pieces)) (piece_pages l.initial.pieces) payloads (so_far (bytes_of (g.F.Pages.files l.initial.folder (Segment (piece_id l.initial.pieces)))) l.initial.pieces)
-      → (more : List ℕ) × IsPaged (Segment (piece_id l.initial.pieces)) (piece_pages l.pieces) more (so_far (bytes_of (g.F.Pages.files l.folder (Segment (piece_id l.initial.pieces)))) l.pieces)
+      → IsPaged (Segment (piece_id l.initial.pieces)) (piece_pages l.initial.pieces) payloads
+      (so_far (bytes_of (g.F.Pages.files l.initial.folder (Segment (piece_id l.initial.pieces)))) l.initial.pieces)
+      → (more : List ℕ)
+      × IsPaged (Segment (piece_id l.initial.pieces)) (piece_pages l.pieces) more
+      (so_far (bytes_of (g.F.Pages.files l.folder (Segment (piece_id l.initial.pieces)))) l.pieces)
       × (payloads ++ laid_pages [] l.leaves ≡ more ++ laid_pages l.page.items (drop l.leaf-index l.leaves));
   others : IsTrue g.F.Pages.told → SameBut (Segment (piece_id l.initial.pieces)) (g.F.Pages.files l.initial.folder) (g.F.Pages.files l.folder);
   reads : g.F.Pages.reads l.folder ≡ g.F.Pages.reads l.initial.folder;

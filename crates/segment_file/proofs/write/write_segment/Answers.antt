@@ -27,7 +27,15 @@ pub returns-clause-written : goal.returns-clause-written
 returns-clause-written g c = λ told items fits.
     let put = c.in_ok-put_segment.ensures.written told in
     let head = head_of c.args.id c.args.entries c.args.leaf c.args.index in
-    let said : Fields = record { dims = g.row.D; form = c.form.result; leaf = c.args.leaf; entries = c.args.entries; leaves = c.leaves.result; index_length = c.in-Ok.index_length; leaf_pages = c.leaf_pages.result } in
+    let said : Fields = record {
+      dims = g.row.D;
+      form = c.form.result;
+      leaf = c.args.leaf;
+      entries = c.args.entries;
+      leaves = c.leaves.result;
+      index_length = c.in-Ok.index_length;
+      leaf_pages = c.leaf_pages.result;
+    } in
     let pages : c.leaf_pages.result ≡ pages_of fits.tree = c.leaf_pages.ensures fits.root fits.tree fits.has in
     let got = c.in-Ok.ensures in
     let long : c.in-Ok.index_length ≡ length c.args.index.bytes = got.1 ∙ ap (λ (l : List ℕ). length l) c.body.ensures in
@@ -42,4 +50,5 @@ returns-clause-written g c = λ told items fits.
     } in
     let short : length c.args.index.bytes < 2 ^ 32 = omega arith in
     let ranges = head_ranges g.row.D c.args.id c.args.leaf c.args.entries c.args.index c.args.leaves.now items (omega arith) short fits in
-    written g.row.D c.args.id c.args.leaf c.args.entries c.args.index c.args.leaves.now items _ put.0 said fits ranges same (omega arith) (rw (← c.body-2.ensures) put.1)
+    written g.row.D c.args.id c.args.leaf c.args.entries c.args.index c.args.leaves.now items _ put.0 said fits ranges same (omega arith)
+    (rw (← c.body-2.ensures) put.1)

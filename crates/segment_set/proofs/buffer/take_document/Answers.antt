@@ -7,8 +7,11 @@ use Rattle.segment_set.proofs.Buffered.{any_items, but_items, run_some}
 use Rattle.segment_set.proofs.buffer.take_document.Given as given
 use Rattle.segment_set.proofs.buffer.take_document.Goals as goal
 
-run : (g : given.Over) (c : goal.After-take_run g) → IsRun (λ (e : Entry g.row.D). e.doc) c.args.number c.args.buffer.now.items c.run_of-first.result.0 c.run_of-first.result.1
-run g c = subst (λ (xs : List (Entry g.row.D)). IsRun (λ (e : Entry g.row.D). e.doc) c.args.number xs c.run_of-first.result.0 c.run_of-first.result.1) c.as_slice.ensures.value c.run_of-first.ensures.run
+run : (g : given.Over) (c : goal.After-take_run g)
+    → IsRun (λ (e : Entry g.row.D). e.doc) c.args.number c.args.buffer.now.items c.run_of-first.result.0 c.run_of-first.result.1
+run g c =
+    subst (λ (xs : List (Entry g.row.D)). IsRun (λ (e : Entry g.row.D). e.doc) c.args.number xs c.run_of-first.result.0 c.run_of-first.result.1)
+    c.as_slice.ensures.value c.run_of-first.ensures.run
 
 pub returns-clause-answer : goal.returns-clause-answer
 returns-clause-answer g c =

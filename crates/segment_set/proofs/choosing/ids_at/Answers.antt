@@ -15,7 +15,8 @@ loop-position-preserved g c =
     let head = c.index-heads-position.result in
     let within : n < length parts = c.requires.within i 0 c.loop-position-test.true in
     let id : c.id.result ≡ at n =
-    c.id.ensures ∙ ap (λ (h : Head). h.id) (c.index-heads-position.is ∙ ap (λ (hs : List Head). get_or hs n head) c.heads-heads.ensures.value) ∙ id_at parts n head within in
+    c.id.ensures ∙ ap (λ (h : Head). h.id) (c.index-heads-position.is ∙ ap (λ (hs : List Head). get_or hs n head) c.heads-heads.ensures.value)
+    ∙ id_at parts n head within in
     c.in_ok-push.ensures.items
     ∙ ap (λ (ns : List ℕ). ns ++ c.id.result ∷ []) c.loop-position.invariant
     ∙ ap (λ (m : ℕ). map at (take i positions) ++ m ∷ []) id

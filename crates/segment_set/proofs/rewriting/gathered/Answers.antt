@@ -20,7 +20,8 @@ use Rattle.index_opening.specs.Evidence.{IsCrowdedIn, IsEvidentIn}
 use Rattle.segment_set.specs.Faithful.{HasFileHead}
 use Rattle.segment_set.specs.Sets.{AreAlone}
 use Rattle.segment_set.proofs.Doubted.{doubt_among, part_shown, whole_shows}
-use Rattle.index_opening.proofs.Evident.{on_evident_at, on_part_evident}
+use Rattle.index_opening.proofs.Evident.{on_evident_at}
+use Rattle.index_opening.proofs.LeafEvident.{on_part_evident}
 use Rattle.segment_set.proofs.Evident.{doubt_evident, gathered_of_files}
 use Rattle.segment_set.proofs.Fresh.{gathered_of, holds_live, items_length}
 use Rattle.segment_set.proofs.Sizes.{built_fits, entry_fits}
@@ -38,7 +39,8 @@ returns-in_err-build_of-clause-whole g c =
     λ told agrees contents reads next make few.
     let same : items_of c.as_mut_slice.result.now ≡ live_in_parts contents (parts_among c.args.ids.now c.args.segments.now) =
     ap items_of c.as_mut_slice.ensures.value ∙ c.in_ok-entries.ensures.entries told agrees contents reads in
-    rw (p.1, p.2) (c.in_err-build_of.ensures.whole next (subst (MakeDocs next) (sym same) make) (omega (arith, few, ap length same, items_length c.as_mut_slice.result.now)))
+    rw (p.1, p.2)
+    (c.in_err-build_of.ensures.whole next (subst (MakeDocs next) (sym same) make) (omega (arith, few, ap length same, items_length c.as_mut_slice.result.now)))
 
 pub returns-then-is_empty-clause-makes : goal.returns-then-is_empty-clause-makes
 returns-then-is_empty-clause-makes g c = λ told agrees contents reads.
@@ -54,7 +56,13 @@ build_of-requires-after_bounds g c = λ lifetimes outlive.
         lit< tt,
         (
           built_fits g.row.D c.requires,
-          (c.requires, (omega (arith, long, ap length same), subst (λ (es : List (Entry g.row.D)). All (λ e. e.doc < 2 ^ 24) es) (sym same) c.in_ok-entries.ensures.numbers)),
+          (
+            c.requires,
+            (
+              omega (arith, long, ap length same),
+              subst (λ (es : List (Entry g.row.D)). All (λ e. e.doc < 2 ^ 24) es) (sym same) c.in_ok-entries.ensures.numbers,
+            ),
+          ),
         ),
       ),
     )
@@ -65,15 +73,18 @@ returns-clause-gathered g c = λ n is.
     let live = c.in_ok-build_of.ensures.live in
     let long : 1 ≤ length c.in_ok-entries.entries.items = grind (arith, nat_tests, c.in_ok-entries.entries.ok.0, c.is_empty.ensures, c.if-is_empty.false) in
     subst (IsGathered g.row.D c.args.plan.now.leaf (parts_among c.args.ids.now c.args.segments.now)) (some_is c.in_ok-build_of.field-0 n is)
-    (gathered_of g.row.D c.args.plan.now.leaf (items_of c.as_mut_slice.result.now) has.0 c.in_ok-build_of.field-0 (parts_among c.args.ids.now c.args.segments.now) has.1 has.2 live.1
+    (gathered_of g.row.D c.args.plan.now.leaf (items_of c.as_mut_slice.result.now) has.0 c.in_ok-build_of.field-0
+    (parts_among c.args.ids.now c.args.segments.now) has.1 has.2 live.1
     c.in_ok-build_of.ensures.leaf live.0 (omega (arith, long, items_length c.as_mut_slice.result.now, ap length c.as_mut_slice.ensures.value))
-    (subst (λ (es : List (Entry g.row.D)). All (λ (x : Item). has_live x.doc (parts_among c.args.ids.now c.args.segments.now) ≡ true) (items_of es)) (sym c.as_mut_slice.ensures.value) c.in_ok-entries.ensures.live)
+    (subst (λ (es : List (Entry g.row.D)). All (λ (x : Item). has_live x.doc (parts_among c.args.ids.now c.args.segments.now) ≡ true) (items_of es))
+    (sym c.as_mut_slice.ensures.value) c.in_ok-entries.ensures.live)
     c.in_ok-build_of.ensures.uncrowded)
 
 pub returns-clause-makes : goal.returns-clause-makes
 returns-clause-makes g c = λ told agrees contents reads.
     let has = c.in_ok-build_of.ensures.has in
-    subst (λ (es : List Item). HoldsLive g.row.D es c.in_ok-build_of.field-0) (ap items_of c.as_mut_slice.ensures.value ∙ c.in_ok-entries.ensures.entries told agrees contents reads)
+    subst (λ (es : List Item). HoldsLive g.row.D es c.in_ok-build_of.field-0)
+    (ap items_of c.as_mut_slice.ensures.value ∙ c.in_ok-entries.ensures.entries told agrees contents reads)
     (holds_live g.row.D (items_of c.as_mut_slice.result.now) has.0 c.in_ok-build_of.field-0 has.1 has.2 c.in_ok-build_of.ensures.live.1)
 
 pub returns-clause-cause : goal.returns-clause-cause
@@ -83,34 +94,39 @@ pub returns-in_err-entries-clause-shown : goal.returns-in_err-entries-clause-sho
 returns-in_err-entries-clause-shown g c =
     let p = err_from_is_err_and c.from_residual.result c.from_residual.ensures.1 in
     λ names. rw (p.1, p.2)
-    (on_damage {T = Unit {0}} (IsPartDamage g.row.D (parts_among c.args.ids.now c.args.segments.now)) (IsMergeDamage g.row.D c.args.plan.now.given names c.args.segments.now) (Err c.in_err-entries.field-0.0)
+    (on_damage {T = Unit {0}} (IsPartDamage g.row.D (parts_among c.args.ids.now c.args.segments.now))
+    (IsMergeDamage g.row.D c.args.plan.now.given names c.args.segments.now) (Err c.in_err-entries.field-0.0)
     (part_shown g.row.D c.args.plan.now.given names c.args.ids.now c.args.segments.now) c.in_err-entries.ensures.shown)
 
 pub returns-in_err-entries-clause-damage : goal.returns-in_err-entries-clause-damage
 returns-in_err-entries-clause-damage g c =
     let p = err_from_is_err_and c.from_residual.result c.from_residual.ensures.1 in
     λ told agrees. rw (p.1, p.2)
-    (on_damage {T = Unit {0}} (IsLeafDamageOf (g.F.Pages.files c.args.folder.now)) (IsMergeDamageOf (g.F.Pages.files c.gather.new.folder) c.args.plan.now.given) (Err c.in_err-entries.field-0.0)
+    (on_damage {T = Unit {0}} (IsLeafDamageOf (g.F.Pages.files c.args.folder.now)) (IsMergeDamageOf (g.F.Pages.files c.gather.new.folder) c.args.plan.now.given)
+    (Err c.in_err-entries.field-0.0)
     (λ d h. inl (subst (λ f. IsLeafDamageOf f d) (sym (c.in_err-entries.ensures.calm.files told)) h)) (c.in_err-entries.ensures.damage told agrees))
 
 pub returns-in_err-entries-clause-doubled : goal.returns-in_err-entries-clause-doubled
 returns-in_err-entries-clause-doubled g c =
     let p = err_from_is_err_and c.from_residual.result c.from_residual.ensures.1 in
     λ told agrees contents reads. rw (p.1, p.2)
-    (whole_shows {T = Unit {0}} (IsDoubt c.args.plan.now.given (live_in_parts contents c.args.segments.now)) (Err c.in_err-entries.field-0.0) (c.in_err-entries.ensures.whole told agrees contents reads))
+    (whole_shows {T = Unit {0}} (IsDoubt c.args.plan.now.given (live_in_parts contents c.args.segments.now)) (Err c.in_err-entries.field-0.0)
+    (c.in_err-entries.ensures.whole told agrees contents reads))
 
 pub returns-in_err-build_of-clause-shown : goal.returns-in_err-build_of-clause-shown
 returns-in_err-build_of-clause-shown g c =
     let p = err_from_is_err_and c.from_residual-in_err-build_of.result c.from_residual-in_err-build_of.ensures.1 in
     λ names. rw (p.1, p.2)
-    (on_damage {T = Unit {0}} (IsDoubt c.args.plan.now.given (items_of c.as_mut_slice.result.now)) (IsMergeDamage g.row.D c.args.plan.now.given names c.args.segments.now) (Err c.in_err-build_of.field-0.0)
+    (on_damage {T = Unit {0}} (IsDoubt c.args.plan.now.given (items_of c.as_mut_slice.result.now))
+    (IsMergeDamage g.row.D c.args.plan.now.given names c.args.segments.now) (Err c.in_err-build_of.field-0.0)
     (λ d h. Doubt (items_of c.as_mut_slice.result.now) h) c.in_err-build_of.ensures.shown)
 
 pub returns-in_err-build_of-clause-damage : goal.returns-in_err-build_of-clause-damage
 returns-in_err-build_of-clause-damage g c =
     let p = err_from_is_err_and c.from_residual-in_err-build_of.result c.from_residual-in_err-build_of.ensures.1 in
     λ told agrees. rw (p.1, p.2)
-    (on_damage {T = Unit {0}} (IsDoubt c.args.plan.now.given (items_of c.as_mut_slice.result.now)) (IsMergeDamageOf (g.F.Pages.files c.gather.new.folder) c.args.plan.now.given) (Err c.in_err-build_of.field-0.0)
+    (on_damage {T = Unit {0}} (IsDoubt c.args.plan.now.given (items_of c.as_mut_slice.result.now))
+    (IsMergeDamageOf (g.F.Pages.files c.gather.new.folder) c.args.plan.now.given) (Err c.in_err-build_of.field-0.0)
     (λ d h. inr (items_of c.as_mut_slice.result.now, h)) c.in_err-build_of.ensures.shown)
 
 pub returns-in_err-build_of-clause-doubled : goal.returns-in_err-build_of-clause-doubled
@@ -120,8 +136,10 @@ returns-in_err-build_of-clause-doubled g c =
     let same : items_of c.as_mut_slice.result.now ≡ live_in_parts contents (parts_among c.args.ids.now c.args.segments.now) =
     ap items_of c.as_mut_slice.ensures.value ∙ c.in_ok-entries.ensures.entries told agrees contents reads in
     rw (p.1, p.2)
-    (on_damage {T = Unit {0}} (IsDoubt c.args.plan.now.given (items_of c.as_mut_slice.result.now)) (IsDoubt c.args.plan.now.given (live_in_parts contents c.args.segments.now)) (Err c.in_err-build_of.field-0.0)
-    (λ d h. doubt_among c.args.plan.now.given contents c.args.ids.now c.args.segments.now d (subst (λ (xs : List Item). IsDoubt c.args.plan.now.given xs d) same h)) c.in_err-build_of.ensures.shown)
+    (on_damage {T = Unit {0}} (IsDoubt c.args.plan.now.given (items_of c.as_mut_slice.result.now))
+    (IsDoubt c.args.plan.now.given (live_in_parts contents c.args.segments.now)) (Err c.in_err-build_of.field-0.0)
+    (λ d h. doubt_among c.args.plan.now.given contents c.args.ids.now c.args.segments.now d
+    (subst (λ (xs : List Item). IsDoubt c.args.plan.now.given xs d) same h)) c.in_err-build_of.ensures.shown)
 
 pub returns-in_err-entries-clause-evident : goal.returns-in_err-entries-clause-evident
 returns-in_err-entries-clause-evident g c =
@@ -130,9 +148,11 @@ returns-in_err-entries-clause-evident g c =
     let parts = c.args.segments.now in
     let told = IsTrue g.F.Pages.told × Agrees files c.args.cache.now × All (HasFileHead g.row.D files) parts × AreAlone parts in
     rw (p.1, p.2)
-    (on_evident_at {X = Unit {0}} (λ f. IsCrowdedIn g.row.D f parts) told told files (g.F.Pages.files c.gather.new.folder) (Err c.in_err-entries.field-0.0) (λ t. t) (λ t. c.in_err-entries.ensures.calm.files t.0)
+    (on_evident_at {X = Unit {0}} (λ f. IsCrowdedIn g.row.D f parts) told told files (g.F.Pages.files c.gather.new.folder) (Err c.in_err-entries.field-0.0)
+    (λ t. t) (λ t. c.in_err-entries.ensures.calm.files t.0)
     (on_part_evident {X = Unit {0}} (IsCrowdedIn g.row.D files parts) told g.row.D files (parts_among c.args.ids.now parts) (Err c.in_err-entries.field-0.0)
-    (λ t. All-filter (λ (q : Part). is_among c.args.ids.now q.head.id) (HasFileHead g.row.D files) parts t.2) (λ t. c.in_err-entries.ensures.damage t.0 t.1) c.in_err-entries.ensures.shown))
+    (λ t. All-filter (λ (q : Part). is_among c.args.ids.now q.head.id) (HasFileHead g.row.D files) parts t.2) (λ t. c.in_err-entries.ensures.damage t.0 t.1)
+    c.in_err-entries.ensures.shown))
 
 pub returns-in_err-build_of-clause-evident : goal.returns-in_err-build_of-clause-evident
 returns-in_err-build_of-clause-evident g c =
@@ -143,7 +163,8 @@ returns-in_err-build_of-clause-evident g c =
     let some = parts_among c.args.ids.now parts in
     let told = IsTrue g.F.Pages.told × Agrees files c.args.cache.now × All (HasFileHead g.row.D files) parts × AreAlone parts in
     rw (p.1, p.2)
-    (on_damage {T = Unit {0}} (IsDoubt c.args.plan.now.given (items_of c.as_mut_slice.result.now)) (IsEvidentIn g.row.D parts told after) (Err c.in_err-build_of.field-0.0)
+    (on_damage {T = Unit {0}} (IsDoubt c.args.plan.now.given (items_of c.as_mut_slice.result.now)) (IsEvidentIn g.row.D parts told after)
+    (Err c.in_err-build_of.field-0.0)
     (λ d h. doubt_evident told g.row.D after c.args.plan.now.given c.args.ids.now parts (items_of c.as_mut_slice.result.now) d (λ t. t.3)
     (λ t. subst (λ (f : Files). ∥ AreHeld g.row.D f some (items_of c.as_mut_slice.result.now) ∥₁) (sym (c.gather.ensures.calm.files t.0))
     (subst (λ (es : List (Entry g.row.D)). ∥ AreHeld g.row.D files some (items_of es) ∥₁) (sym c.as_mut_slice.ensures.value)

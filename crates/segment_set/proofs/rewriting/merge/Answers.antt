@@ -27,12 +27,16 @@ returns-clause-merged g c =
     on_ok_weaker c.replace.result
     (λ r. record {
       built = c.in_ok-built.built;
-      replaces = subst (λ (o : Option NewSegmentData). Replaces g.row.D (IsTrue g.F.Pages.told) c.args.names.now c.replace.new.names (g.F.Pages.files c.replace.new.folder) c.args.ids.now o c.args.segments.now c.replace.new.segments) same r.0;
+      replaces = subst
+          (λ (o : Option NewSegmentData).
+          Replaces g.row.D (IsTrue g.F.Pages.told) c.args.names.now c.replace.new.names (g.F.Pages.files c.replace.new.folder) c.args.ids.now o
+          c.args.segments.now c.replace.new.segments) same r.0;
       unnamed = λ none. r.1 (same ∙ none);
       gathered = c.in_ok-built.ensures.gathered;
       makes = c.in_ok-built.ensures.makes;
     })
-    (both_ok (Replaces g.row.D (IsTrue g.F.Pages.told) c.args.names.now c.replace.new.names (g.F.Pages.files c.replace.new.folder) c.args.ids.now built c.args.segments.now c.replace.new.segments)
+    (both_ok (Replaces g.row.D (IsTrue g.F.Pages.told) c.args.names.now c.replace.new.names (g.F.Pages.files c.replace.new.folder) c.args.ids.now built
+    c.args.segments.now c.replace.new.segments)
     (built ≡ None → c.replace.new.names ≡ c.args.names.now) c.replace.result c.replace.ensures.replaced c.replace.ensures.unnamed)
 
 pub returns-in_err-built-clause-shown : goal.returns-in_err-built-clause-shown
@@ -51,13 +55,16 @@ returns-in_err-built-clause-doubled g c =
     λ told agrees contents reads. rw (p.1, p.2) (c.in_err-built.ensures.doubled told agrees contents reads)
 
 pub returns-clause-shown : goal.returns-clause-shown
-returns-clause-shown g c = whole_shows (IsMergeDamage g.row.D c.args.plan.now.given c.args.names.now c.args.segments.now) c.replace.result c.replace.ensures.whole
+returns-clause-shown g c =
+    whole_shows (IsMergeDamage g.row.D c.args.plan.now.given c.args.names.now c.args.segments.now) c.replace.result c.replace.ensures.whole
 
 pub returns-clause-damage : goal.returns-clause-damage
-returns-clause-damage g c = λ told agrees. whole_shows (IsMergeDamageOf (g.F.Pages.files c.replace.new.folder) c.args.plan.now.given) c.replace.result c.replace.ensures.whole
+returns-clause-damage g c = λ told agrees.
+    whole_shows (IsMergeDamageOf (g.F.Pages.files c.replace.new.folder) c.args.plan.now.given) c.replace.result c.replace.ensures.whole
 
 pub returns-clause-doubled : goal.returns-clause-doubled
-returns-clause-doubled g c = λ told agrees contents reads. whole_shows (IsDoubt c.args.plan.now.given (live_in_parts contents c.args.segments.now)) c.replace.result c.replace.ensures.whole
+returns-clause-doubled g c = λ told agrees contents reads.
+    whole_shows (IsDoubt c.args.plan.now.given (live_in_parts contents c.args.segments.now)) c.replace.result c.replace.ensures.whole
 
 pub returns-in_err-built-clause-evident : goal.returns-in_err-built-clause-evident
 returns-in_err-built-clause-evident g c =
@@ -67,4 +74,6 @@ returns-in_err-built-clause-evident g c =
 pub returns-clause-evident : goal.returns-clause-evident
 returns-clause-evident g c =
     let files = g.F.Pages.files c.args.folder.now in
-    none_with (IsCrowdedIn g.row.D (g.F.Pages.files c.replace.new.folder) c.args.segments.now) (IsTrue g.F.Pages.told × Agrees files c.args.cache.now × All (HasFileHead g.row.D files) c.args.segments.now × AreAlone c.args.segments.now) (g.F.Pages.files c.replace.new.folder) c.replace.result c.replace.ensures.whole
+    none_with (IsCrowdedIn g.row.D (g.F.Pages.files c.replace.new.folder) c.args.segments.now)
+    (IsTrue g.F.Pages.told × Agrees files c.args.cache.now × All (HasFileHead g.row.D files) c.args.segments.now × AreAlone c.args.segments.now)
+    (g.F.Pages.files c.replace.new.folder) c.replace.result c.replace.ensures.whole

@@ -11,7 +11,8 @@ use Rattle.segment_set.proofs.rewriting.write_buffer.Goals as goal
 
 pub returns-clause-spilled : goal.returns-clause-spilled
 returns-clause-spilled g c =
-    let same : items_of c.as_mut_slice.result.now ≡ items_of c.args.buffer.now.items = ap items_of (c.as_mut_slice.ensures.value ∙ c.in_ok-entries.ensures.items ∙ c.as_slice.ensures.value) in
+    let same : items_of c.as_mut_slice.result.now ≡ items_of c.args.buffer.now.items =
+    ap items_of (c.as_mut_slice.ensures.value ∙ c.in_ok-entries.ensures.items ∙ c.as_slice.ensures.value) in
     let has = c.in_ok-new.ensures.has in
     let live = c.in_ok-new.ensures.live in
     record {
@@ -21,6 +22,8 @@ returns-clause-spilled g c =
           (subst AreUncrowded (sym same) (uncrowded (items_of c.args.buffer.now.items) c.requires.once c.requires.sixteen));
       put = c.in_ok-put.ensures.put;
       live = live.1 ∙ ap (λ (es : List Item). λ number. has_entry number es) same;
-      holds = subst (λ (es : List Item). HoldsLive g.row.D es c.in_ok-new.new) same (holds_live g.row.D (items_of c.as_mut_slice.result.now) has.0 c.in_ok-new.new has.1 has.2 live.1);
-      all = merely (record { items = has.0; has = has.2; all = all_live g.row.D (items_of c.as_mut_slice.result.now) has.0 c.in_ok-new.new has.1 has.2 live.1 });
+      holds = subst (λ (es : List Item). HoldsLive g.row.D es c.in_ok-new.new) same
+          (holds_live g.row.D (items_of c.as_mut_slice.result.now) has.0 c.in_ok-new.new has.1 has.2 live.1);
+      all =
+          merely (record { items = has.0; has = has.2; all = all_live g.row.D (items_of c.as_mut_slice.result.now) has.0 c.in_ok-new.new has.1 has.2 live.1 });
     }

@@ -12,7 +12,7 @@ use Rattle.segment_view.proofs.Living.{part_in, parts_more}
 use Rattle.segment_set.specs.Sets.{IsNamed}
 use Rattle.segment_set.specs.Saved.{IsSaved}
 use Rattle.segment_set.proofs.Carried.{keeps_then}
-use Rattle.segment_set.proofs.Saving.{later_among, later_id, other_live, saved_more, take_whole}
+use Rattle.segment_set.proofs.SavedSegments.{later_among, later_id, other_live, saved_more, take_whole}
 use Rattle.segment_set.proofs.save.write_lives.Goals as goal
 
 pub write_one-requires : goal.write_one-requires
@@ -34,29 +34,37 @@ loop-i-preserved g c =
     let was = c.loop-i.invariant in
     let one = c.in_ok-one.ensures in
     record {
-      kept = keeps_then (IsTrue g.F.Pages.told) c.args.names.now c.loop-i.names c.write_one.new.names (g.F.Pages.files c.args.folder.now) (g.F.Pages.files c.loop-i.folder) (g.F.Pages.files c.write_one.new.folder) was.kept one.kept;
+      kept = keeps_then (IsTrue g.F.Pages.told) c.args.names.now c.loop-i.names c.write_one.new.names (g.F.Pages.files c.args.folder.now)
+          (g.F.Pages.files c.loop-i.folder) (g.F.Pages.files c.write_one.new.folder) was.kept one.kept;
       next = one.next ∙ was.next;
       apart = λ id n none.
-          let later = later_among (take c.loop-i.i parts) p id (subst (λ (ps : List Part). is_among (ids_of ps) id ≡ false) (parts_more parts c.loop-i.i p c.part.ensures) none) in
+          let later = later_among (take c.loop-i.i parts) p id
+          (subst (λ (ps : List Part). is_among (ids_of ps) id ≡ false) (parts_more parts c.loop-i.i p c.part.ensures) none) in
           ap (λ (ns : List FileName). is_named ns (Live id n)) one.joined
           ∙ other_live c.loop-i.names.names c.in_ok-one.one.segment c.in_ok-one.one.generation id n (λ same. later.1 (same ∙ one.listed.segment))
           ∙ was.apart id n later.0;
       reads = one.reads ∙ was.reads;
       faults = one.cause.fine ∙ was.faults;
       room = omega (arith, was.room, c.push_reserved.ensures.len, c.push_reserved.ensures.capacity, c.loop-i-test.true, c.len-i-end.ensures.value);
-      listed = subst (λ (ls : List Listed). AllZip (IsSaved (IsTrue g.F.Pages.told) c.args.names.now c.write_one.new.names (g.F.Pages.files c.write_one.new.folder)) ls (take (c.loop-i.i + 1) parts)) (sym c.push_reserved.ensures.items)
-          (saved_more (IsTrue g.F.Pages.told) c.args.names.now c.loop-i.names c.write_one.new.names (g.F.Pages.files c.loop-i.folder) (g.F.Pages.files c.write_one.new.folder) c.loop-i.listed.items (take c.loop-i.i parts) (take (c.loop-i.i + 1) parts)
-          c.in_ok-one.one p one.kept was.kept.more (λ n. was.apart p.head.id n (later_id parts c.loop-i.i p c.requires.ascend c.part.ensures)) one.next (parts_more parts c.loop-i.i p c.part.ensures) was.listed one.listed);
+      listed = subst
+          (λ (ls : List Listed). AllZip (IsSaved (IsTrue g.F.Pages.told) c.args.names.now c.write_one.new.names (g.F.Pages.files c.write_one.new.folder)) ls
+          (take (c.loop-i.i + 1) parts)) (sym c.push_reserved.ensures.items)
+          (saved_more (IsTrue g.F.Pages.told) c.args.names.now c.loop-i.names c.write_one.new.names (g.F.Pages.files c.loop-i.folder)
+          (g.F.Pages.files c.write_one.new.folder) c.loop-i.listed.items (take c.loop-i.i parts) (take (c.loop-i.i + 1) parts)
+          c.in_ok-one.one p one.kept was.kept.more (λ n. was.apart p.head.id n (later_id parts c.loop-i.i p c.requires.ascend c.part.ensures)) one.next
+          (parts_more parts c.loop-i.i p c.part.ensures) was.listed one.listed);
     }
 
 pub returns-clause-listed : goal.returns-clause-listed
 returns-clause-listed g c =
     let long : length c.args.segments.now ≤ c.loop-i.i = omega (arith, c.loop-i-test.false, c.len-i-end.ensures.value) in
-    subst (AllZip (IsSaved (IsTrue g.F.Pages.told) c.args.names.now c.loop-i.names (g.F.Pages.files c.loop-i.folder)) c.loop-i.listed.items) (take_whole c.args.segments.now c.loop-i.i long) c.loop-i.invariant.listed
+    subst (AllZip (IsSaved (IsTrue g.F.Pages.told) c.args.names.now c.loop-i.names (g.F.Pages.files c.loop-i.folder)) c.loop-i.listed.items)
+    (take_whole c.args.segments.now c.loop-i.i long) c.loop-i.invariant.listed
 
 pub returns-clause-reads : goal.returns-clause-reads
 returns-clause-reads g c = c.loop-i.invariant.reads
 
 pub returns-in_err-one-clause-kept : goal.returns-in_err-one-clause-kept
 returns-in_err-one-clause-kept g c =
-    keeps_then (IsTrue g.F.Pages.told) c.args.names.now c.loop-i.names c.write_one.new.names (g.F.Pages.files c.args.folder.now) (g.F.Pages.files c.loop-i.folder) (g.F.Pages.files c.write_one.new.folder) c.loop-i.invariant.kept c.in_err-one.ensures.kept
+    keeps_then (IsTrue g.F.Pages.told) c.args.names.now c.loop-i.names c.write_one.new.names (g.F.Pages.files c.args.folder.now)
+    (g.F.Pages.files c.loop-i.folder) (g.F.Pages.files c.write_one.new.folder) c.loop-i.invariant.kept c.in_err-one.ensures.kept

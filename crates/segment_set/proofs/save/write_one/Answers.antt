@@ -8,14 +8,16 @@ use Rattle.segment_set.proofs.save.write_one.Goals as goal
 
 pub returns-in_err-write_live-clause-kept : goal.returns-in_err-write_live-clause-kept
 returns-in_err-write_live-clause-kept g c =
-    keeps_written (IsTrue g.F.Pages.told) c.args.names.now c.name_live.new.self (g.F.Pages.files c.args.folder.now) (g.F.Pages.files c.write_live.new.folder) (Live c.id-segment.result c.in_ok-generation.generation)
+    keeps_written (IsTrue g.F.Pages.told) c.args.names.now c.name_live.new.self (g.F.Pages.files c.args.folder.now) (g.F.Pages.files c.write_live.new.folder)
+    (Live c.id-segment.result c.in_ok-generation.generation)
     (c.in_ok-generation.ensures.rule, c.in_ok-generation.ensures.named, c.in_ok-generation.ensures.next)
     c.in_ok-generation.ensures.named c.in_ok-generation.ensures.fresh (λ e. cc) c.in_err-write_live.ensures.others
 
 pub returns-in_err-write_live-clause-cause : goal.returns-in_err-write_live-clause-cause
 returns-in_err-write_live-clause-cause g c =
     let e = err_from_is_err_and c.from_residual-in_err-write_live.result c.from_residual-in_err-write_live.ensures.1 in
-    rw (e.1, e.2) (seg_cause (g.F.Pages.faults c.args.folder.now) (g.F.Pages.faults c.write_live.new.folder) c.in_err-write_live.field-0.0 c.in_err-write_live.ensures.cause)
+    rw (e.1, e.2)
+    (seg_cause (g.F.Pages.faults c.args.folder.now) (g.F.Pages.faults c.write_live.new.folder) c.in_err-write_live.field-0.0 c.in_err-write_live.ensures.cause)
 
 pub returns-in_err-write_live-clause-whole : goal.returns-in_err-write_live-clause-whole
 returns-in_err-write_live-clause-whole g c =
@@ -24,7 +26,8 @@ returns-in_err-write_live-clause-whole g c =
 
 pub returns-clause-kept : goal.returns-clause-kept
 returns-clause-kept g c =
-    keeps_written (IsTrue g.F.Pages.told) c.args.names.now c.name_live.new.self (g.F.Pages.files c.args.folder.now) (g.F.Pages.files c.write_live.new.folder) (Live c.id-segment.result c.in_ok-generation.generation)
+    keeps_written (IsTrue g.F.Pages.told) c.args.names.now c.name_live.new.self (g.F.Pages.files c.args.folder.now) (g.F.Pages.files c.write_live.new.folder)
+    (Live c.id-segment.result c.in_ok-generation.generation)
     (c.in_ok-generation.ensures.rule, c.in_ok-generation.ensures.named, c.in_ok-generation.ensures.next)
     c.in_ok-generation.ensures.named c.in_ok-generation.ensures.fresh (λ e. cc) c.in_ok-write_live.ensures.others
 

@@ -9,5 +9,6 @@ use Rattle.segment_set.proofs.snapshots.snapshot_named.Goals as goal
 pub unreachable-requires : goal.unreachable-requires
 unreachable-requires g c =
     both_ways _
-    (none_named c.args.name.now c.args.snapshots.now (sym c.loop-snapshot.invariant ∙ ap (view_of c.args.name.now) (drop_all c.loop-snapshot.snapshot-index c.args.snapshots.now c.loop-snapshot-test.false)))
+    (none_named c.args.name.now c.args.snapshots.now
+    (sym c.loop-snapshot.invariant ∙ ap (view_of c.args.name.now) (drop_all c.loop-snapshot.snapshot-index c.args.snapshots.now c.loop-snapshot-test.false)))
     c.requires

@@ -16,7 +16,8 @@ use Rattle.segment_view.proofs.gathering.append_live.Goals as goal
 pub returns-then-live_count-eq0-clause-entries : goal.returns-then-live_count-eq0-clause-entries
 returns-then-live_count-eq0-clause-entries g c = λ told agrees es r.
     let old = items_of c.args.entries.now.items in
-    sym (ap (λ (xs : List Item). old ++ xs) (nothing_live es (part_of c.args.head.now c.args.live.now) (sym c.live_count.ensures.value ∙ c.if-live_count-eq0.true)) ∙ append-nil old)
+    sym (ap (λ (xs : List Item). old ++ xs)
+    (nothing_live es (part_of c.args.head.now c.args.live.now) (sym c.live_count.ensures.value ∙ c.if-live_count-eq0.true)) ∙ append-nil old)
 
 pub returns-then-live_count-eq0-clause-held : goal.returns-then-live_count-eq0-clause-held
 returns-then-live_count-eq0-clause-held g c = λ told agrees own. (
@@ -40,23 +41,27 @@ returns-clause-reads g c =
 pub returns-in_err-more-clause-calm : goal.returns-in_err-more-clause-calm
 returns-in_err-more-clause-calm g c =
     let read = c.in_err-more.ensures in
-    calm_alone g.F.Pages.told (g.F.Pages.files c.args.folder.now) (g.F.Pages.files c.read_entries.new.folder) c.args.cache.now c.read_entries.new.cache c.args.head.now.id read.files read.agrees read.others
+    calm_alone g.F.Pages.told (g.F.Pages.files c.args.folder.now) (g.F.Pages.files c.read_entries.new.folder) c.args.cache.now c.read_entries.new.cache
+    c.args.head.now.id read.files read.agrees read.others
 
 pub returns-in_err-more-clause-shown : goal.returns-in_err-more-clause-shown
 returns-in_err-more-clause-shown g c =
     let e = err_from_is_err_and c.from_residual.result c.from_residual.ensures.1 in
     rw (e.1, e.2)
-    (read_shown {T = Unit {0}} g.row.D c.args.head.now c.index.result.now (Err c.in_err-more.field-0.0) c.index.ensures.ranges c.index.ensures.value c.is_spelled.ensures c.in_err-more.ensures.shown)
+    (read_shown {T = Unit {0}} g.row.D c.args.head.now c.index.result.now (Err c.in_err-more.field-0.0) c.index.ensures.ranges c.index.ensures.value
+    c.is_spelled.ensures c.in_err-more.ensures.shown)
 
 pub returns-in_err-append-clause-calm : goal.returns-in_err-append-clause-calm
 returns-in_err-append-clause-calm g c =
     let read = c.in_ok-more.ensures in
-    calm_alone g.F.Pages.told (g.F.Pages.files c.args.folder.now) (g.F.Pages.files c.read_entries.new.folder) c.args.cache.now c.read_entries.new.cache c.args.head.now.id read.files read.agrees read.others
+    calm_alone g.F.Pages.told (g.F.Pages.files c.args.folder.now) (g.F.Pages.files c.read_entries.new.folder) c.args.cache.now c.read_entries.new.cache
+    c.args.head.now.id read.files read.agrees read.others
 
 pub returns-clause-calm : goal.returns-clause-calm
 returns-clause-calm g c =
     let read = c.in_ok-more.ensures in
-    calm_alone g.F.Pages.told (g.F.Pages.files c.args.folder.now) (g.F.Pages.files c.read_entries.new.folder) c.args.cache.now c.read_entries.new.cache c.args.head.now.id read.files read.agrees read.others
+    calm_alone g.F.Pages.told (g.F.Pages.files c.args.folder.now) (g.F.Pages.files c.read_entries.new.folder) c.args.cache.now c.read_entries.new.cache
+    c.args.head.now.id read.files read.agrees read.others
 
 pub returns-clause-entries : goal.returns-clause-entries
 returns-clause-entries g c = λ told agrees es r.
@@ -68,18 +73,21 @@ returns-clause-entries g c = λ told agrees es r.
 pub returns-clause-held : goal.returns-clause-held
 returns-clause-held g c = λ told agrees own. (
   items_of c.in_ok-more.more.items,
-  ap (λ (xs : List (Entry g.row.D)). items_of xs) c.in_ok-append.ensures.items ∙ map-append (λ (e : Entry g.row.D). record { doc = e.doc; at = e.point.c }) c.args.entries.now.items c.in_ok-more.more.items,
+  ap (λ (xs : List (Entry g.row.D)). items_of xs) c.in_ok-append.ensures.items
+      ∙ map-append (λ (e : Entry g.row.D). record { doc = e.doc; at = e.point.c }) c.args.entries.now.items c.in_ok-more.more.items,
   inr (c.in_ok-more.ensures.spelled told agrees own),
 )
 
 pub returns-clause-live : goal.returns-clause-live
 returns-clause-live g c = (
   items_of c.in_ok-more.more.items,
-  ap (λ (xs : List (Entry g.row.D)). items_of xs) c.in_ok-append.ensures.items ∙ map-append (λ (e : Entry g.row.D). record { doc = e.doc; at = e.point.c }) c.args.entries.now.items c.in_ok-more.more.items,
+  ap (λ (xs : List (Entry g.row.D)). items_of xs) c.in_ok-append.ensures.items
+      ∙ map-append (λ (e : Entry g.row.D). record { doc = e.doc; at = e.point.c }) c.args.entries.now.items c.in_ok-more.more.items,
   c.in_ok-more.ensures.live,
 )
 
 pub returns-clause-numbers : goal.returns-clause-numbers
 returns-clause-numbers g c = λ old.
     subst (λ (es : List (Entry g.row.D)). All (λ (e : Entry g.row.D). e.doc < 2 ^ 24) es) (sym c.in_ok-append.ensures.items)
-    (All-append (λ (e : Entry g.row.D). e.doc < 2 ^ 24) c.args.entries.now.items c.in_ok-more.more.items old (numbers_below c.args.live.now c.in_ok-more.more.items c.live_count.ensures.set c.in_ok-more.ensures.live))
+    (All-append (λ (e : Entry g.row.D). e.doc < 2 ^ 24) c.args.entries.now.items c.in_ok-more.more.items old
+    (numbers_below c.args.live.now c.in_ok-more.more.items c.live_count.ensures.set c.in_ok-more.ensures.live))

@@ -24,10 +24,13 @@ loop-i-preserved g c =
     let files = g.F.Pages.files c.args.folder.now in
     let more = one.live in
     record {
-      calm = calm_then g.F.Pages.told files (g.F.Pages.files c.loop-i.folder) (g.F.Pages.files c.gather_one.new.folder) c.args.cache.now c.loop-i.cache c.gather_one.new.cache (ids_of (parts_among ids parts)) was.calm
-          (calm_more g.F.Pages.told (g.F.Pages.files c.loop-i.folder) (g.F.Pages.files c.gather_one.new.folder) c.loop-i.cache c.gather_one.new.cache (ids_of (parts_among ids (p ∷ []))) (ids_of (parts_among ids parts)) (among_in ids parts p there) one.calm);
+      calm = calm_then g.F.Pages.told files (g.F.Pages.files c.loop-i.folder) (g.F.Pages.files c.gather_one.new.folder) c.args.cache.now c.loop-i.cache
+          c.gather_one.new.cache (ids_of (parts_among ids parts)) was.calm
+          (calm_more g.F.Pages.told (g.F.Pages.files c.loop-i.folder) (g.F.Pages.files c.gather_one.new.folder) c.loop-i.cache c.gather_one.new.cache
+          (ids_of (parts_among ids (p ∷ []))) (ids_of (parts_among ids parts)) (among_in ids parts p there) one.calm);
       faults = one.cause.fine ∙ was.faults;
-      live = subst (λ (xs : List Item). All (λ (x : Item). has_live x.doc (parts_among ids parts) ≡ true) xs) (sym more.1) (all_widen ids parts p (items_of c.loop-i.entries.items) more.0 there was.live more.2);
+      live = subst (λ (xs : List Item). All (λ (x : Item). has_live x.doc (parts_among ids parts) ≡ true) xs) (sym more.1)
+          (all_widen ids parts p (items_of c.loop-i.entries.items) more.0 there was.live more.2);
       numbers = one.numbers was.numbers;
       reads =
           let step = leaves_among_more ids parts c.loop-i.i p is in
@@ -35,13 +38,17 @@ loop-i-preserved g c =
           let here = one.reads in
           omega (arith, step, before, here);
       held = λ told agrees own.
-          let of = one.held told (agrees_after g.F.Pages.told files (g.F.Pages.files c.loop-i.folder) c.args.cache.now c.loop-i.cache (ids_of (parts_among ids parts)) was.calm told agrees)
+          let of = one.held told
+          (agrees_after g.F.Pages.told files (g.F.Pages.files c.loop-i.folder) c.args.cache.now c.loop-i.cache (ids_of (parts_among ids parts)) was.calm told
+          agrees)
           (subst (λ f. HasOwnHead g.row.D f p) (sym (was.calm.files told)) (All-contains (HasOwnHead g.row.D files) parts p own there)) in
           subst (λ (xs : List Item). AreHeld g.row.D files (parts_among ids (take (c.loop-i.i + 1) parts)) xs) (sym of.1)
           (held_more g.row.D files ids parts c.loop-i.i p (items_of c.loop-i.entries.items) of.0 is (was.held told agrees own)
           (subst (λ f. AreHeld g.row.D f (parts_among ids (p ∷ [])) of.0) (was.calm.files told) of.2));
       entries = λ told agrees es read.
-          one.entries told (agrees_after g.F.Pages.told files (g.F.Pages.files c.loop-i.folder) c.args.cache.now c.loop-i.cache (ids_of (parts_among ids parts)) was.calm told agrees) es
+          one.entries told
+          (agrees_after g.F.Pages.told files (g.F.Pages.files c.loop-i.folder) c.args.cache.now c.loop-i.cache (ids_of (parts_among ids parts)) was.calm told
+          agrees) es
           (subst (λ f. IsRead g.row.D f es p) (sym (was.calm.files told)) (All-contains (IsRead g.row.D files es) parts p read there))
           ∙ ap (λ (xs : List Item). xs ++ live_in_parts es (parts_among ids (p ∷ []))) (was.entries told agrees es read)
           ∙ sym (live_among_more es ids parts c.loop-i.i p is);
@@ -59,15 +66,19 @@ returns-in_err-gather_one-clause-calm g c =
     let parts = c.args.segments.now in
     let ids = c.args.ids.now in
     let p = part_of c.part.result.0.now c.part.result.1.now in
-    calm_then g.F.Pages.told (g.F.Pages.files c.args.folder.now) (g.F.Pages.files c.loop-i.folder) (g.F.Pages.files c.gather_one.new.folder) c.args.cache.now c.loop-i.cache c.gather_one.new.cache (ids_of (parts_among ids parts)) c.loop-i.invariant.calm
-    (calm_more g.F.Pages.told (g.F.Pages.files c.loop-i.folder) (g.F.Pages.files c.gather_one.new.folder) c.loop-i.cache c.gather_one.new.cache (ids_of (parts_among ids (p ∷ []))) (ids_of (parts_among ids parts)) (among_in ids parts p (part_in parts c.loop-i.i p c.part.ensures))
+    calm_then g.F.Pages.told (g.F.Pages.files c.args.folder.now) (g.F.Pages.files c.loop-i.folder) (g.F.Pages.files c.gather_one.new.folder) c.args.cache.now
+    c.loop-i.cache c.gather_one.new.cache (ids_of (parts_among ids parts)) c.loop-i.invariant.calm
+    (calm_more g.F.Pages.told (g.F.Pages.files c.loop-i.folder) (g.F.Pages.files c.gather_one.new.folder) c.loop-i.cache c.gather_one.new.cache
+    (ids_of (parts_among ids (p ∷ []))) (ids_of (parts_among ids parts)) (among_in ids parts p (part_in parts c.loop-i.i p c.part.ensures))
     c.in_err-gather_one.ensures.calm)
 
 pub returns-in_err-gather_one-clause-shown : goal.returns-in_err-gather_one-clause-shown
 returns-in_err-gather_one-clause-shown g c =
     let e = err_from_is_err_and c.from_residual.result c.from_residual.ensures.1 in
     let p = part_of c.part.result.0.now c.part.result.1.now in
-    rw (e.1, e.2) (part_among {T = Unit {0}} g.row.D c.args.ids.now c.args.segments.now p (part_in c.args.segments.now c.loop-i.i p c.part.ensures) (Err c.in_err-gather_one.field-0.0) c.in_err-gather_one.ensures.shown)
+    rw (e.1, e.2)
+    (part_among {T = Unit {0}} g.row.D c.args.ids.now c.args.segments.now p (part_in c.args.segments.now c.loop-i.i p c.part.ensures)
+    (Err c.in_err-gather_one.field-0.0) c.in_err-gather_one.ensures.shown)
 
 pub returns-in_err-gather_one-clause-whole : goal.returns-in_err-gather_one-clause-whole
 returns-in_err-gather_one-clause-whole g c = λ told agrees es read.
@@ -77,5 +88,8 @@ returns-in_err-gather_one-clause-whole g c = λ told agrees es read.
     let files = g.F.Pages.files c.args.folder.now in
     let e = err_from_is_err_and c.from_residual.result c.from_residual.ensures.1 in
     rw (e.1, e.2)
-    (c.in_err-gather_one.ensures.whole told (agrees_after g.F.Pages.told files (g.F.Pages.files c.loop-i.folder) c.args.cache.now c.loop-i.cache (ids_of (parts_among c.args.ids.now parts)) calm told agrees) es
-    (subst (λ f. IsRead g.row.D f es p) (sym (calm.files told)) (All-contains (IsRead g.row.D files es) parts p read (part_in parts c.loop-i.i p c.part.ensures))))
+    (c.in_err-gather_one.ensures.whole told
+    (agrees_after g.F.Pages.told files (g.F.Pages.files c.loop-i.folder) c.args.cache.now c.loop-i.cache (ids_of (parts_among c.args.ids.now parts)) calm told
+    agrees) es
+    (subst (λ f. IsRead g.row.D f es p) (sym (calm.files told))
+    (All-contains (IsRead g.row.D files es) parts p read (part_in parts c.loop-i.i p c.part.ensures))))

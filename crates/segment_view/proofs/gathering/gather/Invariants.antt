@@ -15,8 +15,10 @@ invariant-loop-i g l = record {
   live : All (λ x. has_live x.doc (parts_among l.ids l.segments) ≡ true) (items_of l.entries.items);
   numbers : All (λ e. e.doc < 2 ^ 24) l.entries.items;
   reads : g.F.Pages.reads l.folder ≤ g.F.Pages.reads l.initial.folder + leaves_in (heads_of (parts_among l.ids (take l.i l.segments)));
-  held : IsTrue g.F.Pages.told → Agrees (g.F.Pages.files l.initial.folder) l.initial.cache → All (HasOwnHead g.row.D (g.F.Pages.files l.initial.folder)) l.segments
+  held : IsTrue g.F.Pages.told → Agrees (g.F.Pages.files l.initial.folder) l.initial.cache
+      → All (HasOwnHead g.row.D (g.F.Pages.files l.initial.folder)) l.segments
       → AreHeld g.row.D (g.F.Pages.files l.initial.folder) (parts_among l.ids (take l.i l.segments)) (items_of l.entries.items);
-  entries : IsTrue g.F.Pages.told → Agrees (g.F.Pages.files l.initial.folder) l.initial.cache → (c : Contents) → AreRead g.row.D (g.F.Pages.files l.initial.folder) c l.segments
+  entries : IsTrue g.F.Pages.told → Agrees (g.F.Pages.files l.initial.folder) l.initial.cache → (c : Contents)
+      → AreRead g.row.D (g.F.Pages.files l.initial.folder) c l.segments
       → items_of l.entries.items ≡ live_in_parts c (parts_among l.ids (take l.i l.segments));
 }

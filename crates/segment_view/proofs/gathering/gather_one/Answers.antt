@@ -24,34 +24,43 @@ use Rattle.segment_view.proofs.gathering.gather_one.Goals as goal
 pub returns-then-not-contains-clause-held : goal.returns-then-not-contains-clause-held
 returns-then-not-contains-clause-held g c = λ told agrees own.
     let p = part_of c.args.head.now c.args.live.now in
-    let other : is_among c.args.ids.now p.head.id ≡ false = ap (λ n. list_any (λ m. eqb m n) c.args.ids.now) (sym c.id.ensures) ∙ sym c.contains.ensures.value ∙ c.if-not-contains.true in
+    let other : is_among c.args.ids.now p.head.id ≡ false =
+    ap (λ n. list_any (λ m. eqb m n) c.args.ids.now) (sym c.id.ensures) ∙ sym c.contains.ensures.value ∙ c.if-not-contains.true in
     ([], sym (append-nil (items_of c.args.entries.now.items)), held_other g.row.D (g.F.Pages.files c.args.folder.now) c.args.ids.now p other)
 
 -- a segment whose id is one of these is read
 pub returns : goal.returns
 returns g c =
     let p = part_of c.args.head.now c.args.live.now in
-    let among : is_among c.args.ids.now p.head.id ≡ true = ap (λ n. list_any (λ m. eqb m n) c.args.ids.now) (sym c.id.ensures) ∙ sym c.contains.ensures.value ∙ c.if-not-contains.false in
+    let among : is_among c.args.ids.now p.head.id ≡ true =
+    ap (λ n. list_any (λ m. eqb m n) c.args.ids.now) (sym c.id.ensures) ∙ sym c.contains.ensures.value ∙ c.if-not-contains.false in
     let same = sym (among_one c.args.ids.now p among) in
     let one = c.append_live.ensures in
     record {
       entries = λ told agrees es r.
-          subst (λ (ps : List Part). OnOk c.append_live.result (items_of c.append_live.new.entries.items ≡ items_of c.args.entries.now.items ++ live_in_parts es ps)) same (one.entries told agrees es r);
+          subst (λ (ps : List Part).
+          OnOk c.append_live.result (items_of c.append_live.new.entries.items ≡ items_of c.args.entries.now.items ++ live_in_parts es ps)) same
+          (one.entries told agrees es r);
       held = λ told agrees own. on_ok_weaker c.append_live.result (λ m. (
         m.0,
         m.1,
-        subst (λ (ps : List Part). AreHeld g.row.D (g.F.Pages.files c.args.folder.now) ps m.0) same (held_one g.row.D (g.F.Pages.files c.args.folder.now) p m.0 m.2),
+        subst (λ (ps : List Part). AreHeld g.row.D (g.F.Pages.files c.args.folder.now) ps m.0) same
+            (held_one g.row.D (g.F.Pages.files c.args.folder.now) p m.0 m.2),
       )) (one.held told agrees own);
       live = on_ok_weaker c.append_live.result (λ m. (
         m.0,
         m.1,
-        All-weaker (λ (x : Item). is_live p.live x.doc ≡ true) (λ (x : Item). has_live x.doc (parts_among c.args.ids.now (p ∷ [])) ≡ true) (λ x live. live_in_one c.args.ids.now p x.doc among live) m.0 m.2,
+        All-weaker (λ (x : Item). is_live p.live x.doc ≡ true) (λ (x : Item). has_live x.doc (parts_among c.args.ids.now (p ∷ [])) ≡ true)
+            (λ x live. live_in_one c.args.ids.now p x.doc among live) m.0 m.2,
       )) one.live;
       numbers = one.numbers;
       reads =
           let few = one.reads in
-          subst (λ (ps : List Part). g.F.Pages.reads c.append_live.new.folder ≤ g.F.Pages.reads c.args.folder.now + leaves_in (heads_of ps)) same (omega (arith, few));
-      calm = subst (λ (ps : List Part). IsCalm g.F.Pages.told (g.F.Pages.files c.args.folder.now) (g.F.Pages.files c.append_live.new.folder) c.args.cache.now c.append_live.new.cache (ids_of ps)) same one.calm;
+          subst (λ (ps : List Part). g.F.Pages.reads c.append_live.new.folder ≤ g.F.Pages.reads c.args.folder.now + leaves_in (heads_of ps)) same
+          (omega (arith, few));
+      calm = subst (λ (ps : List Part).
+          IsCalm g.F.Pages.told (g.F.Pages.files c.args.folder.now) (g.F.Pages.files c.append_live.new.folder) c.args.cache.now c.append_live.new.cache
+          (ids_of ps)) same one.calm;
       cause = one.cause;
       shown = subst (λ (ps : List Part). OnDamage c.append_live.result (IsPartDamage g.row.D ps)) same
           (on_damage (IsReadDamage g.row.D p.head) (IsPartDamage g.row.D (p ∷ [])) c.append_live.result (λ d h. (p, cons_head p [], h)) one.shown);

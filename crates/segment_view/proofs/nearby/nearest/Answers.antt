@@ -19,7 +19,8 @@ returns-clause-answer g c = λ told agrees es read.
     let files = g.F.Pages.files c.args.folder.now in
     let parts = c.args.segments.now in
     let at = c.args.at.now.c in
-    let live = ap (λ (hs : List Head). live_in es hs c.lives.result.now) c.heads-2.ensures.value ∙ ap (λ (ls : List LiveSet). live_in es (heads_of parts) ls) c.lives.ensures ∙ live_listed es parts in
+    let live = ap (λ (hs : List Head). live_in es hs c.lives.result.now) c.heads-2.ensures.value
+    ∙ ap (λ (ls : List LiveSet). live_in es (heads_of parts) ls) c.lives.ensures ∙ live_listed es parts in
     subst (λ (xs : List Item). IfOk c.nearest.result (λ v. IsNearest c.args.k (nears_of at (xs ++ items_of c.args.buffer.now)) v.items)) live
     (c.nearest.ensures.answer told agrees es (subst (AreSegments g.row.D files es) (sym c.heads-2.ensures.value) (read_segments g.row.D files es parts read)))
 
@@ -28,8 +29,10 @@ returns-clause-reads g c = λ told agrees es read found is leaves near.
     let files = g.F.Pages.files c.args.folder.now in
     let parts = c.args.segments.now in
     let at = c.args.at.now.c in
-    let live = ap (λ (hs : List Head). live_in es hs c.lives.result.now) c.heads-2.ensures.value ∙ ap (λ (ls : List LiveSet). live_in es (heads_of parts) ls) c.lives.ensures ∙ live_listed es parts in
-    c.nearest.ensures.reads told agrees es (subst (AreSegments g.row.D files es) (sym c.heads-2.ensures.value) (read_segments g.row.D files es parts read)) found
+    let live = ap (λ (hs : List Head). live_in es hs c.lives.result.now) c.heads-2.ensures.value
+    ∙ ap (λ (ls : List LiveSet). live_in es (heads_of parts) ls) c.lives.ensures ∙ live_listed es parts in
+    c.nearest.ensures.reads told agrees es (subst (AreSegments g.row.D files es) (sym c.heads-2.ensures.value) (read_segments g.row.D files es parts read))
+    found
     (subst (λ (xs : List Item). IsNearest c.args.k (nears_of at (xs ++ items_of c.args.buffer.now)) found) (sym live) is) leaves
     (subst (λ (hs : List Head). AreNearLeaves g.row.D at (bound_of c.args.k found) hs leaves) (sym c.heads-2.ensures.value) near)
 
@@ -37,16 +40,19 @@ pub returns-clause-calm : goal.returns-clause-calm
 returns-clause-calm g c = record {
   files = c.nearest.ensures.files;
   agrees = c.nearest.ensures.agrees;
-  others = λ id h. ⊎_elim (λ k. inl k) (λ k. inr (id_of c.args.segments.now id (subst (λ (hs : List Head). HasId hs id) c.heads-2.ensures.value k))) (c.nearest.ensures.others id h);
+  others = λ id h. ⊎_elim (λ k. inl k) (λ k. inr (id_of c.args.segments.now id (subst (λ (hs : List Head). HasId hs id) c.heads-2.ensures.value k)))
+      (c.nearest.ensures.others id h);
 }
 
 pub returns-clause-shown : goal.returns-clause-shown
 returns-clause-shown g c =
     let parts = c.args.segments.now in
     parts_shown g.row.D parts c.nearest.result c.heads.ensures.ascend (subst (All (λ h. ∥ IsHead g.row.D h ∥₁)) c.heads.ensures.value c.have_trees.ensures)
-    (subst (λ (hs : List Head). (trees : ℕ → IndexTree) → HaveTrees g.row.D hs trees → OnDamage c.nearest.result (IsSegmentDamage g.row.D hs trees)) c.heads-2.ensures.value c.nearest.ensures.shown)
+    (subst (λ (hs : List Head). (trees : ℕ → IndexTree) → HaveTrees g.row.D hs trees → OnDamage c.nearest.result (IsSegmentDamage g.row.D hs trees))
+    c.heads-2.ensures.value c.nearest.ensures.shown)
 
 pub returns-clause-whole : goal.returns-clause-whole
 returns-clause-whole g c = λ told agrees es read.
     let files = g.F.Pages.files c.args.folder.now in
-    c.nearest.ensures.whole told agrees es (subst (AreSegments g.row.D files es) (sym c.heads-2.ensures.value) (read_segments g.row.D files es c.args.segments.now read))
+    c.nearest.ensures.whole told agrees es
+    (subst (AreSegments g.row.D files es) (sym c.heads-2.ensures.value) (read_segments g.row.D files es c.args.segments.now read))

@@ -12,6 +12,8 @@ loop-live-preserved c =
     let was = c.loop-live.invariant in
     let within : i < length sets = omega (arith, c.loop-live-test.true, c.loop-live.auto.live-items) in
     record {
-      lives = ap (λ s. set now i s) (c.clear-was_live.ensures.after ∙ ap (without c.args.doc) (sym c.live-item.is)) ∙ map_over_more (without c.args.doc) sets now i c.live-item.result within was.lives c.live-item.is;
-      was = ap (λ b. c.loop-live.was_live || b) (c.clear-was_live.ensures.answer ∙ ap (λ s. is_live s c.args.doc) (sym c.live-item.is)) ∙ cleared_more c.args.doc sets now i c.live-item.result c.loop-live.was_live within was.lives c.live-item.is was.was;
+      lives = ap (λ s. set now i s) (c.clear-was_live.ensures.after ∙ ap (without c.args.doc) (sym c.live-item.is))
+          ∙ map_over_more (without c.args.doc) sets now i c.live-item.result within was.lives c.live-item.is;
+      was = ap (λ b. c.loop-live.was_live || b) (c.clear-was_live.ensures.answer ∙ ap (λ s. is_live s c.args.doc) (sym c.live-item.is))
+          ∙ cleared_more c.args.doc sets now i c.live-item.result c.loop-live.was_live within was.lives c.live-item.is was.was;
     }

@@ -13,10 +13,12 @@ pub loop-i-init : goal.loop-i-init
 loop-i-init g c =
     let parts = parts_of c.args.heads.now.items c.args.lives.now.items in
     let n = c.len-i.result in
-    let all : length parts ≤ n = omega (arith, length_parts c.args.heads.now.items c.args.lives.now.items c.requires.same, c.len-i.ensures, c.args.heads.now.ok.0) in
+    let all : length parts ≤ n =
+    omega (arith, length_parts c.args.heads.now.items c.args.lives.now.items c.requires.same, c.len-i.ensures, c.args.heads.now.ok.0) in
     record {
       same = c.requires.same;
-      parts = sym (ap (λ (ps : List Part). ps ++ parts_but c.args.ids.now (drop n parts)) (take_all n parts all) ∙ ap (λ (ps : List Part). parts ++ parts_but c.args.ids.now ps) (drop_all n parts all) ∙ append-nil parts);
+      parts = sym (ap (λ (ps : List Part). ps ++ parts_but c.args.ids.now (drop n parts)) (take_all n parts all)
+          ∙ ap (λ (ps : List Part). parts ++ parts_but c.args.ids.now ps) (drop_all n parts all) ∙ append-nil parts);
     }
 
 pub index-requires : goal.index-requires
@@ -24,7 +26,8 @@ index-requires g c =
     let parts = parts_of c.args.heads.now.items c.args.lives.now.items in
     let long = length_parts c.args.heads.now.items c.args.lives.now.items c.requires.same in
     let now = length_parts c.loop-i.heads.items c.loop-i.lives.items c.loop-i.invariant.same in
-    let room = out_room c.args.ids.now parts (parts_of c.loop-i.heads.items c.loop-i.lives.items) c.loop-i.i c.loop-i.invariant.parts (omega (arith, long, c.loop-i.auto.i, c.len-i.ensures, c.args.heads.now.ok.0)) in
+    let room = out_room c.args.ids.now parts (parts_of c.loop-i.heads.items c.loop-i.lives.items) c.loop-i.i c.loop-i.invariant.parts
+    (omega (arith, long, c.loop-i.auto.i, c.len-i.ensures, c.args.heads.now.ok.0)) in
     omega (arith, room, now, c.loop-i-test.true, c.loop-i.heads.ok.0)
 
 pub remove-requires : goal.remove-requires
@@ -32,7 +35,8 @@ remove-requires g c =
     let parts = parts_of c.args.heads.now.items c.args.lives.now.items in
     let long = length_parts c.args.heads.now.items c.args.lives.now.items c.requires.same in
     let now = length_parts c.loop-i.heads.items c.loop-i.lives.items c.loop-i.invariant.same in
-    let room = out_room c.args.ids.now parts (parts_of c.loop-i.heads.items c.loop-i.lives.items) c.loop-i.i c.loop-i.invariant.parts (omega (arith, long, c.loop-i.auto.i, c.len-i.ensures, c.args.heads.now.ok.0)) in
+    let room = out_room c.args.ids.now parts (parts_of c.loop-i.heads.items c.loop-i.lives.items) c.loop-i.i c.loop-i.invariant.parts
+    (omega (arith, long, c.loop-i.auto.i, c.len-i.ensures, c.args.heads.now.ok.0)) in
     omega (arith, room, now, c.loop-i-test.true, c.loop-i.heads.ok.0)
 
 pub loop-i-preserved-then-not-contains : goal.loop-i-preserved-then-not-contains
@@ -45,7 +49,8 @@ loop-i-preserved-then-not-contains g c =
     let next : c.loop-i.i ≡ i + 1 = omega (arith, c.loop-i-test.true) in
     let now = subst (λ n. parts_of heads lives ≡ take n parts ++ parts_but ids (drop n parts)) next c.loop-i.invariant.parts in
     let long = length_parts c.args.heads.now.items c.args.lives.now.items c.requires.same in
-    let at = out_place ids parts heads lives i c.index.result.now c.loop-i.invariant.same now (omega (arith, long, next, c.loop-i.auto.i, c.len-i.ensures, c.args.heads.now.ok.0)) c.index.ensures in
+    let at = out_place ids parts heads lives i c.index.result.now c.loop-i.invariant.same now
+    (omega (arith, long, next, c.loop-i.auto.i, c.len-i.ensures, c.args.heads.now.ok.0)) c.index.ensures in
     let keep : is_among ids at.part.head.id ≡ false =
     ap (λ n. list_any (λ m. eqb m n) ids) (ap (λ (h : Head). h.id) at.has ∙ sym c.id.ensures) ∙ sym c.contains.ensures.value ∙ c.if-not-contains.true in
     record { same = c.loop-i.invariant.same; parts = now ∙ out_kept ids parts i at.part at.is keep }
@@ -63,7 +68,8 @@ loop-i-preserved g c =
     let long = length_parts c.args.heads.now.items c.args.lives.now.items c.requires.same in
     let within = length_parts heads lives same in
     let room = out_room ids parts (parts_of heads lives) (i + 1) now (omega (arith, long, next, c.loop-i.auto.i, c.len-i.ensures, c.args.heads.now.ok.0)) in
-    let at = out_place ids parts heads lives i c.index.result.now same now (omega (arith, long, next, c.loop-i.auto.i, c.len-i.ensures, c.args.heads.now.ok.0)) c.index.ensures in
+    let at = out_place ids parts heads lives i c.index.result.now same now (omega (arith, long, next, c.loop-i.auto.i, c.len-i.ensures, c.args.heads.now.ok.0))
+    c.index.ensures in
     let gone : is_among ids at.part.head.id ≡ true =
     ap (λ n. list_any (λ m. eqb m n) ids) (ap (λ (h : Head). h.id) at.has ∙ sym c.id.ensures) ∙ sym c.contains.ensures.value ∙ c.if-not-contains.false in
     record {

@@ -21,10 +21,12 @@ loop-i-preserved g c =
     let of_touched : Head → IndexTree → ℕ = λ h t. touched has crosses t in
     let leaves = leaves_more parts c.loop-i.i p is in
     record {
-      tested = subst (λ (hs : List Head). AreCounted g.row.D of_tested hs (c.loop-i.all.tested + c.survey_one-one.result.tested)) (sym (heads_more parts c.loop-i.i p is))
+      tested = subst (λ (hs : List Head). AreCounted g.row.D of_tested hs (c.loop-i.all.tested + c.survey_one-one.result.tested))
+          (sym (heads_more parts c.loop-i.i p is))
           (counted_push g.row.D of_tested (heads_of (take c.loop-i.i parts)) p.head c.loop-i.all.tested c.survey_one-one.result.tested was.tested
           (subst (λ f. AreTested g.row.D f (p.head ∷ []) c.survey_one-one.result.tested) was.crosses one.tested));
-      touched = subst (λ (hs : List Head). AreCounted g.row.D of_touched hs (c.loop-i.all.touched + c.survey_one-one.result.touched)) (sym (heads_more parts c.loop-i.i p is))
+      touched = subst (λ (hs : List Head). AreCounted g.row.D of_touched hs (c.loop-i.all.touched + c.survey_one-one.result.touched))
+          (sym (heads_more parts c.loop-i.i p is))
           (counted_push g.row.D of_touched (heads_of (take c.loop-i.i parts)) p.head c.loop-i.all.touched c.survey_one-one.result.touched was.touched
           (subst (λ f. AreTouched g.row.D has f (p.head ∷ []) c.survey_one-one.result.touched) was.crosses
           (subst (λ k. AreTouched g.row.D k (g.S.Shape.crosses c.loop-i.shape) (p.head ∷ []) c.survey_one-one.result.touched) was.has one.touched)));

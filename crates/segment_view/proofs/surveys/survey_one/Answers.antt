@@ -8,11 +8,13 @@ use Rattle.segment_view.proofs.surveys.survey_one.Goals as goal
 
 pub returns-clause-tested : goal.returns-clause-tested
 returns-clause-tested g c =
-    counted_one g.row.D (λ (h : Head) (t : IndexTree). tested (g.S.Shape.crosses c.args.shape.now) (count_of h) 0 t) c.args.head.now c.survey.result.tested (λ root t has. (c.survey.ensures.counts root t has).0)
+    counted_one g.row.D (λ (h : Head) (t : IndexTree). tested (g.S.Shape.crosses c.args.shape.now) (count_of h) 0 t) c.args.head.now c.survey.result.tested
+    (λ root t has. (c.survey.ensures.counts root t has).0)
 
 pub returns-clause-touched : goal.returns-clause-touched
 returns-clause-touched g c =
-    counted_one g.row.D (λ (h : Head) (t : IndexTree). touched (g.S.Shape.has c.args.shape.now) (g.S.Shape.crosses c.args.shape.now) t) c.args.head.now c.survey.result.touched (λ root t has. (c.survey.ensures.counts root t has).1)
+    counted_one g.row.D (λ (h : Head) (t : IndexTree). touched (g.S.Shape.has c.args.shape.now) (g.S.Shape.crosses c.args.shape.now) t) c.args.head.now
+    c.survey.result.touched (λ root t has. (c.survey.ensures.counts root t has).1)
 
 pub returns-clause-leaves : goal.returns-clause-leaves
 returns-clause-leaves g c =
@@ -32,7 +34,8 @@ returns-clause-few_tested g c =
     le_by_tree g.row.D c.args.head.now.index c.index.result.now c.index.ensures.value c.is_spelled.ensures _ _
     (λ root t has.
     let is = (c.survey.ensures.counts root t has).0 in
-    let most = tested-le (g.S.Shape.crosses c.args.shape.now) (count_of c.args.head.now) 4000 (λ n. count-le g.row.D c.args.head.now n c.index.ensures.ranges) 0 t in
+    let most =
+    tested-le (g.S.Shape.crosses c.args.shape.now) (count_of c.args.head.now) 4000 (λ n. count-le g.row.D c.args.head.now n c.index.ensures.ranges) 0 t in
     let e = tree_count g.row.D c.args.head.now.index root t has in
     omega (arith, is, most, e, has.tree.few))
 

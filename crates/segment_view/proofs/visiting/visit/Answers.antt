@@ -16,4 +16,5 @@ returns-clause-found g c = λ told agrees es read.
     ∙ ap (λ (ns : List ℕ). ns ++ numbers_found (g.S.Shape.has c.visit_segments.new.shape) buffer) first
     ∙ ap (λ k. numbers_found has segments ++ numbers_found k buffer) c.in_ok-visit_segments.ensures.has
     ∙ sym (found_append has segments buffer) in
-    ordered_found has (segments ++ buffer) c.visit_buffer.new.hits.items c.in_ok-ascending.field-0.items hits c.in_ok-ascending.ensures.rises c.in_ok-ascending.ensures.each
+    ordered_found has (segments ++ buffer) c.visit_buffer.new.hits.items c.in_ok-ascending.field-0.items hits c.in_ok-ascending.ensures.rises
+    c.in_ok-ascending.ensures.each

@@ -25,7 +25,8 @@ pub returns-clause-found : goal.returns-clause-found
 returns-clause-found g c = λ told agrees es r.
     let has = g.S.Shape.has c.args.shape.now in
     let same = hits_live has c.args.live.now (es c.args.head.now.id) ∙ ap (numbers_found has) (sym (live_one es (part_of c.args.head.now c.args.live.now))) in
-    subst (λ (ys : List ℕ). OnOk c.intersect.result (c.intersect.new.hits.items ≡ c.args.hits.now.items ++ ys)) same (c.intersect.ensures.found told agrees (es c.args.head.now.id) r.held)
+    subst (λ (ys : List ℕ). OnOk c.intersect.result (c.intersect.new.hits.items ≡ c.args.hits.now.items ++ ys)) same
+    (c.intersect.ensures.found told agrees (es c.args.head.now.id) r.held)
 
 pub returns-clause-tests : goal.returns-clause-tests
 returns-clause-tests g c = λ n all.
@@ -47,14 +48,18 @@ pub returns-clause-reads : goal.returns-clause-reads
 returns-clause-reads g c = λ n all.
     le_by_tree g.row.D c.args.head.now.index c.index.result.now c.index.ensures.value c.is_spelled.ensures _ _
     (λ root t has.
-    let e = one_counted g.row.D (λ (h : Head) (u : IndexTree). touched (g.S.Shape.has c.args.shape.now) (g.S.Shape.crosses c.args.shape.now) u) c.args.head.now n root t all has in
+    let e = one_counted g.row.D (λ (h : Head) (u : IndexTree). touched (g.S.Shape.has c.args.shape.now) (g.S.Shape.crosses c.args.shape.now) u) c.args.head.now
+    n root t all has in
     let m = c.intersect.ensures.reads root t has in
     omega (arith, e, m))
 
 pub returns-clause-calm : goal.returns-clause-calm
 returns-clause-calm g c =
-    calm_alone g.F.Pages.told (g.F.Pages.files c.args.folder.now) (g.F.Pages.files c.intersect.new.folder) c.args.cache.now c.intersect.new.cache c.args.head.now.id
+    calm_alone g.F.Pages.told (g.F.Pages.files c.args.folder.now) (g.F.Pages.files c.intersect.new.folder) c.args.cache.now c.intersect.new.cache
+    c.args.head.now.id
     c.intersect.ensures.files c.intersect.ensures.agrees c.intersect.ensures.others
 
 pub returns-clause-shown : goal.returns-clause-shown
-returns-clause-shown g c = read_shown g.row.D c.args.head.now c.index.result.now c.intersect.result c.index.ensures.ranges c.index.ensures.value c.is_spelled.ensures c.intersect.ensures.shown
+returns-clause-shown g c =
+    read_shown g.row.D c.args.head.now c.index.result.now c.intersect.result c.index.ensures.ranges c.index.ensures.value c.is_spelled.ensures
+    c.intersect.ensures.shown

@@ -27,8 +27,10 @@ loop-i-preserved g c =
     let crosses = g.S.Shape.crosses c.args.shape.now in
     let files = g.F.Pages.files c.args.folder.now in
     record {
-      calm = calm_then g.F.Pages.told files (g.F.Pages.files c.loop-i.folder) (g.F.Pages.files c.visit_one.new.folder) c.args.cache.now c.loop-i.cache c.visit_one.new.cache (ids_of parts) was.calm
-          (calm_more g.F.Pages.told (g.F.Pages.files c.loop-i.folder) (g.F.Pages.files c.visit_one.new.folder) c.loop-i.cache c.visit_one.new.cache (p.head.id ∷ []) (ids_of parts) (id_in parts p there) one.calm);
+      calm = calm_then g.F.Pages.told files (g.F.Pages.files c.loop-i.folder) (g.F.Pages.files c.visit_one.new.folder) c.args.cache.now c.loop-i.cache
+          c.visit_one.new.cache (ids_of parts) was.calm
+          (calm_more g.F.Pages.told (g.F.Pages.files c.loop-i.folder) (g.F.Pages.files c.visit_one.new.folder) c.loop-i.cache c.visit_one.new.cache
+          (p.head.id ∷ []) (ids_of parts) (id_in parts p there) one.calm);
       faults = one.cause.fine ∙ was.faults;
       has = one.has ∙ was.has;
       crosses = one.crosses ∙ was.crosses;
@@ -45,10 +47,13 @@ loop-i-preserved g c =
       reads = λ n all.
           let u = counted_more g.row.D (λ (h : Head) (t : IndexTree). touched has crosses t) parts c.loop-i.i p n is all in
           let before = was.reads u.before u.of_before in
-          let here = one.reads u.here (subst (λ k. AreTouched g.row.D k (g.S.Shape.crosses c.loop-i.shape) (p.head ∷ []) u.here) (sym was.has) (subst (λ f. AreTouched g.row.D has f (p.head ∷ []) u.here) (sym was.crosses) u.of_here)) in
+          let here = one.reads u.here
+          (subst (λ k. AreTouched g.row.D k (g.S.Shape.crosses c.loop-i.shape) (p.head ∷ []) u.here) (sym was.has)
+          (subst (λ f. AreTouched g.row.D has f (p.head ∷ []) u.here) (sym was.crosses) u.of_here)) in
           omega (arith, before, here, u.within);
       found = λ told agrees es read.
-          let here = one.found told (agrees_after g.F.Pages.told files (g.F.Pages.files c.loop-i.folder) c.args.cache.now c.loop-i.cache (ids_of parts) was.calm told agrees) es
+          let here = one.found told
+          (agrees_after g.F.Pages.told files (g.F.Pages.files c.loop-i.folder) c.args.cache.now c.loop-i.cache (ids_of parts) was.calm told agrees) es
           (subst (λ f. IsRead g.row.D f es p) (sym (was.calm.files told)) (All-contains (IsRead g.row.D files es) parts p read there)) in
           here
           ∙ ap (λ k. c.loop-i.hits.items ++ numbers_found k (live_in_parts es (p ∷ []))) was.has
@@ -61,7 +66,8 @@ pub returns-in_err-visit_one-clause-tests : goal.returns-in_err-visit_one-clause
 returns-in_err-visit_one-clause-tests g c = λ n all.
     let p = part_of c.part.result.0.now c.part.result.1.now in
     let was = c.loop-i.invariant in
-    let u = counted_upto g.row.D (λ (h : Head) (t : IndexTree). tested (g.S.Shape.crosses c.args.shape.now) (count_of h) 0 t) c.args.segments.now c.loop-i.i p n c.part.ensures all in
+    let u = counted_upto g.row.D (λ (h : Head) (t : IndexTree). tested (g.S.Shape.crosses c.args.shape.now) (count_of h) 0 t) c.args.segments.now c.loop-i.i p n
+    c.part.ensures all in
     let before = was.tests u.before u.of_before in
     let here = c.in_err-visit_one.ensures.tests u.here (subst (λ f. AreTested g.row.D f (p.head ∷ []) u.here) (sym was.crosses) u.of_here) in
     omega (arith, before, here, u.within)
@@ -78,17 +84,22 @@ returns-in_err-visit_one-clause-reads g c = λ n all.
     let p = part_of c.part.result.0.now c.part.result.1.now in
     let was = c.loop-i.invariant in
     let has = g.S.Shape.has c.args.shape.now in
-    let u = counted_upto g.row.D (λ (h : Head) (t : IndexTree). touched has (g.S.Shape.crosses c.args.shape.now) t) c.args.segments.now c.loop-i.i p n c.part.ensures all in
+    let u = counted_upto g.row.D (λ (h : Head) (t : IndexTree). touched has (g.S.Shape.crosses c.args.shape.now) t) c.args.segments.now c.loop-i.i p n
+    c.part.ensures all in
     let before = was.reads u.before u.of_before in
-    let here = c.in_err-visit_one.ensures.reads u.here (subst (λ k. AreTouched g.row.D k (g.S.Shape.crosses c.loop-i.shape) (p.head ∷ []) u.here) (sym was.has) (subst (λ f. AreTouched g.row.D has f (p.head ∷ []) u.here) (sym was.crosses) u.of_here)) in
+    let here = c.in_err-visit_one.ensures.reads u.here
+    (subst (λ k. AreTouched g.row.D k (g.S.Shape.crosses c.loop-i.shape) (p.head ∷ []) u.here) (sym was.has)
+    (subst (λ f. AreTouched g.row.D has f (p.head ∷ []) u.here) (sym was.crosses) u.of_here)) in
     omega (arith, before, here, u.within)
 
 pub returns-in_err-visit_one-clause-calm : goal.returns-in_err-visit_one-clause-calm
 returns-in_err-visit_one-clause-calm g c =
     let parts = c.args.segments.now in
     let p = part_of c.part.result.0.now c.part.result.1.now in
-    calm_then g.F.Pages.told (g.F.Pages.files c.args.folder.now) (g.F.Pages.files c.loop-i.folder) (g.F.Pages.files c.visit_one.new.folder) c.args.cache.now c.loop-i.cache c.visit_one.new.cache (ids_of parts) c.loop-i.invariant.calm
-    (calm_more g.F.Pages.told (g.F.Pages.files c.loop-i.folder) (g.F.Pages.files c.visit_one.new.folder) c.loop-i.cache c.visit_one.new.cache (p.head.id ∷ []) (ids_of parts) (id_in parts p (part_in parts c.loop-i.i p c.part.ensures)) c.in_err-visit_one.ensures.calm)
+    calm_then g.F.Pages.told (g.F.Pages.files c.args.folder.now) (g.F.Pages.files c.loop-i.folder) (g.F.Pages.files c.visit_one.new.folder) c.args.cache.now
+    c.loop-i.cache c.visit_one.new.cache (ids_of parts) c.loop-i.invariant.calm
+    (calm_more g.F.Pages.told (g.F.Pages.files c.loop-i.folder) (g.F.Pages.files c.visit_one.new.folder) c.loop-i.cache c.visit_one.new.cache (p.head.id ∷ [])
+    (ids_of parts) (id_in parts p (part_in parts c.loop-i.i p c.part.ensures)) c.in_err-visit_one.ensures.calm)
 
 pub returns-in_err-visit_one-clause-shown : goal.returns-in_err-visit_one-clause-shown
 returns-in_err-visit_one-clause-shown g c =
@@ -96,7 +107,8 @@ returns-in_err-visit_one-clause-shown g c =
     let parts = c.args.segments.now in
     let p = part_of c.part.result.0.now c.part.result.1.now in
     rw (e.1, e.2)
-    (on_damage {T = Unit {0}} (IsReadDamage g.row.D p.head) (IsPartDamage g.row.D parts) (Err c.in_err-visit_one.field-0.0) (λ d h. (p, part_in parts c.loop-i.i p c.part.ensures, h)) c.in_err-visit_one.ensures.shown)
+    (on_damage {T = Unit {0}} (IsReadDamage g.row.D p.head) (IsPartDamage g.row.D parts) (Err c.in_err-visit_one.field-0.0)
+    (λ d h. (p, part_in parts c.loop-i.i p c.part.ensures, h)) c.in_err-visit_one.ensures.shown)
 
 pub returns-in_err-visit_one-clause-whole : goal.returns-in_err-visit_one-clause-whole
 returns-in_err-visit_one-clause-whole g c = λ told agrees es read.
@@ -106,5 +118,7 @@ returns-in_err-visit_one-clause-whole g c = λ told agrees es read.
     let files = g.F.Pages.files c.args.folder.now in
     let e = err_from_is_err_and c.from_residual.result c.from_residual.ensures.1 in
     rw (e.1, e.2)
-    (c.in_err-visit_one.ensures.whole told (agrees_after g.F.Pages.told files (g.F.Pages.files c.loop-i.folder) c.args.cache.now c.loop-i.cache (ids_of parts) calm told agrees) es
-    (subst (λ f. IsRead g.row.D f es p) (sym (calm.files told)) (All-contains (IsRead g.row.D files es) parts p read (part_in parts c.loop-i.i p c.part.ensures))))
+    (c.in_err-visit_one.ensures.whole told
+    (agrees_after g.F.Pages.told files (g.F.Pages.files c.loop-i.folder) c.args.cache.now c.loop-i.cache (ids_of parts) calm told agrees) es
+    (subst (λ f. IsRead g.row.D f es p) (sym (calm.files told))
+    (All-contains (IsRead g.row.D files es) parts p read (part_in parts c.loop-i.i p c.part.ensures))))

@@ -13,10 +13,12 @@ invariant-loop-i g l = record {
   faults : g.F.Pages.faults l.folder ≡ g.F.Pages.faults l.initial.folder;
   has : g.S.Shape.has l.shape ≡ g.S.Shape.has l.initial.shape;
   crosses : g.S.Shape.crosses l.shape ≡ g.S.Shape.crosses l.initial.shape;
-  tests : (n : ℕ) → AreTested g.row.D (g.S.Shape.crosses l.initial.shape) (heads_of (take l.i l.segments)) n → g.S.Shape.tests l.shape ≤ g.S.Shape.tests l.initial.shape + n;
+  tests : (n : ℕ) → AreTested g.row.D (g.S.Shape.crosses l.initial.shape) (heads_of (take l.i l.segments)) n
+      → g.S.Shape.tests l.shape ≤ g.S.Shape.tests l.initial.shape + n;
   compares : g.S.Shape.compares l.shape ≤ g.S.Shape.compares l.initial.shape + 2 * leaves_in (heads_of (take l.i l.segments));
   reads : (n : ℕ) → AreTouched g.row.D (g.S.Shape.has l.initial.shape) (g.S.Shape.crosses l.initial.shape) (heads_of (take l.i l.segments)) n
       → g.F.Pages.reads l.folder ≤ g.F.Pages.reads l.initial.folder + n;
-  found : IsTrue g.F.Pages.told → Agrees (g.F.Pages.files l.initial.folder) l.initial.cache → (c : Contents) → AreRead g.row.D (g.F.Pages.files l.initial.folder) c l.segments
+  found : IsTrue g.F.Pages.told → Agrees (g.F.Pages.files l.initial.folder) l.initial.cache → (c : Contents)
+      → AreRead g.row.D (g.F.Pages.files l.initial.folder) c l.segments
       → l.hits.items ≡ l.initial.hits.items ++ numbers_found (g.S.Shape.has l.initial.shape) (live_in_parts c (take l.i l.segments));
 }

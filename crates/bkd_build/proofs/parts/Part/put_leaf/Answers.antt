@@ -14,8 +14,10 @@ use Rattle.bkd_build.proofs.parts.Part.put_leaf.Goals as goal
 pub encode_leaf-requires : goal.encode_leaf-requires
 encode_leaf-requires g c =
     let still : AreEntries c.arrange.new.entries = entries-IsPermutation c.args.entries.now c.arrange.new.entries c.arrange.ensures.same c.requires.entries in
-    let few : length c.arrange.new.entries ≤ leaf_limit g.row.D = omega (arith, length_permutation c.args.entries.now c.arrange.new.entries c.arrange.ensures.same, c.requires.few, c.requires.leaf) in
-    let up : IsStrictlySortedBy (leaf_order g.row.D (items_of c.arrange.new.entries)) (items_of c.arrange.new.entries) = c.arrange.ensures.strictly c.requires.entries.once in
+    let few : length c.arrange.new.entries ≤ leaf_limit g.row.D =
+    omega (arith, length_permutation c.args.entries.now c.arrange.new.entries c.arrange.ensures.same, c.requires.few, c.requires.leaf) in
+    let up : IsStrictlySortedBy (leaf_order g.row.D (items_of c.arrange.new.entries)) (items_of c.arrange.new.entries) =
+    c.arrange.ensures.strictly c.requires.entries.once in
     search rules
 
 pub returns-clause-added : goal.returns-clause-added
@@ -23,10 +25,12 @@ returns-clause-added g c =
     let few : length (items_of c.args.entries.now) ≤ c.args.leaf = rw length-map c.requires.few in
     let spelled : List ℕ = spelling g.row.D (items_of c.arrange.new.entries) in
     let was = c.args.self.now in
-    let lengths : c.push.new.self.items ≡ was.lengths.items ++ length spelled ∷ [] = cc (c.in_ok-push.ensures.items, ap length c.as_slice.ensures, ap length c.in_ok-bytes.ensures.spelled.is) in
+    let lengths : c.push.new.self.items ≡ was.lengths.items ++ length spelled ∷ [] =
+    cc (c.in_ok-push.ensures.items, ap length c.as_slice.ensures, ap length c.in_ok-bytes.ensures.spelled.is) in
     let cells : map region_of c.push-2.new.self.items ≡ map region_of was.cells.items ++ region_of c.cell_round-cell.result ∷ [] =
     ap (map region_of) c.in_ok-push-2.ensures.items ∙ map-append (λ (cell : Cell g.row.D). region_of cell) was.cells.items (c.cell_round-cell.result ∷ []) in
-    let leaves : c.push-3.new.self.items ≡ was.leaves.items ++ spelled ∷ [] = c.in_ok-push-3.ensures.items ∙ ap (λ (b : List ℕ). was.leaves.items ++ b ∷ []) c.in_ok-bytes.ensures.spelled.is in
+    let leaves : c.push-3.new.self.items ≡ was.leaves.items ++ spelled ∷ [] =
+    c.in_ok-push-3.ensures.items ∙ ap (λ (b : List ℕ). was.leaves.items ++ b ∷ []) c.in_ok-bytes.ensures.spelled.is in
     let nodes : was.nodes.items ≡ was.nodes.items ++ [] = sym (append-nil was.nodes.items) in
     leaf_adds g.row.D c.args.leaf (items_of c.args.entries.now) (items_of c.arrange.new.entries) (region_of c.cell_round-cell.result) (held was) _
     (items-IsPermutation c.args.entries.now c.arrange.new.entries c.arrange.ensures.same) few c.in_ok-bytes.ensures.spelled.are_leaf c.cell_round-cell.ensures

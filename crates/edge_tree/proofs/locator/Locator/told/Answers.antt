@@ -8,7 +8,8 @@ use Rattle.edge_tree.proofs.locator.Locator.told.Goals as goal
 
 pub returns-then-beside : goal.returns-then-beside
 returns-then-beside c =
-    let passed : IsPassed (all_on c.self.inside.tree c.self.inside.near.items) c.self.inside.cell.lo.c c.args.p.now.c c.all_passed-beside.result.on c.all_passed-beside.result.odd =
+    let passed : IsPassed (all_on c.self.inside.tree c.self.inside.near.items) c.self.inside.cell.lo.c c.args.p.now.c c.all_passed-beside.result.on
+    c.all_passed-beside.result.odd =
     subst (λ (es : List Ends). IsPassed es c.self.inside.cell.lo.c c.args.p.now.c c.all_passed-beside.result.on c.all_passed-beside.result.odd)
     (ap (λ es. all_on es c.as_slice.result.now) c.edges.ensures.value ∙ ap (all_on c.self.inside.tree) c.as_slice.ensures.value) c.all_passed-beside.ensures in
     let known : IsKnown c.self.inside.tree (region_of c.self.inside.cell) c.self.inside.odd c.self.inside.near.items = c.self.invariant c.if-not-self.false in
@@ -21,7 +22,8 @@ returns-then-beside c =
 
 pub returns-else-beside : goal.returns-else-beside
 returns-else-beside c =
-    let passed : IsPassed (all_on c.self.inside.tree c.self.inside.near.items) c.self.inside.cell.lo.c c.args.p.now.c c.all_passed-beside.result.on c.all_passed-beside.result.odd =
+    let passed : IsPassed (all_on c.self.inside.tree c.self.inside.near.items) c.self.inside.cell.lo.c c.args.p.now.c c.all_passed-beside.result.on
+    c.all_passed-beside.result.odd =
     subst (λ (es : List Ends). IsPassed es c.self.inside.cell.lo.c c.args.p.now.c c.all_passed-beside.result.on c.all_passed-beside.result.odd)
     (ap (λ es. all_on es c.as_slice.result.now) c.edges.ensures.value ∙ ap (all_on c.self.inside.tree) c.as_slice.ensures.value) c.all_passed-beside.ensures in
     let known : IsKnown c.self.inside.tree (region_of c.self.inside.cell) c.self.inside.odd c.self.inside.near.items = c.self.invariant c.if-not-self.false in

@@ -10,7 +10,8 @@ returns c = λ xs ys (first : Outlines xs c.args.self.now) (second : Outlines ys
       (All-weaker (IsBoxed c.args.self.now.bounds) (IsBoxed c.union.result) c.union.ensures.first xs first.boxed)
       (All-weaker (IsBoxed c.args.next.now.bounds) (IsBoxed c.union.result) c.union.ensures.second ys second.boxed);
   climb = elim c.match-self.branch [
-    | in-Some-Some w ↦ rw w.climb-is (climbs_joined xs ys w.in-Some-Some.first w.in-Some-Some.second c.args.self.now.climb c.args.next.now.climb w.then-climb.result
+    | in-Some-Some w ↦
+        rw w.climb-is (climbs_joined xs ys w.in-Some-Some.first w.in-Some-Some.second c.args.self.now.climb c.args.next.now.climb w.then-climb.result
         w.in-Some-Some.is-0 w.in-Some-Some.is-1 first.climb second.climb w.then-climb.ensures)
     | in_default w ↦ rw w.climb-is tt
     | in_default-2 w ↦ rw w.climb-is tt

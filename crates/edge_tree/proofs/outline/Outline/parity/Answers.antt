@@ -9,4 +9,5 @@ returns-then-is_off_ray c = λ run (o : Outlines run c.args.self.now).
 
 pub returns-in-Some : goal.returns-in-Some
 returns-in-Some c = λ run (o : Outlines run c.args.self.now).
-    place_west c.args.self.now run c.args.p.now.c c.in-Some.climb c.passes.result o (sym c.is_east_of.ensures ∙ c.if-not-is_east_of.false) c.in-Some.is c.passes.ensures
+    place_west c.args.self.now run c.args.p.now.c c.in-Some.climb c.passes.result o (sym c.is_east_of.ensures ∙ c.if-not-is_east_of.false) c.in-Some.is
+    c.passes.ensures

@@ -17,13 +17,24 @@ use Rattle.edge_tree.proofs.tree.EdgeTree.gather.Goals as goal
 
 pub loop-at-preserved-then-is_apart : goal.loop-at-preserved-then-is_apart
 loop-at-preserved-then-is_apart c = record {
-  within = omega (arith, c.loop-at.invariant.within, before_within (map ends_of c.self.inside.edges.items) c.self.inside.nodes.items c.loop-at.at c.index-node.result.now c.self.invariant.each c.loop-at-test.true c.loop-at.invariant.within c.index-node.ensures);
+  within = omega (
+    arith,
+    c.loop-at.invariant.within,
+    before_within (map ends_of c.self.inside.edges.items) c.self.inside.nodes.items c.loop-at.at c.index-node.result.now c.self.invariant.each
+        c.loop-at-test.true c.loop-at.invariant.within c.index-node.ensures,
+  );
   each = c.loop-at.invariant.each;
   gathered =
-      left_out (region_of c.args.c.now) (all_on (map ends_of c.self.inside.edges.items) c.loop-at.near.items) (below (map ends_of c.self.inside.edges.items) c.self.inside.nodes.items c.loop-at.at c.index-node.result.now) (all_held (map ends_of c.self.inside.edges.items) (drop c.loop-at.at c.self.inside.nodes.items)) (all_held (map ends_of c.self.inside.edges.items) (drop c.index-node.result.now.before c.self.inside.nodes.items))
-      (taken (map ends_of c.self.inside.edges.items) c.self.inside.nodes.items c.loop-at.at c.index-node.result.now c.self.invariant.each c.loop-at-test.true c.loop-at.invariant.within c.index-node.ensures)
-      (apart_missed c.index-node.result.now.outline.bounds (below (map ends_of c.self.inside.edges.items) c.self.inside.nodes.items c.loop-at.at c.index-node.result.now) (region_of c.args.c.now)
-      (outlined_at (map ends_of c.self.inside.edges.items) c.self.inside.nodes.items c.loop-at.at c.index-node.result.now c.self.invariant.each c.loop-at-test.true c.loop-at.invariant.within c.index-node.ensures).boxed (sym c.is_apart.ensures ∙ c.if-is_apart.true))
+      left_out (region_of c.args.c.now) (all_on (map ends_of c.self.inside.edges.items) c.loop-at.near.items)
+      (below (map ends_of c.self.inside.edges.items) c.self.inside.nodes.items c.loop-at.at c.index-node.result.now)
+      (all_held (map ends_of c.self.inside.edges.items) (drop c.loop-at.at c.self.inside.nodes.items))
+      (all_held (map ends_of c.self.inside.edges.items) (drop c.index-node.result.now.before c.self.inside.nodes.items))
+      (taken (map ends_of c.self.inside.edges.items) c.self.inside.nodes.items c.loop-at.at c.index-node.result.now c.self.invariant.each c.loop-at-test.true
+      c.loop-at.invariant.within c.index-node.ensures)
+      (apart_missed c.index-node.result.now.outline.bounds
+      (below (map ends_of c.self.inside.edges.items) c.self.inside.nodes.items c.loop-at.at c.index-node.result.now) (region_of c.args.c.now)
+      (outlined_at (map ends_of c.self.inside.edges.items) c.self.inside.nodes.items c.loop-at.at c.index-node.result.now c.self.invariant.each
+      c.loop-at-test.true c.loop-at.invariant.within c.index-node.ensures).boxed (sym c.is_apart.ensures ∙ c.if-is_apart.true))
       c.loop-at.invariant.gathered;
 }
 
@@ -36,21 +47,35 @@ loop-at-preserved c =
         | then-meets_run+in_ok-push w ↦ rw w.near-is
             (subst (λ (near : List Stretch). All (IsStretch (map ends_of c.self.inside.edges.items)) near) (sym w.in_ok-push.ensures.items)
             (All-append (IsStretch (map ends_of c.self.inside.edges.items)) c.loop-at.near.items (s ∷ []) c.loop-at.invariant.each
-            (All-cons (IsStretch (map ends_of c.self.inside.edges.items)) s [] (stretch_at (map ends_of c.self.inside.edges.items) c.self.inside.nodes.items c.loop-at.at c.index-node.result.now c.self.invariant.each c.loop-at-test.true c.loop-at.invariant.within c.index-node.ensures) (All-nil (IsStretch (map ends_of c.self.inside.edges.items))))))
+            (All-cons (IsStretch (map ends_of c.self.inside.edges.items)) s []
+            (stretch_at (map ends_of c.self.inside.edges.items) c.self.inside.nodes.items c.loop-at.at c.index-node.result.now c.self.invariant.each
+            c.loop-at-test.true c.loop-at.invariant.within c.index-node.ensures) (All-nil (IsStretch (map ends_of c.self.inside.edges.items))))))
         | else-meets_run w ↦ rw w.near-is c.loop-at.invariant.each
       ];
       gathered = elim c.if-meets_run.branch [
         | then-meets_run+in_ok-push w ↦ rw w.near-is
-            (kept_more (region_of c.args.c.now) (all_on (map ends_of c.self.inside.edges.items) c.loop-at.near.items) (held (map ends_of c.self.inside.edges.items) c.index-node.result.now) (all_held (map ends_of c.self.inside.edges.items) (drop c.loop-at.at c.self.inside.nodes.items)) (all_held (map ends_of c.self.inside.edges.items) (drop (c.loop-at.at - 1) c.self.inside.nodes.items))
-            (all_on (map ends_of c.self.inside.edges.items) w.push.new.self.items) (entered (map ends_of c.self.inside.edges.items) c.self.inside.nodes.items c.loop-at.at c.index-node.result.now c.loop-at-test.true c.loop-at.invariant.within c.index-node.ensures)
-            (ap (all_on (map ends_of c.self.inside.edges.items)) w.in_ok-push.ensures.items ∙ one_more (map ends_of c.self.inside.edges.items) c.loop-at.near.items s) c.loop-at.invariant.gathered)
+            (kept_more (region_of c.args.c.now) (all_on (map ends_of c.self.inside.edges.items) c.loop-at.near.items)
+            (held (map ends_of c.self.inside.edges.items) c.index-node.result.now)
+            (all_held (map ends_of c.self.inside.edges.items) (drop c.loop-at.at c.self.inside.nodes.items))
+            (all_held (map ends_of c.self.inside.edges.items) (drop (c.loop-at.at - 1) c.self.inside.nodes.items))
+            (all_on (map ends_of c.self.inside.edges.items) w.push.new.self.items)
+            (entered (map ends_of c.self.inside.edges.items) c.self.inside.nodes.items c.loop-at.at c.index-node.result.now c.loop-at-test.true
+            c.loop-at.invariant.within c.index-node.ensures)
+            (ap (all_on (map ends_of c.self.inside.edges.items)) w.in_ok-push.ensures.items
+            ∙ one_more (map ends_of c.self.inside.edges.items) c.loop-at.near.items s) c.loop-at.invariant.gathered)
         | else-meets_run w ↦ rw w.near-is
-            (left_out (region_of c.args.c.now) (all_on (map ends_of c.self.inside.edges.items) c.loop-at.near.items) (held (map ends_of c.self.inside.edges.items) c.index-node.result.now) (all_held (map ends_of c.self.inside.edges.items) (drop c.loop-at.at c.self.inside.nodes.items)) (all_held (map ends_of c.self.inside.edges.items) (drop (c.loop-at.at - 1) c.self.inside.nodes.items))
-            (entered (map ends_of c.self.inside.edges.items) c.self.inside.nodes.items c.loop-at.at c.index-node.result.now c.loop-at-test.true c.loop-at.invariant.within c.index-node.ensures)
+            (left_out (region_of c.args.c.now) (all_on (map ends_of c.self.inside.edges.items) c.loop-at.near.items)
+            (held (map ends_of c.self.inside.edges.items) c.index-node.result.now)
+            (all_held (map ends_of c.self.inside.edges.items) (drop c.loop-at.at c.self.inside.nodes.items))
+            (all_held (map ends_of c.self.inside.edges.items) (drop (c.loop-at.at - 1) c.self.inside.nodes.items))
+            (entered (map ends_of c.self.inside.edges.items) c.self.inside.nodes.items c.loop-at.at c.index-node.result.now c.loop-at-test.true
+            c.loop-at.invariant.within c.index-node.ensures)
             (unmet_missed (held (map ends_of c.self.inside.edges.items) c.index-node.result.now) (region_of c.args.c.now)
             (ap (λ run. any_meets run (region_of c.args.c.now))
             (run_seen c.self.inside.edges.items c.index-node.result.now.first c.index-node.result.now.end
-            ∙ ap (λ (edges : List Edge). map ends_of (take (c.index-node.result.now.end - c.index-node.result.now.first) (drop c.index-node.result.now.first edges))) (sym c.deref.ensures.value))
+            ∙ ap (λ (edges : List Edge).
+            map ends_of (take (c.index-node.result.now.end - c.index-node.result.now.first) (drop c.index-node.result.now.first edges)))
+            (sym c.deref.ensures.value))
             ∙ sym c.meets_run.ensures ∙ w.if-meets_run.false))
             c.loop-at.invariant.gathered)
       ];
@@ -60,5 +85,7 @@ pub returns-clause-near : goal.returns-clause-near
 returns-clause-near c =
     let first : c.loop-at.at ≡ 0 = omega arith in
     subst (λ (edges : List Ends). AreNear (region_of c.args.c.now) (all_on edges c.loop-at.near.items) edges) c.self.view_is
-    (near_all (region_of c.args.c.now) (all_on (map ends_of c.self.inside.edges.items) c.loop-at.near.items) (all_held (map ends_of c.self.inside.edges.items) c.self.inside.nodes.items) (map ends_of c.self.inside.edges.items) c.self.invariant.whole
-    (subst (λ (k : ℕ). AreNear (region_of c.args.c.now) (all_on (map ends_of c.self.inside.edges.items) c.loop-at.near.items) (all_held (map ends_of c.self.inside.edges.items) (drop k c.self.inside.nodes.items))) first c.loop-at.invariant.gathered))
+    (near_all (region_of c.args.c.now) (all_on (map ends_of c.self.inside.edges.items) c.loop-at.near.items)
+    (all_held (map ends_of c.self.inside.edges.items) c.self.inside.nodes.items) (map ends_of c.self.inside.edges.items) c.self.invariant.whole
+    (subst (λ (k : ℕ). AreNear (region_of c.args.c.now) (all_on (map ends_of c.self.inside.edges.items) c.loop-at.near.items)
+    (all_held (map ends_of c.self.inside.edges.items) (drop k c.self.inside.nodes.items))) first c.loop-at.invariant.gathered))

@@ -14,12 +14,15 @@ invariant_of-result c =
     let edges_are : map ends_of c.loop-ring.edges.items ≡ all_edges c.args.r.now =
     c.loop-ring.invariant
     ∙ ap all_edges (take_all c.loop-ring.ring-index c.as_slice-ring-items.result.now c.loop-ring-test.false ∙ c.as_slice-ring-items.ensures.value) in
-    let held_are : all_held (map ends_of c.loop-ring.edges.items) c.in_ok-nodes.nodes.items ≡ all_in (map ends_of c.loop-ring.edges.items) c.in_ok-runs.runs.items =
-    subst (λ (edges : List Edge). all_held (map ends_of edges) c.in_ok-nodes.nodes.items ≡ all_in (map ends_of edges) c.as_slice-4.result.now) c.as_slice-3.ensures.value
+    let held_are : all_held (map ends_of c.loop-ring.edges.items) c.in_ok-nodes.nodes.items
+    ≡ all_in (map ends_of c.loop-ring.edges.items) c.in_ok-runs.runs.items =
+    subst (λ (edges : List Edge). all_held (map ends_of edges) c.in_ok-nodes.nodes.items ≡ all_in (map ends_of edges) c.as_slice-4.result.now)
+    c.as_slice-3.ensures.value
     c.in_ok-nodes.ensures.whole
     ∙ ap (all_in (map ends_of c.loop-ring.edges.items)) c.as_slice-4.ensures.value in
     let runs_have : HaveSame (all_in (map ends_of c.loop-ring.edges.items) c.in_ok-runs.runs.items) (map ends_of c.loop-ring.edges.items) =
-    subst (λ (edges : List Edge). HaveSame (all_in (map ends_of edges) c.in_ok-runs.runs.items) (map ends_of edges)) c.as_slice-2.ensures.value c.in_ok-runs.ensures.whole in
+    subst (λ (edges : List Edge). HaveSame (all_in (map ends_of edges) c.in_ok-runs.runs.items) (map ends_of edges)) c.as_slice-2.ensures.value
+    c.in_ok-runs.ensures.whole in
     record {
       closed = subst AreClosed (sym edges_are)
           (AreClosed-all_edges c.args.r.now (All-weaker IsLinearRing IsClosed (λ ring h. h.closed) c.args.r.now c.as_slice-ring-items.ensures.polygon.linear));

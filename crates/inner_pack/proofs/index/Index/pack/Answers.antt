@@ -17,14 +17,16 @@ invariant_of-whole g c =
     record {
       dims = h.are.tree.few_dims;
       dimensions = dimensions_below g.row.D root nodes lengths cells h;
-      lengths = places_small places lengths (ap (map placed_of) c.as_slice.ensures.value ∙ c.in_ok-layout.ensures.places) (lengths_small g.row.D root nodes lengths cells h);
+      lengths = places_small places lengths (ap (map placed_of) c.as_slice.ensures.value ∙ c.in_ok-layout.ensures.places)
+          (lengths_small g.row.D root nodes lengths cells h);
       many_nodes = counts.nodes_are;
       many_cells = counts.cells_are;
     }
 
 pub body_of-requires : goal.body_of-requires
 body_of-requires g c =
-    let counts = counted g.row.D (region_of c.args.root) c.args.nodes.now c.args.lengths.now c.args.cells.now c.as_slice.result.now c.requires.tree (ap (map placed_of) c.as_slice.ensures.value ∙ c.in_ok-layout.ensures.places) in
+    let counts = counted g.row.D (region_of c.args.root) c.args.nodes.now c.args.lengths.now c.args.cells.now c.as_slice.result.now c.requires.tree
+    (ap (map placed_of) c.as_slice.ensures.value ∙ c.in_ok-layout.ensures.places) in
     let same = counts.places_are in
     let few = counts.few in
     (search rules, (search rules, omega arith))
@@ -35,7 +37,10 @@ of_parts-requires g c = (
   (
     search rules,
     is_index g.row.D (region_of c.args.root) c.args.nodes.now c.args.lengths.now c.args.cells.now c.in_ok-bytes.bytes.items c.in_ok-layout.layout.pages
-        c.requires.tree (c.in_ok-bytes.ensures c.requires.tree.tree (whole_part g.row.D (region_of c.args.root) c.args.nodes.now c.args.lengths.now c.args.cells.now c.as_slice.result.now c.requires.tree.tree c.requires.tree.are
+        c.requires.tree
+        (c.in_ok-bytes.ensures c.requires.tree.tree
+        (whole_part g.row.D (region_of c.args.root) c.args.nodes.now c.args.lengths.now c.args.cells.now c.as_slice.result.now c.requires.tree.tree
+        c.requires.tree.are
         (ap (map placed_of) c.as_slice.ensures.value ∙ c.in_ok-layout.ensures.places))) c.in_ok-layout.ensures.pages,
   ),
 )

@@ -26,7 +26,8 @@ returns-clause-cell g c =
     let room : s.page ≤ 8388608 = omega (arith, N.numbered) in
     ∥∥₁_elim N.some (hlevel props) (λ q.
     let o = opened g.row.D N.form N.leaves s cell N.references N.bytes.now N.places.now q.path q.tree c.requires c.is_cell.ensures q.cell_is q.is in
-    in_cell_said g.row.D N.form s cell N.references o.d o.x o.l o.r c.in-Some.head (c.in-Some.ensures.only s cell o.d o.x o.l o.r room o.fits o.node) o.node.cells.0)
+    in_cell_said g.row.D N.form s cell N.references o.d o.x o.l o.r c.in-Some.head (c.in-Some.ensures.only s cell o.d o.x o.l o.r room o.fits o.node)
+    o.node.cells.0)
 
 pub returns-clause-room : goal.returns-clause-room
 returns-clause-room g c =
@@ -37,7 +38,8 @@ returns-clause-room g c =
     elim (cases_lt (N.leaves - N.leaves / 2) c.in-Some.head.pages) [
       | inl lt ↦ absurd (not_there N.some (λ q.
           let o = opened g.row.D N.form N.leaves s cell N.references N.bytes.now N.places.now q.path q.tree c.requires c.is_cell.ensures q.cell_is q.is in
-          let few = pages_said g.row.D N.form N.leaves s cell N.references N.bytes.now N.places.now o.d o.x o.l o.r c.in-Some.head o.node (c.in-Some.ensures.only s cell o.d o.x o.l o.r room o.fits o.node) in
+          let few = pages_said g.row.D N.form N.leaves s cell N.references N.bytes.now N.places.now o.d o.x o.l o.r c.in-Some.head o.node
+          (c.in-Some.ensures.only s cell o.d o.x o.l o.r room o.fits o.node) in
           omega (arith, lt, few)))
       | inr le ↦ le
     ]

@@ -16,8 +16,10 @@ unreachable-requires g c =
     not_there N.some (λ q.
     let lf = leaf_node g.row.D N.form N.leaves s q.path N.references N.bytes.now N.places.now q.tree c.requires q.is in
     let one = c.if-self-eq1.true in
-    let told = lf.node.told ∙ told_one N.form s (Leaf lf.size lf.own) one ∙ leaf_in_table s lf.size lf.own ∙ sym (append-nil (place_bytes (record { at = fitted s lf.size; length = lf.size }))) in
-    c.in_default.ensures.only (record { at = fitted s lf.size; length = lf.size }) [] (omega (arith, fitted_to s lf.size, room)) (omega (arith, fitted_fits s lf.size lf.greatest)) (omega (arith, lf.greatest)) told)
+    let told = lf.node.told ∙ told_one N.form s (Leaf lf.size lf.own) one ∙ leaf_in_table s lf.size lf.own
+    ∙ sym (append-nil (place_bytes (record { at = fitted s lf.size; length = lf.size }))) in
+    c.in_default.ensures.only (record { at = fitted s lf.size; length = lf.size }) [] (omega (arith, fitted_to s lf.size, room))
+    (omega (arith, fitted_fits s lf.size lf.greatest)) (omega (arith, lf.greatest)) told)
 
 pub returns-then-self-eq1 : goal.returns-then-self-eq1
 returns-then-self-eq1 g c path t h =
@@ -26,8 +28,10 @@ returns-then-self-eq1 g c path t h =
     let room : s.page ≤ 8388608 = omega (arith, N.numbered) in
     let lf = leaf_node g.row.D N.form N.leaves s path N.references N.bytes.now N.places.now t c.requires h in
     let one = c.if-self-eq1.true in
-    let told = lf.node.told ∙ told_one N.form s (Leaf lf.size lf.own) one ∙ leaf_in_table s lf.size lf.own ∙ sym (append-nil (place_bytes (record { at = fitted s lf.size; length = lf.size }))) in
-    let both = c.in-Some.ensures.only (record { at = fitted s lf.size; length = lf.size }) [] (omega (arith, fitted_to s lf.size, room)) (omega (arith, fitted_fits s lf.size lf.greatest)) (omega (arith, lf.greatest)) told in
+    let told = lf.node.told ∙ told_one N.form s (Leaf lf.size lf.own) one ∙ leaf_in_table s lf.size lf.own
+    ∙ sym (append-nil (place_bytes (record { at = fitted s lf.size; length = lf.size }))) in
+    let both = c.in-Some.ensures.only (record { at = fitted s lf.size; length = lf.size }) [] (omega (arith, fitted_to s lf.size, room))
+    (omega (arith, fitted_fits s lf.size lf.greatest)) (omega (arith, lf.greatest)) told in
     ap (λ (p : Placed). p.length) both.0 ∙ sym (ap first_length lf.is)
 
 pub unreachable-requires-in_default-take_length : goal.unreachable-requires-in_default-take_length

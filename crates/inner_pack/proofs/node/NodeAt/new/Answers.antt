@@ -9,7 +9,8 @@ use Rattle.inner_pack.proofs.node.NodeAt.new.Goals as goal
 pub cell_at-requires : goal.cell_at-requires
 cell_at-requires g c =
     let some : ∥ IsSomeLeaf g.row.D c.args.form c.args.leaves (region_of c.args.path.now) c.args.part.bytes.now ∥₁ =
-    ∥∥₁_elim c.requires.some ∥∥₁_prop (λ q. merely (record { begin = spot_of c.args.begin; references = c.args.references.now; places = c.args.part.places.now; tree = q.tree; is = q.is })) in
+    ∥∥₁_elim c.requires.some ∥∥₁_prop
+    (λ q. merely (record { begin = spot_of c.args.begin; references = c.args.references.now; places = c.args.part.places.now; tree = q.tree; is = q.is })) in
     search rules
 
 pub invariant_of-result-clause-some : goal.invariant_of-result-clause-some

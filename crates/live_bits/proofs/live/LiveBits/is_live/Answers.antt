@@ -7,12 +7,14 @@ use Rattle.live_bits.proofs.live.LiveBits.is_live.Goals as goal
 pub returns-in-None : goal.returns-in-None
 returns-in-None c =
     let b = c.self.inside in
-    sym (live_outside b.base b.span b.bits.items c.args.doc (inl (omega (arith, c.in-None.ensures)))) ∙ ap (λ (s : LiveSet). is_live s c.args.doc) c.self.view_is
+    sym (live_outside b.base b.span b.bits.items c.args.doc (inl (omega (arith, c.in-None.ensures))))
+    ∙ ap (λ (s : LiveSet). is_live s c.args.doc) c.self.view_is
 
 pub returns-in-Some : goal.returns-in-Some
 returns-in-Some c =
     let b = c.self.inside in
-    sym (live_outside b.base b.span b.bits.items c.args.doc (inr (omega (arith, c.in-Some.ensures)))) ∙ ap (λ (s : LiveSet). is_live s c.args.doc) c.self.view_is
+    sym (live_outside b.base b.span b.bits.items c.args.doc (inr (omega (arith, c.in-Some.ensures))))
+    ∙ ap (λ (s : LiveSet). is_live s c.args.doc) c.self.view_is
 
 pub returns-in-Some-2 : goal.returns-in-Some-2
 returns-in-Some-2 c =

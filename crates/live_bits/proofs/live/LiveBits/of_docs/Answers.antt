@@ -32,7 +32,8 @@ returns-clause-live c =
     let long : length new ≡ c.in_ok-bits.bits.len = c.set_docs.auto.bits ∙ c.as_mut_slice.ensures.len in
     let zeros = c.as_mut_slice.ensures.value ∙ c.in_ok-bits.ensures.items_if_clones_equal (λ y e. e) in
     let made = made_of base span _ c.args.docs.now c.as_mut_slice.result.now new refl (long ∙ c.in_ok-bits.ensures.len) zeros c.set_docs.ensures in
-    ap (λ (xs : List ℕ). is_live (live_set base span xs)) (with_items_is c.in_ok-bits.bits new long) ∙ made_live base span c.args.docs.now new c.reach-base.ensures made
+    ap (λ (xs : List ℕ). is_live (live_set base span xs)) (with_items_is c.in_ok-bits.bits new long)
+    ∙ made_live base span c.args.docs.now new c.reach-base.ensures made
 
 pub returns-clause-set : goal.returns-clause-set
 returns-clause-set c = live_set_is _ _ _ (span_limit c.reach-base.result.0 c.reach-base.result.1 c.args.docs.now c.reach-base.ensures c.requires)

@@ -6,7 +6,8 @@ use Rattle.outer_io.proofs.open_files.OpenFiles.get.Goals as goal
 pub returns-in-Some : goal.returns-in-Some
 returns-in-Some g c =
     let found : position (is_opened c.args.n.now) c.args.self.now.files.items ≡ Some c.in-Some.place = rw (← c.deref.ensures.value) (sym c.in-Some.ensures) in
-    file_under-first c.args.n.now c.args.self.now.files.items c.put_first.new.self.files.items c.in-Some.place c.index.result.now c.index.ensures c.put_first.ensures.first found
+    file_under-first c.args.n.now c.args.self.now.files.items c.put_first.new.self.files.items c.in-Some.place c.index.result.now c.index.ensures
+    c.put_first.ensures.first found
 
 pub returns-in-None : goal.returns-in-None
 returns-in-None g c =

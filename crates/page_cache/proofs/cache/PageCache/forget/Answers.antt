@@ -2,13 +2,14 @@ use Rattle.std.proofs.Common.{◌∙◌, ap}
 use Rattle.std.specs.Map.{keys_of}
 use Rattle.page_cache.specs.Cache.{Keeps, IsKept, KeepsFile, Agrees, order_of}
 use Rattle.page_cache.specs.Keys.{Kept, page_key}
-use Rattle.page_cache.proofs.KeptPages.{keys_filtered}
+use Rattle.page_cache.proofs.TakenOut.{keys_filtered}
 use Rattle.page_cache.proofs.CachePages.{keeps_fewer, agrees_fewer, valid_fewer, others_fewer, others_gone, others_stay}
 use Rattle.page_cache.proofs.cache.PageCache.forget.Goals as goal
 
 pub returns-clause-gone : goal.returns-clause-gone
 unfolding Keeps IsKept KeepsFile
-returns-clause-gone c = λ k. others_gone c.args.id c.args.self.now.pages.entries c.take_file_out.new.pages.entries c.take_file_out.ensures.others k.0 k.1.1.0 k.1.1.1
+returns-clause-gone c = λ k.
+    others_gone c.args.id c.args.self.now.pages.entries c.take_file_out.new.pages.entries c.take_file_out.ensures.others k.0 k.1.1.0 k.1.1.1
 
 pub returns-clause-order : goal.returns-clause-order
 unfolding order_of

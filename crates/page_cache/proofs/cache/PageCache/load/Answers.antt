@@ -21,11 +21,13 @@ returns-then-touch-clause-order g c = let has = c.if-touch.ensures.found in reco
 
 pub returns-then-touch-clause-agrees : goal.returns-then-touch-clause-agrees
 unfolding Keeps Agrees
-returns-then-touch-clause-agrees g c = λ told. agrees_fewer (g.F.Pages.files c.args.folder.now) c.args.self.now.pages.entries c.touch.new.pages.entries c.touch.ensures.fewer
+returns-then-touch-clause-agrees g c = λ told.
+    agrees_fewer (g.F.Pages.files c.args.folder.now) c.args.self.now.pages.entries c.touch.new.pages.entries c.touch.ensures.fewer
 
 pub returns-in_err-page-clause-agrees : goal.returns-in_err-page-clause-agrees
 unfolding Keeps Agrees
-returns-in_err-page-clause-agrees g c = λ told. agrees_fewer (g.F.Pages.files c.args.folder.now) c.args.self.now.pages.entries c.touch.new.pages.entries c.touch.ensures.fewer
+returns-in_err-page-clause-agrees g c = λ told.
+    agrees_fewer (g.F.Pages.files c.args.folder.now) c.args.self.now.pages.entries c.touch.new.pages.entries c.touch.ensures.fewer
 
 pub returns-in_err-keep-clause-agrees : goal.returns-in_err-keep-clause-agrees
 unfolding Keeps Agrees
@@ -39,15 +41,17 @@ returns-clause-kept g c = (c.in_ok-page.page.value.b, (c.in_ok-page.page, c.in_o
 
 pub returns-clause-others : goal.returns-clause-others
 unfolding Keeps IsKept KeepsFile
-returns-clause-others g c = λ i k. elim (keeps_one c.args.id c.args.number c.in_ok-page.page c.touch.new.pages.entries c.keep.new.pages.entries c.keep.ensures.one i k.0 k.1.0 k.1.1) [
-  | inl was ↦ inl (k.0, (k.1.0, keeps_fewer c.args.self.now.pages.entries c.touch.new.pages.entries (page_key i k.0) k.1.0 c.touch.ensures.fewer was))
-  | inr same ↦ inr same
-]
+returns-clause-others g c = λ i k.
+    elim (keeps_one c.args.id c.args.number c.in_ok-page.page c.touch.new.pages.entries c.keep.new.pages.entries c.keep.ensures.one i k.0 k.1.0 k.1.1) [
+      | inl was ↦ inl (k.0, (k.1.0, keeps_fewer c.args.self.now.pages.entries c.touch.new.pages.entries (page_key i k.0) k.1.0 c.touch.ensures.fewer was))
+      | inr same ↦ inr same
+    ]
 
 pub returns-clause-agrees : goal.returns-clause-agrees
 unfolding Keeps Agrees
 returns-clause-agrees g c = λ told agrees.
-    agrees_one c.args.id c.args.number c.in_ok-page.page c.touch.new.pages.entries c.keep.new.pages.entries c.keep.ensures.one (g.F.Pages.files c.args.folder.now) (c.in_ok-page.ensures.bytes told)
+    agrees_one c.args.id c.args.number c.in_ok-page.page c.touch.new.pages.entries c.keep.new.pages.entries c.keep.ensures.one
+    (g.F.Pages.files c.args.folder.now) (c.in_ok-page.ensures.bytes told)
     (agrees_fewer (g.F.Pages.files c.args.folder.now) c.args.self.now.pages.entries c.touch.new.pages.entries c.touch.ensures.fewer agrees)
 
 pub invariant_of-self-2 : goal.invariant_of-self-2

@@ -16,7 +16,8 @@ returns-clause-valid c =
 
 pub returns-clause-fewer : goal.returns-clause-fewer
 unfolding Keeps IsKept KeepsFile
-returns-clause-fewer c = λ i k. (k.0, (k.1.0, keeps_fewer c.args.self.now.pages.entries c.take_out.new.pages.entries (page_key i k.0) k.1.0 c.take_out.ensures.fewer k.1.1))
+returns-clause-fewer c = λ i k.
+    (k.0, (k.1.0, keeps_fewer c.args.self.now.pages.entries c.take_out.new.pages.entries (page_key i k.0) k.1.0 c.take_out.ensures.fewer k.1.1))
 
 pub returns-clause-agrees : goal.returns-clause-agrees
 unfolding Keeps Agrees

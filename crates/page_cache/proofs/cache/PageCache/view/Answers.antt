@@ -11,8 +11,10 @@ returns-clause-bytes c =
 pub returns-clause-file : goal.returns-clause-file
 unfolding Keeps Agrees
 returns-clause-file c = λ files agrees. let found = c.kept_page-page.ensures.kept in
-    agrees c.args.id c.args.number c.of_valid.result.bytes.now.b (found.0, found.1, found.2 ∙ sym (ap (λ (p : PageBytes). p.b) c.bytes.ensures) ∙ sym c.of_valid.ensures.bytes)
+    agrees c.args.id c.args.number c.of_valid.result.bytes.now.b
+    (found.0, found.1, found.2 ∙ sym (ap (λ (p : PageBytes). p.b) c.bytes.ensures) ∙ sym c.of_valid.ensures.bytes)
 
 pub returns-clause-only : goal.returns-clause-only
 unfolding Keeps
-returns-clause-only c = λ bytes kept. c.kept_page-page.ensures.only bytes kept ∙ sym (ap (λ (p : PageBytes). p.b) c.bytes.ensures) ∙ sym c.of_valid.ensures.bytes
+returns-clause-only c = λ bytes kept.
+    c.kept_page-page.ensures.only bytes kept ∙ sym (ap (λ (p : PageBytes). p.b) c.bytes.ensures) ∙ sym c.of_valid.ensures.bytes

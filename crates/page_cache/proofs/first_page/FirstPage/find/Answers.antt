@@ -7,7 +7,8 @@ use Rattle.page_cache.proofs.first_page.FirstPage.find.Goals as goal
 
 pub returns-then-size-clause-whole : goal.returns-then-size-clause-whole
 returns-then-size-clause-whole g c = λ told page.
-    small_file_no_page c.args.name.now (g.F.Pages.files c.args.folder.now c.args.name.now) c.in-Some.size (sym c.in-Some.is ∙ c.in_ok-size.ensures.length told) c.if-size.true page
+    small_file_no_page c.args.name.now (g.F.Pages.files c.args.folder.now c.args.name.now) c.in-Some.size (sym c.in-Some.is ∙ c.in_ok-size.ensures.length told)
+    c.if-size.true page
 
 pub returns-clause-first : goal.returns-clause-first
 unfolding first_name first_payload first_size

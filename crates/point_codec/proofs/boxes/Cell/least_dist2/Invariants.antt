@@ -6,6 +6,7 @@ use Rattle.point_codec.proofs.boxes.Cell.least_dist2.Given as goal
 
 abbrev pub invariant-loop-i : goal.invariant-loop-i
 invariant-loop-i g l = record {
-  whole : l.sum + dist2 (drop l.i l.p.c) (moved_between (drop l.i l.self.lo.c) (drop l.i l.self.hi.c) (drop l.i l.p.c)) ≡ dist2 l.p.c (moved_between l.self.lo.c l.self.hi.c l.p.c);
+  whole : l.sum + dist2 (drop l.i l.p.c) (moved_between (drop l.i l.self.lo.c) (drop l.i l.self.hi.c) (drop l.i l.p.c))
+      ≡ dist2 l.p.c (moved_between l.self.lo.c l.self.hi.c l.p.c);
   small : l.sum ≤ l.i * 2 ^ 64;
 }

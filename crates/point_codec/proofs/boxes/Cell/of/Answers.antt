@@ -14,10 +14,12 @@ loop-entry-preserved g c =
     let p = c.entry-item.result.point.c in
     let passed = map (λ e. e.point.c) (take c.loop-entry.entry-index rest) in
     let more : map (λ e. e.point.c) (take (c.loop-entry.entry-index + 1) rest) ≡ passed ++ p ∷ [] =
-    map-more (λ e. e.point.c) rest c.loop-entry.entry-index c.entry-item.result c.loop-entry-test.true ∙ ap (λ e. passed ++ e.point.c ∷ []) (sym c.entry-item.is) in
+    map-more (λ e. e.point.c) rest c.loop-entry.entry-index c.entry-item.result c.loop-entry-test.true
+    ∙ ap (λ e. passed ++ e.point.c ∷ []) (sym c.entry-item.is) in
     let low : length c.loop-entry.lo.0 ≡ length p = search rules in
     let high : length c.loop-entry.hi.0 ≡ length p = search rules in
-    rw (more, c.lower.ensures, c.raise.ensures) (IsLeastCell-more (c.in_ok-first.first.now.point.c ∷ passed) (record { lo = c.loop-entry.lo.0; hi = c.loop-entry.hi.0 }) p low high c.loop-entry.invariant)
+    rw (more, c.lower.ensures, c.raise.ensures)
+    (IsLeastCell-more (c.in_ok-first.first.now.point.c ∷ passed) (record { lo = c.loop-entry.lo.0; hi = c.loop-entry.hi.0 }) p low high c.loop-entry.invariant)
 
 pub invariant_of-result : goal.invariant_of-result
 invariant_of-result g c = record { ordered = least_cell_ordered _ _ _ c.loop-entry.invariant }
@@ -29,5 +31,6 @@ returns-clause-least g c =
     let whole : take c.loop-entry.entry-index rest ≡ rest = ap (λ i. take i rest) all ∙ take-length rest in
     let split : c.args.entries.now ≡ c.in_ok-first.first.now ∷ rest = c.in_ok-first.ensures.cases.0 in
     let points : map (λ x. x.at) (items_of c.args.entries.now) ≡ c.in_ok-first.first.now.point.c ∷ map (λ e. e.point.c) (take c.loop-entry.entry-index rest) =
-    map-map (λ x. x.at) _ c.args.entries.now ∙ ap (map (λ e. e.point.c)) split ∙ ap (λ es. c.in_ok-first.first.now.point.c ∷ map (λ e. e.point.c) es) (sym whole) in
+    map-map (λ x. x.at) _ c.args.entries.now ∙ ap (map (λ e. e.point.c)) split
+    ∙ ap (λ es. c.in_ok-first.first.now.point.c ∷ map (λ e. e.point.c) es) (sym whole) in
     rw points c.loop-entry.invariant

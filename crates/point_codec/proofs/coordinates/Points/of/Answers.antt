@@ -13,10 +13,12 @@ invariant_of-result g c =
     rw left (record {
       some = counted.0;
       few = counted.1;
-      ascending = (sorted_and_dedup (λ p. p.c) (slice_cmp int_cmp) points_total points_exact _ (λ p q. points_tie p.c q.c) _ _ c.sort_unstable.ensures.permutation c.sort_unstable.ensures.sorted).0;
+      ascending = (sorted_and_dedup (λ p. p.c) (slice_cmp int_cmp) points_total points_exact _ (λ p q. points_tie p.c q.c)
+          _ _ c.sort_unstable.ensures.permutation c.sort_unstable.ensures.sorted).0;
     })
 
 pub returns : goal.returns
 returns g c =
     ap (map (λ p. p.c)) (dedup_is _ _ _ c.dedup.ensures.filtered)
-    ∙ (sorted_and_dedup (λ p. p.c) (slice_cmp int_cmp) points_total points_exact _ (λ p q. points_tie p.c q.c) _ _ c.sort_unstable.ensures.permutation c.sort_unstable.ensures.sorted).1
+    ∙ (sorted_and_dedup (λ p. p.c) (slice_cmp int_cmp) points_total points_exact _ (λ p q. points_tie p.c q.c) _ _ c.sort_unstable.ensures.permutation
+    c.sort_unstable.ensures.sorted).1

@@ -11,4 +11,5 @@ invariant_of-self g c =
 pub returns-clause-entries : goal.returns-clause-entries
 returns-clause-entries g c = λ items has.
     let i = c.self.inside in
-    has_live g.row.D items (segment_of i.built i.leaf i.entries i.live) c.clear.new.self (subst (λ (n : NewSegmentData). HasEntries g.row.D items n) (sym c.self.view_is) has)
+    has_live g.row.D items (segment_of i.built i.leaf i.entries i.live) c.clear.new.self
+    (subst (λ (n : NewSegmentData). HasEntries g.row.D items n) (sym c.self.view_is) has)

@@ -6,5 +6,10 @@ pub write_segment-requires : goal.write_segment-requires
 write_segment-requires g c =
     let i = c.self.inside in
     let n = segment_of i.built i.leaf i.entries i.live in
-    let dims = some_dims g.row.D n c.self.invariant in
-    (search rules, (search rules, can_write g.row.D c.args.id n c.in_ok-index.index c.leaves.result.now (c.in_ok-index.ensures ∙ c.index.ensures) c.leaves.ensures c.self.invariant))
+    let dims = some_dims g.row.D n c.self.invariant in (
+      search rules,
+      (
+        search rules,
+        can_write g.row.D c.args.id n c.in_ok-index.index c.leaves.result.now (c.in_ok-index.ensures ∙ c.index.ensures) c.leaves.ensures c.self.invariant,
+      ),
+    )

@@ -12,5 +12,6 @@ returns-clause-put c = λ files payloads h.
     let a = c.in_ok-put_pages.ensures.ok in
     let self = c.args.self.now in
     let pages : c.pages_for.result ≡ pages_for (length c.args.body.now) = c.pages_for.ensures in
-    let grown = more_pages (Segment self.id) self.pages payloads (if self.started then files ++ self.out.items else self.out.items) c.args.body.now a.bytes h a.pages in
+    let grown =
+    more_pages (Segment self.id) self.pages payloads (if self.started then files ++ self.out.items else self.out.items) c.args.body.now a.bytes h a.pages in
     rw (pages, behind self.started files self.out.items c.put_pages.new.out.items a.bytes a.grew) grown

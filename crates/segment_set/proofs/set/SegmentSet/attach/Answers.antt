@@ -18,7 +18,8 @@ use Rattle.segment_set.specs.Seen.{Sees}
 use Rattle.segment_set.specs.Kept.{IsAtRest}
 use Rattle.index_opening.specs.Damages.{IsAttachDamage, IsAttachDamageOf, IsListedDamage, IsListedDamageOf, IsMisplaced}
 use Rattle.segment_set.specs.Faithful.{IsFaithful}
-use Rattle.index_opening.proofs.Listed.{listed_of, listed_shown, misplaced_of, misplaced_shown, opened_heads, opened_lives, undefined_fault, whole_listed, whole_placed}
+use Rattle.index_opening.proofs.Listed.{listed_of, listed_shown, misplaced_of, misplaced_shown, opened_heads}
+use Rattle.index_opening.proofs.Listed.{opened_lives, undefined_fault, whole_listed, whole_placed}
 use Rattle.segment_set.proofs.Attaching.{at_rest_attached, attached_is, sees_attached, well_attached}
 use Rattle.index_opening.proofs.Evident.{on_attach_evident}
 use Rattle.segment_set.proofs.Saving.{done_cause}
@@ -28,34 +29,42 @@ use Rattle.segment_set.proofs.set.SegmentSet.attach.Goals as goal
 pub returns-in_err-segments-clause-whole : goal.returns-in_err-segments-clause-whole
 returns-in_err-segments-clause-whole g c = λ told says state stored.
     let e = err_from_is_err_and c.from_residual-in_err-segments.result c.from_residual-in_err-segments.ensures.1 in
-    rw (e.1, e.2) (whole_listed (g.F.Pages.files c.args.folder.now) c.args.c.now c.in_err-segments.field-0.0 (c.in_err-segments.ensures.whole told) says state stored)
+    rw (e.1, e.2)
+    (whole_listed (g.F.Pages.files c.args.folder.now) c.args.c.now c.in_err-segments.field-0.0 (c.in_err-segments.ensures.whole told) says state stored)
 
 pub returns-in_err-segments-clause-undefined : goal.returns-in_err-segments-clause-undefined
 returns-in_err-segments-clause-undefined g c = λ told says.
     let files = g.F.Pages.files c.args.folder.now in
     let e = err_from_is_err_and c.from_residual-in_err-segments.result c.from_residual-in_err-segments.ensures.1 in
-    rw (e.1, e.2) (undefined_fault files c.in_err-segments.field-0.0 (whole_listed files c.args.c.now c.in_err-segments.field-0.0 (c.in_err-segments.ensures.whole told) says))
+    rw (e.1, e.2)
+    (undefined_fault files c.in_err-segments.field-0.0
+    (whole_listed files c.args.c.now c.in_err-segments.field-0.0 (c.in_err-segments.ensures.whole told) says))
 
 pub returns-in_err-segments-clause-shown : goal.returns-in_err-segments-clause-shown
 returns-in_err-segments-clause-shown g c =
     let e = err_from_is_err_and c.from_residual-in_err-segments.result c.from_residual-in_err-segments.ensures.1 in
     rw (e.1, e.2)
-    (fault_weaker c.in_err-segments.field-0.0 (λ (d : Damage). (s : Listed) × Contains c.args.c.now.listed s × IsListedDamage s d) (IsAttachDamage c.args.c.now) (listed_shown c.args.c.now) c.in_err-segments.ensures.shown)
+    (fault_weaker c.in_err-segments.field-0.0 (λ (d : Damage). (s : Listed) × Contains c.args.c.now.listed s × IsListedDamage s d) (IsAttachDamage c.args.c.now)
+    (listed_shown c.args.c.now) c.in_err-segments.ensures.shown)
 
 pub returns-in_err-segments-clause-damage : goal.returns-in_err-segments-clause-damage
 returns-in_err-segments-clause-damage g c = λ told.
     let files = g.F.Pages.files c.args.folder.now in
     let e = err_from_is_err_and c.from_residual-in_err-segments.result c.from_residual-in_err-segments.ensures.1 in
     rw (e.1, e.2)
-    (fault_weaker c.in_err-segments.field-0.0 (λ (d : Damage). (s : Listed) × Contains c.args.c.now.listed s × IsListedDamageOf files c.args.c.now s d) (IsAttachDamageOf files c.args.c.now) (listed_of files c.args.c.now)
+    (fault_weaker c.in_err-segments.field-0.0 (λ (d : Damage). (s : Listed) × Contains c.args.c.now.listed s × IsListedDamageOf files c.args.c.now s d)
+    (IsAttachDamageOf files c.args.c.now) (listed_of files c.args.c.now)
     (c.in_err-segments.ensures.damage told))
 
 pub returns-in_err-check_numbers-clause-shown : goal.returns-in_err-check_numbers-clause-shown
 returns-in_err-check_numbers-clause-shown g c =
     let e = err_from_is_err_and c.from_residual-in_err-check_numbers.result c.from_residual-in_err-check_numbers.ensures.1 in
-    let shown = subst (λ (n : ℕ). FaultShows (IsMisplaced (λ doc. 1 ≤ places doc c.lives.result.now) (λ doc. 2 ≤ places doc c.lives.result.now) n) c.in_err-check_numbers.field-0.0) c.next.ensures.value c.in_err-check_numbers.ensures.shown in
+    let shown = subst
+    (λ (n : ℕ). FaultShows (IsMisplaced (λ doc. 1 ≤ places doc c.lives.result.now) (λ doc. 2 ≤ places doc c.lives.result.now) n)
+    c.in_err-check_numbers.field-0.0) c.next.ensures.value c.in_err-check_numbers.ensures.shown in
     rw (e.1, e.2)
-    (fault_weaker c.in_err-check_numbers.field-0.0 (IsMisplaced (λ doc. 1 ≤ places doc c.lives.result.now) (λ doc. 2 ≤ places doc c.lives.result.now) c.args.c.now.next) (IsAttachDamage c.args.c.now)
+    (fault_weaker c.in_err-check_numbers.field-0.0
+    (IsMisplaced (λ doc. 1 ≤ places doc c.lives.result.now) (λ doc. 2 ≤ places doc c.lives.result.now) c.args.c.now.next) (IsAttachDamage c.args.c.now)
     (misplaced_shown (λ doc. 1 ≤ places doc c.lives.result.now) (λ doc. 2 ≤ places doc c.lives.result.now) c.args.c.now) shown)
 
 pub returns-in_err-check_numbers-clause-damage : goal.returns-in_err-check_numbers-clause-damage
@@ -63,9 +72,14 @@ returns-in_err-check_numbers-clause-damage g c = λ told.
     let files = g.F.Pages.files c.args.folder.now in
     let sets = lives_of c.in_ok-segments.segments in
     let e = err_from_is_err_and c.from_residual-in_err-check_numbers.result c.from_residual-in_err-check_numbers.ensures.1 in
-    let shown = subst (λ (n : ℕ). FaultShows (IsMisplaced (λ doc. 1 ≤ places doc sets) (λ doc. 2 ≤ places doc sets) n) c.in_err-check_numbers.field-0.0) c.next.ensures.value
-    (subst (λ (ss : List LiveSet). FaultShows (IsMisplaced (λ doc. 1 ≤ places doc ss) (λ doc. 2 ≤ places doc ss) c.next.result) c.in_err-check_numbers.field-0.0) c.lives.ensures c.in_err-check_numbers.ensures.shown) in
-    rw (e.1, e.2) (misplaced_of files c.args.c.now sets c.in_err-check_numbers.field-0.0 (opened_lives (IsTrue g.F.Pages.told) files c.args.c.now c.in_ok-segments.segments told c.in_ok-segments.ensures.opened) shown)
+    let shown = subst (λ (n : ℕ). FaultShows (IsMisplaced (λ doc. 1 ≤ places doc sets) (λ doc. 2 ≤ places doc sets) n) c.in_err-check_numbers.field-0.0)
+    c.next.ensures.value
+    (subst (λ (ss : List LiveSet).
+    FaultShows (IsMisplaced (λ doc. 1 ≤ places doc ss) (λ doc. 2 ≤ places doc ss) c.next.result) c.in_err-check_numbers.field-0.0) c.lives.ensures
+    c.in_err-check_numbers.ensures.shown) in
+    rw (e.1, e.2)
+    (misplaced_of files c.args.c.now sets c.in_err-check_numbers.field-0.0
+    (opened_lives (IsTrue g.F.Pages.told) files c.args.c.now c.in_ok-segments.segments told c.in_ok-segments.ensures.opened) shown)
 
 pub returns-in_err-check_numbers-clause-whole : goal.returns-in_err-check_numbers-clause-whole
 returns-in_err-check_numbers-clause-whole g c = λ told says state stored.
@@ -73,10 +87,14 @@ returns-in_err-check_numbers-clause-whole g c = λ told says state stored.
     let parts = c.in_ok-segments.segments in
     let sets = lives_of parts in
     let e = err_from_is_err_and c.from_residual-in_err-check_numbers.result c.from_residual-in_err-check_numbers.ensures.1 in
-    let shown = subst (λ (n : ℕ). FaultShows (IsMisplaced (λ doc. 1 ≤ places doc sets) (λ doc. 2 ≤ places doc sets) n) c.in_err-check_numbers.field-0.0) c.next.ensures.value
-    (subst (λ (ss : List LiveSet). FaultShows (IsMisplaced (λ doc. 1 ≤ places doc ss) (λ doc. 2 ≤ places doc ss) c.next.result) c.in_err-check_numbers.field-0.0) c.lives.ensures c.in_err-check_numbers.ensures.shown) in
+    let shown = subst (λ (n : ℕ). FaultShows (IsMisplaced (λ doc. 1 ≤ places doc sets) (λ doc. 2 ≤ places doc sets) n) c.in_err-check_numbers.field-0.0)
+    c.next.ensures.value
+    (subst (λ (ss : List LiveSet).
+    FaultShows (IsMisplaced (λ doc. 1 ≤ places doc ss) (λ doc. 2 ≤ places doc ss) c.next.result) c.in_err-check_numbers.field-0.0) c.lives.ensures
+    c.in_err-check_numbers.ensures.shown) in
     rw (e.1, e.2)
-    (whole_placed files c.args.c.now parts c.in_err-check_numbers.field-0.0 (opened_heads (IsTrue g.F.Pages.told) files c.args.c.now parts told c.in_ok-segments.ensures.opened)
+    (whole_placed files c.args.c.now parts c.in_err-check_numbers.field-0.0
+    (opened_heads (IsTrue g.F.Pages.told) files c.args.c.now parts told c.in_ok-segments.ensures.opened)
     (opened_lives (IsTrue g.F.Pages.told) files c.args.c.now parts told c.in_ok-segments.ensures.opened) shown says state stored)
 
 pub returns-in_err-check_numbers-clause-undefined : goal.returns-in_err-check_numbers-clause-undefined
@@ -85,18 +103,24 @@ returns-in_err-check_numbers-clause-undefined g c = λ told says.
     let parts = c.in_ok-segments.segments in
     let sets = lives_of parts in
     let e = err_from_is_err_and c.from_residual-in_err-check_numbers.result c.from_residual-in_err-check_numbers.ensures.1 in
-    let shown = subst (λ (n : ℕ). FaultShows (IsMisplaced (λ doc. 1 ≤ places doc sets) (λ doc. 2 ≤ places doc sets) n) c.in_err-check_numbers.field-0.0) c.next.ensures.value
-    (subst (λ (ss : List LiveSet). FaultShows (IsMisplaced (λ doc. 1 ≤ places doc ss) (λ doc. 2 ≤ places doc ss) c.next.result) c.in_err-check_numbers.field-0.0) c.lives.ensures c.in_err-check_numbers.ensures.shown) in
+    let shown = subst (λ (n : ℕ). FaultShows (IsMisplaced (λ doc. 1 ≤ places doc sets) (λ doc. 2 ≤ places doc sets) n) c.in_err-check_numbers.field-0.0)
+    c.next.ensures.value
+    (subst (λ (ss : List LiveSet).
+    FaultShows (IsMisplaced (λ doc. 1 ≤ places doc ss) (λ doc. 2 ≤ places doc ss) c.next.result) c.in_err-check_numbers.field-0.0) c.lives.ensures
+    c.in_err-check_numbers.ensures.shown) in
     rw (e.1, e.2)
     (undefined_fault files c.in_err-check_numbers.field-0.0
-    (whole_placed files c.args.c.now parts c.in_err-check_numbers.field-0.0 (opened_heads (IsTrue g.F.Pages.told) files c.args.c.now parts told c.in_ok-segments.ensures.opened)
+    (whole_placed files c.args.c.now parts c.in_err-check_numbers.field-0.0
+    (opened_heads (IsTrue g.F.Pages.told) files c.args.c.now parts told c.in_ok-segments.ensures.opened)
     (opened_lives (IsTrue g.F.Pages.told) files c.args.c.now parts told c.in_ok-segments.ensures.opened) shown says))
 
 pub invariant_of-result : goal.invariant_of-result
 invariant_of-result g c =
     subst (IsWell g.row.D)
-    (sym (attached_is c.args.c.now c.in_ok-names.names c.in_ok-segments.segments c.in_ok-cache.cache _ _ _ _ _ c.leaf.ensures.value c.next-2.ensures.value c.given.ensures.value (ap items_of c.new-2.ensures.items) c.new-3.ensures.items))
-    (well_attached g.row.D (IsTrue g.F.Pages.told) (g.F.Pages.files c.args.folder.now) c.args.c.now c.in_ok-names.names c.in_ok-segments.segments c.in_ok-cache.cache c.requires c.leaf.ensures.commit c.in_ok-segments.ensures.opened
+    (sym (attached_is c.args.c.now c.in_ok-names.names c.in_ok-segments.segments c.in_ok-cache.cache _ _ _ _ _ c.leaf.ensures.value c.next-2.ensures.value
+    c.given.ensures.value (ap items_of c.new-2.ensures.items) c.new-3.ensures.items))
+    (well_attached g.row.D (IsTrue g.F.Pages.told) (g.F.Pages.files c.args.folder.now) c.args.c.now c.in_ok-names.names c.in_ok-segments.segments
+    c.in_ok-cache.cache c.requires c.leaf.ensures.commit c.in_ok-segments.ensures.opened
     (λ number.
     let placed = c.in_ok-check_numbers.ensures.alone number in
     let one = subst (λ (ss : List LiveSet). places number ss ≤ 1) c.lives.ensures placed.0 in
@@ -108,25 +132,32 @@ returns-clause-seen g c = λ told says i stored.
     let files = g.F.Pages.files c.args.folder.now in
     let parts = c.in_ok-segments.segments in
     subst (λ (s : SetData). Sees g.row.D files s i)
-    (sym (attached_is c.args.c.now c.in_ok-names.names parts c.in_ok-cache.cache _ _ _ _ _ c.leaf.ensures.value c.next-2.ensures.value c.given.ensures.value (ap items_of c.new-2.ensures.items) c.new-3.ensures.items))
-    (sees_attached g.row.D files c.args.c.now c.in_ok-names.names parts c.in_ok-cache.cache i c.requires says stored (opened_heads (IsTrue g.F.Pages.told) files c.args.c.now parts told c.in_ok-segments.ensures.opened)
+    (sym (attached_is c.args.c.now c.in_ok-names.names parts c.in_ok-cache.cache _ _ _ _ _ c.leaf.ensures.value c.next-2.ensures.value c.given.ensures.value
+    (ap items_of c.new-2.ensures.items) c.new-3.ensures.items))
+    (sees_attached g.row.D files c.args.c.now c.in_ok-names.names parts c.in_ok-cache.cache i c.requires says stored
+    (opened_heads (IsTrue g.F.Pages.told) files c.args.c.now parts told c.in_ok-segments.ensures.opened)
     (opened_lives (IsTrue g.F.Pages.told) files c.args.c.now parts told c.in_ok-segments.ensures.opened) (c.in_ok-cache.ensures.agrees files))
 
 pub returns-clause-commit : goal.returns-clause-commit
 returns-clause-commit g c =
     subst (λ (s : SetData). IsAtRest s c.args.c.now)
-    (sym (attached_is c.args.c.now c.in_ok-names.names c.in_ok-segments.segments c.in_ok-cache.cache _ _ _ _ _ c.leaf.ensures.value c.next-2.ensures.value c.given.ensures.value (ap items_of c.new-2.ensures.items) c.new-3.ensures.items))
-    (at_rest_attached (IsTrue g.F.Pages.told) (g.F.Pages.files c.args.folder.now) c.args.c.now c.in_ok-names.names c.in_ok-segments.segments c.in_ok-cache.cache c.in_ok-segments.ensures.opened c.in_ok-names.ensures.next)
+    (sym (attached_is c.args.c.now c.in_ok-names.names c.in_ok-segments.segments c.in_ok-cache.cache _ _ _ _ _ c.leaf.ensures.value c.next-2.ensures.value
+    c.given.ensures.value (ap items_of c.new-2.ensures.items) c.new-3.ensures.items))
+    (at_rest_attached (IsTrue g.F.Pages.told) (g.F.Pages.files c.args.folder.now) c.args.c.now c.in_ok-names.names c.in_ok-segments.segments c.in_ok-cache.cache
+    c.in_ok-segments.ensures.opened c.in_ok-names.ensures.next)
 
 pub returns-clause-live : goal.returns-clause-live
-returns-clause-live g c = λ told. opened_lives (IsTrue g.F.Pages.told) (g.F.Pages.files c.args.folder.now) c.args.c.now c.in_ok-segments.segments told c.in_ok-segments.ensures.opened
+returns-clause-live g c = λ told.
+    opened_lives (IsTrue g.F.Pages.told) (g.F.Pages.files c.args.folder.now) c.args.c.now c.in_ok-segments.segments told c.in_ok-segments.ensures.opened
 
 pub returns-clause-faithful : goal.returns-clause-faithful
 returns-clause-faithful g c = λ told.
     let files = g.F.Pages.files c.args.folder.now in
     subst (IsFaithful g.row.D files)
-    (sym (attached_is c.args.c.now c.in_ok-names.names c.in_ok-segments.segments c.in_ok-cache.cache _ _ _ _ _ c.leaf.ensures.value c.next-2.ensures.value c.given.ensures.value (ap items_of c.new-2.ensures.items) c.new-3.ensures.items))
-    (faithful_attached g.row.D (IsTrue g.F.Pages.told) files c.args.c.now c.in_ok-names.names c.in_ok-segments.segments c.in_ok-cache.cache c.requires told c.in_ok-segments.ensures.opened (c.in_ok-cache.ensures.agrees files))
+    (sym (attached_is c.args.c.now c.in_ok-names.names c.in_ok-segments.segments c.in_ok-cache.cache _ _ _ _ _ c.leaf.ensures.value c.next-2.ensures.value
+    c.given.ensures.value (ap items_of c.new-2.ensures.items) c.new-3.ensures.items))
+    (faithful_attached g.row.D (IsTrue g.F.Pages.told) files c.args.c.now c.in_ok-names.names c.in_ok-segments.segments c.in_ok-cache.cache c.requires told
+    c.in_ok-segments.ensures.opened (c.in_ok-cache.ensures.agrees files))
 
 pub returns-clause-cause : goal.returns-clause-cause
 returns-clause-cause g c = done_cause (g.F.Pages.faults c.args.folder.now) (g.F.Pages.faults c.open_all.new.folder) _ c.in_ok-segments.ensures.cause.fine
@@ -134,11 +165,13 @@ returns-clause-cause g c = done_cause (g.F.Pages.faults c.args.folder.now) (g.F.
 pub returns-in_err-segments-clause-evident : goal.returns-in_err-segments-clause-evident
 returns-in_err-segments-clause-evident g c =
     let files = g.F.Pages.files c.args.folder.now in
-    on_attach_evident (IsTrue g.F.Pages.told × IsCommitFile (bytes_of (files Commit)) c.args.c.now) files c.args.c.now c.from_residual-in_err-segments.result (λ h. h.1)
+    on_attach_evident (IsTrue g.F.Pages.told × IsCommitFile (bytes_of (files Commit)) c.args.c.now) files c.args.c.now c.from_residual-in_err-segments.result
+    (λ h. h.1)
     (λ h. returns-in_err-segments-clause-damage g c h.0) (returns-in_err-segments-clause-shown g c)
 
 pub returns-in_err-check_numbers-clause-evident : goal.returns-in_err-check_numbers-clause-evident
 returns-in_err-check_numbers-clause-evident g c =
     let files = g.F.Pages.files c.args.folder.now in
-    on_attach_evident (IsTrue g.F.Pages.told × IsCommitFile (bytes_of (files Commit)) c.args.c.now) files c.args.c.now c.from_residual-in_err-check_numbers.result (λ h. h.1)
+    on_attach_evident (IsTrue g.F.Pages.told × IsCommitFile (bytes_of (files Commit)) c.args.c.now) files c.args.c.now
+    c.from_residual-in_err-check_numbers.result (λ h. h.1)
     (λ h. returns-in_err-check_numbers-clause-damage g c h.0) (returns-in_err-check_numbers-clause-shown g c)

@@ -31,33 +31,40 @@ old g c = record {
 }
 
 fields : (g : given.Over) (c : goal.After-take_document-in_buffer g)
-    → record (old g c) { parts = c.clear-in_segment.new.self; buffer = items_of c.take_document-in_buffer.new.buffer.items; begun = c.clear_begun.new.begun } ≡ set_but c.args.doc (old g c)
+    → record (old g c) { parts = c.clear-in_segment.new.self; buffer = items_of c.take_document-in_buffer.new.buffer.items; begun = c.clear_begun.new.begun }
+    ≡ set_but c.args.doc (old g c)
 fields g c =
     set_but_is c.args.doc (old g c) c.clear-in_segment.new.self (items_of c.take_document-in_buffer.new.buffer.items) c.clear_begun.new.begun
     c.clear-in_segment.ensures.after c.take_document-in_buffer.ensures.rest c.clear_begun.ensures
 
 whole : (g : given.Over) (c : goal.After-take_document-in_buffer g)
-    → record (old g c) { parts = c.clear-in_segment.new.self; buffer = items_of c.take_document-in_buffer.new.buffer.items; begun = c.clear_begun.new.begun } ≡ set_but c.args.doc c.args.self.now
+    → record (old g c) { parts = c.clear-in_segment.new.self; buffer = items_of c.take_document-in_buffer.new.buffer.items; begun = c.clear_begun.new.begun }
+    ≡ set_but c.args.doc c.args.self.now
 whole g c = fields g c ∙ ap (set_but c.args.doc) c.self.view_is
 
 pub take_document-in_buffer-requires : goal.take_document-in_buffer-requires
-take_document-in_buffer-requires g c = let dims = c.self.invariant.few_dims in (entry_fits g.row.D dims, (dims, ordered_items c.self.inside.buffer.items c.self.invariant.ordered))
+take_document-in_buffer-requires g c =
+    let dims = c.self.invariant.few_dims in
+    (entry_fits g.row.D dims, (dims, ordered_items c.self.inside.buffer.items c.self.invariant.ordered))
 
 pub invariant_of-self : goal.invariant_of-self
 invariant_of-self g c = subst (IsWell g.row.D) (sym (fields g c)) (well_but g.row.D c.args.doc (old g c) c.self.invariant)
 
 pub returns-clause-answer : goal.returns-clause-answer
 returns-clause-answer g c =
-    live_either c.args.doc (old g c) c.clear-in_segment.result c.take_document-in_buffer.result c.clear-in_segment.ensures.answer c.take_document-in_buffer.ensures.answer
+    live_either c.args.doc (old g c) c.clear-in_segment.result c.take_document-in_buffer.result c.clear-in_segment.ensures.answer
+    c.take_document-in_buffer.ensures.answer
     ∙ ap (λ (s : SetData). is_live_in s c.args.doc) c.self.view_is
 
 pub returns-clause-seen : goal.returns-clause-seen
 returns-clause-seen g c files i seen =
-    subst (λ (s : SetData). Sees g.row.D files s (record i { docs = deleted c.args.doc i.docs })) (sym (whole g c)) (sees_but g.row.D c.args.doc files c.args.self.now i seen)
+    subst (λ (s : SetData). Sees g.row.D files s (record i { docs = deleted c.args.doc i.docs })) (sym (whole g c))
+    (sees_but g.row.D c.args.doc files c.args.self.now i seen)
 
 pub returns-clause-live : goal.returns-clause-live
 returns-clause-live g c files i seen =
-    live_either c.args.doc (old g c) c.clear-in_segment.result c.take_document-in_buffer.result c.clear-in_segment.ensures.answer c.take_document-in_buffer.ensures.answer
+    live_either c.args.doc (old g c) c.clear-in_segment.result c.take_document-in_buffer.result c.clear-in_segment.ensures.answer
+    c.take_document-in_buffer.ensures.answer
     ∙ ap (λ (s : SetData). is_live_in s c.args.doc) c.self.view_is
     ∙ live_seen g.row.D c.args.doc files c.args.self.now i seen
 
@@ -72,4 +79,5 @@ returns-clause-dead g c = ap is_live_in (whole g c) ∙ live_without c.args.doc 
 
 pub returns-clause-follows : goal.returns-clause-follows
 returns-clause-follows g c =
-    subst (λ (s : SetData). Follows c.args.self.now.names c.args.self.now.parts s.parts) (sym (whole g c)) (follows_cleared c.args.self.now.names c.args.doc c.args.self.now.parts)
+    subst (λ (s : SetData). Follows c.args.self.now.names c.args.self.now.parts s.parts) (sym (whole g c))
+    (follows_cleared c.args.self.now.names c.args.doc c.args.self.now.parts)

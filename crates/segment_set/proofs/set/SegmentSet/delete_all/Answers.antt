@@ -23,11 +23,14 @@ loop-doc-init g c = record {
 pub loop-doc-preserved : goal.loop-doc-preserved
 loop-doc-preserved g c = record {
   seen = λ files i seen.
-      subst (λ (ns : List ℕ). Sees g.row.D files c.delete.new.self (record i { docs = docs_but ns i.docs })) (sym (take_more c.args.docs.now c.loop-doc.doc-index 0 c.loop-doc-test.true))
-      (subst (λ (ds : List Document). Sees g.row.D files c.delete.new.self (record i { docs = ds })) (docs_more (take c.loop-doc.doc-index c.args.docs.now) (get_or c.args.docs.now c.loop-doc.doc-index 0) i.docs)
+      subst (λ (ns : List ℕ). Sees g.row.D files c.delete.new.self (record i { docs = docs_but ns i.docs }))
+      (sym (take_more c.args.docs.now c.loop-doc.doc-index 0 c.loop-doc-test.true))
+      (subst (λ (ds : List Document). Sees g.row.D files c.delete.new.self (record i { docs = ds }))
+      (docs_more (take c.loop-doc.doc-index c.args.docs.now) (get_or c.args.docs.now c.loop-doc.doc-index 0) i.docs)
       (c.delete.ensures.seen files (record i { docs = docs_but (take c.loop-doc.doc-index c.args.docs.now) i.docs }) (c.loop-doc.invariant.seen files i seen)));
   faithful = λ files keeps. c.delete.ensures.faithful files (c.loop-doc.invariant.faithful files keeps);
-  stays = stays_then c.args.self.now c.loop-doc.self c.delete.new.self c.loop-doc.invariant.stays (subst (StaysAlone c.loop-doc.self) (sym c.delete.ensures.alone) (stays_but (get_or c.args.docs.now c.loop-doc.doc-index 0) c.loop-doc.self));
+  stays = stays_then c.args.self.now c.loop-doc.self c.delete.new.self c.loop-doc.invariant.stays
+      (subst (StaysAlone c.loop-doc.self) (sym c.delete.ensures.alone) (stays_but (get_or c.args.docs.now c.loop-doc.doc-index 0) c.loop-doc.self));
   follows = follows_then c.args.self.now.names c.loop-doc.self.names c.args.self.now.parts c.loop-doc.self.parts c.delete.new.self.parts
       (λ name named. ap (λ (n : NameList). is_named n.names name) c.loop-doc.invariant.names ∙ named) c.loop-doc.invariant.follows c.delete.ensures.follows;
   names = ap (λ (s : SetData). s.names) c.delete.ensures.alone ∙ c.loop-doc.invariant.names;
@@ -36,7 +39,8 @@ loop-doc-preserved g c = record {
 
 pub returns-clause-seen : goal.returns-clause-seen
 returns-clause-seen g c files i seen =
-    subst (λ (ns : List ℕ). Sees g.row.D files c.loop-doc.self (record i { docs = docs_but ns i.docs })) (take_all c.loop-doc.doc-index c.args.docs.now c.loop-doc-test.false) (c.loop-doc.invariant.seen files i seen)
+    subst (λ (ns : List ℕ). Sees g.row.D files c.loop-doc.self (record i { docs = docs_but ns i.docs }))
+    (take_all c.loop-doc.doc-index c.args.docs.now c.loop-doc-test.false) (c.loop-doc.invariant.seen files i seen)
 
 pub returns-clause-faithful : goal.returns-clause-faithful
 returns-clause-faithful g c files keeps = c.loop-doc.invariant.faithful files keeps

@@ -23,7 +23,8 @@ use Rattle.segment_set.proofs.set.SegmentSet.delete_box.Goals as goal
 
 pub returns-in_err-hits-clause-reads : goal.returns-in_err-hits-clause-reads
 returns-in_err-hits-clause-reads g c = λ n are.
-    c.in_err-hits.ensures.reads n (subst (λ (b : Asked). AreTouched g.row.D (in_box b.bounds) (crosses b.bounds) (heads_of c.args.self.now.parts) n) (sym c.new-shape.ensures) are)
+    c.in_err-hits.ensures.reads n
+    (subst (λ (b : Asked). AreTouched g.row.D (in_box b.bounds) (crosses b.bounds) (heads_of c.args.self.now.parts) n) (sym c.new-shape.ensures) are)
 
 pub returns-in_err-hits-clause-whole : goal.returns-in_err-hits-clause-whole
 returns-in_err-hits-clause-whole g c = λ told i seen.
@@ -31,7 +32,8 @@ returns-in_err-hits-clause-whole g c = λ told i seen.
 
 pub returns-in_default-clause-reads : goal.returns-in_default-clause-reads
 returns-in_default-clause-reads g c = λ n are.
-    c.in_ok-hits.ensures.reads n (subst (λ (b : Asked). AreTouched g.row.D (in_box b.bounds) (crosses b.bounds) (heads_of c.args.self.now.parts) n) (sym c.new-shape.ensures) are)
+    c.in_ok-hits.ensures.reads n
+    (subst (λ (b : Asked). AreTouched g.row.D (in_box b.bounds) (crosses b.bounds) (heads_of c.args.self.now.parts) n) (sym c.new-shape.ensures) are)
 
 pub returns-clause-seen : goal.returns-clause-seen
 returns-clause-seen g c = λ told i seen.
@@ -44,11 +46,14 @@ returns-clause-seen g c = λ told i seen.
 
 pub returns-clause-count : goal.returns-clause-count
 returns-clause-count g c = λ told i seen.
-    c.in-Ok.ensures.1 ∙ c.len.ensures ∙ sym c.as_slice.ensures.len ∙ ap length (c.as_slice.ensures.value ∙ c.in_ok-hits.ensures.found told i seen i.docs refl ∙ ap (λ (b : Asked). hits (in_box b.bounds) i.docs) c.new-shape.ensures)
+    c.in-Ok.ensures.1 ∙ c.len.ensures ∙ sym c.as_slice.ensures.len
+    ∙ ap length (c.as_slice.ensures.value ∙ c.in_ok-hits.ensures.found told i seen i.docs refl
+    ∙ ap (λ (b : Asked). hits (in_box b.bounds) i.docs) c.new-shape.ensures)
 
 pub returns-clause-reads : goal.returns-clause-reads
 returns-clause-reads g c = λ n are.
-    c.in_ok-hits.ensures.reads n (subst (λ (b : Asked). AreTouched g.row.D (in_box b.bounds) (crosses b.bounds) (heads_of c.args.self.now.parts) n) (sym c.new-shape.ensures) are)
+    c.in_ok-hits.ensures.reads n
+    (subst (λ (b : Asked). AreTouched g.row.D (in_box b.bounds) (crosses b.bounds) (heads_of c.args.self.now.parts) n) (sym c.new-shape.ensures) are)
 
 pub returns-in_err-hits-clause-seen : goal.returns-in_err-hits-clause-seen
 returns-in_err-hits-clause-seen g c = λ told i seen. never_ok _ c.from_residual.result c.from_residual.ensures.1 _
@@ -92,22 +97,26 @@ returns-in_default-clause-saved g c = ap (λ (s : SetData). s.saved) c.visit.ens
 
 pub returns-in_err-hits-clause-cause : goal.returns-in_err-hits-clause-cause
 returns-in_err-hits-clause-cause g c =
-    same_cause (g.F.Pages.faults c.args.folder.now) (g.F.Pages.faults c.visit.new.folder) c.in_err-hits.field-0.0 c.from_residual.result c.from_residual.ensures.1 c.in_err-hits.ensures.cause
+    same_cause (g.F.Pages.faults c.args.folder.now) (g.F.Pages.faults c.visit.new.folder) c.in_err-hits.field-0.0 c.from_residual.result
+    c.from_residual.ensures.1 c.in_err-hits.ensures.cause
 
 pub returns-in_err-hits-clause-shown : goal.returns-in_err-hits-clause-shown
 returns-in_err-hits-clause-shown g c =
-    same_damage (IsPartDamage g.row.D c.args.self.now.parts) c.in_err-hits.field-0.0 c.from_residual.result c.from_residual.ensures.1 c.in_err-hits.ensures.shown
+    same_damage (IsPartDamage g.row.D c.args.self.now.parts) c.in_err-hits.field-0.0 c.from_residual.result c.from_residual.ensures.1
+    c.in_err-hits.ensures.shown
 
 pub returns-in_err-hits-clause-damage : goal.returns-in_err-hits-clause-damage
 returns-in_err-hits-clause-damage g c = λ told agrees.
-    same_damage (IsLeafDamageOf (g.F.Pages.files c.args.folder.now)) c.in_err-hits.field-0.0 c.from_residual.result c.from_residual.ensures.1 (c.in_err-hits.ensures.damage told agrees)
+    same_damage (IsLeafDamageOf (g.F.Pages.files c.args.folder.now)) c.in_err-hits.field-0.0 c.from_residual.result c.from_residual.ensures.1
+    (c.in_err-hits.ensures.damage told agrees)
 
 pub returns-in_err-hits-clause-faithful : goal.returns-in_err-hits-clause-faithful
 returns-in_err-hits-clause-faithful g c = λ told keeps. c.visit.ensures.faithful told keeps
 
 pub returns-in_err-hits-clause-evident : goal.returns-in_err-hits-clause-evident
 returns-in_err-hits-clause-evident g c =
-    same_damage (IsEvident (IsTrue g.F.Pages.told × IsFaithful g.row.D (g.F.Pages.files c.args.folder.now) c.args.self.now) (g.F.Pages.files c.visit.new.folder))
+    same_damage (IsEvident (IsTrue g.F.Pages.told × IsFaithful g.row.D (g.F.Pages.files c.args.folder.now) c.args.self.now)
+    (g.F.Pages.files c.visit.new.folder))
     c.in_err-hits.field-0.0 c.from_residual.result c.from_residual.ensures.1 c.in_err-hits.ensures.evident
 
 pub returns-in_default-clause-faithful : goal.returns-in_default-clause-faithful
@@ -146,11 +155,14 @@ returns-clause-files g c = c.visit.ensures.files
 
 pub returns-clause-stays : goal.returns-clause-stays
 returns-clause-stays g c =
-    stays_then c.args.self.now c.visit.new.self c.delete_all.new.self (stays_cached c.args.self.now c.visit.new.self c.visit.ensures.alone) c.delete_all.ensures.stays
+    stays_then c.args.self.now c.visit.new.self c.delete_all.new.self (stays_cached c.args.self.now c.visit.new.self c.visit.ensures.alone)
+    c.delete_all.ensures.stays
 
 pub returns-clause-follows : goal.returns-clause-follows
 returns-clause-follows g c =
-    follows_then c.args.self.now.names c.visit.new.self.names c.args.self.now.parts c.visit.new.self.parts c.delete_all.new.self.parts (λ m named. ap (λ (s : SetData). is_named s.names.names m) c.visit.ensures.alone.is ∙ named) (follows_cached c.args.self.now c.visit.new.self c.visit.ensures.alone) c.delete_all.ensures.follows
+    follows_then c.args.self.now.names c.visit.new.self.names c.args.self.now.parts c.visit.new.self.parts c.delete_all.new.self.parts
+    (λ m named. ap (λ (s : SetData). is_named s.names.names m) c.visit.ensures.alone.is ∙ named)
+    (follows_cached c.args.self.now c.visit.new.self c.visit.ensures.alone) c.delete_all.ensures.follows
 
 pub returns-clause-names : goal.returns-clause-names
 returns-clause-names g c = c.delete_all.ensures.names ∙ ap (λ (s : SetData). s.names) c.visit.ensures.alone.is

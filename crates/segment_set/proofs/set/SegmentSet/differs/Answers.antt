@@ -38,8 +38,10 @@ pub returns-clause-same : goal.returns-clause-same
 returns-clause-same g c = (
   λ e.
       subst (λ (s : SetData). IsAsCommitted s c.args.c.now) c.self.view_is
-      (as_committed (here g c) c.args.c.now c.heads.result.now c.lives.result.now c.listed.result.now c.heads.ensures.value c.lives.ensures c.listed.ensures.value
-      (c.if-self-next.false ∙ c.next.ensures.value) (c.if-self-given.false ∙ c.given.ensures.value) (ap items_of (none c.self.inside.buffer.items (sym c.self.inside.buffer.ok.0 ∙ eqb-true _ _ (sym c.if-not-is_empty.ensures))))
+      (as_committed (here g c) c.args.c.now c.heads.result.now c.lives.result.now c.listed.result.now c.heads.ensures.value c.lives.ensures
+      c.listed.ensures.value
+      (c.if-self-next.false ∙ c.next.ensures.value) (c.if-self-given.false ∙ c.given.ensures.value)
+      (ap items_of (none c.self.inside.buffer.items (sym c.self.inside.buffer.ok.0 ∙ eqb-true _ _ (sym c.if-not-is_empty.ensures))))
       (c.are_listed.ensures.same.0 (listed c.are_listed.result e))),
   λ is.
       ap not

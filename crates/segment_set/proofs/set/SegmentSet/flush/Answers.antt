@@ -14,21 +14,29 @@ use Rattle.index_opening.proofs.Evident.{none_with}
 use Rattle.segment_set.proofs.set.SegmentSet.flush.Given as given
 use Rattle.segment_set.proofs.set.SegmentSet.flush.Goals as goal
 
-settled : (g : given.Over) (c : goal.After-write_buffer g) → Rearranges g.row.D (IsTrue g.F.Pages.told) (g.F.Pages.files c.args.folder.now) (g.F.Pages.files c.merge_settle.new.folder) c.args.self.now c.merge_settle.new.self
+settled : (g : given.Over) (c : goal.After-write_buffer g)
+    → Rearranges g.row.D (IsTrue g.F.Pages.told) (g.F.Pages.files c.args.folder.now) (g.F.Pages.files c.merge_settle.new.folder) c.args.self.now
+    c.merge_settle.new.self
 settled g c =
     let done = c.in_ok-merge_settle.ensures in
     record { seen = done.seen; stays = done.stays; kept = done.kept; follows = done.follows; canon = done.canon; begun = done.begun; saved = done.saved }
 
-all : (g : given.Over) (c : goal.After-write_buffer g) → Rearranges g.row.D (IsTrue g.F.Pages.told) (g.F.Pages.files c.args.folder.now) (g.F.Pages.files c.write_buffer.new.folder) c.args.self.now c.write_buffer.new.self
+all : (g : given.Over) (c : goal.After-write_buffer g)
+    → Rearranges g.row.D (IsTrue g.F.Pages.told) (g.F.Pages.files c.args.folder.now) (g.F.Pages.files c.write_buffer.new.folder) c.args.self.now
+    c.write_buffer.new.self
 all g c =
-    rearranges_then g.row.D (IsTrue g.F.Pages.told) (g.F.Pages.files c.args.folder.now) (g.F.Pages.files c.merge_settle.new.folder) (g.F.Pages.files c.write_buffer.new.folder) c.args.self.now c.merge_settle.new.self c.write_buffer.new.self
+    rearranges_then g.row.D (IsTrue g.F.Pages.told) (g.F.Pages.files c.args.folder.now) (g.F.Pages.files c.merge_settle.new.folder)
+    (g.F.Pages.files c.write_buffer.new.folder) c.args.self.now c.merge_settle.new.self c.write_buffer.new.self
     c.write_buffer.ensures.well.named (settled g c) c.write_buffer.ensures.moves
 
 pub returns-clause-seen : goal.returns-clause-seen
 returns-clause-seen g c = (all g c).seen
 
 pub returns-clause-levels : goal.returns-clause-levels
-returns-clause-levels g c = on_ok_weaker c.write_buffer.result (λ emptied level. let more = c.write_buffer.ensures.one_more level in let few = c.in_ok-merge_settle.ensures.levels level in omega (arith, more, few)) c.write_buffer.ensures.emptied
+returns-clause-levels g c =
+    on_ok_weaker c.write_buffer.result
+    (λ emptied level. let more = c.write_buffer.ensures.one_more level in let few = c.in_ok-merge_settle.ensures.levels level in omega (arith, more, few))
+    c.write_buffer.ensures.emptied
 
 pub returns-clause-stays : goal.returns-clause-stays
 returns-clause-stays g c = (all g c).stays
@@ -49,20 +57,27 @@ pub returns-clause-canon : goal.returns-clause-canon
 returns-clause-canon g c = (all g c).canon
 
 pub returns-clause-cause : goal.returns-clause-cause
-returns-clause-cause g c = subst (λ n. HasPageCause n (g.F.Pages.faults c.write_buffer.new.folder) c.write_buffer.result) c.in_ok-merge_settle.ensures.cause.fine c.write_buffer.ensures.cause
+returns-clause-cause g c =
+    subst (λ n. HasPageCause n (g.F.Pages.faults c.write_buffer.new.folder) c.write_buffer.result) c.in_ok-merge_settle.ensures.cause.fine
+    c.write_buffer.ensures.cause
 
 pub returns-clause-whole : goal.returns-clause-whole
 returns-clause-whole g c = λ told i seen. c.write_buffer.ensures.whole
 
 pub returns-clause-shown : goal.returns-clause-shown
-returns-clause-shown g c = on_damage_weaker c.write_buffer.result (λ _. ⊥) (IsMergeDamage g.row.D c.args.self.now.given c.args.self.now.names c.args.self.now.parts) (λ d h. absurd h) c.write_buffer.ensures.whole
+returns-clause-shown g c =
+    on_damage_weaker c.write_buffer.result (λ _. ⊥) (IsMergeDamage g.row.D c.args.self.now.given c.args.self.now.names c.args.self.now.parts) (λ d h. absurd h)
+    c.write_buffer.ensures.whole
 
 pub returns-clause-damage : goal.returns-clause-damage
-returns-clause-damage g c = λ told agrees. on_damage_weaker c.write_buffer.result (λ _. ⊥) (IsMergeDamageOf (g.F.Pages.files c.write_buffer.new.folder) c.args.self.now.given) (λ d h. absurd h) c.write_buffer.ensures.whole
+returns-clause-damage g c = λ told agrees.
+    on_damage_weaker c.write_buffer.result (λ _. ⊥) (IsMergeDamageOf (g.F.Pages.files c.write_buffer.new.folder) c.args.self.now.given) (λ d h. absurd h)
+    c.write_buffer.ensures.whole
 
 pub returns-clause-doubled : goal.returns-clause-doubled
 returns-clause-doubled g c = λ told agrees contents reads.
-    on_damage_weaker c.write_buffer.result (λ _. ⊥) (IsDoubt c.args.self.now.given (live_in_parts contents c.args.self.now.parts)) (λ d h. absurd h) c.write_buffer.ensures.whole
+    on_damage_weaker c.write_buffer.result (λ _. ⊥) (IsDoubt c.args.self.now.given (live_in_parts contents c.args.self.now.parts)) (λ d h. absurd h)
+    c.write_buffer.ensures.whole
 
 pub returns-in_err-merge_settle-clause-whole : goal.returns-in_err-merge_settle-clause-whole
 returns-in_err-merge_settle-clause-whole g c = λ told i seen.
@@ -106,15 +121,18 @@ returns-in_err-merge_settle-clause-canon g c = c.in_err-merge_settle.ensures.can
 
 pub returns-in_err-merge_settle-clause-cause : goal.returns-in_err-merge_settle-clause-cause
 returns-in_err-merge_settle-clause-cause g c =
-    same_cause (g.F.Pages.faults c.args.folder.now) (g.F.Pages.faults c.merge_settle.new.folder) c.in_err-merge_settle.field-0.0 c.from_residual.result c.from_residual.ensures.1 c.in_err-merge_settle.ensures.cause
+    same_cause (g.F.Pages.faults c.args.folder.now) (g.F.Pages.faults c.merge_settle.new.folder) c.in_err-merge_settle.field-0.0 c.from_residual.result
+    c.from_residual.ensures.1 c.in_err-merge_settle.ensures.cause
 
 pub returns-in_err-merge_settle-clause-shown : goal.returns-in_err-merge_settle-clause-shown
 returns-in_err-merge_settle-clause-shown g c =
-    same_damage (IsMergeDamage g.row.D c.args.self.now.given c.args.self.now.names c.args.self.now.parts) c.in_err-merge_settle.field-0.0 c.from_residual.result c.from_residual.ensures.1 c.in_err-merge_settle.ensures.shown
+    same_damage (IsMergeDamage g.row.D c.args.self.now.given c.args.self.now.names c.args.self.now.parts) c.in_err-merge_settle.field-0.0 c.from_residual.result
+    c.from_residual.ensures.1 c.in_err-merge_settle.ensures.shown
 
 pub returns-in_err-merge_settle-clause-damage : goal.returns-in_err-merge_settle-clause-damage
 returns-in_err-merge_settle-clause-damage g c = λ told agrees.
-    same_damage (IsMergeDamageOf (g.F.Pages.files c.merge_settle.new.folder) c.args.self.now.given) c.in_err-merge_settle.field-0.0 c.from_residual.result c.from_residual.ensures.1 (c.in_err-merge_settle.ensures.damage told agrees)
+    same_damage (IsMergeDamageOf (g.F.Pages.files c.merge_settle.new.folder) c.args.self.now.given) c.in_err-merge_settle.field-0.0 c.from_residual.result
+    c.from_residual.ensures.1 (c.in_err-merge_settle.ensures.damage told agrees)
 
 pub returns-in_err-merge_settle-clause-saved : goal.returns-in_err-merge_settle-clause-saved
 returns-in_err-merge_settle-clause-saved g c = c.in_err-merge_settle.ensures.saved
@@ -127,14 +145,18 @@ returns-in_err-merge_settle-clause-faithful g c = c.in_err-merge_settle.ensures.
 
 pub returns-in_err-merge_settle-clause-evident : goal.returns-in_err-merge_settle-clause-evident
 returns-in_err-merge_settle-clause-evident g c =
-    same_damage (IsEvidentIn g.row.D c.args.self.now.parts (IsTrusted g.F.Pages.told g.row.D (g.F.Pages.files c.args.folder.now) c.args.self.now) (g.F.Pages.files c.merge_settle.new.folder)) c.in_err-merge_settle.field-0.0 c.from_residual.result c.from_residual.ensures.1 c.in_err-merge_settle.ensures.evident
+    same_damage (IsEvidentIn g.row.D c.args.self.now.parts (IsTrusted g.F.Pages.told g.row.D (g.F.Pages.files c.args.folder.now) c.args.self.now)
+    (g.F.Pages.files c.merge_settle.new.folder)) c.in_err-merge_settle.field-0.0 c.from_residual.result c.from_residual.ensures.1
+    c.in_err-merge_settle.ensures.evident
 
 pub returns-clause-faithful : goal.returns-clause-faithful
 returns-clause-faithful g c = λ told faithful. c.write_buffer.ensures.faithful told (c.in_ok-merge_settle.ensures.faithful told faithful)
 
 pub returns-clause-evident : goal.returns-clause-evident
 returns-clause-evident g c =
-    none_with (IsCrowdedIn g.row.D (g.F.Pages.files c.write_buffer.new.folder) c.args.self.now.parts) (IsTrusted g.F.Pages.told g.row.D (g.F.Pages.files c.args.folder.now) c.args.self.now) (g.F.Pages.files c.write_buffer.new.folder) c.write_buffer.result c.write_buffer.ensures.whole
+    none_with (IsCrowdedIn g.row.D (g.F.Pages.files c.write_buffer.new.folder) c.args.self.now.parts)
+    (IsTrusted g.F.Pages.told g.row.D (g.F.Pages.files c.args.folder.now) c.args.self.now) (g.F.Pages.files c.write_buffer.new.folder) c.write_buffer.result
+    c.write_buffer.ensures.whole
 
 pub returns-in_err-merge_settle-clause-flushed : goal.returns-in_err-merge_settle-clause-flushed
 returns-in_err-merge_settle-clause-flushed g c = never_ok _ c.from_residual.result c.from_residual.ensures.1 _
@@ -143,7 +165,16 @@ pub returns-in_err-merge_settle-clause-left : goal.returns-in_err-merge_settle-c
 returns-in_err-merge_settle-clause-left g c = at_error _ c.from_residual.result c.from_residual.ensures.1 _ c.in_err-merge_settle.ensures.left
 
 pub returns-clause-flushed : goal.returns-clause-flushed
-returns-clause-flushed g c = on_ok_weaker c.write_buffer.result (λ spills. record { mid = (moment (g.F.Pages.files c.merge_settle.new.folder) c.merge_settle.new.self); settles = c.in_ok-merge_settle.ensures.settled; spills = spills }) c.write_buffer.ensures.spills
+returns-clause-flushed g c =
+    on_ok_weaker c.write_buffer.result
+    (λ spills. record {
+      mid = (moment (g.F.Pages.files c.merge_settle.new.folder) c.merge_settle.new.self);
+      settles = c.in_ok-merge_settle.ensures.settled;
+      spills = spills;
+    }) c.write_buffer.ensures.spills
 
 pub returns-clause-left : goal.returns-clause-left
-returns-clause-left g c = on_err_weaker c.write_buffer.result (λ same. ((moment (g.F.Pages.files c.merge_settle.new.folder) c.merge_settle.new.self), c.in_ok-merge_settle.ensures.settled, same)) c.write_buffer.ensures.refused
+returns-clause-left g c =
+    on_err_weaker c.write_buffer.result
+    (λ same. ((moment (g.F.Pages.files c.merge_settle.new.folder) c.merge_settle.new.self), c.in_ok-merge_settle.ensures.settled, same))
+    c.write_buffer.ensures.refused

@@ -7,27 +7,35 @@ use Rattle.segment_set.specs.Sets.{IsWell, SetData}
 use Rattle.segment_set.specs.Kept.{IsCommitOf, KeepsNamed}
 use Rattle.segment_set.specs.Saved.{IsSaved}
 use Rattle.segment_set.specs.Faithful.{IsFaithful}
-use Rattle.segment_set.proofs.Saving.{IsLine, but_saved, commit_of_set, is_commit, saved_lines, well_names}
+use Rattle.segment_set.proofs.Saving.{but_saved, well_names}
+use Rattle.segment_set.proofs.SavedCommit.{IsLine, commit_of_set, is_commit, saved_lines}
 use Rattle.segment_set.proofs.Faithful.{faithful_saved}
 use Rattle.segment_set.proofs.Refused.{at_error}
 use Rattle.segment_set.proofs.Settled.{before_moved}
 use Rattle.segment_set.proofs.set.SegmentSet.list_segments.Goals as goal
 
 pub invariant_of-self : goal.invariant_of-self
-invariant_of-self g c = well_names g.row.D (IsTrue g.F.Pages.told) (g.F.Pages.files c.args.folder.now) (g.F.Pages.files c.write_lives.new.folder) _ c.write_lives.new.names c.self.inside.saved c.self.invariant c.write_lives.ensures.kept
+invariant_of-self g c =
+    well_names g.row.D (IsTrue g.F.Pages.told) (g.F.Pages.files c.args.folder.now) (g.F.Pages.files c.write_lives.new.folder) _ c.write_lives.new.names
+    c.self.inside.saved c.self.invariant c.write_lives.ensures.kept
 
 pub invariant_of-self-in_err-again : goal.invariant_of-self-in_err-again
-invariant_of-self-in_err-again g c = well_names g.row.D (IsTrue g.F.Pages.told) (g.F.Pages.files c.args.folder.now) (g.F.Pages.files c.write_lives.new.folder) _ c.write_lives.new.names c.self.inside.saved c.self.invariant c.write_lives.ensures.kept
+invariant_of-self-in_err-again g c =
+    well_names g.row.D (IsTrue g.F.Pages.told) (g.F.Pages.files c.args.folder.now) (g.F.Pages.files c.write_lives.new.folder) _ c.write_lives.new.names
+    c.self.inside.saved c.self.invariant c.write_lives.ensures.kept
 
 pub invariant_of-self-2 : goal.invariant_of-self-2
-invariant_of-self-2 g c = well_names g.row.D (IsTrue g.F.Pages.told) (g.F.Pages.files c.args.folder.now) (g.F.Pages.files c.write_lives.new.folder) _ c.write_lives.new.names (Some c.new-kept.result) c.self.invariant c.write_lives.ensures.kept
+invariant_of-self-2 g c =
+    well_names g.row.D (IsTrue g.F.Pages.told) (g.F.Pages.files c.args.folder.now) (g.F.Pages.files c.write_lives.new.folder) _ c.write_lives.new.names
+    (Some c.new-kept.result) c.self.invariant c.write_lives.ensures.kept
 
 pub returns-in_err-listed-clause-alone : goal.returns-in_err-listed-clause-alone
 returns-in_err-listed-clause-alone g c = but_saved c.args.self.now _ c.self.view_is c.write_lives.new.names c.self.inside.saved
 
 pub returns-in_err-listed-clause-kept : goal.returns-in_err-listed-clause-kept
 returns-in_err-listed-clause-kept g c =
-    subst (λ (u : SetData). KeepsNamed (IsTrue g.F.Pages.told) u.names c.write_lives.new.names (g.F.Pages.files c.args.folder.now) (g.F.Pages.files c.write_lives.new.folder)) c.self.view_is c.write_lives.ensures.kept
+    subst (λ (u : SetData). KeepsNamed (IsTrue g.F.Pages.told) u.names c.write_lives.new.names (g.F.Pages.files c.args.folder.now)
+    (g.F.Pages.files c.write_lives.new.folder)) c.self.view_is c.write_lives.ensures.kept
 
 pub returns-in_err-listed-clause-well : goal.returns-in_err-listed-clause-well
 returns-in_err-listed-clause-well g c = subst (IsWell g.row.D) c.self.view_is c.self.invariant
@@ -37,7 +45,8 @@ returns-in_err-again-clause-alone g c = but_saved c.args.self.now _ c.self.view_
 
 pub returns-in_err-again-clause-kept : goal.returns-in_err-again-clause-kept
 returns-in_err-again-clause-kept g c =
-    subst (λ (u : SetData). KeepsNamed (IsTrue g.F.Pages.told) u.names c.write_lives.new.names (g.F.Pages.files c.args.folder.now) (g.F.Pages.files c.write_lives.new.folder)) c.self.view_is c.write_lives.ensures.kept
+    subst (λ (u : SetData). KeepsNamed (IsTrue g.F.Pages.told) u.names c.write_lives.new.names (g.F.Pages.files c.args.folder.now)
+    (g.F.Pages.files c.write_lives.new.folder)) c.self.view_is c.write_lives.ensures.kept
 
 pub returns-in_err-again-clause-well : goal.returns-in_err-again-clause-well
 returns-in_err-again-clause-well g c = subst (IsWell g.row.D) c.self.view_is c.self.invariant
@@ -45,14 +54,17 @@ returns-in_err-again-clause-well g c = subst (IsWell g.row.D) c.self.view_is c.s
 pub new-kept-requires : goal.new-kept-requires
 new-kept-requires g c =
     is_commit g.row.D _ c.next_segment-next_segment.result c.in_ok-again.again.items c.self.invariant c.heads.ensures.ascend
-    (subst (λ (ls : List Listed). AllZip (IsLine c.next_segment-next_segment.result) ls c.self.inside.segments) (sym (c.in_ok-again.ensures.items ∙ c.as_slice.ensures.value))
-    (saved_lines (IsTrue g.F.Pages.told) c.self.inside.names c.write_lives.new.names (g.F.Pages.files c.write_lives.new.folder) c.next_segment-next_segment.result c.in_ok-listed.listed.items c.self.inside.segments
+    (subst (λ (ls : List Listed). AllZip (IsLine c.next_segment-next_segment.result) ls c.self.inside.segments)
+    (sym (c.in_ok-again.ensures.items ∙ c.as_slice.ensures.value))
+    (saved_lines (IsTrue g.F.Pages.told) c.self.inside.names c.write_lives.new.names (g.F.Pages.files c.write_lives.new.folder)
+    c.next_segment-next_segment.result c.in_ok-listed.listed.items c.self.inside.segments
     c.next_segment-next_segment.ensures.value c.in_ok-listed.ensures.listed))
 
 pub new-requires : goal.new-requires
 new-requires g c =
     is_commit g.row.D _ c.next_segment-next_segment.result c.in_ok-listed.listed.items c.self.invariant c.heads.ensures.ascend
-    (saved_lines (IsTrue g.F.Pages.told) c.self.inside.names c.write_lives.new.names (g.F.Pages.files c.write_lives.new.folder) c.next_segment-next_segment.result c.in_ok-listed.listed.items c.self.inside.segments
+    (saved_lines (IsTrue g.F.Pages.told) c.self.inside.names c.write_lives.new.names (g.F.Pages.files c.write_lives.new.folder)
+    c.next_segment-next_segment.result c.in_ok-listed.listed.items c.self.inside.segments
     c.next_segment-next_segment.ensures.value c.in_ok-listed.ensures.listed)
 
 pub returns-clause-alone : goal.returns-clause-alone
@@ -60,7 +72,8 @@ returns-clause-alone g c = but_saved c.args.self.now _ c.self.view_is c.write_li
 
 pub returns-clause-kept : goal.returns-clause-kept
 returns-clause-kept g c =
-    subst (λ (u : SetData). KeepsNamed (IsTrue g.F.Pages.told) u.names c.write_lives.new.names (g.F.Pages.files c.args.folder.now) (g.F.Pages.files c.write_lives.new.folder)) c.self.view_is c.write_lives.ensures.kept
+    subst (λ (u : SetData). KeepsNamed (IsTrue g.F.Pages.told) u.names c.write_lives.new.names (g.F.Pages.files c.args.folder.now)
+    (g.F.Pages.files c.write_lives.new.folder)) c.self.view_is c.write_lives.ensures.kept
 
 pub returns-clause-well : goal.returns-clause-well
 returns-clause-well g c = subst (IsWell g.row.D) c.self.view_is c.self.invariant
@@ -70,20 +83,33 @@ returns-clause-saved g c =
     let k = c.new.result in
     ap Some
     (c.new-kept.ensures
-    ∙ ap (λ (ls : List Listed). record { dims = g.row.D; leaf = c.self.inside.leaf; next = c.self.inside.next; given = c.self.inside.given; next_segment = c.next_segment-next_segment.result; listed = ls }) (c.in_ok-again.ensures.items ∙ c.as_slice.ensures.value)
+    ∙ ap (λ (ls : List Listed).
+    record {
+      dims = g.row.D;
+      leaf = c.self.inside.leaf;
+      next = c.self.inside.next;
+      given = c.self.inside.given;
+      next_segment = c.next_segment-next_segment.result;
+      listed = ls;
+    }) (c.in_ok-again.ensures.items ∙ c.as_slice.ensures.value)
     ∙ sym c.new.ensures)
 
 pub returns-clause-commit : goal.returns-clause-commit
 returns-clause-commit g c =
     subst (IsCommitOf g.row.D _) (sym c.new.ensures)
-    (commit_of_set g.row.D (IsTrue g.F.Pages.told) c.self.inside.names (g.F.Pages.files c.write_lives.new.folder) _ c.next_segment-next_segment.result c.in_ok-listed.listed.items c.next_segment-next_segment.ensures.value
-    (well_names g.row.D (IsTrue g.F.Pages.told) (g.F.Pages.files c.args.folder.now) (g.F.Pages.files c.write_lives.new.folder) _ c.write_lives.new.names (Some c.new-kept.result) c.self.invariant c.write_lives.ensures.kept)
+    (commit_of_set g.row.D (IsTrue g.F.Pages.told) c.self.inside.names (g.F.Pages.files c.write_lives.new.folder) _ c.next_segment-next_segment.result
+    c.in_ok-listed.listed.items c.next_segment-next_segment.ensures.value
+    (well_names g.row.D (IsTrue g.F.Pages.told) (g.F.Pages.files c.args.folder.now) (g.F.Pages.files c.write_lives.new.folder) _ c.write_lives.new.names
+    (Some c.new-kept.result) c.self.invariant c.write_lives.ensures.kept)
     c.in_ok-listed.ensures.listed)
 
 pub returns-clause-listed : goal.returns-clause-listed
 returns-clause-listed g c =
-    subst (λ (ls : List Listed). AllZip (IsSaved (IsTrue g.F.Pages.told) c.args.self.now.names c.write_lives.new.names (g.F.Pages.files c.write_lives.new.folder)) ls c.args.self.now.parts) (sym (ap (λ (k : CommitData). k.listed) c.new.ensures))
-    (subst (λ (u : SetData). AllZip (IsSaved (IsTrue g.F.Pages.told) u.names c.write_lives.new.names (g.F.Pages.files c.write_lives.new.folder)) c.in_ok-listed.listed.items u.parts) c.self.view_is c.in_ok-listed.ensures.listed)
+    subst (λ (ls : List Listed).
+    AllZip (IsSaved (IsTrue g.F.Pages.told) c.args.self.now.names c.write_lives.new.names (g.F.Pages.files c.write_lives.new.folder)) ls c.args.self.now.parts)
+    (sym (ap (λ (k : CommitData). k.listed) c.new.ensures))
+    (subst (λ (u : SetData). AllZip (IsSaved (IsTrue g.F.Pages.told) u.names c.write_lives.new.names (g.F.Pages.files c.write_lives.new.folder))
+    c.in_ok-listed.listed.items u.parts) c.self.view_is c.in_ok-listed.ensures.listed)
 
 pub returns-in_err-listed-clause-reads : goal.returns-in_err-listed-clause-reads
 returns-in_err-listed-clause-reads g c = c.write_lives.ensures.reads
@@ -96,24 +122,31 @@ returns-clause-reads g c = c.write_lives.ensures.reads
 
 pub returns-in_err-listed-clause-faithful : goal.returns-in_err-listed-clause-faithful
 returns-in_err-listed-clause-faithful g c = λ told faithful.
-    faithful_saved g.row.D (IsTrue g.F.Pages.told) (g.F.Pages.files c.args.folder.now) (g.F.Pages.files c.write_lives.new.folder) _ c.write_lives.new.names c.self.inside.saved c.self.invariant c.write_lives.ensures.kept told
+    faithful_saved g.row.D (IsTrue g.F.Pages.told) (g.F.Pages.files c.args.folder.now) (g.F.Pages.files c.write_lives.new.folder) _ c.write_lives.new.names
+    c.self.inside.saved c.self.invariant c.write_lives.ensures.kept told
     (subst (IsFaithful g.row.D (g.F.Pages.files c.args.folder.now)) (sym c.self.view_is) faithful)
 
 pub returns-in_err-again-clause-faithful : goal.returns-in_err-again-clause-faithful
 returns-in_err-again-clause-faithful g c = λ told faithful.
-    faithful_saved g.row.D (IsTrue g.F.Pages.told) (g.F.Pages.files c.args.folder.now) (g.F.Pages.files c.write_lives.new.folder) _ c.write_lives.new.names c.self.inside.saved c.self.invariant c.write_lives.ensures.kept told
+    faithful_saved g.row.D (IsTrue g.F.Pages.told) (g.F.Pages.files c.args.folder.now) (g.F.Pages.files c.write_lives.new.folder) _ c.write_lives.new.names
+    c.self.inside.saved c.self.invariant c.write_lives.ensures.kept told
     (subst (IsFaithful g.row.D (g.F.Pages.files c.args.folder.now)) (sym c.self.view_is) faithful)
 
 pub returns-clause-faithful : goal.returns-clause-faithful
 returns-clause-faithful g c = λ told faithful.
-    faithful_saved g.row.D (IsTrue g.F.Pages.told) (g.F.Pages.files c.args.folder.now) (g.F.Pages.files c.write_lives.new.folder) _ c.write_lives.new.names (Some c.new-kept.result) c.self.invariant c.write_lives.ensures.kept told
+    faithful_saved g.row.D (IsTrue g.F.Pages.told) (g.F.Pages.files c.args.folder.now) (g.F.Pages.files c.write_lives.new.folder) _ c.write_lives.new.names
+    (Some c.new-kept.result) c.self.invariant c.write_lives.ensures.kept told
     (subst (IsFaithful g.row.D (g.F.Pages.files c.args.folder.now)) (sym c.self.view_is) faithful)
 
 pub returns-in_err-listed-clause-refused : goal.returns-in_err-listed-clause-refused
-returns-in_err-listed-clause-refused g c = at_error _ c.from_residual.result c.from_residual.ensures.1 _ (before_moved c.args.self.now _ c.self.view_is c.write_lives.new.names c.self.inside.segments _ c.self.inside.cache refl refl)
+returns-in_err-listed-clause-refused g c =
+    at_error _ c.from_residual.result c.from_residual.ensures.1
+    _ (before_moved c.args.self.now _ c.self.view_is c.write_lives.new.names c.self.inside.segments _ c.self.inside.cache refl refl)
 
 pub returns-in_err-again-clause-refused : goal.returns-in_err-again-clause-refused
-returns-in_err-again-clause-refused g c = at_error _ c.from_residual-in_err-again.result c.from_residual-in_err-again.ensures.1 _ (before_moved c.args.self.now _ c.self.view_is c.write_lives.new.names c.self.inside.segments _ c.self.inside.cache refl refl)
+returns-in_err-again-clause-refused g c =
+    at_error _ c.from_residual-in_err-again.result c.from_residual-in_err-again.ensures.1
+    _ (before_moved c.args.self.now _ c.self.view_is c.write_lives.new.names c.self.inside.segments _ c.self.inside.cache refl refl)
 
 pub returns-clause-refused : goal.returns-clause-refused
 returns-clause-refused g c = tt

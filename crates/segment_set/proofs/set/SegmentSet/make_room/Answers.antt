@@ -9,7 +9,8 @@ use Rattle.segment_set.specs.Settles.{moment}
 use Rattle.segment_set.proofs.set.SegmentSet.make_room.Goals as goal
 
 pub returns-then-has_room-clause-canon : goal.returns-then-has_room-clause-canon
-returns-then-has_room-clause-canon g c = λ told. canon_named g.row.D (g.F.Pages.files c.args.folder.now) c.args.self.now.names c.args.self.now.parts c.has_room.ensures.named
+returns-then-has_room-clause-canon g c = λ told.
+    canon_named g.row.D (g.F.Pages.files c.args.folder.now) c.args.self.now.names c.args.self.now.parts c.has_room.ensures.named
 
 pub returns-then-has_room-clause-room : goal.returns-then-has_room-clause-room
 returns-then-has_room-clause-room g c = c.has_room.ensures.room.0 c.if-has_room.true

@@ -48,16 +48,22 @@ apart : (g : given.Over) (c : goal.After-merge g) → IsApart c.args.ids.now (in
 apart g c = subst (λ (s : SetData). IsApart c.args.ids.now (inputs_of s.begun) s.parts) (sym c.self.view_is) c.requires
 
 merged : (g : given.Over) (c : goal.After-merge g)
-    → OnOk c.merge.result (IsMerged g.row.D (IsTrue g.F.Pages.told) c.self.inside.leaf c.self.inside.names c.merge.new.names (g.F.Pages.files c.args.folder.now) (g.F.Pages.files c.merge.new.folder) c.self.inside.cache c.args.ids.now
+    → OnOk c.merge.result
+    (IsMerged g.row.D (IsTrue g.F.Pages.told) c.self.inside.leaf c.self.inside.names c.merge.new.names (g.F.Pages.files c.args.folder.now)
+    (g.F.Pages.files c.merge.new.folder) c.self.inside.cache c.args.ids.now
     c.self.inside.segments c.merge.new.segments)
 merged g c =
-    subst (λ n. OnOk c.merge.result (IsMerged g.row.D (IsTrue g.F.Pages.told) n c.self.inside.names c.merge.new.names (g.F.Pages.files c.args.folder.now) (g.F.Pages.files c.merge.new.folder) c.self.inside.cache c.args.ids.now
+    subst (λ n. OnOk c.merge.result
+    (IsMerged g.row.D (IsTrue g.F.Pages.told) n c.self.inside.names c.merge.new.names (g.F.Pages.files c.args.folder.now) (g.F.Pages.files c.merge.new.folder)
+    c.self.inside.cache c.args.ids.now
     c.self.inside.segments c.merge.new.segments))
     (c.plan-plan.ensures.leaf ∙ sym (ap (λ (s : SetData). s.leaf) c.self.view_is)) c.merge.ensures.merged
 
-after : (g : given.Over) (c : goal.After-merge g) → IsAfter g.row.D (IsTrue g.F.Pages.told) (g.F.Pages.files c.args.folder.now) (g.F.Pages.files c.merge.new.folder) (was g c) (is g c)
+after : (g : given.Over) (c : goal.After-merge g)
+    → IsAfter g.row.D (IsTrue g.F.Pages.told) (g.F.Pages.files c.args.folder.now) (g.F.Pages.files c.merge.new.folder) (was g c) (is g c)
 after g c =
-    merge_after g.row.D (IsTrue g.F.Pages.told) (g.F.Pages.files c.args.folder.now) (g.F.Pages.files c.merge.new.folder) {s = was g c} c.self.invariant c.merge.new.names c.args.ids.now c.merge.new.segments c.merge.new.cache
+    merge_after g.row.D (IsTrue g.F.Pages.told) (g.F.Pages.files c.args.folder.now) (g.F.Pages.files c.merge.new.folder) {s = was g c} c.self.invariant
+    c.merge.new.names c.args.ids.now c.merge.new.segments c.merge.new.cache
     c.merge.ensures.kept (apart g c).apart c.merge.ensures.agrees c.merge.ensures.others c.merge.result (merged g c) c.merge.ensures.refused
 
 pub plan-plan-requires : goal.plan-plan-requires
@@ -74,7 +80,8 @@ merge-requires-after_bounds g c = λ lifetimes outlive. (
         c.self.invariant.named,
         λ id there.
             ids_named c.self.inside.names c.self.inside.segments c.self.invariant.named id
-            (among_to (ids_of c.self.inside.segments) id ((subst (λ (s : SetData). IsApart c.args.ids.now (inputs_of s.begun) s.parts) (sym c.self.view_is) c.requires).among id there)),
+            (among_to (ids_of c.self.inside.segments) id
+            ((subst (λ (s : SetData). IsApart c.args.ids.now (inputs_of s.begun) s.parts) (sym c.self.view_is) c.requires).among id there)),
       ),
     ),
   ),
@@ -83,27 +90,34 @@ merge-requires-after_bounds g c = λ lifetimes outlive. (
 pub invariant_of-self : goal.invariant_of-self
 invariant_of-self g c = (after g c).well
 
-moves : (g : given.Over) (c : goal.After-merge g) → Rearranges g.row.D (IsTrue g.F.Pages.told) (g.F.Pages.files c.args.folder.now) (g.F.Pages.files c.merge.new.folder) (was g c) (is g c)
+moves : (g : given.Over) (c : goal.After-merge g)
+    → Rearranges g.row.D (IsTrue g.F.Pages.told) (g.F.Pages.files c.args.folder.now) (g.F.Pages.files c.merge.new.folder) (was g c) (is g c)
 moves g c =
-    rearranges_after g.row.D (IsTrue g.F.Pages.told) (g.F.Pages.files c.args.folder.now) (g.F.Pages.files c.merge.new.folder) {s = was g c} c.merge.new.names c.merge.new.segments (items_of c.self.inside.buffer.items) c.merge.new.cache
+    rearranges_after g.row.D (IsTrue g.F.Pages.told) (g.F.Pages.files c.args.folder.now) (g.F.Pages.files c.merge.new.folder) {s = was g c} c.merge.new.names
+    c.merge.new.segments (items_of c.self.inside.buffer.items) c.merge.new.cache
     c.merge.ensures.kept (after g c)
 
-entries : (g : given.Over) (c : goal.After-merge g) → KeepsEntries g.row.D (IsTrue g.F.Pages.told) (g.F.Pages.files c.args.folder.now) (g.F.Pages.files c.merge.new.folder) (was g c) (is g c)
+entries : (g : given.Over) (c : goal.After-merge g)
+    → KeepsEntries g.row.D (IsTrue g.F.Pages.told) (g.F.Pages.files c.args.folder.now) (g.F.Pages.files c.merge.new.folder) (was g c) (is g c)
 entries g c =
-    entries_merged g.row.D (IsTrue g.F.Pages.told) (g.F.Pages.files c.args.folder.now) (g.F.Pages.files c.merge.new.folder) {s = was g c} c.self.invariant c.merge.new.names c.args.ids.now c.merge.new.segments c.merge.new.cache
+    entries_merged g.row.D (IsTrue g.F.Pages.told) (g.F.Pages.files c.args.folder.now) (g.F.Pages.files c.merge.new.folder) {s = was g c} c.self.invariant
+    c.merge.new.names c.args.ids.now c.merge.new.segments c.merge.new.cache
     c.merge.ensures.kept c.merge.ensures.agrees c.merge.ensures.others c.merge.result (merged g c) c.merge.ensures.refused
 
 pub returns-clause-moves : goal.returns-clause-moves
 returns-clause-moves g c =
-    subst (λ (s : SetData). Rearranges g.row.D (IsTrue g.F.Pages.told) (g.F.Pages.files c.args.folder.now) (g.F.Pages.files c.merge.new.folder) s (is g c)) c.self.view_is (moves g c)
+    subst (λ (s : SetData). Rearranges g.row.D (IsTrue g.F.Pages.told) (g.F.Pages.files c.args.folder.now) (g.F.Pages.files c.merge.new.folder) s (is g c))
+    c.self.view_is (moves g c)
 
 pub returns-clause-entries : goal.returns-clause-entries
 returns-clause-entries g c =
-    subst (λ (s : SetData). KeepsEntries g.row.D (IsTrue g.F.Pages.told) (g.F.Pages.files c.args.folder.now) (g.F.Pages.files c.merge.new.folder) s (is g c)) c.self.view_is (entries g c)
+    subst (λ (s : SetData). KeepsEntries g.row.D (IsTrue g.F.Pages.told) (g.F.Pages.files c.args.folder.now) (g.F.Pages.files c.merge.new.folder) s (is g c))
+    c.self.view_is (entries g c)
 
 pub returns-clause-faithful : goal.returns-clause-faithful
 returns-clause-faithful g c = λ told faithful.
-    faithful_rearranged g.row.D (IsTrue g.F.Pages.told) (g.F.Pages.files c.args.folder.now) (g.F.Pages.files c.merge.new.folder) (was g c) (is g c) c.self.invariant (moves g c) told ((entries g c).agrees told)
+    faithful_rearranged g.row.D (IsTrue g.F.Pages.told) (g.F.Pages.files c.args.folder.now) (g.F.Pages.files c.merge.new.folder) (was g c) (is g c)
+    c.self.invariant (moves g c) told ((entries g c).agrees told)
     (subst (IsFaithful g.row.D (g.F.Pages.files c.args.folder.now)) (sym c.self.view_is) faithful)
 
 pub returns-clause-buffer : goal.returns-clause-buffer
@@ -111,14 +125,17 @@ returns-clause-buffer g c = ap (λ (s : SetData). s.buffer) c.self.view_is
 
 pub returns-clause-merged : goal.returns-clause-merged
 returns-clause-merged g c =
-    subst (λ (s : SetData). OnOk c.merge.result (IsMerged g.row.D (IsTrue g.F.Pages.told) s.leaf s.names c.merge.new.names (g.F.Pages.files c.args.folder.now) (g.F.Pages.files c.merge.new.folder) s.cache c.args.ids.now s.parts c.merge.new.segments))
+    subst (λ (s : SetData). OnOk c.merge.result
+    (IsMerged g.row.D (IsTrue g.F.Pages.told) s.leaf s.names c.merge.new.names (g.F.Pages.files c.args.folder.now) (g.F.Pages.files c.merge.new.folder) s.cache
+    c.args.ids.now s.parts c.merge.new.segments))
     c.self.view_is (merged g c)
 
 pub returns-clause-fewer : goal.returns-clause-fewer
 returns-clause-fewer g c =
     let s = c.args.self.now in
     on_ok_weaker c.merge.result
-    (λ m. length_replaced g.row.D (IsTrue g.F.Pages.told) s.names c.merge.new.names (g.F.Pages.files c.merge.new.folder) c.args.ids.now s.parts c.merge.new.segments m.built m.replaces)
+    (λ m. length_replaced g.row.D (IsTrue g.F.Pages.told) s.names c.merge.new.names (g.F.Pages.files c.merge.new.folder) c.args.ids.now s.parts
+    c.merge.new.segments m.built m.replaces)
     (returns-clause-merged g c)
 
 pub returns-clause-whole : goal.returns-clause-whole
@@ -126,7 +143,8 @@ returns-clause-whole g c = λ told i seen.
     let s = was g c in
     let h = subst (λ (u : SetData). Sees g.row.D (g.F.Pages.files c.args.folder.now) u i) (sym c.self.view_is) seen in
     c.merge.ensures.whole told h.stands.agrees h.contents h.stands.now s.next (merge_docs g.row.D (g.F.Pages.files c.args.folder.now) s i h c.args.ids.now)
-    (subst (λ n. length (live_in_parts h.contents (parts_among c.args.ids.now s.parts)) ≤ n) (ap (λ (u : SetData). u.given) c.self.view_is ∙ sym c.plan-plan.ensures.given) (merge_few g.row.D (g.F.Pages.files c.args.folder.now) s i h c.args.ids.now))
+    (subst (λ n. length (live_in_parts h.contents (parts_among c.args.ids.now s.parts)) ≤ n)
+    (ap (λ (u : SetData). u.given) c.self.view_is ∙ sym c.plan-plan.ensures.given) (merge_few g.row.D (g.F.Pages.files c.args.folder.now) s i h c.args.ids.now))
 
 given_is : (g : given.Over) (c : goal.After-merge g) → c.plan-plan.result.given ≡ c.self.inside.given
 given_is g c = c.plan-plan.ensures.given ∙ sym (ap (λ (s : SetData). s.given) c.self.view_is)
@@ -150,11 +168,13 @@ returns-clause-doubled g c = λ told agrees contents reads.
 
 pub returns-clause-evident : goal.returns-clause-evident
 returns-clause-evident g c =
-    on_evident_set g.row.D g.F.Pages.told (g.F.Pages.files c.args.folder.now) (g.F.Pages.files c.merge.new.folder) (was g c) c.args.self.now c.merge.result c.self.view_is c.self.invariant.spread c.merge.ensures.evident
+    on_evident_set g.row.D g.F.Pages.told (g.F.Pages.files c.args.folder.now) (g.F.Pages.files c.merge.new.folder) (was g c) c.args.self.now c.merge.result
+    c.self.view_is c.self.invariant.spread c.merge.ensures.evident
 
 pub returns-clause-alone : goal.returns-clause-alone
 returns-clause-alone g c = but_parts c.args.self.now (was g c) c.self.view_is c.merge.new.names c.merge.new.segments c.merge.new.cache
 
 pub returns-clause-refused : goal.returns-clause-refused
 returns-clause-refused g c = on_err_weaker c.merge.result
-    (λ same. before_moved c.args.self.now (was g c) c.self.view_is c.merge.new.names c.merge.new.segments (items_of c.self.inside.buffer.items) c.merge.new.cache same refl) c.merge.ensures.refused
+    (λ same. before_moved c.args.self.now (was g c) c.self.view_is c.merge.new.names c.merge.new.segments (items_of c.self.inside.buffer.items)
+    c.merge.new.cache same refl) c.merge.ensures.refused

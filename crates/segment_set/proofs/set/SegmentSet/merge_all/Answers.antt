@@ -23,28 +23,36 @@ use Rattle.segment_set.proofs.Trusted.{IsTrusted}
 use Rattle.segment_set.proofs.set.SegmentSet.merge_all.Goals as goal
 
 pub returns-in_err-ids-clause-stays : goal.returns-in_err-ids-clause-stays
-returns-in_err-ids-clause-stays g c = (rearranges_none g.row.D (IsTrue g.F.Pages.told) (g.F.Pages.files c.args.folder.now) c.args.self.now c.unpinned.ensures.well.named).stays
+returns-in_err-ids-clause-stays g c =
+    (rearranges_none g.row.D (IsTrue g.F.Pages.told) (g.F.Pages.files c.args.folder.now) c.args.self.now c.unpinned.ensures.well.named).stays
 
 pub returns-in_err-ids-clause-kept : goal.returns-in_err-ids-clause-kept
-returns-in_err-ids-clause-kept g c = (rearranges_none g.row.D (IsTrue g.F.Pages.told) (g.F.Pages.files c.args.folder.now) c.args.self.now c.unpinned.ensures.well.named).kept
+returns-in_err-ids-clause-kept g c =
+    (rearranges_none g.row.D (IsTrue g.F.Pages.told) (g.F.Pages.files c.args.folder.now) c.args.self.now c.unpinned.ensures.well.named).kept
 
 pub returns-in_err-ids-clause-follows : goal.returns-in_err-ids-clause-follows
-returns-in_err-ids-clause-follows g c = (rearranges_none g.row.D (IsTrue g.F.Pages.told) (g.F.Pages.files c.args.folder.now) c.args.self.now c.unpinned.ensures.well.named).follows
+returns-in_err-ids-clause-follows g c =
+    (rearranges_none g.row.D (IsTrue g.F.Pages.told) (g.F.Pages.files c.args.folder.now) c.args.self.now c.unpinned.ensures.well.named).follows
 
 pub returns-in_err-ids-clause-canon : goal.returns-in_err-ids-clause-canon
-returns-in_err-ids-clause-canon g c = (rearranges_none g.row.D (IsTrue g.F.Pages.told) (g.F.Pages.files c.args.folder.now) c.args.self.now c.unpinned.ensures.well.named).canon
+returns-in_err-ids-clause-canon g c =
+    (rearranges_none g.row.D (IsTrue g.F.Pages.told) (g.F.Pages.files c.args.folder.now) c.args.self.now c.unpinned.ensures.well.named).canon
 
 pub returns-then-is_settled-clause-stays : goal.returns-then-is_settled-clause-stays
-returns-then-is_settled-clause-stays g c = (rearranges_none g.row.D (IsTrue g.F.Pages.told) (g.F.Pages.files c.args.folder.now) c.args.self.now c.unpinned.ensures.well.named).stays
+returns-then-is_settled-clause-stays g c =
+    (rearranges_none g.row.D (IsTrue g.F.Pages.told) (g.F.Pages.files c.args.folder.now) c.args.self.now c.unpinned.ensures.well.named).stays
 
 pub returns-then-is_settled-clause-kept : goal.returns-then-is_settled-clause-kept
-returns-then-is_settled-clause-kept g c = (rearranges_none g.row.D (IsTrue g.F.Pages.told) (g.F.Pages.files c.args.folder.now) c.args.self.now c.unpinned.ensures.well.named).kept
+returns-then-is_settled-clause-kept g c =
+    (rearranges_none g.row.D (IsTrue g.F.Pages.told) (g.F.Pages.files c.args.folder.now) c.args.self.now c.unpinned.ensures.well.named).kept
 
 pub returns-then-is_settled-clause-follows : goal.returns-then-is_settled-clause-follows
-returns-then-is_settled-clause-follows g c = (rearranges_none g.row.D (IsTrue g.F.Pages.told) (g.F.Pages.files c.args.folder.now) c.args.self.now c.unpinned.ensures.well.named).follows
+returns-then-is_settled-clause-follows g c =
+    (rearranges_none g.row.D (IsTrue g.F.Pages.told) (g.F.Pages.files c.args.folder.now) c.args.self.now c.unpinned.ensures.well.named).follows
 
 pub returns-then-is_settled-clause-canon : goal.returns-then-is_settled-clause-canon
-returns-then-is_settled-clause-canon g c = (rearranges_none g.row.D (IsTrue g.F.Pages.told) (g.F.Pages.files c.args.folder.now) c.args.self.now c.unpinned.ensures.well.named).canon
+returns-then-is_settled-clause-canon g c =
+    (rearranges_none g.row.D (IsTrue g.F.Pages.told) (g.F.Pages.files c.args.folder.now) c.args.self.now c.unpinned.ensures.well.named).canon
 
 pub returns-clause-seen : goal.returns-clause-seen
 returns-clause-seen g c = c.merge.ensures.moves.seen
@@ -148,7 +156,10 @@ pub returns-in_err-ids-clause-faithful : goal.returns-in_err-ids-clause-faithful
 returns-in_err-ids-clause-faithful g c = λ told faithful. faithful
 
 pub returns-in_err-ids-clause-evident : goal.returns-in_err-ids-clause-evident
-returns-in_err-ids-clause-evident g c = memory_damage (IsEvidentIn g.row.D c.args.self.now.parts (IsTrusted g.F.Pages.told g.row.D (g.F.Pages.files c.args.folder.now) c.args.self.now) (g.F.Pages.files c.args.folder.now)) c.from_residual.result c.from_residual.ensures.1
+returns-in_err-ids-clause-evident g c =
+    memory_damage
+    (IsEvidentIn g.row.D c.args.self.now.parts (IsTrusted g.F.Pages.told g.row.D (g.F.Pages.files c.args.folder.now) c.args.self.now)
+    (g.F.Pages.files c.args.folder.now)) c.from_residual.result c.from_residual.ensures.1
 
 pub returns-then-is_settled-clause-faithful : goal.returns-then-is_settled-clause-faithful
 returns-then-is_settled-clause-faithful g c = λ told faithful. faithful
@@ -167,10 +178,12 @@ returns-clause-evident g c = c.merge.ensures.evident
 named : (D : ℕ) (s : SetData) → IsWell D s → (id : ℕ) → is_among (inputs_of s.begun) id ≡ true → is_named s.names.names (Segment id) ≡ true
 named D s well id there =
     ids_named s.names s.parts well.named id
-    (among_to (ids_of s.parts) id (All-contains (λ n. is_among (ids_of s.parts) n ≡ true) (inputs_of s.begun) id well.inputs (among_to (inputs_of s.begun) id there)))
+    (among_to (ids_of s.parts) id
+    (All-contains (λ n. is_among (ids_of s.parts) n ≡ true) (inputs_of s.begun) id well.inputs (among_to (inputs_of s.begun) id there)))
 
 -- merging all would have changed something
-untidy : (s : SetData) (ids : List ℕ) (settled : Bool) → ids ≡ free_ids s → settled ≡ false → ((length ids ≤ 1) × All IsWhole (parts_among ids s.parts) → settled ≡ true) → IsTidy s → ⊥
+untidy : (s : SetData) (ids : List ℕ) (settled : Bool) → ids ≡ free_ids s → settled ≡ false
+    → ((length ids ≤ 1) × All IsWhole (parts_among ids s.parts) → settled ≡ true) → IsTidy s → ⊥
 untidy s ids settled are not_so whole tidy = both_ways settled not_so (whole (tidy_from (inputs_of s.begun) ids s.parts are tidy))
 
 pub returns-in_err-ids-clause-one : goal.returns-in_err-ids-clause-one
@@ -201,12 +214,14 @@ pub returns-then-is_settled-clause-all_live : goal.returns-then-is_settled-claus
 returns-then-is_settled-clause-all_live g c = λ told i sees contents stands.
     let s = c.args.self.now in
     let whole = c.is_settled.ensures.0 c.if-is_settled.true in
-    settled_lives g.row.D (g.F.Pages.files c.args.folder.now) contents (inputs_of s.begun) c.as_slice.result.now s.parts (c.as_slice.ensures.value ∙ c.in_ok-ids.ensures.all) whole.1 stands.now
+    settled_lives g.row.D (g.F.Pages.files c.args.folder.now) contents (inputs_of s.begun) c.as_slice.result.now s.parts
+    (c.as_slice.ensures.value ∙ c.in_ok-ids.ensures.all) whole.1 stands.now
 
 pub returns-then-is_settled-clause-merged : goal.returns-then-is_settled-clause-merged
 returns-then-is_settled-clause-merged g c =
     let s = c.args.self.now in
-    inl (tidy_to (inputs_of s.begun) c.as_slice.result.now s.parts (c.as_slice.ensures.value ∙ c.in_ok-ids.ensures.all) (c.is_settled.ensures.0 c.if-is_settled.true))
+    inl (tidy_to (inputs_of s.begun) c.as_slice.result.now s.parts (c.as_slice.ensures.value ∙ c.in_ok-ids.ensures.all)
+    (c.is_settled.ensures.0 c.if-is_settled.true))
 
 pub returns-then-is_settled-clause-still : goal.returns-then-is_settled-clause-still
 returns-then-is_settled-clause-still g c = λ tidy. (refl, refl)
@@ -223,7 +238,9 @@ returns-clause-one g c = on_ok_weaker c.merge.result
     let s = c.args.self.now in
     let t = c.merge.new.self in
     subst (λ (b : Option BegunMerge). IsOne (parts_but (inputs_of b) t.parts)) (sym c.merge.ensures.moves.begun)
-    (merged_one g.row.D (IsTrue g.F.Pages.told) s.leaf s.names t.names (g.F.Pages.files c.args.folder.now) (g.F.Pages.files c.merge.new.folder) s.cache (inputs_of s.begun) c.as_slice-2.result.now s.parts t.parts (c.as_slice-2.ensures.value ∙ c.in_ok-ids.ensures.all) (named g.row.D s c.unpinned.ensures.well) m)) c.merge.ensures.merged
+    (merged_one g.row.D (IsTrue g.F.Pages.told) s.leaf s.names t.names (g.F.Pages.files c.args.folder.now) (g.F.Pages.files c.merge.new.folder) s.cache
+    (inputs_of s.begun) c.as_slice-2.result.now s.parts t.parts (c.as_slice-2.ensures.value ∙ c.in_ok-ids.ensures.all) (named g.row.D s c.unpinned.ensures.well)
+    m)) c.merge.ensures.merged
 
 pub returns-clause-all_live : goal.returns-clause-all_live
 returns-clause-all_live g c = λ told i sees. on_ok_weaker c.merge.result
@@ -231,7 +248,9 @@ returns-clause-all_live g c = λ told i sees. on_ok_weaker c.merge.result
     let s = c.args.self.now in
     let t = c.merge.new.self in
     subst (λ (b : Option BegunMerge). AllLive contents (parts_but (inputs_of b) t.parts)) (sym c.merge.ensures.moves.begun)
-    (merged_lives g.row.D (IsTrue g.F.Pages.told) s.leaf s.names t.names (g.F.Pages.files c.args.folder.now) (g.F.Pages.files c.merge.new.folder) s.cache (inputs_of s.begun) c.as_slice-2.result.now s.parts t.parts contents told (c.as_slice-2.ensures.value ∙ c.in_ok-ids.ensures.all) (named g.row.D s c.unpinned.ensures.well) m stands.now))
+    (merged_lives g.row.D (IsTrue g.F.Pages.told) s.leaf s.names t.names (g.F.Pages.files c.args.folder.now) (g.F.Pages.files c.merge.new.folder) s.cache
+    (inputs_of s.begun) c.as_slice-2.result.now s.parts t.parts contents told (c.as_slice-2.ensures.value ∙ c.in_ok-ids.ensures.all)
+    (named g.row.D s c.unpinned.ensures.well) m stands.now))
     c.merge.ensures.merged
 
 pub returns-clause-merged : goal.returns-clause-merged
@@ -240,15 +259,21 @@ returns-clause-merged g c = on_ok_weaker c.merge.result
     let s = c.args.self.now in
     let t = c.merge.new.self in
     inr (record {
-      merged = subst (λ (ns : List ℕ). IsMerged g.row.D (IsTrue g.F.Pages.told) s.leaf s.names t.names (g.F.Pages.files c.args.folder.now) (g.F.Pages.files c.merge.new.folder) s.cache ns s.parts t.parts) (c.as_slice-2.ensures.value ∙ c.in_ok-ids.ensures.all) m;
+      merged = subst
+          (λ (ns : List ℕ). IsMerged g.row.D (IsTrue g.F.Pages.told) s.leaf s.names t.names (g.F.Pages.files c.args.folder.now)
+          (g.F.Pages.files c.merge.new.folder) s.cache ns s.parts t.parts) (c.as_slice-2.ensures.value ∙ c.in_ok-ids.ensures.all) m;
       alone = c.merge.ensures.alone;
     })) c.merge.ensures.merged
 
 pub returns-clause-still : goal.returns-clause-still
-returns-clause-still g c = λ tidy. absurd (untidy c.args.self.now c.as_slice.result.now c.is_settled.result (c.as_slice.ensures.value ∙ c.in_ok-ids.ensures.all) c.if-is_settled.false c.is_settled.ensures.1 tidy)
+returns-clause-still g c = λ tidy.
+    absurd (untidy c.args.self.now c.as_slice.result.now c.is_settled.result (c.as_slice.ensures.value ∙ c.in_ok-ids.ensures.all) c.if-is_settled.false
+    c.is_settled.ensures.1 tidy)
 
 pub returns-clause-unwritten : goal.returns-clause-unwritten
-returns-clause-unwritten g c = λ told tidy. absurd (untidy c.args.self.now c.as_slice.result.now c.is_settled.result (c.as_slice.ensures.value ∙ c.in_ok-ids.ensures.all) c.if-is_settled.false c.is_settled.ensures.1 tidy)
+returns-clause-unwritten g c = λ told tidy.
+    absurd (untidy c.args.self.now c.as_slice.result.now c.is_settled.result (c.as_slice.ensures.value ∙ c.in_ok-ids.ensures.all) c.if-is_settled.false
+    c.is_settled.ensures.1 tidy)
 
 pub returns-clause-refused : goal.returns-clause-refused
 returns-clause-refused g c = c.merge.ensures.refused

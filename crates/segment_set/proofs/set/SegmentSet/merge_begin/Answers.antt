@@ -51,7 +51,8 @@ ids_at-requires g c = (
   (
     c.self.invariant.few_dims,
     subst (All (λ i. i < length c.self.inside.segments)) (sym (c.as_slice.ensures.value ∙ c.first_places-places.ensures))
-        (subst (λ n. All (λ i. i < n) (take 64 (filter (λ i. ltb i c.len.result) (each_once c.args.which.now)))) c.len.ensures.value (places_within c.args.which.now c.len.result)),
+        (subst (λ n. All (λ i. i < n) (take 64 (filter (λ i. ltb i c.len.result) (each_once c.args.which.now)))) c.len.ensures.value
+        (places_within c.args.which.now c.len.result)),
   ),
 )
 
@@ -64,18 +65,21 @@ pub invariant_of-self : goal.invariant_of-self
 invariant_of-self g c =
     let well = c.self.invariant in
     well_cache g.row.D (set_of c.self.inside) c.gathered.new.cache well
-    (cached_more c.self.inside.names c.self.inside.segments c.self.inside.cache c.gathered.new.cache c.as_slice-2.result.now well.named well.cached c.gathered.ensures.calm.others)
+    (cached_more c.self.inside.names c.self.inside.segments c.self.inside.cache c.gathered.new.cache c.as_slice-2.result.now well.named well.cached
+    c.gathered.ensures.calm.others)
 
 pub returns-in_err-built-clause-refused : goal.returns-in_err-built-clause-refused
 returns-in_err-built-clause-refused g c = λ told i seen.
     let p = err_from_is_err_and c.from_residual-in_err-built.result c.from_residual-in_err-built.ensures.1 in
     rw p.1
-    (looked_sees g.row.D g.F.Pages.told (g.F.Pages.files c.args.folder.now) (g.F.Pages.files c.gathered.new.folder) (set_of c.self.inside) c.args.self.now (ids_of (parts_among c.as_slice-2.result.now c.self.inside.segments)) c.gathered.new.cache c.self.view_is c.gathered.ensures.calm told i seen)
+    (looked_sees g.row.D g.F.Pages.told (g.F.Pages.files c.args.folder.now) (g.F.Pages.files c.gathered.new.folder) (set_of c.self.inside) c.args.self.now
+    (ids_of (parts_among c.as_slice-2.result.now c.self.inside.segments)) c.gathered.new.cache c.self.view_is c.gathered.ensures.calm told i seen)
 
 pub returns-in_err-built-clause-cause : goal.returns-in_err-built-clause-cause
 returns-in_err-built-clause-cause g c =
     let p = err_from_is_err_and c.from_residual-in_err-built.result c.from_residual-in_err-built.ensures.1 in
-    rw (p.1, p.2) (begun_cause (g.F.Pages.faults c.args.folder.now) (g.F.Pages.faults c.gathered.new.folder) c.in_err-built.field-0.0 c.in_err-built.ensures.cause)
+    rw (p.1, p.2)
+    (begun_cause (g.F.Pages.faults c.args.folder.now) (g.F.Pages.faults c.gathered.new.folder) c.in_err-built.field-0.0 c.in_err-built.ensures.cause)
 
 pub returns-in_err-built-clause-whole : goal.returns-in_err-built-clause-whole
 returns-in_err-built-clause-whole g c = λ told i seen.
@@ -84,16 +88,21 @@ returns-in_err-built-clause-whole g c = λ told i seen.
     let h = subst (λ (u : SetData). Sees g.row.D (g.F.Pages.files c.args.folder.now) u i) (sym c.self.view_is) seen in
     rw (p.1, p.2)
     (begun_damage (Unit {0}) (Unit {0}) (λ _. ⊥) c.in_err-built.field-0.0
-    (c.in_err-built.ensures.whole told h.stands.agrees h.contents h.stands.now s.next (merge_docs g.row.D (g.F.Pages.files c.args.folder.now) s i h c.as_slice-2.result.now)
-    (subst (λ n. length (live_in_parts h.contents (parts_among c.as_slice-2.result.now s.parts)) ≤ n) (ap (λ (u : SetData). u.given) c.self.view_is ∙ sym c.plan-plan.ensures.given) (merge_few g.row.D (g.F.Pages.files c.args.folder.now) s i h c.as_slice-2.result.now))))
+    (c.in_err-built.ensures.whole told h.stands.agrees h.contents h.stands.now s.next
+    (merge_docs g.row.D (g.F.Pages.files c.args.folder.now) s i h c.as_slice-2.result.now)
+    (subst (λ n. length (live_in_parts h.contents (parts_among c.as_slice-2.result.now s.parts)) ≤ n)
+    (ap (λ (u : SetData). u.given) c.self.view_is ∙ sym c.plan-plan.ensures.given)
+    (merge_few g.row.D (g.F.Pages.files c.args.folder.now) s i h c.as_slice-2.result.now))))
 
 pub returns-in_err-built-clause-shown : goal.returns-in_err-built-clause-shown
 returns-in_err-built-clause-shown g c =
     let p = err_from_is_err_and c.from_residual-in_err-built.result c.from_residual-in_err-built.ensures.1 in
     rw (p.1, p.2)
     (begun_damage (Unit {0}) (Unit {0}) (IsMergeDamage g.row.D c.args.self.now.given c.args.self.now.names c.args.self.now.parts) c.in_err-built.field-0.0
-    (subst (λ n. OnDamage {T = Unit {0}} (Err c.in_err-built.field-0.0) (IsMergeDamage g.row.D n c.args.self.now.names c.args.self.now.parts)) c.plan-plan.ensures.given
-    (subst (λ (s : SetData). OnDamage {T = Unit {0}} (Err c.in_err-built.field-0.0) (IsMergeDamage g.row.D c.plan-plan.result.given s.names s.parts)) c.self.view_is (c.in_err-built.ensures.shown c.self.inside.names))))
+    (subst (λ n. OnDamage {T = Unit {0}} (Err c.in_err-built.field-0.0) (IsMergeDamage g.row.D n c.args.self.now.names c.args.self.now.parts))
+    c.plan-plan.ensures.given
+    (subst (λ (s : SetData). OnDamage {T = Unit {0}} (Err c.in_err-built.field-0.0) (IsMergeDamage g.row.D c.plan-plan.result.given s.names s.parts))
+    c.self.view_is (c.in_err-built.ensures.shown c.self.inside.names))))
 
 pub returns-in_err-built-clause-damage : goal.returns-in_err-built-clause-damage
 returns-in_err-built-clause-damage g c = λ told agrees.
@@ -109,7 +118,8 @@ returns-in_err-built-clause-doubled g c = λ told agrees contents reads.
     rw (p.1, p.2)
     (begun_damage (Unit {0}) (Unit {0}) (IsDoubt c.args.self.now.given (live_in_parts contents c.args.self.now.parts)) c.in_err-built.field-0.0
     (subst (λ n. OnDamage {T = Unit {0}} (Err c.in_err-built.field-0.0) (IsDoubt n (live_in_parts contents c.args.self.now.parts))) c.plan-plan.ensures.given
-    (subst (λ (s : SetData). OnDamage {T = Unit {0}} (Err c.in_err-built.field-0.0) (IsDoubt c.plan-plan.result.given (live_in_parts contents s.parts))) c.self.view_is
+    (subst (λ (s : SetData). OnDamage {T = Unit {0}} (Err c.in_err-built.field-0.0) (IsDoubt c.plan-plan.result.given (live_in_parts contents s.parts)))
+    c.self.view_is
     (c.in_err-built.ensures.doubled told (subst (λ (s : SetData). Agrees (g.F.Pages.files c.args.folder.now) s.cache) (sym c.self.view_is) agrees) contents
     (subst (λ (s : SetData). AreRead g.row.D (g.F.Pages.files c.args.folder.now) contents s.parts) (sym c.self.view_is) reads)))))
 
@@ -117,15 +127,19 @@ returns-in_err-built-clause-doubled g c = λ told agrees contents reads.
 chosen : (g : given.Over) (c : goal.Joined-self g) → c.in_ok-inputs.inputs.items ≡ chosen_ids c.args.which.now (ids_of c.self.inside.segments)
 chosen g c =
     chosen_is c.args.which.now c.as_slice.result.now c.in_ok-inputs.inputs.items c.self.inside.segments
-    (c.as_slice.ensures.value ∙ c.first_places-places.ensures ∙ ap (λ n. take 64 (filter (λ i. ltb i n) (each_once c.args.which.now))) c.len.ensures.value) c.in_ok-inputs.ensures
+    (c.as_slice.ensures.value ∙ c.first_places-places.ensures ∙ ap (λ n. take 64 (filter (λ i. ltb i n) (each_once c.args.which.now))) c.len.ensures.value)
+    c.in_ok-inputs.ensures
 
 abbrev merge_of : (g : given.Over) (c : goal.Joined-self g) → BegunMerge
 merge_of g c = record { inputs = c.in_ok-inputs.inputs.items; built = c.in_ok-built.built }
 
-gathered_here : (g : given.Over) (c : goal.Joined-self g) (n : NewSegmentData) → c.in_ok-built.built ≡ Some n → IsGathered g.row.D c.self.inside.leaf (parts_among c.in_ok-inputs.inputs.items c.self.inside.segments) n
+gathered_here : (g : given.Over) (c : goal.Joined-self g) (n : NewSegmentData) → c.in_ok-built.built ≡ Some n
+    → IsGathered g.row.D c.self.inside.leaf (parts_among c.in_ok-inputs.inputs.items c.self.inside.segments) n
 gathered_here g c n is =
-    subst (λ leaf. IsGathered g.row.D leaf (parts_among c.in_ok-inputs.inputs.items c.self.inside.segments) n) (c.plan-plan.ensures.leaf ∙ sym (ap (λ (s : SetData). s.leaf) c.self.view_is))
-    (subst (λ (ns : List ℕ). IsGathered g.row.D c.plan-plan.result.leaf (parts_among ns c.self.inside.segments) n) c.as_slice-2.ensures.value (c.in_ok-built.ensures.gathered n is))
+    subst (λ leaf. IsGathered g.row.D leaf (parts_among c.in_ok-inputs.inputs.items c.self.inside.segments) n)
+    (c.plan-plan.ensures.leaf ∙ sym (ap (λ (s : SetData). s.leaf) c.self.view_is))
+    (subst (λ (ns : List ℕ). IsGathered g.row.D c.plan-plan.result.leaf (parts_among ns c.self.inside.segments) n) c.as_slice-2.ensures.value
+    (c.in_ok-built.ensures.gathered n is))
 
 pub invariant_of-self-2 : goal.invariant_of-self-2
 invariant_of-self-2 g c =
@@ -135,40 +149,51 @@ invariant_of-self-2 g c =
     (subst (All (λ id. is_among ids id ≡ true)) (sym (chosen g c)) (chosen_there c.args.which.now ids))
     (subst (λ (ns : List ℕ). length ns ≤ 64) (sym (chosen g c)) (chosen_few c.args.which.now ids))
     (gathered_here g c)
-    (cached_more c.self.inside.names c.self.inside.segments c.self.inside.cache c.gathered.new.cache c.as_slice-2.result.now well.named well.cached c.gathered.ensures.calm.others)
+    (cached_more c.self.inside.names c.self.inside.segments c.self.inside.cache c.gathered.new.cache c.as_slice-2.result.now well.named well.cached
+    c.gathered.ensures.calm.others)
 
 pub returns-clause-seen : goal.returns-clause-seen
 returns-clause-seen g c = λ told i seen.
     let h = subst (λ (u : SetData). Sees g.row.D (g.F.Pages.files c.args.folder.now) u i) (sym c.self.view_is) seen in
     let calm = c.gathered.ensures.calm in
-    subst (λ (f : Files). Sees g.row.D f (moved (set_of c.self.inside) c.self.inside.names c.self.inside.segments (items_of c.self.inside.buffer.items) (Some (merge_of g c)) c.gathered.new.cache) (record i { begun = true }))
+    subst (λ (f : Files). Sees g.row.D f
+    (moved (set_of c.self.inside) c.self.inside.names c.self.inside.segments (items_of c.self.inside.buffer.items) (Some (merge_of g c)) c.gathered.new.cache)
+    (record i { begun = true }))
     (sym (calm.files told))
     (begun_seen g.row.D (g.F.Pages.files c.args.folder.now) (set_of c.self.inside) i h (merge_of g c) c.gathered.new.cache
     (gathered_merges g.row.D h.contents (parts_among c.in_ok-inputs.inputs.items c.self.inside.segments) c.in_ok-built.built
-    (subst (λ (ns : List ℕ). MakesLive g.row.D (live_in_parts h.contents (parts_among ns c.self.inside.segments)) c.in_ok-built.built) c.as_slice-2.ensures.value
+    (subst (λ (ns : List ℕ). MakesLive g.row.D (live_in_parts h.contents (parts_among ns c.self.inside.segments)) c.in_ok-built.built)
+    c.as_slice-2.ensures.value
     (c.in_ok-built.ensures.makes told h.stands.agrees h.contents h.stands.now)))
     (calm.agrees told h.stands.agrees))
 
 pub returns-clause-inputs : goal.returns-clause-inputs
-returns-clause-inputs g c = (merge_of g c, refl, subst (λ (s : SetData). c.in_ok-inputs.inputs.items ≡ chosen_ids c.args.which.now (ids_of s.parts)) c.self.view_is (chosen g c))
+returns-clause-inputs g c =
+    (merge_of g c, refl, subst (λ (s : SetData). c.in_ok-inputs.inputs.items ≡ chosen_ids c.args.which.now (ids_of s.parts)) c.self.view_is (chosen g c))
 
 pub returns-in_err-built-clause-faithful : goal.returns-in_err-built-clause-faithful
 returns-in_err-built-clause-faithful g c =
-    faithful_looked g.row.D g.F.Pages.told (g.F.Pages.files c.args.folder.now) (g.F.Pages.files c.gathered.new.folder) (set_of c.self.inside) c.args.self.now (ids_of (parts_among c.as_slice-2.result.now c.self.inside.segments)) c.self.inside.begun c.gathered.new.cache c.self.view_is c.gathered.ensures.calm
+    faithful_looked g.row.D g.F.Pages.told (g.F.Pages.files c.args.folder.now) (g.F.Pages.files c.gathered.new.folder) (set_of c.self.inside) c.args.self.now
+    (ids_of (parts_among c.as_slice-2.result.now c.self.inside.segments)) c.self.inside.begun c.gathered.new.cache c.self.view_is c.gathered.ensures.calm
 
 pub returns-in_err-built-clause-evident : goal.returns-in_err-built-clause-evident
 returns-in_err-built-clause-evident g c =
     let p = err_from_is_err_and c.from_residual-in_err-built.result c.from_residual-in_err-built.ensures.1 in
     rw (p.1, p.2)
-    (begun_damage (Unit {0}) (Unit {0}) (IsEvidentIn g.row.D c.args.self.now.parts (IsTrusted g.F.Pages.told g.row.D (g.F.Pages.files c.args.folder.now) c.args.self.now) (g.F.Pages.files c.gathered.new.folder)) c.in_err-built.field-0.0
-    (on_evident_set {X = Unit {0}} g.row.D g.F.Pages.told (g.F.Pages.files c.args.folder.now) (g.F.Pages.files c.gathered.new.folder) (set_of c.self.inside) c.args.self.now (Err c.in_err-built.field-0.0) c.self.view_is c.self.invariant.spread c.in_err-built.ensures.evident))
+    (begun_damage (Unit {0}) (Unit {0})
+    (IsEvidentIn g.row.D c.args.self.now.parts (IsTrusted g.F.Pages.told g.row.D (g.F.Pages.files c.args.folder.now) c.args.self.now)
+    (g.F.Pages.files c.gathered.new.folder)) c.in_err-built.field-0.0
+    (on_evident_set {X = Unit {0}} g.row.D g.F.Pages.told (g.F.Pages.files c.args.folder.now) (g.F.Pages.files c.gathered.new.folder) (set_of c.self.inside)
+    c.args.self.now (Err c.in_err-built.field-0.0) c.self.view_is c.self.invariant.spread c.in_err-built.ensures.evident))
 
 pub returns-clause-faithful : goal.returns-clause-faithful
 returns-clause-faithful g c =
-    faithful_looked g.row.D g.F.Pages.told (g.F.Pages.files c.args.folder.now) (g.F.Pages.files c.gathered.new.folder) (set_of c.self.inside) c.args.self.now (ids_of (parts_among c.as_slice-2.result.now c.self.inside.segments)) (Some (merge_of g c)) c.gathered.new.cache c.self.view_is c.gathered.ensures.calm
+    faithful_looked g.row.D g.F.Pages.told (g.F.Pages.files c.args.folder.now) (g.F.Pages.files c.gathered.new.folder) (set_of c.self.inside) c.args.self.now
+    (ids_of (parts_among c.as_slice-2.result.now c.self.inside.segments)) (Some (merge_of g c)) c.gathered.new.cache c.self.view_is c.gathered.ensures.calm
 
 pub returns-clause-built : goal.returns-clause-built
 returns-clause-built g c = λ b n is has.
     let same : merge_of g c ≡ b = some_is (merge_of g c) b is in
     subst (λ (m : BegunMerge). IsGathered g.row.D c.args.self.now.leaf (parts_among m.inputs c.args.self.now.parts) n) same
-    (subst (λ (s : SetData). IsGathered g.row.D s.leaf (parts_among c.in_ok-inputs.inputs.items s.parts) n) c.self.view_is (gathered_here g c n (ap (λ (m : BegunMerge). m.built) same ∙ has)))
+    (subst (λ (s : SetData). IsGathered g.row.D s.leaf (parts_among c.in_ok-inputs.inputs.items s.parts) n) c.self.view_is
+    (gathered_here g c n (ap (λ (m : BegunMerge). m.built) same ∙ has)))

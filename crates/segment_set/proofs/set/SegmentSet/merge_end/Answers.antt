@@ -43,16 +43,22 @@ set_of s = record {
 }
 
 abbrev WasReplaced : (g : given.Over) (c : goal.Joined-self-2 g) → Option NewSegmentData → List ℕ → Type 0
-WasReplaced g c o ids = Replaces g.row.D (IsTrue g.F.Pages.told) c.self.inside.names c.replace.new.names (g.F.Pages.files c.replace.new.folder) ids o c.self.inside.segments c.replace.new.segments
+WasReplaced g c o ids =
+    Replaces g.row.D (IsTrue g.F.Pages.told) c.self.inside.names c.replace.new.names (g.F.Pages.files c.replace.new.folder) ids o c.self.inside.segments
+    c.replace.new.segments
 
 -- a refusal leaves the set
-refused : (g : given.Over) (c : goal.After-from_residual g) → IsAfter g.row.D (IsTrue g.F.Pages.told) (g.F.Pages.files c.args.folder.now) (g.F.Pages.files c.replace.new.folder) (set_of c.self.inside)
+refused : (g : given.Over) (c : goal.After-from_residual g)
+    → IsAfter g.row.D (IsTrue g.F.Pages.told) (g.F.Pages.files c.args.folder.now) (g.F.Pages.files c.replace.new.folder) (set_of c.self.inside)
     (moved (set_of c.self.inside) c.replace.new.names c.self.inside.segments (items_of c.self.inside.buffer.items) c.self.inside.begun c.self.inside.cache)
-refused g c = refused_after g.row.D (IsTrue g.F.Pages.told) (g.F.Pages.files c.args.folder.now) (g.F.Pages.files c.replace.new.folder) {s = set_of c.self.inside} c.self.invariant c.replace.new.names c.in_err-replace.ensures.kept
+refused g c =
+    refused_after g.row.D (IsTrue g.F.Pages.told) (g.F.Pages.files c.args.folder.now) (g.F.Pages.files c.replace.new.folder) {s = set_of c.self.inside}
+    c.self.invariant c.replace.new.names c.in_err-replace.ensures.kept
 
 pub replace-requires : goal.replace-requires
 replace-requires g c =
-    let inputs : c.as_slice.result.now ≡ inputs_of c.self.inside.begun = c.as_slice.ensures.value ∙ ap (λ (b : BegunMerge). b.inputs) c.begun.view_is ∙ sym (ap inputs_of c.in-Some.is) in
+    let inputs : c.as_slice.result.now ≡ inputs_of c.self.inside.begun =
+    c.as_slice.ensures.value ∙ ap (λ (b : BegunMerge). b.inputs) c.begun.view_is ∙ sym (ap inputs_of c.in-Some.is) in
     let well = c.self.invariant in
     let ids = ids_of c.self.inside.segments in (
       lit< tt,
@@ -64,7 +70,9 @@ replace-requires g c =
             well.named,
             λ id there.
                 ids_named c.self.inside.names c.self.inside.segments well.named id
-                (among_to ids id (All-contains (λ n. is_among ids n ≡ true) (inputs_of c.self.inside.begun) id well.inputs (among_to (inputs_of c.self.inside.begun) id (subst (λ (ns : List ℕ). is_among ns id ≡ true) inputs there)))),
+                (among_to ids id
+                (All-contains (λ n. is_among ids n ≡ true) (inputs_of c.self.inside.begun) id well.inputs
+                (among_to (inputs_of c.self.inside.begun) id (subst (λ (ns : List ℕ). is_among ns id ≡ true) inputs there)))),
           ),
         ),
       ),
@@ -72,19 +80,28 @@ replace-requires g c =
 
 pub invariant_of-self : goal.invariant_of-self
 invariant_of-self g c =
-    subst (λ (ps : List Part). IsWell g.row.D (moved (set_of c.self.inside) c.replace.new.names ps (items_of c.self.inside.buffer.items) c.self.inside.begun c.self.inside.cache)) (sym c.in_err-replace.ensures.refused) (refused g c).well
+    subst (λ (ps : List Part).
+    IsWell g.row.D (moved (set_of c.self.inside) c.replace.new.names ps (items_of c.self.inside.buffer.items) c.self.inside.begun c.self.inside.cache))
+    (sym c.in_err-replace.ensures.refused) (refused g c).well
 
 pub returns-in_err-replace-clause-refused : goal.returns-in_err-replace-clause-refused
 returns-in_err-replace-clause-refused g c = λ told i seen.
     let p = err_from_is_err_and c.from_residual.result c.from_residual.ensures.1 in
     rw p.1
-    (subst (λ (ps : List Part). Sees g.row.D (g.F.Pages.files c.replace.new.folder) (moved (set_of c.self.inside) c.replace.new.names ps (items_of c.self.inside.buffer.items) c.self.inside.begun c.self.inside.cache) i) (sym c.in_err-replace.ensures.refused)
+    (subst (λ (ps : List Part).
+    Sees g.row.D (g.F.Pages.files c.replace.new.folder)
+    (moved (set_of c.self.inside) c.replace.new.names ps (items_of c.self.inside.buffer.items) c.self.inside.begun c.self.inside.cache) i)
+    (sym c.in_err-replace.ensures.refused)
     ((refused g c).seen told i (subst (λ (s : SetData). Sees g.row.D (g.F.Pages.files c.args.folder.now) s i) (sym c.self.view_is) seen)))
 
 pub returns-in_err-replace-clause-stays : goal.returns-in_err-replace-clause-stays
 returns-in_err-replace-clause-stays g c =
-    subst (λ (s : SetData). StaysAlone s (moved (set_of c.self.inside) c.replace.new.names c.replace.new.segments (items_of c.self.inside.buffer.items) s.begun c.self.inside.cache)) c.self.view_is
-    (subst (λ (ps : List Part). StaysAlone (set_of c.self.inside) (moved (set_of c.self.inside) c.replace.new.names ps (items_of c.self.inside.buffer.items) c.self.inside.begun c.self.inside.cache)) (sym c.in_err-replace.ensures.refused) (refused g c).stays)
+    subst (λ (s : SetData). StaysAlone s
+    (moved (set_of c.self.inside) c.replace.new.names c.replace.new.segments (items_of c.self.inside.buffer.items) s.begun c.self.inside.cache)) c.self.view_is
+    (subst (λ (ps : List Part).
+    StaysAlone (set_of c.self.inside)
+    (moved (set_of c.self.inside) c.replace.new.names ps (items_of c.self.inside.buffer.items) c.self.inside.begun c.self.inside.cache))
+    (sym c.in_err-replace.ensures.refused) (refused g c).stays)
 
 pub returns-in_err-replace-clause-follows : goal.returns-in_err-replace-clause-follows
 returns-in_err-replace-clause-follows g c =
@@ -94,22 +111,27 @@ returns-in_err-replace-clause-follows g c =
 pub returns-in_err-replace-clause-cause : goal.returns-in_err-replace-clause-cause
 returns-in_err-replace-clause-cause g c =
     let p = err_from_is_err_and c.from_residual.result c.from_residual.ensures.1 in
-    rw (p.1, p.2) (ended_cause {T = Unit {0}} {U = Unit {0}} (g.F.Pages.faults c.args.folder.now) (g.F.Pages.faults c.replace.new.folder) c.in_err-replace.field-0.0 c.in_err-replace.ensures.cause)
+    rw (p.1, p.2)
+    (ended_cause {T = Unit {0}} {U = Unit {0}} (g.F.Pages.faults c.args.folder.now) (g.F.Pages.faults c.replace.new.folder) c.in_err-replace.field-0.0
+    c.in_err-replace.ensures.cause)
 
 -- what was built took the place of the inputs
 replaced : (g : given.Over) (c : goal.Joined-self-2 g) → WasReplaced g c (living c.in-Some.begun.built) c.in-Some.begun.inputs
 replaced g c =
     subst (WasReplaced g c (living c.in-Some.begun.built)) (c.as_slice.ensures.value ∙ ap (λ (b : BegunMerge). b.inputs) c.begun.view_is)
-    (subst (λ (o : Option NewSegmentData). WasReplaced g c o c.as_slice.result.now) (ap living (c.as_ref.ensures.value ∙ ap (λ (b : BegunMerge). b.built) c.begun.view_is)) c.in_ok-replace.ensures.replaced)
+    (subst (λ (o : Option NewSegmentData). WasReplaced g c o c.as_slice.result.now)
+    (ap living (c.as_ref.ensures.value ∙ ap (λ (b : BegunMerge). b.built) c.begun.view_is)) c.in_ok-replace.ensures.replaced)
 
 pub invariant_of-self-2 : goal.invariant_of-self-2
 invariant_of-self-2 g c =
-    end_well g.row.D (IsTrue g.F.Pages.told) (g.F.Pages.files c.args.folder.now) (g.F.Pages.files c.replace.new.folder) {s = set_of c.self.inside} c.replace.new.names c.replace.new.segments c.in_ok-replace.ensures.kept c.in-Some.begun c.in-Some.is (replaced g c)
+    end_well g.row.D (IsTrue g.F.Pages.told) (g.F.Pages.files c.args.folder.now) (g.F.Pages.files c.replace.new.folder) {s = set_of c.self.inside}
+    c.replace.new.names c.replace.new.segments c.in_ok-replace.ensures.kept c.in-Some.begun c.in-Some.is (replaced g c)
     c.self.invariant
 
 pub returns-clause-seen : goal.returns-clause-seen
 returns-clause-seen g c = λ told i seen.
-    end_seen g.row.D (IsTrue g.F.Pages.told) (g.F.Pages.files c.args.folder.now) (g.F.Pages.files c.replace.new.folder) {s = set_of c.self.inside} c.replace.new.names c.replace.new.segments c.in_ok-replace.ensures.kept c.in-Some.begun c.in-Some.is (replaced g c)
+    end_seen g.row.D (IsTrue g.F.Pages.told) (g.F.Pages.files c.args.folder.now) (g.F.Pages.files c.replace.new.folder) {s = set_of c.self.inside}
+    c.replace.new.names c.replace.new.segments c.in_ok-replace.ensures.kept c.in-Some.begun c.in-Some.is (replaced g c)
     c.self.invariant told i (subst (λ (s : SetData). Sees g.row.D (g.F.Pages.files c.args.folder.now) s i) (sym c.self.view_is) seen)
 
 pub returns-clause-parts : goal.returns-clause-parts
@@ -117,44 +139,56 @@ returns-clause-parts g c = λ b is.
     let same : c.in-Some.begun ≡ b = some_is c.in-Some.begun b (sym c.in-Some.is ∙ ap (λ (s : SetData). s.begun) c.self.view_is ∙ is) in
     subst (λ (m : BegunMerge). IsEnded m c.args.self.now.parts c.replace.new.segments) same
     (subst (λ (s : SetData). IsEnded c.in-Some.begun s.parts c.replace.new.segments) c.self.view_is
-    (end_parts g.row.D (IsTrue g.F.Pages.told) (g.F.Pages.files c.args.folder.now) (g.F.Pages.files c.replace.new.folder) {s = set_of c.self.inside} c.replace.new.names c.replace.new.segments c.in_ok-replace.ensures.kept c.in-Some.begun c.in-Some.is (replaced g c)
+    (end_parts g.row.D (IsTrue g.F.Pages.told) (g.F.Pages.files c.args.folder.now) (g.F.Pages.files c.replace.new.folder) {s = set_of c.self.inside}
+    c.replace.new.names c.replace.new.segments c.in_ok-replace.ensures.kept c.in-Some.begun c.in-Some.is (replaced g c)
     c.self.invariant))
 
 pub returns-clause-stays : goal.returns-clause-stays
 returns-clause-stays g c =
-    subst (λ (s : SetData). StaysAlone s (moved (set_of c.self.inside) c.replace.new.names c.replace.new.segments (items_of c.self.inside.buffer.items) s.begun c.self.inside.cache)) c.self.view_is
-    (end_stays g.row.D (IsTrue g.F.Pages.told) (g.F.Pages.files c.args.folder.now) (g.F.Pages.files c.replace.new.folder) {s = set_of c.self.inside} c.replace.new.names c.replace.new.segments c.in_ok-replace.ensures.kept c.in-Some.begun c.in-Some.is (replaced g c)
+    subst (λ (s : SetData). StaysAlone s
+    (moved (set_of c.self.inside) c.replace.new.names c.replace.new.segments (items_of c.self.inside.buffer.items) s.begun c.self.inside.cache)) c.self.view_is
+    (end_stays g.row.D (IsTrue g.F.Pages.told) (g.F.Pages.files c.args.folder.now) (g.F.Pages.files c.replace.new.folder) {s = set_of c.self.inside}
+    c.replace.new.names c.replace.new.segments c.in_ok-replace.ensures.kept c.in-Some.begun c.in-Some.is (replaced g c)
     c.self.invariant)
 
 pub returns-clause-follows : goal.returns-clause-follows
 returns-clause-follows g c =
     subst (λ (s : SetData). Follows s.names s.parts c.replace.new.segments) c.self.view_is
-    (end_follows g.row.D (IsTrue g.F.Pages.told) (g.F.Pages.files c.args.folder.now) (g.F.Pages.files c.replace.new.folder) {s = set_of c.self.inside} c.replace.new.names c.replace.new.segments c.in_ok-replace.ensures.kept c.in-Some.begun c.in-Some.is (replaced g c)
+    (end_follows g.row.D (IsTrue g.F.Pages.told) (g.F.Pages.files c.args.folder.now) (g.F.Pages.files c.replace.new.folder) {s = set_of c.self.inside}
+    c.replace.new.names c.replace.new.segments c.in_ok-replace.ensures.kept c.in-Some.begun c.in-Some.is (replaced g c)
     c.self.invariant)
 
 pub returns-clause-canon : goal.returns-clause-canon
 returns-clause-canon g c = λ told.
     subst (λ (s : SetData). AreCanonical g.row.D (g.F.Pages.files c.replace.new.folder) s.names c.replace.new.segments) c.self.view_is
-    (end_canon g.row.D (IsTrue g.F.Pages.told) (g.F.Pages.files c.args.folder.now) (g.F.Pages.files c.replace.new.folder) {s = set_of c.self.inside} c.replace.new.names c.replace.new.segments c.in_ok-replace.ensures.kept c.in-Some.begun c.in-Some.is (replaced g c)
+    (end_canon g.row.D (IsTrue g.F.Pages.told) (g.F.Pages.files c.args.folder.now) (g.F.Pages.files c.replace.new.folder) {s = set_of c.self.inside}
+    c.replace.new.names c.replace.new.segments c.in_ok-replace.ensures.kept c.in-Some.begun c.in-Some.is (replaced g c)
     c.self.invariant told)
 
 pub returns-in_err-replace-clause-faithful : goal.returns-in_err-replace-clause-faithful
 returns-in_err-replace-clause-faithful g c = λ told faithful.
-    faithful_named g.row.D (g.F.Pages.files c.args.folder.now) (g.F.Pages.files c.replace.new.folder) (set_of c.self.inside) (moved (set_of c.self.inside) c.replace.new.names c.replace.new.segments (items_of c.self.inside.buffer.items) c.self.inside.begun c.self.inside.cache) c.self.invariant (c.in_err-replace.ensures.kept.files told) c.in_err-replace.ensures.refused refl refl
+    faithful_named g.row.D (g.F.Pages.files c.args.folder.now) (g.F.Pages.files c.replace.new.folder) (set_of c.self.inside)
+    (moved (set_of c.self.inside) c.replace.new.names c.replace.new.segments (items_of c.self.inside.buffer.items) c.self.inside.begun c.self.inside.cache)
+    c.self.invariant (c.in_err-replace.ensures.kept.files told) c.in_err-replace.ensures.refused refl refl
     (subst (IsFaithful g.row.D (g.F.Pages.files c.args.folder.now)) (sym c.self.view_is) faithful)
 
 pub returns-clause-faithful : goal.returns-clause-faithful
 returns-clause-faithful g c = λ told faithful.
-    faithful_replaced g.row.D (IsTrue g.F.Pages.told) (g.F.Pages.files c.args.folder.now) (g.F.Pages.files c.replace.new.folder) (set_of c.self.inside) (moved (set_of c.self.inside) c.replace.new.names c.replace.new.segments (items_of c.self.inside.buffer.items) None c.self.inside.cache) c.self.invariant c.in_ok-replace.ensures.kept
-    (end_follows g.row.D (IsTrue g.F.Pages.told) (g.F.Pages.files c.args.folder.now) (g.F.Pages.files c.replace.new.folder) {s = set_of c.self.inside} c.replace.new.names c.replace.new.segments c.in_ok-replace.ensures.kept c.in-Some.begun c.in-Some.is (replaced g c)
+    faithful_replaced g.row.D (IsTrue g.F.Pages.told) (g.F.Pages.files c.args.folder.now) (g.F.Pages.files c.replace.new.folder) (set_of c.self.inside)
+    (moved (set_of c.self.inside) c.replace.new.names c.replace.new.segments (items_of c.self.inside.buffer.items) None c.self.inside.cache) c.self.invariant
+    c.in_ok-replace.ensures.kept
+    (end_follows g.row.D (IsTrue g.F.Pages.told) (g.F.Pages.files c.args.folder.now) (g.F.Pages.files c.replace.new.folder) {s = set_of c.self.inside}
+    c.replace.new.names c.replace.new.segments c.in_ok-replace.ensures.kept c.in-Some.begun c.in-Some.is (replaced g c)
     c.self.invariant)
-    (end_canon g.row.D (IsTrue g.F.Pages.told) (g.F.Pages.files c.args.folder.now) (g.F.Pages.files c.replace.new.folder) {s = set_of c.self.inside} c.replace.new.names c.replace.new.segments c.in_ok-replace.ensures.kept c.in-Some.begun c.in-Some.is (replaced g c)
+    (end_canon g.row.D (IsTrue g.F.Pages.told) (g.F.Pages.files c.args.folder.now) (g.F.Pages.files c.replace.new.folder) {s = set_of c.self.inside}
+    c.replace.new.names c.replace.new.segments c.in_ok-replace.ensures.kept c.in-Some.begun c.in-Some.is (replaced g c)
     c.self.invariant)
     refl refl told (subst (IsFaithful g.row.D (g.F.Pages.files c.args.folder.now)) (sym c.self.view_is) faithful)
 
 pub returns-in_err-replace-clause-alone : goal.returns-in_err-replace-clause-alone
 returns-in_err-replace-clause-alone g c = at_error _ c.from_residual.result c.from_residual.ensures.1 _
-    (before_moved c.args.self.now (set_of c.self.inside) c.self.view_is c.replace.new.names c.replace.new.segments (items_of c.self.inside.buffer.items) c.self.inside.cache c.in_err-replace.ensures.refused refl)
+    (before_moved c.args.self.now (set_of c.self.inside) c.self.view_is c.replace.new.names c.replace.new.segments (items_of c.self.inside.buffer.items)
+    c.self.inside.cache c.in_err-replace.ensures.refused refl)
 
 pub returns-in_err-replace-clause-replaced : goal.returns-in_err-replace-clause-replaced
 returns-in_err-replace-clause-replaced g c = λ b is. never_ok _ c.from_residual.result c.from_residual.ensures.1 _
@@ -162,5 +196,8 @@ returns-in_err-replace-clause-replaced g c = λ b is. never_ok _ c.from_residual
 pub returns-clause-replaced : goal.returns-clause-replaced
 returns-clause-replaced g c = λ b is.
     let same : c.in-Some.begun ≡ b = some_is c.in-Some.begun b (sym c.in-Some.is ∙ ap (λ (s : SetData). s.begun) c.self.view_is ∙ is) in
-    subst (λ (m : BegunMerge). Replaces g.row.D (IsTrue g.F.Pages.told) c.args.self.now.names c.replace.new.names (g.F.Pages.files c.replace.new.folder) m.inputs (living m.built) c.args.self.now.parts c.replace.new.segments) same
-    (subst (λ (s : SetData). Replaces g.row.D (IsTrue g.F.Pages.told) s.names c.replace.new.names (g.F.Pages.files c.replace.new.folder) c.in-Some.begun.inputs (living c.in-Some.begun.built) s.parts c.replace.new.segments) c.self.view_is (replaced g c))
+    subst (λ (m : BegunMerge).
+    Replaces g.row.D (IsTrue g.F.Pages.told) c.args.self.now.names c.replace.new.names (g.F.Pages.files c.replace.new.folder) m.inputs (living m.built)
+    c.args.self.now.parts c.replace.new.segments) same
+    (subst (λ (s : SetData). Replaces g.row.D (IsTrue g.F.Pages.told) s.names c.replace.new.names (g.F.Pages.files c.replace.new.folder) c.in-Some.begun.inputs
+    (living c.in-Some.begun.built) s.parts c.replace.new.segments) c.self.view_is (replaced g c))

@@ -27,13 +27,20 @@ loop-ids-init g c = record {
 
 pub loop-ids-preserved : goal.loop-ids-preserved
 loop-ids-preserved g c = record {
-  moves = λ well. rearranges_then g.row.D (IsTrue g.F.Pages.told) (g.F.Pages.files c.args.folder.now) (g.F.Pages.files c.loop-ids.folder) (g.F.Pages.files c.merge.new.folder) c.args.self.now c.loop-ids.self c.merge.new.self c.next_merge.ensures.well.named (c.loop-ids.invariant.moves c.next_merge.ensures.well) c.merge.ensures.moves;
-  entries = entries_then g.row.D (IsTrue g.F.Pages.told) (g.F.Pages.files c.args.folder.now) (g.F.Pages.files c.loop-ids.folder) (g.F.Pages.files c.merge.new.folder) c.args.self.now c.loop-ids.self c.merge.new.self c.loop-ids.invariant.entries c.merge.ensures.entries;
-  settles = settles_one g.row.D (IsTrue g.F.Pages.told) (moment (g.F.Pages.files c.args.folder.now) c.args.self.now) (moment (g.F.Pages.files c.loop-ids.folder) c.loop-ids.self) (moment (g.F.Pages.files c.merge.new.folder) c.merge.new.self) c.loop-ids.invariant.settles
-      (merges_chosen g.row.D (IsTrue g.F.Pages.told) (moment (g.F.Pages.files c.loop-ids.folder) c.loop-ids.self) (moment (g.F.Pages.files c.merge.new.folder) c.merge.new.self) c.in-Some.ids.items c.as_slice.result.now c.as_slice.ensures.value (rw c.in-Some.is at c.in_ok-ids.ensures.choice) c.in_ok-merge.ensures.merged c.merge.ensures.alone);
+  moves = λ well. rearranges_then g.row.D (IsTrue g.F.Pages.told) (g.F.Pages.files c.args.folder.now) (g.F.Pages.files c.loop-ids.folder)
+      (g.F.Pages.files c.merge.new.folder) c.args.self.now c.loop-ids.self c.merge.new.self c.next_merge.ensures.well.named
+      (c.loop-ids.invariant.moves c.next_merge.ensures.well) c.merge.ensures.moves;
+  entries = entries_then g.row.D (IsTrue g.F.Pages.told) (g.F.Pages.files c.args.folder.now) (g.F.Pages.files c.loop-ids.folder)
+      (g.F.Pages.files c.merge.new.folder) c.args.self.now c.loop-ids.self c.merge.new.self c.loop-ids.invariant.entries c.merge.ensures.entries;
+  settles = settles_one g.row.D (IsTrue g.F.Pages.told) (moment (g.F.Pages.files c.args.folder.now) c.args.self.now)
+      (moment (g.F.Pages.files c.loop-ids.folder) c.loop-ids.self) (moment (g.F.Pages.files c.merge.new.folder) c.merge.new.self) c.loop-ids.invariant.settles
+      (merges_chosen g.row.D (IsTrue g.F.Pages.told) (moment (g.F.Pages.files c.loop-ids.folder) c.loop-ids.self)
+      (moment (g.F.Pages.files c.merge.new.folder) c.merge.new.self) c.in-Some.ids.items c.as_slice.result.now c.as_slice.ensures.value
+      (rw c.in-Some.is at c.in_ok-ids.ensures.choice) c.in_ok-merge.ensures.merged c.merge.ensures.alone);
   buffer = c.merge.ensures.buffer ∙ c.loop-ids.invariant.buffer;
   faults = c.in_ok-merge.ensures.cause.fine ∙ c.loop-ids.invariant.faults;
-  rested = λ settled. absurd (unsettled c.args.self.now c.loop-ids.self (c.loop-ids.invariant.rested settled).0 settled (rw c.in-Some.is at c.in_ok-ids.ensures.ten));
+  rested = λ settled.
+      absurd (unsettled c.args.self.now c.loop-ids.self (c.loop-ids.invariant.rested settled).0 settled (rw c.in-Some.is at c.in_ok-ids.ensures.ten));
   faithful = λ told faithful. c.merge.ensures.faithful told (c.loop-ids.invariant.faithful told faithful);
 }
 
@@ -53,19 +60,27 @@ returns-clause-canon g c = (c.loop-ids.invariant.moves c.next_merge.ensures.well
 
 pub returns-in_err-merge-clause-stays : goal.returns-in_err-merge-clause-stays
 returns-in_err-merge-clause-stays g c =
-    (rearranges_then g.row.D (IsTrue g.F.Pages.told) (g.F.Pages.files c.args.folder.now) (g.F.Pages.files c.loop-ids.folder) (g.F.Pages.files c.merge.new.folder) c.args.self.now c.loop-ids.self c.merge.new.self c.next_merge.ensures.well.named (c.loop-ids.invariant.moves c.next_merge.ensures.well) c.merge.ensures.moves).stays
+    (rearranges_then g.row.D (IsTrue g.F.Pages.told) (g.F.Pages.files c.args.folder.now) (g.F.Pages.files c.loop-ids.folder)
+    (g.F.Pages.files c.merge.new.folder) c.args.self.now c.loop-ids.self c.merge.new.self c.next_merge.ensures.well.named
+    (c.loop-ids.invariant.moves c.next_merge.ensures.well) c.merge.ensures.moves).stays
 
 pub returns-in_err-merge-clause-kept : goal.returns-in_err-merge-clause-kept
 returns-in_err-merge-clause-kept g c =
-    (rearranges_then g.row.D (IsTrue g.F.Pages.told) (g.F.Pages.files c.args.folder.now) (g.F.Pages.files c.loop-ids.folder) (g.F.Pages.files c.merge.new.folder) c.args.self.now c.loop-ids.self c.merge.new.self c.next_merge.ensures.well.named (c.loop-ids.invariant.moves c.next_merge.ensures.well) c.merge.ensures.moves).kept
+    (rearranges_then g.row.D (IsTrue g.F.Pages.told) (g.F.Pages.files c.args.folder.now) (g.F.Pages.files c.loop-ids.folder)
+    (g.F.Pages.files c.merge.new.folder) c.args.self.now c.loop-ids.self c.merge.new.self c.next_merge.ensures.well.named
+    (c.loop-ids.invariant.moves c.next_merge.ensures.well) c.merge.ensures.moves).kept
 
 pub returns-in_err-merge-clause-follows : goal.returns-in_err-merge-clause-follows
 returns-in_err-merge-clause-follows g c =
-    (rearranges_then g.row.D (IsTrue g.F.Pages.told) (g.F.Pages.files c.args.folder.now) (g.F.Pages.files c.loop-ids.folder) (g.F.Pages.files c.merge.new.folder) c.args.self.now c.loop-ids.self c.merge.new.self c.next_merge.ensures.well.named (c.loop-ids.invariant.moves c.next_merge.ensures.well) c.merge.ensures.moves).follows
+    (rearranges_then g.row.D (IsTrue g.F.Pages.told) (g.F.Pages.files c.args.folder.now) (g.F.Pages.files c.loop-ids.folder)
+    (g.F.Pages.files c.merge.new.folder) c.args.self.now c.loop-ids.self c.merge.new.self c.next_merge.ensures.well.named
+    (c.loop-ids.invariant.moves c.next_merge.ensures.well) c.merge.ensures.moves).follows
 
 pub returns-in_err-merge-clause-canon : goal.returns-in_err-merge-clause-canon
 returns-in_err-merge-clause-canon g c =
-    (rearranges_then g.row.D (IsTrue g.F.Pages.told) (g.F.Pages.files c.args.folder.now) (g.F.Pages.files c.loop-ids.folder) (g.F.Pages.files c.merge.new.folder) c.args.self.now c.loop-ids.self c.merge.new.self c.next_merge.ensures.well.named (c.loop-ids.invariant.moves c.next_merge.ensures.well) c.merge.ensures.moves).canon
+    (rearranges_then g.row.D (IsTrue g.F.Pages.told) (g.F.Pages.files c.args.folder.now) (g.F.Pages.files c.loop-ids.folder)
+    (g.F.Pages.files c.merge.new.folder) c.args.self.now c.loop-ids.self c.merge.new.self c.next_merge.ensures.well.named
+    (c.loop-ids.invariant.moves c.next_merge.ensures.well) c.merge.ensures.moves).canon
 
 pub returns-in_err-merge-clause-whole : goal.returns-in_err-merge-clause-whole
 returns-in_err-merge-clause-whole g c = λ told i seen.
@@ -76,8 +91,10 @@ pub returns-in_err-merge-clause-shown : goal.returns-in_err-merge-clause-shown
 returns-in_err-merge-clause-shown g c =
     let e = err_from_is_err_and c.from_residual-in_err-merge.result c.from_residual-in_err-merge.ensures.1 in
     rw (e.1, e.2)
-    (on_damage_weaker {T = Unit {0}} (Err c.in_err-merge.field-0.0) (IsMergeDamage g.row.D c.loop-ids.self.given c.loop-ids.self.names c.loop-ids.self.parts) (IsMergeDamage g.row.D c.args.self.now.given c.args.self.now.names c.args.self.now.parts)
-    (damage_before g.row.D (IsTrue g.F.Pages.told) (g.F.Pages.files c.args.folder.now) (g.F.Pages.files c.loop-ids.folder) c.args.self.now c.loop-ids.self (c.loop-ids.invariant.moves c.next_merge.ensures.well)) c.in_err-merge.ensures.shown)
+    (on_damage_weaker {T = Unit {0}} (Err c.in_err-merge.field-0.0) (IsMergeDamage g.row.D c.loop-ids.self.given c.loop-ids.self.names c.loop-ids.self.parts)
+    (IsMergeDamage g.row.D c.args.self.now.given c.args.self.now.names c.args.self.now.parts)
+    (damage_before g.row.D (IsTrue g.F.Pages.told) (g.F.Pages.files c.args.folder.now) (g.F.Pages.files c.loop-ids.folder) c.args.self.now c.loop-ids.self
+    (c.loop-ids.invariant.moves c.next_merge.ensures.well)) c.in_err-merge.ensures.shown)
 
 pub returns-in_err-merge-clause-doubled : goal.returns-in_err-merge-clause-doubled
 returns-in_err-merge-clause-doubled g c = λ told agrees contents reads.
@@ -85,7 +102,8 @@ returns-in_err-merge-clause-doubled g c = λ told agrees contents reads.
     let kept = c.loop-ids.invariant.entries in
     let now = kept.entries told agrees contents reads in
     rw (e.1, e.2)
-    (on_damage_weaker {T = Unit {0}} (Err c.in_err-merge.field-0.0) (IsDoubt c.loop-ids.self.given (live_in_parts now.0 c.loop-ids.self.parts)) (IsDoubt c.args.self.now.given (live_in_parts contents c.args.self.now.parts))
+    (on_damage_weaker {T = Unit {0}} (Err c.in_err-merge.field-0.0) (IsDoubt c.loop-ids.self.given (live_in_parts now.0 c.loop-ids.self.parts))
+    (IsDoubt c.args.self.now.given (live_in_parts contents c.args.self.now.parts))
     (λ d h. doubt_same c.args.self.now.given (live_in_parts contents c.args.self.now.parts) (live_in_parts now.0 c.loop-ids.self.parts) now.2 d
     (subst (λ n. IsDoubt n (live_in_parts now.0 c.loop-ids.self.parts) d) (c.loop-ids.invariant.moves c.next_merge.ensures.well).stays.given h))
     (c.in_err-merge.ensures.doubled told (kept.agrees told agrees) now.0 now.1))
@@ -97,10 +115,12 @@ pub returns-in_err-ids-clause-still : goal.returns-in_err-ids-clause-still
 returns-in_err-ids-clause-still g c = λ settled. (c.loop-ids.invariant.rested settled).0
 
 pub returns-in_err-merge-clause-rested : goal.returns-in_err-merge-clause-rested
-returns-in_err-merge-clause-rested g c = λ settled. absurd (unsettled c.args.self.now c.loop-ids.self (c.loop-ids.invariant.rested settled).0 settled (rw c.in-Some.is at c.in_ok-ids.ensures.ten))
+returns-in_err-merge-clause-rested g c = λ settled.
+    absurd (unsettled c.args.self.now c.loop-ids.self (c.loop-ids.invariant.rested settled).0 settled (rw c.in-Some.is at c.in_ok-ids.ensures.ten))
 
 pub returns-in_err-merge-clause-still : goal.returns-in_err-merge-clause-still
-returns-in_err-merge-clause-still g c = λ settled. absurd (unsettled c.args.self.now c.loop-ids.self (c.loop-ids.invariant.rested settled).0 settled (rw c.in-Some.is at c.in_ok-ids.ensures.ten))
+returns-in_err-merge-clause-still g c = λ settled.
+    absurd (unsettled c.args.self.now c.loop-ids.self (c.loop-ids.invariant.rested settled).0 settled (rw c.in-Some.is at c.in_ok-ids.ensures.ten))
 
 pub returns-clause-rested : goal.returns-clause-rested
 returns-clause-rested g c = λ settled. (c.loop-ids.invariant.rested settled).1
@@ -158,7 +178,8 @@ returns-in_err-ids-clause-room g c = never_ok _ c.from_residual.result c.from_re
 
 pub returns-in_err-ids-clause-cause : goal.returns-in_err-ids-clause-cause
 returns-in_err-ids-clause-cause g c =
-    memory_caused (g.F.Pages.faults c.args.folder.now) (g.F.Pages.faults c.loop-ids.folder) c.from_residual.result c.from_residual.ensures.1 c.loop-ids.invariant.faults
+    memory_caused (g.F.Pages.faults c.args.folder.now) (g.F.Pages.faults c.loop-ids.folder) c.from_residual.result c.from_residual.ensures.1
+    c.loop-ids.invariant.faults
 
 pub returns-in_err-ids-clause-whole : goal.returns-in_err-ids-clause-whole
 returns-in_err-ids-clause-whole g c = λ told i seen. memory_damage (λ _. ⊥) c.from_residual.result c.from_residual.ensures.1
@@ -193,15 +214,21 @@ returns-clause-doubled g c = λ told agrees contents reads. tt
 
 pub returns-in_err-merge-clause-seen : goal.returns-in_err-merge-clause-seen
 returns-in_err-merge-clause-seen g c =
-    (rearranges_then g.row.D (IsTrue g.F.Pages.told) (g.F.Pages.files c.args.folder.now) (g.F.Pages.files c.loop-ids.folder) (g.F.Pages.files c.merge.new.folder) c.args.self.now c.loop-ids.self c.merge.new.self c.next_merge.ensures.well.named (c.loop-ids.invariant.moves c.next_merge.ensures.well) c.merge.ensures.moves).seen
+    (rearranges_then g.row.D (IsTrue g.F.Pages.told) (g.F.Pages.files c.args.folder.now) (g.F.Pages.files c.loop-ids.folder)
+    (g.F.Pages.files c.merge.new.folder) c.args.self.now c.loop-ids.self c.merge.new.self c.next_merge.ensures.well.named
+    (c.loop-ids.invariant.moves c.next_merge.ensures.well) c.merge.ensures.moves).seen
 
 pub returns-in_err-merge-clause-saved : goal.returns-in_err-merge-clause-saved
 returns-in_err-merge-clause-saved g c =
-    (rearranges_then g.row.D (IsTrue g.F.Pages.told) (g.F.Pages.files c.args.folder.now) (g.F.Pages.files c.loop-ids.folder) (g.F.Pages.files c.merge.new.folder) c.args.self.now c.loop-ids.self c.merge.new.self c.next_merge.ensures.well.named (c.loop-ids.invariant.moves c.next_merge.ensures.well) c.merge.ensures.moves).saved
+    (rearranges_then g.row.D (IsTrue g.F.Pages.told) (g.F.Pages.files c.args.folder.now) (g.F.Pages.files c.loop-ids.folder)
+    (g.F.Pages.files c.merge.new.folder) c.args.self.now c.loop-ids.self c.merge.new.self c.next_merge.ensures.well.named
+    (c.loop-ids.invariant.moves c.next_merge.ensures.well) c.merge.ensures.moves).saved
 
 pub returns-in_err-merge-clause-begun : goal.returns-in_err-merge-clause-begun
 returns-in_err-merge-clause-begun g c =
-    (rearranges_then g.row.D (IsTrue g.F.Pages.told) (g.F.Pages.files c.args.folder.now) (g.F.Pages.files c.loop-ids.folder) (g.F.Pages.files c.merge.new.folder) c.args.self.now c.loop-ids.self c.merge.new.self c.next_merge.ensures.well.named (c.loop-ids.invariant.moves c.next_merge.ensures.well) c.merge.ensures.moves).begun
+    (rearranges_then g.row.D (IsTrue g.F.Pages.told) (g.F.Pages.files c.args.folder.now) (g.F.Pages.files c.loop-ids.folder)
+    (g.F.Pages.files c.merge.new.folder) c.args.self.now c.loop-ids.self c.merge.new.self c.next_merge.ensures.well.named
+    (c.loop-ids.invariant.moves c.next_merge.ensures.well) c.merge.ensures.moves).begun
 
 pub returns-in_err-merge-clause-buffer : goal.returns-in_err-merge-clause-buffer
 returns-in_err-merge-clause-buffer g c = c.merge.ensures.buffer ∙ c.loop-ids.invariant.buffer
@@ -216,28 +243,38 @@ returns-in_err-merge-clause-room g c =
 
 pub returns-in_err-merge-clause-cause : goal.returns-in_err-merge-clause-cause
 returns-in_err-merge-clause-cause g c =
-    cause_after (g.F.Pages.faults c.args.folder.now) (g.F.Pages.faults c.loop-ids.folder) (g.F.Pages.faults c.merge.new.folder) c.from_residual-in_err-merge.result c.loop-ids.invariant.faults
-    (same_cause (g.F.Pages.faults c.loop-ids.folder) (g.F.Pages.faults c.merge.new.folder) c.in_err-merge.field-0.0 c.from_residual-in_err-merge.result c.from_residual-in_err-merge.ensures.1 c.in_err-merge.ensures.cause)
+    cause_after (g.F.Pages.faults c.args.folder.now) (g.F.Pages.faults c.loop-ids.folder) (g.F.Pages.faults c.merge.new.folder)
+    c.from_residual-in_err-merge.result c.loop-ids.invariant.faults
+    (same_cause (g.F.Pages.faults c.loop-ids.folder) (g.F.Pages.faults c.merge.new.folder) c.in_err-merge.field-0.0 c.from_residual-in_err-merge.result
+    c.from_residual-in_err-merge.ensures.1 c.in_err-merge.ensures.cause)
 
 pub returns-in_err-merge-clause-damage : goal.returns-in_err-merge-clause-damage
 returns-in_err-merge-clause-damage g c = λ told agrees.
-    same_damage (IsMergeDamageOf (g.F.Pages.files c.merge.new.folder) c.args.self.now.given) c.in_err-merge.field-0.0 c.from_residual-in_err-merge.result c.from_residual-in_err-merge.ensures.1
-    (subst (λ n. OnDamage {T = Unit {0}} (Err c.in_err-merge.field-0.0) (IsMergeDamageOf (g.F.Pages.files c.merge.new.folder) n)) (c.loop-ids.invariant.moves c.next_merge.ensures.well).stays.given (c.in_err-merge.ensures.damage told (c.loop-ids.invariant.entries.agrees told agrees)))
+    same_damage (IsMergeDamageOf (g.F.Pages.files c.merge.new.folder) c.args.self.now.given) c.in_err-merge.field-0.0 c.from_residual-in_err-merge.result
+    c.from_residual-in_err-merge.ensures.1
+    (subst (λ n. OnDamage {T = Unit {0}} (Err c.in_err-merge.field-0.0) (IsMergeDamageOf (g.F.Pages.files c.merge.new.folder) n))
+    (c.loop-ids.invariant.moves c.next_merge.ensures.well).stays.given (c.in_err-merge.ensures.damage told (c.loop-ids.invariant.entries.agrees told agrees)))
 
 pub returns-in_err-ids-clause-faithful : goal.returns-in_err-ids-clause-faithful
 returns-in_err-ids-clause-faithful g c = c.loop-ids.invariant.faithful
 
 pub returns-in_err-ids-clause-evident : goal.returns-in_err-ids-clause-evident
-returns-in_err-ids-clause-evident g c = memory_damage (IsEvidentIn g.row.D c.args.self.now.parts (IsTrusted g.F.Pages.told g.row.D (g.F.Pages.files c.args.folder.now) c.args.self.now) (g.F.Pages.files c.loop-ids.folder)) c.from_residual.result c.from_residual.ensures.1
+returns-in_err-ids-clause-evident g c =
+    memory_damage
+    (IsEvidentIn g.row.D c.args.self.now.parts (IsTrusted g.F.Pages.told g.row.D (g.F.Pages.files c.args.folder.now) c.args.self.now)
+    (g.F.Pages.files c.loop-ids.folder)) c.from_residual.result c.from_residual.ensures.1
 
 pub returns-in_err-merge-clause-faithful : goal.returns-in_err-merge-clause-faithful
 returns-in_err-merge-clause-faithful g c = λ told faithful. c.merge.ensures.faithful told (c.loop-ids.invariant.faithful told faithful)
 
 pub returns-in_err-merge-clause-evident : goal.returns-in_err-merge-clause-evident
 returns-in_err-merge-clause-evident g c =
-    same_damage (IsEvidentIn g.row.D c.args.self.now.parts (IsTrusted g.F.Pages.told g.row.D (g.F.Pages.files c.args.folder.now) c.args.self.now) (g.F.Pages.files c.merge.new.folder)) c.in_err-merge.field-0.0 c.from_residual-in_err-merge.result c.from_residual-in_err-merge.ensures.1
-    (on_evident_before {X = Unit {0}} g.row.D g.F.Pages.told (g.F.Pages.files c.args.folder.now) (g.F.Pages.files c.loop-ids.folder) (g.F.Pages.files c.merge.new.folder) c.args.self.now c.loop-ids.self c.merge.new.self (Err c.in_err-merge.field-0.0)
-    c.next_merge.ensures.well.named (c.loop-ids.invariant.moves c.next_merge.ensures.well) c.merge.ensures.moves.kept c.loop-ids.invariant.faithful c.in_err-merge.ensures.evident)
+    same_damage (IsEvidentIn g.row.D c.args.self.now.parts (IsTrusted g.F.Pages.told g.row.D (g.F.Pages.files c.args.folder.now) c.args.self.now)
+    (g.F.Pages.files c.merge.new.folder)) c.in_err-merge.field-0.0 c.from_residual-in_err-merge.result c.from_residual-in_err-merge.ensures.1
+    (on_evident_before {X = Unit {0}} g.row.D g.F.Pages.told (g.F.Pages.files c.args.folder.now) (g.F.Pages.files c.loop-ids.folder)
+    (g.F.Pages.files c.merge.new.folder) c.args.self.now c.loop-ids.self c.merge.new.self (Err c.in_err-merge.field-0.0)
+    c.next_merge.ensures.well.named (c.loop-ids.invariant.moves c.next_merge.ensures.well) c.merge.ensures.moves.kept c.loop-ids.invariant.faithful
+    c.in_err-merge.ensures.evident)
 
 pub returns-clause-faithful : goal.returns-clause-faithful
 returns-clause-faithful g c = c.loop-ids.invariant.faithful
@@ -249,13 +286,17 @@ pub returns-in_err-ids-clause-settled : goal.returns-in_err-ids-clause-settled
 returns-in_err-ids-clause-settled g c = never_ok _ c.from_residual.result c.from_residual.ensures.1 _
 
 pub returns-in_err-ids-clause-left : goal.returns-in_err-ids-clause-left
-returns-in_err-ids-clause-left g c = at_error _ c.from_residual.result c.from_residual.ensures.1 _ ((moment (g.F.Pages.files c.loop-ids.folder) c.loop-ids.self), c.loop-ids.invariant.settles, before_itself c.loop-ids.self)
+returns-in_err-ids-clause-left g c =
+    at_error _ c.from_residual.result c.from_residual.ensures.1
+    _ ((moment (g.F.Pages.files c.loop-ids.folder) c.loop-ids.self), c.loop-ids.invariant.settles, before_itself c.loop-ids.self)
 
 pub returns-in_err-merge-clause-settled : goal.returns-in_err-merge-clause-settled
 returns-in_err-merge-clause-settled g c = never_ok _ c.from_residual-in_err-merge.result c.from_residual-in_err-merge.ensures.1 _
 
 pub returns-in_err-merge-clause-left : goal.returns-in_err-merge-clause-left
-returns-in_err-merge-clause-left g c = at_error _ c.from_residual-in_err-merge.result c.from_residual-in_err-merge.ensures.1 _ ((moment (g.F.Pages.files c.loop-ids.folder) c.loop-ids.self), c.loop-ids.invariant.settles, c.in_err-merge.ensures.refused)
+returns-in_err-merge-clause-left g c =
+    at_error _ c.from_residual-in_err-merge.result c.from_residual-in_err-merge.ensures.1
+    _ ((moment (g.F.Pages.files c.loop-ids.folder) c.loop-ids.self), c.loop-ids.invariant.settles, c.in_err-merge.ensures.refused)
 
 pub returns-clause-settled : goal.returns-clause-settled
 returns-clause-settled g c = c.loop-ids.invariant.settles

@@ -7,13 +7,15 @@ use Rattle.segment_set.proofs.set.SegmentSet.merge_settle.Given as goal
 
 abbrev pub invariant-loop-ids : goal.invariant-loop-ids
 invariant-loop-ids g l = record {
-  moves : IsWell g.row.D l.self → Rearranges g.row.D (IsTrue g.F.Pages.told) (g.F.Pages.files l.initial.folder) (g.F.Pages.files l.folder) l.initial.self l.self;
+  moves : IsWell g.row.D l.self
+      → Rearranges g.row.D (IsTrue g.F.Pages.told) (g.F.Pages.files l.initial.folder) (g.F.Pages.files l.folder) l.initial.self l.self;
   entries : KeepsEntries g.row.D (IsTrue g.F.Pages.told) (g.F.Pages.files l.initial.folder) (g.F.Pages.files l.folder) l.initial.self l.self;
   settles : Settles g.row.D (IsTrue g.F.Pages.told) (moment (g.F.Pages.files l.initial.folder) l.initial.self) (moment (g.F.Pages.files l.folder) l.self);
   buffer : l.self.buffer ≡ l.initial.self.buffer;
   faults : g.F.Pages.faults l.folder ≡ g.F.Pages.faults l.initial.folder;
   rested : IsSettled l.initial.self → (l.self ≡ l.initial.self) × (g.F.Pages.reads l.folder ≡ g.F.Pages.reads l.initial.folder);
-  faithful : IsTrue g.F.Pages.told → IsFaithful g.row.D (g.F.Pages.files l.initial.folder) l.initial.self → IsFaithful g.row.D (g.F.Pages.files l.folder) l.self;
+  faithful : IsTrue g.F.Pages.told → IsFaithful g.row.D (g.F.Pages.files l.initial.folder) l.initial.self
+      → IsFaithful g.row.D (g.F.Pages.files l.folder) l.self;
 }
 
 -- each merge takes the place of two segments at least

@@ -18,7 +18,8 @@ use Rattle.segment_set.proofs.Viewing.{looked_evident, looked_faithful}
 use Rattle.segment_set.proofs.set.SegmentSet.nearest.Given as given
 use Rattle.segment_set.proofs.set.SegmentSet.nearest.Goals as goal
 
-here : (g : given.Over) (c : goal.After-nearest g) → c.view_of.result.0.now ≡ parts_at (viewed c.args.view.now) c.self.inside.segments c.self.inside.snapshots.items
+here : (g : given.Over) (c : goal.After-nearest g)
+    → c.view_of.result.0.now ≡ parts_at (viewed c.args.view.now) c.self.inside.segments c.self.inside.snapshots.items
 here g c = c.view_of.ensures.segments ∙ ap (parts_at (viewed c.args.view.now) c.self.inside.segments) c.as_slice-2.ensures.value
 
 parts_are : (g : given.Over) (c : goal.After-nearest g) → c.view_of.result.0.now ≡ viewed_parts (viewed c.args.view.now) c.args.self.now
@@ -31,7 +32,8 @@ buffer_is g c =
     ∙ ap (λ xs. buffer_at (viewed c.args.view.now) (items_of xs) c.as_slice-2.result.now) c.as_slice.ensures.value
     ∙ ap (buffer_at (viewed c.args.view.now) (items_of c.self.inside.buffer.items)) c.as_slice-2.ensures.value)
 
-agreed : (g : given.Over) (c : goal.After-nearest g) (i : Index) → Sees g.row.D (g.F.Pages.files c.args.folder.now) c.args.self.now i → Agrees (g.F.Pages.files c.args.folder.now) c.self.inside.cache
+agreed : (g : given.Over) (c : goal.After-nearest g) (i : Index) → Sees g.row.D (g.F.Pages.files c.args.folder.now) c.args.self.now i
+    → Agrees (g.F.Pages.files c.args.folder.now) c.self.inside.cache
 agreed g c i seen = subst (λ (u : SetData). Agrees (g.F.Pages.files c.args.folder.now) u.cache) (sym c.self.view_is) seen.stands.agrees
 
 pub invariant_of-self : goal.invariant_of-self
@@ -55,8 +57,11 @@ returns-clause-reads g c told contents stands found is leaves are =
     c.nearest.ensures.reads told (subst (λ (u : SetData). Agrees (g.F.Pages.files c.args.folder.now) u.cache) (sym c.self.view_is) stands.agrees) contents
     (subst (AreRead g.row.D (g.F.Pages.files c.args.folder.now) contents) (sym (parts_are g c)) (viewed_read _ _ contents (viewed c.args.view.now) _ stands))
     found
-    (subst (λ (ps : List Part). IsNearest c.args.k (nears_of c.args.at.now.c (entries_seen contents ps (items_of c.view_of.result.1.now))) found) (sym (parts_are g c))
-    (subst (λ (xs : List Item). IsNearest c.args.k (nears_of c.args.at.now.c (entries_seen contents (viewed_parts (viewed c.args.view.now) c.args.self.now) xs)) found) (sym (buffer_is g c)) is))
+    (subst (λ (ps : List Part). IsNearest c.args.k (nears_of c.args.at.now.c (entries_seen contents ps (items_of c.view_of.result.1.now))) found)
+    (sym (parts_are g c))
+    (subst (λ (xs : List Item).
+    IsNearest c.args.k (nears_of c.args.at.now.c (entries_seen contents (viewed_parts (viewed c.args.view.now) c.args.self.now) xs)) found)
+    (sym (buffer_is g c)) is))
     leaves
     (subst (λ (ps : List Part). AreNearLeaves g.row.D c.args.at.now.c (bound_of c.args.k found) (heads_of ps) leaves) (sym (parts_are g c)) are)
 
@@ -72,4 +77,5 @@ returns-clause-shown g c = subst (λ (ps : List Part). OnDamage c.nearest.result
 
 pub returns-clause-evident : goal.returns-clause-evident
 returns-clause-evident g c =
-    looked_evident g.row.D _ _ _ _ _ (viewed c.args.view.now) c.view_of.result.0.now _ _ c.nearest.result c.self.view_is (parts_are g c) c.nearest.ensures.calm c.nearest.ensures.shown c.nearest.ensures.damage
+    looked_evident g.row.D _ _ _ _ _ (viewed c.args.view.now) c.view_of.result.0.now _ _ c.nearest.result c.self.view_is (parts_are g c) c.nearest.ensures.calm
+    c.nearest.ensures.shown c.nearest.ensures.damage

@@ -1,5 +1,5 @@
 use Rattle.std.proofs.Common.{◌∙◌, inl, inr, sym}
-use Rattle.segment_set.proofs.Sweeping.{file_shown, unneeded_unlisted}
+use Rattle.segment_set.proofs.Needed.{file_shown, unneeded_unlisted}
 use Rattle.segment_set.proofs.set.SegmentSet.needs.Goals as goal
 
 pub returns-then-shows-clause-yes : goal.returns-then-shows-clause-yes

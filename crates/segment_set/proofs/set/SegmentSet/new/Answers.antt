@@ -14,13 +14,16 @@ use Rattle.segment_set.proofs.set.SegmentSet.new.Given as given
 use Rattle.segment_set.proofs.set.SegmentSet.new.Goals as goal
 
 fields : (g : given.Over) (c : goal.In_ok-new g)
-    → record (empty_set c.args.leaf c.new.result c.in_ok-new.field-0) { parts = c.new-2.result; buffer = items_of c.new-3.result.items; snapshots = c.new-4.result.items } ≡ empty_set c.args.leaf c.new.result c.in_ok-new.field-0
+    → record (empty_set c.args.leaf c.new.result c.in_ok-new.field-0)
+    { parts = c.new-2.result; buffer = items_of c.new-3.result.items; snapshots = c.new-4.result.items }
+    ≡ empty_set c.args.leaf c.new.result c.in_ok-new.field-0
 fields g c = empty_is _ _ _ _ _ _ c.new-2.ensures (ap items_of c.new-3.ensures.items) c.new-4.ensures.items
 
 pub invariant_of-result : goal.invariant_of-result
 invariant_of-result g c =
     subst (IsWell g.row.D) (sym (fields g c))
-    (well_empty g.row.D c.args.leaf c.new.result c.in_ok-new.field-0 c.requires.dims.0 c.requires.dims.1 c.requires.least_leaf c.requires.greatest_leaf c.in_ok-new.ensures.empty
+    (well_empty g.row.D c.args.leaf c.new.result c.in_ok-new.field-0 c.requires.dims.0 c.requires.dims.1 c.requires.least_leaf c.requires.greatest_leaf
+    c.in_ok-new.ensures.empty
     (ap (λ (n : NameList). is_named n.names Commit) c.new.ensures ∙ is_named-none Commit))
 
 pub returns-clause-seen : goal.returns-clause-seen
@@ -30,4 +33,5 @@ returns-clause-seen g c files =
 
 pub returns-clause-faithful : goal.returns-clause-faithful
 returns-clause-faithful g c files =
-    subst (IsFaithful g.row.D files) (sym (fields g c)) (faithful_empty g.row.D c.args.leaf c.new.result c.in_ok-new.field-0 files (c.in_ok-new.ensures.agrees files))
+    subst (IsFaithful g.row.D files) (sym (fields g c))
+    (faithful_empty g.row.D c.args.leaf c.new.result c.in_ok-new.field-0 files (c.in_ok-new.ensures.agrees files))

@@ -10,13 +10,16 @@ use Rattle.segment_set.proofs.set.SegmentSet.next_merge.Goals as goal
 pub returns-clause-none : goal.returns-clause-none
 returns-clause-none g c =
     let parts = c.self.inside.segments in
-    subst (λ (s : SetData). IfOk c.chosen.result (λ o. IfNone o ((level : ℕ) → free_count level (sizes_of s.parts) (pins_of s.begun s.parts) < 10))) c.self.view_is
-    (subst (λ (ids : List ℕ). IfOk c.chosen.result (λ o. IfNone o ((level : ℕ) → free_count level (sizes_of parts) (pinned ids parts) < 10))) c.inputs_of.ensures c.chosen.ensures.none)
+    subst (λ (s : SetData). IfOk c.chosen.result (λ o. IfNone o ((level : ℕ) → free_count level (sizes_of s.parts) (pins_of s.begun s.parts) < 10)))
+    c.self.view_is
+    (subst (λ (ids : List ℕ). IfOk c.chosen.result (λ o. IfNone o ((level : ℕ) → free_count level (sizes_of parts) (pinned ids parts) < 10)))
+    c.inputs_of.ensures c.chosen.ensures.none)
 
 pub returns-clause-apart : goal.returns-clause-apart
 returns-clause-apart g c =
     subst (λ (s : SetData). IfOk c.chosen.result (λ o. IfSome o (λ ids. IsApart ids.items (inputs_of s.begun) s.parts))) c.self.view_is
-    (subst (λ (inputs : List ℕ). IfOk c.chosen.result (λ o. IfSome o (λ ids. IsApart ids.items inputs c.self.inside.segments))) c.inputs_of.ensures c.chosen.ensures.apart)
+    (subst (λ (inputs : List ℕ). IfOk c.chosen.result (λ o. IfSome o (λ ids. IsApart ids.items inputs c.self.inside.segments))) c.inputs_of.ensures
+    c.chosen.ensures.apart)
 
 pub returns-clause-some : goal.returns-clause-some
 returns-clause-some g c =
@@ -25,8 +28,10 @@ returns-clause-some g c =
 pub returns-clause-ten : goal.returns-clause-ten
 returns-clause-ten g c =
     let parts = c.self.inside.segments in
-    subst (λ (s : SetData). IfOk c.chosen.result (λ o. IfSome o (λ ids. (level : ℕ) × (10 ≤ free_count level (sizes_of s.parts) (pins_of s.begun s.parts))))) c.self.view_is
-    (subst (λ (ids : List ℕ). IfOk c.chosen.result (λ o. IfSome o (λ _. (level : ℕ) × (10 ≤ free_count level (sizes_of parts) (pinned ids parts))))) c.inputs_of.ensures c.chosen.ensures.ten)
+    subst (λ (s : SetData). IfOk c.chosen.result (λ o. IfSome o (λ ids. (level : ℕ) × (10 ≤ free_count level (sizes_of s.parts) (pins_of s.begun s.parts)))))
+    c.self.view_is
+    (subst (λ (ids : List ℕ). IfOk c.chosen.result (λ o. IfSome o (λ _. (level : ℕ) × (10 ≤ free_count level (sizes_of parts) (pinned ids parts)))))
+    c.inputs_of.ensures c.chosen.ensures.ten)
 
 pub returns-clause-room : goal.returns-clause-room
 returns-clause-room g c =
@@ -39,5 +44,12 @@ returns-clause-well g c = subst (IsWell g.row.D) c.self.view_is c.self.invariant
 pub returns-clause-choice : goal.returns-clause-choice
 returns-clause-choice g c =
     let parts = c.self.inside.segments in
-    subst (λ (s : SetData). IfOk c.chosen.result (λ o. IfSome o (λ ids. (positions : List ℕ) × IsChoice (sizes_of s.parts) (pins_of s.begun s.parts) positions × (ids.items ≡ map (λ i. get_or (ids_of s.parts) i 0) positions)))) c.self.view_is
-    (subst (λ (ids : List ℕ). IfOk c.chosen.result (λ o. IfSome o (λ v. (positions : List ℕ) × IsChoice (sizes_of parts) (pinned ids parts) positions × (v.items ≡ map (λ i. get_or (ids_of parts) i 0) positions)))) c.inputs_of.ensures c.chosen.ensures.choice)
+    subst (λ (s : SetData). IfOk c.chosen.result
+    (λ o. IfSome o
+    (λ ids. (positions : List ℕ) × IsChoice (sizes_of s.parts) (pins_of s.begun s.parts) positions
+    × (ids.items ≡ map (λ i. get_or (ids_of s.parts) i 0) positions)))) c.self.view_is
+    (subst (λ (ids : List ℕ).
+    IfOk c.chosen.result
+    (λ o. IfSome o
+    (λ v. (positions : List ℕ) × IsChoice (sizes_of parts) (pinned ids parts) positions × (v.items ≡ map (λ i. get_or (ids_of parts) i 0) positions))))
+    c.inputs_of.ensures c.chosen.ensures.choice)

@@ -3,7 +3,8 @@ use Rattle.std.proofs.Common.{◌≡◌, ◌+◌, ◌≤◌, ◌^◌, length, re
 use Rattle.std.proofs.lemmas.List.{length-map}
 use Rattle.point_codec.specs.Seen.{items_of}
 use Rattle.segment_set.specs.Sets.{IsWell, SetData}
-use Rattle.segment_set.proofs.Changed.{set_with_is, well_with}
+use Rattle.segment_set.proofs.Changed.{set_with_is}
+use Rattle.segment_set.proofs.DocumentEntries.{well_with}
 use Rattle.segment_set.proofs.set.SegmentSet.put.Goals as goal
 
 pub invariant_of-self-2 : goal.invariant_of-self-2
@@ -22,6 +23,8 @@ invariant_of-self-2 g c =
     } in
     let many : length c.as_slice.result.now ≡ length c.args.points.now = sym (length-map c.as_slice.result.now _) ∙ ap length c.as_slice.ensures.value in
     subst (IsWell g.row.D)
-    (sym (set_with_is c.args.points.now s (s.next + 1) (s.given + length c.as_slice.result.now) (items_of c.put_document.new.buffer.items) refl (ap (λ n. s.given + n) many) c.in_ok-put_document.ensures.put))
-    (well_with g.row.D s c.args.points.now c.as_slice.ensures.points (subst (λ (t : SetData). length t.buffer + length c.args.points.now ≤ 16384) (sym c.self.view_is) c.requires.room)
+    (sym (set_with_is c.args.points.now s (s.next + 1) (s.given + length c.as_slice.result.now) (items_of c.put_document.new.buffer.items) refl
+    (ap (λ n. s.given + n) many) c.in_ok-put_document.ensures.put))
+    (well_with g.row.D s c.args.points.now c.as_slice.ensures.points
+    (subst (λ (t : SetData). length t.buffer + length c.args.points.now ≤ 16384) (sym c.self.view_is) c.requires.room)
     (subst (λ (t : SetData). t.given + length c.args.points.now ≤ 2 ^ 24) (sym c.self.view_is) c.requires.given) c.self.invariant)

@@ -30,7 +30,8 @@ old g c = record {
 fields : (g : given.Over) (c : goal.After-let_go g) → record (old g c) { snapshots = c.let_go.new.snapshots.items } ≡ set_released c.args.name.now (old g c)
 fields g c = released_is (old g c) c.args.name.now c.let_go.new.snapshots.items c.let_go.ensures
 
-whole : (g : given.Over) (c : goal.After-let_go g) → record (old g c) { snapshots = c.let_go.new.snapshots.items } ≡ set_released c.args.name.now c.args.self.now
+whole : (g : given.Over) (c : goal.After-let_go g)
+    → record (old g c) { snapshots = c.let_go.new.snapshots.items } ≡ set_released c.args.name.now c.args.self.now
 whole g c = fields g c ∙ ap (set_released c.args.name.now) c.self.view_is
 
 pub invariant_of-self : goal.invariant_of-self
@@ -38,11 +39,13 @@ invariant_of-self g c = subst (IsWell g.row.D) (sym (fields g c)) (well_released
 
 pub returns-clause-seen : goal.returns-clause-seen
 returns-clause-seen g c files i seen =
-    subst (λ (s : SetData). Sees g.row.D files s (record i { snapshots = filter (λ (t : Snapshot). not (bytes_eq t.name c.args.name.now)) i.snapshots })) (sym (whole g c))
+    subst (λ (s : SetData). Sees g.row.D files s (record i { snapshots = filter (λ (t : Snapshot). not (bytes_eq t.name c.args.name.now)) i.snapshots }))
+    (sym (whole g c))
     (sees_released g.row.D files c.args.self.now i c.args.name.now seen)
 
 pub returns-clause-faithful : goal.returns-clause-faithful
-returns-clause-faithful g c files keeps = subst (IsFaithful g.row.D files) (sym (whole g c)) (faithful_released g.row.D files c.args.self.now c.args.name.now keeps)
+returns-clause-faithful g c files keeps =
+    subst (IsFaithful g.row.D files) (sym (whole g c)) (faithful_released g.row.D files c.args.self.now c.args.name.now keeps)
 
 pub returns-clause-kept : goal.returns-clause-kept
 returns-clause-kept g c = whole g c

@@ -18,17 +18,20 @@ pub invariant_of-self-2 : goal.invariant_of-self-2
 invariant_of-self-2 g c =
     let s = c.args.self.now in
     let same : c.remove-2.new.self ≡ names_but c.args.name.now s.names =
-    (λ i. record { names = c.remove-2.ensures.names i; next_segment = c.remove-2.ensures.next i }) ∙ ap (λ (u : SetData). names_but c.args.name.now u.names) c.self.view_is in
+    (λ i. record { names = c.remove-2.ensures.names i; next_segment = c.remove-2.ensures.next i })
+    ∙ ap (λ (u : SetData). names_but c.args.name.now u.names) c.self.view_is in
     subst (λ (u : SetData). IsWell g.row.D (record u { names = c.remove-2.new.self; cache = c.forget.new.cache })) (sym c.self.view_is)
     (subst (λ (n : NameList). IsWell g.row.D (record s { names = n; cache = c.forget.new.cache })) (sym same)
-    (well_swept g.row.D s c.args.c.now c.args.name.now c.forget.new.cache (subst (IsWell g.row.D) c.self.view_is c.self.invariant) c.requires.named c.requires.unneeded
+    (well_swept g.row.D s c.args.c.now c.args.name.now c.forget.new.cache (subst (IsWell g.row.D) c.self.view_is c.self.invariant) c.requires.named
+    c.requires.unneeded
     (λ id keeps. subst (λ (u : SetData). KeepsFile u.cache id) c.self.view_is (c.forget.ensures.fewer id keeps)) c.forget.ensures.gone))
 
 pub returns-in_err-remove-clause-seen : goal.returns-in_err-remove-clause-seen
 returns-in_err-remove-clause-seen g c = λ told i seen.
     let s = c.args.self.now in
     let files = g.F.Pages.files c.args.folder.now in
-    sees_swept g.row.D s c.args.c.now c.args.name.now c.forget.new.cache (subst (IsWell g.row.D) c.self.view_is c.self.invariant) c.requires.named c.requires.unneeded
+    sees_swept g.row.D s c.args.c.now c.args.name.now c.forget.new.cache (subst (IsWell g.row.D) c.self.view_is c.self.invariant) c.requires.named
+    c.requires.unneeded
     (λ id keeps. subst (λ (u : SetData). KeepsFile u.cache id) c.self.view_is (c.forget.ensures.fewer id keeps)) c.forget.ensures.gone
     files (g.F.Pages.files c.remove.new.self) _ i (c.in_err-remove.ensures.others told)
     (c.forget.ensures.agrees files (subst (λ (u : SetData). Agrees files u.cache) (sym c.self.view_is) seen.stands.agrees))
@@ -44,7 +47,8 @@ pub returns-clause-seen : goal.returns-clause-seen
 returns-clause-seen g c = λ told i seen.
     let s = c.args.self.now in
     let files = g.F.Pages.files c.args.folder.now in
-    sees_swept g.row.D s c.args.c.now c.args.name.now c.forget.new.cache (subst (IsWell g.row.D) c.self.view_is c.self.invariant) c.requires.named c.requires.unneeded
+    sees_swept g.row.D s c.args.c.now c.args.name.now c.forget.new.cache (subst (IsWell g.row.D) c.self.view_is c.self.invariant) c.requires.named
+    c.requires.unneeded
     (λ id keeps. subst (λ (u : SetData). KeepsFile u.cache id) c.self.view_is (c.forget.ensures.fewer id keeps)) c.forget.ensures.gone
     files (g.F.Pages.files c.remove.new.self) _ i (c.in_ok-remove.ensures.others told)
     (c.forget.ensures.agrees files (subst (λ (u : SetData). Agrees files u.cache) (sym c.self.view_is) seen.stands.agrees))
@@ -58,32 +62,40 @@ returns-clause-seen g c = λ told i seen.
 
 pub returns-in_err-remove-clause-swept : goal.returns-in_err-remove-clause-swept
 returns-in_err-remove-clause-swept g c =
-    swept_torn (IsTrue g.F.Pages.told) c.args.c.now c.args.self.now _ (g.F.Pages.files c.args.folder.now) (g.F.Pages.files c.remove.new.self) c.args.name.now c.requires.named
-    (subst (IsWell g.row.D) c.self.view_is c.self.invariant).own c.requires.unneeded (ap (λ (u : SetData). record u { cache = c.forget.new.cache }) c.self.view_is) c.in_err-remove.ensures.others
+    swept_torn (IsTrue g.F.Pages.told) c.args.c.now c.args.self.now _ (g.F.Pages.files c.args.folder.now) (g.F.Pages.files c.remove.new.self) c.args.name.now
+    c.requires.named
+    (subst (IsWell g.row.D) c.self.view_is c.self.invariant).own c.requires.unneeded
+    (ap (λ (u : SetData). record u { cache = c.forget.new.cache }) c.self.view_is) c.in_err-remove.ensures.others
 
 pub returns-clause-swept : goal.returns-clause-swept
 returns-clause-swept g c =
     let s = c.args.self.now in
     let same : c.remove-2.new.self ≡ names_but c.args.name.now s.names =
-    (λ i. record { names = c.remove-2.ensures.names i; next_segment = c.remove-2.ensures.next i }) ∙ ap (λ (u : SetData). names_but c.args.name.now u.names) c.self.view_is in
-    swept_removed (IsTrue g.F.Pages.told) c.args.c.now s _ (g.F.Pages.files c.args.folder.now) (g.F.Pages.files c.remove.new.self) c.args.name.now c.requires.named
+    (λ i. record { names = c.remove-2.ensures.names i; next_segment = c.remove-2.ensures.next i })
+    ∙ ap (λ (u : SetData). names_but c.args.name.now u.names) c.self.view_is in
+    swept_removed (IsTrue g.F.Pages.told) c.args.c.now s _ (g.F.Pages.files c.args.folder.now) (g.F.Pages.files c.remove.new.self) c.args.name.now
+    c.requires.named
     (subst (IsWell g.row.D) c.self.view_is c.self.invariant).own c.requires.unneeded
-    (ap (λ (u : SetData). record u { names = c.remove-2.new.self; cache = c.forget.new.cache }) c.self.view_is ∙ ap (λ (n : NameList). record s { names = n; cache = c.forget.new.cache }) same)
+    (ap (λ (u : SetData). record u { names = c.remove-2.new.self; cache = c.forget.new.cache }) c.self.view_is
+    ∙ ap (λ (n : NameList). record s { names = n; cache = c.forget.new.cache }) same)
     c.in_ok-remove.ensures.others c.in_ok-remove.ensures.gone
 
 pub returns-clause-names : goal.returns-clause-names
-returns-clause-names g c = c.remove-2.ensures.names ∙ ap (λ (u : SetData). filter (λ (n : FileName). not (same_name n c.args.name.now)) u.names.names) c.self.view_is
+returns-clause-names g c =
+    c.remove-2.ensures.names ∙ ap (λ (u : SetData). filter (λ (n : FileName). not (same_name n c.args.name.now)) u.names.names) c.self.view_is
 
 pub returns-in_err-remove-clause-faithful : goal.returns-in_err-remove-clause-faithful
 returns-in_err-remove-clause-faithful g c = λ told keeps.
     let files = g.F.Pages.files c.args.folder.now in
-    faithful_swept g.row.D c.args.self.now _ c.args.c.now c.args.name.now files (g.F.Pages.files c.remove.new.self) c.requires.unneeded c.forget.ensures.gone (c.in_err-remove.ensures.others told)
+    faithful_swept g.row.D c.args.self.now _ c.args.c.now c.args.name.now files (g.F.Pages.files c.remove.new.self) c.requires.unneeded c.forget.ensures.gone
+    (c.in_err-remove.ensures.others told)
     (c.forget.ensures.agrees files (subst (λ (u : SetData). Agrees files u.cache) (sym c.self.view_is) keeps.pages))
     (ap (λ (u : SetData). u.parts) c.self.view_is) (ap (λ (u : SetData). u.snapshots) c.self.view_is) keeps
 
 pub returns-clause-faithful : goal.returns-clause-faithful
 returns-clause-faithful g c = λ told keeps.
     let files = g.F.Pages.files c.args.folder.now in
-    faithful_swept g.row.D c.args.self.now _ c.args.c.now c.args.name.now files (g.F.Pages.files c.remove.new.self) c.requires.unneeded c.forget.ensures.gone (c.in_ok-remove.ensures.others told)
+    faithful_swept g.row.D c.args.self.now _ c.args.c.now c.args.name.now files (g.F.Pages.files c.remove.new.self) c.requires.unneeded c.forget.ensures.gone
+    (c.in_ok-remove.ensures.others told)
     (c.forget.ensures.agrees files (subst (λ (u : SetData). Agrees files u.cache) (sym c.self.view_is) keeps.pages))
     (ap (λ (u : SetData). u.parts) c.self.view_is) (ap (λ (u : SetData). u.snapshots) c.self.view_is) keeps

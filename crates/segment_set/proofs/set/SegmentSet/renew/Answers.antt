@@ -28,23 +28,29 @@ other g c = record {
 }
 
 -- this set's list has its files
-named : (g : given.Over) (c : After-drop-set-inside g) (id : ℕ) → is_named c.set.inside.names.names (Segment id) ≡ true → is_named c.self.inside.names.names (Segment id) ≡ true
+named : (g : given.Over) (c : After-drop-set-inside g) (id : ℕ) → is_named c.set.inside.names.names (Segment id) ≡ true
+    → is_named c.self.inside.names.names (Segment id) ≡ true
 named g c id there =
-    ap (λ (s : SetData). is_named s.names.names (Segment id)) c.self.view_is ∙ c.requires id (ap (λ (s : SetData). is_named s.names.names (Segment id)) (sym c.set.view_is) ∙ there)
+    ap (λ (s : SetData). is_named s.names.names (Segment id)) c.self.view_is
+    ∙ c.requires id (ap (λ (s : SetData). is_named s.names.names (Segment id)) (sym c.set.view_is) ∙ there)
 
-whole : (g : given.Over) (c : After-drop-set-inside g) → record (other g c) { names = c.self.inside.names } ≡ record c.args.set { names = c.args.self.now.names }
+whole : (g : given.Over) (c : After-drop-set-inside g)
+    → record (other g c) { names = c.self.inside.names } ≡ record c.args.set { names = c.args.self.now.names }
 whole g c = λ j. record (c.set.view_is j) { names = (ap (λ (s : SetData). s.names) c.self.view_is) j }
 
 pub invariant_of-self : goal.invariant_of-self
 invariant_of-self g c = well_other g.row.D (other g c) c.self.inside.names c.set.inside.cache c.set.inside.saved c.set.invariant
-    (λ k p lt. named g c _ (c.set.invariant.named k p lt)) (λ k v lt j p jt. named g c _ (c.set.invariant.kept k v lt j p jt)) c.self.invariant.own (λ id keeps. named g c id (c.set.invariant.cached id keeps))
+    (λ k p lt. named g c _ (c.set.invariant.named k p lt)) (λ k v lt j p jt. named g c _ (c.set.invariant.kept k v lt j p jt)) c.self.invariant.own
+    (λ id keeps. named g c id (c.set.invariant.cached id keeps))
 
 pub returns-clause-seen : goal.returns-clause-seen
 returns-clause-seen g c files i seen = subst (λ (s : SetData). Sees g.row.D files s i) (sym (whole g c))
-    (sees_like g.row.D files c.args.set (record c.args.set { names = c.args.self.now.names }) i (record { leaf = refl; next = refl; given = refl; snapshots = refl }) refl refl refl seen.stands.agrees seen)
+    (sees_like g.row.D files c.args.set (record c.args.set { names = c.args.self.now.names }) i
+    (record { leaf = refl; next = refl; given = refl; snapshots = refl }) refl refl refl seen.stands.agrees seen)
 
 pub returns-clause-faithful : goal.returns-clause-faithful
-returns-clause-faithful g c files keeps = subst (IsFaithful g.row.D files) (sym (whole g c)) (record { pages = keeps.pages; heads = keeps.heads; kept = keeps.kept })
+returns-clause-faithful g c files keeps =
+    subst (IsFaithful g.row.D files) (sym (whole g c)) (record { pages = keeps.pages; heads = keeps.heads; kept = keeps.kept })
 
 pub returns-clause-kept : goal.returns-clause-kept
 returns-clause-kept g c = whole g c

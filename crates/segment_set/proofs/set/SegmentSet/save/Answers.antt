@@ -22,7 +22,9 @@ use Rattle.segment_set.specs.Saved.{HasNextGeneration, IsSaved, StaysButSaved}
 use Rattle.segment_set.specs.Faithful.{IsFaithful}
 use Rattle.index_opening.specs.Evidence.{IsEvidentIn}
 use Rattle.segment_set.proofs.Carried.{keeps_then, stays_then}
-use Rattle.segment_set.proofs.Saving.{all_fresh, all_next, all_written, canon_saved, cause_after, if_ok_both, if_ok_map, no_damage, ok_always, saved_is_stored, sees_saved, stays_saved, well_saved}
+use Rattle.segment_set.proofs.Saving.{all_fresh, all_next, all_written, canon_saved, cause_after, if_ok_both, if_ok_map}
+use Rattle.segment_set.proofs.Saving.{no_damage, ok_always, sees_saved, stays_saved, well_saved}
+use Rattle.segment_set.proofs.SavedCommit.{saved_is_stored}
 use Rattle.segment_set.proofs.Refused.{at_error, never_ok, never_value, same_cause, same_damage}
 use Rattle.segment_set.proofs.Settled.{left_settled}
 use Rattle.segment_set.specs.Settles.{Flushes, Moment, moment}
@@ -39,7 +41,8 @@ returns-in_err-flush-clause-doubled g c = λ told agrees es read.
 pub returns-clause-seen : goal.returns-clause-seen
 returns-clause-seen g c = λ told i seen.
     let m = c.list_segments.ensures in
-    sees_saved g.row.D (IsTrue g.F.Pages.told) (g.F.Pages.files c.flush.new.folder) (g.F.Pages.files c.list_segments.new.folder) c.flush.new.self c.list_segments.new.self i told m.well m.kept m.alone (c.in_ok-flush.ensures.seen told i seen)
+    sees_saved g.row.D (IsTrue g.F.Pages.told) (g.F.Pages.files c.flush.new.folder) (g.F.Pages.files c.list_segments.new.folder) c.flush.new.self
+    c.list_segments.new.self i told m.well m.kept m.alone (c.in_ok-flush.ensures.seen told i seen)
 
 pub returns-clause-emptied : goal.returns-clause-emptied
 returns-clause-emptied g c = ok_always c.list_segments.result _ (c.list_segments.ensures.alone.buffer ∙ c.in_ok-flush.ensures.emptied)
@@ -60,7 +63,8 @@ returns-clause-fresh g c =
     let files = g.F.Pages.files c.list_segments.new.folder in
     if_ok_map c.list_segments.result (λ (k : CommitData). AllZip (IsSaved (IsTrue g.F.Pages.told) s.names t.names files) k.listed s.parts)
     (λ (k : CommitData). All (λ (l : Listed). is_named c.args.self.now.names.names (Live l.segment l.generation) ≡ false) k.listed)
-    (λ k all. all_fresh (IsTrue g.F.Pages.told) c.args.self.now.names s.names t.names files k.listed s.parts c.in_ok-flush.ensures.kept.more all) c.list_segments.ensures.listed
+    (λ k all. all_fresh (IsTrue g.F.Pages.told) c.args.self.now.names s.names t.names files k.listed s.parts c.in_ok-flush.ensures.kept.more all)
+    c.list_segments.ensures.listed
 
 pub returns-clause-live : goal.returns-clause-live
 returns-clause-live g c = λ told.
@@ -68,8 +72,10 @@ returns-clause-live g c = λ told.
     let t = c.list_segments.new.self in
     let files = g.F.Pages.files c.list_segments.new.folder in
     if_ok_map c.list_segments.result (λ (k : CommitData). AllZip (IsSaved (IsTrue g.F.Pages.told) s.names t.names files) k.listed s.parts)
-    (λ (k : CommitData). AllZip (λ (l : Listed) (p : Part). IsLiveFile l.segment l.generation (bytes_of (files (Live l.segment l.generation))) p.live) k.listed t.parts)
-    (λ k all. all_written (IsTrue g.F.Pages.told) s.names t.names files k.listed s.parts t.parts told c.list_segments.ensures.alone.parts all) c.list_segments.ensures.listed
+    (λ (k : CommitData).
+    AllZip (λ (l : Listed) (p : Part). IsLiveFile l.segment l.generation (bytes_of (files (Live l.segment l.generation))) p.live) k.listed t.parts)
+    (λ k all. all_written (IsTrue g.F.Pages.told) s.names t.names files k.listed s.parts t.parts told c.list_segments.ensures.alone.parts all)
+    c.list_segments.ensures.listed
 
 pub returns-clause-stored : goal.returns-clause-stored
 returns-clause-stored g c = λ told i seen.
@@ -79,18 +85,25 @@ returns-clause-stored g c = λ told i seen.
     let mid = g.F.Pages.files c.flush.new.folder in
     let now = g.F.Pages.files c.list_segments.new.folder in
     let there = sees_saved g.row.D (IsTrue g.F.Pages.told) mid now s t i told m.well m.kept m.alone (c.in_ok-flush.ensures.seen told i seen) in
-    if_ok_both c.list_segments.result (λ (k : CommitData). IsCommitOf g.row.D t k) (λ (k : CommitData). AllZip (IsSaved (IsTrue g.F.Pages.told) s.names t.names now) k.listed s.parts)
-    (λ (k : CommitData). (files : Files) → IsCommitFile (bytes_of (files Commit)) k → ((m : FileName) → ListsFile k m → files m ≡ now m) → IsStored files (Some (at_rest i)))
-    (λ k commit all. saved_is_stored g.row.D (IsTrue g.F.Pages.told) s.names now t k i told (well_saved g.row.D (IsTrue g.F.Pages.told) mid now s t m.well m.kept m.alone)
-    (m.alone.buffer ∙ c.in_ok-flush.ensures.emptied) commit (subst (AllZip (IsSaved (IsTrue g.F.Pages.told) s.names t.names now) k.listed) (sym m.alone.parts) all) there)
+    if_ok_both c.list_segments.result (λ (k : CommitData). IsCommitOf g.row.D t k)
+    (λ (k : CommitData). AllZip (IsSaved (IsTrue g.F.Pages.told) s.names t.names now) k.listed s.parts)
+    (λ (k : CommitData).
+    (files : Files) → IsCommitFile (bytes_of (files Commit)) k → ((m : FileName) → ListsFile k m → files m ≡ now m) → IsStored files (Some (at_rest i)))
+    (λ k commit all.
+    saved_is_stored g.row.D (IsTrue g.F.Pages.told) s.names now t k i told (well_saved g.row.D (IsTrue g.F.Pages.told) mid now s t m.well m.kept m.alone)
+    (m.alone.buffer ∙ c.in_ok-flush.ensures.emptied) commit
+    (subst (AllZip (IsSaved (IsTrue g.F.Pages.told) s.names t.names now) k.listed) (sym m.alone.parts) all) there)
     m.commit m.listed
 
 pub returns-clause-stays : goal.returns-clause-stays
-returns-clause-stays g c = stays_then c.args.self.now c.flush.new.self c.list_segments.new.self c.in_ok-flush.ensures.stays (stays_saved c.flush.new.self c.list_segments.new.self c.list_segments.ensures.alone)
+returns-clause-stays g c =
+    stays_then c.args.self.now c.flush.new.self c.list_segments.new.self c.in_ok-flush.ensures.stays
+    (stays_saved c.flush.new.self c.list_segments.new.self c.list_segments.ensures.alone)
 
 pub returns-clause-kept : goal.returns-clause-kept
 returns-clause-kept g c =
-    keeps_then (IsTrue g.F.Pages.told) c.args.self.now.names c.flush.new.self.names c.list_segments.new.self.names (g.F.Pages.files c.args.folder.now) (g.F.Pages.files c.flush.new.folder) (g.F.Pages.files c.list_segments.new.folder)
+    keeps_then (IsTrue g.F.Pages.told) c.args.self.now.names c.flush.new.self.names c.list_segments.new.self.names (g.F.Pages.files c.args.folder.now)
+    (g.F.Pages.files c.flush.new.folder) (g.F.Pages.files c.list_segments.new.folder)
     c.in_ok-flush.ensures.kept c.list_segments.ensures.kept
 
 pub returns-clause-follows : goal.returns-clause-follows
@@ -101,24 +114,29 @@ returns-clause-begun g c = c.list_segments.ensures.alone.begun ∙ c.in_ok-flush
 
 pub returns-clause-canon : goal.returns-clause-canon
 returns-clause-canon g c = λ told.
-    canon_saved g.row.D (IsTrue g.F.Pages.told) c.args.self.now.names (g.F.Pages.files c.flush.new.folder) (g.F.Pages.files c.list_segments.new.folder) c.flush.new.self c.list_segments.new.self told
+    canon_saved g.row.D (IsTrue g.F.Pages.told) c.args.self.now.names (g.F.Pages.files c.flush.new.folder) (g.F.Pages.files c.list_segments.new.folder)
+    c.flush.new.self c.list_segments.new.self told
     c.list_segments.ensures.well c.list_segments.ensures.kept c.in_ok-flush.ensures.kept.more c.list_segments.ensures.alone (c.in_ok-flush.ensures.canon told)
 
 pub returns-clause-cause : goal.returns-clause-cause
 returns-clause-cause g c =
-    cause_after (g.F.Pages.faults c.args.folder.now) (g.F.Pages.faults c.flush.new.folder) (g.F.Pages.faults c.list_segments.new.folder) c.list_segments.result c.in_ok-flush.ensures.cause.fine c.list_segments.ensures.cause
+    cause_after (g.F.Pages.faults c.args.folder.now) (g.F.Pages.faults c.flush.new.folder) (g.F.Pages.faults c.list_segments.new.folder) c.list_segments.result
+    c.in_ok-flush.ensures.cause.fine c.list_segments.ensures.cause
 
 pub returns-clause-whole : goal.returns-clause-whole
 returns-clause-whole g c = λ told i seen. c.list_segments.ensures.whole
 
 pub returns-clause-shown : goal.returns-clause-shown
-returns-clause-shown g c = no_damage c.list_segments.result (IsMergeDamage g.row.D c.args.self.now.given c.args.self.now.names c.args.self.now.parts) c.list_segments.ensures.whole
+returns-clause-shown g c =
+    no_damage c.list_segments.result (IsMergeDamage g.row.D c.args.self.now.given c.args.self.now.names c.args.self.now.parts) c.list_segments.ensures.whole
 
 pub returns-clause-damage : goal.returns-clause-damage
-returns-clause-damage g c = λ told agrees. no_damage c.list_segments.result (IsMergeDamageOf (g.F.Pages.files c.list_segments.new.folder) c.args.self.now.given) c.list_segments.ensures.whole
+returns-clause-damage g c = λ told agrees.
+    no_damage c.list_segments.result (IsMergeDamageOf (g.F.Pages.files c.list_segments.new.folder) c.args.self.now.given) c.list_segments.ensures.whole
 
 pub returns-clause-doubled : goal.returns-clause-doubled
-returns-clause-doubled g c = λ told agrees es read. no_damage c.list_segments.result (IsDoubt c.args.self.now.given (live_in_parts es c.args.self.now.parts)) c.list_segments.ensures.whole
+returns-clause-doubled g c = λ told agrees es read.
+    no_damage c.list_segments.result (IsDoubt c.args.self.now.given (live_in_parts es c.args.self.now.parts)) c.list_segments.ensures.whole
 
 pub returns-in_err-flush-clause-rested : goal.returns-in_err-flush-clause-rested
 returns-in_err-flush-clause-rested g c = λ settled. c.in_err-flush.ensures.rested settled
@@ -152,22 +170,26 @@ returns-in_err-flush-clause-canon g c = c.in_err-flush.ensures.canon
 
 pub returns-in_err-flush-clause-cause : goal.returns-in_err-flush-clause-cause
 returns-in_err-flush-clause-cause g c =
-    same_cause (g.F.Pages.faults c.args.folder.now) (g.F.Pages.faults c.flush.new.folder) c.in_err-flush.field-0.0 c.from_residual.result c.from_residual.ensures.1 c.in_err-flush.ensures.cause
+    same_cause (g.F.Pages.faults c.args.folder.now) (g.F.Pages.faults c.flush.new.folder) c.in_err-flush.field-0.0 c.from_residual.result
+    c.from_residual.ensures.1 c.in_err-flush.ensures.cause
 
 pub returns-in_err-flush-clause-shown : goal.returns-in_err-flush-clause-shown
 returns-in_err-flush-clause-shown g c =
-    same_damage (IsMergeDamage g.row.D c.args.self.now.given c.args.self.now.names c.args.self.now.parts) c.in_err-flush.field-0.0 c.from_residual.result c.from_residual.ensures.1 c.in_err-flush.ensures.shown
+    same_damage (IsMergeDamage g.row.D c.args.self.now.given c.args.self.now.names c.args.self.now.parts) c.in_err-flush.field-0.0 c.from_residual.result
+    c.from_residual.ensures.1 c.in_err-flush.ensures.shown
 
 pub returns-in_err-flush-clause-damage : goal.returns-in_err-flush-clause-damage
 returns-in_err-flush-clause-damage g c = λ told agrees.
-    same_damage (IsMergeDamageOf (g.F.Pages.files c.flush.new.folder) c.args.self.now.given) c.in_err-flush.field-0.0 c.from_residual.result c.from_residual.ensures.1 (c.in_err-flush.ensures.damage told agrees)
+    same_damage (IsMergeDamageOf (g.F.Pages.files c.flush.new.folder) c.args.self.now.given) c.in_err-flush.field-0.0 c.from_residual.result
+    c.from_residual.ensures.1 (c.in_err-flush.ensures.damage told agrees)
 
 pub returns-in_err-flush-clause-faithful : goal.returns-in_err-flush-clause-faithful
 returns-in_err-flush-clause-faithful g c = λ told keeps. c.in_err-flush.ensures.faithful told keeps
 
 pub returns-in_err-flush-clause-evident : goal.returns-in_err-flush-clause-evident
 returns-in_err-flush-clause-evident g c =
-    same_damage (IsEvidentIn g.row.D c.args.self.now.parts (IsTrue g.F.Pages.told × IsFaithful g.row.D (g.F.Pages.files c.args.folder.now) c.args.self.now) (g.F.Pages.files c.flush.new.folder))
+    same_damage (IsEvidentIn g.row.D c.args.self.now.parts (IsTrue g.F.Pages.told × IsFaithful g.row.D (g.F.Pages.files c.args.folder.now) c.args.self.now)
+    (g.F.Pages.files c.flush.new.folder))
     c.in_err-flush.field-0.0 c.from_residual.result c.from_residual.ensures.1 c.in_err-flush.ensures.evident
 
 pub returns-in_err-flush-clause-saved : goal.returns-in_err-flush-clause-saved
@@ -196,13 +218,17 @@ returns-clause-faithful g c = λ told keeps. c.list_segments.ensures.faithful to
 
 pub returns-clause-evident : goal.returns-clause-evident
 returns-clause-evident g c =
-    no_damage c.list_segments.result (IsEvidentIn g.row.D c.args.self.now.parts (IsTrue g.F.Pages.told × IsFaithful g.row.D (g.F.Pages.files c.args.folder.now) c.args.self.now) (g.F.Pages.files c.list_segments.new.folder)) c.list_segments.ensures.whole
+    no_damage c.list_segments.result
+    (IsEvidentIn g.row.D c.args.self.now.parts (IsTrue g.F.Pages.told × IsFaithful g.row.D (g.F.Pages.files c.args.folder.now) c.args.self.now)
+    (g.F.Pages.files c.list_segments.new.folder)) c.list_segments.ensures.whole
 
 pub returns-in_err-flush-clause-flushed : goal.returns-in_err-flush-clause-flushed
 returns-in_err-flush-clause-flushed g c = never_value _ c.from_residual.result c.from_residual.ensures.1 _
 
 pub returns-in_err-flush-clause-left : goal.returns-in_err-flush-clause-left
-returns-in_err-flush-clause-left g c = at_error _ c.from_residual.result c.from_residual.ensures.1 _ (left_settled g.row.D (IsTrue g.F.Pages.told) (moment (g.F.Pages.files c.args.folder.now) c.args.self.now) c.flush.new.self c.in_err-flush.ensures.left)
+returns-in_err-flush-clause-left g c =
+    at_error _ c.from_residual.result c.from_residual.ensures.1
+    _ (left_settled g.row.D (IsTrue g.F.Pages.told) (moment (g.F.Pages.files c.args.folder.now) c.args.self.now) c.flush.new.self c.in_err-flush.ensures.left)
 
 pub returns-clause-flushed : goal.returns-clause-flushed
 returns-clause-flushed g c =
@@ -210,8 +236,16 @@ returns-clause-flushed g c =
     let t = c.list_segments.new.self in
     let files = g.F.Pages.files c.list_segments.new.folder in
     if_ok_map c.list_segments.result (λ (k : CommitData). AllZip (IsSaved (IsTrue g.F.Pages.told) s.names t.names files) k.listed s.parts)
-    (λ (k : CommitData). (u : Moment) × Flushes g.row.D (IsTrue g.F.Pages.told) (moment (g.F.Pages.files c.args.folder.now) c.args.self.now) u × StaysButSaved u.set t × All (HasNextGeneration u.set.names) k.listed)
-    (λ k all. (moment (g.F.Pages.files c.flush.new.folder) s, c.in_ok-flush.ensures.flushed, c.list_segments.ensures.alone, all_next (IsTrue g.F.Pages.told) s.names t.names files k.listed s.parts all)) c.list_segments.ensures.listed
+    (λ (k : CommitData). (u : Moment) × Flushes g.row.D (IsTrue g.F.Pages.told) (moment (g.F.Pages.files c.args.folder.now) c.args.self.now) u
+    × StaysButSaved u.set t × All (HasNextGeneration u.set.names) k.listed)
+    (λ k all. (
+      moment (g.F.Pages.files c.flush.new.folder) s,
+      c.in_ok-flush.ensures.flushed,
+      c.list_segments.ensures.alone,
+      all_next (IsTrue g.F.Pages.told) s.names t.names files k.listed s.parts all,
+    )) c.list_segments.ensures.listed
 
 pub returns-clause-left : goal.returns-clause-left
-returns-clause-left g c = on_err_weaker c.list_segments.result (λ same. ((moment (g.F.Pages.files c.flush.new.folder) c.flush.new.self), c.in_ok-flush.ensures.flushed, same)) c.list_segments.ensures.refused
+returns-clause-left g c =
+    on_err_weaker c.list_segments.result (λ same. ((moment (g.F.Pages.files c.flush.new.folder) c.flush.new.self), c.in_ok-flush.ensures.flushed, same))
+    c.list_segments.ensures.refused

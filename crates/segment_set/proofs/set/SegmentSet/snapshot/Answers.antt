@@ -36,9 +36,11 @@ invariant_of-self-2 g c =
 
 pub returns-clause-seen : goal.returns-clause-seen
 returns-clause-seen g c files i seen =
-    subst (λ (s : SetData). Sees g.row.D files s (record i { snapshots = i.snapshots ++ record { name = c.args.name; docs = i.docs } ∷ [] })) (sym (fields g c ∙ ap (set_snapped c.args.name) c.self.view_is))
+    subst (λ (s : SetData). Sees g.row.D files s (record i { snapshots = i.snapshots ++ record { name = c.args.name; docs = i.docs } ∷ [] }))
+    (sym (fields g c ∙ ap (set_snapped c.args.name) c.self.view_is))
     (sees_snapped g.row.D files c.args.self.now i c.args.name seen)
 
 pub returns-clause-faithful : goal.returns-clause-faithful
 returns-clause-faithful g c files keeps =
-    subst (IsFaithful g.row.D files) (sym (fields g c ∙ ap (set_snapped c.args.name) c.self.view_is)) (faithful_snapped g.row.D files c.args.self.now c.args.name keeps)
+    subst (IsFaithful g.row.D files) (sym (fields g c ∙ ap (set_snapped c.args.name) c.self.view_is))
+    (faithful_snapped g.row.D files c.args.self.now c.args.name keeps)

@@ -10,19 +10,23 @@ use Rattle.segment_set.proofs.set.SegmentSet.survey.Goals as goal
 
 parts_are : (g : given.Over) (c : goal.After-survey g) → c.view_of.result.0.now ≡ viewed_parts (viewed c.args.view.now) c.args.self.now
 parts_are g c =
-    looked_parts _ _ (viewed c.args.view.now) _ c.self.view_is (c.view_of.ensures.segments ∙ ap (parts_at (viewed c.args.view.now) c.self.inside.segments) c.as_slice-2.ensures.value)
+    looked_parts _ _ (viewed c.args.view.now) _ c.self.view_is
+    (c.view_of.ensures.segments ∙ ap (parts_at (viewed c.args.view.now) c.self.inside.segments) c.as_slice-2.ensures.value)
 
 pub returns-clause-tested : goal.returns-clause-tested
 returns-clause-tested g c =
-    subst (λ (ps : List Part). AreTested g.row.D (g.S.Shape.crosses c.args.shape.now) (heads_of ps) c.survey.result.tested) (parts_are g c) c.survey.ensures.tested
+    subst (λ (ps : List Part). AreTested g.row.D (g.S.Shape.crosses c.args.shape.now) (heads_of ps) c.survey.result.tested) (parts_are g c)
+    c.survey.ensures.tested
 
 pub returns-clause-touched : goal.returns-clause-touched
 returns-clause-touched g c =
-    subst (λ (ps : List Part). AreTouched g.row.D (g.S.Shape.has c.args.shape.now) (g.S.Shape.crosses c.args.shape.now) (heads_of ps) c.survey.result.touched) (parts_are g c) c.survey.ensures.touched
+    subst (λ (ps : List Part). AreTouched g.row.D (g.S.Shape.has c.args.shape.now) (g.S.Shape.crosses c.args.shape.now) (heads_of ps) c.survey.result.touched)
+    (parts_are g c) c.survey.ensures.touched
 
 pub returns-clause-leaves : goal.returns-clause-leaves
 returns-clause-leaves g c = c.survey.ensures.leaves ∙ ap (λ (ps : List Part). leaves_in (heads_of ps)) (parts_are g c)
 
 pub returns-clause-compares : goal.returns-clause-compares
 returns-clause-compares g c =
-    subst (λ (ps : List Part). g.S.Shape.compares c.survey.new.shape ≤ g.S.Shape.compares c.args.shape.now + leaves_in (heads_of ps)) (parts_are g c) c.survey.ensures.compares
+    subst (λ (ps : List Part). g.S.Shape.compares c.survey.new.shape ≤ g.S.Shape.compares c.args.shape.now + leaves_in (heads_of ps)) (parts_are g c)
+    c.survey.ensures.compares

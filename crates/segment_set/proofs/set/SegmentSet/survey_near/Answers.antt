@@ -10,7 +10,9 @@ use Rattle.segment_set.proofs.set.SegmentSet.survey_near.Goals as goal
 
 parts_are : (g : given.Over) (c : goal.After-survey_near g) → c.view_of.result.0.now ≡ viewed_parts (viewed c.args.view.now) c.args.self.now
 parts_are g c =
-    looked_parts _ _ (viewed c.args.view.now) _ c.self.view_is (c.view_of.ensures.segments ∙ ap (parts_at (viewed c.args.view.now) c.self.inside.segments) c.as_slice-2.ensures.value)
+    looked_parts _ _ (viewed c.args.view.now) _ c.self.view_is
+    (c.view_of.ensures.segments ∙ ap (parts_at (viewed c.args.view.now) c.self.inside.segments) c.as_slice-2.ensures.value)
 
 pub returns : goal.returns
-returns g c = subst (λ (ps : List Part). AreNearLeaves g.row.D c.args.at.now.c c.args.bound (heads_of ps) c.survey_near.result) (parts_are g c) c.survey_near.ensures
+returns g c =
+    subst (λ (ps : List Part). AreNearLeaves g.row.D c.args.at.now.c c.args.bound (heads_of ps) c.survey_near.result) (parts_are g c) c.survey_near.ensures

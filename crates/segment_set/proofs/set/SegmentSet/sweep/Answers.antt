@@ -4,7 +4,8 @@ use Rattle.std.proofs.lemmas.List.Elements.{All-nil}
 use Rattle.segment_set.specs.Sets.{SetData}
 use Rattle.segment_set.specs.Kept.{IsNeeded}
 use Rattle.segment_set.proofs.Sizes.{set_fits}
-use Rattle.segment_set.proofs.Sweeping.{all_needed, front_before, front_still, gone_all, needed_still, swept_none, swept_then}
+use Rattle.segment_set.proofs.Sweeping.{all_needed, front_before, front_still, gone_all, swept_none, swept_then}
+use Rattle.segment_set.proofs.Needed.{needed_still}
 use Rattle.segment_set.proofs.set.SegmentSet.sweep.Goals as goal
 
 pub names-init : goal.names-init
@@ -24,7 +25,8 @@ names-preserved g c =
     record {
       seen = λ told i seen. one.seen told i (was.seen told i seen);
       faithful = λ told keeps. one.faithful told (was.faithful told keeps);
-      swept = swept_then (IsTrue g.F.Pages.told) c.args.c.now c.args.self.now c.names.self c.sweep_at.new.self (g.F.Pages.files c.args.folder.now) (g.F.Pages.files c.names.folder) (g.F.Pages.files c.sweep_at.new.folder) was.swept one.swept;
+      swept = swept_then (IsTrue g.F.Pages.told) c.args.c.now c.args.self.now c.names.self c.sweep_at.new.self (g.F.Pages.files c.args.folder.now)
+          (g.F.Pages.files c.names.folder) (g.F.Pages.files c.sweep_at.new.folder) was.swept one.swept;
       front =
           front_before c.args.self.now c.names.self c.args.c.now (take c.in_ok-place.place c.sweep_at.new.self.names.names) was.swept.alone
           (one.front (front_still c.args.self.now c.names.self c.args.c.now (take c.names.place c.names.self.names.names) was.swept.alone was.front));
@@ -49,13 +51,16 @@ returns-in_err-place-clause-faithful g c = λ told keeps. c.in_err-place.ensures
 
 pub returns-clause-swept : goal.returns-clause-swept
 returns-clause-swept g c = λ m there.
-    let le : length c.names.self.names.names ≤ c.names.place = omega (arith, c.names-test.false, ap length (c.as_slice.ensures ∙ ap (λ (u : SetData). u.names.names) c.self.view_is)) in
+    let le : length c.names.self.names.names ≤ c.names.place =
+    omega (arith, c.names-test.false, ap length (c.as_slice.ensures ∙ ap (λ (u : SetData). u.names.names) c.self.view_is)) in
     all_needed c.args.self.now c.args.c.now c.names.self.names.names c.names.place le c.names.invariant.front m there
 
 pub returns-clause-gone : goal.returns-clause-gone
 returns-clause-gone g c = λ told m there not_so.
-    let le : length c.names.self.names.names ≤ c.names.place = omega (arith, c.names-test.false, ap length (c.as_slice.ensures ∙ ap (λ (u : SetData). u.names.names) c.self.view_is)) in
-    gone_all (IsTrue g.F.Pages.told) c.args.self.now c.names.self (g.F.Pages.files c.args.folder.now) (g.F.Pages.files c.names.folder) c.args.c.now c.names.invariant.swept told
+    let le : length c.names.self.names.names ≤ c.names.place =
+    omega (arith, c.names-test.false, ap length (c.as_slice.ensures ∙ ap (λ (u : SetData). u.names.names) c.self.view_is)) in
+    gone_all (IsTrue g.F.Pages.told) c.args.self.now c.names.self (g.F.Pages.files c.args.folder.now) (g.F.Pages.files c.names.folder) c.args.c.now
+    c.names.invariant.swept told
     (all_needed c.args.self.now c.args.c.now c.names.self.names.names c.names.place le c.names.invariant.front) m there not_so
 
 pub returns-in_err-place-clause-needed : goal.returns-in_err-place-clause-needed
@@ -65,7 +70,8 @@ returns-in_err-place-clause-needed g c = λ told m need.
 
 pub returns-in_err-place-clause-others : goal.returns-in_err-place-clause-others
 returns-in_err-place-clause-others g c = λ told m none.
-    (swept_then (IsTrue g.F.Pages.told) c.args.c.now c.args.self.now c.names.self c.sweep_at.new.self (g.F.Pages.files c.args.folder.now) (g.F.Pages.files c.names.folder) (g.F.Pages.files c.sweep_at.new.folder)
+    (swept_then (IsTrue g.F.Pages.told) c.args.c.now c.args.self.now c.names.self c.sweep_at.new.self (g.F.Pages.files c.args.folder.now)
+    (g.F.Pages.files c.names.folder) (g.F.Pages.files c.sweep_at.new.folder)
     c.names.invariant.swept c.in_err-place.ensures.swept).others told m none
 
 pub returns-in_err-place-clause-named : goal.returns-in_err-place-clause-named
@@ -78,5 +84,6 @@ returns-clause-left g c = λ told m there none. c.names.invariant.swept.gone tol
 
 pub returns-in_err-place-clause-left : goal.returns-in_err-place-clause-left
 returns-in_err-place-clause-left g c = λ told m there none.
-    (swept_then (IsTrue g.F.Pages.told) c.args.c.now c.args.self.now c.names.self c.sweep_at.new.self (g.F.Pages.files c.args.folder.now) (g.F.Pages.files c.names.folder) (g.F.Pages.files c.sweep_at.new.folder)
+    (swept_then (IsTrue g.F.Pages.told) c.args.c.now c.args.self.now c.names.self c.sweep_at.new.self (g.F.Pages.files c.args.folder.now)
+    (g.F.Pages.files c.names.folder) (g.F.Pages.files c.sweep_at.new.folder)
     c.names.invariant.swept c.in_err-place.ensures.swept).gone told m there none

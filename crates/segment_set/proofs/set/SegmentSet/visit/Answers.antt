@@ -16,7 +16,8 @@ use Rattle.segment_set.proofs.Viewing.{looked_evident, looked_faithful}
 use Rattle.segment_set.proofs.set.SegmentSet.visit.Given as given
 use Rattle.segment_set.proofs.set.SegmentSet.visit.Goals as goal
 
-here : (g : given.Over) (c : goal.After-visit g) → c.view_of.result.0.now ≡ parts_at (viewed c.args.view.now) c.self.inside.segments c.self.inside.snapshots.items
+here : (g : given.Over) (c : goal.After-visit g)
+    → c.view_of.result.0.now ≡ parts_at (viewed c.args.view.now) c.self.inside.segments c.self.inside.snapshots.items
 here g c = c.view_of.ensures.segments ∙ ap (parts_at (viewed c.args.view.now) c.self.inside.segments) c.as_slice-2.ensures.value
 
 parts_are : (g : given.Over) (c : goal.After-visit g) → c.view_of.result.0.now ≡ viewed_parts (viewed c.args.view.now) c.args.self.now
@@ -29,7 +30,8 @@ buffer_is g c =
     ∙ ap (λ xs. buffer_at (viewed c.args.view.now) (items_of xs) c.as_slice-2.result.now) c.as_slice.ensures.value
     ∙ ap (buffer_at (viewed c.args.view.now) (items_of c.self.inside.buffer.items)) c.as_slice-2.ensures.value)
 
-agreed : (g : given.Over) (c : goal.After-visit g) (i : Index) → Sees g.row.D (g.F.Pages.files c.args.folder.now) c.args.self.now i → Agrees (g.F.Pages.files c.args.folder.now) c.self.inside.cache
+agreed : (g : given.Over) (c : goal.After-visit g) (i : Index) → Sees g.row.D (g.F.Pages.files c.args.folder.now) c.args.self.now i
+    → Agrees (g.F.Pages.files c.args.folder.now) c.self.inside.cache
 agreed g c i seen = subst (λ (u : SetData). Agrees (g.F.Pages.files c.args.folder.now) u.cache) (sym c.self.view_is) seen.stands.agrees
 
 pub invariant_of-self : goal.invariant_of-self
@@ -45,15 +47,22 @@ returns-clause-seen g c told i seen = looked_sees _ _ _ _ _ _ _ _ c.self.view_is
 
 pub returns-clause-tests : goal.returns-clause-tests
 returns-clause-tests g c n are =
-    let most = c.visit.ensures.tests n (subst (λ (ps : List Part). AreTested g.row.D (g.S.Shape.crosses c.args.shape.now) (heads_of ps) n) (sym (parts_are g c)) are) in
-    let long : length (viewed_buffer (viewed c.args.view.now) c.args.self.now) ≡ length c.view_of.result.1.now = ap length (sym (buffer_is g c)) ∙ length-map c.view_of.result.1.now _ in
+    let most = c.visit.ensures.tests n
+    (subst (λ (ps : List Part). AreTested g.row.D (g.S.Shape.crosses c.args.shape.now) (heads_of ps) n) (sym (parts_are g c)) are) in
+    let long : length (viewed_buffer (viewed c.args.view.now) c.args.self.now) ≡ length c.view_of.result.1.now =
+    ap length (sym (buffer_is g c)) ∙ length-map c.view_of.result.1.now _ in
     omega (arith, most, long)
 
 pub returns-clause-compares : goal.returns-clause-compares
-returns-clause-compares g c = subst (λ (ps : List Part). g.S.Shape.compares c.visit.new.shape ≤ g.S.Shape.compares c.args.shape.now + 2 * leaves_in (heads_of ps)) (parts_are g c) c.visit.ensures.compares
+returns-clause-compares g c =
+    subst (λ (ps : List Part). g.S.Shape.compares c.visit.new.shape ≤ g.S.Shape.compares c.args.shape.now + 2 * leaves_in (heads_of ps)) (parts_are g c)
+    c.visit.ensures.compares
 
 pub returns-clause-reads : goal.returns-clause-reads
-returns-clause-reads g c n are = c.visit.ensures.reads n (subst (λ (ps : List Part). AreTouched g.row.D (g.S.Shape.has c.args.shape.now) (g.S.Shape.crosses c.args.shape.now) (heads_of ps) n) (sym (parts_are g c)) are)
+returns-clause-reads g c n are =
+    c.visit.ensures.reads n
+    (subst (λ (ps : List Part). AreTouched g.row.D (g.S.Shape.has c.args.shape.now) (g.S.Shape.crosses c.args.shape.now) (heads_of ps) n) (sym (parts_are g c))
+    are)
 
 pub returns-clause-whole : goal.returns-clause-whole
 returns-clause-whole g c told i seen =
@@ -67,4 +76,5 @@ returns-clause-shown g c = subst (λ (ps : List Part). OnDamage c.visit.result (
 
 pub returns-clause-evident : goal.returns-clause-evident
 returns-clause-evident g c =
-    looked_evident g.row.D _ _ _ _ _ (viewed c.args.view.now) c.view_of.result.0.now _ _ c.visit.result c.self.view_is (parts_are g c) c.visit.ensures.calm c.visit.ensures.shown c.visit.ensures.damage
+    looked_evident g.row.D _ _ _ _ _ (viewed c.args.view.now) c.view_of.result.0.now _ _ c.visit.result c.self.view_is (parts_are g c) c.visit.ensures.calm
+    c.visit.ensures.shown c.visit.ensures.damage

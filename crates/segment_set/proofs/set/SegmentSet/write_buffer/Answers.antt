@@ -47,19 +47,26 @@ few : (g : given.Over) (c : goal.After-write_buffer g) → length c.self.inside.
 few g c = subst (λ (s : SetData). length s.parts < 200) (sym c.self.view_is) c.requires
 
 spilled : (g : given.Over) (c : goal.After-write_buffer g)
-    → OnOk c.write_buffer.result (IsSpilled g.row.D (IsTrue g.F.Pages.told) c.self.inside.leaf c.self.inside.names c.write_buffer.new.names (g.F.Pages.files c.write_buffer.new.folder) (items_of c.self.inside.buffer.items)
+    → OnOk c.write_buffer.result
+    (IsSpilled g.row.D (IsTrue g.F.Pages.told) c.self.inside.leaf c.self.inside.names c.write_buffer.new.names (g.F.Pages.files c.write_buffer.new.folder)
+    (items_of c.self.inside.buffer.items)
     c.self.inside.segments c.write_buffer.new.segments)
 spilled g c =
-    subst (λ n. OnOk c.write_buffer.result (IsSpilled g.row.D (IsTrue g.F.Pages.told) n c.self.inside.names c.write_buffer.new.names (g.F.Pages.files c.write_buffer.new.folder) (items_of c.self.inside.buffer.items)
+    subst (λ n. OnOk c.write_buffer.result
+    (IsSpilled g.row.D (IsTrue g.F.Pages.told) n c.self.inside.names c.write_buffer.new.names (g.F.Pages.files c.write_buffer.new.folder)
+    (items_of c.self.inside.buffer.items)
     c.self.inside.segments c.write_buffer.new.segments))
     (c.plan-plan.ensures.leaf ∙ sym (ap (λ (s : SetData). s.leaf) c.self.view_is)) c.write_buffer.ensures.spilled
 
-after : (g : given.Over) (c : goal.After-write_buffer g) → IsAfter g.row.D (IsTrue g.F.Pages.told) (g.F.Pages.files c.args.folder.now) (g.F.Pages.files c.write_buffer.new.folder) (was g c) (is g c)
+after : (g : given.Over) (c : goal.After-write_buffer g)
+    → IsAfter g.row.D (IsTrue g.F.Pages.told) (g.F.Pages.files c.args.folder.now) (g.F.Pages.files c.write_buffer.new.folder) (was g c) (is g c)
 after g c =
-    spill_after g.row.D (IsTrue g.F.Pages.told) (g.F.Pages.files c.args.folder.now) (g.F.Pages.files c.write_buffer.new.folder) {s = was g c} c.self.invariant c.write_buffer.new.names c.write_buffer.new.segments (items_of c.write_buffer.new.buffer.items) (few g c)
+    spill_after g.row.D (IsTrue g.F.Pages.told) (g.F.Pages.files c.args.folder.now) (g.F.Pages.files c.write_buffer.new.folder) {s = was g c} c.self.invariant
+    c.write_buffer.new.names c.write_buffer.new.segments (items_of c.write_buffer.new.buffer.items) (few g c)
     c.write_buffer.ensures.kept c.write_buffer.result
     (both_ok
-    (IsSpilled g.row.D (IsTrue g.F.Pages.told) c.self.inside.leaf c.self.inside.names c.write_buffer.new.names (g.F.Pages.files c.write_buffer.new.folder) (items_of c.self.inside.buffer.items) c.self.inside.segments c.write_buffer.new.segments)
+    (IsSpilled g.row.D (IsTrue g.F.Pages.told) c.self.inside.leaf c.self.inside.names c.write_buffer.new.names (g.F.Pages.files c.write_buffer.new.folder)
+    (items_of c.self.inside.buffer.items) c.self.inside.segments c.write_buffer.new.segments)
     (items_of c.write_buffer.new.buffer.items ≡ [])
     c.write_buffer.result (spilled g c) (on_ok_weaker c.write_buffer.result (λ none. ap items_of none) c.write_buffer.ensures.emptied))
     (on_err_weaker c.write_buffer.result (λ r. (r.0, ap items_of r.1)) c.write_buffer.ensures.refused)
@@ -83,15 +90,30 @@ write_buffer-requires-after_bounds g c = λ lifetimes outlive.
       begun = c.self.inside.begun;
       cache = c.self.inside.cache;
       saved = c.self.inside.saved;
-    }) c.self.invariant entries refl in
-    (lit< tt, (entry_fits g.row.D dims, (lit< tt, (dims, (c.self.invariant.named, (some, (omega (arith, c.self.invariant.room, items_length entries), (below, (c.self.invariant.once, c.self.invariant.sixteen)))))))))
+    }) c.self.invariant entries refl in (
+      lit< tt,
+      (
+        entry_fits g.row.D dims,
+        (
+          lit< tt,
+          (
+            dims,
+            (
+              c.self.invariant.named,
+              (some, (omega (arith, c.self.invariant.room, items_length entries), (below, (c.self.invariant.once, c.self.invariant.sixteen)))),
+            ),
+          ),
+        ),
+      ),
+    )
 
 pub returns-then-is_empty-clause-well : goal.returns-then-is_empty-clause-well
 returns-then-is_empty-clause-well g c = subst (IsWell g.row.D) c.self.view_is c.self.invariant
 
 pub returns-then-is_empty-clause-moves : goal.returns-then-is_empty-clause-moves
 returns-then-is_empty-clause-moves g c =
-    rearranges_none g.row.D (IsTrue g.F.Pages.told) (g.F.Pages.files c.args.folder.now) c.args.self.now (subst (λ (s : SetData). All (IsNamed s.names) s.parts) c.self.view_is c.self.invariant.named)
+    rearranges_none g.row.D (IsTrue g.F.Pages.told) (g.F.Pages.files c.args.folder.now) c.args.self.now
+    (subst (λ (s : SetData). All (IsNamed s.names) s.parts) c.self.view_is c.self.invariant.named)
 
 pub returns-then-is_empty-clause-emptied : goal.returns-then-is_empty-clause-emptied
 returns-then-is_empty-clause-emptied g c =
@@ -101,14 +123,17 @@ returns-then-is_empty-clause-emptied g c =
 pub invariant_of-self : goal.invariant_of-self
 invariant_of-self g c = (after g c).well
 
-moves : (g : given.Over) (c : goal.After-write_buffer g) → Rearranges g.row.D (IsTrue g.F.Pages.told) (g.F.Pages.files c.args.folder.now) (g.F.Pages.files c.write_buffer.new.folder) (was g c) (is g c)
+moves : (g : given.Over) (c : goal.After-write_buffer g)
+    → Rearranges g.row.D (IsTrue g.F.Pages.told) (g.F.Pages.files c.args.folder.now) (g.F.Pages.files c.write_buffer.new.folder) (was g c) (is g c)
 moves g c =
-    rearranges_after g.row.D (IsTrue g.F.Pages.told) (g.F.Pages.files c.args.folder.now) (g.F.Pages.files c.write_buffer.new.folder) {s = was g c} c.write_buffer.new.names c.write_buffer.new.segments (items_of c.write_buffer.new.buffer.items) c.self.inside.cache
+    rearranges_after g.row.D (IsTrue g.F.Pages.told) (g.F.Pages.files c.args.folder.now) (g.F.Pages.files c.write_buffer.new.folder) {s = was g c}
+    c.write_buffer.new.names c.write_buffer.new.segments (items_of c.write_buffer.new.buffer.items) c.self.inside.cache
     c.write_buffer.ensures.kept (after g c)
 
 pub returns-clause-moves : goal.returns-clause-moves
 returns-clause-moves g c =
-    subst (λ (s : SetData). Rearranges g.row.D (IsTrue g.F.Pages.told) (g.F.Pages.files c.args.folder.now) (g.F.Pages.files c.write_buffer.new.folder) s (is g c)) c.self.view_is (moves g c)
+    subst (λ (s : SetData). Rearranges g.row.D (IsTrue g.F.Pages.told) (g.F.Pages.files c.args.folder.now) (g.F.Pages.files c.write_buffer.new.folder) s
+    (is g c)) c.self.view_is (moves g c)
 
 pub returns-then-is_empty-clause-faithful : goal.returns-then-is_empty-clause-faithful
 returns-then-is_empty-clause-faithful g c = λ told faithful. faithful
@@ -116,8 +141,10 @@ returns-then-is_empty-clause-faithful g c = λ told faithful. faithful
 -- the cache stays, and the files of which it keeps pages are named
 pub returns-clause-faithful : goal.returns-clause-faithful
 returns-clause-faithful g c = λ told faithful.
-    faithful_rearranged g.row.D (IsTrue g.F.Pages.told) (g.F.Pages.files c.args.folder.now) (g.F.Pages.files c.write_buffer.new.folder) (was g c) (is g c) c.self.invariant (moves g c) told
-    (agrees_other (g.F.Pages.files c.args.folder.now) (g.F.Pages.files c.write_buffer.new.folder) c.self.inside.cache (λ id kept. c.write_buffer.ensures.kept.files told (Segment id) (c.self.invariant.cached id kept)))
+    faithful_rearranged g.row.D (IsTrue g.F.Pages.told) (g.F.Pages.files c.args.folder.now) (g.F.Pages.files c.write_buffer.new.folder) (was g c) (is g c)
+    c.self.invariant (moves g c) told
+    (agrees_other (g.F.Pages.files c.args.folder.now) (g.F.Pages.files c.write_buffer.new.folder) c.self.inside.cache
+    (λ id kept. c.write_buffer.ensures.kept.files told (Segment id) (c.self.invariant.cached id kept)))
     (subst (IsFaithful g.row.D (g.F.Pages.files c.args.folder.now)) (sym c.self.view_is) faithful)
 
 pub returns-clause-one_more : goal.returns-clause-one_more
@@ -141,12 +168,15 @@ returns-then-is_empty-clause-spills g c = inl refl
 
 pub returns-clause-spills : goal.returns-clause-spills
 returns-clause-spills g c = on_ok_weaker c.write_buffer.result
-    (λ h. inr (spills_moved g.row.D (IsTrue g.F.Pages.told) (g.F.Pages.files c.args.folder.now) (g.F.Pages.files c.write_buffer.new.folder) c.args.self.now (was g c) c.self.view_is c.write_buffer.new.names c.write_buffer.new.segments (items_of c.write_buffer.new.buffer.items) h.0 h.1))
+    (λ h. inr (spills_moved g.row.D (IsTrue g.F.Pages.told) (g.F.Pages.files c.args.folder.now) (g.F.Pages.files c.write_buffer.new.folder) c.args.self.now
+    (was g c) c.self.view_is c.write_buffer.new.names c.write_buffer.new.segments (items_of c.write_buffer.new.buffer.items) h.0 h.1))
     (both_ok
-    (IsSpilled g.row.D (IsTrue g.F.Pages.told) c.self.inside.leaf c.self.inside.names c.write_buffer.new.names (g.F.Pages.files c.write_buffer.new.folder) (items_of c.self.inside.buffer.items) c.self.inside.segments c.write_buffer.new.segments)
+    (IsSpilled g.row.D (IsTrue g.F.Pages.told) c.self.inside.leaf c.self.inside.names c.write_buffer.new.names (g.F.Pages.files c.write_buffer.new.folder)
+    (items_of c.self.inside.buffer.items) c.self.inside.segments c.write_buffer.new.segments)
     (items_of c.write_buffer.new.buffer.items ≡ [])
     c.write_buffer.result (spilled g c) (on_ok_weaker c.write_buffer.result (λ none. ap items_of none) c.write_buffer.ensures.emptied))
 
 pub returns-clause-refused : goal.returns-clause-refused
 returns-clause-refused g c = on_err_weaker c.write_buffer.result
-    (λ r. before_moved c.args.self.now (was g c) c.self.view_is c.write_buffer.new.names c.write_buffer.new.segments (items_of c.write_buffer.new.buffer.items) c.self.inside.cache r.0 (ap items_of r.1)) c.write_buffer.ensures.refused
+    (λ r. before_moved c.args.self.now (was g c) c.self.view_is c.write_buffer.new.names c.write_buffer.new.segments (items_of c.write_buffer.new.buffer.items)
+    c.self.inside.cache r.0 (ap items_of r.1)) c.write_buffer.ensures.refused

@@ -9,4 +9,5 @@ pub returns : goal.returns
 returns g c =
     c.has_id.ensures
     ∙ ap (λ (hs : List Head). is_among (map (λ h. h.id) hs) c.args.id) c.as_slice.ensures.value
-    ∙ ap (λ (ns : List ℕ). is_among ns c.args.id) (sym (ids_parts c.self.inside.heads.items c.self.inside.lives.items c.self.invariant.same) ∙ ap ids_of c.self.view_is)
+    ∙ ap (λ (ns : List ℕ). is_among ns c.args.id)
+    (sym (ids_parts c.self.inside.heads.items c.self.inside.lives.items c.self.invariant.same) ∙ ap ids_of c.self.view_is)
