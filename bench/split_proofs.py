@@ -4,11 +4,11 @@
 usage: bench/split_proofs.py FILE NEW FROM TO COMMENT [LOCAL..]     at the top of the checkout
 
 FILE is crates/CRATE/proofs/OLD.antt, and NEW names the new module. What is moved goes from the section (`-- ---- ..`)
-whose title begins with FROM up to the one that begins with TO: `^` is the first declaration, `$` the end. COMMENT is the
-new file's first line. Both files keep the imports that they use, and one imports of the other; what is imported becomes
-`pub`. Imports of moved names in all crates are changed, and Lib.antt gets the module. Names are found by their spelling:
-LOCAL are names that FILE declares and that elsewhere in it are variables. Where each part needs the other nothing is
-changed. What a proof opens (`unfolding`) has to stand in its own module or be unfoldable, and is told.
+whose title begins with FROM up to the one that begins with TO: `^` is the first declaration, `$` the end. COMMENT is
+the new file's first line. Both files keep the imports that they use, and one imports of the other; what is imported
+becomes `pub`. Imports of moved names in all crates are changed, and Lib.antt gets the module. Names are found by their
+spelling: LOCAL are names that FILE declares and that elsewhere in it are variables. Where each part needs the other
+nothing is changed. What a proof opens (`unfolding`) has to stand in its own module or be unfoldable, and is told.
 """
 import glob
 import os
@@ -193,8 +193,8 @@ def main():
     for it in [path, new_path] + [it for it in changed if it.endswith(".antt")]:
         wrap(it)
     subprocess.run([RATTLE, "fmt", "--write", path, new_path, *changed], check=True)
-    print("%d and %d lines; changed besides: %s" % (len(read(path).split("\n")) - 1, len(read(new_path).split("\n")) - 1,
-                                                  " ".join(changed) or "-"))
+    lengths = tuple(len(read(it).splitlines()) for it in (path, new_path))
+    print("%d and %d lines; changed besides: %s" % (*lengths, " ".join(changed) or "-"))
 
 
 if __name__ == "__main__":
