@@ -42,7 +42,9 @@ def trimmed(lines):
 
 
 def words_of(lines):
-    return set(re.findall(NAME, "\n".join(re.sub(r"(^|\s)-- .*$", "", line) for line in lines)))
+    """The words of lines but for comments and names of fields."""
+    text = "\n".join(re.sub(r"(^|\s)-- .*$", "", line) for line in lines)
+    return set(re.findall(NAME, re.sub(r"(?<=[^\s.])\.%s" % NAME, "", text)))
 
 
 def is_said(name, words):
