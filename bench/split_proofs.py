@@ -4,11 +4,12 @@
 usage: bench/split_proofs.py FILE NEW FROM TO COMMENT [LOCAL..]     at the top of the checkout
 
 FILE is crates/CRATE/proofs/OLD.antt, and NEW names the new module. What is moved goes from the section (`-- ---- ..`)
-whose title begins with FROM up to the one that begins with TO: `^` is the first declaration, `$` the end. COMMENT is
-the new file's first line. Both files keep the imports that they use, and one imports of the other; what is imported
-becomes `pub`. Imports of moved names in all crates are changed, and Lib.antt gets the module. Names are found by their
-spelling: LOCAL are names that FILE declares and that elsewhere in it are variables. Where each part needs the other
-nothing is changed. What a proof opens (`unfolding`) has to stand in its own module or be unfoldable, and is told.
+whose title begins with FROM up to the one that begins with TO: `^` is the first declaration, `$` the end, a number a
+line. COMMENT is the new file's first line. Both files keep the imports that they use, and one imports of the other;
+what is imported becomes `pub`. Imports of moved names in all crates are changed, and Lib.antt gets the module. Names
+are found by their spelling: LOCAL are names that FILE declares and that elsewhere in it are variables. Where each part
+needs the other nothing is changed. What a proof opens (`unfolding`) has to stand in its own module or be unfoldable,
+and is told.
 """
 import glob
 import os
@@ -111,6 +112,8 @@ class File:
         self.moved, self.before, self.behind = self.lines[first:last], self.lines[at:first], self.lines[last:]
 
     def section(self, title):
+        if title.isdigit():
+            return int(title) - 1
         found = [i for i, line in enumerate(self.lines) if line.startswith("-- ---- " + title)]
         if len(found) != 1:
             sys.exit("%d sections begin with %s" % (len(found), title))
