@@ -19,7 +19,7 @@ use Rattle.segment_view.specs.Parts.{Part}
 use Rattle.segment_view.specs.Held.{HasOwnHead}
 use Rattle.segment_view.specs.Damages.{IsPartDamage}
 use Rattle.index_opening.specs.Evidence.{IsEvident, IsHeadIn, IsTwice}
-use Rattle.index_opening.proofs.LeafEvident.{on_part_evident}
+use Rattle.index_opening.proofs.Evident.{on_part_evident}
 use Rattle.script_lang.specs.Replies.{line_fault_text, refusal_text}
 use Rattle.script_lang.specs.declared.faults.LineFault.{LineFault}
 use Rattle.point_counts.specs.Grids.{Judges, Plan}

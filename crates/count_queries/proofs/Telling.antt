@@ -6,7 +6,7 @@ use Rattle.point_codec.specs.Points.{Item, Region}
 use Rattle.cell_relate.specs.Boxes.{crosses}
 use Rattle.inner_pack.specs.Trees.{IndexTree}
 use Rattle.inner_pack.specs.Bodies.{HasTree}
-use Rattle.inner_pack.proofs.OneIndex.{one_index}
+use Rattle.inner_pack.proofs.OneTree.{one_index}
 use Rattle.segment_file.specs.Segments.{IsSegment}
 use Rattle.segment_view.specs.Parts.{AreRead, Contents, IsRead, Part, live_in_parts}
 use Rattle.point_counts.specs.Grids.{IsGrid, Plan, number_in}

@@ -23,7 +23,8 @@ use Rattle.segment_file.specs.Heads.{Head}
 use Rattle.segment_set.specs.Sets.{SetData}
 use Rattle.explain_queries.specs.Explained.{Scope, Tells, TellsLine, TellsNear, TellsOn, TellsReading, TellsShape, Told, refusal}
 use Rattle.explain_queries.specs.Explains.{InScope, IsExplaining, IsTold}
-use Rattle.explain_queries.proofs.Explaining.{Telling, tells_from, tells_shape, tells_to}
+use Rattle.explain_queries.proofs.Explaining.{Telling, tells_from, tells_to}
+use Rattle.explain_queries.proofs.ShapesTold.{tells_shape}
 use Rattle.explain_queries.proofs.Nearby.{tells_near}
 
 some_inj : {X : Type 0} (x y : X) → Some x ≡ Some y → x ≡ y

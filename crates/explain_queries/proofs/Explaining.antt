@@ -1,15 +1,20 @@
 -- What is told of a line, by what the calls on the set answered.
-use Rattle.std.proofs.Common.{◌≡◌, ◌≤◌, ◌+◌, ◌++◌, ℕ, Bool, true, false, cond, List, length, Some, Result}
-use Rattle.std.proofs.Common.{Ok, Err, OnErr, IfOk, IsErrOf, ◌≢◌, refl, sym, ap, subst, ◌∙◌, arith, ℤ}
+use Rattle.std.proofs.Common.{◌≡◌, ◌≤◌, ◌+◌, ◌-◌, ◌++◌, ℕ, zero, suc, slice_get, Bool, true, false, cond, nat_lt, List, [], ◌∷◌}
+use Rattle.std.proofs.Common.{length, Some, None, Result, Ok, Err, OnErr, IfOk, IsErrOf, ◌≢◌, refl, sym, ap, subst, ◌∙◌, arith, ℤ}
+use Rattle.std.specs.List.{last_or}
+use Rattle.std.proofs.lemmas.Bool.Decides.{nat_tests}
 use Rattle.outer_io.specs.Files.{Files}
 use Rattle.point_codec.specs.Points.{Region}
 use Rattle.page_cache.specs.declared.faults.PageFault.{PageFault}
 use Rattle.page_cache.specs.declared.faults.PageFault.TheVariants as page
 use Rattle.page_cache.specs.Causes.{HasPageCause}
 use Rattle.page_cache.specs.Evidence.{NotDamaged, OnDamage}
-use Rattle.documents.specs.Documents.{hits}
+use Rattle.documents.specs.Nearest.{found_of}
+use Rattle.nearest_query.specs.Segments.{bound_of, last_of}
+use Rattle.std.proofs.lemmas.List.{length-map}
+use Rattle.point_codec.specs.declared.entries.Near.{Near}
 use Rattle.segment_file.specs.Heads.{Head}
-use Rattle.segment_view.specs.Costs.{AreTested, AreTouched}
+use Rattle.segment_view.specs.Costs.{AreTouched}
 use Rattle.segment_view.specs.Parts.{heads_of}
 use Rattle.index_model.specs.State.{Index, State}
 use Rattle.std.specs.Option.{option_map}
@@ -24,8 +29,8 @@ use Rattle.segment_set.specs.Seen.{Sees}
 use Rattle.segment_set.specs.Kept.{StaysButCache}
 use Rattle.index_opening.specs.Evidence.{IsEvident}
 use Rattle.segment_set.specs.Faithful.{IsFaithful}
-use Rattle.explain_queries.specs.Explained.{Scope, Tells, TellsIn, TellsLine, TellsOn, TellsReading, TellsShape, Told, refusal, shape_text}
-use Rattle.explain_queries.specs.Explains.{Explains, InScope, IsExplaining, IsTold, Place}
+use Rattle.explain_queries.specs.Explained.{Scope, Tells, TellsIn, TellsLine, TellsOn, TellsReading, Told, reach, refusal}
+use Rattle.explain_queries.specs.Explains.{Explains, IsExplaining, IsTold, Place}
 
 pub some_inj : {X : Type 0} (x y : X) → Some x ≡ Some y → x ≡ y
 some_inj x y e = cc
@@ -170,43 +175,6 @@ explains_done D told tells old new x looks tells_so = record {
   evident = tt;
 }
 
--- ---- shapes
-
--- a shape's own telling over the index that is looked at
-abbrev pub tells_shape : (has : List ℤ → Bool) (crosses : Region → Bool) → Telling
-tells_shape has crosses = λ s t. InScope s (λ i u. TellsShape i.dims s.heads i.docs has crosses u) t
-
--- the leaves that it touches are those of the set
-pub shape_touches : (D : ℕ) (files : Files) (set : SetData) (has : List ℤ → Bool) (crosses : Region → Bool) (s : Scope) (t : Told) → IsExplaining D files set s
-    → tells_shape has crosses s t
-    → AreTouched D has crosses (heads_of set.parts) t.touched
-shape_touches D files set has crosses s t e (i, is, tells) =
-    subst (λ (hs : List Head). AreTouched D has crosses hs t.touched) (sym e.heads)
-    (subst (λ n. AreTouched n has crosses s.heads t.touched) (ap (λ (j : Index). j.dims) (some_inj i e.index (sym is ∙ e.state)) ∙ e.seen.dims) tells.touches)
-
--- it is told as the survey and the visit answer
-pub shape_told : (D : ℕ) (files : Files) (set : SetData) (has : List ℤ → Bool) (crosses : Region → Bool) (tested touched found : ℕ) (before after : List ℕ)
-    (s : Scope) (e : IsExplaining D files set s)
-    → AreTested D crosses (heads_of set.parts) tested → AreTouched D has crosses (heads_of set.parts) touched → found ≡ length (hits has e.index.docs)
-    → after ≡ before ++ shape_text tested touched found → IsTold (tells_shape has crosses s) before after false
-shape_told D files set has crosses tested touched found before after s e tests touches count grew = record {
-  told = record { text = shape_text tested touched found; refused = 0; touched = touched };
-  tells = (
-    e.index,
-    e.state,
-    record {
-      tested = tested;
-      tests = subst (λ n. AreTested n crosses s.heads tested) (sym e.seen.dims) (subst (λ (hs : List Head). AreTested D crosses hs tested) e.heads tests);
-      touches = subst (λ n. AreTouched n has crosses s.heads touched) (sym e.seen.dims)
-          (subst (λ (hs : List Head). AreTouched D has crosses hs touched) e.heads touches);
-      text = ap (shape_text tested touched) count;
-      done = refl;
-    },
-  );
-  text = grew;
-  refused = refl;
-}
-
 -- ---- a line of the script
 
 -- what is told of a request is told of the index that is looked at
@@ -273,3 +241,45 @@ fault_read request fault.Dims reading other agrees = agrees
 fault_read request fault.LeafSize reading other agrees = agrees
 fault_read request fault.BadK reading other agrees = agrees
 fault_read request (fault.Geo g) reading other agrees = agrees
+
+-- ---- the nearest
+
+-- how far a query goes, by what is found or by its distances and numbers
+pub reach_is : (k : ℕ) (found : List Near) → reach k (found_of found) ≡ bound_of k found
+reach_is k found = by (nat_lt (length (found_of found)) k) (nat_lt (length found) k) (ap (λ n. nat_lt n k) (length-map found (λ (n : Near). (n.dist2, n.doc))))
+  where
+    last_is : (ns : List Near) → option_map (λ (f : ℕ × ℕ). f.0) (last_or None (found_of ns)) ≡ last_of ns
+    last_is [] = refl
+    last_is (n ∷ []) = refl
+    last_is (n ∷ (m ∷ ns)) = last_is (m ∷ ns)
+
+    by : (a b : Bool) → a ≡ b → cond a None (option_map (λ (f : ℕ × ℕ). f.0) (last_or None (found_of found))) ≡ cond b None (last_of found)
+    by true true e = refl
+    by false false e = last_is found
+    by true false e = absurd cc
+    by false true e = absurd cc
+
+-- the last of those found
+last_at : (found : List Near) (i : ℕ) (last : Near) → length found ≡ i + 1 → slice_get found i ≡ Some last → last_of found ≡ Some last.dist2
+last_at [] i last long is = absurd (omega (arith, long))
+last_at (n ∷ []) zero last long is = ap (λ (m : Near). Some m.dist2) (some_inj n last is)
+last_at (n ∷ []) (suc i) last long is = absurd (omega (arith, long))
+last_at (n ∷ (m ∷ ns)) zero last long is = absurd (omega (arith, long))
+last_at (n ∷ (m ∷ ns)) (suc i) last long is = last_at (m ∷ ns) i last (omega (arith, long)) is
+
+-- where as many are found as are asked for, a query goes as far as the last
+pub reach_last : (k : ℕ) (found : List Near) (last : Near) → 1 ≤ length found → k ≤ length found → slice_get found (length found - 1) ≡ Some last
+    → Some last.dist2 ≡ reach k (found_of found)
+reach_last k found last some enough is =
+    let at : last_of found ≡ Some last.dist2 = last_at found (length found - 1) last (omega (arith, some)) is in
+    let far : bound_of k found ≡ last_of found = ap (λ (b : Bool). cond b None (last_of found)) (not_less (length found) k enough) in
+    sym (reach_is k found ∙ far ∙ at)
+  where
+    not_less : (m n : ℕ) → n ≤ m → nat_lt m n ≡ false
+    not_less m n le = grind (arith, nat_tests)
+
+-- a shape that answers as another one did
+pub touched_as : (D : ℕ) (has other : List ℤ → Bool) (crosses others : Region → Bool) (heads : List Head) (n : ℕ) → other ≡ has → others ≡ crosses
+    → AreTouched D has crosses heads n → AreTouched D other others heads n
+touched_as D has other crosses others heads n same crossed is =
+    subst (λ (f : List ℤ → Bool). AreTouched D f others heads n) (sym same) (subst (λ (f : Region → Bool). AreTouched D has f heads n) (sym crossed) is)

@@ -1,5 +1,5 @@
 pub mod Explaining
-pub mod Reaches
+pub mod ShapesTold
 pub mod Sizes
 pub mod There
 pub mod Nearby

@@ -12,8 +12,7 @@ use Rattle.segment_set.specs.Sets.{SetData}
 use Rattle.segment_set.specs.Seen.{entries_seen}
 use Rattle.explain_queries.specs.Explained.{Scope, TellsNear, Told, near_text, reach}
 use Rattle.explain_queries.specs.Explains.{InScope, IsExplaining, IsTold}
-use Rattle.explain_queries.proofs.Explaining.{Telling}
-use Rattle.explain_queries.proofs.Reaches.{reach_is}
+use Rattle.explain_queries.proofs.Explaining.{Telling, reach_is}
 use Rattle.explain_queries.proofs.There.{are_nearest, there, there_found}
 
 some_inj : {X : Type 0} (x y : X) → Some x ≡ Some y → x ≡ y

@@ -1,28 +1,37 @@
 -- A damage is shown by what it carries and is true of the files, from what the crates below say of it.
-use Rattle.std.proofs.Common.{◌≡◌, ℕ, ◌≤◌, List, Result, Ok, Err, sym, subst, inl, inr, arith}
-use Rattle.std.proofs.Math.Logic.{∥∥₁_elim, ∥∥₁_prop}
+use Rattle.std.proofs.Common.{◌≡◌, ◌≢◌, ℕ, ◌≤◌, ◌<◌, List, Result, Ok, Err, sym, subst, inl, inr, arith}
+use Rattle.std.proofs.Math.Logic.{∥∥₁_elim, ∥∥₁_map, ∥∥₁_prop}
 use Rattle.std.proofs.lemmas.Grind.{merely}
-use Rattle.std.specs.List.{Contains}
+use Rattle.std.specs.List.{All, Contains}
+use Rattle.std.proofs.lemmas.List.Elements.{All-contains}
 use Rattle.outer_io.specs.declared.file_name.FileName.{FileName}
 use Rattle.outer_io.specs.declared.file_name.FileName.TheVariants.{Commit, CommitNew, Segment, Live}
 use Rattle.outer_io.specs.Files.{Files, bytes_of}
+use Rattle.point_codec.specs.Points.{Region}
 use Rattle.live_bits.specs.LiveSet.{LiveSet}
-use Rattle.page_cache.specs.Evidence.{OnDamage, NotDamaged, IsShown, IsSizeOf}
+use Rattle.page_cache.specs.Evidence.{OnDamage, NotDamaged, IsCut, IsShown, IsSizeOf}
 use Rattle.page_cache.specs.declared.faults.Damage.{Damage}
 use Rattle.page_cache.specs.declared.faults.Damage.TheVariants.{Page, Leaf, Body, Missing, Size, Unequal, Beyond, Doubled}
 use Rattle.page_cache.specs.declared.faults.PageFault.{PageFault}
 use Rattle.page_cache.specs.declared.faults.PageFault.TheVariants.{Failed, Damaged, Memory}
 use Rattle.page_cache.proofs.Damages.{on_damage_weaker}
+use Rattle.inner_pack.specs.Places.{front}
+use Rattle.inner_pack.specs.Trees.{IndexTree}
+use Rattle.inner_pack.specs.Bodies.{HasTree}
 use Rattle.commit_list.specs.declared.listed.Listed.{Listed}
 use Rattle.commit_list.specs.Commits.{CommitData}
 use Rattle.commit_list.specs.CommitFiles.{IsCommitFile, AsksCommit, IsCommitDamage, IsCommitDamageOf}
 use Rattle.segment_file.specs.Heads.{Head, HasRanges}
-use Rattle.segment_file.specs.Damages.{AsksFor, IsHeadDamage, IsHeadDamageOf, IsLiveDamage, IsLiveDamageOf}
+use Rattle.segment_file.specs.Damages.{AsksFor, IsHeadDamage, IsHeadDamageOf, IsLeafDamage, IsLeafDamageOf, IsLiveDamage, IsLiveDamageOf}
+use Rattle.segment_file.proofs.Cut.{not_cut}
 use Rattle.stored_index.specs.Segments.{places}
 use Rattle.stored_index.specs.Stored.{HaveLive}
-use Rattle.index_opening.specs.Damages.{IsAttachDamage, IsAttachDamageOf, IsMisplaced, IsUnequal, IsUnequalOf}
+use Rattle.segment_view.specs.Parts.{Part}
+use Rattle.segment_view.specs.Damages.{IsPartDamage}
+use Rattle.index_opening.specs.Damages.{IsAttachDamage, IsAttachDamageOf, IsMisplaced, IsUnequalOf}
 use Rattle.index_opening.specs.Evidence.{AsksPages, HasNoBody, InHead, InList, InSets, IsEvident, IsEvidentWith}
 use Rattle.index_opening.specs.Evidence.{IsHeadIn, IsListed, IsTrueDamage, IsTrueOf, IsTwice, LacksLeaf, OfFiles}
+use Rattle.index_opening.proofs.ListedShows.{attach_shows}
 
 -- ---- of the same files, where more is told
 
@@ -80,61 +89,63 @@ on_evident_twice V W S T files r back more =
     on_damage_weaker r (IsEvidentWith V S files) (IsEvidentWith W T files) (λ d h. evident_twice V W S T files d back more h)
 
 -- what is told of the files counts in an answer
-pub on_told : {X : Type 0} (T : Type 0) (r : Result X PageFault) (P Q R : Damage → Type 0) → ((d : Damage) → (T → P d) → Q d → R d) → (T → OnDamage r P)
+on_told : {X : Type 0} (T : Type 0) (r : Result X PageFault) (P Q R : Damage → Type 0) → ((d : Damage) → (T → P d) → Q d → R d) → (T → OnDamage r P)
     → OnDamage r Q → OnDamage r R
 on_told T (Ok x) P Q R f h k = tt
 on_told T (Err Failed) P Q R f h k = tt
 on_told T (Err (Damaged d)) P Q R f h k = f d h k
 on_told T (Err Memory) P Q R f h k = tt
 
--- ---- the segments that a commit lists
+-- ---- a leaf
 
-head_shows : (P : ℕ → Head → Type 0) (id : ℕ) (d : Damage) → IsHeadDamage id d → IsShown (LacksLeaf P) HasNoBody d
-head_shows P id (Page file number bytes) h = h.1
-head_shows P id (Missing file) h = tt
-head_shows P id (Size file size needed) h = h.1
-head_shows P id (Body file bytes) h = subst (λ (name : FileName). HasNoBody name bytes) (sym h.0) h.1
-head_shows P id (Unequal file said found) h = h.1
-head_shows P id (Leaf file number offset len bytes) h = absurd h
-head_shows P id (Beyond doc next) h = absurd h
-head_shows P id (Doubled doc) h = absurd h
-
-live_shows : (P : ℕ → Head → Type 0) (segment generation : ℕ) (d : Damage) → IsLiveDamage segment generation d → IsShown (LacksLeaf P) HasNoBody d
-live_shows P segment generation (Page file number bytes) h = h.1
-live_shows P segment generation (Missing file) h = tt
-live_shows P segment generation (Size file size needed) h = h.1
-live_shows P segment generation (Body file bytes) h = subst (λ (name : FileName). HasNoBody name bytes) (sym h.0) h.1
-live_shows P segment generation (Unequal file said found) h = absurd h
-live_shows P segment generation (Leaf file number offset len bytes) h = absurd h
-live_shows P segment generation (Beyond doc next) h = absurd h
-live_shows P segment generation (Doubled doc) h = absurd h
-
-unequal_shows : (P : ℕ → Head → Type 0) (s : Listed) (d : Damage) → IsUnequal s d → IsShown (LacksLeaf P) HasNoBody d
-unequal_shows P s (Unequal file said found) h = h.1
-unequal_shows P s (Page file number bytes) h = absurd h
-unequal_shows P s (Leaf file number offset len bytes) h = absurd h
-unequal_shows P s (Body file bytes) h = absurd h
-unequal_shows P s (Missing file) h = absurd h
-unequal_shows P s (Size file size needed) h = absurd h
-unequal_shows P s (Beyond doc next) h = absurd h
-unequal_shows P s (Doubled doc) h = absurd h
-
-misplaced_shows : (P : ℕ → Head → Type 0) (beyond doubled : ℕ → Type 0) (n : ℕ) (d : Damage) → IsMisplaced beyond doubled n d
+leaf_shows : (P : ℕ → Head → Type 0) (D : ℕ) (head : Head) (root : Region) (tree : IndexTree) → P D head → HasTree D head.index root tree → (d : Damage)
+    → IsLeafDamage D head 0 front tree d
     → IsShown (LacksLeaf P) HasNoBody d
-misplaced_shows P beyond doubled n (Beyond doc next) h = omega (arith, h.0, h.1)
-misplaced_shows P beyond doubled n (Doubled doc) h = tt
-misplaced_shows P beyond doubled n (Page file number bytes) h = absurd h
-misplaced_shows P beyond doubled n (Leaf file number offset len bytes) h = absurd h
-misplaced_shows P beyond doubled n (Body file bytes) h = absurd h
-misplaced_shows P beyond doubled n (Missing file) h = absurd h
-misplaced_shows P beyond doubled n (Size file size needed) h = absurd h
-misplaced_shows P beyond doubled n (Unequal file said found) h = absurd h
+leaf_shows P D head root tree is has (Page file number bytes) h =
+    subst (λ (name : FileName). IsShown (LacksLeaf P) HasNoBody (Page name number bytes)) (sym h.0) h.1
+leaf_shows P D head root tree is has (Leaf file number offset len bytes) h = (
+  (subst (λ (name : FileName). IsShown (λ file page from long part. Unit {0}) HasNoBody (Leaf name number offset len bytes)) (sym h.0) (h.1, tt)).0,
+  record { D = D; head = head; is = is; root = root; tree = tree; has = has; file_is = h.0; none = h.2 },
+)
+leaf_shows P D head root tree is has (Size file size needed) h = let short : size < needed = h.1 in let apart : size ≢ needed = omega arith in apart
+leaf_shows P D head root tree is has (Body file bytes) h = absurd h
+leaf_shows P D head root tree is has (Missing file) h = absurd h
+leaf_shows P D head root tree is has (Unequal file said found) h = absurd h
+leaf_shows P D head root tree is has (Beyond doc next) h = absurd h
+leaf_shows P D head root tree is has (Doubled doc) h = absurd h
 
-attach_shows : (P : ℕ → Head → Type 0) (c : CommitData) (d : Damage) → IsAttachDamage c d → IsShown (LacksLeaf P) HasNoBody d
-attach_shows P c d (inl (s, there, inl h)) = head_shows P s.segment d h
-attach_shows P c d (inl (s, there, inr (inl h))) = live_shows P s.segment s.generation d h
-attach_shows P c d (inl (s, there, inr (inr h))) = unequal_shows P s d h
-attach_shows P c d (inr h) = misplaced_shows P (λ doc. Unit {0}) (λ doc. Unit {0}) c.next d h
+-- the head is that of its file, which has the pages of all leaves then
+leaf_carried : (W : ℕ → Type 0) (D : ℕ) (files : Files) (head : Head) (root : Region) (tree : IndexTree) → IsHeadIn files D head
+    → HasTree D head.index root tree → (d : Damage) → IsLeafDamage D head 0 front tree d
+    → IsLeafDamageOf files d → IsTrueOf W files d
+leaf_carried W D files head root tree is has (Page file number bytes) shown h = h
+leaf_carried W D files head root tree is has (Leaf file number offset len bytes) shown h = h
+leaf_carried W D files head root tree is has (Size file size needed) shown h =
+    absurd (not_cut D files head root tree size needed is has shown.2 (subst (λ (name : FileName). IsCut files name size needed) shown.0 h))
+leaf_carried W D files head root tree is has (Body file bytes) shown h = absurd h
+leaf_carried W D files head root tree is has (Missing file) shown h = absurd h
+leaf_carried W D files head root tree is has (Unequal file said found) shown h = absurd h
+leaf_carried W D files head root tree is has (Beyond doc next) shown h = absurd h
+leaf_carried W D files head root tree is has (Doubled doc) shown h = absurd h
+
+-- of a segment that is read, whose head is that of its file
+pub part_evident : (W : ℕ → Type 0) (T : Type 0) (D : ℕ) (files : Files) (parts : List Part) (d : Damage)
+    → (T → All (λ (q : Part). ∥ IsHeadIn files D q.head ∥₁) parts) → (T → IsLeafDamageOf files d) → IsPartDamage D parts d → IsEvidentWith W T files d
+part_evident W T D files parts d heads truth (p, there, read) = record {
+  shows = ∥∥₁_map read (λ r. leaf_shows HasRanges D p.head r.root r.tree r.ranges r.has d r.shows);
+  of_files = λ t. record {
+    shows = ∥∥₁_elim (All-contains (λ (q : Part). ∥ IsHeadIn files D q.head ∥₁) parts p (heads t) there) ∥∥₁_prop
+        (λ is. ∥∥₁_map read (λ r. leaf_shows (IsHeadIn files) D p.head r.root r.tree is r.has d r.shows));
+    carries = ∥∥₁_elim (All-contains (λ (q : Part). ∥ IsHeadIn files D q.head ∥₁) parts p (heads t) there) ∥∥₁_prop
+        (λ is. ∥∥₁_map read (λ r. leaf_carried W D files p.head r.root r.tree is r.has d r.shows (truth t)));
+  };
+}
+
+pub on_part_evident : {X : Type 0} (W : ℕ → Type 0) (T : Type 0) (D : ℕ) (files : Files) (parts : List Part) (r : Result X PageFault)
+    → (T → All (λ (q : Part). ∥ IsHeadIn files D q.head ∥₁) parts) → (T → OnDamage r (IsLeafDamageOf files))
+    → OnDamage r (IsPartDamage D parts) → OnDamage r (IsEvidentWith W T files)
+on_part_evident W T D files parts r heads =
+    on_told T r (IsLeafDamageOf files) (IsPartDamage D parts) (IsEvidentWith W T files) (λ d truth read. part_evident W T D files parts d heads truth read)
 
 pub segment_listed : (files : Files) (c : CommitData) (s : Listed) (file : FileName) → IsCommitFile (bytes_of (files Commit)) c
     → Contains c.listed s → file ≡ Segment s.segment → IsListed files file

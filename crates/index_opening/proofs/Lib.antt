@@ -2,5 +2,5 @@ pub mod Ordered
 pub mod First
 pub mod Listed
 pub mod Evident
-pub mod LeafEvident
+pub mod ListedShows
 pub mod Named

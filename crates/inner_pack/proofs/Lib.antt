@@ -8,6 +8,6 @@ pub mod PackWhole
 pub mod PlaceLemmas
 pub mod SpelledLemmas
 pub mod OneTree
-pub mod OneIndex
+pub mod SameNodes
 pub mod Walking
 pub mod Nested

@@ -18,8 +18,8 @@ use Rattle.inner_pack.specs.declared.head.Head.{Head}
 use Rattle.inner_pack.proofs.PlaceLemmas.{first_fits, right_from, right_to, count_shaped}
 use Rattle.inner_pack.proofs.CellLemmas.{length-cell}
 use Rattle.inner_pack.proofs.SpelledLemmas.{body_is}
-use Rattle.inner_pack.proofs.OneTree.{with_bytes}
-use Rattle.inner_pack.proofs.OneIndex.{root_node, index_tree}
+use Rattle.inner_pack.proofs.OneTree.{root_node, index_tree}
+use Rattle.inner_pack.proofs.SameNodes.{with_bytes}
 use Rattle.inner_pack.proofs.HeadLemmas.{in_cell_fits, left_lengths}
 use Rattle.inner_pack.proofs.NodeLemmas.{is_split, is_leaf, left_node, right_node, said_otherwise}
 

@@ -6,7 +6,6 @@ use Rattle.std.specs.List.{All, AllZip}
 use Rattle.std.specs.Option.{option_map}
 use Rattle.std.specs.Str.{bytes_eq}
 use Rattle.std.proofs.lemmas.List.Elements.{All-head, All-tail}
-use Rattle.outer_io.specs.declared.file_name.FileName.TheVariants.{Commit}
 use Rattle.outer_io.specs.Files.{Files}
 use Rattle.page_cache.specs.declared.faults.PageFault.{PageFault}
 use Rattle.point_codec.specs.Points.{Item, Region, in_box}
@@ -25,7 +24,7 @@ use Rattle.point_codec.specs.declared.entries.Near.{Near}
 use Rattle.index_model.specs.State.{Index, Snapshot, snapshot_of, viewed_docs}
 use Rattle.ring_parity.specs.Rings.{all_edges}
 use Rattle.polygon_query.specs.Shape as polygons
-use Rattle.index_model.specs.Step.{Done, Refused, in_plane_polygon, step_on}
+use Rattle.index_model.specs.Step.{in_plane_polygon, step_on}
 use Rattle.index_model.specs.Script.{Answer, answer_to}
 use Rattle.index_model.specs.declared.session.Applied.{Applied}
 use Rattle.index_model.specs.declared.session.Applied.TheVariants as applied
@@ -38,7 +37,7 @@ use Rattle.index_core.specs.Light.{LooksAt, is_light}
 use Rattle.index_core.specs.Sessions.{IsUnchanged, SessionData}
 use Rattle.index_core.proofs.Bringing.{brings_same}
 use Rattle.explain_queries.specs.Explained.{reach}
-use Rattle.explain_queries.proofs.Reaches.{reach_is}
+use Rattle.explain_queries.proofs.Explaining.{reach_is}
 use Rattle.explain_queries.proofs.There.{are_nearest, there, there_found}
 use Rattle.index_core.proofs.Undone.{begins_none}
 use Rattle.script_run.specs.Costs.{TouchesOn, TouchesHeard, TouchesView, given_of, is_query}

@@ -9,7 +9,7 @@ use Rattle.segment_file.specs.Heads.{Head}
 use Rattle.script_lang.specs.Requests.{Request}
 use Rattle.script_lang.specs.Requests as asks
 use Rattle.script_lang.specs.declared.faults.Refusal.{Refusal}
-use Rattle.index_model.specs.State.{Index, Snapshot}
+use Rattle.index_model.specs.State.{Index}
 use Rattle.index_model.specs.Step.{Outcome, Done, Refused, step_on}
 use Rattle.index_model.specs.declared.session.Applied.{Applied}
 use Rattle.index_model.specs.declared.session.Applied.TheVariants as applied

@@ -5,7 +5,7 @@ use Rattle.point_codec.specs.Points.{Item}
 use Rattle.leaf_codec.specs.Leaves.{SpellsLeafIn}
 use Rattle.leaf_codec.proofs.ReadLeaf.{one_leaf}
 use Rattle.inner_pack.specs.Trees.{IndexTree, Leaf, Split, leaf_count}
-use Rattle.inner_pack.proofs.OneIndex.{one_index}
+use Rattle.inner_pack.proofs.OneTree.{one_index}
 use Rattle.segment_file.specs.Heads.{Head, count_of}
 use Rattle.segment_file.specs.Written.{head_of, SpellsLeaves, FitsSegment}
 use Rattle.segment_build.specs.NewSegments.{NewSegmentData, HasEntries}

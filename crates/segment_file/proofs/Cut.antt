@@ -9,7 +9,7 @@ use Rattle.inner_pack.specs.Bodies.{HasTree, pages_of, right_begin}
 use Rattle.inner_pack.proofs.PlaceLemmas.{AreLengths, end_of_from}
 use Rattle.inner_pack.proofs.HeadLemmas.{left_lengths, right_lengths}
 use Rattle.inner_pack.proofs.Nested.{left_ends, right_ends}
-use Rattle.inner_pack.proofs.OneIndex.{one_index}
+use Rattle.inner_pack.proofs.OneTree.{one_index}
 use Rattle.page_cache.specs.Evidence.{IsCut}
 use Rattle.page_cache.proofs.Damages.{not_cut as whole_not_cut}
 use Rattle.segment_file.specs.Heads.{Head, index_pages}

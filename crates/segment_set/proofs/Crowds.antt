@@ -12,7 +12,7 @@ use Rattle.leaf_codec.specs.LeafOrder.{same_item}
 use Rattle.live_bits.specs.LiveSet.{LiveSet, is_live}
 use Rattle.inner_pack.specs.Places.{front}
 use Rattle.inner_pack.specs.Trees.{IndexTree}
-use Rattle.inner_pack.proofs.OneIndex.{one_index}
+use Rattle.inner_pack.proofs.OneTree.{one_index}
 use Rattle.segment_file.specs.Heads.{Head}
 use Rattle.segment_file.specs.Segments.{HoldsTree, IsSegment}
 use Rattle.segment_file.proofs.Unique.{tree_once}

@@ -13,7 +13,7 @@ use Rattle.documents.specs.Entries.{has_entry, is_among}
 use Rattle.documents.proofs.Lists.{cons_head, in_filter, nil_none}
 use Rattle.inner_pack.specs.Places.{front}
 use Rattle.inner_pack.specs.Trees.{IndexTree}
-use Rattle.inner_pack.proofs.OneIndex.{one_index}
+use Rattle.inner_pack.proofs.OneTree.{one_index}
 use Rattle.page_cache.specs.declared.cache.PageCache.{PageCache}
 use Rattle.segment_file.specs.Heads.{Head}
 use Rattle.segment_file.specs.Segments.{IsSegment, HoldsTree}

@@ -29,8 +29,7 @@ use Rattle.segment_set.specs.Faithful.{HasFileHead, IsFaithful}
 use Rattle.index_opening.proofs.Ordered.{zip_right}
 use Rattle.segment_set.proofs.Attaching.{attached}
 use Rattle.segment_set.proofs.Empty.{empty_set}
-use Rattle.index_opening.proofs.Evident.{on_evident_at}
-use Rattle.index_opening.proofs.LeafEvident.{on_part_evident}
+use Rattle.index_opening.proofs.Evident.{on_evident_at, on_part_evident}
 use Rattle.segment_set.proofs.Snapped.{set_released, set_snapped}
 use Rattle.segment_set.proofs.Viewed.{viewed_all}
 

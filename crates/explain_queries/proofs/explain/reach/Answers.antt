@@ -1,7 +1,7 @@
 -- Where enough are found the last one tells how far.
 use Rattle.std.proofs.Common.{sym, arith}
 use Rattle.std.proofs.lemmas.Option.{slice_get_within}
-use Rattle.explain_queries.proofs.Reaches.{reach_last}
+use Rattle.explain_queries.proofs.Explaining.{reach_last}
 use Rattle.explain_queries.proofs.explain.reach.Goals as goal
 
 pub returns-in-Some : goal.returns-in-Some

@@ -3,8 +3,8 @@ use Rattle.std.proofs.Common.{Err, List, length, refl, ap, ◌∙◌, Bool, ℤ}
 use Rattle.std.proofs.lemmas.Result.{err_from_is_err_and}
 use Rattle.page_cache.specs.declared.faults.PageFault.{PageFault}
 use Rattle.documents.specs.Documents.{hits}
-use Rattle.explain_queries.proofs.Explaining.{explains_done, explains_fault, explains_unsaid, shape_told, shape_touches}
-use Rattle.explain_queries.proofs.Reaches.{touched_as}
+use Rattle.explain_queries.proofs.Explaining.{explains_done, explains_fault, explains_unsaid, touched_as}
+use Rattle.explain_queries.proofs.ShapesTold.{shape_told, shape_touches}
 use Rattle.explain_queries.proofs.explain.tell_shape.Goals as goal
 
 pub returns-in_err-hits : goal.returns-in_err-hits

@@ -9,7 +9,7 @@ use Rattle.commit_list.specs.CommitFiles.{IsCommitFile}
 use Rattle.segment_file.specs.Damages.{IsLeafDamageOf}
 use Rattle.index_opening.specs.Evidence.{IsTwice}
 use Rattle.index_opening.specs.Opened.{IsOpened}
-use Rattle.index_opening.proofs.LeafEvident.{on_part_evident}
+use Rattle.index_opening.proofs.Evident.{on_part_evident}
 use Rattle.index_opening.proofs.Listed.{undefined_fault}
 use Rattle.index_opening.proofs.Named.{part_found}
 use Rattle.folder_check.specs.Found.{AreFine, HasSegment, IsWrong}

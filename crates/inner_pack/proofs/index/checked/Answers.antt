@@ -6,7 +6,7 @@ use Rattle.inner_pack.specs.Bodies.{cell_bytes}
 use Rattle.inner_pack.specs.Spelled.{tree_bytes, IsTreeIn}
 use Rattle.inner_pack.proofs.CellLemmas.{length-cell}
 use Rattle.inner_pack.proofs.SpelledLemmas.{body_is}
-use Rattle.inner_pack.proofs.OneIndex.{index_tree}
+use Rattle.inner_pack.proofs.OneTree.{index_tree}
 use Rattle.inner_pack.proofs.index.checked.Goals as goal
 
 pub returns-in_err-front-clause-only : goal.returns-in_err-front-clause-only

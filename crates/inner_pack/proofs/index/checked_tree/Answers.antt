@@ -6,8 +6,8 @@ use Rattle.inner_pack.specs.Bodies.{first_length}
 use Rattle.inner_pack.specs.Spelled.{spelled_part, told_part}
 use Rattle.inner_pack.proofs.PlaceLemmas.{fitted_here, first_fits}
 use Rattle.inner_pack.proofs.NodeLemmas.{said_otherwise}
-use Rattle.inner_pack.proofs.OneTree.{with_bytes}
-use Rattle.inner_pack.proofs.OneIndex.{root_node}
+use Rattle.inner_pack.proofs.OneTree.{root_node}
+use Rattle.inner_pack.proofs.SameNodes.{with_bytes}
 use Rattle.inner_pack.proofs.index.checked_tree.Goals as goal
 
 pub returns-in_err-part-clause-only : goal.returns-in_err-part-clause-only

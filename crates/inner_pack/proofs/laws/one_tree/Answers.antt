@@ -1,4 +1,4 @@
-use Rattle.inner_pack.proofs.OneIndex.{one_index}
+use Rattle.inner_pack.proofs.OneTree.{one_index}
 use Rattle.inner_pack.proofs.laws.one_tree.Goals as goal
 
 pub returns : goal.returns

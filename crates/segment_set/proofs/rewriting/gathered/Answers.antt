@@ -20,8 +20,7 @@ use Rattle.index_opening.specs.Evidence.{IsCrowdedIn, IsEvidentIn}
 use Rattle.segment_set.specs.Faithful.{HasFileHead}
 use Rattle.segment_set.specs.Sets.{AreAlone}
 use Rattle.segment_set.proofs.Doubted.{doubt_among, part_shown, whole_shows}
-use Rattle.index_opening.proofs.Evident.{on_evident_at}
-use Rattle.index_opening.proofs.LeafEvident.{on_part_evident}
+use Rattle.index_opening.proofs.Evident.{on_evident_at, on_part_evident}
 use Rattle.segment_set.proofs.Evident.{doubt_evident, gathered_of_files}
 use Rattle.segment_set.proofs.Fresh.{gathered_of, holds_live, items_length}
 use Rattle.segment_set.proofs.Sizes.{built_fits, entry_fits}

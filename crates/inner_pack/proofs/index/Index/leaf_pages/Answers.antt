@@ -3,7 +3,7 @@ use Rattle.std.proofs.lemmas.Bool.{cases_eq}
 use Rattle.std.proofs.lemmas.Grind.{not_there}
 use Rattle.point_codec.specs.Seen.{region_of}
 use Rattle.inner_pack.specs.Bodies.{Body, HasTree, pages_of}
-use Rattle.inner_pack.proofs.OneIndex.{one_index}
+use Rattle.inner_pack.proofs.OneTree.{one_index}
 use Rattle.inner_pack.proofs.index.Index.leaf_pages.Goals as goal
 
 pub returns : goal.returns

@@ -9,7 +9,7 @@ use Rattle.inner_pack.specs.Places.{front}
 use Rattle.inner_pack.specs.Bodies.{Body, HasTree, SpellsIndex}
 use Rattle.inner_pack.specs.Nodes.{IsAt}
 use Rattle.inner_pack.specs.Spelled.{IsSomeTree}
-use Rattle.inner_pack.proofs.OneIndex.{one_index}
+use Rattle.inner_pack.proofs.OneTree.{one_index}
 use Rattle.inner_pack.proofs.Walking.{le_there, after_cell, cell_before, root_at}
 use Rattle.inner_pack.proofs.index.Index.walk.Goals as goal
 
