@@ -23,5 +23,7 @@ corners_reach box d lo_fits hi_fits p h =
     let lo : ℤ = get_or box.lo d (pos 0) in
     let hi : ℤ = get_or box.hi d (pos 0) in
     let c : ℤ = get_or p d (pos 0) in
-    let both = both_true (all_le box.lo p) (all_le p box.hi) h in
-    (ap (λ z. int_le z c) (to_z-of_z w32 lo lo_fits) ∙ all_le_in box.lo p d both.0, ap (λ z. int_le c z) (to_z-of_z w32 hi hi_fits) ∙ all_le_in p box.hi d both.1)
+    let both = both_true (all_le box.lo p) (all_le p box.hi) h in (
+      ap (λ z. int_le z c) (to_z-of_z w32 lo lo_fits) ∙ all_le_in box.lo p d both.0,
+      ap (λ z. int_le c z) (to_z-of_z w32 hi hi_fits) ∙ all_le_in p box.hi d both.1,
+    )

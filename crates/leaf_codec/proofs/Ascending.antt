@@ -1,5 +1,6 @@
 -- A leaf's coordinates in the dimension by which it is sorted, and what a value parts.
-use Rattle.std.proofs.Common.{◌≡◌, ◌<◌, ◌≤◌, ◌+◌, ℕ, zero, suc, true, false, List, [], ◌∷◌, length, map, get_or, take, drop, refl, sym, ap, subst, ◌∙◌, arith, ℤ, pos, int_lt, int_le, Bool}
+use Rattle.std.proofs.Common.{◌≡◌, ◌<◌, ◌≤◌, ◌+◌, ℕ, zero, suc, true, false, List, [], ◌∷◌, length, map}
+use Rattle.std.proofs.Common.{get_or, take, drop, refl, sym, ap, subst, ◌∙◌, arith, ℤ, pos, int_lt, int_le, Bool}
 use Rattle.std.specs.Prelude.{All, IsSomeAnd, slice_get, FitsSigned}
 use Rattle.std.specs.Int.{w32}
 use mir.Val.{to_z, of_z}
@@ -53,7 +54,8 @@ taken P (x ∷ items) (suc i) d lt h = taken P items i d (omega arith) h
 none : Item
 none = record { doc = 0; at = [] }
 
-pub coordinate_said : (d i : ℕ) (items : List Item) (v : ℤ) → i < length items → IsSomeAnd (slice_get items i) (λ x. v ≡ coordinate d x) → v ≡ coordinate_of d items i
+pub coordinate_said : (d i : ℕ) (items : List Item) (v : ℤ) → i < length items → IsSomeAnd (slice_get items i) (λ x. v ≡ coordinate d x)
+    → v ≡ coordinate_of d items i
 coordinate_said d i items v lt h =
     taken (λ x. v ≡ coordinate d x) items i none lt h ∙ sym (get_or-map (coordinate d) items i none (pos 0) lt)
 
@@ -68,26 +70,31 @@ from_not : (a b x : ℤ) → int_lt a x ≡ false → int_le a b ≡ true → in
 from_not a b x h k = grind (arith, ints)
 
 -- up to an entry below the value all are below, and from one that isn't on none is
-pub below_up_to : (d i k : ℕ) (items : List Item) (x : ℤ) → AscendIn d items → i < length items → k ≤ i → int_lt (coordinate_of d items i) x ≡ true → int_lt (coordinate_of d items k) x ≡ true
+pub below_up_to : (d i k : ℕ) (items : List Item) (x : ℤ) → AscendIn d items → i < length items → k ≤ i → int_lt (coordinate_of d items i) x ≡ true
+    → int_lt (coordinate_of d items k) x ≡ true
 below_up_to d i k items x up lt le h = through (coordinate_of d items k) (coordinate_of d items i) x (up k i le lt) h
 
-pub above_from : (d i k : ℕ) (items : List Item) (x : ℤ) → AscendIn d items → i ≤ k → k < length items → int_lt (coordinate_of d items i) x ≡ false → int_le x (coordinate_of d items k) ≡ true
+pub above_from : (d i k : ℕ) (items : List Item) (x : ℤ) → AscendIn d items → i ≤ k → k < length items → int_lt (coordinate_of d items i) x ≡ false
+    → int_le x (coordinate_of d items k) ≡ true
 above_from d i k items x up le lt h = from_not (coordinate_of d items i) (coordinate_of d items k) x h (up i k le lt)
 
-pub all_below : (d n : ℕ) (items : List Item) (x : ℤ) → n ≤ length items → ((k : ℕ) → k < n → int_lt (coordinate_of d items k) x ≡ true) → All (λ y. int_lt (coordinate d y) x ≡ true) (take n items)
+pub all_below : (d n : ℕ) (items : List Item) (x : ℤ) → n ≤ length items → ((k : ℕ) → k < n → int_lt (coordinate_of d items k) x ≡ true)
+    → All (λ y. int_lt (coordinate d y) x ≡ true) (take n items)
 all_below d n items x le h k e lt =
     let under : k < n = omega (arith, lt, length-take-le n items le) in
     ap (λ (y : Item). int_lt (coordinate d y) x) (get_or-take n items k e under)
     ∙ ap (λ z. int_lt z x) (sym (get_or-map (coordinate d) items k e (pos 0) (omega arith))) ∙ h k under
 
-pub all_above : (d n : ℕ) (items : List Item) (x : ℤ) → n ≤ length items → ((k : ℕ) → n ≤ k → k < length items → int_le x (coordinate_of d items k) ≡ true) → All (λ y. int_le x (coordinate d y) ≡ true) (drop n items)
+pub all_above : (d n : ℕ) (items : List Item) (x : ℤ) → n ≤ length items → ((k : ℕ) → n ≤ k → k < length items → int_le x (coordinate_of d items k) ≡ true)
+    → All (λ y. int_le x (coordinate d y) ≡ true) (drop n items)
 all_above d n items x le h k e lt =
     let under : n + k < length items = omega (arith, lt, length-drop n items) in
     ap (λ (y : Item). int_le x (coordinate d y)) (get_or-drop n items k e)
     ∙ ap (λ z. int_le x z) (sym (get_or-map (coordinate d) items (n + k) e (pos 0) under)) ∙ h (n + k) (omega arith) under
 
 -- each coordinate is one of 32 bits
-pub all_fit : (D n d : ℕ) (numbers : RawNumbers) (r : RawKeys) (items : List Item) → AreRawKeys D n r → d < D → raw_items D n numbers r ≡ items → All (λ y. FitsSigned w32 (coordinate d y)) items
+pub all_fit : (D n d : ℕ) (numbers : RawNumbers) (r : RawKeys) (items : List Item) → AreRawKeys D n r → d < D → raw_items D n numbers r ≡ items
+    → All (λ y. FitsSigned w32 (coordinate d y)) items
 all_fit D n d numbers r items h lt is k e under =
     let long : length items ≡ n = ap length (sym is) ∙ length-raw_items D n numbers r in
     let here : k < n = omega (arith, under, long) in

@@ -45,9 +45,11 @@ said_doc D n p i xs v is lt e = some_and (slice_get xs i) _ (λ (x : Item). v �
 pub said_point : (D : ℕ) (n : Numbers) (p : Parts) (i : ℕ) (xs : List Item) (v : List ℤ) → items_said D n p ≡ xs → i < length xs → v ≡ point_at D (raw_keys_of p) i → IsSomeAnd (slice_get xs i) (λ x. v ≡ x.at)
 said_point D n p i xs v is lt e = some_and (slice_get xs i) _ (λ (x : Item). v ≡ x.at) (item_said D n p i xs is lt) e
 
-pub said_coordinate : (D : ℕ) (n : Numbers) (p : Parts) (i d : ℕ) (xs : List Item) (v : ℤ) → items_said D n p ≡ xs → i < length xs → d < D → v ≡ coordinate (key_at D (raw_keys_of p) i d) → IsSomeAnd (slice_get xs i) (λ x. v ≡ coordinate_in d x)
+pub said_coordinate : (D : ℕ) (n : Numbers) (p : Parts) (i d : ℕ) (xs : List Item) (v : ℤ) → items_said D n p ≡ xs → i < length xs → d < D
+    → v ≡ coordinate (key_at D (raw_keys_of p) i d) → IsSomeAnd (slice_get xs i) (λ x. v ≡ coordinate_in d x)
 said_coordinate D n p i d xs v is lt within e =
-    some_and (slice_get xs i) _ (λ (x : Item). v ≡ coordinate_in d x) (item_said D n p i xs is lt) (e ∙ sym (get_or-point_at D i d (raw_keys_of p) (pos 0) within))
+    some_and (slice_get xs i) _ (λ (x : Item). v ≡ coordinate_in d x) (item_said D n p i xs is lt)
+    (e ∙ sym (get_or-point_at D i d (raw_keys_of p) (pos 0) within))
 
 -- ---- strict order, from each to the next
 

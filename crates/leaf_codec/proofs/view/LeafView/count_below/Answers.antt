@@ -12,7 +12,8 @@ loop-from-preserved-then-coordinate-x g c =
     record {
       ordered = omega (arith, under);
       within = l.invariant.within;
-      below = λ k lt. below_up_to c.args.d half k c.args.self.now c.args.x.now c.requires.ascends inside (omega (arith, lt)) (test_at c.coordinate.result c.args.x.now _ true (search rules) (search rules) is c.if-coordinate-x.true);
+      below = λ k lt. below_up_to c.args.d half k c.args.self.now c.args.x.now c.requires.ascends inside (omega (arith, lt))
+          (test_at c.coordinate.result c.args.x.now _ true (search rules) (search rules) is c.if-coordinate-x.true);
       above = l.invariant.above;
     }
 
@@ -27,13 +28,17 @@ loop-from-preserved g c =
       ordered = omega (arith, under);
       within = omega (arith, inside);
       below = l.invariant.below;
-      above = λ k le lt. above_from c.args.d half k c.args.self.now c.args.x.now c.requires.ascends le lt (test_at c.coordinate.result c.args.x.now _ false (search rules) (search rules) is c.if-coordinate-x.false);
+      above = λ k le lt. above_from c.args.d half k c.args.self.now c.args.x.now c.requires.ascends le lt
+          (test_at c.coordinate.result c.args.x.now _ false (search rules) (search rules) is c.if-coordinate-x.false);
     }
 
 pub returns-clause-below : goal.returns-clause-below
-returns-clause-below g c = all_below c.args.d c.loop-from.from c.args.self.now c.args.x.now (omega (arith, c.loop-from.invariant.ordered, c.loop-from.invariant.within)) c.loop-from.invariant.below
+returns-clause-below g c =
+    let l = c.loop-from in
+    all_below c.args.d l.from c.args.self.now c.args.x.now (omega (arith, l.invariant.ordered, l.invariant.within)) l.invariant.below
 
 pub returns-clause-above : goal.returns-clause-above
 returns-clause-above g c =
     let l = c.loop-from in
-    all_above c.args.d l.from c.args.self.now c.args.x.now (omega (arith, l.invariant.ordered, l.invariant.within)) (λ k le lt. l.invariant.above k (omega (arith, le, c.loop-from-test.false)) lt)
+    all_above c.args.d l.from c.args.self.now c.args.x.now (omega (arith, l.invariant.ordered, l.invariant.within))
+    (λ k le lt. l.invariant.above k (omega (arith, le, c.loop-from-test.false)) lt)

@@ -42,7 +42,8 @@ invariant_of-result g c = (
   (
     ∥∥₁_elim c.requires (hlevel props) (λ x.
         ascend_in _ (items_said g.row.D c.in-Some.numbers c.in-Some-take.parts)
-        (order_of g.row.D c.args.count c.in-Some.at c.args.b.now (region_of c.args.cell.now) x.0 c.in-Some.numbers c.in-Some-take.parts x.1 c.in-Some.ensures.found c.in-Some-take.ensures.found).ascending),
+        (order_of g.row.D c.args.count c.in-Some.at c.args.b.now (region_of c.args.cell.now) x.0 c.in-Some.numbers c.in-Some-take.parts x.1
+        c.in-Some.ensures.found c.in-Some-take.ensures.found).ascending),
     tt,
   ),
 )
