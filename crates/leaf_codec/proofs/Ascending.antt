@@ -1,6 +1,6 @@
 -- A leaf's coordinates in the dimension by which it is sorted, and what a value parts.
-use Rattle.std.proofs.Common.{◌≡◌, ◌<◌, ◌≤◌, ◌+◌, ℕ, zero, suc, Bool, true, false, List, [], ◌∷◌, length}
-use Rattle.std.proofs.Common.{map, get_or, take, drop, refl, sym, ap, ◌∙◌, arith, ℤ, pos, int_lt, int_le}
+use Rattle.std.proofs.Common.{◌≡◌, ◌<◌, ◌≤◌, ◌+◌, ℕ, zero, suc, true, false, List, [], ◌∷◌, length, map}
+use Rattle.std.proofs.Common.{get_or, take, drop, refl, sym, ap, subst, ◌∙◌, arith, ℤ, pos, int_lt, int_le, Bool}
 use Rattle.std.specs.Prelude.{All, IsSomeAnd, slice_get, FitsSigned}
 use Rattle.std.specs.Int.{w32}
 use mir.Val.{to_z, of_z}
@@ -12,7 +12,13 @@ use Rattle.std.proofs.lemmas.List.Elements.{All-from_recursion}
 use Rattle.point_codec.specs.Points.{Item}
 use Rattle.leaf_codec.specs.Ascending.{AscendIn, coordinate}
 use Rattle.leaf_codec.specs.LeafOrder.{leaf_cmp}
+use Rattle.leaf_codec.specs.Words.{coordinate as coordinate_of_key}
+use Rattle.leaf_codec.specs.Raw.{RawNumbers, RawKeys, AreRawKeys, key_at, raw_items}
+use Rattle.leaf_codec.proofs.Bytes.{coordinate-fits}
+use Rattle.leaf_codec.proofs.ItemsDecoded.{raw_item_is}
+use Rattle.leaf_codec.proofs.KeysLemmas.{get_or-raw_items, length-raw_items, get_or-point_at}
 use Rattle.leaf_codec.proofs.OrderedKeys.{not_greater}
+use Rattle.leaf_codec.proofs.ReadKeys.{length-key_at, AreBytes-key_at}
 
 -- what comes before has no greater coordinate
 not_above : (d : ℕ) (x y : Item) → leaf_cmp d x y ≡ Less → int_le (coordinate d x) (coordinate d y) ≡ true
@@ -85,3 +91,14 @@ all_above d n items x le h k e lt =
     let under : n + k < length items = omega (arith, lt, length-drop n items) in
     ap (λ (y : Item). int_le x (coordinate d y)) (get_or-drop n items k e)
     ∙ ap (λ z. int_le x z) (sym (get_or-map (coordinate d) items (n + k) e (pos 0) under)) ∙ h (n + k) (omega arith) under
+
+-- each coordinate is one of 32 bits
+pub all_fit : (D n d : ℕ) (numbers : RawNumbers) (r : RawKeys) (items : List Item) → AreRawKeys D n r → d < D → raw_items D n numbers r ≡ items
+    → All (λ y. FitsSigned w32 (coordinate d y)) items
+all_fit D n d numbers r items h lt is k e under =
+    let long : length items ≡ n = ap length (sym is) ∙ length-raw_items D n numbers r in
+    let here : k < n = omega (arith, under, long) in
+    let same : coordinate d (get_or items k e) ≡ coordinate_of_key (key_at D r k d) =
+    ap (coordinate d) (ap (λ (t : List Item). get_or t k e) (sym is) ∙ get_or-raw_items D n k numbers r e here ∙ raw_item_is D k numbers r)
+    ∙ get_or-point_at D k d r (pos 0) lt in
+    subst (FitsSigned w32) (sym same) (coordinate-fits (key_at D r k d) (length-key_at D n r k d h here lt) (AreBytes-key_at D n r k d h here))

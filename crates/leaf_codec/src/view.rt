@@ -2,7 +2,8 @@
 
 ghost use Rattle.std.specs.Prelude.{◌≡◌, ◌≤◌, ◌<◌, ◌^◌, ◌+◌, ◌*◌, ◌↔◌, ℕ, List, length, All, IfSome, IfNone, IsSomeAnd};
 ghost use Rattle.std.specs.Prelude.{IsTrue, slice_get, slice_index, nat_lt, if◌then◌else◌, ◌==◌, true, take, drop};
-ghost use Rattle.std.specs.Prelude.{int_lt, int_le};
+ghost use Rattle.std.specs.Prelude.{int_lt, int_le, FitsSigned};
+ghost use Rattle.std.specs.Int.{w32};
 ghost use Rattle.std.specs.List.{list_any, range_with_len};
 ghost use Rattle.point_codec.specs.Points.{Item};
 ghost use Rattle.point_codec.specs.Seen.{region_of};
@@ -150,6 +151,34 @@ impl<'a, const D: usize> LeafView<'a, D> {
             }
         }
         from
+    }
+
+    /// Between which places the entries stand whose coordinates in dimension `d` are from `low` to `high`, where the
+    /// coordinates ascend along it. Where there is none the second place may be before the first.
+    pub fn between(&self, d: usize, low: &i32, high: &i32) -> (u16, u16)
+        requires dimension { d < D }
+        requires ascends { AscendIn d self.now }
+        ensures within { (result.0 ≤ length self.now) × (result.1 ≤ length self.now) }
+        ensures below { All (λ y. int_lt (coordinate d y) low.now ≡ true) (take result.0 self.now) }
+        ensures from { All (λ y. int_le low.now (coordinate d y) ≡ true) (drop result.0 self.now) }
+        ensures to { All (λ y. int_le (coordinate d y) high.now ≡ true) (take result.1 self.now) }
+        ensures above { All (λ y. int_lt high.now (coordinate d y) ≡ true) (drop result.1 self.now) }
+    {
+        let from = self.count_below(d, low);
+        if *high == i32::MAX {
+            self.coordinates_fit(d);
+            return (from, self.count());
+        }
+        let next = *high + 1;
+        (from, self.count_below(d, &next))
+    }
+
+    /// Coordinates are of 32 bits: said for the proof, nothing runs.
+    fn coordinates_fit(&self, d: usize)
+        requires { d < D }
+        ensures { All (λ y. FitsSigned w32 (coordinate d y)) self.now }
+    {
+        let _count = self.numbers.count;
     }
 }
 

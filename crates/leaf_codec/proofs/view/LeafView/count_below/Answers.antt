@@ -34,8 +34,8 @@ loop-from-preserved g c =
 
 pub returns-clause-below : goal.returns-clause-below
 returns-clause-below g c =
-    all_below c.args.d c.loop-from.from c.args.self.now c.args.x.now (omega (arith, c.loop-from.invariant.ordered, c.loop-from.invariant.within))
-    c.loop-from.invariant.below
+    let l = c.loop-from in
+    all_below c.args.d l.from c.args.self.now c.args.x.now (omega (arith, l.invariant.ordered, l.invariant.within)) l.invariant.below
 
 pub returns-clause-above : goal.returns-clause-above
 returns-clause-above g c =
