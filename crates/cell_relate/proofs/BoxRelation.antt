@@ -13,10 +13,15 @@ common : (box cell : Region) (p : List ℤ) → in_box box p ≡ true → in_box
 common box cell p h k =
     let in_first = both_true (all_le box.lo p) (all_le p box.hi) h in
     let in_cell = both_true (all_le cell.lo p) (all_le p cell.hi) k in
-    rw (all_le-trans box.lo p cell.hi in_first.0 in_cell.1, all_le-trans cell.lo p box.hi in_cell.0 in_first.1, all_le-trans box.lo p box.hi in_first.0 in_first.1) refl
+    rw (
+      all_le-trans box.lo p cell.hi in_first.0 in_cell.1,
+      all_le-trans cell.lo p box.hi in_cell.0 in_first.1,
+      all_le-trans box.lo p box.hi in_first.0 in_first.1,
+    ) refl
 
 -- all points of a cell answer alike, so its least corner too
-uncrossed : (box cell : Region) (answer : Bool) → all_le cell.lo cell.hi ≡ true → crosses box cell ≡ false → AllAnswer (in_box box) answer cell → IsUncrossed (in_box box) (crosses box) cell answer
+uncrossed : (box cell : Region) (answer : Bool) → all_le cell.lo cell.hi ≡ true → crosses box cell ≡ false → AllAnswer (in_box box) answer cell
+    → IsUncrossed (in_box box) (crosses box) cell answer
 uncrossed box cell answer ordered h all = record { uncrossed = h; all = all; corner = all cell.lo (in_box-lo cell ordered) }
 
 none_of : (box cell : Region) → meets box cell ≡ false → AllAnswer (in_box box) false cell

@@ -20,11 +20,13 @@ in_box-within inner outer p h k =
     rw (all_le-trans outer.lo inner.lo p corners.0 at.0, all_le-trans p inner.hi outer.hi at.1 corners.1) refl
 
 -- what holds of all points of a cell holds of those of each cell within it
-pub AllAnswer-within : (has : List ℤ → Bool) (answer : Bool) (inner outer : Region) → within inner outer ≡ true → AllAnswer has answer outer → AllAnswer has answer inner
+pub AllAnswer-within : (has : List ℤ → Bool) (answer : Bool) (inner outer : Region) → within inner outer ≡ true → AllAnswer has answer outer
+    → AllAnswer has answer inner
 AllAnswer-within has answer inner outer h all p k = all p (in_box-within inner outer p h k)
 
 -- a cell of which the shape has all points is not outside, crossed or not
-pub is_outside-all : (has : List ℤ → Bool) (crosses : Region → Bool) (cell : Region) → all_le cell.lo cell.hi ≡ true → AllAnswer has true cell → is_outside has crosses cell ≡ false
+pub is_outside-all : (has : List ℤ → Bool) (crosses : Region → Bool) (cell : Region) → all_le cell.lo cell.hi ≡ true → AllAnswer has true cell
+    → is_outside has crosses cell ≡ false
 is_outside-all has crosses cell ordered all = rw (all cell.lo (in_box-lo cell ordered)) (grind arith)
 
 -- ---- what the least corner tells, by a right answer on the cell

@@ -1,5 +1,6 @@
 -- Numbers and coordinates in bytes.
-use Rattle.std.proofs.Common.{◌≡◌, ◌<◌, ◌≤◌, ◌+◌, ◌-◌, ◌*◌, ◌%◌, ◌^◌, ℕ, zero, suc, ltb, List, [], ◌∷◌, ◌++◌, length, get_or, take, drop, sym, ap, subst, ◌∙◌, arith, cond, inl, inr, ℤ, pos, negsuc, length-append, length-drop, length-take, mul-le-mul_right}
+use Rattle.std.proofs.Common.{◌≡◌, ◌<◌, ◌≤◌, ◌+◌, ◌-◌, ◌*◌, ◌%◌, ◌^◌, ℕ, zero, suc, ltb, List, [], ◌∷◌, ◌++◌, length, get_or, take, drop, sym}
+use Rattle.std.proofs.Common.{ap, subst, ◌∙◌, arith, cond, inl, inr, ℤ, pos, negsuc, length-append, length-drop, length-take, mul-le-mul_right}
 use Rattle.std.specs.Prelude.{FitsSigned, bit_and}
 use Rattle.std.specs.Int.{w32, to_be_bytes, from_be_bytes}
 use Rattle.std.proofs.lemmas.Bool.{cases_lt, lt-ltb, le-ltb, cond-true, cond-false}
@@ -42,14 +43,17 @@ mask_is n (suc (suc (suc (suc zero)))) le = and_mask n 32
 mask_is n (suc (suc (suc (suc (suc w))))) le = absurd (omega arith)
 
 -- the last w bytes of a word
-pub word_masked : (bs : List ℕ) (at w : ℕ) → w ≤ 4 → at + 4 ≤ length bs → AreBytes bs → bit_and (number_of (take 4 (drop at bs))) (256 ^ w - 1) ≡ number_of (take w (drop (at + (4 - w)) bs))
+pub word_masked : (bs : List ℕ) (at w : ℕ) → w ≤ 4 → at + 4 ≤ length bs → AreBytes bs
+    → bit_and (number_of (take 4 (drop at bs))) (256 ^ w - 1) ≡ number_of (take w (drop (at + (4 - w)) bs))
 word_masked bs at w le within bytes =
     let front = take (4 - w) (drop at bs) in
     let back = take w (drop (4 - w) (drop at bs)) in
     let four : 4 ≡ (4 - w) + w = omega arith in
     let split : take 4 (drop at bs) ≡ front ++ back = ap (λ n. take n (drop at bs)) four ∙ take-add (4 - w) w (drop at bs) in
     let long : length back ≡ w = omega (arith, length-take w (drop (4 - w) (drop at bs)), length-drop (4 - w) (drop at bs), length-drop at bs) in
-    let small : AreBytes back = All-take (λ (x : ℕ). x < 256) w (drop (4 - w) (drop at bs)) (All-drop (λ (x : ℕ). x < 256) (4 - w) (drop at bs) (All-drop (λ (x : ℕ). x < 256) at bs bytes)) in
+    let small : AreBytes back =
+    All-take (λ (x : ℕ). x < 256) w (drop (4 - w) (drop at bs))
+    (All-drop (λ (x : ℕ). x < 256) (4 - w) (drop at bs) (All-drop (λ (x : ℕ). x < 256) at bs bytes)) in
     mask_is (number_of (take 4 (drop at bs))) w le
     ∙ ap (λ (t : List ℕ). number_of t % 256 ^ w) split
     ∙ ap (λ n. number_of (front ++ back) % 256 ^ n) (sym long)
@@ -60,7 +64,8 @@ pub number_of_four : (a b c d : ℕ) → number_of (a ∷ b ∷ c ∷ d ∷ []) 
 number_of_four a b c d = omega arith
 
 -- four bytes, one by one
-pub four_at : (bs : List ℕ) (at : ℕ) → at + 4 ≤ length bs → take 4 (drop at bs) ≡ get_or bs at 0 ∷ get_or bs (at + 1) 0 ∷ get_or bs (at + 2) 0 ∷ get_or bs (at + 3) 0 ∷ []
+pub four_at : (bs : List ℕ) (at : ℕ) → at + 4 ≤ length bs
+    → take 4 (drop at bs) ≡ get_or bs at 0 ∷ get_or bs (at + 1) 0 ∷ get_or bs (at + 2) 0 ∷ get_or bs (at + 3) 0 ∷ []
 four_at bs at within =
     let d0 = drop_more bs at 0 (omega arith) in
     let d1 = drop_more bs (at + 1) 0 (omega arith) in
@@ -68,7 +73,10 @@ four_at bs at within =
     let d3 = drop_more bs (at + 3) 0 (omega arith) in
     let e1 : at + 1 + 1 ≡ at + 2 = omega arith in
     let e2 : at + 2 + 1 ≡ at + 3 = omega arith in
-    ap (take 4) (d0 ∙ ap (λ (t : List ℕ). get_or bs at 0 ∷ t) (d1 ∙ ap (λ (t : List ℕ). get_or bs (at + 1) 0 ∷ t) (ap (λ n. drop n bs) e1 ∙ d2 ∙ ap (λ (t : List ℕ). get_or bs (at + 2) 0 ∷ t) (ap (λ n. drop n bs) e2 ∙ d3))))
+    ap (take 4) (d0
+    ∙ ap (λ (t : List ℕ). get_or bs at 0 ∷ t)
+    (d1 ∙ ap (λ (t : List ℕ). get_or bs (at + 1) 0 ∷ t)
+    (ap (λ n. drop n bs) e1 ∙ d2 ∙ ap (λ (t : List ℕ). get_or bs (at + 2) 0 ∷ t) (ap (λ n. drop n bs) e2 ∙ d3))))
 
 -- ---- keys
 
@@ -77,7 +85,8 @@ four_cells bs long = sym (take_all 4 bs (omega (arith, long))) ∙ four_at bs 0 
 
 pub number_of-from_be : (bs : List ℕ) → length bs ≡ 4 → number_of bs ≡ from_be_bytes w32 bs
 number_of-from_be bs long =
-    ap number_of (four_cells bs long) ∙ number_of_four (get_or bs 0 0) (get_or bs 1 0) (get_or bs 2 0) (get_or bs 3 0) ∙ sym (ap (from_be_bytes w32) (four_cells bs long))
+    ap number_of (four_cells bs long) ∙ number_of_four (get_or bs 0 0) (get_or bs 1 0) (get_or bs 2 0) (get_or bs 3 0)
+    ∙ sym (ap (from_be_bytes w32) (four_cells bs long))
 
 byte_at : (bs : List ℕ) → AreBytes bs → (i : ℕ) → get_or bs i 0 < 256
 byte_at bs h i = elim (cases_lt i (length bs)) [
@@ -112,8 +121,10 @@ rank-at_rank n = elim (cases_lt n (2 ^ 31)) [
 
 at_rank-fits : (n : ℕ) → n < 2 ^ 32 → FitsSigned w32 (at_rank n)
 at_rank-fits n small = elim (cases_lt n (2 ^ 31)) [
-  | inl lt ↦ subst (λ (x : ℤ). FitsSigned w32 x) (sym (cond-true (ltb n (2 ^ 31)) (negsuc (2 ^ 31 - 1 - n)) (pos (n - 2 ^ 31)) (lt-ltb n (2 ^ 31) lt))) (omega arith)
-  | inr ge ↦ subst (λ (x : ℤ). FitsSigned w32 x) (sym (cond-false (ltb n (2 ^ 31)) (negsuc (2 ^ 31 - 1 - n)) (pos (n - 2 ^ 31)) (le-ltb n (2 ^ 31) ge))) (omega arith)
+  | inl lt ↦
+      subst (λ (x : ℤ). FitsSigned w32 x) (sym (cond-true (ltb n (2 ^ 31)) (negsuc (2 ^ 31 - 1 - n)) (pos (n - 2 ^ 31)) (lt-ltb n (2 ^ 31) lt))) (omega arith)
+  | inr ge ↦
+      subst (λ (x : ℤ). FitsSigned w32 x) (sym (cond-false (ltb n (2 ^ 31)) (negsuc (2 ^ 31 - 1 - n)) (pos (n - 2 ^ 31)) (le-ltb n (2 ^ 31) ge))) (omega arith)
 ]
 
 pub coordinate-key : (x : ℤ) → FitsSigned w32 x → coordinate (key x) ≡ x

@@ -1,5 +1,6 @@
 -- Lists joined of parts whose lengths are known, and the parts found again by their places.
-use Rattle.std.proofs.Common.{◌≡◌, ◌<◌, ◌+◌, ◌*◌, ℕ, zero, suc, List, [], ◌∷◌, ◌++◌, map, length, get_or, take, drop, refl, sym, ap, subst, ◌∙◌, arith, inl, inr, take_at, drop_at, take-add, drop-drop, append_assoc, append-nil, take_all}
+use Rattle.std.proofs.Common.{◌≡◌, ◌<◌, ◌+◌, ◌*◌, ℕ, zero, suc, List, [], ◌∷◌, ◌++◌, map, length, get_or, take, drop, refl, sym, ap}
+use Rattle.std.proofs.Common.{subst, ◌∙◌, arith, inl, inr, take_at, drop_at, take-add, drop-drop, append_assoc, append-nil, take_all}
 use Rattle.std.specs.List.{flat_map, range_with_len, sum_by}
 use Rattle.std.proofs.lemmas.Bool.{cases_eq}
 use Rattle.std.proofs.lemmas.List.Concat.{length-flat_map}
@@ -20,7 +21,8 @@ place_const m (suc n) =
     let next : suc n ≡ n + 1 = omega arith in
     ap (place (λ _. m)) next ∙ more ∙ ap (λ k. k + m) (place_const m n) ∙ omega arith
 
-length-parts : (part : ℕ → List ℕ) (wide : ℕ → ℕ) (n : ℕ) → ((d : ℕ) → d < n → length (part d) ≡ wide d) → length (flat_map part (range_with_len 0 n)) ≡ place wide n
+length-parts : (part : ℕ → List ℕ) (wide : ℕ → ℕ) (n : ℕ) → ((d : ℕ) → d < n → length (part d) ≡ wide d)
+    → length (flat_map part (range_with_len 0 n)) ≡ place wide n
 length-parts part wide n long =
     length-flat_map part (range_with_len 0 n) ∙ sum_agree (λ d. length (part d)) wide 0 n (λ d low high. long d (omega arith))
 
@@ -32,7 +34,8 @@ part_at part wide (suc n) d tail lt long =
     let next : suc n ≡ n + 1 = omega arith in
     let before = flat_map part (range_with_len 0 n) in
     let joined : flat_map part (range_with_len 0 (suc n)) ++ tail ≡ before ++ (part n ++ tail) =
-    ap (λ m. flat_map part (range_with_len 0 m) ++ tail) next ∙ ap (λ (t : List ℕ). t ++ tail) (flat_map-range_more part n) ∙ append_assoc before (part n) tail in
+    ap (λ m. flat_map part (range_with_len 0 m) ++ tail) next ∙ ap (λ (t : List ℕ). t ++ tail) (flat_map-range_more part n)
+    ∙ append_assoc before (part n) tail in
     let front : length before ≡ place wide n = length-parts part wide n (λ e under. long e (omega arith)) in
     ap (λ (t : List ℕ). take (wide d) (drop (place wide d) t)) joined
     ∙ elim (cases_eq d n) [
@@ -42,7 +45,8 @@ part_at part wide (suc n) d tail lt long =
     ]
 
 -- the parts that a list is cut into make it again
-pub parts_joined : (wide : ℕ → ℕ) (bytes : List ℕ) (from n : ℕ) → flat_map (λ d. take (wide d) (drop (from + place wide d) bytes)) (range_with_len 0 n) ≡ take (place wide n) (drop from bytes)
+pub parts_joined : (wide : ℕ → ℕ) (bytes : List ℕ) (from n : ℕ)
+    → flat_map (λ d. take (wide d) (drop (from + place wide d) bytes)) (range_with_len 0 n) ≡ take (place wide n) (drop from bytes)
 parts_joined wide bytes from zero = refl
 parts_joined wide bytes from (suc n) =
     let part : ℕ → List ℕ = λ d. take (wide d) (drop (from + place wide d) bytes) in
@@ -63,7 +67,8 @@ flat_map-map f g (x ∷ xs) = ap (λ (t : List ℕ). f (g x) ++ t) (flat_map-map
 pub flat_map-as_range : {X : Type 0} (f : X → List ℕ) (xs : List X) (d : X) → flat_map f xs ≡ flat_map (λ i. f (get_or xs i d)) (range_with_len 0 (length xs))
 flat_map-as_range f xs d = ap (flat_map f) (as_range xs d) ∙ flat_map-map f (λ i. get_or xs i d) (range_with_len 0 (length xs))
 
-pub flat_map-map-range : {Y : Type 0} (f : Y → List ℕ) (g : ℕ → Y) (n : ℕ) → flat_map f (map g (range_with_len 0 n)) ≡ flat_map (λ i. f (g i)) (range_with_len 0 n)
+pub flat_map-map-range : {Y : Type 0} (f : Y → List ℕ) (g : ℕ → Y) (n : ℕ)
+    → flat_map f (map g (range_with_len 0 n)) ≡ flat_map (λ i. f (g i)) (range_with_len 0 n)
 flat_map-map-range f g n = flat_map-map f g (range_with_len 0 n)
 
 -- the part of element i

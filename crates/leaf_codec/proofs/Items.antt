@@ -14,7 +14,8 @@ length-items {D} es = length-map es (item_of {D = D})
 pub get_or-items : {D : ℕ} (es : List (Entry D)) (i : ℕ) (e : Entry D) (x : Item) → i < length es → e ≡ get_or es i e → get_or (items_of es) i x ≡ item_of e
 get_or-items {D} es i e x lt is = get_or-map (item_of {D = D}) es i e x lt ∙ ap (item_of {D = D}) (sym is)
 
-pub items_more : {D : ℕ} (es : List (Entry D)) (i : ℕ) (e : Entry D) → i < length es → e ≡ get_or es i e → take (i + 1) (items_of es) ≡ take i (items_of es) ++ item_of e ∷ []
+pub items_more : {D : ℕ} (es : List (Entry D)) (i : ℕ) (e : Entry D) → i < length es → e ≡ get_or es i e
+    → take (i + 1) (items_of es) ≡ take i (items_of es) ++ item_of e ∷ []
 items_more es i e lt is =
     take_more (items_of es) i (item_of e) (omega (arith, length-items es))
     ∙ ap (λ (x : Item). take i (items_of es) ++ x ∷ []) (get_or-items es i e (item_of e) lt is)
@@ -35,7 +36,8 @@ get_or-docs es i e n lt is =
     get_or-map (λ (x : Item). x.doc) (items_of es) i (item_of e) n (omega (arith, length-items es))
     ∙ ap (λ (x : Item). x.doc) (get_or-items es i e (item_of e) lt is)
 
-pub docs_more : {D : ℕ} (es : List (Entry D)) (i : ℕ) (e : Entry D) → i < length es → e ≡ get_or es i e → take (i + 1) (docs_of es) ≡ take i (docs_of es) ++ e.doc ∷ []
+pub docs_more : {D : ℕ} (es : List (Entry D)) (i : ℕ) (e : Entry D) → i < length es → e ≡ get_or es i e
+    → take (i + 1) (docs_of es) ≡ take i (docs_of es) ++ e.doc ∷ []
 docs_more es i e lt is =
     take_more (docs_of es) i 0 (omega (arith, length-docs es))
     ∙ ap (λ (n : ℕ). take i (docs_of es) ++ n ∷ []) (get_or-docs es i e 0 lt is)

@@ -34,7 +34,8 @@ unfolding raw_item
 raw_item_is D i n r = refl
 
 -- the point of an item is what the fields say
-pub point_decoded : (D n i : ℕ) (items : List Item) (r : RawKeys) (x : Item) → AreRawKeys D n r → AreKeysOf D items r → i < length items → IsPoint D (get_or items i x).at → point_at D r i ≡ (get_or items i x).at
+pub point_decoded : (D n i : ℕ) (items : List Item) (r : RawKeys) (x : Item) → AreRawKeys D n r → AreKeysOf D items r → i < length items
+    → IsPoint D (get_or items i x).at → point_at D r i ≡ (get_or items i x).at
 point_decoded D n i items r x h of here point =
     same_lists (point_at D r i) (get_or items i x).at (length-point_at D i r ∙ sym point.dims) (λ d e low.
     let under : d < D = omega (arith, low, length-point_at D i r) in
@@ -45,7 +46,8 @@ point_decoded D n i items r x h of here point =
     ∙ coordinate-key (get_or y.at d (pos 0)) (point.fits d (pos 0) within)
     ∙ get_or_default y.at d (pos 0) e within)
 
-pub items_decoded : (D : ℕ) (items : List Item) (r : RawKeys) → AreRawKeys D (length items) r → AreKeysOf D items r → All (λ x. x.doc < 2 ^ 24) items → All (λ x. IsPoint D x.at) items
+pub items_decoded : (D : ℕ) (items : List Item) (r : RawKeys) → AreRawKeys D (length items) r → AreKeysOf D items r → All (λ x. x.doc < 2 ^ 24) items
+    → All (λ x. IsPoint D x.at) items
     → raw_items D (length items) (raw_numbers (docs items)) r ≡ items
 items_decoded D items r h of small points =
     same_lists (raw_items D (length items) n r) items (length-raw_items D (length items) n r) (λ i x low.
@@ -67,7 +69,8 @@ items_decoded D items r h of small points =
         ∙ get_or-map (λ (y : Item). y.doc) items i x 0 here
 
 -- the fields of a leaf's items spell it
-pub leaf_spelled : (D : ℕ) (items : List Item) (n : RawNumbers) (r : RawKeys) → n ≡ raw_numbers (docs items) → AreKeysOf D items r → spelling D items ≡ to_be_bytes w16 (length items) ++ (numbers_bytes n ++ keys_bytes D r)
+pub leaf_spelled : (D : ℕ) (items : List Item) (n : RawNumbers) (r : RawKeys) → n ≡ raw_numbers (docs items) → AreKeysOf D items r
+    → spelling D items ≡ to_be_bytes w16 (length items) ++ (numbers_bytes n ++ keys_bytes D r)
 unfolding spelling
 leaf_spelled D items n r numbers_are of =
     append_assoc ((to_be_bytes w16 (length items) ++ numbers (docs items)) ++ prefixes D items) (sorted_part (sorted_dimension D items) items) (rests D items)

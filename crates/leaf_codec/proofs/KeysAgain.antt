@@ -1,5 +1,6 @@
 -- Fields that are as short as they can be are those of the items that they say.
-use Rattle.std.proofs.Common.{◌≡◌, ◌<◌, ◌+◌, ◌*◌, ℕ, zero, suc, Bool, true, false, List, [], ◌∷◌, ◌++◌, map, length, get_or, take, drop, refl, sym, ap, ◌∙◌, arith, cond, eqb, append_assoc, length-append, take_at, drop_at, take_all}
+use Rattle.std.proofs.Common.{◌≡◌, ◌<◌, ◌+◌, ◌*◌, ℕ, zero, suc, Bool, true, false, List, [], ◌∷◌, ◌++◌, map, length, get_or, take}
+use Rattle.std.proofs.Common.{drop, refl, sym, ap, ◌∙◌, arith, cond, eqb, append_assoc, length-append, take_at, drop_at, take_all}
 use Rattle.std.specs.List.{flat_map, range_with_len}
 use Rattle.std.proofs.lemmas.Bool.{eq-eqb}
 use Rattle.std.proofs.lemmas.List.{same_lists, get_or_default, get_or-map, length-map}
@@ -36,7 +37,8 @@ byte_at [] c b p long = ap (λ n. get_or (b ∷ c) n 0) (sym long)
 byte_at (x ∷ front) c b zero long = absurd (omega (arith, long))
 byte_at (x ∷ front) c b (suc p) long = byte_at front c b p (omega (arith, long))
 
-rests_raw : (D n : ℕ) (numbers : RawNumbers) (r : RawKeys) → rests D (raw_items D n numbers r) ≡ flat_map (λ i. rest D (raw_items D n numbers r) (raw_item D numbers r i)) (range_with_len 0 n)
+rests_raw : (D n : ℕ) (numbers : RawNumbers) (r : RawKeys)
+    → rests D (raw_items D n numbers r) ≡ flat_map (λ i. rest D (raw_items D n numbers r) (raw_item D numbers r i)) (range_with_len 0 n)
 unfolding rests raw_items
 rests_raw D n numbers r = flat_map-map-range (rest D (raw_items D n numbers r)) (raw_item D numbers r) n
 
@@ -45,9 +47,11 @@ pub keys_again : (D n : ℕ) (numbers : RawNumbers) (r : RawKeys) → AreRawKeys
 keys_again D n numbers r h some lengths sorted = record {
   lengths = sym lengths;
   sorted = sym sorted;
-  prefixes = sym (flat_map_agree (λ d. shared_bytes d items) (λ d. take (wide d) (drop (0 + place wide d) r.prefixes)) 0 D (λ d low high. front_is d (omega arith))
+  prefixes =
+      sym (flat_map_agree (λ d. shared_bytes d items) (λ d. take (wide d) (drop (0 + place wide d) r.prefixes)) 0 D (λ d low high. front_is d (omega arith))
       ∙ parts_joined wide r.prefixes 0 D ∙ take_all (place wide D) r.prefixes (omega (arith, h.total)));
-  bytes = λ moves. same_lists r.bytes (map (key_byte r.sorted (shared_prefix r.sorted items)) items) (h.counted ∙ sym (length-map items (key_byte r.sorted (shared_prefix r.sorted items)) ∙ length-raw_items D n numbers r))
+  bytes = λ moves. same_lists r.bytes (map (key_byte r.sorted (shared_prefix r.sorted items)) items)
+      (h.counted ∙ sym (length-map items (key_byte r.sorted (shared_prefix r.sorted items)) ∙ length-raw_items D n numbers r))
       (λ i e lt. let here : i < n = omega (arith, lt, h.counted) in
       get_or_default r.bytes i e 0 lt ∙ sym (byte_is moves i here)
       ∙ ap (λ x. key_byte r.sorted (shared_prefix r.sorted items) x) (sym (get_or-raw_items D n i numbers r (item i) here))
@@ -83,10 +87,13 @@ keys_again D n numbers r h some lengths sorted = record {
     byte_is : r.sorted < D → (i : ℕ) → i < n → key_byte r.sorted (shared_prefix r.sorted items) (item i) ≡ get_or r.bytes i 0
     byte_is moves i here =
         (λ j. get_or (key i r.sorted here moves j) (shared r.sorted moves j) 0)
-        ∙ ap (λ (b : Bool). get_or (front_of r r.sorted ++ (cond b (get_or r.bytes i 0 ∷ []) [] ++ back_of D r i r.sorted)) (wide r.sorted) 0) (eq-eqb r.sorted r.sorted refl)
+        ∙ ap (λ (b : Bool). get_or (front_of r r.sorted ++ (cond b (get_or r.bytes i 0 ∷ []) [] ++ back_of D r i r.sorted)) (wide r.sorted) 0)
+        (eq-eqb r.sorted r.sorted refl)
         ∙ byte_at (front_of r r.sorted) (back_of D r i r.sorted) (get_or r.bytes i 0) (wide r.sorted) (key_parts D n r i r.sorted h here moves).front
 
-    back_is : (i d : ℕ) → i < n → d < D → drop (told_of (lengths_of D items) (sorted_number D items) d) (key_of d (item i)) ≡ take (gap_of r.lengths r.sorted d) (drop (i * stride + place (gap_of r.lengths r.sorted) d) r.rests)
+    back_is : (i d : ℕ) → i < n → d < D
+        → drop (told_of (lengths_of D items) (sorted_number D items) d) (key_of d (item i))
+        ≡ take (gap_of r.lengths r.sorted d) (drop (i * stride + place (gap_of r.lengths r.sorted) d) r.rests)
     back_is i d here lt =
         (λ j. drop (told_of (lengths j) (sorted j) d) (key i d here lt j))
         ∙ ap (drop (told_of r.lengths r.sorted d)) (sym (append_assoc (front_of r d) (middle_of r i d) (back_of D r i d)))
@@ -96,7 +103,9 @@ keys_again D n numbers r h some lengths sorted = record {
     rest_are : (i : ℕ) → i < n → rest D items (item i) ≡ take stride (drop (i * stride) r.rests)
     rest_are i here =
         sym (rest_is D items (item i))
-        ∙ flat_map_agree (λ d. drop (told_of (lengths_of D items) (sorted_number D items) d) (key_of d (item i))) (λ d. take (gap_of r.lengths r.sorted d) (drop (i * stride + place (gap_of r.lengths r.sorted) d) r.rests)) 0 D (λ d low high. back_is i d here (omega arith))
+        ∙ flat_map_agree (λ d. drop (told_of (lengths_of D items) (sorted_number D items) d) (key_of d (item i)))
+        (λ d. take (gap_of r.lengths r.sorted d) (drop (i * stride + place (gap_of r.lengths r.sorted) d) r.rests)) 0 D
+        (λ d low high. back_is i d here (omega arith))
         ∙ parts_joined (gap_of r.lengths r.sorted) r.rests (i * stride) D
 
     rests_are : rests D items ≡ r.rests

@@ -1,5 +1,6 @@
 -- The keys of items as fields, and the items again from the fields.
-use Rattle.std.proofs.Common.{◌≡◌, ◌<◌, ℕ, List, [], ◌∷◌, ◌++◌, map, length, get_or, refl, sym, ap, subst, ◌∙◌, arith, ltb, inl, inr, Option, Some, None, append_assoc, ℤ, pos}
+use Rattle.std.proofs.Common.{◌≡◌, ◌<◌, ℕ, List, [], ◌∷◌, ◌++◌, map, length, get_or, refl, sym, ap}
+use Rattle.std.proofs.Common.{subst, ◌∙◌, arith, ltb, inl, inr, Option, Some, None, append_assoc, ℤ, pos}
 use Rattle.std.specs.List.{flat_map, range_with_len}
 use Rattle.std.proofs.lemmas.Bool.{cases_lt, lt-ltb, le-ltb, cond-true, cond-false}
 use Rattle.std.proofs.lemmas.List.FromFn.{get_or-map-range_with_len, length-map-range_with_len}
@@ -44,10 +45,12 @@ sorted_is D items r h = elim (cases_lt r.sorted D) [
       ∙ sym (cond-false (ltb r.sorted D) (r.sorted ∷ sorted_bytes r.bytes) [] (le-ltb r.sorted D le))
 ]
 
-pub keys_spelled : (D : ℕ) (items : List Item) (r : RawKeys) → AreKeysOf D items r → prefixes D items ++ (sorted_part (sorted_dimension D items) items ++ rests D items) ≡ keys_bytes D r
+pub keys_spelled : (D : ℕ) (items : List Item) (r : RawKeys) → AreKeysOf D items r
+    → prefixes D items ++ (sorted_part (sorted_dimension D items) items ++ rests D items) ≡ keys_bytes D r
 unfolding prefixes
 keys_spelled D items r h =
-    append_assoc (lengths_of D items) (flat_map (λ d. shared_bytes d items) (range_with_len 0 D)) (sorted_part (sorted_dimension D items) items ++ rests D items)
+    append_assoc (lengths_of D items) (flat_map (λ d. shared_bytes d items) (range_with_len 0 D))
+    (sorted_part (sorted_dimension D items) items ++ rests D items)
     ∙ (λ i. sym h.lengths i ++ (sym h.prefixes i ++ (sorted_is D items r h i ++ sym h.rests i)))
 
 -- ---- bytes are those of one choice of fields
@@ -62,8 +65,10 @@ pub record SameKeys (D : ℕ) (r s : RawKeys) : Type 0 where
 pub keys_front : (D n : ℕ) (r s : RawKeys) → AreRawKeys D n r → AreRawKeys D n s → keys_bytes D r ≡ keys_bytes D s → SameKeys D r s
 keys_front D n r s hr hs e =
     let a = lengths_same D n s (keys_bytes D r) r.lengths (r.prefixes ++ (sorted_raw D r.sorted r.bytes ++ r.rests)) hs hr.dims refl e in
-    let b = prefixes_same D n (start_of r.lengths (length r.lengths)) s r.lengths r.prefixes (r.prefixes ++ (sorted_raw D r.sorted r.bytes ++ r.rests)) (sorted_raw D r.sorted r.bytes ++ r.rests) hs a.0 refl (hr.total ∙ ap (start_of r.lengths) (sym hr.dims)) refl a.1 in
-    let c = sorts_same r.lengths r.sorted s.sorted r.rests s.rests r.bytes s.bytes hr.sorts (subst (λ (t : List ℕ). Rattle.leaf_codec.specs.Raw.MaySort t s.sorted) (sym a.0) hs.sorts) (hr.counted ∙ sym hs.counted)
+    let b = prefixes_same D n (start_of r.lengths (length r.lengths)) s r.lengths r.prefixes (r.prefixes ++ (sorted_raw D r.sorted r.bytes ++ r.rests))
+    (sorted_raw D r.sorted r.bytes ++ r.rests) hs a.0 refl (hr.total ∙ ap (start_of r.lengths) (sym hr.dims)) refl a.1 in
+    let c = sorts_same r.lengths r.sorted s.sorted r.rests s.rests r.bytes s.bytes hr.sorts
+    (subst (λ (t : List ℕ). Rattle.leaf_codec.specs.Raw.MaySort t s.sorted) (sym a.0) hs.sorts) (hr.counted ∙ sym hs.counted)
     (ap (λ m. sorted_raw m r.sorted r.bytes ++ r.rests) hr.dims ∙ b.1 ∙ ap (λ m. sorted_raw m s.sorted s.bytes ++ s.rests) (sym hr.dims)) in
     record { lengths = a.0; prefixes = b.0; sorted = c.0; bytes = λ lt. c.2 (omega (arith, lt, hr.dims)); rests = c.1 }
 
@@ -93,4 +98,5 @@ get_or-point_at D i d r x lt = get_or-map-range_with_len (λ e. coordinate (key_
 pub key_of-raw : (D n i d : ℕ) (numbers : RawNumbers) (r : RawKeys) → AreRawKeys D n r → i < n → d < D → key_of d (raw_item D numbers r i) ≡ key_at D r i d
 unfolding key_of raw_item
 key_of-raw D n i d numbers r h here lt =
-    ap Rattle.point_codec.specs.Keys.key (get_or-point_at D i d r (pos 0) lt) ∙ key-coordinate (key_at D r i d) (length-key_at D n r i d h here lt) (AreBytes-key_at D n r i d h here)
+    ap Rattle.point_codec.specs.Keys.key (get_or-point_at D i d r (pos 0) lt)
+    ∙ key-coordinate (key_at D r i d) (length-key_at D n r i d h here lt) (AreBytes-key_at D n r i d h here)

@@ -1,5 +1,6 @@
 -- The fields of the keys of items can be read.
-use Rattle.std.proofs.Common.{◌≡◌, ◌≢◌, ◌<◌, ◌≤◌, ◌+◌, ◌-◌, ◌*◌, ℕ, zero, suc, Bool, true, false, List, [], ◌∷◌, ◌++◌, map, length, get_or, take, drop, refl, sym, ap, subst, ◌∙◌, arith, inl, inr, length-take, ltb-true}
+use Rattle.std.proofs.Common.{◌≡◌, ◌≢◌, ◌<◌, ◌≤◌, ◌+◌, ◌-◌, ◌*◌, ℕ, zero, suc, Bool, true, false, List, [], ◌∷◌, ◌++◌, map}
+use Rattle.std.proofs.Common.{length, get_or, take, drop, refl, sym, ap, subst, ◌∙◌, arith, inl, inr, length-take, ltb-true}
 use Rattle.std.specs.List.{flat_map, range_with_len}
 use Rattle.std.proofs.lemmas.Bool.{cases_lt}
 use Rattle.std.proofs.lemmas.List.{get_or_default, length-map}
@@ -43,7 +44,8 @@ AreBytes-shared d (x ∷ items) = All-take (λ (n : ℕ). n < 256) (shared_prefi
 
 pub length-shared_bytes : (d : ℕ) (items : List Item) → 1 ≤ length items → length (shared_bytes d items) ≡ shared_prefix d items
 length-shared_bytes d [] some = absurd (omega arith)
-length-shared_bytes d (x ∷ items) some = omega (arith, length-take (shared_prefix d (x ∷ items)) (key_of d x), length-key_of d x, shared_prefix-le d (x ∷ items))
+length-shared_bytes d (x ∷ items) some =
+    omega (arith, length-take (shared_prefix d (x ∷ items)) (key_of d x), length-key_of d x, shared_prefix-le d (x ∷ items))
 
 pub length-lengths : (D : ℕ) (items : List Item) → length (lengths_of D items) ≡ D
 length-lengths D items = length-map-range_with_len (λ d. shared_prefix d items) 0 D
@@ -56,7 +58,11 @@ may_sort D items = record {
   ];
   moves = λ lt.
       let under : sorted_number D items < D = omega (arith, lt, length-lengths D items) in
-      omega (arith, get_or-lengths D (sorted_number D items) items under, ltb-true (shared_prefix (sorted_number D items) items) 4 (sorted_found D items (sorted_number D items) (sorted_some D items under)).0);
+      omega (
+        arith,
+        get_or-lengths D (sorted_number D items) items under,
+        ltb-true (shared_prefix (sorted_number D items) items) 4 (sorted_found D items (sorted_number D items) (sorted_some D items under)).0,
+      );
   still = λ none k e lt.
       let under : k < D = omega (arith, lt, length-lengths D items) in
       get_or_default (lengths_of D items) k e 0 lt ∙ get_or-lengths D k items under ∙ all_shared D items (none ∙ length-lengths D items) k under;
@@ -69,28 +75,36 @@ may_sort D items = record {
 -- how many bytes of an item are among the rests
 pub length-rest_of : (D : ℕ) (items : List Item) (x : Item) → length (rest D items x) ≡ place_of (lengths_of D items) (sorted_number D items) D
 length-rest_of D items x =
-    length-rest D items x ∙ sum_agree (λ d. 4 - told (sorted_dimension D items) d items) (gap_of (lengths_of D items) (sorted_number D items)) 0 D (λ d low high. ap (λ n. 4 - n) (sym (told_is D d items (omega arith))))
+    length-rest D items x
+    ∙ sum_agree (λ d. 4 - told (sorted_dimension D items) d items) (gap_of (lengths_of D items) (sorted_number D items)) 0 D
+    (λ d low high. ap (λ n. 4 - n) (sym (told_is D d items (omega arith))))
 
 length-rests : (D : ℕ) (items : List Item) → length (rests D items) ≡ length items * place_of (lengths_of D items) (sorted_number D items) D
 unfolding rests
-length-rests D items = length-flat_map (rest D items) items ∙ sum_same (λ x. length (rest D items x)) (place_of (lengths_of D items) (sorted_number D items) D) items (length-rest_of D items)
+length-rests D items =
+    length-flat_map (rest D items) items
+    ∙ sum_same (λ x. length (rest D items x)) (place_of (lengths_of D items) (sorted_number D items) D) items (length-rest_of D items)
 
 AreBytes-rests : (D : ℕ) (items : List Item) → AreBytes (rests D items)
 unfolding rests
-AreBytes-rests D items = AreBytes-flat_map (rest D items) items (λ x. AreBytes-flat_map (λ d. drop (told (sorted_dimension D items) d items) (key_of d x)) (range_with_len 0 D) (λ d.
+AreBytes-rests D items =
+    AreBytes-flat_map (rest D items) items (λ x. AreBytes-flat_map (λ d. drop (told (sorted_dimension D items) d items) (key_of d x)) (range_with_len 0 D) (λ d.
     All-drop (λ (n : ℕ). n < 256) (told (sorted_dimension D items) d items) (key_of d x) (AreBytes-key_of d x)))
 
 pub raw_keys_are : (D : ℕ) (items : List Item) → 1 ≤ length items → AreRawKeys D (length items) (raw_keys D items)
 unfolding raw_keys
 raw_keys_are D items some = record {
   dims = length-lengths D items;
-  short = λ k e lt. omega (arith, get_or_default (lengths_of D items) k e 0 lt, get_or-lengths D k items (omega (arith, lt, length-lengths D items)), shared_prefix-le k items);
+  short = λ k e lt. omega
+      (arith, get_or_default (lengths_of D items) k e 0 lt, get_or-lengths D k items (omega (arith, lt, length-lengths D items)), shared_prefix-le k items);
   total = length-flat_map (λ d. shared_bytes d items) (range_with_len 0 D)
-      ∙ sum_agree (λ d. length (shared_bytes d items)) (λ d. get_or (lengths_of D items) d 0) 0 D (λ d low high. length-shared_bytes d items some ∙ sym (get_or-lengths D d items (omega arith)));
+      ∙ sum_agree (λ d. length (shared_bytes d items)) (λ d. get_or (lengths_of D items) d 0) 0 D
+      (λ d low high. length-shared_bytes d items some ∙ sym (get_or-lengths D d items (omega arith)));
   sorts = may_sort D items;
   counted = length-map items (key_byte (sorted_number D items) (shared_prefix (sorted_number D items) items));
   sized = length-rests D items;
   prefix_bytes = AreBytes-flat_map (λ d. shared_bytes d items) (range_with_len 0 D) (λ d. AreBytes-shared d items);
-  sorted_bytes = All-map (λ (n : ℕ). n < 256) (key_byte (sorted_number D items) (shared_prefix (sorted_number D items) items)) items (λ k e lt. key_byte-lt (sorted_number D items) (shared_prefix (sorted_number D items) items) (get_or items k e));
+  sorted_bytes = All-map (λ (n : ℕ). n < 256) (key_byte (sorted_number D items) (shared_prefix (sorted_number D items) items)) items
+      (λ k e lt. key_byte-lt (sorted_number D items) (shared_prefix (sorted_number D items) items) (get_or items k e));
   rest_bytes = AreBytes-rests D items;
 }

@@ -1,5 +1,6 @@
 -- How long the spelling of a leaf is.
-use Rattle.std.proofs.Common.{◌≡◌, ◌<◌, ◌≤◌, ◌+◌, ◌-◌, ◌*◌, ◌/◌, ◌^◌, ℕ, eqb, ltb, List, [], ◌∷◌, ◌++◌, map, length, get_or, drop, refl, sym, ap, ◌∙◌, arith, cond, inl, inr, Option, Some, None, length-append, length-drop, length-take, mul-le-mul_right, mul-le-mul_left, ltb-true}
+use Rattle.std.proofs.Common.{◌≡◌, ◌<◌, ◌≤◌, ◌+◌, ◌-◌, ◌*◌, ◌/◌, ◌^◌, ℕ, eqb, ltb, List, [], ◌∷◌, ◌++◌, map, length, get_or, drop, refl, sym, ap, ◌∙◌, arith}
+use Rattle.std.proofs.Common.{cond, inl, inr, Option, Some, None, length-append, length-drop, length-take, mul-le-mul_right, mul-le-mul_left, ltb-true}
 use Rattle.std.specs.List.{flat_map, range_with_len, sum_by}
 use Rattle.std.specs.Int.{w32, to_be_bytes}
 use Rattle.std.proofs.lemmas.Bool.{cases_Bool, eq-eqb, cond-true, cond-false}
@@ -11,7 +12,8 @@ use Rattle.std.proofs.lemmas.Nat.{div-add-mod'}
 use Rattle.point_codec.specs.Points.{Item}
 use Rattle.leaf_codec.specs.Dimensions.{key_of, key_byte, shared_prefix, sorted_dimension}
 use Rattle.leaf_codec.specs.Leaves.{AreLeaf}
-use Rattle.leaf_codec.specs.Spelling.{least, greatest, form, width, is_row, low_bytes, numbers, shared_bytes, prefixes, pieces, piece_bytes, sorted_bytes, sorted_part, told, rest, rests, spelling}
+use Rattle.leaf_codec.specs.Spelling.{least, greatest, form, width, is_row, low_bytes, numbers, shared_bytes, prefixes}
+use Rattle.leaf_codec.specs.Spelling.{pieces, piece_bytes, sorted_bytes, sorted_part, told, rest, rests, spelling}
 use Rattle.byte_cursor.specs.Vint.{vint}
 use Rattle.leaf_codec.proofs.Lists.{sum_agree}
 use Rattle.leaf_codec.proofs.NumbersLemmas.{least-le}
@@ -93,7 +95,8 @@ length-sorted_bytes bs = elim (cases_Bool (ltb (2 * length (pieces bs)) (length 
     length-pieces (pieces bs),
     ltb-true (2 * length (pieces bs)) (length bs) fewer,
   )
-  | inr plain ↦ omega (arith, ap length (cond-false (ltb (2 * length (pieces bs)) (length bs)) (1 ∷ length (pieces bs) ∷ flat_map piece_bytes (pieces bs)) (0 ∷ bs) plain))
+  | inr plain ↦ omega
+      (arith, ap length (cond-false (ltb (2 * length (pieces bs)) (length bs)) (1 ∷ length (pieces bs) ∷ flat_map piece_bytes (pieces bs)) (0 ∷ bs) plain))
 ]
 
 -- how many bytes of each item are among the sorted ones
@@ -148,14 +151,17 @@ parts_of_keys D items = by (sorted_dimension D items) (λ s e. (sorted_found D i
     told_some : (s d : ℕ) → told (Some s) d items ≡ shared_prefix d items + flag s d
     told_some s d = elim (cases_Bool (eqb d s)) [
       | inl same ↦ cond-true (eqb d s) (shared_prefix d items + 1) (shared_prefix d items) same ∙ ap (λ b. shared_prefix d items + cond b 1 0) (sym same)
-      | inr apart ↦ cond-false (eqb d s) (shared_prefix d items + 1) (shared_prefix d items) apart ∙ omega arith ∙ ap (λ b. shared_prefix d items + cond b 1 0) (sym apart)
+      | inr apart ↦ cond-false (eqb d s) (shared_prefix d items + 1) (shared_prefix d items) apart ∙ omega arith
+          ∙ ap (λ b. shared_prefix d items + cond b 1 0) (sym apart)
     ]
 
-    by : (o : Option ℕ) → ((s : ℕ) → o ≡ Some s → s < D) → ((d : ℕ) → told o d items ≤ 4) → sum_by (λ d. 4 - told o d items) range + all_shared D items + some_sorted o ≤ 4 * D
+    by : (o : Option ℕ) → ((s : ℕ) → o ≡ Some s → s < D) → ((d : ℕ) → told o d items ≤ 4)
+        → sum_by (λ d. 4 - told o d items) range + all_shared D items + some_sorted o ≤ 4 * D
     by None within fits = omega (arith, whole None fits)
     by (Some s) within fits =
         let split : sum_by (λ d. told (Some s) d items) range ≡ all_shared D items + sum_by (flag s) range =
-        sum_agree (λ d. told (Some s) d items) (λ d. shared_prefix d items + flag s d) 0 D (λ d low high. told_some s d) ∙ sum_add (λ d. shared_prefix d items) (flag s) range in
+        sum_agree (λ d. told (Some s) d items) (λ d. shared_prefix d items + flag s d) 0 D (λ d low high. told_some s d)
+        ∙ sum_add (λ d. shared_prefix d items) (flag s) range in
         let at : get_or range s 0 ≡ s = get_or-range_with_len 0 D s 0 (within s refl) ∙ omega arith in
         let one : flag s (get_or range s 0) ≡ 1 = ap (λ b. cond b 1 0) (eq-eqb (get_or range s 0) s at) in
         omega (arith, whole (Some s) fits, split, one, get_or-le-sum_by (flag s) range s 0 (omega (arith, within s refl, length-range_with_len 0 D)))
@@ -186,7 +192,8 @@ length-spelling D items dims leaf =
     let first : get_or ns 0 0 ≡ (get_or items 0 nothing).doc = get_or-map (λ (x : Item). x.doc) items 0 nothing 0 leaf.some in
     let long : length ns ≡ n = length-map items (λ (x : Item). x.doc) in
     let low : least ns < 2 ^ 32 = omega (arith, first, long, least-le ns 0 (omega (arith, long, leaf.some)), leaf.numbers 0 nothing leaf.some) in
-    let fits = parts_fit D n (all_shared D items) (all_left D items) (some_sorted o) (length (numbers ns)) (length (prefixes D items)) (length (sorted_part o items)) (length (rests D items))
+    let fits = parts_fit D n (all_shared D items) (all_left D items) (some_sorted o) (length (numbers ns)) (length (prefixes D items))
+    (length (sorted_part o items)) (length (rests D items))
     dims leaf.some (fits_page n (4 + 4 * D) leaf.few) (parts_of_keys D items) (some_sorted-le o)
     (omega (arith, length-numbers ns low, long)) (length-prefixes D items leaf.some) (length-sorted_part o items) (length-rests D items) in (
       omega arith,

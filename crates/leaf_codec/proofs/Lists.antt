@@ -1,5 +1,6 @@
 -- Lists as functions of the place.
-use Rattle.std.proofs.Common.{◌≡◌, ℕ, zero, suc, ◌+◌, ◌<◌, ◌≤◌, List, [], ◌∷◌, ◌++◌, map, length, get_or, refl, sym, ap, ◌∙◌, arith, add-one, append-nil, append_assoc}
+use Rattle.std.proofs.Common.{◌≡◌, ℕ, zero, suc, ◌+◌, ◌<◌, ◌≤◌, List, [], ◌∷◌, ◌++◌, map, length}
+use Rattle.std.proofs.Common.{get_or, refl, sym, ap, ◌∙◌, arith, add-one, append-nil, append_assoc}
 use Rattle.std.specs.List.{range_with_len, sum_by, flat_map}
 use Rattle.std.proofs.Common.{set, get_or-set_same, get_or-set_other, inl, inr}
 use Rattle.std.proofs.lemmas.Bool.{cases_eq}
@@ -25,7 +26,8 @@ sum_agree f g a (suc n) h =
     ∙ sym (sum_by-cons g a (range_with_len (a + 1) n))
 
 -- one more place of a list is filled as f says
-pub fills_more : (f : ℕ → ℕ) (xs : List ℕ) (i v : ℕ) → i < length xs → ((k : ℕ) → k < i → get_or xs k 0 ≡ f k) → v ≡ f i → (k : ℕ) → k < i + 1 → get_or (set xs i v) k 0 ≡ f k
+pub fills_more : (f : ℕ → ℕ) (xs : List ℕ) (i v : ℕ) → i < length xs → ((k : ℕ) → k < i → get_or xs k 0 ≡ f k) → v ≡ f i → (k : ℕ) → k < i + 1
+    → get_or (set xs i v) k 0 ≡ f k
 fills_more f xs i v lt h is k under = elim (cases_eq k i) [
   | inl same ↦ rw (same, get_or-set_same xs i v 0 lt) is
   | inr apart ↦ get_or-set_other xs i k v 0 apart ∙ h k (omega arith)
@@ -54,7 +56,8 @@ flat_map-range_more f n =
     ∙ ap (λ (t : List _). flat_map f (range_with_len 0 n) ++ t) (append-nil (f n))
 
 -- two functions that agree in a range make one list of it
-pub flat_map_agree : {A : Type 0} (f g : ℕ → List A) (a n : ℕ) → ((i : ℕ) → a ≤ i → i < a + n → f i ≡ g i) → flat_map f (range_with_len a n) ≡ flat_map g (range_with_len a n)
+pub flat_map_agree : {A : Type 0} (f g : ℕ → List A) (a n : ℕ) → ((i : ℕ) → a ≤ i → i < a + n → f i ≡ g i)
+    → flat_map f (range_with_len a n) ≡ flat_map g (range_with_len a n)
 flat_map_agree f g a zero h = refl
 flat_map_agree f g a (suc n) h =
     λ j. h a (omega arith) (omega arith) j ++ flat_map_agree f g (a + 1) n (λ i low high. h i (omega arith) (omega arith)) j

@@ -1,7 +1,9 @@
 -- The narrowest dimension, as a loop over the dimensions finds it.
-use Rattle.std.proofs.Common.{◌≡◌, ℕ, zero, suc, ◌+◌, ◌<◌, ◌≤◌, Bool, true, false, not, leb, List, [], ◌∷◌, length, get_or, refl, sym, ap, ◌∙◌, arith, ◌&&◌, ◌||◌, inl, inr, unwrap_or, cond, Option, Some}
+use Rattle.std.proofs.Common.{◌≡◌, ℕ, zero, suc, ◌+◌, ◌<◌, ◌≤◌, Bool, true, false, not, leb, List, [], ◌∷◌, length}
+use Rattle.std.proofs.Common.{get_or, refl, sym, ap, ◌∙◌, arith, ◌&&◌, ◌||◌, inl, inr, unwrap_or, cond, Option, Some}
 use Rattle.std.specs.List.{range_with_len, list_all, find, slice_get, position_or_len}
-use Rattle.std.proofs.lemmas.Bool.{cases_Bool, cases_eq, cases_lt, le-leb, lt-leb, and_left, and_right, and_from, or_left, or_right, or_from, not_from_true, not_from_false}
+use Rattle.std.proofs.lemmas.Bool.{cases_Bool, cases_eq, cases_lt, le-leb, lt-leb, and_left, and_right}
+use Rattle.std.proofs.lemmas.Bool.{and_from, or_left, or_right, or_from, not_from_true, not_from_false}
 use Rattle.std.proofs.lemmas.List.FromFn.{get_or-range_with_len, length-range_with_len}
 use Rattle.std.proofs.lemmas.List.Folds.{find_at, list_all_at}
 use Rattle.std.proofs.lemmas.List.Sums.{position_or_len_is}
@@ -27,7 +29,8 @@ narrowest_none D most varies spread big = record {
   first = λ e lt under v. absurd (omega arith);
 }
 
-pub narrowest_takes : (n D : ℕ) (varies : ℕ → Bool) (spread : ℕ → ℕ) (best least : ℕ) → IsNarrowestBelow n D varies spread best least → n < D → varies n ≡ true → spread n < least → IsNarrowestBelow (n + 1) D varies spread n (spread n)
+pub narrowest_takes : (n D : ℕ) (varies : ℕ → Bool) (spread : ℕ → ℕ) (best least : ℕ) → IsNarrowestBelow n D varies spread best least → n < D → varies n ≡ true
+    → spread n < least → IsNarrowestBelow (n + 1) D varies spread n (spread n)
 narrowest_takes n D varies spread best least h lt v less = record {
   within = omega arith;
   none = λ e. absurd (omega arith);
@@ -39,7 +42,8 @@ narrowest_takes n D varies spread best least h lt v less = record {
   first = λ e under before w. omega (arith, h.least_of e before w);
 }
 
-pub narrowest_keeps : (n D : ℕ) (varies : ℕ → Bool) (spread : ℕ → ℕ) (best least : ℕ) → IsNarrowestBelow n D varies spread best least → n < D → (varies n ≡ true → least ≤ spread n) → (varies n ≡ true → spread n ≤ 256) → IsNarrowestBelow (n + 1) D varies spread best least
+pub narrowest_keeps : (n D : ℕ) (varies : ℕ → Bool) (spread : ℕ → ℕ) (best least : ℕ) → IsNarrowestBelow n D varies spread best least → n < D
+    → (varies n ≡ true → least ≤ spread n) → (varies n ≡ true → spread n ≤ 256) → IsNarrowestBelow (n + 1) D varies spread best least
 narrowest_keeps n D varies spread best least h lt more small = record {
   within = h.within;
   none = h.none;
@@ -76,7 +80,8 @@ at_place a (suc n) (suc i) le =
     behind a n = omega arith
 
 -- the loop's end
-pub narrowest_is : (D : ℕ) (varies : ℕ → Bool) (spread : ℕ → ℕ) (best least : ℕ) → IsNarrowestBelow D D varies spread best least → ((e : ℕ) → e < D → varies e ≡ true → spread e ≤ 256) → unwrap_or (narrowest D varies spread) D ≡ best
+pub narrowest_is : (D : ℕ) (varies : ℕ → Bool) (spread : ℕ → ℕ) (best least : ℕ) → IsNarrowestBelow D D varies spread best least
+    → ((e : ℕ) → e < D → varies e ≡ true → spread e ≤ 256) → unwrap_or (narrowest D varies spread) D ≡ best
 unfolding narrowest
 narrowest_is D varies spread best least h small =
     ap (λ (o : Option ℕ). unwrap_or o D) (find_at test (range_with_len 0 D) ∙ ap (slice_get (range_with_len 0 D)) place)
@@ -107,7 +112,8 @@ narrowest_is D varies spread best least h small =
         | inl some ↦ (
             let f = h.found some in
             let low : spread best < spread k = omega (arith, f.2, h.first k (omega arith) before moves) in
-            let refused : passes k best ≡ false = or_from (not (varies best)) (leb (spread k) (spread best)) (not_from_true (varies best) f.1) (lt-leb (spread k) (spread best) low) in
+            let refused : passes k best ≡ false =
+            or_from (not (varies best)) (leb (spread k) (spread best)) (not_from_true (varies best) f.1) (lt-leb (spread k) (spread best) low) in
             and_right (varies k) _ (list_all_at (passes k) (range_with_len 0 D) best 0 (inside best some) (ap (passes k) (item best some) ∙ refused)))
       ]
     ]
@@ -146,7 +152,8 @@ All-range P n h = All-from_get_or P (range_with_len 0 n) 0 (λ i lt.
     let at : get_or (range_with_len 0 n) i 0 ≡ i = get_or-range_with_len 0 n i 0 under ∙ omega arith in
     rw at (h i under))
 
-pub narrowest_agree : (D : ℕ) (v w : ℕ → Bool) (s t : ℕ → ℕ) → ((d : ℕ) → d < D → v d ≡ w d) → ((d : ℕ) → d < D → v d ≡ true → s d ≡ t d) → narrowest D v s ≡ narrowest D w t
+pub narrowest_agree : (D : ℕ) (v w : ℕ → Bool) (s t : ℕ → ℕ) → ((d : ℕ) → d < D → v d ≡ w d) → ((d : ℕ) → d < D → v d ≡ true → s d ≡ t d)
+    → narrowest D v s ≡ narrowest D w t
 unfolding narrowest
 narrowest_agree D v w s t moves spreads =
     find_agree (test v s) (test w t) (range_with_len 0 D) (All-range (λ d. test v s d ≡ test w t d) D same)
@@ -165,6 +172,7 @@ narrowest_agree D v w s t moves spreads =
 
     same : (d : ℕ) → d < D → test v s d ≡ test w t d
     same d lt = elim (cases_Bool (v d)) [
-      | inl set ↦ (λ i. moves d lt i && list_all_agree (passes v s d) (passes w t d) (range_with_len 0 D) (All-range (λ e. passes v s d e ≡ passes w t d e) D (each d lt set)) i)
+      | inl set ↦ (λ i. moves d lt i
+          && list_all_agree (passes v s d) (passes w t d) (range_with_len 0 D) (All-range (λ e. passes v s d e ≡ passes w t d e) D (each d lt set)) i)
       | inr still ↦ and_left (v d) _ still ∙ sym (and_left (w d) _ (sym (moves d lt) ∙ still))
     ]

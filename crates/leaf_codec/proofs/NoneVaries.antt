@@ -1,5 +1,6 @@
 -- Where there is no sorted dimension all keys are equal, and keys are equal in their shared bytes.
-use Rattle.std.proofs.Common.{◌≡◌, ◌≢◌, ℕ, zero, suc, ◌+◌, ◌<◌, ◌≤◌, Bool, true, false, eqb, ltb, List, [], ◌∷◌, length, get_or, take, refl, sym, ap, subst, ◌∙◌, arith, inl, inr, unwrap_or, Option, ltb-true}
+use Rattle.std.proofs.Common.{◌≡◌, ◌≢◌, ℕ, zero, suc, ◌+◌, ◌<◌, ◌≤◌, Bool, true, false, eqb, ltb, List, [], ◌∷◌, length}
+use Rattle.std.proofs.Common.{get_or, take, refl, sym, ap, subst, ◌∙◌, arith, inl, inr, unwrap_or, Option, ltb-true}
 use Rattle.std.specs.List.{range_with_len}
 use Rattle.std.specs.Prelude.{Contains}
 use Rattle.std.proofs.lemmas.Bool.{cases_Bool, cases_lt, cases_eq, ltb-false, false≢true}
@@ -22,10 +23,21 @@ ends D v s small (suc n) le =
     let next : n + 1 ≡ suc n = omega arith in
     elim (cases_Bool (v n)) [
       | inl moves ↦ elim (cases_lt (s n) before.1) [
-        | inl less ↦ (n, s n, subst (λ (m : ℕ). IsNarrowestBelow m D v s n (s n)) next (narrowest_takes n D v s before.0 before.1 before.2 (omega arith) moves less))
-        | inr more ↦ (before.0, before.1, subst (λ (m : ℕ). IsNarrowestBelow m D v s before.0 before.1) next (narrowest_keeps n D v s before.0 before.1 before.2 (omega arith) (λ _. more) (λ _. small n)))
+        | inl less ↦
+            (n, s n, subst (λ (m : ℕ). IsNarrowestBelow m D v s n (s n)) next (narrowest_takes n D v s before.0 before.1 before.2 (omega arith) moves less))
+        | inr more ↦ (
+          before.0,
+          before.1,
+          subst (λ (m : ℕ). IsNarrowestBelow m D v s before.0 before.1) next
+              (narrowest_keeps n D v s before.0 before.1 before.2 (omega arith) (λ _. more) (λ _. small n)),
+        )
       ]
-      | inr still ↦ (before.0, before.1, subst (λ (m : ℕ). IsNarrowestBelow m D v s before.0 before.1) next (narrowest_keeps n D v s before.0 before.1 before.2 (omega arith) (λ moves. absurd (false≢true (sym still ∙ moves))) (λ _. small n)))
+      | inr still ↦ (
+        before.0,
+        before.1,
+        subst (λ (m : ℕ). IsNarrowestBelow m D v s before.0 before.1) next
+            (narrowest_keeps n D v s before.0 before.1 before.2 (omega arith) (λ moves. absurd (false≢true (sym still ∙ moves))) (λ _. small n)),
+      )
     ]
 
 none_varies : (D : ℕ) (v : ℕ → Bool) (s : ℕ → ℕ) → ((e : ℕ) → s e ≤ 256) → unwrap_or (narrowest D v s) D ≡ D → (e : ℕ) → e < D → v e ≡ false
@@ -41,17 +53,27 @@ none_varies D v s small none e lt =
 pub all_shared : (D : ℕ) (items : List Item) → sorted_number D items ≡ D → (d : ℕ) → d < D → shared_prefix d items ≡ 4
 unfolding sorted_dimension
 all_shared D items none d lt =
-    omega (arith, ltb-false (shared_prefix d items) 4 (none_varies D (varies items) (spread items) (λ e. count_values-le _) none d lt), shared_prefix-le d items)
+    omega (
+      arith,
+      ltb-false (shared_prefix d items) 4 (none_varies D (varies items) (spread items) (λ e. count_values-le _) none d lt),
+      shared_prefix-le d items,
+    )
 
 -- a shared byte takes one value
 shared_once : (d k : ℕ) (items : List Item) → k < shared_prefix d items → different d k items ≤ 1
 unfolding shared_prefix
 shared_once d k items lt =
-    let under : k < 4 = omega (arith, lt, prefix_len-le-length (λ i. Rattle.std.proofs.Common.not (ltb 1 (different d i items))) (range_with_len 0 4), length-range_with_len 0 4) in
+    let under : k < 4 = omega
+    (arith, lt, prefix_len-le-length (λ i. Rattle.std.proofs.Common.not (ltb 1 (different d i items))) (range_with_len 0 4), length-range_with_len 0 4) in
     let place : get_or (range_with_len 0 4) k 0 ≡ k = get_or-range_with_len 0 4 k 0 under ∙ omega arith in
-    omega (arith, ltb-false 1 (different d k items) (sym (ap (λ i. ltb 1 (different d i items)) place) ∙ fails_before_first (λ i. ltb 1 (different d i items)) (range_with_len 0 4) k 0 lt))
+    omega (
+      arith,
+      ltb-false 1 (different d k items)
+          (sym (ap (λ i. ltb 1 (different d i items)) place) ∙ fails_before_first (λ i. ltb 1 (different d i items)) (range_with_len 0 4) k 0 lt),
+    )
 
-pub shared_same : (d k i j : ℕ) (items : List Item) (x y : Item) → k < shared_prefix d items → Contains items x → Contains items y → key_byte d k x ≡ key_byte d k y
+pub shared_same : (d k i j : ℕ) (items : List Item) (x y : Item) → k < shared_prefix d items → Contains items x → Contains items y
+    → key_byte d k x ≡ key_byte d k y
 shared_same d k i j items x y lt hx hy = elim (cases_eq (key_byte d k x) (key_byte d k y)) [
   | inl same ↦ same
   | inr apart ↦ absurd (omega (arith, two_bytes d k items x y hx hy apart, shared_once d k items lt))

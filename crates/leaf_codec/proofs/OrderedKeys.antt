@@ -1,5 +1,6 @@
 -- Keys as numbers: their order is that of the coordinates, and they tell what lies in a cell.
-use Rattle.std.proofs.Common.{◌≡◌, ◌≢◌, ◌<◌, ◌≤◌, ◌+◌, ◌-◌, ◌*◌, ◌^◌, ℕ, zero, suc, ltb, Bool, true, List, [], ◌∷◌, length, get_or, take, drop, cond, refl, sym, ap, subst, ◌∙◌, arith, inl, inr, ℤ, pos, negsuc}
+use Rattle.std.proofs.Common.{◌≡◌, ◌≢◌, ◌<◌, ◌≤◌, ◌+◌, ◌-◌, ◌*◌, ◌^◌, ℕ, zero, suc, ltb, Bool, true, List, [], ◌∷◌, length}
+use Rattle.std.proofs.Common.{get_or, take, drop, cond, refl, sym, ap, subst, ◌∙◌, arith, inl, inr, ℤ, pos, negsuc}
 use Rattle.std.specs.Prelude.{FitsSigned, int_le, bit_and}
 use Rattle.std.specs.Int.{w32}
 use Rattle.std.specs.Ordering.{int_cmp, nat_cmp}
@@ -33,9 +34,11 @@ high_rank n ge = cond-false (ltb n (2 ^ 31)) (negsuc (2 ^ 31 - 1 - n)) (pos (n -
 -- the coordinate of the less rank is less
 less_ranked : (m n : ℕ) → m < n → int_cmp (at_rank m) (at_rank n) ≡ Less
 less_ranked m n lt = elim (cases_lt n (2 ^ 31)) [
-  | inl low ↦ (λ j. int_cmp (low_rank m (omega arith) j) (low_rank n low j)) ∙ sym (int_cmp_is (negsuc (2 ^ 31 - 1 - m)) (negsuc (2 ^ 31 - 1 - n)) Less (omega (arith, ints)))
+  | inl low ↦ (λ j. int_cmp (low_rank m (omega arith) j) (low_rank n low j))
+      ∙ sym (int_cmp_is (negsuc (2 ^ 31 - 1 - m)) (negsuc (2 ^ 31 - 1 - n)) Less (omega (arith, ints)))
   | inr high ↦ elim (cases_lt m (2 ^ 31)) [
-    | inl low ↦ (λ j. int_cmp (low_rank m low j) (high_rank n high j)) ∙ sym (int_cmp_is (negsuc (2 ^ 31 - 1 - m)) (pos (n - 2 ^ 31)) Less (omega (arith, ints)))
+    | inl low ↦
+        (λ j. int_cmp (low_rank m low j) (high_rank n high j)) ∙ sym (int_cmp_is (negsuc (2 ^ 31 - 1 - m)) (pos (n - 2 ^ 31)) Less (omega (arith, ints)))
     | inr both ↦ (λ j. int_cmp (high_rank m both j) (high_rank n high j)) ∙ sym (int_cmp_is (pos (m - 2 ^ 31)) (pos (n - 2 ^ 31)) Less (omega (arith, ints)))
   ]
 ]
@@ -61,7 +64,8 @@ from_rank_le (pos a) n f h = elim (cases_lt n (2 ^ 31)) [
   | inr high ↦ (let is : int_le (pos a) (pos (n - 2 ^ 31)) ≡ true = sym (ap (λ (y : ℤ). int_le (pos a) y) (high_rank n high)) ∙ h in grind (arith, nat_tests))
 ]
 from_rank_le (negsuc a) n f h = elim (cases_lt n (2 ^ 31)) [
-  | inl low ↦ (let is : int_le (negsuc a) (negsuc (2 ^ 31 - 1 - n)) ≡ true = sym (ap (λ (y : ℤ). int_le (negsuc a) y) (low_rank n low)) ∙ h in grind (arith, nat_tests))
+  | inl low ↦
+      (let is : int_le (negsuc a) (negsuc (2 ^ 31 - 1 - n)) ≡ true = sym (ap (λ (y : ℤ). int_le (negsuc a) y) (low_rank n low)) ∙ h in grind (arith, nat_tests))
   | inr high ↦ omega arith
 ]
 
@@ -71,7 +75,8 @@ from_le_rank n (pos a) f h = elim (cases_lt n (2 ^ 31)) [
   | inr high ↦ (let is : int_le (pos (n - 2 ^ 31)) (pos a) ≡ true = sym (ap (λ (y : ℤ). int_le y (pos a)) (high_rank n high)) ∙ h in grind (arith, nat_tests))
 ]
 from_le_rank n (negsuc a) f h = elim (cases_lt n (2 ^ 31)) [
-  | inl low ↦ (let is : int_le (negsuc (2 ^ 31 - 1 - n)) (negsuc a) ≡ true = sym (ap (λ (y : ℤ). int_le y (negsuc a)) (low_rank n low)) ∙ h in grind (arith, nat_tests))
+  | inl low ↦
+      (let is : int_le (negsuc (2 ^ 31 - 1 - n)) (negsuc a) ≡ true = sym (ap (λ (y : ℤ). int_le y (negsuc a)) (low_rank n low)) ∙ h in grind (arith, nat_tests))
   | inr high ↦ absurd (let no : int_le (pos (n - 2 ^ 31)) (negsuc a) ≡ true = sym (ap (λ (y : ℤ). int_le y (negsuc a)) (high_rank n high)) ∙ h in cc)
 ]
 
@@ -115,21 +120,27 @@ less_word D d i j n r lt small less =
     let y : Item = record { doc = n.least + offset_at n j; at = point_at D r j } in
     (λ k. leaf_cmp d (raw_item_is D i n r k) (raw_item_is D j n r k))
     ∙ elim (cases_lt (rank_of D r i d) (rank_of D r j d)) [
-      | inl under ↦ less_first d x y ((λ k. int_cmp (coordinate_at D i d r lt k) (coordinate_at D j d r lt k)) ∙ less_ranked (rank_of D r i d) (rank_of D r j d) under)
+      | inl under ↦
+          less_first d x y ((λ k. int_cmp (coordinate_at D i d r lt k) (coordinate_at D j d r lt k)) ∙ less_ranked (rank_of D r i d) (rank_of D r j d) under)
       | inr over ↦
           let same : rank_of D r i d ≡ rank_of D r j d = omega arith in
           let docs : n.least + offset_at n i < n.least + offset_at n j = omega arith in
-          let at : get_or (point_at D r i) d (pos 0) ≡ get_or (point_at D r j) d (pos 0) = coordinate_at D i d r lt ∙ ap at_rank same ∙ sym (coordinate_at D j d r lt) in
-          less_second d x y (ap (λ (c : ℤ). int_cmp c (get_or (point_at D r j) d (pos 0))) at ∙ sym (int_cmp_is (get_or (point_at D r j) d (pos 0)) (get_or (point_at D r j) d (pos 0)) Equal refl)) (grind (arith, nat_tests))
+          let at : get_or (point_at D r i) d (pos 0) ≡ get_or (point_at D r j) d (pos 0) =
+          coordinate_at D i d r lt ∙ ap at_rank same ∙ sym (coordinate_at D j d r lt) in
+          less_second d x y
+          (ap (λ (c : ℤ). int_cmp c (get_or (point_at D r j) d (pos 0))) at ∙ sym
+          (int_cmp_is (get_or (point_at D r j) d (pos 0)) (get_or (point_at D r j) d (pos 0)) Equal refl)) (grind (arith, nat_tests))
     ]
 
 -- what comes before has no greater key
-pub less_rank : (D d i j : ℕ) (n : RawNumbers) (r : RawKeys) → d < D → leaf_cmp d (raw_item D n r i) (raw_item D n r j) ≡ Less → rank_of D r i d ≤ rank_of D r j d
+pub less_rank : (D d i j : ℕ) (n : RawNumbers) (r : RawKeys) → d < D → leaf_cmp d (raw_item D n r i) (raw_item D n r j) ≡ Less
+    → rank_of D r i d ≤ rank_of D r j d
 less_rank D d i j n r lt less = elim (cases_lt (rank_of D r j d) (rank_of D r i d)) [
   | inl over ↦
       let x : Item = record { doc = n.least + offset_at n i; at = point_at D r i } in
       let y : Item = record { doc = n.least + offset_at n j; at = point_at D r j } in
-      let back : int_cmp (get_or y.at d (pos 0)) (get_or x.at d (pos 0)) ≡ Less = (λ k. int_cmp (coordinate_at D j d r lt k) (coordinate_at D i d r lt k)) ∙ less_ranked (rank_of D r j d) (rank_of D r i d) over in
+      let back : int_cmp (get_or y.at d (pos 0)) (get_or x.at d (pos 0)) ≡ Less =
+      (λ k. int_cmp (coordinate_at D j d r lt k) (coordinate_at D i d r lt k)) ∙ less_ranked (rank_of D r j d) (rank_of D r i d) over in
       let greater : int_cmp (get_or x.at d (pos 0)) (get_or y.at d (pos 0)) ≡ Greater = grind (arith, nat_tests) in
       absurd (not_greater d x y greater (sym (λ k. leaf_cmp d (raw_item_is D i n r k) (raw_item_is D j n r k)) ∙ less))
   | inr under ↦ under
@@ -156,10 +167,13 @@ AreBetween D count r e low high = (i : ℕ) → i < count → (low ≤ rank_of D
 -- and the coordinates between two coordinates
 abbrev pub AreWithin : (D count : ℕ) → RawKeys → Region → ℕ → Type 0
 AreWithin D count r cell e = (i : ℕ) → i < count
-    → (int_le (get_or cell.lo e (pos 0)) (get_or (point_at D r i) e (pos 0)) ≡ true) × (int_le (get_or (point_at D r i) e (pos 0)) (get_or cell.hi e (pos 0)) ≡ true)
+    → (int_le (get_or cell.lo e (pos 0)) (get_or (point_at D r i) e (pos 0)) ≡ true)
+    × (int_le (get_or (point_at D r i) e (pos 0)) (get_or cell.hi e (pos 0)) ≡ true)
 
-pub between_within : (D count : ℕ) (r : RawKeys) (cell : Region) (e low high : ℕ) → e < D → FitsSigned w32 (get_or cell.lo e (pos 0)) → FitsSigned w32 (get_or cell.hi e (pos 0))
-    → low ≡ number_of (key (get_or cell.lo e (pos 0))) → high ≡ number_of (key (get_or cell.hi e (pos 0))) → AreBetween D count r e low high → AreWithin D count r cell e
+pub between_within : (D count : ℕ) (r : RawKeys) (cell : Region) (e low high : ℕ) → e < D → FitsSigned w32 (get_or cell.lo e (pos 0))
+    → FitsSigned w32 (get_or cell.hi e (pos 0))
+    → low ≡ number_of (key (get_or cell.lo e (pos 0))) → high ≡ number_of (key (get_or cell.hi e (pos 0))) → AreBetween D count r e low high
+    → AreWithin D count r cell e
 between_within D count r cell e low high lt fits_lo fits_hi low_is high_is h i under =
     let lo : ℤ = get_or cell.lo e (pos 0) in
     let hi : ℤ = get_or cell.hi e (pos 0) in
@@ -169,8 +183,10 @@ between_within D count r cell e low high lt fits_lo fits_hi low_is high_is h i u
       ap (λ (c : ℤ). int_le c hi) at ∙ le_rank (rank_of D r i e) hi fits_hi (omega (arith, b.1, high_is, key_number hi fits_hi)),
     )
 
-pub within_between : (D count : ℕ) (r : RawKeys) (cell : Region) (e low high : ℕ) → e < D → FitsSigned w32 (get_or cell.lo e (pos 0)) → FitsSigned w32 (get_or cell.hi e (pos 0))
-    → low ≡ number_of (key (get_or cell.lo e (pos 0))) → high ≡ number_of (key (get_or cell.hi e (pos 0))) → AreWithin D count r cell e → AreBetween D count r e low high
+pub within_between : (D count : ℕ) (r : RawKeys) (cell : Region) (e low high : ℕ) → e < D → FitsSigned w32 (get_or cell.lo e (pos 0))
+    → FitsSigned w32 (get_or cell.hi e (pos 0))
+    → low ≡ number_of (key (get_or cell.lo e (pos 0))) → high ≡ number_of (key (get_or cell.hi e (pos 0))) → AreWithin D count r cell e
+    → AreBetween D count r e low high
 within_between D count r cell e low high lt fits_lo fits_hi low_is high_is h i under =
     let lo : ℤ = get_or cell.lo e (pos 0) in
     let hi : ℤ = get_or cell.hi e (pos 0) in
@@ -184,7 +200,8 @@ all_le_each : (a b : List ℤ) → length a ≡ length b → ((e : ℕ) → e < 
 all_le_each [] [] same h = refl
 all_le_each [] (y ∷ ys) same h = absurd (omega arith)
 all_le_each (x ∷ xs) [] same h = absurd (omega arith)
-all_le_each (x ∷ xs) (y ∷ ys) same h = and_from (int_le x y) (all_le xs ys) (h 0 (omega arith)) (all_le_each xs ys (omega arith) (λ e lt. h (suc e) (omega arith)))
+all_le_each (x ∷ xs) (y ∷ ys) same h =
+    and_from (int_le x y) (all_le xs ys) (h 0 (omega arith)) (all_le_each xs ys (omega arith) (λ e lt. h (suc e) (omega arith)))
 
 all_le_get : (a b : List ℤ) (e : ℕ) → all_le a b ≡ true → e < length a → int_le (get_or a e (pos 0)) (get_or b e (pos 0)) ≡ true
 all_le_get [] b e h lt = absurd (omega arith)

@@ -1,5 +1,6 @@
 -- What a leaf says of its dimensions depends on the items and not on their order.
-use Rattle.std.proofs.Common.{◌≡◌, ℕ, ◌<◌, ◌≤◌, Bool, true, ltb, eqb, List, [], ◌∷◌, cond, refl, ap, ◌∙◌, arith, ◌&&◌, ◌||◌, Option, Some, None, unwrap_or, IfSome, not, leb, inl, inr}
+use Rattle.std.proofs.Common.{◌≡◌, ℕ, ◌<◌, ◌≤◌, Bool, true, ltb, eqb, List, [], ◌∷◌, cond, refl, ap, ◌∙◌}
+use Rattle.std.proofs.Common.{arith, ◌&&◌, ◌||◌, Option, Some, None, unwrap_or, IfSome, not, leb, inl, inr}
 use Rattle.std.specs.List.{range_with_len, list_all, find, All, position_or_len}
 use Rattle.std.specs.List.Sorted.{IsPermutation}
 use Rattle.std.proofs.lemmas.Bool.{cases_Bool, and_parts}
@@ -45,7 +46,9 @@ unfolding sorted_dimension
 sorted_found D items d e = narrowest_found D (varies items) (spread items) d e
 
 -- the dimension that leads, from the sorted one with D for none
-pub leads : (D : ℕ) (items : List Item) → (unwrap_or (sorted_dimension D items) D < D → unwrap_or (sorted_dimension D items) 0 ≡ unwrap_or (sorted_dimension D items) D) × (D ≤ unwrap_or (sorted_dimension D items) D → unwrap_or (sorted_dimension D items) 0 ≡ 0)
+pub leads : (D : ℕ) (items : List Item)
+    → (unwrap_or (sorted_dimension D items) D < D → unwrap_or (sorted_dimension D items) 0 ≡ unwrap_or (sorted_dimension D items) D)
+    × (D ≤ unwrap_or (sorted_dimension D items) D → unwrap_or (sorted_dimension D items) 0 ≡ 0)
 leads D items = by (sorted_dimension D items) (λ d e. (sorted_found D items d e).1)
   where
     by : (o : Option ℕ) → ((d : ℕ) → o ≡ Some d → d < D) → (unwrap_or o D < D → unwrap_or o 0 ≡ unwrap_or o D) × (D ≤ unwrap_or o D → unwrap_or o 0 ≡ 0)

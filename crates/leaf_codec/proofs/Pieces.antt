@@ -1,9 +1,11 @@
 -- The pieces of bytes, one after another from the front.
-use Rattle.std.proofs.Common.{◌≡◌, ◌≢◌, ℕ, zero, suc, Bool, true, subst, ◌+◌, ◌-◌, ◌*◌, ◌/◌, ◌%◌, ◌<◌, ◌≤◌, false, eqb, List, [], ◌∷◌, ◌++◌, length, get_or, take, drop, replicate, refl, sym, ap, ◌∙◌, arith, inl, inr, ◌⊎◌, append-nil, add-one}
+use Rattle.std.proofs.Common.{◌≡◌, ◌≢◌, ℕ, zero, suc, Bool, true, subst, ◌+◌, ◌-◌, ◌*◌, ◌/◌, ◌%◌, ◌<◌, ◌≤◌, false, eqb, List, [], ◌∷◌}
+use Rattle.std.proofs.Common.{◌++◌, length, get_or, take, drop, replicate, refl, sym, ap, ◌∙◌, arith, inl, inr, ◌⊎◌, append-nil, add-one}
 use Rattle.std.specs.Prelude.{◌||◌, not}
 use Rattle.std.specs.List.{flat_map, All}
 use Rattle.std.proofs.lemmas.Bool.{cases_Bool, cases_eq, cases_lt, eqb-true, eqb-false, eq-eqb, ne_eqb, cond-true, cond-false}
-use Rattle.std.proofs.lemmas.List.{replicate-append-replicate, same_lists, get_or_default, get_or-take, get_or-replicate, length-take, length-replicate, take-append-drop}
+use Rattle.std.proofs.lemmas.List.{replicate-append-replicate, same_lists, get_or_default, get_or-take}
+use Rattle.std.proofs.lemmas.List.{get_or-replicate, length-take, length-replicate, take-append-drop}
 use Rattle.std.proofs.lemmas.List.Concat.{flat_map-append}
 use Rattle.std.proofs.lemmas.List.Elements.{All-nil, All-cons, All-head, All-tail, All-append, All-replicate}
 use Rattle.leaf_codec.specs.Words.{AreBytes, pairs_expanded}
@@ -66,7 +68,8 @@ long_run b m =
 alone : (b k : ℕ) (ys : List ℕ) → suc k ≤ 256 → BeginsOther b ys → pieces (replicate (suc k) b ++ ys) ≡ (b, suc k) ∷ pieces ys
 unfolding pieces
 alone b k ys few other =
-    ap (flat_map pieces_of_run) (run_alone b k ys other) ∙ ap (λ (ps : List (ℕ × ℕ)). ps ++ flat_map pieces_of_run (runs ys)) (short_run b (suc k) (omega arith) few)
+    ap (flat_map pieces_of_run) (run_alone b k ys other)
+    ∙ ap (λ (ps : List (ℕ × ℕ)). ps ++ flat_map pieces_of_run (runs ys)) (short_run b (suc k) (omega arith) few)
 
 joined : (b k y : ℕ) (ys : List ℕ) → suc k ≡ 256 → y ≡ b → pieces (replicate (suc k) b ++ (y ∷ ys)) ≡ (b, suc k) ∷ pieces (y ∷ ys)
 unfolding pieces
@@ -111,7 +114,8 @@ begins_from b zero (y ∷ bs) h = h (omega arith)
 begins_from b (suc n) (y ∷ bs) h = begins_from b n bs (λ lt. h (omega arith))
 
 -- the first n bytes are b, and n is 256 or another byte stands behind them
-pub pieces_from : (b n : ℕ) (bs : List ℕ) → 1 ≤ n → n ≤ 256 → n ≤ length bs → ((k : ℕ) → k < n → get_or bs k 0 ≡ b) → (n < length bs → n < 256 → get_or bs n 0 ≢ b) → pieces bs ≡ (b, n) ∷ pieces (drop n bs)
+pub pieces_from : (b n : ℕ) (bs : List ℕ) → 1 ≤ n → n ≤ 256 → n ≤ length bs → ((k : ℕ) → k < n → get_or bs k 0 ≡ b)
+    → (n < length bs → n < 256 → get_or bs n 0 ≢ b) → pieces bs ≡ (b, n) ∷ pieces (drop n bs)
 pieces_from b n bs some few within same ends =
     let front : take n bs ≡ replicate n b = same_lists (take n bs) (replicate n b) (omega (arith, length-take n bs, length-replicate n b)) (λ k d lt.
     let under : k < n = omega (arith, lt, length-take n bs) in
@@ -133,7 +137,8 @@ replicate-joined m n b = replicate-append-replicate m n b
 
 expanded-same : (k b : ℕ) → expanded (replicate k (b, 256)) ≡ replicate (k * 256) b
 expanded-same zero b = refl
-expanded-same (suc k) b = ap (λ (t : List ℕ). replicate 256 b ++ t) (expanded-same k b) ∙ replicate-joined 256 (k * 256) b ∙ ap (λ n. replicate n b) (omega arith)
+expanded-same (suc k) b =
+    ap (λ (t : List ℕ). replicate 256 b ++ t) (expanded-same k b) ∙ replicate-joined 256 (k * 256) b ∙ ap (λ n. replicate n b) (omega arith)
 
 run_expanded : (b n : ℕ) → 1 ≤ n → expanded (pieces_of_run (b, n)) ≡ replicate n b
 run_expanded b n some =
@@ -215,7 +220,8 @@ IsCut spelled = flat_map piece_bytes (pieces (pairs_expanded spelled)) ≡ spell
 pairs_begin : (c m : ℕ) (spelled : List ℕ) → pairs_expanded (c ∷ m ∷ spelled) ≡ c ∷ (replicate m c ++ pairs_expanded spelled)
 pairs_begin c m spelled = rw add-one refl
 
-piece_again : (b l : ℕ) (ys : List ℕ) → pieces (replicate (l + 1) b ++ ys) ≡ (b, l + 1) ∷ pieces ys → flat_map piece_bytes (pieces (replicate (l + 1) b ++ ys)) ≡ b ∷ l ∷ flat_map piece_bytes (pieces ys)
+piece_again : (b l : ℕ) (ys : List ℕ) → pieces (replicate (l + 1) b ++ ys) ≡ (b, l + 1) ∷ pieces ys
+    → flat_map piece_bytes (pieces (replicate (l + 1) b ++ ys)) ≡ b ∷ l ∷ flat_map piece_bytes (pieces ys)
 piece_again b l ys is =
     let back : l + 1 - 1 ≡ l = omega arith in
     ap (flat_map piece_bytes) is ∙ ap (λ n. b ∷ n ∷ flat_map piece_bytes (pieces ys)) back
@@ -238,7 +244,8 @@ cut_short (b ∷ l ∷ c ∷ []) few even bytes = absurd (omega (arith, even))
 cut_short (b ∷ l ∷ c ∷ m ∷ rest) few even bytes = absurd (omega arith)
 
 -- a piece stands by itself where it is of 256 bytes or another byte follows
-stands : (b l c m : ℕ) (spelled : List ℕ) → l < 256 → (l ≡ 255) ⊎ (b ≢ c) → pieces (pairs_expanded (b ∷ l ∷ c ∷ m ∷ spelled)) ≡ (b, l + 1) ∷ pieces (pairs_expanded (c ∷ m ∷ spelled))
+stands : (b l c m : ℕ) (spelled : List ℕ) → l < 256 → (l ≡ 255) ⊎ (b ≢ c)
+    → pieces (pairs_expanded (b ∷ l ∷ c ∷ m ∷ spelled)) ≡ (b, l + 1) ∷ pieces (pairs_expanded (c ∷ m ∷ spelled))
 unfolding BeginsOther
 stands b l c m spelled few alone =
     pieces_front b (l + 1) (pairs_expanded (c ∷ m ∷ spelled)) (omega arith) (omega arith) (elim alone [
@@ -256,7 +263,8 @@ first_again b n ps l tail more few is = elim (cases_lt 256 n) [
       let m : ℕ = n - 257 in
       let is_long : n ≡ suc m + 256 = omega arith in
       let cut : pieces_of_run (b, n) ≡ (b, 256) ∷ pieces_of_run (b, suc m) = ap (λ k. pieces_of_run (b, k)) is_long ∙ long_run b m in
-      let two : b ∷ 255 ∷ flat_map piece_bytes (pieces_of_run (b, suc m) ++ ps) ≡ b ∷ l ∷ tail = sym (ap (λ (t : List (ℕ × ℕ)). flat_map piece_bytes (t ++ ps)) cut) ∙ is in
+      let two : b ∷ 255 ∷ flat_map piece_bytes (pieces_of_run (b, suc m) ++ ps) ≡ b ∷ l ∷ tail =
+      sym (ap (λ (t : List (ℕ × ℕ)). flat_map piece_bytes (t ++ ps)) cut) ∙ is in
       let same : 255 ≡ l = second b 255 _ b l tail two in
       absurd (omega (arith, same))
   | inr short ↦
@@ -274,8 +282,10 @@ unfolding pieces
 goes_on b l c m spelled few same is =
     let ys : List ℕ = replicate m c ++ pairs_expanded spelled in
     let h = runs_head c ys in
-    let starts : runs (pairs_expanded (c ∷ m ∷ spelled)) ≡ one_run b (suc h.0) h.1 = ap runs (pairs_begin c m spelled) ∙ h.2 ∙ ap (λ x. one_run x (suc h.0) h.1) (sym same) in
-    let all : runs (pairs_expanded (b ∷ l ∷ c ∷ m ∷ spelled)) ≡ one_run b (suc h.0 + (l + 1)) h.1 = run_joined b (l + 1) (suc h.0) (pairs_expanded (c ∷ m ∷ spelled)) h.1 starts in
+    let starts : runs (pairs_expanded (c ∷ m ∷ spelled)) ≡ one_run b (suc h.0) h.1 =
+    ap runs (pairs_begin c m spelled) ∙ h.2 ∙ ap (λ x. one_run x (suc h.0) h.1) (sym same) in
+    let all : runs (pairs_expanded (b ∷ l ∷ c ∷ m ∷ spelled)) ≡ one_run b (suc h.0 + (l + 1)) h.1 =
+    run_joined b (l + 1) (suc h.0) (pairs_expanded (c ∷ m ∷ spelled)) h.1 starts in
     first_again b (suc h.0 + (l + 1)) (flat_map pieces_of_run h.1) l (c ∷ m ∷ spelled) (omega arith) few
     (sym (ap (λ (rs : List (ℕ × ℕ)). flat_map piece_bytes (flat_map pieces_of_run rs)) all) ∙ is)
 
@@ -285,14 +295,16 @@ pub record CutStep (spelled : List ℕ) (right : Bool) : Type 0 where
   pub back : right ≡ true → IsCut (drop 2 spelled) → IsCut spelled
   pub wrong : right ≡ false → IsCut spelled → ⊥
 
-pub cut_step : (spelled : List ℕ) (right : Bool) → 4 ≤ length spelled → get_or spelled 1 0 < 256 → (eqb (get_or spelled 1 0) 255 || not (eqb (get_or spelled 0 0) (get_or spelled 2 0))) ≡ right → CutStep spelled right
+pub cut_step : (spelled : List ℕ) (right : Bool) → 4 ≤ length spelled → get_or spelled 1 0 < 256
+    → (eqb (get_or spelled 1 0) 255 || not (eqb (get_or spelled 0 0) (get_or spelled 2 0))) ≡ right → CutStep spelled right
 cut_step [] right long few is = absurd (omega arith)
 cut_step (b ∷ []) right long few is = absurd (omega arith)
 cut_step (b ∷ l ∷ []) right long few is = absurd (omega arith)
 cut_step (b ∷ l ∷ c ∷ []) right long few is = absurd (omega arith)
 cut_step (b ∷ l ∷ c ∷ m ∷ spelled) right long few is = record {
   onward = λ right_is h. tail2 b l b l _ _ (sym (piece_again b l (pairs_expanded (c ∷ m ∷ spelled)) (stands b l c m spelled few (apart (is ∙ right_is)))) ∙ h);
-  back = λ right_is h. piece_again b l (pairs_expanded (c ∷ m ∷ spelled)) (stands b l c m spelled few (apart (is ∙ right_is))) ∙ ap (λ (t : List ℕ). b ∷ l ∷ t) h;
+  back = λ right_is h.
+      piece_again b l (pairs_expanded (c ∷ m ∷ spelled)) (stands b l c m spelled few (apart (is ∙ right_is))) ∙ ap (λ (t : List ℕ). b ∷ l ∷ t) h;
   wrong = λ right_is. (let w = both (is ∙ right_is) in goes_on b l c m spelled w.0 w.1);
 }
   where

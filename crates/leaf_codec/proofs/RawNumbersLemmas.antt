@@ -1,5 +1,7 @@
 -- The numbers of a leaf and the fields that spell them.
-use Rattle.std.proofs.Common.{◌≡◌, ◌<◌, ◌≤◌, ◌+◌, ◌-◌, ◌*◌, ◌^◌, ◌%◌, ℕ, zero, suc, false, List, [], ◌∷◌, ◌++◌, length, get_or, take, drop, replicate, refl, sym, ap, subst, ◌∙◌, arith, cond, ltb, eqb, inl, inr, take-append-drop, length-take, length-drop, length-append, drop_at, mul-le-mul_right, mod-eq_of_lt, append_assoc, max}
+use Rattle.std.proofs.Common.{◌≡◌, ◌<◌, ◌≤◌, ◌+◌, ◌-◌, ◌*◌, ◌^◌, ◌%◌, ℕ, zero, suc, false, List, [], ◌∷◌, ◌++◌, length, get_or}
+use Rattle.std.proofs.Common.{take, drop, replicate, refl, sym, ap, subst, ◌∙◌, arith, cond, ltb, eqb, inl, inr, take-append-drop}
+use Rattle.std.proofs.Common.{length-take, length-drop, length-append, drop_at, mul-le-mul_right, mod-eq_of_lt, append_assoc, max}
 use Rattle.std.specs.List.{flat_map, All, fold, sum_by}
 use Rattle.std.specs.Int.{w32, to_be_bytes}
 use Rattle.std.proofs.lemmas.Bool.{cases_Bool, cases_eq, ne_eqb, cond-true, cond-false, ltb-true}
@@ -52,7 +54,8 @@ number_of-zeros (suc k) = omega (arith, number_of-zeros k)
 pub low_bytes-number_of : (w : ℕ) (bs : List ℕ) → w ≤ 4 → length bs ≡ w → AreBytes bs → low_bytes w (number_of bs) ≡ bs
 low_bytes-number_of w bs le long h =
     let four = replicate (4 - w) 0 ++ bs in
-    let same : number_of four ≡ number_of bs = number_of-append (replicate (4 - w) 0) bs ∙ ap (λ z. z * 256 ^ length bs + number_of bs) (number_of-zeros (4 - w)) ∙ omega arith in
+    let same : number_of four ≡ number_of bs =
+    number_of-append (replicate (4 - w) 0) bs ∙ ap (λ z. z * 256 ^ length bs + number_of bs) (number_of-zeros (4 - w)) ∙ omega arith in
     let whole : length four ≡ 4 = omega (arith, length-append (replicate (4 - w) 0) bs, length-replicate {A = ℕ} (4 - w) 0, long) in
     let zeros : AreBytes (replicate (4 - w) 0) = All-replicate (λ (x : ℕ). x < 256) (4 - w) 0 (omega arith) in
     ap (λ n. drop (4 - w) (to_be_bytes w32 n)) (sym same)
@@ -108,9 +111,11 @@ greatest-lt ns m pos h = by 0 ns pos h
     by k [] low h = low
     by k (x ∷ xs) low h = by (max k x) xs (omega (arith, All-head (λ (n : ℕ). n < m) x xs h)) (All-tail (λ (n : ℕ). n < m) x xs h)
 
-spelled_offset : (ns : List ℕ) (i : ℕ) → i < length ns → take (form ns) (drop (i * form ns) (raw_numbers ns).offsets) ≡ low_bytes (form ns) (get_or ns i 0 - least ns)
+spelled_offset : (ns : List ℕ) (i : ℕ) → i < length ns
+    → take (form ns) (drop (i * form ns) (raw_numbers ns).offsets) ≡ low_bytes (form ns) (get_or ns i 0 - least ns)
 spelled_offset ns i lt =
-    chunk_at (λ n. low_bytes (form ns) (n - least ns)) (form ns) ns i 0 lt (λ k under. length-low_bytes (form ns) (get_or ns k 0 - least ns) (omega (arith, form-le ns)))
+    chunk_at (λ n. low_bytes (form ns) (n - least ns)) (form ns) ns i 0 lt
+    (λ k under. length-low_bytes (form ns) (get_or ns k 0 - least ns) (omega (arith, form-le ns)))
 
 -- the fields say the offsets
 offset_is : (ns : List ℕ) (i : ℕ) → All (λ n. n < 2 ^ 24) ns → i < length ns → offset_at (raw_numbers ns) i ≡ get_or ns i 0 - least ns
@@ -123,7 +128,8 @@ offset_is ns i small lt = elim (cases_Bool (is_row ns)) [
       let some : eqb (form ns) 0 ≡ false = ne_eqb (form ns) 0 (λ e. absurd (omega (arith, form_other ns other, (width-le (greatest ns - least ns)).0))) in
       let high = greatest-lt ns (2 ^ 24) (omega arith) small in
       (λ j. cond (some j) i 0 + number_of (spelled_offset ns i lt j))
-      ∙ ap (λ m. 0 + m) (number_of-low_bytes (form ns) (get_or ns i 0 - least ns) (omega (arith, form-le ns)) (omega (arith, small i 0 lt)) (offset-fits ns i other high lt))
+      ∙ ap (λ m. 0 + m)
+      (number_of-low_bytes (form ns) (get_or ns i 0 - least ns) (omega (arith, form-le ns)) (omega (arith, small i 0 lt)) (offset-fits ns i other high lt))
       ∙ omega arith)
 ]
 
@@ -152,21 +158,26 @@ raw_numbers_are ns some small = record {
 -- ---- the spelling of the numbers that fields say
 
 -- the bytes of number i less the least
-chunk-is : (count : ℕ) (r : RawNumbers) → AreRawNumbers count r → (i : ℕ) → i < count → low_bytes r.width (offset_at r i) ≡ take r.width (drop (i * r.width) r.offsets)
+chunk-is : (count : ℕ) (r : RawNumbers) → AreRawNumbers count r → (i : ℕ) → i < count
+    → low_bytes r.width (offset_at r i) ≡ take r.width (drop (i * r.width) r.offsets)
 chunk-is count r h i lt = elim (cases_eq r.width 0) [
   | inl none ↦ ap (λ w. low_bytes w (offset_at r i)) none ∙ ap (λ w. take w (drop (i * r.width) r.offsets)) (sym none)
   | inr some ↦ (
       let chunk = take r.width (drop (i * r.width) r.offsets) in
-      let long : length chunk ≡ r.width = omega (arith, length-take r.width (drop (i * r.width) r.offsets), length-drop (i * r.width) r.offsets, h.sized, mul-le-mul_right r.width (next i lt)) in
-      let small : AreBytes chunk = All-take (λ (x : ℕ). x < 256) r.width (drop (i * r.width) r.offsets) (All-drop (λ (x : ℕ). x < 256) (i * r.width) r.offsets h.bytes) in
-      (λ j. low_bytes r.width (cond (ne_eqb r.width 0 some j) i 0 + number_of chunk)) ∙ ap (low_bytes r.width) (omega arith) ∙ low_bytes-number_of r.width chunk (omega (arith, h.narrow)) long small)
+      let long : length chunk ≡ r.width =
+      omega (arith, length-take r.width (drop (i * r.width) r.offsets), length-drop (i * r.width) r.offsets, h.sized, mul-le-mul_right r.width (next i lt)) in
+      let small : AreBytes chunk =
+      All-take (λ (x : ℕ). x < 256) r.width (drop (i * r.width) r.offsets) (All-drop (λ (x : ℕ). x < 256) (i * r.width) r.offsets h.bytes) in
+      (λ j. low_bytes r.width (cond (ne_eqb r.width 0 some j) i 0 + number_of chunk)) ∙ ap (low_bytes r.width) (omega arith)
+      ∙ low_bytes-number_of r.width chunk (omega (arith, h.narrow)) long small)
 ]
   where
     next : (i : ℕ) → i < count → i + 1 ≤ count
     next i lt = omega arith
 
 -- where the form and the least are the fields', the offsets are too
-pub numbers_again : (count : ℕ) (r : RawNumbers) → AreRawNumbers count r → form (raw_docs count r) ≡ r.width → least (raw_docs count r) ≡ r.least → raw_numbers (raw_docs count r) ≡ r
+pub numbers_again : (count : ℕ) (r : RawNumbers) → AreRawNumbers count r → form (raw_docs count r) ≡ r.width → least (raw_docs count r) ≡ r.least
+    → raw_numbers (raw_docs count r) ≡ r
 unfolding raw_docs
 numbers_again count r h is_form is_least =
     let ns = raw_docs count r in
@@ -183,7 +194,8 @@ numbers_again count r h is_form is_least =
 
 -- ---- no bytes begin with the fields of two lists of numbers
 
-pub numbers_front : (count : ℕ) (r s : RawNumbers) (x y : List ℕ) → AreRawNumbers count r → AreRawNumbers count s → numbers_bytes r ++ x ≡ numbers_bytes s ++ y → (r ≡ s) × (x ≡ y)
+pub numbers_front : (count : ℕ) (r s : RawNumbers) (x y : List ℕ) → AreRawNumbers count r → AreRawNumbers count s → numbers_bytes r ++ x ≡ numbers_bytes s ++ y
+    → (r ≡ s) × (x ≡ y)
 numbers_front count r s x y hr hs e =
     let head : r.width ≡ s.width = cc in
     let tail : (vint r.least ++ r.offsets) ++ x ≡ (vint s.least ++ s.offsets) ++ y = cc in

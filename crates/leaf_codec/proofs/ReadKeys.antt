@@ -1,5 +1,6 @@
 -- Reading keys from words.
-use Rattle.std.proofs.Common.{◌≡◌, ◌<◌, ◌≤◌, ◌+◌, ◌-◌, ◌*◌, ◌^◌, ℕ, zero, suc, Bool, true, false, List, [], ◌∷◌, ◌++◌, length, get_or, take, drop, refl, sym, ap, ◌∙◌, arith, cond, eqb, inl, inr, length-take, length-drop, length-append, mul-le-mul_right, drop-drop}
+use Rattle.std.proofs.Common.{◌≡◌, ◌<◌, ◌≤◌, ◌+◌, ◌-◌, ◌*◌, ◌^◌, ℕ, zero, suc, Bool, true, false, List, [], ◌∷◌, ◌++◌, length, get_or, take, drop}
+use Rattle.std.proofs.Common.{refl, sym, ap, ◌∙◌, arith, cond, eqb, inl, inr, length-take, length-drop, length-append, mul-le-mul_right, drop-drop}
 use Rattle.std.specs.Prelude.{bit_and, All}
 use Rattle.std.proofs.lemmas.Bool.{cases_Bool, cases_eq, eqb-true, eq-eqb}
 use Rattle.std.proofs.lemmas.List.Elements.{All-take, All-drop, All-append, All-nil, All-cons}
@@ -40,7 +41,8 @@ told_le lengths s d short sorts lt = elim (cases_Bool (eqb d s)) [
     flag : Bool → ℕ
     flag b = cond b 1 0
 
-joined : (same : Bool) (a c : List ℕ) (b w gap : ℕ) → length c ≡ gap → cond same 1 0 + gap ≡ w → number_of (a ++ (cond same (b ∷ []) [] ++ c)) ≡ number_of a * 256 ^ w + b * cond same (256 ^ gap) 0 + number_of c
+joined : (same : Bool) (a c : List ℕ) (b w gap : ℕ) → length c ≡ gap → cond same 1 0 + gap ≡ w
+    → number_of (a ++ (cond same (b ∷ []) [] ++ c)) ≡ number_of a * 256 ^ w + b * cond same (256 ^ gap) 0 + number_of c
 joined true a c b w gap long wide =
     let all : suc (length c) ≡ w = omega (arith, long, wide) in
     number_of-append a (b ∷ c) ∙ (λ i. number_of a * 256 ^ all i + (b * 256 ^ long i + number_of c)) ∙ omega arith
@@ -52,7 +54,8 @@ joined false a c b w gap long wide =
 pub record KeyParts (D count : ℕ) (r : RawKeys) (i d : ℕ) : Type 0 where
   pub told : told_of r.lengths r.sorted d ≤ 4
   pub front : length (take (get_or r.lengths d 0) (drop (start_of r.lengths d) r.prefixes)) ≡ get_or r.lengths d 0
-  pub back : length (take (gap_of r.lengths r.sorted d) (drop (i * place_of r.lengths r.sorted D + place_of r.lengths r.sorted d) r.rests)) ≡ gap_of r.lengths r.sorted d
+  pub back : length (take (gap_of r.lengths r.sorted d) (drop (i * place_of r.lengths r.sorted D + place_of r.lengths r.sorted d) r.rests))
+      ≡ gap_of r.lengths r.sorted d
   pub ends : i * place_of r.lengths r.sorted D + place_of r.lengths r.sorted (d + 1) ≤ count * place_of r.lengths r.sorted D
   pub next : place_of r.lengths r.sorted (d + 1) ≡ place_of r.lengths r.sorted d + gap_of r.lengths r.sorted d
 
@@ -120,9 +123,11 @@ AreBytes-key_at D count r i d h here =
     flagged false = All-nil (λ (x : ℕ). x < 256)
 
 -- the rest of the key, as it is read from words
-pub left_read : (D count : ℕ) (r : RawKeys) (words : List ℕ) (i d : ℕ) → AreRawKeys D count r → r.rests ≡ drop 4 words → 4 ≤ length words → AreBytes words → i < count → d < D
+pub left_read : (D count : ℕ) (r : RawKeys) (words : List ℕ) (i d : ℕ) → AreRawKeys D count r → r.rests ≡ drop 4 words → 4 ≤ length words → AreBytes words
+    → i < count → d < D
     → (i * place_of r.lengths r.sorted D + place_of r.lengths r.sorted (d + 1) + 4 ≤ length words)
-    × (bit_and (number_of (take 4 (drop (i * place_of r.lengths r.sorted D + place_of r.lengths r.sorted (d + 1)) words))) (256 ^ gap_of r.lengths r.sorted d - 1)
+    × (bit_and (number_of (take 4 (drop (i * place_of r.lengths r.sorted D + place_of r.lengths r.sorted (d + 1)) words)))
+    (256 ^ gap_of r.lengths r.sorted d - 1)
     ≡ number_of (take (gap_of r.lengths r.sorted d) (drop (i * place_of r.lengths r.sorted D + place_of r.lengths r.sorted d) r.rests)))
 left_read D count r words i d h is long bytes here lt =
     let k = key_parts D count r i d h here lt in
@@ -135,32 +140,42 @@ left_read D count r words i d h is long bytes here lt =
       within,
       word_masked words at gap few within bytes
           ∙ ap (λ n. number_of (take gap (drop n words))) place
-          ∙ ap (λ (t : List ℕ). number_of (take gap t)) (sym (drop-drop (row + place_of r.lengths r.sorted d) 4 words) ∙ ap (drop (row + place_of r.lengths r.sorted d)) (sym is)),
+          ∙ ap (λ (t : List ℕ). number_of (take gap t))
+          (sym (drop-drop (row + place_of r.lengths r.sorted d) 4 words) ∙ ap (drop (row + place_of r.lengths r.sorted d)) (sym is)),
     )
 
 -- what reading a key's number from the slots comes to
 pub record RankRead (D : ℕ) (p : Parts) (s : Slots D) (i d : ℕ) : Type 0 where
   pub within : i * p.stride + get_or s.places d 0 + 4 ≤ length p.words.now
-  pub value : get_or s.bases d 0 + get_or p.table i 0 * get_or s.scales d 0 + bit_and (number_of (take 4 (drop (i * p.stride + get_or s.places d 0) p.words.now))) (get_or s.masks d 0) ≡ number_of (key_at D (raw_keys_of p) i d)
+  pub value : get_or s.bases d 0 + get_or p.table i 0 * get_or s.scales d 0
+      + bit_and (number_of (take 4 (drop (i * p.stride + get_or s.places d 0) p.words.now))) (get_or s.masks d 0) ≡ number_of (key_at D (raw_keys_of p) i d)
   pub fits : number_of (key_at D (raw_keys_of p) i d) < 2 ^ 32
 
 pub rank_read : (D : ℕ) (p : Parts) (s : Slots D) (i d : ℕ) → IsParts D p → AreSlots D p s → i < p.count → d < D → RankRead D p s i d
 rank_read D p s i d h slots here lt =
     let r = raw_keys_of p in
     let left = left_read D p.count r p.words.now i d h.raw refl h.long h.bytes here lt in
-    let at : i * p.stride + get_or s.places d 0 ≡ i * place_of p.lengths.now p.sorted D + place_of p.lengths.now p.sorted (d + 1) = (λ j. i * h.stride j + slots.places d lt j) in
+    let at : i * p.stride + get_or s.places d 0 ≡ i * place_of p.lengths.now p.sorted D + place_of p.lengths.now p.sorted (d + 1) =
+    (λ j. i * h.stride j + slots.places d lt j) in
     record {
       within = omega (arith, left.0, at);
-      value = (λ j. slots.bases d lt j + sym (get_or-take p.count p.table i 0 here) j * slots.scales d lt j + bit_and (number_of (take 4 (drop (at j) p.words.now))) (slots.masks d lt j))
-          ∙ ap (λ n. number_of (take (get_or p.lengths.now d 0) (drop (start_of p.lengths.now d) p.prefixes.now)) * 256 ^ (4 - get_or p.lengths.now d 0) + get_or r.bytes i 0 * cond (eqb d p.sorted) (256 ^ gap_of p.lengths.now p.sorted d) 0 + n) left.1
+      value = (λ j. slots.bases d lt j + sym (get_or-take p.count p.table i 0 here) j * slots.scales d lt j
+          + bit_and (number_of (take 4 (drop (at j) p.words.now))) (slots.masks d lt j))
+          ∙ ap (λ n. number_of (take (get_or p.lengths.now d 0) (drop (start_of p.lengths.now d) p.prefixes.now)) * 256 ^ (4 - get_or p.lengths.now d 0)
+          + get_or r.bytes i 0 * cond (eqb d p.sorted) (256 ^ gap_of p.lengths.now p.sorted d) 0 + n) left.1
           ∙ sym (key_number D p.count r i d h.raw here lt);
-      fits = omega (arith, number_of-lt (key_at D r i d) (AreBytes-key_at D p.count r i d h.raw here), ap (λ n. 256 ^ n) (length-key_at D p.count r i d h.raw here lt));
+      fits = omega (
+        arith,
+        number_of-lt (key_at D r i d) (AreBytes-key_at D p.count r i d h.raw here),
+        ap (λ n. 256 ^ n) (length-key_at D p.count r i d h.raw here lt),
+      );
     }
 
 -- the same from a sorted byte and a word
 pub rank_value : (D : ℕ) (p : Parts) (s : Slots D) (i d n w : ℕ) → IsParts D p → AreSlots D p s → i < p.count → d < D
     → n ≡ get_or p.table i 0 → w ≡ number_of (take 4 (drop (i * p.stride + get_or s.places d 0) p.words.now))
-    → (get_or s.bases d 0 + n * get_or s.scales d 0 + bit_and w (get_or s.masks d 0) ≡ number_of (key_at D (raw_keys_of p) i d)) × (number_of (key_at D (raw_keys_of p) i d) < 2 ^ 32)
+    → (get_or s.bases d 0 + n * get_or s.scales d 0 + bit_and w (get_or s.masks d 0) ≡ number_of (key_at D (raw_keys_of p) i d))
+    × (number_of (key_at D (raw_keys_of p) i d) < 2 ^ 32)
 rank_value D p s i d n w h slots here lt byte word =
     let read = rank_read D p s i d h slots here lt in
     ((λ j. get_or s.bases d 0 + byte j * get_or s.scales d 0 + bit_and (word j) (get_or s.masks d 0)) ∙ read.value, read.fits)
@@ -186,7 +201,8 @@ coordinate_read D p i d n b x h here lt number bytes back =
     (back (coordinate k) fits (key-coordinate k long small ∙ sym (bytes ∙ ap (to_be_bytes w32) number ∙ to_be-number_of k long small)))
 
 -- the prefix of a dimension lies among the prefixes, which are few
-pub front_within : (D : ℕ) (p : Parts) (d : ℕ) → IsParts D p → D ≤ 8 → d < D → (start_of p.lengths.now d + get_or p.lengths.now d 0 ≤ length p.prefixes.now) × (length p.prefixes.now ≤ 32)
+pub front_within : (D : ℕ) (p : Parts) (d : ℕ) → IsParts D p → D ≤ 8 → d < D
+    → (start_of p.lengths.now d + get_or p.lengths.now d 0 ≤ length p.prefixes.now) × (length p.prefixes.now ≤ 32)
 front_within D p d h few lt =
     let wide : ℕ → ℕ = λ e. get_or p.lengths.now e 0 in
     let all : start_of p.lengths.now D ≤ 4 * D = starts_le p.lengths.now D h.raw.short (omega (arith, h.raw.dims)) in
@@ -196,7 +212,13 @@ front_within D p d h few lt =
     starts_le lengths zero short le = omega arith
     starts_le lengths (suc n) short le =
         let next : suc n ≡ n + 1 = omega arith in
-        omega (arith, starts_le lengths n short (omega arith), place_more (λ e. get_or lengths e 0) n, ap (place (λ e. get_or lengths e 0)) next, short n 0 (omega arith))
+        omega (
+          arith,
+          starts_le lengths n short (omega arith),
+          place_more (λ e. get_or lengths e 0) n,
+          ap (place (λ e. get_or lengths e 0)) next,
+          short n 0 (omega arith),
+        )
 
 pub mask_more : (m gap : ℕ) → m ≡ 256 ^ gap - 1 → gap ≤ 3 → (m + 1 ≡ 256 ^ gap) × (m < 2 ^ 24)
 mask_more m zero is le = (omega (arith, is), omega (arith, is))
@@ -206,7 +228,8 @@ mask_more m (suc (suc (suc zero))) is le = (omega (arith, is), omega (arith, is)
 mask_more m (suc (suc (suc (suc n)))) is le = absurd (omega arith)
 
 pub base_read : (lengths prefixes : List ℕ) (d from n : ℕ) → from ≡ start_of lengths d → from + get_or lengths d 0 ≤ length prefixes
-    → n ≡ number_of (take (from + get_or lengths d 0 - from) (drop from prefixes)) * 256 ^ (4 - length (take (from + get_or lengths d 0 - from) (drop from prefixes)))
+    → n ≡ number_of (take (from + get_or lengths d 0 - from) (drop from prefixes))
+    * 256 ^ (4 - length (take (from + get_or lengths d 0 - from) (drop from prefixes)))
     → n ≡ number_of (take (get_or lengths d 0) (drop (start_of lengths d) prefixes)) * 256 ^ (4 - get_or lengths d 0)
 base_read lengths prefixes d from n is within read =
     let len = get_or lengths d 0 in

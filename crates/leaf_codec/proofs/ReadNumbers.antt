@@ -1,5 +1,7 @@
 -- Reading numbers from words.
-use Rattle.std.proofs.Common.{◌≡◌, ◌≢◌, ◌<◌, ◌≤◌, ◌+◌, ◌-◌, ◌*◌, ◌^◌, ℕ, zero, suc, min, max, Bool, below_more, ◌⊎◌, true, false, List, [], ◌∷◌, ◌++◌, length, get_or, take, drop, refl, sym, ap, ◌∙◌, arith, cond, eqb, inl, inr, length-take, length-drop, length-append, mul-le-mul_right, drop-drop, drop_at}
+use Rattle.std.proofs.Common.{◌≡◌, ◌≢◌, ◌<◌, ◌≤◌, ◌+◌, ◌-◌, ◌*◌, ◌^◌, ℕ, zero, suc, min, max, Bool, below_more, ◌⊎◌, true}
+use Rattle.std.proofs.Common.{false, List, [], ◌∷◌, ◌++◌, length, get_or, take, drop, refl, sym, ap, ◌∙◌, arith, cond, eqb}
+use Rattle.std.proofs.Common.{inl, inr, length-take, length-drop, length-append, mul-le-mul_right, drop-drop, drop_at}
 use Rattle.std.specs.Prelude.{bit_and, All}
 use Rattle.std.specs.List.{fold}
 use Rattle.std.proofs.lemmas.Bool.{cases_eq, cases_lt, eq-eqb, eqb-true, ne_eqb, false≢true}
@@ -43,13 +45,15 @@ offset_read count r words step mask i h lt =
     let chunk : drop (r.width * (i + 1) + (4 - r.width)) words ≡ drop (i * r.width) r.offsets =
     ap (λ n. drop n words) at ∙ sym (drop-drop (i * r.width) 4 words) ∙ ap (drop (i * r.width)) (sym h.is) in
     (λ j. i * h.steps j + bit_and (number_of (take 4 (drop (r.width * (i + 1)) words))) (h.masks j))
-    ∙ (λ j. stepped (eqb r.width 0) i j + word_masked words (r.width * (i + 1)) r.width (omega arith) (word_within count r.width i words sized h.long lt) h.bytes j)
+    ∙ (λ j.
+    stepped (eqb r.width 0) i j + word_masked words (r.width * (i + 1)) r.width (omega arith) (word_within count r.width i words sized h.long lt) h.bytes j)
     ∙ ap (λ (t : List ℕ). cond (eqb r.width 0) i 0 + number_of (take r.width t)) chunk
 
 pub offset_at-lt : (count : ℕ) (r : RawNumbers) (i : ℕ) → AreRawNumbers count r → count ≤ 500 → i < count → offset_at r i < 2 ^ 24
 offset_at-lt count r i h few lt =
     let chunk = take r.width (drop (i * r.width) r.offsets) in
-    let small : AreBytes chunk = All-take (λ (x : ℕ). x < 256) r.width (drop (i * r.width) r.offsets) (All-drop (λ (x : ℕ). x < 256) (i * r.width) r.offsets h.bytes) in
+    let small : AreBytes chunk =
+    All-take (λ (x : ℕ). x < 256) r.width (drop (i * r.width) r.offsets) (All-drop (λ (x : ℕ). x < 256) (i * r.width) r.offsets h.bytes) in
     elim (cases_eq r.width 0) [
       | inl none ↦ (
           let row : cond (eqb r.width 0) i 0 ≡ i = ap (λ (b : Bool). cond b i 0) (eq-eqb r.width 0 none) in
@@ -57,7 +61,12 @@ offset_at-lt count r i h few lt =
           omega (arith, row, empty))
       | inr some ↦ (
           let row : cond (eqb r.width 0) i 0 ≡ 0 = ap (λ (b : Bool). cond b i 0) (ne_eqb r.width 0 some) in
-          omega (arith, row, number_of-lt chunk small, short (length chunk) r.width h.narrow (omega (arith, length-take r.width (drop (i * r.width) r.offsets)))))
+          omega (
+            arith,
+            row,
+            number_of-lt chunk small,
+            short (length chunk) r.width h.narrow (omega (arith, length-take r.width (drop (i * r.width) r.offsets))),
+          ))
     ]
   where
     short : (k w : ℕ) → w ≤ 3 → k ≤ w → 256 ^ k ≤ 2 ^ 24
@@ -93,7 +102,8 @@ ends_one r m is = record {
 one_more : (P : ℕ → Type 0) (n : ℕ) → ((i : ℕ) → i < n → P i) → P n → (i : ℕ) → i < n + 1 → P i
 one_more P n below here i lt = below_more P n below here i lt
 
-pub ends_more : (n : ℕ) (r : RawNumbers) (low top m low' top' : ℕ) → AreEnds n r low top → m ≡ offset_at r n → low' ≡ min low m → top' ≡ max top m → AreEnds (n + 1) r low' top'
+pub ends_more : (n : ℕ) (r : RawNumbers) (low top m low' top' : ℕ) → AreEnds n r low top → m ≡ offset_at r n → low' ≡ min low m → top' ≡ max top m
+    → AreEnds (n + 1) r low' top'
 ends_more n r low top m low' top' e is low_is top_is = record {
   below = one_more (λ i. low' ≤ offset_at r i) n (λ i lt. omega (arith, e.below i lt)) (omega arith);
   reached_low = elim (cases_lt m low) [
@@ -193,7 +203,8 @@ greatest_small ns m pos h =
     omega arith
 
 -- numbers that are in a row
-pub row_from : (count : ℕ) (r : RawNumbers) → 0 < count → ((i : ℕ) → i < count → offset_at r i ≡ i) → (is_row (raw_docs count r) ≡ true) × (least (raw_docs count r) ≡ r.least)
+pub row_from : (count : ℕ) (r : RawNumbers) → 0 < count → ((i : ℕ) → i < count → offset_at r i ≡ i)
+    → (is_row (raw_docs count r) ≡ true) × (least (raw_docs count r) ≡ r.least)
 row_from count r pos each =
     let ns = raw_docs count r in
     let long = length-raw_docs count r in
@@ -252,7 +263,8 @@ form_is count r top z w pos s found other =
     let span : greatest (raw_docs count r) - least (raw_docs count r) ≡ top = omega (arith, low, greatest_is count r top z w pos s) in
     form_other (raw_docs count r) (row_not count r b.0 b.1 b.2 low) ∙ ap width span
 
-pub takes_width : (count : ℕ) (r : RawNumbers) (top : ℕ) (z w : Bool) → 0 < count → IsSpan count r top z w → z ≡ true → w ≡ false → r.least + top < 2 ^ 24 → r.width ≡ width top → AreCanonical count r
+pub takes_width : (count : ℕ) (r : RawNumbers) (top : ℕ) (z w : Bool) → 0 < count → IsSpan count r top z w → z ≡ true → w ≡ false → r.least + top < 2 ^ 24
+    → r.width ≡ width top → AreCanonical count r
 takes_width count r top z w pos s found other low is =
     let a = s.some_zero found in
     record {
@@ -261,7 +273,8 @@ takes_width count r top z w pos s found other low is =
       small = small_from (raw_docs count r) (2 ^ 24) (omega (arith, low, greatest_is count r top z w pos s));
     }
 
-pub width_of : (count : ℕ) (r : RawNumbers) (top : ℕ) (z w : Bool) → 0 < count → IsSpan count r top z w → z ≡ true → w ≡ false → AreCanonical count r → r.width ≡ width top
+pub width_of : (count : ℕ) (r : RawNumbers) (top : ℕ) (z w : Bool) → 0 < count → IsSpan count r top z w → z ≡ true → w ≡ false → AreCanonical count r
+    → r.width ≡ width top
 width_of count r top z w pos s found other h = sym h.form_is ∙ form_is count r top z w pos s found other
 
 -- the greatest is no greater than the offsets
@@ -281,7 +294,8 @@ pub record HasWords (leaf head rest : List ℕ) (m s : ℕ) : Type 0 where
   pub within : s + m ≤ length leaf
   pub parts : leaf ≡ head ++ (take m rest ++ drop (s + m) leaf)
 
-pub has_words : (leaf head rest : List ℕ) (m : ℕ) → leaf ≡ head ++ rest → 4 ≤ length head → m ≤ length rest → HasWords leaf head rest m (length leaf - length rest)
+pub has_words : (leaf head rest : List ℕ) (m : ℕ) → leaf ≡ head ++ rest → 4 ≤ length head → m ≤ length rest
+    → HasWords leaf head rest m (length leaf - length rest)
 has_words leaf head rest m is four fits =
     let s = length leaf - length rest in
     let all : length leaf ≡ length head + length rest = ap length is ∙ length-append head rest in

@@ -1,5 +1,6 @@
 -- Which byte values a list has, in a table of flags.
-use Rattle.std.proofs.Common.{◌≡◌, ℕ, ◌<◌, Bool, true, false, eqb, List, [], ◌∷◌, ◌++◌, map, length, get_or, set, refl, sym, ap, ◌∙◌, arith, ◌||◌, inl, inr, get_or-set_same, get_or-set_other}
+use Rattle.std.proofs.Common.{◌≡◌, ℕ, ◌<◌, Bool, true, false, eqb, List, [], ◌∷◌, ◌++◌, map, length, get_or}
+use Rattle.std.proofs.Common.{set, refl, sym, ap, ◌∙◌, arith, ◌||◌, inl, inr, get_or-set_same, get_or-set_other}
 use Rattle.std.specs.List.{list_any}
 use Rattle.std.proofs.lemmas.Bool.{cases_eq, eq-eqb, ne_eqb, or_right}
 use Rattle.std.proofs.lemmas.List.{length-set}
@@ -31,11 +32,13 @@ seen_more seen bytes b byte h = record {
     step : (v : ℕ) → v < 256 → get_or (set seen b true) v false ≡ (has_value bytes v || (eqb b v || false))
     step v lt = elim (cases_eq v b) [
       | inl same ↦ (
-          let here : get_or (set seen b true) v false ≡ true = ap (λ (i : ℕ). get_or (set seen b true) i false) same ∙ get_or-set_same seen b true false (omega (arith, h.long)) in
+          let here : get_or (set seen b true) v false ≡ true =
+          ap (λ (i : ℕ). get_or (set seen b true) i false) same ∙ get_or-set_same seen b true false (omega (arith, h.long)) in
           here ∙ sym (or_right (has_value bytes v) (eqb b v || false) (or-false (eqb b v) ∙ eq-eqb b v (sym same))))
       | inr apart ↦ (
           let there : get_or (set seen b true) v false ≡ get_or seen v false = get_or-set_other seen b v true false apart in
-          there ∙ h.at v lt ∙ sym (or-false (has_value bytes v)) ∙ ap (λ (t : Bool). has_value bytes v || t) (sym (or-false (eqb b v) ∙ ne_eqb b v (λ e. apart (sym e)))))
+          there ∙ h.at v lt ∙ sym (or-false (has_value bytes v))
+          ∙ ap (λ (t : Bool). has_value bytes v || t) (sym (or-false (eqb b v) ∙ ne_eqb b v (λ e. apart (sym e)))))
     ]
 
 pub seen_count : (seen : List Bool) (bytes : List ℕ) → HasSeen seen bytes → count_values (λ v. get_or seen v false) ≡ count_values (has_value bytes)

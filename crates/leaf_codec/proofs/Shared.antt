@@ -30,12 +30,15 @@ same_byte d k b items h = values_one (λ v. list_any (λ (x : Item). eqb (key_by
 
 -- two values at byte k
 pub two_bytes : (d k : ℕ) (items : List Item) (x y : Item) → Contains items x → Contains items y → key_byte d k x ≢ key_byte d k y → 2 ≤ different d k items
-two_bytes d k items x y hx hy apart = values_two (λ v. list_any (λ (z : Item). eqb (key_byte d k z) v) items) (key_byte d k x) (key_byte d k y) (key_byte-lt d k x) (key_byte-lt d k y) apart (found x hx) (found y hy)
+two_bytes d k items x y hx hy apart =
+    values_two (λ v. list_any (λ (z : Item). eqb (key_byte d k z) v) items) (key_byte d k x) (key_byte d k y) (key_byte-lt d k x) (key_byte-lt d k y) apart
+    (found x hx) (found y hy)
   where
     found : (u : Item) → Contains items u → list_any (λ (z : Item). eqb (key_byte d k z) (key_byte d k u)) items ≡ true
     found u h = list_any_at (λ (z : Item). eqb (key_byte d k z) (key_byte d k u)) items h.0 u h.1 (eq-eqb _ _ (ap (key_byte d k) h.2))
 
-pub shared_is : (d p : ℕ) (items : List Item) → p ≤ 4 → ((k : ℕ) → k < p → different d k items ≤ 1) → (p < 4 → 2 ≤ different d p items) → shared_prefix d items ≡ p
+pub shared_is : (d p : ℕ) (items : List Item) → p ≤ 4 → ((k : ℕ) → k < p → different d k items ≤ 1) → (p < 4 → 2 ≤ different d p items)
+    → shared_prefix d items ≡ p
 unfolding shared_prefix
 shared_is d p items short same differ =
     position_or_len_is (λ i. ltb 1 (different d i items)) (range_with_len 0 4) p 0 short
@@ -69,7 +72,8 @@ pub record HasInCommon (d : ℕ) (x : Item) (first : List ℕ) (n : ℕ) : Type 
   pub same : (k : ℕ) → k < n → get_or first k 0 ≡ key_byte d k x
   pub differ : n < 4 → get_or first n 0 ≢ key_byte d n x
 
-pub shares_more : (d : ℕ) (items : List Item) (first : List ℕ) (shared n : ℕ) (y : Item) → SharesSoFar d items first shared → HasInCommon d y first n → SharesSoFar d (items ++ y ∷ []) first (ord_min nat_cmp shared n)
+pub shares_more : (d : ℕ) (items : List Item) (first : List ℕ) (shared n : ℕ) (y : Item) → SharesSoFar d items first shared → HasInCommon d y first n
+    → SharesSoFar d (items ++ y ∷ []) first (ord_min nat_cmp shared n)
 shares_more d items first shared n y s h = elim (least-is shared n) [
   | inl keeps ↦ rw keeps.0 (record {
     short = s.short;
@@ -78,7 +82,9 @@ shares_more d items first shared n y s h = elim (least-is shared n) [
   })
   | inr takes ↦ rw takes.0 (record {
     short = h.short;
-    same = All-push (λ (x : Item). (k : ℕ) → k < n → key_byte d k x ≡ get_or first k 0) items y (All-weaker (λ (x : Item). (k : ℕ) → k < shared → key_byte d k x ≡ get_or first k 0) (λ (x : Item). (k : ℕ) → k < n → key_byte d k x ≡ get_or first k 0) (λ x f k lt. f k (omega (arith, takes.1))) items s.same) (λ k lt. sym (h.same k lt));
+    same = All-push (λ (x : Item). (k : ℕ) → k < n → key_byte d k x ≡ get_or first k 0) items y
+        (All-weaker (λ (x : Item). (k : ℕ) → k < shared → key_byte d k x ≡ get_or first k 0) (λ (x : Item). (k : ℕ) → k < n → key_byte d k x ≡ get_or first k 0)
+        (λ x f k lt. f k (omega (arith, takes.1))) items s.same) (λ k lt. sym (h.same k lt));
     differ = λ lt. (y, Contains-push items y, λ e. h.differ lt (sym e));
   })
 ]
@@ -87,10 +93,13 @@ shares_more d items first shared n y s h = elim (least-is shared n) [
     least-is a b = grind (arith, nat_tests)
 
 -- at the end: the first key is that of an item
-pub shares_all : (d : ℕ) (items : List Item) (first : List ℕ) (shared : ℕ) (x : Item) → SharesSoFar d items first shared → Contains items x → first ≡ key_of d x → shared_prefix d items ≡ shared
+pub shares_all : (d : ℕ) (items : List Item) (first : List ℕ) (shared : ℕ) (x : Item) → SharesSoFar d items first shared → Contains items x → first ≡ key_of d x
+    → shared_prefix d items ≡ shared
 shares_all d items first shared x s member is =
     shared_is d shared items s.short
-    (λ k lt. same_byte d k (get_or first k 0) items (All-weaker (λ (y : Item). (j : ℕ) → j < shared → key_byte d j y ≡ get_or first j 0) (λ (y : Item). key_byte d k y ≡ get_or first k 0) (λ y f. f k lt) items s.same))
+    (λ k lt. same_byte d k (get_or first k 0) items
+    (All-weaker (λ (y : Item). (j : ℕ) → j < shared → key_byte d j y ≡ get_or first j 0) (λ (y : Item). key_byte d k y ≡ get_or first k 0) (λ y f. f k lt) items
+    s.same))
     (λ lt. let w = s.differ lt in two_bytes d shared items w.0 x w.1 member (λ e. w.2 (e ∙ sym (ap (λ (bs : List ℕ). get_or bs shared 0) is))))
 
 -- no keys share all

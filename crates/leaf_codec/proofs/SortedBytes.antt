@@ -10,11 +10,15 @@ use Rattle.leaf_codec.proofs.Pieces.{pairs_of_pieces}
 
 pub plain_is : (bs : List ℕ) → length bs ≤ 2 * length (pieces bs) → sorted_bytes bs ≡ 0 ∷ bs
 unfolding sorted_bytes
-plain_is bs many = cond-false (ltb (2 * length (pieces bs)) (length bs)) (1 ∷ length (pieces bs) ∷ flat_map piece_bytes (pieces bs)) (0 ∷ bs) (le-ltb (2 * length (pieces bs)) (length bs) many)
+plain_is bs many =
+    cond-false (ltb (2 * length (pieces bs)) (length bs)) (1 ∷ length (pieces bs) ∷ flat_map piece_bytes (pieces bs)) (0 ∷ bs)
+    (le-ltb (2 * length (pieces bs)) (length bs) many)
 
 pub pieces_are : (bs : List ℕ) → 2 * length (pieces bs) < length bs → sorted_bytes bs ≡ 1 ∷ length (pieces bs) ∷ flat_map piece_bytes (pieces bs)
 unfolding sorted_bytes
-pieces_are bs few = cond-true (ltb (2 * length (pieces bs)) (length bs)) (1 ∷ length (pieces bs) ∷ flat_map piece_bytes (pieces bs)) (0 ∷ bs) (lt-ltb (2 * length (pieces bs)) (length bs) few)
+pieces_are bs few =
+    cond-true (ltb (2 * length (pieces bs)) (length bs)) (1 ∷ length (pieces bs) ∷ flat_map piece_bytes (pieces bs)) (0 ∷ bs)
+    (lt-ltb (2 * length (pieces bs)) (length bs) few)
 
 heads : (a b : ℕ) (x y : List ℕ) → a ∷ x ≡ b ∷ y → a ≡ b
 heads a b x y e = cc
@@ -71,12 +75,14 @@ cut_front number left bs tail e =
     }
 
 -- bytes whose pieces are spelled so, where these are due
-pub cut_is : (number : ℕ) (spelled rest bs : List ℕ) → flat_map piece_bytes (pieces bs) ≡ spelled → length spelled ≡ 2 * number → 2 * number < length bs → 1 ∷ number ∷ (spelled ++ rest) ≡ sorted_bytes bs ++ rest
+pub cut_is : (number : ℕ) (spelled rest bs : List ℕ) → flat_map piece_bytes (pieces bs) ≡ spelled → length spelled ≡ 2 * number → 2 * number < length bs
+    → 1 ∷ number ∷ (spelled ++ rest) ≡ sorted_bytes bs ++ rest
 cut_is number spelled rest bs is long few =
     let sized : length (pieces bs) ≡ number = omega (arith, ap length is, length-pieces (pieces bs), long) in
     (λ i. 1 ∷ sym sized i ∷ (sym is i ++ rest)) ∙ sym (ap (λ (t : List ℕ). t ++ rest) (pieces_are bs (omega (arith, few, sized))))
 
-pub plain_front : (b bs tail : List ℕ) → 0 ∷ b ≡ sorted_bytes bs ++ tail → (length bs ≤ length b) × (length bs ≤ 2 * length (pieces bs)) × (take (length bs) b ≡ bs)
+pub plain_front : (b bs tail : List ℕ) → 0 ∷ b ≡ sorted_bytes bs ++ tail
+    → (length bs ≤ length b) × (length bs ≤ 2 * length (pieces bs)) × (take (length bs) b ≡ bs)
 plain_front b bs tail e =
     let p = (in_form 0 b bs tail e).plain refl in
     (omega (arith, ap length p.1, length-append bs tail), p.0, ap (take (length bs)) p.1 ∙ take_at bs tail (length bs) refl)
@@ -85,7 +91,8 @@ plain_front b bs tail e =
 pub sorted_front : (a b x y : List ℕ) → length a ≡ length b → sorted_bytes a ++ x ≡ sorted_bytes b ++ y → (a ≡ b) × (x ≡ y)
 sorted_front a b x y long e = elim (cases_lt (2 * length (pieces a)) (length a)) [
   | inl few ↦
-      let is : 1 ∷ length (pieces a) ∷ (flat_map piece_bytes (pieces a) ++ x) ≡ sorted_bytes b ++ y = sym (ap (λ (t : List ℕ). t ++ x) (pieces_are a few)) ∙ e in
+      let is : 1 ∷ length (pieces a) ∷ (flat_map piece_bytes (pieces a) ++ x) ≡ sorted_bytes b ++ y =
+      sym (ap (λ (t : List ℕ). t ++ x) (pieces_are a few)) ∙ e in
       let c = cut_front (length (pieces a)) (flat_map piece_bytes (pieces a) ++ x) b y is in
       let front = take_at (flat_map piece_bytes (pieces a)) x (2 * length (pieces a)) (length-pieces (pieces a)) in
       let same : a ≡ b = sym (pairs_of_pieces a) ∙ ap pairs_expanded (sym front) ∙ c.expanded in

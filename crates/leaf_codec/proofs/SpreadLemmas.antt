@@ -1,5 +1,6 @@
 -- How many values a byte of the keys takes, as it is read from the fields.
-use Rattle.std.proofs.Common.{◌≡◌, ◌≢◌, ◌<◌, ◌+◌, ◌*◌, ℕ, zero, suc, Bool, List, [], ◌∷◌, ◌++◌, map, length, get_or, drop, refl, sym, ap, ◌∙◌, arith, cond, eqb, length-drop}
+use Rattle.std.proofs.Common.{◌≡◌, ◌≢◌, ◌<◌, ◌+◌, ◌*◌, ℕ, zero, suc, Bool, List, [], ◌∷◌, ◌++◌, map}
+use Rattle.std.proofs.Common.{length, get_or, drop, refl, sym, ap, ◌∙◌, arith, cond, eqb, length-drop}
 use Rattle.std.specs.List.{range_with_len, list_any}
 use Rattle.std.proofs.lemmas.Bool.{eq-eqb, ne_eqb}
 use Rattle.std.proofs.lemmas.List.{same_lists, get_or-map, length-map, get_or-take}
@@ -40,10 +41,14 @@ place_within D p i d h here lt moves other =
 abbrev byte_read : Parts → ℕ → ℕ → ℕ
 byte_read p d i = get_or p.words.now (4 + place_of p.lengths.now p.sorted d + i * p.stride) 0
 
-byte_of : (D : ℕ) (n : RawNumbers) (p : Parts) (i d : ℕ) → IsParts D p → i < p.count → d < D → key_byte d (get_or p.lengths.now d 0) (raw_item D n (raw_keys_of p) i) ≡ get_or (front_of (raw_keys_of p) d ++ (middle_of (raw_keys_of p) i d ++ back_of D (raw_keys_of p) i d)) (get_or p.lengths.now d 0) 0
-byte_of D n p i d h here lt = ap (λ (t : List ℕ). get_or t (get_or p.lengths.now d 0) 0) (key_of-raw D p.count i d n (raw_keys_of p) h.raw here lt ∙ key_at_is D (raw_keys_of p) i d)
+byte_of : (D : ℕ) (n : RawNumbers) (p : Parts) (i d : ℕ) → IsParts D p → i < p.count → d < D
+    → key_byte d (get_or p.lengths.now d 0) (raw_item D n (raw_keys_of p) i)
+    ≡ get_or (front_of (raw_keys_of p) d ++ (middle_of (raw_keys_of p) i d ++ back_of D (raw_keys_of p) i d)) (get_or p.lengths.now d 0) 0
+byte_of D n p i d h here lt =
+    ap (λ (t : List ℕ). get_or t (get_or p.lengths.now d 0) 0) (key_of-raw D p.count i d n (raw_keys_of p) h.raw here lt ∙ key_at_is D (raw_keys_of p) i d)
 
-byte_sorted : (D : ℕ) (n : RawNumbers) (p : Parts) (i d : ℕ) → IsParts D p → i < p.count → d < D → d ≡ p.sorted → key_byte d (get_or p.lengths.now d 0) (raw_item D n (raw_keys_of p) i) ≡ get_or p.table (0 + i * 1) 0
+byte_sorted : (D : ℕ) (n : RawNumbers) (p : Parts) (i d : ℕ) → IsParts D p → i < p.count → d < D → d ≡ p.sorted
+    → key_byte d (get_or p.lengths.now d 0) (raw_item D n (raw_keys_of p) i) ≡ get_or p.table (0 + i * 1) 0
 byte_sorted D n p i d h here lt same =
     let r = raw_keys_of p in
     let k = key_parts D p.count r i d h.raw here lt in
@@ -53,7 +58,8 @@ byte_sorted D n p i d h here lt same =
     ∙ get_or-take p.count p.table i 0 here
     ∙ ap (λ m. get_or p.table m 0) (omega arith)
 
-byte_other : (D : ℕ) (n : RawNumbers) (p : Parts) (i d : ℕ) → IsParts D p → i < p.count → d < D → get_or p.lengths.now d 0 < 4 → d ≢ p.sorted → key_byte d (get_or p.lengths.now d 0) (raw_item D n (raw_keys_of p) i) ≡ byte_read p d i
+byte_other : (D : ℕ) (n : RawNumbers) (p : Parts) (i d : ℕ) → IsParts D p → i < p.count → d < D → get_or p.lengths.now d 0 < 4 → d ≢ p.sorted
+    → key_byte d (get_or p.lengths.now d 0) (raw_item D n (raw_keys_of p) i) ≡ byte_read p d i
 byte_other D n p i d h here lt moves other =
     let r = raw_keys_of p in
     let k = key_parts D p.count r i d h.raw here lt in
@@ -64,7 +70,8 @@ byte_other D n p i d h here lt moves other =
     let stride : i * p.stride ≡ i * place_of p.lengths.now p.sorted D = ap (λ m. i * m) h.stride in
     let at : 4 + (row + 0) ≡ 4 + place_of p.lengths.now p.sorted d + i * p.stride = omega (arith, stride) in
     byte_of D n p i d h here lt
-    ∙ ap (λ (b : Bool). get_or (front_of r d ++ (cond b (get_or r.bytes i 0 ∷ []) [] ++ back_of D r i d)) (get_or p.lengths.now d 0) 0) (ne_eqb d p.sorted other)
+    ∙ ap (λ (b : Bool). get_or (front_of r d ++ (cond b (get_or r.bytes i 0 ∷ []) [] ++ back_of D r i d)) (get_or p.lengths.now d 0) 0)
+    (ne_eqb d p.sorted other)
     ∙ from_front (front_of r d) (back_of D r i d) (get_or p.lengths.now d 0) k.front
     ∙ get_or-take gap (drop row r.rests) 0 0 some
     ∙ dropped row 0 r.rests
@@ -75,7 +82,9 @@ values_read : (D n_dim len n : ℕ) (numbers : RawNumbers) (r : RawKeys) (byte :
     → count_values (λ b. list_any (λ i. eqb (byte i) b) (range_with_len 0 n)) ≡ different n_dim len (raw_items D n numbers r)
 values_read D d len n numbers r byte is =
     sym (values-map byte (range_with_len 0 n))
-    ∙ ap (λ (t : List ℕ). count_values (has_value t)) (sym (same_lists (map (key_byte d len) items) (map byte (range_with_len 0 n)) (length-map items (key_byte d len) ∙ length-raw_items D n numbers r ∙ sym (length-map-range_with_len byte 0 n)) (λ i e lt.
+    ∙ ap (λ (t : List ℕ). count_values (has_value t))
+    (sym (same_lists (map (key_byte d len) items) (map byte (range_with_len 0 n))
+    (length-map items (key_byte d len) ∙ length-raw_items D n numbers r ∙ sym (length-map-range_with_len byte 0 n)) (λ i e lt.
     let here : i < n = omega (arith, lt, length-map items (key_byte d len), length-raw_items D n numbers r) in
     let x = raw_item D numbers r i in
     get_or-map (key_byte d len) items i x e (omega (arith, here, length-raw_items D n numbers r))
@@ -87,9 +96,13 @@ values_read D d len n numbers r byte is =
     items = raw_items D n numbers r
 
 pub spread_sorted : (D d : ℕ) (n : RawNumbers) (p : Parts) → IsParts D p → d < D → d ≡ p.sorted
-    → count_values (λ b. list_any (λ i. eqb (get_or p.table (0 + i * 1) 0) b) (range_with_len 0 p.count)) ≡ different d (get_or p.lengths.now d 0) (raw_items D p.count n (raw_keys_of p))
-spread_sorted D d n p h lt same = values_read D d (get_or p.lengths.now d 0) p.count n (raw_keys_of p) (λ i. get_or p.table (0 + i * 1) 0) (λ i here. byte_sorted D n p i d h here lt same)
+    → count_values (λ b. list_any (λ i. eqb (get_or p.table (0 + i * 1) 0) b) (range_with_len 0 p.count))
+    ≡ different d (get_or p.lengths.now d 0) (raw_items D p.count n (raw_keys_of p))
+spread_sorted D d n p h lt same =
+    values_read D d (get_or p.lengths.now d 0) p.count n (raw_keys_of p) (λ i. get_or p.table (0 + i * 1) 0) (λ i here. byte_sorted D n p i d h here lt same)
 
 pub spread_other : (D d : ℕ) (n : RawNumbers) (p : Parts) → IsParts D p → d < D → get_or p.lengths.now d 0 < 4 → d ≢ p.sorted
-    → count_values (λ b. list_any (λ i. eqb (byte_read p d i) b) (range_with_len 0 p.count)) ≡ different d (get_or p.lengths.now d 0) (raw_items D p.count n (raw_keys_of p))
-spread_other D d n p h lt moves other = values_read D d (get_or p.lengths.now d 0) p.count n (raw_keys_of p) (byte_read p d) (λ i here. byte_other D n p i d h here lt moves other)
+    → count_values (λ b. list_any (λ i. eqb (byte_read p d i) b) (range_with_len 0 p.count))
+    ≡ different d (get_or p.lengths.now d 0) (raw_items D p.count n (raw_keys_of p))
+spread_other D d n p h lt moves other =
+    values_read D d (get_or p.lengths.now d 0) p.count n (raw_keys_of p) (byte_read p d) (λ i here. byte_other D n p i d h here lt moves other)

@@ -33,16 +33,20 @@ taken (x ∷ xs) (suc i) d lt = taken xs i d (omega arith)
 some_and : {X : Type 0} (o : Option X) (x : X) (P : X → Type 0) → o ≡ Some x → P x → IsSomeAnd o P
 some_and o x P is h = subst (λ (q : Option _). IsSomeAnd q P) (sym is) h
 
-item_said : (D : ℕ) (n : Numbers) (p : Parts) (i : ℕ) (xs : List Item) → items_said D n p ≡ xs → i < length xs → slice_get xs i ≡ Some (record { doc = n.least + offset_at (raw_numbers_of n) i; at = point_at D (raw_keys_of p) i })
+item_said : (D : ℕ) (n : Numbers) (p : Parts) (i : ℕ) (xs : List Item) → items_said D n p ≡ xs → i < length xs
+    → slice_get xs i ≡ Some (record { doc = n.least + offset_at (raw_numbers_of n) i; at = point_at D (raw_keys_of p) i })
 item_said D n p i xs is lt =
     let x : Item = record { doc = 0; at = [] } in
     taken xs i x lt ∙ ap Some (ap (λ (t : List Item). get_or t i x) (sym is)
-    ∙ get_or-raw_items D n.count i (raw_numbers_of n) (raw_keys_of p) x (omega (arith, lt, said_length D n p xs is)) ∙ raw_item_is D i (raw_numbers_of n) (raw_keys_of p))
+    ∙ get_or-raw_items D n.count i (raw_numbers_of n) (raw_keys_of p) x (omega (arith, lt, said_length D n p xs is))
+    ∙ raw_item_is D i (raw_numbers_of n) (raw_keys_of p))
 
-pub said_doc : (D : ℕ) (n : Numbers) (p : Parts) (i : ℕ) (xs : List Item) (v : ℕ) → items_said D n p ≡ xs → i < length xs → v ≡ n.least + offset_at (raw_numbers_of n) i → IsSomeAnd (slice_get xs i) (λ x. v ≡ x.doc)
+pub said_doc : (D : ℕ) (n : Numbers) (p : Parts) (i : ℕ) (xs : List Item) (v : ℕ) → items_said D n p ≡ xs → i < length xs
+    → v ≡ n.least + offset_at (raw_numbers_of n) i → IsSomeAnd (slice_get xs i) (λ x. v ≡ x.doc)
 said_doc D n p i xs v is lt e = some_and (slice_get xs i) _ (λ (x : Item). v ≡ x.doc) (item_said D n p i xs is lt) e
 
-pub said_point : (D : ℕ) (n : Numbers) (p : Parts) (i : ℕ) (xs : List Item) (v : List ℤ) → items_said D n p ≡ xs → i < length xs → v ≡ point_at D (raw_keys_of p) i → IsSomeAnd (slice_get xs i) (λ x. v ≡ x.at)
+pub said_point : (D : ℕ) (n : Numbers) (p : Parts) (i : ℕ) (xs : List Item) (v : List ℤ) → items_said D n p ≡ xs → i < length xs
+    → v ≡ point_at D (raw_keys_of p) i → IsSomeAnd (slice_get xs i) (λ x. v ≡ x.at)
 said_point D n p i xs v is lt e = some_and (slice_get xs i) _ (λ (x : Item). v ≡ x.at) (item_said D n p i xs is lt) e
 
 pub said_coordinate : (D : ℕ) (n : Numbers) (p : Parts) (i d : ℕ) (xs : List Item) (v : ℤ) → items_said D n p ≡ xs → i < length xs → d < D
@@ -63,7 +67,10 @@ module _ {K : Type 0} (cmp : K → K → Ordering) (total : IsTotalOrder cmp) wh
   ascending_from [] h = tt
   ascending_from (x ∷ []) h = (tt, tt)
   ascending_from (x ∷ y ∷ ys) h =
-      let rest = ascending_from (y ∷ ys) (λ k d lt. let next : suc k + 1 ≡ suc (k + 1) = omega arith in subst (λ (m : ℕ). cmp (get_or (y ∷ ys) k d) (get_or (x ∷ y ∷ ys) m d) ≡ Less) next (h (suc k) d (omega arith))) in
+      let rest = ascending_from (y ∷ ys)
+      (λ k d lt.
+      let next : suc k + 1 ≡ suc (k + 1) = omega arith in
+      subst (λ (m : ℕ). cmp (get_or (y ∷ ys) k d) (get_or (x ∷ y ∷ ys) m d) ≡ Less) next (h (suc k) d (omega arith))) in
       let less : cmp x y ≡ Less = h 0 x (omega arith) in
       ((less, behind x y ys less rest.0), rest)
 
@@ -84,16 +91,19 @@ less_of Greater e = absurd cc
 none : Item
 none = record { doc = 0; at = [] }
 
-pub inside_at : (D n k d : ℕ) (numbers : RawNumbers) (r : RawKeys) (cell : Region) → AscendInside d cell (raw_items D n numbers r) → k < n → in_box cell (raw_item D numbers r k).at ≡ true
+pub inside_at : (D n k d : ℕ) (numbers : RawNumbers) (r : RawKeys) (cell : Region) → AscendInside d cell (raw_items D n numbers r) → k < n
+    → in_box cell (raw_item D numbers r k).at ≡ true
 inside_at D n k d numbers r cell h lt =
     ap (λ (x : Item). in_box cell x.at) (sym (get_or-raw_items D n k numbers r none lt)) ∙ h.inside k none (omega (arith, lt, length-raw_items D n numbers r))
 
-pub up_at : (D n k d : ℕ) (numbers : RawNumbers) (r : RawKeys) (cell : Region) → AscendInside d cell (raw_items D n numbers r) → k + 1 < n → leaf_cmp d (raw_item D numbers r k) (raw_item D numbers r (k + 1)) ≡ Less
+pub up_at : (D n k d : ℕ) (numbers : RawNumbers) (r : RawKeys) (cell : Region) → AscendInside d cell (raw_items D n numbers r) → k + 1 < n
+    → leaf_cmp d (raw_item D numbers r k) (raw_item D numbers r (k + 1)) ≡ Less
 up_at D n k d numbers r cell h lt =
     (λ j. leaf_cmp d (sym (get_or-raw_items D n k numbers r none (omega arith)) j) (sym (get_or-raw_items D n (k + 1) numbers r none lt) j))
     ∙ ascending_at (leaf_cmp d) (leaf_total d) (raw_items D n numbers r) k none h.ascending (omega (arith, lt, length-raw_items D n numbers r))
 
-pub ascends : (D n d : ℕ) (numbers : RawNumbers) (r : RawKeys) (cell : Region) → ((k : ℕ) → k < n → in_box cell (raw_item D numbers r k).at ≡ true) → ((k : ℕ) → k + 1 < n → leaf_cmp d (raw_item D numbers r k) (raw_item D numbers r (k + 1)) ≡ Less)
+pub ascends : (D n d : ℕ) (numbers : RawNumbers) (r : RawKeys) (cell : Region) → ((k : ℕ) → k < n → in_box cell (raw_item D numbers r k).at ≡ true)
+    → ((k : ℕ) → k + 1 < n → leaf_cmp d (raw_item D numbers r k) (raw_item D numbers r (k + 1)) ≡ Less)
     → AscendInside d cell (raw_items D n numbers r)
 ascends D n d numbers r cell inside up = record {
   ascending = ascending_from (leaf_cmp d) (leaf_total d) (raw_items D n numbers r) (λ k x lt.

@@ -1,5 +1,6 @@
 -- The parts of the spelling, from what the writer knows of the dimensions.
-use Rattle.std.proofs.Common.{◌≡◌, ℕ, ◌+◌, ◌-◌, ◌<◌, ◌≤◌, Bool, true, false, eqb, ltb, List, [], ◌∷◌, map, length, get_or, take, drop, cond, refl, sym, ap, ◌∙◌, arith, inl, inr, Option, Some, None, unwrap_or, ltb-true, take_all, length-drop}
+use Rattle.std.proofs.Common.{◌≡◌, ℕ, ◌+◌, ◌-◌, ◌<◌, ◌≤◌, Bool, true, false, eqb, ltb, List, [], ◌∷◌, map, length, get_or, take, drop}
+use Rattle.std.proofs.Common.{cond, refl, sym, ap, ◌∙◌, arith, inl, inr, Option, Some, None, unwrap_or, ltb-true, take_all, length-drop}
 use Rattle.std.proofs.Common.{not}
 use Rattle.std.specs.Int.{from_bool}
 use Rattle.std.specs.List.{flat_map, range_with_len}
@@ -38,7 +39,8 @@ told_is D d items lt = ap (λ n. n + cond (eqb d (sorted_number D items)) 1 0) (
     by None = ap (λ b. shared_prefix d items + cond b 1 0) (ne_eqb d D (λ e. absurd (omega arith))) ∙ omega arith
     by (Some s) = elim (cases_Bool (eqb d s)) [
       | inl same ↦ ap (λ b. shared_prefix d items + cond b 1 0) same ∙ sym (cond-true (eqb d s) (shared_prefix d items + 1) (shared_prefix d items) same)
-      | inr apart ↦ ap (λ b. shared_prefix d items + cond b 1 0) apart ∙ omega (arith, cond-false (eqb d s) (shared_prefix d items + 1) (shared_prefix d items) apart)
+      | inr apart ↦
+          ap (λ b. shared_prefix d items + cond b 1 0) apart ∙ omega (arith, cond-false (eqb d s) (shared_prefix d items + 1) (shared_prefix d items) apart)
     ]
 
 -- they are at most the whole key
@@ -48,15 +50,18 @@ told-le D d items = by (sorted_dimension D items) (λ s e. ltb-true _ _ (sorted_
     by : (o : Option ℕ) → ((s : ℕ) → o ≡ Some s → shared_prefix s items < 4) → told o d items ≤ 4
     by None h = shared_prefix-le d items
     by (Some s) h = elim (cases_Bool (eqb d s)) [
-      | inl same ↦ omega (arith, cond-true (eqb d s) (shared_prefix d items + 1) (shared_prefix d items) same, ap (λ k. shared_prefix k items) (eqb-true d s same), h s refl)
+      | inl same ↦ omega
+          (arith, cond-true (eqb d s) (shared_prefix d items + 1) (shared_prefix d items) same, ap (λ k. shared_prefix k items) (eqb-true d s same), h s refl)
       | inr apart ↦ omega (arith, cond-false (eqb d s) (shared_prefix d items + 1) (shared_prefix d items) apart, shared_prefix-le d items)
     ]
 
 -- what is left of an item's keys
-pub rest_is : (D : ℕ) (items : List Item) (x : Item) → flat_map (λ d. drop (told_of (lengths_of D items) (sorted_number D items) d) (key_of d x)) (range_with_len 0 D) ≡ rest D items x
+pub rest_is : (D : ℕ) (items : List Item) (x : Item)
+    → flat_map (λ d. drop (told_of (lengths_of D items) (sorted_number D items) d) (key_of d x)) (range_with_len 0 D) ≡ rest D items x
 rest_is D items x = flat_map_agree _ _ 0 D (λ d low high. ap (λ n. drop n (key_of d x)) (told_is D d items (omega arith)))
 
-pub shared_bytes_is : (d : ℕ) (items : List Item) (x : Item) → 0 < length items → get_or items 0 x ≡ x → shared_bytes d items ≡ take (shared_prefix d items) (key_of d x)
+pub shared_bytes_is : (d : ℕ) (items : List Item) (x : Item) → 0 < length items → get_or items 0 x ≡ x
+    → shared_bytes d items ≡ take (shared_prefix d items) (key_of d x)
 shared_bytes_is d [] x some is = absurd (omega arith)
 shared_bytes_is d (y ∷ items) x some is = ap (λ z. take (shared_prefix d (y ∷ items)) (key_of d z)) is
 

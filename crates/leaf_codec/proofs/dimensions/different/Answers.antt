@@ -14,7 +14,12 @@ loop-entry-init g c = seen_none _ (search rules) c.new-seen.ensures
 pub loop-entry-preserved : goal.loop-entry-preserved
 loop-entry-preserved g c =
     let x = item_of c.entry-item.result in
-    rw (c.insert.ensures, items_more c.args.entries.now c.loop-entry.entry-index c.entry-item.result c.loop-entry-test.true c.entry-item.is, map_push, c.key.ensures.value)
+    rw (
+      c.insert.ensures,
+      items_more c.args.entries.now c.loop-entry.entry-index c.entry-item.result c.loop-entry-test.true c.entry-item.is,
+      map_push,
+      c.key.ensures.value,
+    )
     (seen_more _ _ (key_byte c.args.d c.args.i x) (key_byte-lt c.args.d c.args.i x) c.loop-entry.invariant)
 
 pub returns-clause-value : goal.returns-clause-value

@@ -1,7 +1,8 @@
 use Rattle.std.proofs.Common.{◌≡◌, sym, Bool, List, ℕ, length, get_or, arith, ltb, ltb-true, lt-ltb, subst}
 use Rattle.leaf_codec.proofs.Narrowest.{IsNarrowestBelow, narrowest_none, narrowest_takes, narrowest_keeps, narrowest_is}
 use Rattle.leaf_codec.proofs.dimensions.narrowest.Goals as goal
-use Rattle.leaf_codec.proofs.dimensions.narrowest.Goals.{then-lengths-d-lt4+then-spreads-d, else-lengths-d-lt4, else-lengths-d-lt4-via-then-lengths-d-lt4+else-spreads-d, else-lengths-d-lt4-via-else-lengths-d-lt4}
+use Rattle.leaf_codec.proofs.dimensions.narrowest.Goals.{then-lengths-d-lt4+then-spreads-d, else-lengths-d-lt4}
+use Rattle.leaf_codec.proofs.dimensions.narrowest.Goals.{else-lengths-d-lt4-via-then-lengths-d-lt4+else-spreads-d, else-lengths-d-lt4-via-else-lengths-d-lt4}
 
 abbrev short : List ℕ → ℕ → Bool
 short lengths d = ltb (get_or lengths d 0) 4
@@ -36,4 +37,5 @@ returns c =
     let spreads = c.args.spreads.now in
     let whole : c.loop-d.d ≡ length lengths = omega arith in
     let found = subst (λ (n : ℕ). IsNarrowestBelow n (length lengths) (short lengths) (number spreads) c.loop-d.best c.loop-d.least) whole c.loop-d.invariant in
-    sym (narrowest_is (length lengths) (short lengths) (number spreads) c.loop-d.best c.loop-d.least found (λ e lt moves. c.requires.few e 0 (omega (arith, c.requires.same))))
+    sym (narrowest_is (length lengths) (short lengths) (number spreads) c.loop-d.best c.loop-d.least found
+    (λ e lt moves. c.requires.few e 0 (omega (arith, c.requires.same))))

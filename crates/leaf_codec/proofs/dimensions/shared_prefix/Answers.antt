@@ -12,7 +12,8 @@ returns g c =
     let so_far = rw (items_all c.args.entries.now c.loop-entry.entry-index c.loop-entry-test.false) at c.loop-entry.invariant in
     let some : 0 < length c.args.entries.now = pos_of_ne-zero (eqb-false _ _ (sym c.is_empty.ensures ∙ c.if-is_empty.false)) in
     let member = Contains-items c.args.entries.now 0 c.index-entries-0.result some c.index-entries-0.is in
-    sym (shares_all c.args.d (items_of c.args.entries.now) c.key-first.result c.loop-entry.shared (item_of c.index-entries-0.result) so_far member c.key-first.ensures.value)
+    sym (shares_all c.args.d (items_of c.args.entries.now) c.key-first.result c.loop-entry.shared (item_of c.index-entries-0.result) so_far member
+    c.key-first.ensures.value)
 
 pub loop-entry-preserved : goal.loop-entry-preserved
 loop-entry-preserved g c =

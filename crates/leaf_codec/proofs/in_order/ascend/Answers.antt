@@ -21,7 +21,8 @@ returns-then-not-is_lt g c =
       λ up.
           let less : c.by_leaf_order.result ≡ Less =
           c.by_leaf_order.ensures ∙ (λ j. leaf_cmp c.args.d (c.entry-last.ensures j) (c.entry-next.ensures j))
-          ∙ (λ j. leaf_cmp c.args.d (raw_item g.row.D n r (l.at - 1)) (raw_item g.row.D n r (sym next j))) ∙ up (l.at - 1) (omega (arith, next, c.loop-at-test.true)) in
+          ∙ (λ j. leaf_cmp c.args.d (raw_item g.row.D n r (l.at - 1)) (raw_item g.row.D n r (sym next j)))
+          ∙ up (l.at - 1) (omega (arith, next, c.loop-at-test.true)) in
           absurd (true≢false (ap is_lt (sym less) ∙ sym c.is_lt.ensures ∙ c.if-not-is_lt.true)),
     )
 

@@ -9,7 +9,9 @@ abbrev pub invariant-loop-at : goal.invariant-loop-at
 invariant-loop-at g l = record {
   some : 1 ≤ l.at;
   within : l.at ≤ l.numbers.count;
-  up : (k : ℕ) → k + 1 < l.at → leaf_cmp l.d (raw_item g.row.D (raw_numbers_of l.numbers) (raw_keys_of l.parts) k) (raw_item g.row.D (raw_numbers_of l.numbers) (raw_keys_of l.parts) (k + 1)) ≡ Less;
+  up : (k : ℕ) → k + 1 < l.at
+      → leaf_cmp l.d (raw_item g.row.D (raw_numbers_of l.numbers) (raw_keys_of l.parts) k)
+      (raw_item g.row.D (raw_numbers_of l.numbers) (raw_keys_of l.parts) (k + 1)) ≡ Less;
 }
 
 abbrev pub decreases-loop-at : goal.decreases-loop-at

@@ -17,7 +17,8 @@ loop-i-preserved g c =
         | inl same ↦
             let last : l.i - 1 ≡ k = omega arith in
             let before : l.last ≡ word_of g.row.D n r c.args.d k = l.invariant.last ∙ ap (λ m. word_of g.row.D n r c.args.d m) last in
-            let here : c.place-next.result ≡ word_of g.row.D n r c.args.d (k + 1) = c.place-next.ensures.value ∙ ap (λ m. word_of g.row.D n r c.args.d m) (sym same) in
+            let here : c.place-next.result ≡ word_of g.row.D n r c.args.d (k + 1) =
+            c.place-next.ensures.value ∙ ap (λ m. word_of g.row.D n r c.args.d m) (sym same) in
             let small = subst (λ m. n.least + offset_at n m < 2 ^ 32) (sym same) c.place-next.ensures.small in
             less_word g.row.D c.args.d k (k + 1) n r c.requires.dimension small (omega (arith, before, here, c.if-next-last.false))
         | inr apart ↦ l.invariant.up k from (omega arith)

@@ -9,5 +9,7 @@ use Rattle.leaf_codec.proofs.in_order.climb.Given as goal
 abbrev pub invariant-loop-i : goal.invariant-loop-i
 invariant-loop-i g l = record {
   last : l.last ≡ word_of g.row.D (raw_numbers_of l.numbers) (raw_keys_of l.parts) l.d (l.i - 1);
-  up : (k : ℕ) → l.from ≤ k + 1 → k + 1 < l.i → leaf_cmp l.d (raw_item g.row.D (raw_numbers_of l.numbers) (raw_keys_of l.parts) k) (raw_item g.row.D (raw_numbers_of l.numbers) (raw_keys_of l.parts) (k + 1)) ≡ Less;
+  up : (k : ℕ) → l.from ≤ k + 1 → k + 1 < l.i
+      → leaf_cmp l.d (raw_item g.row.D (raw_numbers_of l.numbers) (raw_keys_of l.parts) k)
+      (raw_item g.row.D (raw_numbers_of l.numbers) (raw_keys_of l.parts) (k + 1)) ≡ Less;
 }

@@ -14,6 +14,7 @@ pub returns : goal.returns
 returns g c =
     let n = c.args.parts.now.count in
     let last : n - 1 < n = omega (arith, c.requires.some) in (
-      λ yes. ends_all g.row.D n (raw_keys_of c.args.parts.now) c.args.e c.args.low c.args.high c.requires.some c.requires.rises (omega (arith, c.if-rank-low.false, c.rank.ensures)) (omega (arith, leb-true _ _ yes, c.rank-2.ensures)),
+      λ yes. ends_all g.row.D n (raw_keys_of c.args.parts.now) c.args.e c.args.low c.args.high c.requires.some c.requires.rises
+          (omega (arith, c.if-rank-low.false, c.rank.ensures)) (omega (arith, leb-true _ _ yes, c.rank-2.ensures)),
       λ all. le-leb _ _ (omega (arith, (all (n - 1) last).1, c.rank-2.ensures)),
     )

@@ -11,7 +11,9 @@ other_dimension D s d e is lt apart same =
 
 pub ends_between-requires : goal.ends_between-requires
 ends_between-requires g c =
-    let up = λ (k : ℕ) (lt : k + 1 < c.args.parts.now.count). subst (λ (e : ℕ). rank_of g.row.D (raw_keys_of c.args.parts.now) k e ≤ rank_of g.row.D (raw_keys_of c.args.parts.now) (k + 1) e) (sym c.if-e-d.true) (c.requires.rises k lt) in
+    let up = λ (k : ℕ) (lt : k + 1 < c.args.parts.now.count).
+    subst (λ (e : ℕ). rank_of g.row.D (raw_keys_of c.args.parts.now) k e ≤ rank_of g.row.D (raw_keys_of c.args.parts.now) (k + 1) e) (sym c.if-e-d.true)
+    (c.requires.rises k lt) in
     (search rules, (c.requires.dims, (c.requires.parts, (c.requires.slots, (c.requires.some, (c.requires.dimension, up))))))
 
 pub rests_between-requires : goal.rests_between-requires

@@ -30,7 +30,8 @@ returns-then-not-lie_between g c =
       λ all. absurd (true≢false (
           sym (c.lie_between.ensures.1 (within_between g.row.D n r cell e low.result high.result c.loop-e-test.true
           (fits_at c.coordinates-lo.result.now cell.lo e lo.value low.ensures.fits) (fits_at c.coordinates-hi.result.now cell.hi e hi.value high.ensures.fits)
-          (number_at c.coordinates-lo.result.now cell.lo e low.result lo.value low.ensures.value) (number_at c.coordinates-hi.result.now cell.hi e high.result hi.value high.ensures.value)
+          (number_at c.coordinates-lo.result.now cell.lo e low.result lo.value low.ensures.value)
+          (number_at c.coordinates-hi.result.now cell.hi e high.result hi.value high.ensures.value)
           (inside_each g.row.D n r cell lo.long all e c.loop-e-test.true)))
           ∙ c.if-not-lie_between.true)),
     )
@@ -47,7 +48,8 @@ loop-e-preserved g c =
     let high = c.key_number-high in
     let here : AreWithin g.row.D n r cell e = between_within g.row.D n r cell e low.result high.result c.loop-e-test.true
     (fits_at c.coordinates-lo.result.now cell.lo e lo.value low.ensures.fits) (fits_at c.coordinates-hi.result.now cell.hi e hi.value high.ensures.fits)
-    (number_at c.coordinates-lo.result.now cell.lo e low.result lo.value low.ensures.value) (number_at c.coordinates-hi.result.now cell.hi e high.result hi.value high.ensures.value)
+    (number_at c.coordinates-lo.result.now cell.lo e low.result lo.value low.ensures.value)
+    (number_at c.coordinates-hi.result.now cell.hi e high.result hi.value high.ensures.value)
     (c.lie_between.ensures.0 c.if-not-lie_between.false) in
     λ k lt. elim (cases_eq k e) [
       | inl same ↦ subst (AreWithin g.row.D n r cell) (sym same) here
@@ -56,6 +58,7 @@ loop-e-preserved g c =
 
 pub returns : goal.returns
 returns g c = (
-  λ _. inside_all g.row.D c.args.parts.now.count (raw_keys_of c.args.parts.now) (region_of c.args.cell.now) c.coordinates-lo.ensures.long c.coordinates-hi.ensures.long (λ e lt. c.loop-e.invariant e (omega (arith, lt, c.loop-e-test.false))),
+  λ _. inside_all g.row.D c.args.parts.now.count (raw_keys_of c.args.parts.now) (region_of c.args.cell.now) c.coordinates-lo.ensures.long
+      c.coordinates-hi.ensures.long (λ e lt. c.loop-e.invariant e (omega (arith, lt, c.loop-e-test.false))),
   λ _. refl,
 )

@@ -5,4 +5,5 @@ use Rattle.leaf_codec.proofs.in_order.words_between.Given as goal
 
 abbrev pub invariant-loop-i : goal.invariant-loop-i
 invariant-loop-i l = (k : ℕ) → k < l.i
-    → (l.low ≤ bit_and (number_of (take 4 (drop (l.start + k * l.stride) l.bytes))) l.mask) × (bit_and (number_of (take 4 (drop (l.start + k * l.stride) l.bytes))) l.mask ≤ l.high)
+    → (l.low ≤ bit_and (number_of (take 4 (drop (l.start + k * l.stride) l.bytes))) l.mask)
+    × (bit_and (number_of (take 4 (drop (l.start + k * l.stride) l.bytes))) l.mask ≤ l.high)

@@ -17,7 +17,8 @@ ascending : (g : Over) (c : goal.After-entries-1 g) → IsSorted (leaf_cmp c.lea
 ascending g c =
     let d = c.leading_dimension-d.result in
     let f = λ (e : Entry g.row.D). item_of e in
-    let by_entry = c.sort_unstable_by.ensures.sorted (λ (a b : Entry g.row.D). is_lt (leaf_cmp d (f a) (f b))) (ranks_by (leaf_total d) f) (always_returns_same _ _ _ (λ a r h k. search rules)) in
+    let by_entry = c.sort_unstable_by.ensures.sorted (λ (a b : Entry g.row.D). is_lt (leaf_cmp d (f a) (f b))) (ranks_by (leaf_total d) f)
+    (always_returns_same _ _ _ (λ a r h k. search rules)) in
     sorted-map (λ (x y : Item). is_lt (leaf_cmp d x y)) f c.sort_unstable_by.new.self by_entry
 
 moved : (g : Over) (c : goal.After-entries-1 g) → IsPermutation (items_of c.args.entries.now) (items_of c.sort_unstable_by.new.self)
@@ -26,7 +27,8 @@ moved g c = IsPermutation-map (λ (e : Entry g.row.D). item_of e) c.args.entries
 leading : (g : Over) (c : goal.After-entries-1 g) → c.leading_dimension-d.result ≡ unwrap_or (sorted_dimension g.row.D (items_of c.sort_unstable_by.new.self)) 0
 leading g c =
     c.leading_dimension-d.ensures.value
-    ∙ ap (λ (o : Option ℕ). unwrap_or o 0) (sorted_dimension-IsPermutation g.row.D (items_of c.args.entries.now) (items_of c.sort_unstable_by.new.self) (moved g c))
+    ∙ ap (λ (o : Option ℕ). unwrap_or o 0)
+    (sorted_dimension-IsPermutation g.row.D (items_of c.args.entries.now) (items_of c.sort_unstable_by.new.self) (moved g c))
 
 pub returns-clause-ordered : goal.returns-clause-ordered
 returns-clause-ordered g c =

@@ -13,7 +13,8 @@ ok-is a b r p q = cc
 pub returns-in_default-take_vint-clause-only : goal.returns-in_default-take_vint-clause-only
 returns-in_default-take_vint-clause-only c form least rest hf hl is =
     let left = tail-is c.in-Ok.form form c.take_u8.new.self.bytes.now (vint least ++ rest) (sym c.in-Ok.ensures.ok ∙ c.new-cursor.ensures ∙ is) in
-    absurd (c.in_default-take_vint.not-Ok least (c.take_vint.ensures.taken least rest (omega arith) (begins c.take_u8.new.self.bytes.now rest least (omega arith) left)).0)
+    absurd (c.in_default-take_vint.not-Ok least
+    (c.take_vint.ensures.taken least rest (omega arith) (begins c.take_u8.new.self.bytes.now rest least (omega arith) left)).0)
 
 pub returns-then-least-clause-only : goal.returns-then-least-clause-only
 returns-then-least-clause-only c form least rest hf hl is =

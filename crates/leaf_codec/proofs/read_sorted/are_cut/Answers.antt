@@ -12,7 +12,8 @@ behind P spelled n is h = subst P (sym (take_all (n - 2) (drop 2 spelled) (omega
 pub returns-then-not-whole-other : goal.returns-then-not-whole-other
 returns-then-not-whole-other c =
     let h = c.loop-rest.invariant in
-    let step = cut_step c.loop-rest.rest.now _ c.loop-rest-test.true (All-get_or (λ (b : ℕ). b < 256) c.loop-rest.rest.now 1 0 (omega (arith, c.loop-rest-test.true)) h.bytes) c.if-not-whole-other.true in (
+    let step = cut_step c.loop-rest.rest.now _ c.loop-rest-test.true
+    (All-get_or (λ (b : ℕ). b < 256) c.loop-rest.rest.now 1 0 (omega (arith, c.loop-rest-test.true)) h.bytes) c.if-not-whole-other.true in (
       λ no. absurd (true≢false (sym no)),
       λ all. absurd (step.wrong refl (h.onward all)),
     )
@@ -22,8 +23,10 @@ loop-rest-preserved c =
     let h = c.loop-rest.invariant in
     let rest = c.loop-rest.rest.now in
     let spelled = c.args.spelled.now in
-    let step = cut_step rest _ c.loop-rest-test.true (All-get_or (λ (b : ℕ). b < 256) c.loop-rest.rest.now 1 0 (omega (arith, c.loop-rest-test.true)) h.bytes) c.if-not-whole-other.false in
-    behind (λ (bs : List ℕ). record { even : length bs % 2 ≡ 0; bytes : AreBytes bs; onward : IsCut spelled → IsCut bs; back : IsCut bs → IsCut spelled }) rest _ refl (record {
+    let step = cut_step rest _ c.loop-rest-test.true (All-get_or (λ (b : ℕ). b < 256) c.loop-rest.rest.now 1 0 (omega (arith, c.loop-rest-test.true)) h.bytes)
+    c.if-not-whole-other.false in
+    behind (λ (bs : List ℕ). record { even : length bs % 2 ≡ 0; bytes : AreBytes bs; onward : IsCut spelled → IsCut bs; back : IsCut bs → IsCut spelled }) rest
+    _ refl (record {
       even = omega (arith, h.even, c.loop-rest-test.true, length-drop 2 rest);
       bytes = All-drop (λ (b : ℕ). b < 256) 2 rest h.bytes;
       onward = λ all. step.onward refl (h.onward all);

@@ -36,5 +36,7 @@ returns-clause-found c =
     let is = ap (λ (t : List ℕ). flat_map piece_bytes (pieces t)) c.in_ok-table.ensures.found ∙ c.are_cut.ensures.0 c.if-not-are_cut.false in
     let long = c.split_at.ensures.front_len in
     ap (λ (t : List ℕ). 1 ∷ t) c.in_ok-number.ensures.cases.0
-    ∙ ap (λ (t : List ℕ). 1 ∷ c.in_ok-number.number.now ∷ t) (sym (take-append-drop (2 * c.in_ok-number.number.now) c.in_ok-number.rest.now) ∙ (λ i. sym c.split_at.ensures.front i ++ sym c.split_at.ensures.back i))
-    ∙ cut_is c.in_ok-number.number.now c.split_at.result.0.now c.split_at.result.1.now bs is long (omega (arith, c.if-size-count.false, length-take c.args.count c.in_ok-table.table))
+    ∙ ap (λ (t : List ℕ). 1 ∷ c.in_ok-number.number.now ∷ t)
+    (sym (take-append-drop (2 * c.in_ok-number.number.now) c.in_ok-number.rest.now) ∙ (λ i. sym c.split_at.ensures.front i ++ sym c.split_at.ensures.back i))
+    ∙ cut_is c.in_ok-number.number.now c.split_at.result.0.now c.split_at.result.1.now bs is long
+    (omega (arith, c.if-size-count.false, length-take c.args.count c.in_ok-table.table))

@@ -17,10 +17,13 @@ pub loop-i-preserved : goal.loop-i-preserved
 loop-i-preserved c =
     let byte : ℕ → ℕ = λ k. get_or c.args.bytes.now (c.args.start + k * c.args.stride) 0 in
     rw (c.insert.ensures, range_next c.loop-i.i, map_push)
-    (seen_more _ _ (byte c.loop-i.i) (small c.args.bytes.now (λ k. omega (arith, c.type_inv.bytes k)) (c.args.start + c.loop-i.i * c.args.stride) 0 (c.requires.within c.loop-i.i c.loop-i-test.true)) c.loop-i.invariant)
+    (seen_more _ _ (byte c.loop-i.i)
+    (small c.args.bytes.now (λ k. omega (arith, c.type_inv.bytes k)) (c.args.start + c.loop-i.i * c.args.stride) 0
+    (c.requires.within c.loop-i.i c.loop-i-test.true)) c.loop-i.invariant)
 
 pub returns-clause-value : goal.returns-clause-value
 returns-clause-value c =
     let byte : ℕ → ℕ = λ k. get_or c.args.bytes.now (c.args.start + k * c.args.stride) 0 in
     let end : c.loop-i.i ≡ c.args.count = omega (arith, c.loop-i-test.false, c.loop-i.auto.i-end) in
-    c.count.ensures.value ∙ seen_count _ _ c.loop-i.invariant ∙ ap (λ n. count_values (has_value (map byte (range_with_len 0 n)))) end ∙ values-map byte (range_with_len 0 c.args.count)
+    c.count.ensures.value ∙ seen_count _ _ c.loop-i.invariant ∙ ap (λ n. count_values (has_value (map byte (range_with_len 0 n)))) end
+    ∙ values-map byte (range_with_len 0 c.args.count)

@@ -1,4 +1,5 @@
-use Rattle.std.proofs.Common.{◌≡◌, ◌≢◌, ◌<◌, ◌≤◌, ◌+◌, ◌*◌, ℕ, List, length, get_or, set, true, false, refl, sym, ap, subst, ◌∙◌, arith, rules, inl, inr, true≢false, get_or-set_same, get_or-set_other, unwrap_or, Option}
+use Rattle.std.proofs.Common.{◌≡◌, ◌≢◌, ◌<◌, ◌≤◌, ◌+◌, ◌*◌, ℕ, List, length, get_or, set, true, false, refl, sym, ap, subst}
+use Rattle.std.proofs.Common.{◌∙◌, arith, rules, inl, inr, true≢false, get_or-set_same, get_or-set_other, unwrap_or, Option}
 use Rattle.std.proofs.lemmas.Bool.{cases_eq, eq-eqb, eqb-true}
 use Rattle.std.proofs.lemmas.List.{length-set}
 use Rattle.std.proofs.lemmas.List.Elements.{All-set}
@@ -21,8 +22,15 @@ returns-then-spread-lt2 g c n =
     let items = raw_items g.row.D p.count n (raw_keys_of p) in (
       λ no. absurd (true≢false (sym no)),
       λ a.
-          let same : shared_prefix d items ≡ get_or p.lengths.now d 0 = sym (get_or-lengths g.row.D d items c.loop-d-test.true) ∙ ap (λ (t : List ℕ). get_or t d 0) a.lengths_are in
-          absurd (omega (arith, c.if-spread-lt2.true, c.spread-spread.ensures.value n, ap (λ m. different d m items) same, shared_spreads d items (omega (arith, same, c.if-parts-d-lt4.true)))),
+          let same : shared_prefix d items ≡ get_or p.lengths.now d 0 =
+          sym (get_or-lengths g.row.D d items c.loop-d-test.true) ∙ ap (λ (t : List ℕ). get_or t d 0) a.lengths_are in
+          absurd (omega (
+            arith,
+            c.if-spread-lt2.true,
+            c.spread-spread.ensures.value n,
+            ap (λ m. different d m items) same,
+            shared_spreads d items (omega (arith, same, c.if-parts-d-lt4.true)),
+          )),
     )
 
 pub loop-d-preserved : goal.loop-d-preserved
@@ -39,12 +47,14 @@ loop-d-preserved g c =
       place = omega (arith, inv.place, c.gap-place.ensures, more);
       low = omega (arith, inv.low, c.gap-place.ensures);
       few = elim c.if-parts-d-lt4.branch [
-        | then-parts-d-lt4+else-spread-lt2 w ↦ rw w.spreads-is (All-set (λ (m : ℕ). m ≤ 256) l.spreads l.d w.spread-spread.result w.spread-spread.ensures.few inv.few)
+        | then-parts-d-lt4+else-spread-lt2 w ↦
+            rw w.spreads-is (All-set (λ (m : ℕ). m ≤ 256) l.spreads l.d w.spread-spread.result w.spread-spread.ensures.few inv.few)
         | else-parts-d-lt4 w ↦ rw w.spreads-is inv.few
       ];
       spreads = λ n. elim c.if-parts-d-lt4.branch [
         | then-parts-d-lt4+else-spread-lt2 w ↦ (λ k lt moves. ap (λ (t : List ℕ). get_or t k 0) w.spreads-is ∙ elim (cases_eq k l.d) [
-          | inl same ↦ rw same (get_or-set_same l.spreads l.d w.spread-spread.result 0 (omega (arith, inv.long, c.loop-d-test.true)) ∙ w.spread-spread.ensures.value n)
+          | inl same ↦
+              rw same (get_or-set_same l.spreads l.d w.spread-spread.result 0 (omega (arith, inv.long, c.loop-d-test.true)) ∙ w.spread-spread.ensures.value n)
           | inr apart ↦ get_or-set_other l.spreads l.d k w.spread-spread.result 0 apart ∙ inv.spreads n k (omega arith) moves
         ])
         | else-parts-d-lt4 w ↦ (λ k lt moves. ap (λ (t : List ℕ). get_or t k 0) w.spreads-is ∙ elim (cases_eq k l.d) [
@@ -54,8 +64,19 @@ loop-d-preserved g c =
       ];
       wide = elim c.if-parts-d-lt4.branch [
         | then-parts-d-lt4+else-spread-lt2 w ↦ (λ k lt moves. elim (cases_eq k l.d) [
-          | inl same ↦ omega (arith, ap (λ (t : List ℕ). get_or t k 0) w.spreads-is, ap (λ m. get_or (set l.spreads l.d w.spread-spread.result) m 0) same, get_or-set_same l.spreads l.d w.spread-spread.result 0 (omega (arith, inv.long, c.loop-d-test.true)), w.if-spread-lt2.false)
-          | inr apart ↦ omega (arith, ap (λ (t : List ℕ). get_or t k 0) w.spreads-is, get_or-set_other l.spreads l.d k w.spread-spread.result 0 apart, inv.wide k (omega arith) moves)
+          | inl same ↦ omega (
+            arith,
+            ap (λ (t : List ℕ). get_or t k 0) w.spreads-is,
+            ap (λ m. get_or (set l.spreads l.d w.spread-spread.result) m 0) same,
+            get_or-set_same l.spreads l.d w.spread-spread.result 0 (omega (arith, inv.long, c.loop-d-test.true)),
+            w.if-spread-lt2.false,
+          )
+          | inr apart ↦ omega (
+            arith,
+            ap (λ (t : List ℕ). get_or t k 0) w.spreads-is,
+            get_or-set_other l.spreads l.d k w.spread-spread.result 0 apart,
+            inv.wide k (omega arith) moves,
+          )
         ])
         | else-parts-d-lt4 w ↦ (λ k lt moves. elim (cases_eq k l.d) [
           | inl same ↦ absurd (omega (arith, moves, ap (λ m. get_or p.lengths.now m 0) same, w.if-parts-d-lt4.false))
@@ -73,10 +94,12 @@ returns g c n =
     let h = c.requires.parts.raw in
     let items = raw_items D p.count n r in
     let end : D ≤ l.d = omega (arith, c.loop-d-test.false) in
-    let lengths = lengths_found D p.count n r h (λ d lt moves. omega (arith, l.invariant.wide d (omega (arith, lt, end)) moves, l.invariant.spreads n d (omega (arith, lt, end)) moves)) in
+    let lengths = lengths_found D p.count n r h
+    (λ d lt moves. omega (arith, l.invariant.wide d (omega (arith, lt, end)) moves, l.invariant.spreads n d (omega (arith, lt, end)) moves)) in
     let sorted = sorted_found_in D p.count n r l.spreads h lengths (λ d lt moves. l.invariant.spreads n d (omega (arith, lt, end)) moves) in
     let found : c.narrowest.result ≡ unwrap_or (sorted_dimension D items) D =
-    c.narrowest.ensures ∙ ap (λ m. unwrap_or (narrowest m (λ d. Rattle.std.proofs.Common.ltb (get_or p.lengths.now d 0) 4) (λ d. get_or l.spreads d 0)) m) h.dims ∙ sorted in (
+    c.narrowest.ensures
+    ∙ ap (λ m. unwrap_or (narrowest m (λ d. Rattle.std.proofs.Common.ltb (get_or p.lengths.now d 0) 4) (λ d. get_or l.spreads d 0)) m) h.dims ∙ sorted in (
       λ yes_so. record { lengths_are = lengths; sorted_is = sym found ∙ eqb-true c.narrowest.result p.sorted yes_so },
       λ a. eq-eqb c.narrowest.result p.sorted (found ∙ a.sorted_is),
     )

@@ -11,6 +11,7 @@ invariant-loop-d g l = record {
   place : l.place ≡ 4 + place_of l.parts.lengths.now l.parts.sorted l.d;
   low : l.place ≤ 4 + 4 * l.d;
   few : All (λ n. n ≤ 256) l.spreads;
-  spreads : (n : RawNumbers) (k : ℕ) → k < l.d → get_or l.parts.lengths.now k 0 < 4 → get_or l.spreads k 0 ≡ different k (get_or l.parts.lengths.now k 0) (raw_items g.row.D l.parts.count n (raw_keys_of l.parts));
+  spreads : (n : RawNumbers) (k : ℕ) → k < l.d → get_or l.parts.lengths.now k 0 < 4
+      → get_or l.spreads k 0 ≡ different k (get_or l.parts.lengths.now k 0) (raw_items g.row.D l.parts.count n (raw_keys_of l.parts));
   wide : (k : ℕ) → k < l.d → get_or l.parts.lengths.now k 0 < 4 → 2 ≤ get_or l.spreads k 0;
 }

@@ -7,7 +7,11 @@ use Rattle.leaf_codec.proofs.view.spread.Goals as goal
 pub different-requires-else-d-parts : goal.different-requires-else-d-parts
 different-requires-else-d-parts g c = record {
   within = λ i here.
-      omega (arith, place_within g.row.D c.args.parts.now i c.args.d c.requires.parts here c.requires.within c.requires.moves c.if-d-parts.false, c.requires.place);
+      omega (
+        arith,
+        place_within g.row.D c.args.parts.now i c.args.d c.requires.parts here c.requires.within c.requires.moves c.if-d-parts.false,
+        c.requires.place,
+      );
 }
 
 pub returns-then-d-parts-clause-value : goal.returns-then-d-parts-clause-value

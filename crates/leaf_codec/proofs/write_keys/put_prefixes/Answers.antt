@@ -18,7 +18,8 @@ loop-d-preserved g c =
     let length_is = ap (λ (ls : List ℕ). get_or ls d 0) c.requires.lengths ∙ get_or-lengths g.row.D d items c.loop-d-test.true in
     let written : take (get_or c.args.dimensions.now.lengths d 0) c.key-key.result ≡ shared_bytes d items =
     (λ i. take (length_is i) (c.key-key.ensures.value i)) ∙ sym (shared_bytes_is d items x some first) in
-    grows c.put_slice-in-loop-d.new.out.items c.loop-d.out.items c.put_slice.new.out.items (flat_map (λ k. shared_bytes k items) (range_with_len 0 d)) (shared_bytes d items)
+    grows c.put_slice-in-loop-d.new.out.items c.loop-d.out.items c.put_slice.new.out.items (flat_map (λ k. shared_bytes k items) (range_with_len 0 d))
+    (shared_bytes d items)
     (flat_map (λ k. shared_bytes k items) (range_with_len 0 (d + 1)))
     (c.in_ok-put_slice-2.ensures.ok ∙ ap (λ (t : List ℕ). c.loop-d.out.items ++ t) written)
     c.loop-d.invariant

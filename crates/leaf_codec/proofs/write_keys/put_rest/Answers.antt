@@ -21,7 +21,8 @@ loop-d-preserved g c =
     record {
       long = λ some. c.key.ensures.long;
       fits = below_more (λ k. FitsSigned w32 (get_or c.args.entry.now.point.c k (pos 0))) d c.loop-d.invariant.fits c.key.ensures.fits;
-      written = grows c.put_slice.new.out.items c.loop-d.out.items c.args.out.now.items (flat_map left (range_with_len 0 d)) (left d) (flat_map left (range_with_len 0 (d + 1)))
+      written = grows c.put_slice.new.out.items c.loop-d.out.items c.args.out.now.items (flat_map left (range_with_len 0 d)) (left d)
+          (flat_map left (range_with_len 0 (d + 1)))
           (c.in_ok-put_slice.ensures.ok ∙ ap (λ (t : List ℕ). c.loop-d.out.items ++ t) written)
           c.loop-d.invariant.written
           (sym (flat_map-range_more left d));

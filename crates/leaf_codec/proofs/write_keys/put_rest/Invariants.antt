@@ -9,5 +9,6 @@ abbrev pub invariant-loop-d : goal.invariant-loop-d
 invariant-loop-d g l = record {
   long : 0 < l.d → length l.entry.point.c ≡ g.row.D;
   fits : (k : ℕ) → k < l.d → FitsSigned w32 (get_or l.entry.point.c k (pos 0));
-  written : l.out.items ≡ l.initial.out.items ++ flat_map (λ d. drop (told_of l.dimensions.lengths l.dimensions.sorted d) (key_of d (item_of l.entry))) (range_with_len 0 l.d);
+  written : l.out.items
+      ≡ l.initial.out.items ++ flat_map (λ d. drop (told_of l.dimensions.lengths l.dimensions.sorted d) (key_of d (item_of l.entry))) (range_with_len 0 l.d);
 }

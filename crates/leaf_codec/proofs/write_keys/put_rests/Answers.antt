@@ -24,7 +24,8 @@ loop-entry-preserved g c =
     record {
       points = rw (items_more c.args.entries.now i c.entry-item.result c.loop-entry-test.true c.entry-item.is)
           (All-push (λ (y : Item). IsPoint g.row.D y.at) (take i items) x c.loop-entry.invariant.points c.in_ok-put_rest.ensures.point);
-      written = grows c.put_rest.new.out.items c.loop-entry.out.items c.args.out.now.items (flat_map left (take i items)) (left x) (flat_map left (take (i + 1) items))
+      written = grows c.put_rest.new.out.items c.loop-entry.out.items c.args.out.now.items (flat_map left (take i items)) (left x)
+          (flat_map left (take (i + 1) items))
           (c.in_ok-put_rest.ensures.ok ∙ ap (λ (t : List ℕ). c.loop-entry.out.items ++ t) told)
           c.loop-entry.invariant.written
           (sym (ap (flat_map left) (items_more c.args.entries.now i c.entry-item.result c.loop-entry-test.true c.entry-item.is)
@@ -41,4 +42,5 @@ unfolding rests
 returns-clause-ok g c =
     let items = items_of c.args.entries.now in
     c.loop-entry.invariant.written
-    ∙ ap (λ (xs : List _). c.args.out.now.items ++ flat_map (rest g.row.D items) xs) (items_all c.args.entries.now c.loop-entry.entry-index c.loop-entry-test.false)
+    ∙ ap (λ (xs : List _). c.args.out.now.items ++ flat_map (rest g.row.D items) xs)
+    (items_all c.args.entries.now c.loop-entry.entry-index c.loop-entry-test.false)

@@ -48,7 +48,8 @@ pub returns : goal.returns
 returns g c =
     let docs = docs_of c.args.entries.now in
     let other = sym c.is_row.ensures ∙ c.if-is_row.false in
-    let w : c.width-width.result ≡ form docs = c.width-width.ensures.value ∙ (λ i. width (c.greatest.ensures i - c.least-least.ensures i)) ∙ sym (form_other docs other) in
+    let w : c.width-width.result ≡ form docs =
+    c.width-width.ensures.value ∙ (λ i. width (c.greatest.ensures i - c.least-least.ensures i)) ∙ sym (form_other docs other) in
     let old = c.args.out.now.items in
     let start : c.put_vint-2.new.out.items ≡ (old ++ form docs ∷ []) ++ vint (least docs) =
     appended c.put_u8-2.new.out.items c.put_vint-2.new.out.items c.least-least.result (omega arith) c.in_ok-put_vint.ensures.ok

@@ -19,7 +19,8 @@ loop-entry-preserved g c =
     let n = c.entry-item.result.doc in
     let spell = λ (m : ℕ). low_bytes c.args.width (m - c.args.least) in
     grows c.put_slice.new.out.items c.loop-entry.out.items c.args.out.now.items (flat_map spell (take i docs)) (spell n) (flat_map spell (take (i + 1) docs))
-    (c.in_ok-put_slice.ensures.ok ∙ ap (λ (bs : List ℕ). c.loop-entry.out.items ++ take (4 - (4 - c.args.width)) (drop (4 - c.args.width) bs)) c.to_be_bytes-bytes.ensures
+    (c.in_ok-put_slice.ensures.ok
+    ∙ ap (λ (bs : List ℕ). c.loop-entry.out.items ++ take (4 - (4 - c.args.width)) (drop (4 - c.args.width) bs)) c.to_be_bytes-bytes.ensures
     ∙ ap (λ (t : List ℕ). c.loop-entry.out.items ++ t) (to_end c.args.width (n - c.args.least)))
     c.loop-entry.invariant
     (sym (ap (flat_map spell) (docs_more c.args.entries.now i c.entry-item.result c.loop-entry-test.true c.entry-item.is)

@@ -1,4 +1,5 @@
-use Rattle.std.proofs.Common.{unwrap_or, length-set, Option, ◌≡◌, ◌≤◌, ◌<◌, sym, ap, ℕ, get_or, ◌∙◌, arith, ltb, ltb-true, get_or-set_same, get_or-set_other, inl, inr}
+use Rattle.std.proofs.Common.{unwrap_or, length-set, Option, ◌≡◌, ◌≤◌, ◌<◌, sym, ap, ℕ, get_or, ◌∙◌}
+use Rattle.std.proofs.Common.{arith, ltb, ltb-true, get_or-set_same, get_or-set_other, inl, inr}
 use Rattle.std.proofs.lemmas.Bool.{cases_eq}
 use Rattle.std.proofs.lemmas.List.Elements.{All-set}
 use Rattle.std.proofs.lemmas.List.FromFn.{fill_by_all}
@@ -23,10 +24,12 @@ loop-d-preserved g c =
         | then-shared-lt4 w ↦ rw w.spreads-is (length-set c.loop-d.spreads d w.different.result ∙ wide)
         | else-shared-lt4 w ↦ rw w.spreads-is wide
       ];
-      lengths = fills_more (λ k. shared_prefix k items) c.loop-d.lengths d c.shared_prefix-shared.result (omega arith) c.loop-d.invariant.lengths c.shared_prefix-shared.ensures;
+      lengths = fills_more (λ k. shared_prefix k items) c.loop-d.lengths d c.shared_prefix-shared.result (omega arith) c.loop-d.invariant.lengths
+          c.shared_prefix-shared.ensures;
       spreads = elim c.if-shared-lt4.branch [
         | then-shared-lt4 w ↦ rw w.spreads-is (λ k lt moves. elim (cases_eq k d) [
-          | inl same ↦ rw (same, get_or-set_same c.loop-d.spreads d w.different.result 0 (omega arith)) (w.different.ensures.value ∙ ap (λ p. different d p items) c.shared_prefix-shared.ensures)
+          | inl same ↦ rw (same, get_or-set_same c.loop-d.spreads d w.different.result 0 (omega arith))
+              (w.different.ensures.value ∙ ap (λ p. different d p items) c.shared_prefix-shared.ensures)
           | inr apart ↦ get_or-set_other c.loop-d.spreads d k w.different.result 0 apart ∙ c.loop-d.invariant.spreads k (omega arith) moves
         ])
         | else-shared-lt4 w ↦ rw w.spreads-is (λ k lt moves. elim (cases_eq k d) [
@@ -35,7 +38,8 @@ loop-d-preserved g c =
         ])
       ];
       few = elim c.if-shared-lt4.branch [
-        | then-shared-lt4 w ↦ rw w.spreads-is (All-set (λ (n : ℕ). n ≤ 256) c.loop-d.spreads d w.different.result w.different.ensures.few c.loop-d.invariant.few)
+        | then-shared-lt4 w ↦
+            rw w.spreads-is (All-set (λ (n : ℕ). n ≤ 256) c.loop-d.spreads d w.different.result w.different.ensures.few c.loop-d.invariant.few)
         | else-shared-lt4 w ↦ rw w.spreads-is c.loop-d.invariant.few
       ];
     }

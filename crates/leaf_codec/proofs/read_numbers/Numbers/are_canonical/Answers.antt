@@ -20,8 +20,10 @@ returns-then-span c =
     let s = c.span-span.result in (
       λ t. absurd (false≢true t),
       λ h. absurd (elim c.then-span.branch [
-        | then-span-via-then-span w ↦ refuses_row n.count r s.greatest s.from_least s.row c.requires.some c.span-span.ensures c.if-self-eq0.false w.if-span.true h
-        | then-span-via-else-span+then-not-span w ↦ refuses_least n.count r s.greatest s.from_least s.row c.requires.some c.span-span.ensures (not-true s.from_least w.if-not-span.true) h
+        | then-span-via-then-span w ↦
+            refuses_row n.count r s.greatest s.from_least s.row c.requires.some c.span-span.ensures c.if-self-eq0.false w.if-span.true h
+        | then-span-via-else-span+then-not-span w ↦
+            refuses_least n.count r s.greatest s.from_least s.row c.requires.some c.span-span.ensures (not-true s.from_least w.if-not-span.true) h
       ]),
     )
 
@@ -39,8 +41,10 @@ returns-then-self-span c =
     let r = raw_numbers_of n in
     let s = c.span-span.result in
     let found : s.from_least ≡ true = not-false s.from_least c.if-not-span.false in (
-      λ t. takes_width n.count r s.greatest s.from_least s.row c.requires.some c.span-span.ensures found c.if-span.false c.if-self-span.true (eqb-true _ _ t ∙ c.width.ensures.value),
-      λ h. eq-eqb _ _ (width_of n.count r s.greatest s.from_least s.row c.requires.some c.span-span.ensures found c.if-span.false h ∙ sym c.width.ensures.value),
+      λ t. takes_width n.count r s.greatest s.from_least s.row c.requires.some c.span-span.ensures found c.if-span.false c.if-self-span.true
+          (eqb-true _ _ t ∙ c.width.ensures.value),
+      λ h.
+          eq-eqb _ _ (width_of n.count r s.greatest s.from_least s.row c.requires.some c.span-span.ensures found c.if-span.false h ∙ sym c.width.ensures.value),
     )
 
 pub returns-else-self-span : goal.returns-else-self-span

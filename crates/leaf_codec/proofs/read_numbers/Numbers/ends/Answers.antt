@@ -14,7 +14,8 @@ loop-i-preserved c =
     let l = c.loop-i in
     record {
       some = omega arith;
-      ends = ends_more l.i (raw_numbers_of c.args.self.now) l.least l.greatest c.wide_offset-offset.result c.min-least.result c.max-greatest.result l.invariant.ends c.wide_offset-offset.ensures c.min-least.ensures c.max-greatest.ensures;
+      ends = ends_more l.i (raw_numbers_of c.args.self.now) l.least l.greatest c.wide_offset-offset.result c.min-least.result c.max-greatest.result
+          l.invariant.ends c.wide_offset-offset.ensures c.min-least.ensures c.max-greatest.ensures;
     }
 
 pub returns : goal.returns

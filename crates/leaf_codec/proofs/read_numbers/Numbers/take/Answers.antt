@@ -1,4 +1,5 @@
-use Rattle.std.proofs.Common.{◌≡◌, ◌<◌, ◌+◌, ◌-◌, ◌*◌, ◌/◌, ◌%◌, ℕ, List, ◌∷◌, ◌++◌, length, take, drop, sym, ap, ◌∙◌, arith, append_assoc, length-append, refl, eqb, true≢false, length-take}
+use Rattle.std.proofs.Common.{◌≡◌, ◌<◌, ◌+◌, ◌-◌, ◌*◌, ◌/◌, ◌%◌, ℕ, List, ◌∷◌, ◌++◌, length, take, drop, sym}
+use Rattle.std.proofs.Common.{ap, ◌∙◌, arith, append_assoc, length-append, refl, eqb, true≢false, length-take}
 use Rattle.std.proofs.lemmas.List.Elements.{All-take, All-drop}
 use Rattle.leaf_codec.specs.Raw.{RawNumbers}
 use Rattle.byte_cursor.specs.Vint.{vint}
@@ -15,7 +16,8 @@ one-same : (a b : ℕ) (x y : List ℕ) → a ∷ x ≡ b ∷ y → (a ≡ b) ×
 one-same a b x y e = (cc, cc)
 
 -- what follows the count begins with the form and the least number
-behind_count : (count : ℕ) (leaf rest tail : List ℕ) (r : RawNumbers) → leaf ≡ count / 256 % 256 ∷ count % 256 ∷ rest → leaf ≡ count / 256 % 256 ∷ count % 256 ∷ r.width ∷ ((vint r.least ++ r.offsets) ++ tail)
+behind_count : (count : ℕ) (leaf rest tail : List ℕ) (r : RawNumbers) → leaf ≡ count / 256 % 256 ∷ count % 256 ∷ rest
+    → leaf ≡ count / 256 % 256 ∷ count % 256 ∷ r.width ∷ ((vint r.least ++ r.offsets) ++ tail)
     → rest ≡ r.width ∷ (vint r.least ++ (r.offsets ++ tail))
 behind_count count leaf rest tail r e is =
     two-same (count / 256 % 256) (count % 256) (count / 256 % 256) (count % 256) rest (r.width ∷ ((vint r.least ++ r.offsets) ++ tail)) (sym e ∙ is)
@@ -29,15 +31,18 @@ returns-in_err-width-clause-only c r tail h is =
 pub returns-then-rest-count-clause-only : goal.returns-then-rest-count-clause-only
 returns-then-rest-count-clause-only c r tail h is =
     let rest = behind_count c.args.count c.args.leaf.now c.in_ok-rest.rest.now tail r c.in_ok-rest.ensures.found is in
-    let same = one-same c.in_ok-width.width r.width (vint c.in_ok-width.least ++ c.in_ok-width.rest.now) (vint r.least ++ (r.offsets ++ tail)) (sym c.in_ok-width.ensures.found ∙ rest) in
-    let left = vint_front c.in_ok-width.least r.least c.in_ok-width.rest.now (r.offsets ++ tail) (omega (arith, c.in_ok-width.ensures.least)) (omega (arith, h.low)) same.1 in
+    let same = one-same c.in_ok-width.width r.width (vint c.in_ok-width.least ++ c.in_ok-width.rest.now) (vint r.least ++ (r.offsets ++ tail))
+    (sym c.in_ok-width.ensures.found ∙ rest) in
+    let left = vint_front c.in_ok-width.least r.least c.in_ok-width.rest.now (r.offsets ++ tail) (omega (arith, c.in_ok-width.ensures.least))
+    (omega (arith, h.low)) same.1 in
     absurd (omega (arith, c.if-rest-count.true, ap length left.1, length-append r.offsets tail, h.sized, ap (λ w. c.args.count * w) same.0))
 
 -- the fields before the numbers' bytes
 front : (c : goal.Else-rest-count) → List ℕ
 front c = c.args.count / 256 % 256 ∷ c.args.count % 256 ∷ c.in_ok-width.width ∷ vint c.in_ok-width.least
 
-words : (c : goal.Else-rest-count) → HasWords c.args.leaf.now (front c) c.in_ok-width.rest.now (c.args.count * c.in_ok-width.width) (length c.args.leaf.now - length c.in_ok-width.rest.now)
+words : (c : goal.Else-rest-count)
+    → HasWords c.args.leaf.now (front c) c.in_ok-width.rest.now (c.args.count * c.in_ok-width.width) (length c.args.leaf.now - length c.in_ok-width.rest.now)
 unfolding front
 words c =
     has_words c.args.leaf.now (front c) c.in_ok-width.rest.now (c.args.count * c.in_ok-width.width)
@@ -55,7 +60,8 @@ returns-clause-found c =
     let leaf = c.args.leaf.now in
     let m = c.args.count * c.in_ok-width.width in
     let s = length leaf - length c.in_ok-width.rest.now in
-    let bytes = All-take (λ (x : ℕ). x < 256) (s + m - (s - 4)) (drop (s - 4) leaf) (All-drop (λ (x : ℕ). x < 256) (s - 4) leaf (AreBytes-from leaf (λ i. omega (arith, c.type_inv.leaf i)))) in
+    let bytes = All-take (λ (x : ℕ). x < 256) (s + m - (s - 4)) (drop (s - 4) leaf)
+    (All-drop (λ (x : ℕ). x < 256) (s - 4) leaf (AreBytes-from leaf (λ i. omega (arith, c.type_inv.leaf i)))) in
     record {
       numbers = record {
         few = c.requires;

@@ -27,4 +27,5 @@ returns g c =
     let l = c.loop-d in
     let f : ℕ → ℤ = λ d. coordinate (key_at g.row.D (raw_keys_of c.args.parts.now) c.args.i d) in
     same_lists l.c _ (l.invariant.long ∙ sym (length-map-range_with_len f 0 g.row.D)) (λ k e lt.
-    l.invariant.filled k e (omega (arith, lt, l.invariant.long, c.loop-d-test.false)) ∙ sym (get_or-map-range_with_len f 0 g.row.D k k e (omega (arith, lt, l.invariant.long)) (omega arith)))
+    l.invariant.filled k e (omega (arith, lt, l.invariant.long, c.loop-d-test.false))
+    ∙ sym (get_or-map-range_with_len f 0 g.row.D k k e (omega (arith, lt, l.invariant.long)) (omega arith)))

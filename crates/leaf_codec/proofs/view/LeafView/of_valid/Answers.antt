@@ -14,7 +14,8 @@ use Rattle.leaf_codec.proofs.ReadLeaf.{spelled_fields, after_numbers, said_are, 
 use Rattle.leaf_codec.proofs.view.LeafView.of_valid.Goals as goal
 
 pub take-requires : goal.take-requires
-take-requires g c = ∥∥₁_elim c.requires (hlevel props) (λ x. within_500 g.row.D c.args.count c.args.cell.now.lo.low (omega (arith, x.1.counted, x.1.spells.are_leaf.few)))
+take-requires g c =
+    ∥∥₁_elim c.requires (hlevel props) (λ x. within_500 g.row.D c.args.count c.args.cell.now.lo.low (omega (arith, x.1.counted, x.1.spells.are_leaf.few)))
 
 pub unreachable-requires : goal.unreachable-requires
 unreachable-requires g c = ∥∥₁_elim c.requires (hlevel props) (λ x.
@@ -26,7 +27,8 @@ pub unreachable-requires-in_default-take : goal.unreachable-requires-in_default-
 unreachable-requires-in_default-take g c = ∥∥₁_elim c.requires (hlevel props) (λ x.
     let cell = region_of c.args.cell.now in
     let f = spelled_fields g.row.D c.args.count c.args.b.now cell x.0 x.1 in
-    let found = c.take-2.ensures.only (raw_keys g.row.D x.0) f.keys (after_numbers g.row.D c.args.count c.in-Some.at c.args.b.now cell x.0 c.in-Some.numbers x.1 c.in-Some.ensures.found).1 in
+    let found = c.take-2.ensures.only (raw_keys g.row.D x.0) f.keys
+    (after_numbers g.row.D c.args.count c.in-Some.at c.args.b.now cell x.0 c.in-Some.numbers x.1 c.in-Some.ensures.found).1 in
     absurd (let none = rw c.in_default-take.is at found in cc))
 
 pub invariant_of-result : goal.invariant_of-result
@@ -52,4 +54,5 @@ pub returns : goal.returns
 returns g c = ∥∥₁_elim c.requires (hlevel props) (λ x.
     let cell = region_of c.args.cell.now in
     subst (λ (items : List Item). SpellsLeafIn g.row.D c.args.b.now c.args.count cell items)
-    (sym (said_are g.row.D c.args.count c.in-Some.at c.args.b.now cell x.0 c.in-Some.numbers c.in-Some-take.parts x.1 c.in-Some.ensures.found c.in-Some-take.ensures.found)) x.1)
+    (sym (said_are g.row.D c.args.count c.in-Some.at c.args.b.now cell x.0 c.in-Some.numbers c.in-Some-take.parts x.1 c.in-Some.ensures.found
+    c.in-Some-take.ensures.found)) x.1)

@@ -4,8 +4,19 @@ use Rattle.leaf_codec.proofs.view.LeafView.point.Goals as goal
 
 pub point-requires : goal.point-requires
 point-requires g c =
-    let h = c.self.inside.readable in
-    (search rules, (search rules, ((h.some_dims, h.few_dims), (h.keys, (h.slots, omega (arith, h.counted, said_length g.row.D c.self.inside.numbers c.self.inside.parts c.args.self.now c.self.view_is, c.requires))))))
+    let h = c.self.inside.readable in (
+      search rules,
+      (
+        search rules,
+        (
+          (h.some_dims, h.few_dims),
+          (
+            h.keys,
+            (h.slots, omega (arith, h.counted, said_length g.row.D c.self.inside.numbers c.self.inside.parts c.args.self.now c.self.view_is, c.requires)),
+          ),
+        ),
+      ),
+    )
 
 pub returns : goal.returns
 returns g c =

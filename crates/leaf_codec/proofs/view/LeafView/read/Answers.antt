@@ -23,12 +23,16 @@ returns-in_err-parts-clause-none g c = if_none c.from_residual-in_err-parts.resu
 
 pub returns-then-not-are_canonical-clause-none : goal.returns-then-not-are_canonical-clause-none
 returns-then-not-are_canonical-clause-none g c items h =
-    absurd (true≢false (sym (c.are_canonical.ensures.1 (canonical_of g.row.D c.args.count c.in_ok-numbers.at c.args.b.now (region_of c.args.cell.now) items c.in_ok-numbers.numbers h c.in_ok-numbers.ensures.found)) ∙ c.if-not-are_canonical.true))
+    absurd (true≢false
+    (sym (c.are_canonical.ensures.1
+    (canonical_of g.row.D c.args.count c.in_ok-numbers.at c.args.b.now (region_of c.args.cell.now) items c.in_ok-numbers.numbers h
+    c.in_ok-numbers.ensures.found)) ∙ c.if-not-are_canonical.true))
 
 pub returns-then-not-has_these_dimensions-clause-none : goal.returns-then-not-has_these_dimensions-clause-none
 returns-then-not-has_these_dimensions-clause-none g c items h =
     absurd (true≢false (sym ((c.has_these_dimensions.ensures (raw_numbers_of c.in_ok-numbers.numbers)).1
-    (dimensions_of g.row.D c.args.count c.in_ok-numbers.at c.args.b.now (region_of c.args.cell.now) items c.in_ok-numbers.numbers c.in_ok-parts.parts h c.in_ok-numbers.ensures.found c.in_ok-parts.ensures.found)) ∙ c.if-not-has_these_dimensions.true))
+    (dimensions_of g.row.D c.args.count c.in_ok-numbers.at c.args.b.now (region_of c.args.cell.now) items c.in_ok-numbers.numbers c.in_ok-parts.parts h
+    c.in_ok-numbers.ensures.found c.in_ok-parts.ensures.found)) ∙ c.if-not-has_these_dimensions.true))
 
 pub are_in_order-requires : goal.are_in_order-requires
 are_in_order-requires g c =
@@ -45,7 +49,8 @@ are_in_order-requires g c =
 pub returns-then-not-are_in_order-clause-none : goal.returns-then-not-are_in_order-clause-none
 returns-then-not-are_in_order-clause-none g c items h =
     absurd (true≢false (sym (c.are_in_order.ensures.1
-    (order_of g.row.D c.args.count c.in_ok-numbers.at c.args.b.now (region_of c.args.cell.now) items c.in_ok-numbers.numbers c.in_ok-parts.parts h c.in_ok-numbers.ensures.found c.in_ok-parts.ensures.found)) ∙ c.if-not-are_in_order.true))
+    (order_of g.row.D c.args.count c.in_ok-numbers.at c.args.b.now (region_of c.args.cell.now) items c.in_ok-numbers.numbers c.in_ok-parts.parts h
+    c.in_ok-numbers.ensures.found c.in_ok-parts.ensures.found)) ∙ c.if-not-are_in_order.true))
 
 pub invariant_of-result : goal.invariant_of-result
 invariant_of-result g c = (
@@ -64,7 +69,8 @@ pub returns-clause-some : goal.returns-clause-some
 returns-clause-some g c =
     let n = c.in_ok-numbers.numbers in
     spelled_from g.row.D c.args.count c.in_ok-numbers.at c.args.b.now (region_of c.args.cell.now) n c.in_ok-parts.parts
-    (omega (arith, c.if-count-eq0.false)) (omega (arith, c.if-count-greatest_leaf.false, c.greatest_leaf.ensures)) c.in_ok-numbers.ensures.found c.in_ok-parts.ensures.found
+    (omega (arith, c.if-count-eq0.false)) (omega (arith, c.if-count-greatest_leaf.false, c.greatest_leaf.ensures)) c.in_ok-numbers.ensures.found
+    c.in_ok-parts.ensures.found
     (c.are_canonical.ensures.0 c.if-not-are_canonical.false)
     ((c.has_these_dimensions.ensures (raw_numbers_of n)).0 c.if-not-has_these_dimensions.false)
     (c.are_in_order.ensures.0 c.if-not-are_in_order.false)
