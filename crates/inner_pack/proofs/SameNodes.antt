@@ -142,7 +142,7 @@ fields_parts references d e x y p1 p2 o1 o2 lb lb2 rb rb2 fx fy hs hs2 hp hp2 ho
     (head, key_one x y fx fy keys, parts.0, parts.1)
 
 -- the parts of the children
-record SameChildren (form d e : ℕ) (x y : ℤ) (lower lower2 : List (List ℕ)) (s u v w : Spot) (l l2 r r2 : IndexTree) : Type 0 where
+pub record SameChildren (form d e : ℕ) (x y : ℤ) (lower lower2 : List (List ℕ)) (s u v w : Spot) (l l2 r r2 : IndexTree) : Type 0 where
   pub dimension : d ≡ e
   pub value : x ≡ y
   pub left_bytes : spelled_part form lower s l ≡ spelled_part form lower2 u l2
