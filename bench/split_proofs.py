@@ -54,12 +54,18 @@ def is_said(name, words):
 
 
 def declared(lines):
-    """The names that are declared at the left or in a section of a module, each with its line."""
-    found, is_section = {}, False
+    """The names that are declared at the left or in sections of a module, each with its line."""
+    found, sections = {}, [0]
     for at, line in enumerate(lines):
-        if line[:1].strip() and line[0] not in ")]}-":
-            is_section = line.startswith("module _") or is_section and line.startswith("    ")
-        begun = re.match(("(?:  )?" if is_section else "") + MARKS + "(record |data )?(%s)" % NAME, line)
+        indent = len(line) - len(line.lstrip())
+        if line.strip() and line.strip()[0] not in ")]}-":
+            sections = [it for it in sections if it <= indent]
+        if indent != sections[-1]:
+            continue
+        if line.strip().startswith("module _"):
+            sections.append(indent + 2)
+            continue
+        begun = re.match(r"\s*" + MARKS + "(record |data )?(%s)" % NAME, line)
         if not begun or begun[2] in ("module", "use", "unfolding", "where", "--"):
             continue
         if begun[1] or re.match(r"(?: \{[^}]*\})? :", line[begun.end():]):

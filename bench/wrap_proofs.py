@@ -7,7 +7,8 @@ A line is broken where the fewest brackets are open, and in no text: behind `in`
 before a sign between parts, before an argument. A list or record is broken as a whole, as the formatter does it. A line
 never is broken behind `where` or `do`, and goes on deeper than its own first column, so antt reads it as going on. The
 formatter says where it goes on, and that the program is the same. Afterwards the tokens are compared with those of
-before. Where nothing is left to break a line stays, and is counted.
+before. Where nothing is left to break a line stays, and is counted. Answers can't be split into files (rattle reads only
+what the file declares): a file of them that would so have over 300 lines, and more than now, is left as it is.
 """
 import glob
 import os
@@ -21,7 +22,7 @@ from wrap import imports
 
 ROOT = os.path.join(os.path.dirname(os.path.abspath(__file__)), "..")
 RATTLE = os.environ.get("RATTLE", "/opt/rattle/bin/rattle")
-COLUMNS, PASSES = 160, 60
+COLUMNS, FILE_LINES, PASSES = 160, 300, 60
 CLOSED_BY = {"(": ")", "[": "]", "{": "}"}
 # signs by how loosely they bind
 SIGNS = [{"→"}, {"×", "⊎", "↔"}, {"∙", "∙∙"}, {"≡", "≤", "<", "≢", "≃"}, {"∷", "++", "&&", "||"},
@@ -210,6 +211,12 @@ def heads(text):
             if line[:1].strip() and not line.startswith(("use", "pub use")) and line[0] not in ")]}"]
 
 
+def leave(path, text, why):
+    with open(path, "w", encoding="utf-8") as file:
+        file.write(text)
+    print("%s: %s, and left as it was" % (os.path.relpath(path, ROOT), why))
+
+
 def wrap(path):
     before = read(path)
     for _ in range(PASSES):
@@ -221,10 +228,10 @@ def wrap(path):
             file.write(new)
         done = subprocess.run([RATTLE, "fmt", "--write", path], stdout=subprocess.DEVNULL)
         if done.returncode or tokens(read(path)) != tokens(before) or heads(read(path)) != heads(before):
-            with open(path, "w", encoding="utf-8") as file:
-                file.write(before)
-            print("%s: not the same when it is broken, and left as it was" % path)
-            break
+            return leave(path, before, "not the same when it is broken")
+    lines = len(read(path).splitlines())
+    if path.endswith("Answers.antt") and lines > max(FILE_LINES, len(before.splitlines())):
+        leave(path, before, "%d lines when it is broken" % lines)
 
 
 def main():

@@ -13,8 +13,7 @@ use Rattle.script_run.proofs.Halting.{halt_cause_from, halt_less, halted_no_sour
 use Rattle.script_run.proofs.Lined.{unopened, fault_cause, from_none, from_some, not_damaged}
 use Rattle.script_run.proofs.Reading.{of_any, of_same}
 use Rattle.script_run.proofs.Shown.{fault_at, fault_shows, says_after}
-use Rattle.script_run.proofs.Starting.{leads_some}
-use Rattle.script_run.proofs.StartStored.{leads_first, leads_unread}
+use Rattle.script_run.proofs.StartStored.{leads_first, leads_some, leads_unread}
 use Rattle.script_run.proofs.lines.run_read.Goals as goal
 use Rattle.script_run.specs.Languages.{meaning}
 

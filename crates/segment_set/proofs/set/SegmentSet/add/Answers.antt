@@ -11,8 +11,7 @@ use Rattle.index_opening.specs.Evidence.{IsEvidentIn}
 use Rattle.segment_set.specs.Faithful.{IsFaithful}
 use Rattle.segment_set.proofs.Carried.{canon_named, follows_none, keeps_none, stays_none}
 use Rattle.segment_set.proofs.Changed.{full_given, index_with, not_full, parts_with, sees_with}
-use Rattle.segment_set.proofs.Refused.{add_cause, add_damage, add_memory_cause, add_memory_damage, add_memory_not_full}
-use Rattle.segment_set.proofs.Refused.{add_not_full, added_caused, at_error, full_cause, never_ok, never_value}
+use Rattle.segment_set.proofs.Refused.{add_cause, add_damage, add_memory_cause, add_memory_damage, add_memory_not_full, add_not_full, added_caused, at_error, full_cause, never_ok, never_value}
 use Rattle.segment_set.proofs.Trusted.{IsTrusted, faithful_with}
 use Rattle.segment_set.proofs.Settled.{before_itself, before_same, flushes_none, left_settled}
 use Rattle.segment_set.specs.Settles.{moment}
@@ -31,11 +30,8 @@ pub returns-then-is_full-clause-given : goal.returns-then-is_full-clause-given
 returns-then-is_full-clause-given g c = tt
 
 pub returns-then-is_full-clause-full : goal.returns-then-is_full-clause-full
-returns-then-is_full-clause-full g c = (
-  λ is. full_given c.args.self.now.given (length c.as_slice.result.now) (length c.args.points.now) c.is_full.ensures.full c.if-is_full.true
-      (sym (length-map c.as_slice.result.now _) ∙ ap length c.as_slice.ensures.value),
-  λ more. refl,
-)
+returns-then-is_full-clause-full g c =
+    (λ is. full_given c.args.self.now.given (length c.as_slice.result.now) (length c.args.points.now) c.is_full.ensures.full c.if-is_full.true (sym (length-map c.as_slice.result.now _) ∙ ap length c.as_slice.ensures.value), λ more. refl)
 
 pub returns-then-is_full-clause-stays : goal.returns-then-is_full-clause-stays
 returns-then-is_full-clause-stays g c = stays_none c.args.self.now
@@ -96,8 +92,7 @@ pub returns-in_err-make_room-clause-seen : goal.returns-in_err-make_room-clause-
 returns-in_err-make_room-clause-seen g c = λ told i seen. never_ok _ c.from_residual.result c.from_residual.ensures.1 _
 
 pub returns-in_err-make_room-clause-refused : goal.returns-in_err-make_room-clause-refused
-returns-in_err-make_room-clause-refused g c = λ told i seen.
-    at_error _ c.from_residual.result c.from_residual.ensures.1 _ (c.in_err-make_room.ensures.seen told i seen)
+returns-in_err-make_room-clause-refused g c = λ told i seen. at_error _ c.from_residual.result c.from_residual.ensures.1 _ (c.in_err-make_room.ensures.seen told i seen)
 
 pub returns-in_err-make_room-clause-number : goal.returns-in_err-make_room-clause-number
 returns-in_err-make_room-clause-number g c = never_value _ c.from_residual.result c.from_residual.ensures.1 _
@@ -106,12 +101,8 @@ pub returns-in_err-make_room-clause-given : goal.returns-in_err-make_room-clause
 returns-in_err-make_room-clause-given g c = never_ok _ c.from_residual.result c.from_residual.ensures.1 _
 
 pub returns-in_err-make_room-clause-full : goal.returns-in_err-make_room-clause-full
-returns-in_err-make_room-clause-full g c = (
-  λ is. absurd (add_not_full c.in_err-make_room.field-0.0 c.from_residual.result c.from_residual.ensures.1 is),
-  λ more. absurd
-      (not_full c.args.self.now.given (length c.as_slice.result.now) (length c.args.points.now) c.is_full.ensures.full c.if-is_full.false
-      (sym (length-map c.as_slice.result.now _) ∙ ap length c.as_slice.ensures.value) more),
-)
+returns-in_err-make_room-clause-full g c =
+    (λ is. absurd (add_not_full c.in_err-make_room.field-0.0 c.from_residual.result c.from_residual.ensures.1 is), λ more. absurd (not_full c.args.self.now.given (length c.as_slice.result.now) (length c.args.points.now) c.is_full.ensures.full c.if-is_full.false (sym (length-map c.as_slice.result.now _) ∙ ap length c.as_slice.ensures.value) more))
 
 pub returns-in_err-make_room-clause-stays : goal.returns-in_err-make_room-clause-stays
 returns-in_err-make_room-clause-stays g c = at_error _ c.from_residual.result c.from_residual.ensures.1 _ c.in_err-make_room.ensures.stays
@@ -139,35 +130,26 @@ returns-in_err-make_room-clause-canon g c = c.in_err-make_room.ensures.canon
 
 pub returns-in_err-make_room-clause-unread : goal.returns-in_err-make_room-clause-unread
 returns-in_err-make_room-clause-unread g c = λ room.
-    absurd (false≢true
-    (c.in_err-make_room.ensures.roomy
-    (subst (λ n. length c.args.self.now.buffer + n ≤ 16384) (sym (sym (length-map c.as_slice.result.now _) ∙ ap length c.as_slice.ensures.value)) room)).0)
+    absurd (false≢true (c.in_err-make_room.ensures.roomy (subst (λ n. length c.args.self.now.buffer + n ≤ 16384) (sym (sym (length-map c.as_slice.result.now _) ∙ ap length c.as_slice.ensures.value)) room)).0)
 
 pub returns-in_err-make_room-clause-files : goal.returns-in_err-make_room-clause-files
 returns-in_err-make_room-clause-files g c = λ told room.
-    absurd (false≢true
-    (c.in_err-make_room.ensures.roomy
-    (subst (λ n. length c.args.self.now.buffer + n ≤ 16384) (sym (sym (length-map c.as_slice.result.now _) ∙ ap length c.as_slice.ensures.value)) room)).0)
+    absurd (false≢true (c.in_err-make_room.ensures.roomy (subst (λ n. length c.args.self.now.buffer + n ≤ 16384) (sym (sym (length-map c.as_slice.result.now _) ∙ ap length c.as_slice.ensures.value)) room)).0)
 
 pub returns-in_err-make_room-clause-room : goal.returns-in_err-make_room-clause-room
 returns-in_err-make_room-clause-room g c = λ room.
-    absurd (false≢true
-    (c.in_err-make_room.ensures.roomy
-    (subst (λ n. length c.args.self.now.buffer + n ≤ 16384) (sym (sym (length-map c.as_slice.result.now _) ∙ ap length c.as_slice.ensures.value)) room)).0)
+    absurd (false≢true (c.in_err-make_room.ensures.roomy (subst (λ n. length c.args.self.now.buffer + n ≤ 16384) (sym (sym (length-map c.as_slice.result.now _) ∙ ap length c.as_slice.ensures.value)) room)).0)
 
 pub returns-in_err-make_room-clause-parts : goal.returns-in_err-make_room-clause-parts
 returns-in_err-make_room-clause-parts g c = λ room.
-    absurd (false≢true
-    (c.in_err-make_room.ensures.roomy
-    (subst (λ n. length c.args.self.now.buffer + n ≤ 16384) (sym (sym (length-map c.as_slice.result.now _) ∙ ap length c.as_slice.ensures.value)) room)).0)
+    absurd (false≢true (c.in_err-make_room.ensures.roomy (subst (λ n. length c.args.self.now.buffer + n ≤ 16384) (sym (sym (length-map c.as_slice.result.now _) ∙ ap length c.as_slice.ensures.value)) room)).0)
 
 pub returns-in_err-make_room-clause-rested : goal.returns-in_err-make_room-clause-rested
 returns-in_err-make_room-clause-rested g c = λ settled. c.in_err-make_room.ensures.rested settled
 
 pub returns-in_err-make_room-clause-cause : goal.returns-in_err-make_room-clause-cause
 returns-in_err-make_room-clause-cause g c =
-    add_cause (g.F.Pages.faults c.args.folder.now) (g.F.Pages.faults c.make_room.new.folder) c.in_err-make_room.field-0.0 c.from_residual.result
-    c.from_residual.ensures.1 c.in_err-make_room.ensures.cause
+    add_cause (g.F.Pages.faults c.args.folder.now) (g.F.Pages.faults c.make_room.new.folder) c.in_err-make_room.field-0.0 c.from_residual.result c.from_residual.ensures.1 c.in_err-make_room.ensures.cause
 
 pub returns-in_err-make_room-clause-whole : goal.returns-in_err-make_room-clause-whole
 returns-in_err-make_room-clause-whole g c = λ told i seen.
@@ -175,27 +157,22 @@ returns-in_err-make_room-clause-whole g c = λ told i seen.
 
 pub returns-in_err-make_room-clause-shown : goal.returns-in_err-make_room-clause-shown
 returns-in_err-make_room-clause-shown g c =
-    add_damage (IsMergeDamage g.row.D c.args.self.now.given c.args.self.now.names c.args.self.now.parts) c.in_err-make_room.field-0.0 c.from_residual.result
-    c.from_residual.ensures.1 c.in_err-make_room.ensures.shown
+    add_damage (IsMergeDamage g.row.D c.args.self.now.given c.args.self.now.names c.args.self.now.parts) c.in_err-make_room.field-0.0 c.from_residual.result c.from_residual.ensures.1 c.in_err-make_room.ensures.shown
 
 pub returns-in_err-make_room-clause-damage : goal.returns-in_err-make_room-clause-damage
 returns-in_err-make_room-clause-damage g c = λ told agrees.
-    add_damage (IsMergeDamageOf (g.F.Pages.files c.make_room.new.folder) c.args.self.now.given) c.in_err-make_room.field-0.0 c.from_residual.result
-    c.from_residual.ensures.1 (c.in_err-make_room.ensures.damage told agrees)
+    add_damage (IsMergeDamageOf (g.F.Pages.files c.make_room.new.folder) c.args.self.now.given) c.in_err-make_room.field-0.0 c.from_residual.result c.from_residual.ensures.1 (c.in_err-make_room.ensures.damage told agrees)
 
 pub returns-in_err-make_room-clause-doubled : goal.returns-in_err-make_room-clause-doubled
 returns-in_err-make_room-clause-doubled g c = λ told agrees es read.
-    add_damage (IsDoubt c.args.self.now.given (live_in_parts es c.args.self.now.parts)) c.in_err-make_room.field-0.0 c.from_residual.result
-    c.from_residual.ensures.1 (c.in_err-make_room.ensures.doubled told agrees es read)
+    add_damage (IsDoubt c.args.self.now.given (live_in_parts es c.args.self.now.parts)) c.in_err-make_room.field-0.0 c.from_residual.result c.from_residual.ensures.1 (c.in_err-make_room.ensures.doubled told agrees es read)
 
 pub returns-in_err-put-clause-seen : goal.returns-in_err-put-clause-seen
 returns-in_err-put-clause-seen g c = λ told i seen. never_ok _ c.from_residual-in_err-put.result c.from_residual-in_err-put.ensures.1 _
 
 pub returns-in_err-put-clause-refused : goal.returns-in_err-put-clause-refused
 returns-in_err-put-clause-refused g c = λ told i seen.
-    at_error _ c.from_residual-in_err-put.result c.from_residual-in_err-put.ensures.1
-    _ (subst (λ (s : SetData). Sees g.row.D (g.F.Pages.files c.make_room.new.folder) s i) (sym c.in_err-put.ensures.refused)
-    (c.in_ok-make_room.ensures.seen told i seen))
+    at_error _ c.from_residual-in_err-put.result c.from_residual-in_err-put.ensures.1 _ (subst (λ (s : SetData). Sees g.row.D (g.F.Pages.files c.make_room.new.folder) s i) (sym c.in_err-put.ensures.refused) (c.in_ok-make_room.ensures.seen told i seen))
 
 pub returns-in_err-put-clause-number : goal.returns-in_err-put-clause-number
 returns-in_err-put-clause-number g c = never_value _ c.from_residual-in_err-put.result c.from_residual-in_err-put.ensures.1 _
@@ -204,22 +181,16 @@ pub returns-in_err-put-clause-given : goal.returns-in_err-put-clause-given
 returns-in_err-put-clause-given g c = never_ok _ c.from_residual-in_err-put.result c.from_residual-in_err-put.ensures.1 _
 
 pub returns-in_err-put-clause-full : goal.returns-in_err-put-clause-full
-returns-in_err-put-clause-full g c = (
-  λ is. absurd (add_memory_not_full c.from_residual-in_err-put.result c.from_residual-in_err-put.ensures.1 is),
-  λ more. absurd
-      (not_full c.args.self.now.given (length c.as_slice.result.now) (length c.args.points.now) c.is_full.ensures.full c.if-is_full.false
-      (sym (length-map c.as_slice.result.now _) ∙ ap length c.as_slice.ensures.value) more),
-)
+returns-in_err-put-clause-full g c =
+    (λ is. absurd (add_memory_not_full c.from_residual-in_err-put.result c.from_residual-in_err-put.ensures.1 is), λ more. absurd (not_full c.args.self.now.given (length c.as_slice.result.now) (length c.args.points.now) c.is_full.ensures.full c.if-is_full.false (sym (length-map c.as_slice.result.now _) ∙ ap length c.as_slice.ensures.value) more))
 
 pub returns-in_err-put-clause-stays : goal.returns-in_err-put-clause-stays
 returns-in_err-put-clause-stays g c =
-    at_error _ c.from_residual-in_err-put.result c.from_residual-in_err-put.ensures.1
-    _ (subst (StaysAlone c.args.self.now) (sym c.in_err-put.ensures.refused) c.in_ok-make_room.ensures.stays)
+    at_error _ c.from_residual-in_err-put.result c.from_residual-in_err-put.ensures.1 _ (subst (StaysAlone c.args.self.now) (sym c.in_err-put.ensures.refused) c.in_ok-make_room.ensures.stays)
 
 pub returns-in_err-put-clause-kept : goal.returns-in_err-put-clause-kept
 returns-in_err-put-clause-kept g c =
-    subst (λ (s : SetData). KeepsNamed (IsTrue g.F.Pages.told) c.args.self.now.names s.names (g.F.Pages.files c.args.folder.now)
-    (g.F.Pages.files c.make_room.new.folder)) (sym c.in_err-put.ensures.refused) c.in_ok-make_room.ensures.kept
+    subst (λ (s : SetData). KeepsNamed (IsTrue g.F.Pages.told) c.args.self.now.names s.names (g.F.Pages.files c.args.folder.now) (g.F.Pages.files c.make_room.new.folder)) (sym c.in_err-put.ensures.refused) c.in_ok-make_room.ensures.kept
 
 pub returns-in_err-put-clause-follows : goal.returns-in_err-put-clause-follows
 returns-in_err-put-clause-follows g c =
@@ -239,61 +210,47 @@ returns-in_err-put-clause-leaf g c = ap (λ (s : SetData). s.leaf) c.in_err-put.
 
 pub returns-in_err-put-clause-canon : goal.returns-in_err-put-clause-canon
 returns-in_err-put-clause-canon g c = λ told.
-    subst (λ (s : SetData). AreCanonical g.row.D (g.F.Pages.files c.make_room.new.folder) c.args.self.now.names s.parts) (sym c.in_err-put.ensures.refused)
-    (c.in_ok-make_room.ensures.canon told)
+    subst (λ (s : SetData). AreCanonical g.row.D (g.F.Pages.files c.make_room.new.folder) c.args.self.now.names s.parts) (sym c.in_err-put.ensures.refused) (c.in_ok-make_room.ensures.canon told)
 
 pub returns-in_err-put-clause-unread : goal.returns-in_err-put-clause-unread
-returns-in_err-put-clause-unread g c = λ room.
-    (c.in_ok-make_room.ensures.roomy
-    (subst (λ n. length c.args.self.now.buffer + n ≤ 16384) (sym (sym (length-map c.as_slice.result.now _) ∙ ap length c.as_slice.ensures.value)) room)).2
+returns-in_err-put-clause-unread g c = λ room. (c.in_ok-make_room.ensures.roomy (subst (λ n. length c.args.self.now.buffer + n ≤ 16384) (sym (sym (length-map c.as_slice.result.now _) ∙ ap length c.as_slice.ensures.value)) room)).2
 
 pub returns-in_err-put-clause-files : goal.returns-in_err-put-clause-files
-returns-in_err-put-clause-files g c = λ told room.
-    c.in_ok-make_room.ensures.files told
-    (subst (λ n. length c.args.self.now.buffer + n ≤ 16384) (sym (sym (length-map c.as_slice.result.now _) ∙ ap length c.as_slice.ensures.value)) room)
+returns-in_err-put-clause-files g c = λ told room. c.in_ok-make_room.ensures.files told (subst (λ n. length c.args.self.now.buffer + n ≤ 16384) (sym (sym (length-map c.as_slice.result.now _) ∙ ap length c.as_slice.ensures.value)) room)
 
 pub returns-in_err-put-clause-room : goal.returns-in_err-put-clause-room
 returns-in_err-put-clause-room g c = λ room. add_memory_damage (λ _. ⊥) c.from_residual-in_err-put.result c.from_residual-in_err-put.ensures.1
 
 pub returns-in_err-put-clause-parts : goal.returns-in_err-put-clause-parts
 returns-in_err-put-clause-parts g c = λ room.
-    let is = c.in_err-put.ensures.refused
-    ∙ (c.in_ok-make_room.ensures.roomy
-    (subst (λ n. length c.args.self.now.buffer + n ≤ 16384) (sym (sym (length-map c.as_slice.result.now _) ∙ ap length c.as_slice.ensures.value)) room)).1 in
-    subst (λ (s : SetData). (s.parts ≡ c.args.self.now.parts) × (length s.buffer ≤ length c.args.self.now.buffer + length c.args.points.now)) (sym is)
-    (refl, omega arith)
+    let is = c.in_err-put.ensures.refused ∙ (c.in_ok-make_room.ensures.roomy (subst (λ n. length c.args.self.now.buffer + n ≤ 16384) (sym (sym (length-map c.as_slice.result.now _) ∙ ap length c.as_slice.ensures.value)) room)).1 in subst (λ (s : SetData). (s.parts ≡ c.args.self.now.parts) × (length s.buffer ≤ length c.args.self.now.buffer + length c.args.points.now)) (sym is) (refl, omega arith)
 
 pub returns-in_err-put-clause-rested : goal.returns-in_err-put-clause-rested
 returns-in_err-put-clause-rested g c = λ settled. c.in_ok-make_room.ensures.rested settled
 
 pub returns-in_err-put-clause-cause : goal.returns-in_err-put-clause-cause
 returns-in_err-put-clause-cause g c =
-    add_memory_cause (g.F.Pages.faults c.args.folder.now) (g.F.Pages.faults c.make_room.new.folder) c.from_residual-in_err-put.result
-    c.from_residual-in_err-put.ensures.1 c.in_ok-make_room.ensures.cause.fine
+    add_memory_cause (g.F.Pages.faults c.args.folder.now) (g.F.Pages.faults c.make_room.new.folder) c.from_residual-in_err-put.result c.from_residual-in_err-put.ensures.1 c.in_ok-make_room.ensures.cause.fine
 
 pub returns-in_err-put-clause-whole : goal.returns-in_err-put-clause-whole
 returns-in_err-put-clause-whole g c = λ told i seen. add_memory_damage (λ _. ⊥) c.from_residual-in_err-put.result c.from_residual-in_err-put.ensures.1
 
 pub returns-in_err-put-clause-shown : goal.returns-in_err-put-clause-shown
 returns-in_err-put-clause-shown g c =
-    add_memory_damage (IsMergeDamage g.row.D c.args.self.now.given c.args.self.now.names c.args.self.now.parts) c.from_residual-in_err-put.result
-    c.from_residual-in_err-put.ensures.1
+    add_memory_damage (IsMergeDamage g.row.D c.args.self.now.given c.args.self.now.names c.args.self.now.parts) c.from_residual-in_err-put.result c.from_residual-in_err-put.ensures.1
 
 pub returns-in_err-put-clause-damage : goal.returns-in_err-put-clause-damage
 returns-in_err-put-clause-damage g c = λ told agrees.
-    add_memory_damage (IsMergeDamageOf (g.F.Pages.files c.make_room.new.folder) c.args.self.now.given) c.from_residual-in_err-put.result
-    c.from_residual-in_err-put.ensures.1
+    add_memory_damage (IsMergeDamageOf (g.F.Pages.files c.make_room.new.folder) c.args.self.now.given) c.from_residual-in_err-put.result c.from_residual-in_err-put.ensures.1
 
 pub returns-in_err-put-clause-doubled : goal.returns-in_err-put-clause-doubled
 returns-in_err-put-clause-doubled g c = λ told agrees es read.
-    add_memory_damage (IsDoubt c.args.self.now.given (live_in_parts es c.args.self.now.parts)) c.from_residual-in_err-put.result
-    c.from_residual-in_err-put.ensures.1
+    add_memory_damage (IsDoubt c.args.self.now.given (live_in_parts es c.args.self.now.parts)) c.from_residual-in_err-put.result c.from_residual-in_err-put.ensures.1
 
 pub returns-clause-seen : goal.returns-clause-seen
 returns-clause-seen g c = λ told i seen.
     subst (λ (s : SetData). Sees g.row.D (g.F.Pages.files c.make_room.new.folder) s (index_with c.args.points.now i)) (sym c.in_ok-put.ensures.put)
-    (sees_with g.row.D (g.F.Pages.files c.make_room.new.folder) c.make_room.new.self i c.args.points.now c.in_ok-put.ensures.points
-    (c.in_ok-make_room.ensures.seen told i seen))
+    (sees_with g.row.D (g.F.Pages.files c.make_room.new.folder) c.make_room.new.self i c.args.points.now c.in_ok-put.ensures.points (c.in_ok-make_room.ensures.seen told i seen))
 
 pub returns-clause-refused : goal.returns-clause-refused
 returns-clause-refused g c = λ told i seen. tt
@@ -308,20 +265,15 @@ returns-clause-given g c = (
 )
 
 pub returns-clause-full : goal.returns-clause-full
-returns-clause-full g c = (
-  λ is. absurd cc,
-  λ more. absurd
-      (not_full c.args.self.now.given (length c.as_slice.result.now) (length c.args.points.now) c.is_full.ensures.full c.if-is_full.false
-      (sym (length-map c.as_slice.result.now _) ∙ ap length c.as_slice.ensures.value) more),
-)
+returns-clause-full g c =
+    (λ is. absurd cc, λ more. absurd (not_full c.args.self.now.given (length c.as_slice.result.now) (length c.args.points.now) c.is_full.ensures.full c.if-is_full.false (sym (length-map c.as_slice.result.now _) ∙ ap length c.as_slice.ensures.value) more))
 
 pub returns-clause-stays : goal.returns-clause-stays
 returns-clause-stays g c = tt
 
 pub returns-clause-kept : goal.returns-clause-kept
 returns-clause-kept g c =
-    subst (λ (s : SetData). KeepsNamed (IsTrue g.F.Pages.told) c.args.self.now.names s.names (g.F.Pages.files c.args.folder.now)
-    (g.F.Pages.files c.make_room.new.folder)) (sym c.in_ok-put.ensures.put) c.in_ok-make_room.ensures.kept
+    subst (λ (s : SetData). KeepsNamed (IsTrue g.F.Pages.told) c.args.self.now.names s.names (g.F.Pages.files c.args.folder.now) (g.F.Pages.files c.make_room.new.folder)) (sym c.in_ok-put.ensures.put) c.in_ok-make_room.ensures.kept
 
 pub returns-clause-follows : goal.returns-clause-follows
 returns-clause-follows g c =
@@ -341,28 +293,20 @@ returns-clause-leaf g c = ap (λ (s : SetData). s.leaf) c.in_ok-put.ensures.put 
 
 pub returns-clause-canon : goal.returns-clause-canon
 returns-clause-canon g c = λ told.
-    subst (λ (s : SetData). AreCanonical g.row.D (g.F.Pages.files c.make_room.new.folder) c.args.self.now.names s.parts) (sym c.in_ok-put.ensures.put)
-    (c.in_ok-make_room.ensures.canon told)
+    subst (λ (s : SetData). AreCanonical g.row.D (g.F.Pages.files c.make_room.new.folder) c.args.self.now.names s.parts) (sym c.in_ok-put.ensures.put) (c.in_ok-make_room.ensures.canon told)
 
 pub returns-clause-unread : goal.returns-clause-unread
-returns-clause-unread g c = λ room.
-    (c.in_ok-make_room.ensures.roomy
-    (subst (λ n. length c.args.self.now.buffer + n ≤ 16384) (sym (sym (length-map c.as_slice.result.now _) ∙ ap length c.as_slice.ensures.value)) room)).2
+returns-clause-unread g c = λ room. (c.in_ok-make_room.ensures.roomy (subst (λ n. length c.args.self.now.buffer + n ≤ 16384) (sym (sym (length-map c.as_slice.result.now _) ∙ ap length c.as_slice.ensures.value)) room)).2
 
 pub returns-clause-files : goal.returns-clause-files
-returns-clause-files g c = λ told room.
-    c.in_ok-make_room.ensures.files told
-    (subst (λ n. length c.args.self.now.buffer + n ≤ 16384) (sym (sym (length-map c.as_slice.result.now _) ∙ ap length c.as_slice.ensures.value)) room)
+returns-clause-files g c = λ told room. c.in_ok-make_room.ensures.files told (subst (λ n. length c.args.self.now.buffer + n ≤ 16384) (sym (sym (length-map c.as_slice.result.now _) ∙ ap length c.as_slice.ensures.value)) room)
 
 pub returns-clause-room : goal.returns-clause-room
 returns-clause-room g c = λ room. tt
 
 pub returns-clause-parts : goal.returns-clause-parts
 returns-clause-parts g c = λ room.
-    parts_with c.args.self.now c.make_room.new.self c.put.new.self c.args.points.now
-    (c.in_ok-make_room.ensures.roomy
-    (subst (λ n. length c.args.self.now.buffer + n ≤ 16384) (sym (sym (length-map c.as_slice.result.now _) ∙ ap length c.as_slice.ensures.value)) room)).1
-    c.in_ok-put.ensures.put
+    parts_with c.args.self.now c.make_room.new.self c.put.new.self c.args.points.now (c.in_ok-make_room.ensures.roomy (subst (λ n. length c.args.self.now.buffer + n ≤ 16384) (sym (sym (length-map c.as_slice.result.now _) ∙ ap length c.as_slice.ensures.value)) room)).1 c.in_ok-put.ensures.put
 
 pub returns-clause-rested : goal.returns-clause-rested
 returns-clause-rested g c = λ settled. c.in_ok-make_room.ensures.rested settled
@@ -394,18 +338,13 @@ returns-in_err-make_room-clause-faithful g c = c.in_err-make_room.ensures.faithf
 
 pub returns-in_err-make_room-clause-evident : goal.returns-in_err-make_room-clause-evident
 returns-in_err-make_room-clause-evident g c =
-    add_damage (IsEvidentIn g.row.D c.args.self.now.parts (IsTrusted g.F.Pages.told g.row.D (g.F.Pages.files c.args.folder.now) c.args.self.now)
-    (g.F.Pages.files c.make_room.new.folder)) c.in_err-make_room.field-0.0 c.from_residual.result c.from_residual.ensures.1 c.in_err-make_room.ensures.evident
+    add_damage (IsEvidentIn g.row.D c.args.self.now.parts (IsTrusted g.F.Pages.told g.row.D (g.F.Pages.files c.args.folder.now) c.args.self.now) (g.F.Pages.files c.make_room.new.folder)) c.in_err-make_room.field-0.0 c.from_residual.result c.from_residual.ensures.1 c.in_err-make_room.ensures.evident
 
 pub returns-in_err-put-clause-faithful : goal.returns-in_err-put-clause-faithful
-returns-in_err-put-clause-faithful g c = λ told faithful.
-    subst (IsFaithful g.row.D (g.F.Pages.files c.make_room.new.folder)) (sym c.in_err-put.ensures.refused) (c.in_ok-make_room.ensures.faithful told faithful)
+returns-in_err-put-clause-faithful g c = λ told faithful. subst (IsFaithful g.row.D (g.F.Pages.files c.make_room.new.folder)) (sym c.in_err-put.ensures.refused) (c.in_ok-make_room.ensures.faithful told faithful)
 
 pub returns-in_err-put-clause-evident : goal.returns-in_err-put-clause-evident
-returns-in_err-put-clause-evident g c =
-    add_memory_damage
-    (IsEvidentIn g.row.D c.args.self.now.parts (IsTrusted g.F.Pages.told g.row.D (g.F.Pages.files c.args.folder.now) c.args.self.now)
-    (g.F.Pages.files c.make_room.new.folder)) c.from_residual-in_err-put.result c.from_residual-in_err-put.ensures.1
+returns-in_err-put-clause-evident g c = add_memory_damage (IsEvidentIn g.row.D c.args.self.now.parts (IsTrusted g.F.Pages.told g.row.D (g.F.Pages.files c.args.folder.now) c.args.self.now) (g.F.Pages.files c.make_room.new.folder)) c.from_residual-in_err-put.result c.from_residual-in_err-put.ensures.1
 
 pub returns-clause-faithful : goal.returns-clause-faithful
 returns-clause-faithful g c = λ told faithful.
@@ -425,27 +364,19 @@ pub returns-then-is_full-clause-added : goal.returns-then-is_full-clause-added
 returns-then-is_full-clause-added g c = tt
 
 pub returns-then-is_full-clause-left : goal.returns-then-is_full-clause-left
-returns-then-is_full-clause-left g c = (
-  (moment (g.F.Pages.files c.args.folder.now) c.args.self.now),
-  flushes_none g.row.D (IsTrue g.F.Pages.told) (moment (g.F.Pages.files c.args.folder.now) c.args.self.now),
-  before_itself c.args.self.now,
-)
+returns-then-is_full-clause-left g c = ((moment (g.F.Pages.files c.args.folder.now) c.args.self.now), flushes_none g.row.D (IsTrue g.F.Pages.told) (moment (g.F.Pages.files c.args.folder.now) c.args.self.now), before_itself c.args.self.now)
 
 pub returns-in_err-make_room-clause-kept_full : goal.returns-in_err-make_room-clause-kept_full
 returns-in_err-make_room-clause-kept_full g c = λ is. absurd (add_not_full c.in_err-make_room.field-0.0 c.from_residual.result c.from_residual.ensures.1 is)
 
 pub returns-in_err-make_room-clause-files_full : goal.returns-in_err-make_room-clause-files_full
-returns-in_err-make_room-clause-files_full g c = λ told is.
-    absurd (add_not_full c.in_err-make_room.field-0.0 c.from_residual.result c.from_residual.ensures.1 is)
+returns-in_err-make_room-clause-files_full g c = λ told is. absurd (add_not_full c.in_err-make_room.field-0.0 c.from_residual.result c.from_residual.ensures.1 is)
 
 pub returns-in_err-make_room-clause-added : goal.returns-in_err-make_room-clause-added
 returns-in_err-make_room-clause-added g c = never_ok _ c.from_residual.result c.from_residual.ensures.1 _
 
 pub returns-in_err-make_room-clause-left : goal.returns-in_err-make_room-clause-left
-returns-in_err-make_room-clause-left g c =
-    at_error _ c.from_residual.result c.from_residual.ensures.1
-    _ (left_settled g.row.D (IsTrue g.F.Pages.told) (moment (g.F.Pages.files c.args.folder.now) c.args.self.now) c.make_room.new.self
-    c.in_err-make_room.ensures.left)
+returns-in_err-make_room-clause-left g c = at_error _ c.from_residual.result c.from_residual.ensures.1 _ (left_settled g.row.D (IsTrue g.F.Pages.told) (moment (g.F.Pages.files c.args.folder.now) c.args.self.now) c.make_room.new.self c.in_err-make_room.ensures.left)
 
 pub returns-in_err-put-clause-kept_full : goal.returns-in_err-put-clause-kept_full
 returns-in_err-put-clause-kept_full g c = λ is. absurd (add_memory_not_full c.from_residual-in_err-put.result c.from_residual-in_err-put.ensures.1 is)
@@ -457,11 +388,8 @@ pub returns-in_err-put-clause-added : goal.returns-in_err-put-clause-added
 returns-in_err-put-clause-added g c = never_ok _ c.from_residual-in_err-put.result c.from_residual-in_err-put.ensures.1 _
 
 pub returns-in_err-put-clause-left : goal.returns-in_err-put-clause-left
-returns-in_err-put-clause-left g c = at_error _ c.from_residual-in_err-put.result c.from_residual-in_err-put.ensures.1 _ (
-  (moment (g.F.Pages.files c.make_room.new.folder) c.make_room.new.self),
-  c.in_ok-make_room.ensures.flushed,
-  before_same c.make_room.new.self c.put.new.self c.in_err-put.ensures.refused,
-)
+returns-in_err-put-clause-left g c = at_error _ c.from_residual-in_err-put.result c.from_residual-in_err-put.ensures.1 _
+    ((moment (g.F.Pages.files c.make_room.new.folder) c.make_room.new.self), c.in_ok-make_room.ensures.flushed, before_same c.make_room.new.self c.put.new.self c.in_err-put.ensures.refused)
 
 pub returns-clause-kept_full : goal.returns-clause-kept_full
 returns-clause-kept_full g c = λ is. absurd cc

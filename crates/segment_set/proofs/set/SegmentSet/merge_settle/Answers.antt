@@ -244,9 +244,8 @@ returns-in_err-merge-clause-room g c =
 pub returns-in_err-merge-clause-cause : goal.returns-in_err-merge-clause-cause
 returns-in_err-merge-clause-cause g c =
     cause_after (g.F.Pages.faults c.args.folder.now) (g.F.Pages.faults c.loop-ids.folder) (g.F.Pages.faults c.merge.new.folder)
-    c.from_residual-in_err-merge.result c.loop-ids.invariant.faults
-    (same_cause (g.F.Pages.faults c.loop-ids.folder) (g.F.Pages.faults c.merge.new.folder) c.in_err-merge.field-0.0 c.from_residual-in_err-merge.result
-    c.from_residual-in_err-merge.ensures.1 c.in_err-merge.ensures.cause)
+    c.from_residual-in_err-merge.result c.loop-ids.invariant.faults (same_cause (g.F.Pages.faults c.loop-ids.folder) (g.F.Pages.faults c.merge.new.folder)
+    c.in_err-merge.field-0.0 c.from_residual-in_err-merge.result c.from_residual-in_err-merge.ensures.1 c.in_err-merge.ensures.cause)
 
 pub returns-in_err-merge-clause-damage : goal.returns-in_err-merge-clause-damage
 returns-in_err-merge-clause-damage g c = λ told agrees.
@@ -260,8 +259,7 @@ returns-in_err-ids-clause-faithful g c = c.loop-ids.invariant.faithful
 
 pub returns-in_err-ids-clause-evident : goal.returns-in_err-ids-clause-evident
 returns-in_err-ids-clause-evident g c =
-    memory_damage
-    (IsEvidentIn g.row.D c.args.self.now.parts (IsTrusted g.F.Pages.told g.row.D (g.F.Pages.files c.args.folder.now) c.args.self.now)
+    memory_damage (IsEvidentIn g.row.D c.args.self.now.parts (IsTrusted g.F.Pages.told g.row.D (g.F.Pages.files c.args.folder.now) c.args.self.now)
     (g.F.Pages.files c.loop-ids.folder)) c.from_residual.result c.from_residual.ensures.1
 
 pub returns-in_err-merge-clause-faithful : goal.returns-in_err-merge-clause-faithful
@@ -272,9 +270,8 @@ returns-in_err-merge-clause-evident g c =
     same_damage (IsEvidentIn g.row.D c.args.self.now.parts (IsTrusted g.F.Pages.told g.row.D (g.F.Pages.files c.args.folder.now) c.args.self.now)
     (g.F.Pages.files c.merge.new.folder)) c.in_err-merge.field-0.0 c.from_residual-in_err-merge.result c.from_residual-in_err-merge.ensures.1
     (on_evident_before {X = Unit {0}} g.row.D g.F.Pages.told (g.F.Pages.files c.args.folder.now) (g.F.Pages.files c.loop-ids.folder)
-    (g.F.Pages.files c.merge.new.folder) c.args.self.now c.loop-ids.self c.merge.new.self (Err c.in_err-merge.field-0.0)
-    c.next_merge.ensures.well.named (c.loop-ids.invariant.moves c.next_merge.ensures.well) c.merge.ensures.moves.kept c.loop-ids.invariant.faithful
-    c.in_err-merge.ensures.evident)
+    (g.F.Pages.files c.merge.new.folder) c.args.self.now c.loop-ids.self c.merge.new.self (Err c.in_err-merge.field-0.0) c.next_merge.ensures.well.named
+    (c.loop-ids.invariant.moves c.next_merge.ensures.well) c.merge.ensures.moves.kept c.loop-ids.invariant.faithful c.in_err-merge.ensures.evident)
 
 pub returns-clause-faithful : goal.returns-clause-faithful
 returns-clause-faithful g c = c.loop-ids.invariant.faithful
@@ -286,17 +283,15 @@ pub returns-in_err-ids-clause-settled : goal.returns-in_err-ids-clause-settled
 returns-in_err-ids-clause-settled g c = never_ok _ c.from_residual.result c.from_residual.ensures.1 _
 
 pub returns-in_err-ids-clause-left : goal.returns-in_err-ids-clause-left
-returns-in_err-ids-clause-left g c =
-    at_error _ c.from_residual.result c.from_residual.ensures.1
-    _ ((moment (g.F.Pages.files c.loop-ids.folder) c.loop-ids.self), c.loop-ids.invariant.settles, before_itself c.loop-ids.self)
+returns-in_err-ids-clause-left g c = at_error _ c.from_residual.result c.from_residual.ensures.1 _
+    ((moment (g.F.Pages.files c.loop-ids.folder) c.loop-ids.self), c.loop-ids.invariant.settles, before_itself c.loop-ids.self)
 
 pub returns-in_err-merge-clause-settled : goal.returns-in_err-merge-clause-settled
 returns-in_err-merge-clause-settled g c = never_ok _ c.from_residual-in_err-merge.result c.from_residual-in_err-merge.ensures.1 _
 
 pub returns-in_err-merge-clause-left : goal.returns-in_err-merge-clause-left
-returns-in_err-merge-clause-left g c =
-    at_error _ c.from_residual-in_err-merge.result c.from_residual-in_err-merge.ensures.1
-    _ ((moment (g.F.Pages.files c.loop-ids.folder) c.loop-ids.self), c.loop-ids.invariant.settles, c.in_err-merge.ensures.refused)
+returns-in_err-merge-clause-left g c = at_error _ c.from_residual-in_err-merge.result c.from_residual-in_err-merge.ensures.1 _
+    ((moment (g.F.Pages.files c.loop-ids.folder) c.loop-ids.self), c.loop-ids.invariant.settles, c.in_err-merge.ensures.refused)
 
 pub returns-clause-settled : goal.returns-clause-settled
 returns-clause-settled g c = c.loop-ids.invariant.settles
