@@ -1,6 +1,6 @@
 -- Entries beyond the reach of a shape, which are no hits.
-use Rattle.std.proofs.Common.{◌≡◌, ◌<◌, ◌≤◌, ◌+◌, ◌-◌, ℕ, Bool, true, false, ◌&&◌, List, [], ◌∷◌, ◌++◌, length, map}
-use Rattle.std.proofs.Common.{get_or, take, drop, filter, ℤ, int_lt, int_le, refl, sym, ap, subst, ◌∙◌, arith}
+use Rattle.std.proofs.Common.{◌≡◌, ◌≤◌, ◌+◌, ◌-◌, ℕ, Bool, true, false, ◌&&◌, List, [], ◌∷◌, ◌++◌}
+use Rattle.std.proofs.Common.{get_or, take, drop, ℤ, int_lt, int_le, refl, sym, ap, subst, ◌∙◌, arith}
 use Rattle.std.specs.Prelude.{All}
 use Rattle.std.proofs.lemmas.Int.{ints}
 use Rattle.std.proofs.lemmas.List.{drop-drop, append-nil, take-append-drop}
@@ -9,7 +9,7 @@ use Rattle.point_codec.specs.Points.{Item}
 use Rattle.live_bits.specs.LiveSet.{LiveSet, is_live}
 use Rattle.cell_relate.specs.Relations.{IsReach}
 use Rattle.leaf_codec.specs.Ascending.{coordinate}
-use Rattle.bkd_reader.specs.Hits.{is_hit, hits_in}
+use Rattle.bkd_reader.specs.Hits.{hits_in}
 use Rattle.bkd_reader.proofs.HitLemmas.{hits_join}
 
 -- the shape has none of the entries

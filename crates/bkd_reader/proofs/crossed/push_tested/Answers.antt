@@ -7,7 +7,8 @@ use Rattle.bkd_reader.proofs.crossed.push_tested.Goals as goal
 
 pub loop-i-init : goal.loop-i-init
 loop-i-init g c = record {
-  hits = none_before (g.S.Shape.has c.args.shape.now) c.args.live.now c.args.hits.now.items c.args.leaf.now c.within_reach-from.result.0 c.within_reach-from.ensures.before;
+  hits = none_before (g.S.Shape.has c.args.shape.now) c.args.live.now c.args.hits.now.items c.args.leaf.now
+      c.within_reach-from.result.0 c.within_reach-from.ensures.before;
   within = c.within_reach-from.ensures.within.0;
   tests = omega arith;
   compares = refl;
@@ -65,5 +66,6 @@ loop-i-preserved g c =
 pub returns-clause-hits : goal.returns-clause-hits
 returns-clause-hits g c =
     let l = c.loop-i in
-    let behind = none_behind (g.S.Shape.has c.args.shape.now) c.args.live.now c.args.leaf.now l.i c.within_reach-from.result.1 (omega (arith, c.loop-i-test.false)) c.within_reach-from.ensures.behind in
+    let behind = none_behind (g.S.Shape.has c.args.shape.now) c.args.live.now c.args.leaf.now l.i c.within_reach-from.result.1
+    (omega (arith, c.loop-i-test.false)) c.within_reach-from.ensures.behind in
     l.invariant.hits ∙ ap (λ z. c.args.hits.now.items ++ z) behind
