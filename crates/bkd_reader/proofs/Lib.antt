@@ -1,3 +1,4 @@
 pub mod HitLemmas
 pub mod Cells
 pub mod Trees
+pub mod Beyond

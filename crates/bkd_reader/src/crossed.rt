@@ -1,6 +1,7 @@
 //! A leaf whose cell the shape crosses.
 
-ghost use Rattle.std.specs.Prelude.{◌≡◌, ◌≤◌, ◌+◌, ◌++◌, ◌⊎◌, ℕ, List, length, ℤ, Bool, true, IsTrue, OnOk};
+ghost use Rattle.std.specs.Prelude.{◌≡◌, ◌≤◌, ◌+◌, ◌++◌, ◌⊎◌, ℕ, List, length, take, drop, All, ℤ, Bool, true, false};
+ghost use Rattle.std.specs.Prelude.{IsTrue, OnOk};
 ghost use Rattle.outer_io.specs.Files.{bytes_of};
 ghost use Rattle.outer_io.specs.declared.file_name.FileName.TheVariants.{Segment};
 ghost use Rattle.point_codec.specs.Points.{Item, Region};
@@ -25,7 +26,7 @@ use page_cache::{PageCache, PageFault};
 use segment_file::{SegmentHead, bad_leaf, leaf_in, load_leaf};
 use std::alloc::{AllocError, Global};
 
-/// Appends the numbers of the live entries of a leaf that the shape has, each of which it is asked for.
+/// Appends the numbers of the live entries of a leaf that the shape has. It is asked for some of the entries.
 pub fn test_leaf<const D: usize, S: Shape<D>, F: Pages>(
     alloc: Global,
     head: &SegmentHead<D>,
@@ -72,7 +73,7 @@ pub fn test_leaf<const D: usize, S: Shape<D>, F: Pages>(
     Ok(())
 }
 
-/// Appends the numbers of the leaf's live entries that the shape has.
+/// Appends the numbers of the leaf's live entries that the shape has. Those beyond its reach are not tested.
 fn push_tested<const D: usize, S: Shape<D>>(
     leaf: &LeafView<'_, D>,
     shape: &mut S,
@@ -86,7 +87,8 @@ fn push_tested<const D: usize, S: Shape<D>>(
     ensures has { S.has shape.new ≡ S.has shape.old }
     ensures crosses { S.crosses shape.new ≡ S.crosses shape.old }
 {
-    for i in 0..leaf.count() {
+    let (from, end) = within_reach(leaf, shape);
+    for i in from..end {
         let doc = leaf.doc(i);
         if !live.is_live(doc) {
             continue;
@@ -97,4 +99,18 @@ fn push_tested<const D: usize, S: Shape<D>>(
         hits.push(doc)?;
     }
     Ok(())
+}
+
+/// The places between which the entries stand that the shape can have: it has none before the first, and none from the
+/// second on. The entries ascend in one dimension, in which the shape may tell how far it reaches.
+fn within_reach<const D: usize, S: Shape<D>>(leaf: &LeafView<'_, D>, shape: &S) -> (u16, u16)
+    ensures within { (result.0 ≤ length leaf.now) × (result.1 ≤ length leaf.now) }
+    ensures before { All (λ x. S.has shape.now x.at ≡ false) (take result.0 leaf.now) }
+    ensures behind { All (λ x. S.has shape.now x.at ≡ false) (drop result.1 leaf.now) }
+{
+    let d = leaf.sorted_dimension();
+    match shape.reach(d) {
+        Some((low, high)) => leaf.between(d, &low, &high),
+        None => (0, leaf.count()),
+    }
 }

@@ -6,3 +6,4 @@ pub mod Same
 pub mod Sound
 pub mod Walk
 pub mod Ways
+pub mod Whole

@@ -15,4 +15,5 @@ pub mod stretch;
 pub mod tree;
 
 pub use locator::Locator;
+pub use outline::Bounds;
 pub use tree::EdgeTree;

@@ -1,14 +1,15 @@
 //! The tree of a polygon's edges and its queries.
 
-ghost use Rattle.std.specs.Prelude.{◌≡◌, ◌++◌, true, List, ℤ, All, IsFalse, IfOk, OnOk, map};
+ghost use Rattle.std.specs.Prelude.{◌≡◌, ◌++◌, true, List, ℤ, All, IsFalse, IfOk, IfSome, OnOk, map};
 ghost use Rattle.point_codec.specs.Points.{in_box};
 ghost use Rattle.point_codec.specs.Seen.{coordinates_of, region_of};
 ghost use Rattle.ring_parity.specs.Rings.{edges_of, all_edges, is_on_any, is_odd, any_meets, is_within, AreClosed};
 ghost use Rattle.ring_parity.specs.Seen.{ends_of};
-ghost use Rattle.edge_tree.specs.Outlines.{IsPlace};
+ghost use Rattle.edge_tree.specs.Outlines.{IsPlace, Holds};
 ghost use Rattle.edge_tree.specs.Ways.{IsStretch, all_on, AreNear};
 
 use crate::nodes::{Node, Place, meets_run, nodes_over, place_in};
+use crate::outline::Bounds;
 use crate::runs::runs_over;
 use crate::stretch::Stretch;
 use point_codec::{Cell, Point};
@@ -83,6 +84,21 @@ impl EdgeTree {
     {
         let place = self.place(p);
         place.on || place.odd
+    }
+
+    /// A box that has all points of the polygon: that of the node over all edges.
+    pub fn bounds(&self) -> Option<Bounds>
+        ensures { IfSome result (λ b. (p : List ℤ) → is_within self.now p ≡ true → Holds b p) }
+    {
+        let at = self.nodes.len();
+        if at == 0 {
+            return None;
+        }
+        let last = &self.nodes[at - 1];
+        if last.before > 0 {
+            return None;
+        }
+        Some(last.outline.bounds)
     }
 
     /// Where the point lies beside all the edges. A node that tells it of its subtree is taken whole.

@@ -82,6 +82,18 @@ impl<const D: usize> Shape<D> for PolygonShape {
         }
         relation_of(&mut self.edges, &cell_in_plane(c))
     }
+
+    fn reach(&self, d: usize) -> Option<(i32, i32)> {
+        if D != 2 {
+            return None;
+        }
+        let bounds = self.edges.tree().bounds()?;
+        if d == 0 {
+            Some((bounds.west, bounds.east))
+        } else {
+            Some((bounds.south, bounds.north))
+        }
+    }
 }
 
 /// How the cell lies to the polygon of these edges. A cell that no edge meets has all its points in the polygon or
