@@ -26,21 +26,26 @@ right_within : (path : Region) (d : ℕ) (x : ℤ) → get_or path.lo d (pos 0) 
 right_within path d x le = rw (set_above path.lo d x le, all_le-refl path.hi) refl
 
 -- what the shape answers on all of the path cell, it answers on the paths of both children
-pub all_left : (D : ℕ) (has : List ℤ → Bool) (b : Bool) (path : Region) (d : ℕ) (x : ℤ) (l r : IndexTree) → HasCells D path (Split d x l r) → AllAnswer has b path → AllAnswer has b (left_of path d x)
+pub all_left : (D : ℕ) (has : List ℤ → Bool) (b : Bool) (path : Region) (d : ℕ) (x : ℤ) (l r : IndexTree) → HasCells D path (Split d x l r)
+    → AllAnswer has b path → AllAnswer has b (left_of path d x)
 all_left D has b path d x l r cells all = AllAnswer-within has b (left_of path d x) path (left_within path d x cells.0.to) all
 
-pub all_right : (D : ℕ) (has : List ℤ → Bool) (b : Bool) (path : Region) (d : ℕ) (x : ℤ) (l r : IndexTree) → HasCells D path (Split d x l r) → AllAnswer has b path → AllAnswer has b (right_of path d x)
+pub all_right : (D : ℕ) (has : List ℤ → Bool) (b : Bool) (path : Region) (d : ℕ) (x : ℤ) (l r : IndexTree) → HasCells D path (Split d x l r)
+    → AllAnswer has b path → AllAnswer has b (right_of path d x)
 all_right D has b path d x l r cells all = AllAnswer-within has b (right_of path d x) path (right_within path d x cells.0.from) all
 
 -- and on the cell of the node itself
-pub all_cell : (D : ℕ) (has : List ℤ → Bool) (b : Bool) (path : Region) (t : IndexTree) → HasCells D path t → AllAnswer has b path → AllAnswer has b (cell_of path t)
+pub all_cell : (D : ℕ) (has : List ℤ → Bool) (b : Bool) (path : Region) (t : IndexTree) → HasCells D path t → AllAnswer has b path
+    → AllAnswer has b (cell_of path t)
 all_cell D has b path (Leaf len own) cells all = AllAnswer-within has b own path cells.1 all
 all_cell D has b path (Split d x l r) cells all = all
 
-one_touched : (D : ℕ) (has : List ℤ → Bool) (crosses : Region → Bool) (path : Region) (len : ℕ) (own : Region) → HasCells D path (Leaf len own) → AllAnswer has true own → touched has crosses (Leaf len own) ≡ 1
+one_touched : (D : ℕ) (has : List ℤ → Bool) (crosses : Region → Bool) (path : Region) (len : ℕ) (own : Region) → HasCells D path (Leaf len own)
+    → AllAnswer has true own → touched has crosses (Leaf len own) ≡ 1
 one_touched D has crosses path len own cells all = rw (is_outside-all has crosses own cells.0.ordered all) refl
 
-touched_below : (D : ℕ) (has : List ℤ → Bool) (crosses : Region → Bool) (path : Region) (t : IndexTree) → HasCells D path t → AllAnswer has true path → touched has crosses t ≡ leaf_count t
+touched_below : (D : ℕ) (has : List ℤ → Bool) (crosses : Region → Bool) (path : Region) (t : IndexTree) → HasCells D path t → AllAnswer has true path
+    → touched has crosses t ≡ leaf_count t
 touched_below D has crosses path (Leaf len own) cells all = one_touched D has crosses path len own cells (AllAnswer-within has true own path cells.1 all)
 touched_below D has crosses path (Split d x l r) cells all =
     let a = touched_below D has crosses (left_of path d x) l cells.1 (all_left D has true path d x l r cells all) in
@@ -48,7 +53,8 @@ touched_below D has crosses path (Split d x l r) cells all =
     omega (arith, a, b)
 
 -- below a node all of whose points are the shape's each leaf is touched
-pub touched_all : (D : ℕ) (has : List ℤ → Bool) (crosses : Region → Bool) (path : Region) (t : IndexTree) → HasCells D path t → AllAnswer has true (cell_of path t) → touched has crosses t ≡ leaf_count t
+pub touched_all : (D : ℕ) (has : List ℤ → Bool) (crosses : Region → Bool) (path : Region) (t : IndexTree) → HasCells D path t
+    → AllAnswer has true (cell_of path t) → touched has crosses t ≡ leaf_count t
 touched_all D has crosses path (Leaf len own) cells all = one_touched D has crosses path len own cells all
 touched_all D has crosses path (Split d x l r) cells all = touched_below D has crosses path (Split d x l r) cells all
 

@@ -1,5 +1,6 @@
 -- The hits of a list of entries, one more entry at a time, and those of a cell that lies in the shape.
-use Rattle.std.proofs.Common.{◌≡◌, ℕ, ◌+◌, ◌<◌, Bool, true, false, ◌&&◌, cond, List, [], ◌∷◌, ◌++◌, length, map, take, filter, get_or, ℤ, refl, sym, ap, subst, ◌∙◌}
+use Rattle.std.proofs.Common.{◌≡◌, ℕ, ◌+◌, ◌<◌, Bool, true, false, ◌&&◌, cond, List, [], ◌∷◌, ◌++◌}
+use Rattle.std.proofs.Common.{length, map, take, filter, get_or, ℤ, refl, sym, ap, subst, ◌∙◌}
 use Rattle.std.proofs.lemmas.List.{map-append, append_assoc, append-nil}
 use Rattle.std.proofs.lemmas.List.Elements.{filter-append, filter_more, All-head, All-tail}
 use Rattle.std.proofs.lemmas.Option.{slice_get-get_or}
@@ -33,7 +34,9 @@ miss_more : (has : List ℤ → Bool) (live : LiveSet) (xs : List Item) (i : ℕ
 unfolding hits_in
 miss_more has live xs i h miss =
     let x = get_or xs i no_item in
-    ap (map (λ y. y.doc)) (filter_more (is_hit has live) xs i no_item h ∙ ap (λ b. filter (is_hit has live) (take i xs) ++ cond b (x ∷ []) []) miss ∙ append-nil (filter (is_hit has live) (take i xs)))
+    ap (map (λ y. y.doc))
+    (filter_more (is_hit has live) xs i no_item h ∙ ap (λ b. filter (is_hit has live) (take i xs) ++ cond b (x ∷ []) []) miss
+    ∙ append-nil (filter (is_hit has live) (take i xs)))
 
 pub dead_more : (has : List ℤ → Bool) (live : LiveSet) (xs : List Item) (i doc : ℕ) → i < length xs → doc ≡ (get_or xs i no_item).doc
     → is_live live doc ≡ false → hits_in has live (take (i + 1) xs) ≡ hits_in has live (take i xs)

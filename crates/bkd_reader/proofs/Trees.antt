@@ -1,5 +1,6 @@
 -- Subtrees: how many leaves they have, what is found below, and what a damage of theirs is to the tree above.
-use Rattle.std.proofs.Common.{◌≡◌, ℕ, ◌+◌, ◌-◌, ◌/◌, ◌≤◌, inl, inr, Bool, true, false, cond, ◌&&◌, List, [], ◌∷◌, ◌++◌, map, filter, ℤ, Result, Ok, Err, refl, sym, ap, subst, ◌∙◌, arith}
+use Rattle.std.proofs.Common.{◌≡◌, ℕ, ◌+◌, ◌-◌, ◌/◌, ◌≤◌, inl, inr, Bool, true, false, cond, ◌&&◌, List, []}
+use Rattle.std.proofs.Common.{◌∷◌, ◌++◌, map, filter, ℤ, Result, Ok, Err, refl, sym, ap, subst, ◌∙◌, arith}
 use Rattle.std.proofs.lemmas.List.{append_assoc}
 use Rattle.std.proofs.lemmas.List.Elements.{All-head, All-tail}
 use Rattle.std.specs.Prelude.{OnOk, IsErrAnd}
@@ -66,8 +67,10 @@ none_below D bytes head has live first s path (Leaf len own) cells all = inl (al
 none_below D bytes head has live first s path (Split d x l r) cells all = record {
   front_hits = [];
   back_hits = [];
-  front_are = none_below D bytes head has live first s (left_of path d x) l cells.1 (all_cell D has false (left_of path d x) l cells.1 (all_left D has false path d x l r cells all));
-  back_are = none_below D bytes head has live (first + leaf_count l) (right_begin s l r) (right_of path d x) r cells.2 (all_cell D has false (right_of path d x) r cells.2 (all_right D has false path d x l r cells all));
+  front_are = none_below D bytes head has live first s (left_of path d x) l cells.1
+      (all_cell D has false (left_of path d x) l cells.1 (all_left D has false path d x l r cells all));
+  back_are = none_below D bytes head has live (first + leaf_count l) (right_begin s l r) (right_of path d x) r cells.2
+      (all_cell D has false (right_of path d x) r cells.2 (all_right D has false path d x l r cells all));
   joined = refl;
 }
 
@@ -79,7 +82,8 @@ joins_hits left right old mid new p q = record {
   holds = record { front_hits = p.out; back_hits = q.out; front_are = p.holds; back_are = q.holds; joined = refl };
 }
 
-no_hits : (has : List ℤ → Bool) (live : LiveSet) (cell : Region) (xs : List Item) → AllAnswer has false cell → All (λ x. in_box cell x.at ≡ true) xs → hits_in has live xs ≡ []
+no_hits : (has : List ℤ → Bool) (live : LiveSet) (cell : Region) (xs : List Item) → AllAnswer has false cell → All (λ x. in_box cell x.at ≡ true) xs
+    → hits_in has live xs ≡ []
 unfolding hits_in
 no_hits has live cell [] all inside = refl
 no_hits has live cell (x ∷ xs) all inside =
@@ -93,14 +97,17 @@ no_hits has live cell (x ∷ xs) all inside =
     one true false e rest = rest
     one false b e rest = rest
 
-leaf_hits : (D : ℕ) (bytes : List ℕ) (head : Head) (has : List ℤ → Bool) (live : LiveSet) (first : ℕ) (s : Spot) (len : ℕ) (own : Region) (items : List Item) (out : List ℕ)
+leaf_hits : (D : ℕ) (bytes : List ℕ) (head : Head) (has : List ℤ → Bool) (live : LiveSet) (first : ℕ) (s : Spot) (len : ℕ) (own : Region) (items : List Item)
+    (out : List ℕ)
     → HoldsLeaf D bytes head first s len own items → AreHits D bytes head has live first s (Leaf len own) out → out ≡ hits_in has live items
 unfolding HoldsLeaf
 leaf_hits D bytes head has live first s len own items out h (inl (none, e)) = e ∙ sym (no_hits has live own items none h.spells.inside)
-leaf_hits D bytes head has live first s len own items out h (inr (seen, k, e)) = e ∙ ap (hits_in has live) (one_leaf D _ seen items k.spells.spells h.spells.spells)
+leaf_hits D bytes head has live first s len own items out h (inr (seen, k, e)) =
+    e ∙ ap (hits_in has live) (one_leaf D _ seen items k.spells.spells h.spells.spells)
 
 -- the hits of a subtree all of whose leaves are spelled are those of its entries
-pub tree_hits : (D : ℕ) (bytes : List ℕ) (head : Head) (has : List ℤ → Bool) (live : LiveSet) (first : ℕ) (s : Spot) (t : IndexTree) (items : List Item) (out : List ℕ)
+pub tree_hits : (D : ℕ) (bytes : List ℕ) (head : Head) (has : List ℤ → Bool) (live : LiveSet) (first : ℕ) (s : Spot) (t : IndexTree) (items : List Item)
+    (out : List ℕ)
     → HoldsTree D bytes head first s t items → AreHits D bytes head has live first s t out → out ≡ hits_in has live items
 tree_hits D bytes head has live first s (Leaf len own) items out h k = leaf_hits D bytes head has live first s len own items out h k
 tree_hits D bytes head has live first s (Split d x l r) items out h k =
@@ -110,17 +117,20 @@ tree_hits D bytes head has live first s (Split d x l r) items out h k =
     ∙ sym (hits_join has live h.front_items h.back_items) ∙ ap (hits_in has live) (sym h.joined)
 
 -- the page of the first leaf of a subtree whose leaves are spelled is one for its place
-leaf_page : (D : ℕ) (bytes : List ℕ) (head : Head) (first : ℕ) (s : Spot) (len : ℕ) (own : Region) (items : List Item) → HoldsLeaf D bytes head first s len own items → IsFilePage (Segment head.id) bytes (page_of head s.page)
+leaf_page : (D : ℕ) (bytes : List ℕ) (head : Head) (first : ℕ) (s : Spot) (len : ℕ) (own : Region) (items : List Item)
+    → HoldsLeaf D bytes head first s len own items → IsFilePage (Segment head.id) bytes (page_of head s.page)
 unfolding HoldsLeaf
 leaf_page D bytes head first s len own items h = h.page
 
-pub first_page : (D : ℕ) (bytes : List ℕ) (head : Head) (first : ℕ) (s : Spot) (t : IndexTree) (items : List Item) → HoldsTree D bytes head first s t items → IsFilePage (Segment head.id) bytes (page_of head s.page)
+pub first_page : (D : ℕ) (bytes : List ℕ) (head : Head) (first : ℕ) (s : Spot) (t : IndexTree) (items : List Item) → HoldsTree D bytes head first s t items
+    → IsFilePage (Segment head.id) bytes (page_of head s.page)
 first_page D bytes head first s (Leaf len own) items h = leaf_page D bytes head first s len own items h
 first_page D bytes head first s (Split d x l r) items h = first_page D bytes head first s l h.front_items h.front_holds
 
 -- ---- a damage below a child is one below the node
 
-pub damage_left : (D : ℕ) (head : Head) (first : ℕ) (s : Spot) (d : ℕ) (x : ℤ) (l r : IndexTree) (e : Damage) → IsLeafDamage D head first s l e → IsLeafDamage D head first s (Split d x l r) e
+pub damage_left : (D : ℕ) (head : Head) (first : ℕ) (s : Spot) (d : ℕ) (x : ℤ) (l r : IndexTree) (e : Damage) → IsLeafDamage D head first s l e
+    → IsLeafDamage D head first s (Split d x l r) e
 damage_left D head first s d x l r (damage.Page file number bytes) h = h
 damage_left D head first s d x l r (damage.Size file size needed) h =
     let k = h.2 in
@@ -134,7 +144,8 @@ damage_left D head first s d x l r (damage.Unequal file said found) h = h
 damage_left D head first s d x l r (damage.Beyond doc next) h = h
 damage_left D head first s d x l r (damage.Doubled doc) h = h
 
-pub damage_right : (D : ℕ) (head : Head) (first : ℕ) (s : Spot) (d : ℕ) (x : ℤ) (l r : IndexTree) (e : Damage) → IsLeafDamage D head (first + leaf_count l) (right_begin s l r) r e → IsLeafDamage D head first s (Split d x l r) e
+pub damage_right : (D : ℕ) (head : Head) (first : ℕ) (s : Spot) (d : ℕ) (x : ℤ) (l r : IndexTree) (e : Damage)
+    → IsLeafDamage D head (first + leaf_count l) (right_begin s l r) r e → IsLeafDamage D head first s (Split d x l r) e
 damage_right D head first s d x l r (damage.Page file number bytes) h = h
 damage_right D head first s d x l r (damage.Size file size needed) h =
     let k = h.2 in
@@ -159,46 +170,61 @@ on_ok P Q (Err e) f h = h
 
 -- ---- the same by the children that a node gives
 
-pub left_damage : {T : Type 0} {D : ℕ} (res : Result T PageFault) (head : Head) (left right : NodeAt D) (first : ℕ) (s : Spot) (path : Region) (t : IndexTree) (k : AreChildren left right first s path t)
+pub left_damage : {T : Type 0} {D : ℕ} (res : Result T PageFault) (head : Head) (left right : NodeAt D) (first : ℕ) (s : Spot) (path : Region) (t : IndexTree)
+    (k : AreChildren left right first s path t)
     → OnDamage res (IsLeafDamage D head first s k.l) → OnDamage res (IsLeafDamage D head first s t)
 left_damage {T} {D} res head left right first s path t k h =
     subst (λ u. OnDamage res (IsLeafDamage D head first s u)) (sym k.is)
-    (on_damage_weaker res (IsLeafDamage D head first s k.l) (IsLeafDamage D head first s (Split k.dimension k.value k.l k.r)) (damage_left D head first s k.dimension k.value k.l k.r) h)
+    (on_damage_weaker res (IsLeafDamage D head first s k.l) (IsLeafDamage D head first s (Split k.dimension k.value k.l k.r))
+    (damage_left D head first s k.dimension k.value k.l k.r) h)
 
-pub right_damage : {T : Type 0} {D : ℕ} (res : Result T PageFault) (head : Head) (left right : NodeAt D) (first : ℕ) (s : Spot) (path : Region) (t : IndexTree) (k : AreChildren left right first s path t)
+pub right_damage : {T : Type 0} {D : ℕ} (res : Result T PageFault) (head : Head) (left right : NodeAt D) (first : ℕ) (s : Spot) (path : Region) (t : IndexTree)
+    (k : AreChildren left right first s path t)
     → OnDamage res (IsLeafDamage D head (first + leaf_count k.l) (right_begin s k.l k.r) k.r) → OnDamage res (IsLeafDamage D head first s t)
 right_damage {T} {D} res head left right first s path t k h =
     subst (λ u. OnDamage res (IsLeafDamage D head first s u)) (sym k.is)
-    (on_damage_weaker res (IsLeafDamage D head (first + leaf_count k.l) (right_begin s k.l k.r) k.r) (IsLeafDamage D head first s (Split k.dimension k.value k.l k.r)) (damage_right D head first s k.dimension k.value k.l k.r) h)
+    (on_damage_weaker res (IsLeafDamage D head (first + leaf_count k.l) (right_begin s k.l k.r) k.r)
+    (IsLeafDamage D head first s (Split k.dimension k.value k.l k.r)) (damage_right D head first s k.dimension k.value k.l k.r) h)
 
 -- the leaves of both children are spelled where those of the node are
-pub held : {D : ℕ} (bytes : List ℕ) (head : Head) (left right : NodeAt D) (first : ℕ) (s : Spot) (path : Region) (t : IndexTree) (k : AreChildren left right first s path t) (items : List Item)
+pub held : {D : ℕ} (bytes : List ℕ) (head : Head) (left right : NodeAt D) (first : ℕ) (s : Spot) (path : Region) (t : IndexTree)
+    (k : AreChildren left right first s path t) (items : List Item)
     → HoldsTree D bytes head first s t items → HoldsTree D bytes head first s (Split k.dimension k.value k.l k.r) items
 held {D} bytes head left right first s path t k items h = subst (λ u. HoldsTree D bytes head first s u items) k.is h
 
-pub left_root : {D : ℕ} (left right : NodeAt D) (first : ℕ) (s : Spot) (path : Region) (t : IndexTree) (k : AreChildren left right first s path t) → HasCells D path t
+pub left_root : {D : ℕ} (left right : NodeAt D) (first : ℕ) (s : Spot) (path : Region) (t : IndexTree) (k : AreChildren left right first s path t)
+    → HasCells D path t
     → IsRoot left first s (left_of path k.dimension k.value) k.l
-left_root {D} left right first s path t k cells = let c : HasCells D path (Split k.dimension k.value k.l k.r) = subst (λ u. HasCells D path u) k.is cells in record { is = k.left_is; cells = c.1 }
+left_root {D} left right first s path t k cells =
+    let c : HasCells D path (Split k.dimension k.value k.l k.r) = subst (λ u. HasCells D path u) k.is cells in
+    record { is = k.left_is; cells = c.1 }
 
-pub right_root : {D : ℕ} (left right : NodeAt D) (first : ℕ) (s : Spot) (path : Region) (t : IndexTree) (k : AreChildren left right first s path t) → HasCells D path t
+pub right_root : {D : ℕ} (left right : NodeAt D) (first : ℕ) (s : Spot) (path : Region) (t : IndexTree) (k : AreChildren left right first s path t)
+    → HasCells D path t
     → IsRoot right (first + leaf_count k.l) (right_begin s k.l k.r) (right_of path k.dimension k.value) k.r
-right_root {D} left right first s path t k cells = let c : HasCells D path (Split k.dimension k.value k.l k.r) = subst (λ u. HasCells D path u) k.is cells in record { is = k.right_is; cells = c.2 }
+right_root {D} left right first s path t k cells =
+    let c : HasCells D path (Split k.dimension k.value k.l k.r) = subst (λ u. HasCells D path u) k.is cells in
+    record { is = k.right_is; cells = c.2 }
 
 -- ---- one leaf, by its place
 
 -- a place of which it is known that no leaf is spelled there is not one of a subtree whose leaves are spelled
-pub never_bad : {D : ℕ} (bytes : List ℕ) (head : Head) (node : NodeAt D) (place : LeafPlace) (first : ℕ) (s : Spot) (path : Region) (t : IndexTree) (items : List Item)
+pub never_bad : {D : ℕ} (bytes : List ℕ) (head : Head) (node : NodeAt D) (place : LeafPlace) (first : ℕ) (s : Spot) (path : Region) (t : IndexTree)
+    (items : List Item)
     → IsAt node first s path t → IsPlaceOf place s t → HoldsTree D bytes head first s t items
-    → ((len : ℕ) (own : Region) → IsAt node first s path (Leaf len own) → IsPlaceOf place s (Leaf len own) → HoldsLeaf D bytes head first s len own items → ⊥) → ⊥
+    → ((len : ℕ) (own : Region) → IsAt node first s path (Leaf len own) → IsPlaceOf place s (Leaf len own) → HoldsLeaf D bytes head first s len own items → ⊥)
+    → ⊥
 never_bad bytes head node place first s path (Leaf len own) items is at holds none = none len own is at holds
 never_bad bytes head node place first s path (Split d x l r) items is at holds none = let e = at.is in cc
 
-leaf_inside : (D : ℕ) (bytes : List ℕ) (head : Head) (first : ℕ) (s : Spot) (len : ℕ) (own : Region) (items : List Item) → HoldsLeaf D bytes head first s len own items → All (λ x. in_box own x.at ≡ true) items
+leaf_inside : (D : ℕ) (bytes : List ℕ) (head : Head) (first : ℕ) (s : Spot) (len : ℕ) (own : Region) (items : List Item)
+    → HoldsLeaf D bytes head first s len own items → All (λ x. in_box own x.at ≡ true) items
 unfolding HoldsLeaf
 leaf_inside D bytes head first s len own items h = h.spells.inside
 
 -- the live entries of a leaf that lies in the shape are its hits
-pub taken_hits : {D : ℕ} (bytes : List ℕ) (head : Head) (has : List ℤ → Bool) (live : LiveSet) (node : NodeAt D) (place : LeafPlace) (first : ℕ) (s : Spot) (path : Region) (t : IndexTree) (items : List Item) (old new : List ℕ)
+pub taken_hits : {D : ℕ} (bytes : List ℕ) (head : Head) (has : List ℤ → Bool) (live : LiveSet) (node : NodeAt D) (place : LeafPlace) (first : ℕ) (s : Spot)
+    (path : Region) (t : IndexTree) (items : List Item) (old new : List ℕ)
     → IsAt node first s path t → IsPlaceOf place s t → AllAnswer has true (cell_of path t)
     → ((len : ℕ) (own : Region) → IsAt node first s path (Leaf len own) → IsPlaceOf place s (Leaf len own) → HoldsLeaf D bytes head first s len own items)
     → new ≡ old ++ hits_in (λ _. true) live items → Appends old new (AreHits D bytes head has live first s t)
@@ -209,7 +235,8 @@ taken_hits {D} bytes head has live node place first s path (Leaf len own) items 
 }
 taken_hits bytes head has live node place first s path (Split d x l r) items old new is at all holds e = let f = at.is in cc
 
-pub tested_hits : {D : ℕ} (bytes : List ℕ) (head : Head) (has : List ℤ → Bool) (live : LiveSet) (node : NodeAt D) (place : LeafPlace) (first : ℕ) (s : Spot) (path : Region) (t : IndexTree) (items : List Item) (old new : List ℕ)
+pub tested_hits : {D : ℕ} (bytes : List ℕ) (head : Head) (has : List ℤ → Bool) (live : LiveSet) (node : NodeAt D) (place : LeafPlace) (first : ℕ) (s : Spot)
+    (path : Region) (t : IndexTree) (items : List Item) (old new : List ℕ)
     → IsAt node first s path t → IsPlaceOf place s t
     → ((len : ℕ) (own : Region) → IsAt node first s path (Leaf len own) → IsPlaceOf place s (Leaf len own) → HoldsLeaf D bytes head first s len own items)
     → new ≡ old ++ hits_in has live items → Appends old new (AreHits D bytes head has live first s t)
@@ -221,19 +248,24 @@ tested_hits {D} bytes head has live node place first s path (Leaf len own) items
 tested_hits bytes head has live node place first s path (Split d x l r) items old new is at holds e = let f = at.is in cc
 
 -- all entries of a crossed leaf may be tested
-pub tested_leaf : (crosses : Region → Bool) (count : ℕ → ℕ) (place : LeafPlace) (first : ℕ) (s : Spot) (path : Region) (t : IndexTree) → IsPlaceOf place s t → crosses (cell_of path t) ≡ true → tested crosses count first t ≡ count first
+pub tested_leaf : (crosses : Region → Bool) (count : ℕ → ℕ) (place : LeafPlace) (first : ℕ) (s : Spot) (path : Region) (t : IndexTree) → IsPlaceOf place s t
+    → crosses (cell_of path t) ≡ true → tested crosses count first t ≡ count first
 tested_leaf crosses count place first s path (Leaf len own) at e = rw e refl
 tested_leaf crosses count place first s path (Split d x l r) at e = let f = at.is in cc
 
-pub children_hits : {D : ℕ} (bytes : List ℕ) (head : Head) (has : List ℤ → Bool) (live : LiveSet) (left right : NodeAt D) (first : ℕ) (s : Spot) (path : Region) (t : IndexTree) (k : AreChildren left right first s path t) (old mid new : List ℕ)
-    → Appends old mid (AreHits D bytes head has live first s k.l) → Appends mid new (AreHits D bytes head has live (first + leaf_count k.l) (right_begin s k.l k.r) k.r)
+pub children_hits : {D : ℕ} (bytes : List ℕ) (head : Head) (has : List ℤ → Bool) (live : LiveSet) (left right : NodeAt D) (first : ℕ) (s : Spot) (path : Region)
+    (t : IndexTree) (k : AreChildren left right first s path t) (old mid new : List ℕ)
+    → Appends old mid (AreHits D bytes head has live first s k.l)
+    → Appends mid new (AreHits D bytes head has live (first + leaf_count k.l) (right_begin s k.l k.r) k.r)
     → Appends old new (AreHits D bytes head has live first s t)
 children_hits {D} bytes head has live left right first s path t k old mid new a b =
     subst (λ u. Appends old new (AreHits D bytes head has live first s u)) (sym k.is)
-    (joins_hits (AreHits D bytes head has live first s k.l) (AreHits D bytes head has live (first + leaf_count k.l) (right_begin s k.l k.r) k.r) old mid new a b)
+    (joins_hits (AreHits D bytes head has live first s k.l) (AreHits D bytes head has live (first + leaf_count k.l) (right_begin s k.l k.r) k.r) old mid new a
+    b)
 
 -- what the shape answers on all of a node's cell, it answers on those of both children
-pub children_all : {D : ℕ} (has : List ℤ → Bool) (b : Bool) (left right : NodeAt D) (first : ℕ) (s : Spot) (path : Region) (t : IndexTree) (k : AreChildren left right first s path t) → HasCells D path t → AllAnswer has b (cell_of path t)
+pub children_all : {D : ℕ} (has : List ℤ → Bool) (b : Bool) (left right : NodeAt D) (first : ℕ) (s : Spot) (path : Region) (t : IndexTree)
+    (k : AreChildren left right first s path t) → HasCells D path t → AllAnswer has b (cell_of path t)
     → AllAnswer has b (cell_of (left_of path k.dimension k.value) k.l) × AllAnswer has b (cell_of (right_of path k.dimension k.value) k.r)
 children_all {D} has b left right first s path t k cells all =
     let c : HasCells D path (Split k.dimension k.value k.l k.r) = subst (λ u. HasCells D path u) k.is cells in
@@ -244,7 +276,8 @@ children_all {D} has b left right first s path t k cells all =
 
 -- ---- the whole segment
 
-pub root_of : {D : ℕ} (node : NodeAt D) (index : Body) (root : Region) (t : IndexTree) → HasTree D index root t → IsAt node 0 front root t → IsRoot node 0 front root t
+pub root_of : {D : ℕ} (node : NodeAt D) (index : Body) (root : Region) (t : IndexTree) → HasTree D index root t → IsAt node 0 front root t
+    → IsRoot node 0 front root t
 root_of node index root t h is = record { is = is; cells = h.tree.cells }
 
 pub parts_of : (D : ℕ) (bytes : List ℕ) (head : Head) (items : List Item) → IsSegment D bytes head items → SegmentParts D bytes head items

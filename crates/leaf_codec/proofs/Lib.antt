@@ -7,6 +7,7 @@ pub mod Narrowest
 pub mod Permuted
 pub mod OrderLemmas
 pub mod Pieces
+pub mod SpelledPieces
 pub mod Written
 pub mod NumbersLemmas
 pub mod Lengths
@@ -14,6 +15,7 @@ pub mod Bytes
 pub mod Chunks
 pub mod RawNumbersLemmas
 pub mod ReadNumbers
+pub mod CanonicalNumbers
 pub mod SortedBytes
 pub mod ReadKeys
 pub mod TakeKeys

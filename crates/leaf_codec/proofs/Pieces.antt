@@ -1,18 +1,17 @@
 -- The pieces of bytes, one after another from the front.
-use Rattle.std.proofs.Common.{◌≡◌, ◌≢◌, ℕ, zero, suc, Bool, true, subst, ◌+◌, ◌-◌, ◌*◌, ◌/◌, ◌%◌, ◌<◌, ◌≤◌, false, eqb, List, [], ◌∷◌}
-use Rattle.std.proofs.Common.{◌++◌, length, get_or, take, drop, replicate, refl, sym, ap, ◌∙◌, arith, inl, inr, ◌⊎◌, append-nil, add-one}
-use Rattle.std.specs.Prelude.{◌||◌, not}
+use Rattle.std.proofs.Common.{◌≡◌, ◌≢◌, ℕ, zero, suc, ◌+◌, ◌-◌, ◌*◌, ◌/◌, ◌%◌, ◌<◌, ◌≤◌, false, eqb, List, [], ◌∷◌, ◌++◌, length}
+use Rattle.std.proofs.Common.{get_or, take, drop, replicate, refl, sym, ap, ◌∙◌, arith, inl, inr, ◌⊎◌, append-nil, add-one}
 use Rattle.std.specs.List.{flat_map, All}
-use Rattle.std.proofs.lemmas.Bool.{cases_Bool, cases_eq, cases_lt, eqb-true, eqb-false, eq-eqb, ne_eqb, cond-true, cond-false}
+use Rattle.std.proofs.lemmas.Bool.{cases_Bool, cases_eq, eqb-true, eqb-false, eq-eqb, ne_eqb, cond-true, cond-false}
 use Rattle.std.proofs.lemmas.List.{replicate-append-replicate, same_lists, get_or_default, get_or-take}
 use Rattle.std.proofs.lemmas.List.{get_or-replicate, length-take, length-replicate, take-append-drop}
 use Rattle.std.proofs.lemmas.List.Concat.{flat_map-append}
 use Rattle.std.proofs.lemmas.List.Elements.{All-nil, All-cons, All-head, All-tail, All-append, All-replicate}
-use Rattle.leaf_codec.specs.Words.{AreBytes, pairs_expanded}
+use Rattle.leaf_codec.specs.Words.{pairs_expanded}
 use Rattle.leaf_codec.specs.Spelling.{add_to_runs, runs, pieces_of_run, pieces, piece_bytes}
 
 -- the list doesn't begin with b
-pub BeginsOther : ℕ → List ℕ → Type 0
+unfoldable pub BeginsOther : ℕ → List ℕ → Type 0
 BeginsOther b [] = Unit {0}
 BeginsOther b (y ∷ ys) = y ≢ b
 
@@ -27,7 +26,7 @@ adds_other : (b c n : ℕ) (rs : List (ℕ × ℕ)) → b ≢ c → add_to_runs 
 adds_other b c n rs apart = cond-false (eqb b c) (one_run b (n + 1) rs) ((b, 1) ∷ one_run c n rs) (ne_eqb b c apart)
 
 -- the runs of a list begin with its first byte
-runs_head : (y : ℕ) (ys : List ℕ) → (m : ℕ) × (rs : List (ℕ × ℕ)) × (runs (y ∷ ys) ≡ one_run y (suc m) rs)
+pub runs_head : (y : ℕ) (ys : List ℕ) → (m : ℕ) × (rs : List (ℕ × ℕ)) × (runs (y ∷ ys) ≡ one_run y (suc m) rs)
 runs_head y ys = by (runs ys)
   where
     by : (rs : List (ℕ × ℕ)) → (m : ℕ) × (rest : List (ℕ × ℕ)) × (add_to_runs y rs ≡ one_run y (suc m) rest)
@@ -48,24 +47,24 @@ run_alone b (suc k) ys other =
     ap (add_to_runs b) (run_alone b k ys other) ∙ adds_same b (suc k) (runs ys) ∙ ap (λ n. one_run b n (runs ys)) (omega arith)
 
 -- and before a run of their own they make it longer
-run_joined : (b k m : ℕ) (ys : List ℕ) (rs : List (ℕ × ℕ)) → runs ys ≡ one_run b m rs → runs (replicate k b ++ ys) ≡ one_run b (m + k) rs
+pub run_joined : (b k m : ℕ) (ys : List ℕ) (rs : List (ℕ × ℕ)) → runs ys ≡ one_run b m rs → runs (replicate k b ++ ys) ≡ one_run b (m + k) rs
 run_joined b zero m ys rs is = is ∙ ap (λ n. one_run b n rs) (omega arith)
 run_joined b (suc k) m ys rs is =
     ap (add_to_runs b) (run_joined b k m ys rs is) ∙ adds_same b (m + k) rs ∙ ap (λ n. one_run b n rs) (omega arith)
 
-short_run : (b k : ℕ) → 1 ≤ k → k ≤ 256 → pieces_of_run (b, k) ≡ (b, k) ∷ []
+pub short_run : (b k : ℕ) → 1 ≤ k → k ≤ 256 → pieces_of_run (b, k) ≡ (b, k) ∷ []
 short_run b k some few =
     let none : (k - 1) / 256 ≡ 0 = omega arith in
     let all : (k - 1) % 256 + 1 ≡ k = omega arith in
     (λ i. replicate (none i) (b, 256) ++ (b, all i) ∷ [])
 
-long_run : (b m : ℕ) → pieces_of_run (b, suc m + 256) ≡ (b, 256) ∷ pieces_of_run (b, suc m)
+pub long_run : (b m : ℕ) → pieces_of_run (b, suc m + 256) ≡ (b, 256) ∷ pieces_of_run (b, suc m)
 long_run b m =
     let one_more : (suc m + 256 - 1) / 256 ≡ suc ((suc m - 1) / 256) = omega arith in
     let same : (suc m + 256 - 1) % 256 ≡ (suc m - 1) % 256 = omega arith in
     (λ i. replicate (one_more i) (b, 256) ++ (b, same i + 1) ∷ [])
 
-alone : (b k : ℕ) (ys : List ℕ) → suc k ≤ 256 → BeginsOther b ys → pieces (replicate (suc k) b ++ ys) ≡ (b, suc k) ∷ pieces ys
+pub alone : (b k : ℕ) (ys : List ℕ) → suc k ≤ 256 → BeginsOther b ys → pieces (replicate (suc k) b ++ ys) ≡ (b, suc k) ∷ pieces ys
 unfolding pieces
 alone b k ys few other =
     ap (flat_map pieces_of_run) (run_alone b k ys other)
@@ -82,7 +81,7 @@ joined b k y ys whole same =
     ∙ ap (λ n. (b, n) ∷ (pieces_of_run (b, suc h.0) ++ flat_map pieces_of_run h.1)) (sym whole)
     ∙ ap (λ rs. (b, suc k) ∷ flat_map pieces_of_run rs) (sym starts)
 
-begins_nil : (b : ℕ) → BeginsOther b []
+pub begins_nil : (b : ℕ) → BeginsOther b []
 unfolding BeginsOther
 begins_nil b = tt
 
@@ -149,7 +148,7 @@ run_expanded b n some =
     ∙ (λ i. expanded-same k b i ++ append-nil (replicate l b) i)
     ∙ replicate-joined (k * 256) l b ∙ ap (λ m. replicate m b) whole
 
-more : (b n : ℕ) (rs : List (ℕ × ℕ)) → replicate (n + 1) b ++ expanded rs ≡ b ∷ (replicate n b ++ expanded rs)
+pub more : (b n : ℕ) (rs : List (ℕ × ℕ)) → replicate (n + 1) b ++ expanded rs ≡ b ∷ (replicate n b ++ expanded rs)
 more b n rs = rw add-one refl
 
 -- runs of bytes: each has some, and together they are the bytes
@@ -209,122 +208,3 @@ spelled_expanded (p ∷ ps) h =
 -- the bytes from the spelling of their pieces
 pub pairs_of_pieces : (bs : List ℕ) → pairs_expanded (flat_map piece_bytes (pieces bs)) ≡ bs
 pairs_of_pieces bs = spelled_expanded (pieces bs) (pieces_some bs) ∙ pieces_expanded bs
-
--- ---- pieces as they are spelled
-
--- these are the pieces of the bytes that they say
-abbrev pub IsCut : List ℕ → Type 0
-IsCut spelled = flat_map piece_bytes (pieces (pairs_expanded spelled)) ≡ spelled
-
--- the bytes that pieces say begin with the first piece's byte
-pairs_begin : (c m : ℕ) (spelled : List ℕ) → pairs_expanded (c ∷ m ∷ spelled) ≡ c ∷ (replicate m c ++ pairs_expanded spelled)
-pairs_begin c m spelled = rw add-one refl
-
-piece_again : (b l : ℕ) (ys : List ℕ) → pieces (replicate (l + 1) b ++ ys) ≡ (b, l + 1) ∷ pieces ys
-    → flat_map piece_bytes (pieces (replicate (l + 1) b ++ ys)) ≡ b ∷ l ∷ flat_map piece_bytes (pieces ys)
-piece_again b l ys is =
-    let back : l + 1 - 1 ≡ l = omega arith in
-    ap (flat_map piece_bytes) is ∙ ap (λ n. b ∷ n ∷ flat_map piece_bytes (pieces ys)) back
-
--- no pieces, and one alone
-cut_none : IsCut []
-cut_none = ap (flat_map piece_bytes) pieces_nil
-
-cut_one : (b l : ℕ) → l < 256 → IsCut (b ∷ l ∷ [])
-cut_one b l few =
-    piece_again b l [] (pieces_front b (l + 1) [] (omega arith) (omega arith) (inr (begins_nil b)))
-    ∙ ap (λ (t : List ℕ). b ∷ l ∷ t) cut_none
-
--- less than two pieces are cut right
-pub cut_short : (spelled : List ℕ) → length spelled < 4 → length spelled % 2 ≡ 0 → AreBytes spelled → IsCut spelled
-cut_short [] few even bytes = cut_none
-cut_short (b ∷ []) few even bytes = absurd (omega (arith, even))
-cut_short (b ∷ l ∷ []) few even bytes = cut_one b l (All-head (λ (x : ℕ). x < 256) l [] (All-tail (λ (x : ℕ). x < 256) b (l ∷ []) bytes))
-cut_short (b ∷ l ∷ c ∷ []) few even bytes = absurd (omega (arith, even))
-cut_short (b ∷ l ∷ c ∷ m ∷ rest) few even bytes = absurd (omega arith)
-
--- a piece stands by itself where it is of 256 bytes or another byte follows
-stands : (b l c m : ℕ) (spelled : List ℕ) → l < 256 → (l ≡ 255) ⊎ (b ≢ c)
-    → pieces (pairs_expanded (b ∷ l ∷ c ∷ m ∷ spelled)) ≡ (b, l + 1) ∷ pieces (pairs_expanded (c ∷ m ∷ spelled))
-unfolding BeginsOther
-stands b l c m spelled few alone =
-    pieces_front b (l + 1) (pairs_expanded (c ∷ m ∷ spelled)) (omega arith) (omega arith) (elim alone [
-      | inl whole ↦ inl (omega (arith, whole))
-      | inr other ↦ inr (subst (BeginsOther b) (sym (pairs_begin c m spelled)) (begins c (λ e. other (sym e)) (replicate m c ++ pairs_expanded spelled)))
-    ])
-  where
-    begins : (y : ℕ) → y ≢ b → (ys : List ℕ) → BeginsOther b (y ∷ ys)
-    begins y apart ys = apart
-
--- and goes on where it isn't and the same byte follows
-first_again : (b n : ℕ) (ps : List (ℕ × ℕ)) (l : ℕ) (tail : List ℕ) → l + 2 ≤ n → l < 255 → flat_map piece_bytes (pieces_of_run (b, n) ++ ps) ≡ b ∷ l ∷ tail → ⊥
-first_again b n ps l tail more few is = elim (cases_lt 256 n) [
-  | inl long ↦
-      let m : ℕ = n - 257 in
-      let is_long : n ≡ suc m + 256 = omega arith in
-      let cut : pieces_of_run (b, n) ≡ (b, 256) ∷ pieces_of_run (b, suc m) = ap (λ k. pieces_of_run (b, k)) is_long ∙ long_run b m in
-      let two : b ∷ 255 ∷ flat_map piece_bytes (pieces_of_run (b, suc m) ++ ps) ≡ b ∷ l ∷ tail =
-      sym (ap (λ (t : List (ℕ × ℕ)). flat_map piece_bytes (t ++ ps)) cut) ∙ is in
-      let same : 255 ≡ l = second b 255 _ b l tail two in
-      absurd (omega (arith, same))
-  | inr short ↦
-      let cut : pieces_of_run (b, n) ≡ (b, n) ∷ [] = short_run b n (omega arith) short in
-      let two : b ∷ (n - 1) ∷ flat_map piece_bytes ps ≡ b ∷ l ∷ tail = sym (ap (λ (t : List (ℕ × ℕ)). flat_map piece_bytes (t ++ ps)) cut) ∙ is in
-      let same : n - 1 ≡ l = second b (n - 1) _ b l tail two in
-      absurd (omega (arith, same))
-]
-  where
-    second : (a x : ℕ) (xs : List ℕ) (b y : ℕ) (ys : List ℕ) → a ∷ x ∷ xs ≡ b ∷ y ∷ ys → x ≡ y
-    second a x xs b y ys e = cc
-
-goes_on : (b l c m : ℕ) (spelled : List ℕ) → l < 255 → b ≡ c → IsCut (b ∷ l ∷ c ∷ m ∷ spelled) → ⊥
-unfolding pieces
-goes_on b l c m spelled few same is =
-    let ys : List ℕ = replicate m c ++ pairs_expanded spelled in
-    let h = runs_head c ys in
-    let starts : runs (pairs_expanded (c ∷ m ∷ spelled)) ≡ one_run b (suc h.0) h.1 =
-    ap runs (pairs_begin c m spelled) ∙ h.2 ∙ ap (λ x. one_run x (suc h.0) h.1) (sym same) in
-    let all : runs (pairs_expanded (b ∷ l ∷ c ∷ m ∷ spelled)) ≡ one_run b (suc h.0 + (l + 1)) h.1 =
-    run_joined b (l + 1) (suc h.0) (pairs_expanded (c ∷ m ∷ spelled)) h.1 starts in
-    first_again b (suc h.0 + (l + 1)) (flat_map pieces_of_run h.1) l (c ∷ m ∷ spelled) (omega arith) few
-    (sym (ap (λ (rs : List (ℕ × ℕ)). flat_map piece_bytes (flat_map pieces_of_run rs)) all) ∙ is)
-
--- the first piece is cut right exactly where the two bytes say so, and then all are exactly where the others are
-pub record CutStep (spelled : List ℕ) (right : Bool) : Type 0 where
-  pub onward : right ≡ true → IsCut spelled → IsCut (drop 2 spelled)
-  pub back : right ≡ true → IsCut (drop 2 spelled) → IsCut spelled
-  pub wrong : right ≡ false → IsCut spelled → ⊥
-
-pub cut_step : (spelled : List ℕ) (right : Bool) → 4 ≤ length spelled → get_or spelled 1 0 < 256
-    → (eqb (get_or spelled 1 0) 255 || not (eqb (get_or spelled 0 0) (get_or spelled 2 0))) ≡ right → CutStep spelled right
-cut_step [] right long few is = absurd (omega arith)
-cut_step (b ∷ []) right long few is = absurd (omega arith)
-cut_step (b ∷ l ∷ []) right long few is = absurd (omega arith)
-cut_step (b ∷ l ∷ c ∷ []) right long few is = absurd (omega arith)
-cut_step (b ∷ l ∷ c ∷ m ∷ spelled) right long few is = record {
-  onward = λ right_is h. tail2 b l b l _ _ (sym (piece_again b l (pairs_expanded (c ∷ m ∷ spelled)) (stands b l c m spelled few (apart (is ∙ right_is)))) ∙ h);
-  back = λ right_is h.
-      piece_again b l (pairs_expanded (c ∷ m ∷ spelled)) (stands b l c m spelled few (apart (is ∙ right_is))) ∙ ap (λ (t : List ℕ). b ∷ l ∷ t) h;
-  wrong = λ right_is. (let w = both (is ∙ right_is) in goes_on b l c m spelled w.0 w.1);
-}
-  where
-    tail2 : (a x b y : ℕ) (xs ys : List ℕ) → a ∷ x ∷ xs ≡ b ∷ y ∷ ys → xs ≡ ys
-    tail2 a x b y xs ys e = cc
-
-    apart : (eqb l 255 || not (eqb b c)) ≡ true → (l ≡ 255) ⊎ (b ≢ c)
-    apart is_right = elim (cases_Bool (eqb l 255)) [
-      | inl whole ↦ inl (eqb-true l 255 whole)
-      | inr part ↦ elim (cases_Bool (eqb b c)) [
-        | inl same ↦ absurd (let no : false ≡ true = sym (λ j. part j || not (same j)) ∙ is_right in cc)
-        | inr other ↦ inr (eqb-false b c other)
-      ]
-    ]
-
-    both : (eqb l 255 || not (eqb b c)) ≡ false → (l < 255) × (b ≡ c)
-    both is_wrong = elim (cases_Bool (eqb l 255)) [
-      | inl whole ↦ absurd (let yes : true ≡ false = sym (λ j. whole j || not (eqb b c)) ∙ is_wrong in cc)
-      | inr part ↦ elim (cases_Bool (eqb b c)) [
-        | inl same ↦ (let less : l ≢ 255 = eqb-false l 255 part in omega arith, eqb-true b c same)
-        | inr other ↦ absurd (let yes : true ≡ false = sym (λ j. part j || not (other j)) ∙ is_wrong in cc)
-      ]
-    ]

@@ -3,7 +3,7 @@ use Rattle.std.proofs.Common.{◌≡◌, ◌<◌, ◌≤◌, ◌+◌, ◌-◌, �
 use Rattle.std.proofs.Common.{ltb, inl, inr, length-append, take_all, length-drop, take_at, drop_at, take-append-drop, append_assoc}
 use Rattle.std.proofs.lemmas.List.Elements.{All-take, All-drop}
 use Rattle.leaf_codec.specs.Words.{AreBytes}
-use Rattle.leaf_codec.proofs.ReadNumbers.{has_words}
+use Rattle.leaf_codec.proofs.CanonicalNumbers.{has_words}
 use Rattle.std.proofs.lemmas.Bool.{cases_lt, lt-ltb, le-ltb, cond-true, cond-false}
 use Rattle.leaf_codec.specs.Spelling.{sorted_bytes}
 use Rattle.leaf_codec.specs.Raw.{RawKeys, AreRawKeys, MaySort, start_of, sorted_raw, keys_bytes}

@@ -1,5 +1,6 @@
 -- Readings that go on, element by element.
-use Rattle.std.proofs.Common.{◌≡◌, ℕ, ◌+◌, ◌*◌, ◌≤◌, All, sum_by, Bool, true, false, List, [], ◌∷◌, ◌++◌, length, ℤ, Result, Ok, Err, refl, sym, ap, ◌∙◌, arith, nat_lt, append_assoc}
+use Rattle.std.proofs.Common.{◌≡◌, ℕ, ◌+◌, ◌*◌, ◌≤◌, All, sum_by, Bool, true, false, List, [], ◌∷◌, ◌++◌}
+use Rattle.std.proofs.Common.{length, ℤ, Result, Ok, Err, refl, sym, ap, ◌∙◌, arith, nat_lt, append_assoc}
 use Rattle.std.specs.Prelude.{if◌then◌else◌}
 use Rattle.std.specs.Option.{ok_or}
 use Rattle.std.specs.Cmp.Rules.{signed_items}
@@ -17,7 +18,8 @@ use Rattle.polygon_query.specs.GeoJson.{and_then, elements, position, positions,
 abbrev pub after : {A : Type 0} → List A → Result (List A) GeoFault → Result (List A) GeoFault
 after done rest = and_then (λ xs. Ok (done ++ xs)) rest
 
-after_more : {A : Type 0} (done : List A) (x : A) (rest : Result (List A) GeoFault) → after done (and_then (λ xs. Ok (x ∷ xs)) rest) ≡ after (done ++ x ∷ []) rest
+after_more : {A : Type 0} (done : List A) (x : A) (rest : Result (List A) GeoFault)
+    → after done (and_then (λ xs. Ok (x ∷ xs)) rest) ≡ after (done ++ x ∷ []) rest
 after_more done x (Ok xs) = ap Ok (sym (append_assoc done (x ∷ []) xs))
 after_more done x (Err e) = refl
 
@@ -35,7 +37,8 @@ positions_length ring number (d ∷ ds) ps h =
     let same : length rest.0 ≡ length ds = positions_length ring (number + 1) ds rest.0 rest.1 in
     ap length (sym e) ∙ omega arith
 
-chosen : (short closed : Bool) (ring : ℕ) (ps r : List (List ℤ)) → (if short then Err (TooFew ring) else (if closed then Ok ps else Err (NotClosed ring))) ≡ Ok r
+chosen : (short closed : Bool) (ring : ℕ) (ps r : List (List ℤ))
+    → (if short then Err (TooFew ring) else (if closed then Ok ps else Err (NotClosed ring))) ≡ Ok r
     → (short ≡ false) × (closed ≡ true) × (ps ≡ r)
 chosen true closed ring ps r h = cc
 chosen false true ring ps r h = (refl, refl, cc)

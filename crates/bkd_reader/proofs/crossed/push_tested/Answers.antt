@@ -22,7 +22,10 @@ loop-i-preserved-then-not-is_live g c =
     let doc = read_item (λ x. c.doc-doc.result ≡ x.doc) c.args.leaf.now c.loop-i.i within c.doc-doc.ensures in
     let was = c.loop-i.invariant in
     record {
-      hits = was.hits ∙ ap (λ z. c.args.hits.now.items ++ z) (sym (dead_more (g.S.Shape.has c.args.shape.now) c.args.live.now c.args.leaf.now c.loop-i.i c.doc-doc.result within doc (sym c.is_live.ensures ∙ c.if-not-is_live.true)));
+      hits = was.hits
+          ∙ ap (λ z. c.args.hits.now.items ++ z)
+          (sym (dead_more (g.S.Shape.has c.args.shape.now) c.args.live.now c.args.leaf.now c.loop-i.i c.doc-doc.result within doc
+          (sym c.is_live.ensures ∙ c.if-not-is_live.true)));
       within = omega (arith, within);
       tests = let few = was.tests in omega (arith, few);
       compares = was.compares;
@@ -35,9 +38,11 @@ loop-i-preserved-then-not-contains g c =
     let within : c.loop-i.i < length c.args.leaf.now = omega (arith, c.loop-i-test.true, c.within_reach-from.ensures.within) in
     let point = read_item (λ x. c.point.result.c ≡ x.at) c.args.leaf.now c.loop-i.i within c.point.ensures in
     let was = c.loop-i.invariant in
-    let out = ap (g.S.Shape.has c.args.shape.now) (sym point) ∙ sym (ap (λ f. f c.point.result.c) was.has) ∙ sym c.contains.ensures.answer ∙ c.if-not-contains.true in
+    let out =
+    ap (g.S.Shape.has c.args.shape.now) (sym point) ∙ sym (ap (λ f. f c.point.result.c) was.has) ∙ sym c.contains.ensures.answer ∙ c.if-not-contains.true in
     record {
-      hits = was.hits ∙ ap (λ z. c.args.hits.now.items ++ z) (sym (outside_more (g.S.Shape.has c.args.shape.now) c.args.live.now c.args.leaf.now c.loop-i.i within out));
+      hits = was.hits
+          ∙ ap (λ z. c.args.hits.now.items ++ z) (sym (outside_more (g.S.Shape.has c.args.shape.now) c.args.live.now c.args.leaf.now c.loop-i.i within out));
       within = omega (arith, within);
       tests = let few = was.tests in let one = c.contains.ensures.tests in omega (arith, few, one);
       compares = c.contains.ensures.compares ∙ was.compares;
@@ -51,11 +56,15 @@ loop-i-preserved g c =
     let doc = read_item (λ x. c.doc-doc.result ≡ x.doc) c.args.leaf.now c.loop-i.i within c.doc-doc.ensures in
     let point = read_item (λ x. c.point.result.c ≡ x.at) c.args.leaf.now c.loop-i.i within c.point.ensures in
     let was = c.loop-i.invariant in
-    let got = ap (g.S.Shape.has c.args.shape.now) (sym point) ∙ sym (ap (λ f. f c.point.result.c) was.has) ∙ sym c.contains.ensures.answer ∙ c.if-not-contains.false in
+    let got = ap (g.S.Shape.has c.args.shape.now) (sym point) ∙ sym (ap (λ f. f c.point.result.c) was.has) ∙ sym c.contains.ensures.answer
+    ∙ c.if-not-contains.false in
     record {
       hits = c.in_ok-push.ensures.items ∙ ap (λ z. z ++ c.doc-doc.result ∷ []) was.hits
-          ∙ append_assoc c.args.hits.now.items (hits_in (g.S.Shape.has c.args.shape.now) c.args.live.now (take c.loop-i.i c.args.leaf.now)) (c.doc-doc.result ∷ [])
-          ∙ ap (λ z. c.args.hits.now.items ++ z) (sym (hit_more (g.S.Shape.has c.args.shape.now) c.args.live.now c.args.leaf.now c.loop-i.i c.doc-doc.result within doc (sym c.is_live.ensures ∙ c.if-not-is_live.false) got));
+          ∙ append_assoc c.args.hits.now.items (hits_in (g.S.Shape.has c.args.shape.now) c.args.live.now (take c.loop-i.i c.args.leaf.now))
+          (c.doc-doc.result ∷ [])
+          ∙ ap (λ z. c.args.hits.now.items ++ z)
+          (sym (hit_more (g.S.Shape.has c.args.shape.now) c.args.live.now c.args.leaf.now c.loop-i.i c.doc-doc.result within doc
+          (sym c.is_live.ensures ∙ c.if-not-is_live.false) got));
       within = omega (arith, within);
       tests = let few = was.tests in let one = c.contains.ensures.tests in omega (arith, few, one);
       compares = c.contains.ensures.compares ∙ was.compares;

@@ -8,37 +8,44 @@ use Rattle.bkd_reader.proofs.crossed.test_leaf.Goals as goal
 
 pub returns-in_err-place-clause-shown : goal.returns-in_err-place-clause-shown
 returns-in_err-place-clause-shown g c = λ first s path t is.
-    handed_on c.from_residual.result c.in_err-place.field-0.0 (IsLeafDamage g.row.D c.args.head.now first s t) c.from_residual.ensures.1 (c.in_err-place.ensures.shown first s path t is)
+    handed_on c.from_residual.result c.in_err-place.field-0.0 (IsLeafDamage g.row.D c.args.head.now first s t) c.from_residual.ensures.1
+    (c.in_err-place.ensures.shown first s path t is)
 
 pub returns-in_err-place-clause-whole : goal.returns-in_err-place-clause-whole
 returns-in_err-place-clause-whole g c = λ told agrees first s path t items is holds.
-    handed_on c.from_residual.result c.in_err-place.field-0.0 (λ _. ⊥) c.from_residual.ensures.1 (c.in_err-place.ensures.whole told first s path t is (first_page _ _ _ first s t items holds))
+    handed_on c.from_residual.result c.in_err-place.field-0.0 (λ _. ⊥) c.from_residual.ensures.1
+    (c.in_err-place.ensures.whole told first s path t is (first_page _ _ _ first s t items holds))
 
 pub returns-in_default-clause-shown : goal.returns-in_default-clause-shown
 returns-in_default-clause-shown g c = λ first s path t is. c.bad_leaf.ensures.shown first s path t is (c.in_ok-place.ensures.place first s path t is)
 
 pub returns-in_default-clause-whole : goal.returns-in_default-clause-whole
 returns-in_default-clause-whole g c = λ told agrees first s path t items is holds.
-    absurd (never_bad (bytes_of (g.F.Pages.files c.args.folder.now (Segment c.args.head.now.id))) c.args.head.now c.args.node.now c.in_ok-place.place first s path t items is (c.in_ok-place.ensures.place first s path t is) holds
-    (λ len own at place here. c.in_default.ensures.none (g.F.Pages.files c.args.folder.now) first s path len own (c.in_ok-place.ensures.agrees told agrees) at place items here))
+    absurd (never_bad (bytes_of (g.F.Pages.files c.args.folder.now (Segment c.args.head.now.id))) c.args.head.now c.args.node.now c.in_ok-place.place first s
+    path t items is (c.in_ok-place.ensures.place first s path t is) holds
+    (λ len own at place here.
+    c.in_default.ensures.none (g.F.Pages.files c.args.folder.now) first s path len own (c.in_ok-place.ensures.agrees told agrees) at place items here))
 
 pub returns-in_err-push_tested-clause-tests : goal.returns-in_err-push_tested-clause-tests
 returns-in_err-push_tested-clause-tests g c = λ first s path t is crossed.
-    let all = tested_leaf (g.S.Shape.crosses c.args.shape.now) (count_of c.args.head.now) c.in_ok-place.place first s path t (c.in_ok-place.ensures.place first s path t is) crossed in
+    let all = tested_leaf (g.S.Shape.crosses c.args.shape.now) (count_of c.args.head.now) c.in_ok-place.place first s path t
+    (c.in_ok-place.ensures.place first s path t is) crossed in
     let long = c.in-Some.ensures.count first s path t is in
     let few = c.push_tested.ensures.tests in
     omega (arith, all, long, few)
 
 pub returns-clause-tests : goal.returns-clause-tests
 returns-clause-tests g c = λ first s path t is crossed.
-    let all = tested_leaf (g.S.Shape.crosses c.args.shape.now) (count_of c.args.head.now) c.in_ok-place.place first s path t (c.in_ok-place.ensures.place first s path t is) crossed in
+    let all = tested_leaf (g.S.Shape.crosses c.args.shape.now) (count_of c.args.head.now) c.in_ok-place.place first s path t
+    (c.in_ok-place.ensures.place first s path t is) crossed in
     let long = c.in-Some.ensures.count first s path t is in
     let few = c.push_tested.ensures.tests in
     omega (arith, all, long, few)
 
 pub returns-clause-hits : goal.returns-clause-hits
 returns-clause-hits g c = λ told agrees first s path t is.
-    tested_hits (bytes_of (g.F.Pages.files c.args.folder.now (Segment c.args.head.now.id))) c.args.head.now (g.S.Shape.has c.args.shape.now) c.args.live.now c.args.node.now c.in_ok-place.place first s path t c.in-Some.leaf c.args.hits.now.items c.push_tested.new.hits.items
+    tested_hits (bytes_of (g.F.Pages.files c.args.folder.now (Segment c.args.head.now.id))) c.args.head.now (g.S.Shape.has c.args.shape.now) c.args.live.now
+    c.args.node.now c.in_ok-place.place first s path t c.in-Some.leaf c.args.hits.now.items c.push_tested.new.hits.items
     is (c.in_ok-place.ensures.place first s path t is)
     (λ len own at place. c.in-Some.ensures.some (g.F.Pages.files c.args.folder.now) first s path len own (c.in_ok-place.ensures.agrees told agrees) at place)
     c.in_ok-push_tested.ensures.hits

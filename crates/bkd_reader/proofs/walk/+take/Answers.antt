@@ -15,12 +15,14 @@ pub returns-in_err-take-in-Some-clause-shown : goal.returns-in_err-take-in-Some-
 returns-in_err-take-in-Some-clause-shown g t c = λ first s path t' is.
     let k = c.in-Some.ensures.some first s path t' is in
     handed_on c.from_residual.result c.in_err-take-in-Some.field-0.0 (IsLeafDamage g.row.D c.args.head.now first s t') c.from_residual.ensures.1
-    (left_damage {T = Unit {0}} (Err c.in_err-take-in-Some.field-0.0) c.args.head.now c.in-Some.left c.in-Some.right first s path t' k (c.in_err-take-in-Some.ensures.shown first s _ k.l k.left_is))
+    (left_damage {T = Unit {0}} (Err c.in_err-take-in-Some.field-0.0) c.args.head.now c.in-Some.left c.in-Some.right first s path t' k
+    (c.in_err-take-in-Some.ensures.shown first s _ k.l k.left_is))
 
 pub returns-in_err-take-in-Some-clause-whole : goal.returns-in_err-take-in-Some-clause-whole
 returns-in_err-take-in-Some-clause-whole g t c = λ told agrees first s path t' items is holds.
     let k = c.in-Some.ensures.some first s path t' is in
-    let j = held (bytes_of (g.F.Pages.files c.args.folder.now (Segment c.args.head.now.id))) c.args.head.now c.in-Some.left c.in-Some.right first s path t' k items holds in
+    let j = held (bytes_of (g.F.Pages.files c.args.folder.now (Segment c.args.head.now.id))) c.args.head.now c.in-Some.left c.in-Some.right first s path t' k
+    items holds in
     handed_on c.from_residual.result c.in_err-take-in-Some.field-0.0 (λ _. ⊥) c.from_residual.ensures.1
     (c.in_err-take-in-Some.ensures.whole told agrees first s _ k.l j.front_items k.left_is j.front_holds)
 
@@ -30,27 +32,39 @@ returns-in_ok-take-in-Some-clause-hits g t c = λ told agrees first s path t' ro
     let alls = children_all has true c.in-Some.left c.in-Some.right first s path t' k root.cells all in
     let same = c.take.ensures.files told in
     let agree = subst (λ f. Agrees f c.take.new.cache) (sym same) (c.take.ensures.agrees told agrees) in
-    let front = c.in_ok-take-in-Some.ensures.hits told agrees first s _ k.l (left_root c.in-Some.left c.in-Some.right first s path t' k root.cells) has alls.0 in
-    let back = c.take-in-Some.ensures.hits told agree (first + leaf_count k.l) (right_begin s k.l k.r) _ k.r (right_root c.in-Some.left c.in-Some.right first s path t' k root.cells) has alls.1 in
-    on_ok (Appends c.take.new.hits.items c.take-in-Some.new.hits.items (AreHits g.row.D (bytes_of (g.F.Pages.files c.args.folder.now (Segment c.args.head.now.id))) c.args.head.now has c.args.live.now (first + leaf_count k.l) (right_begin s k.l k.r) k.r))
-    (Appends c.args.hits.now.items c.take-in-Some.new.hits.items (AreHits g.row.D (bytes_of (g.F.Pages.files c.args.folder.now (Segment c.args.head.now.id))) c.args.head.now has c.args.live.now first s t'))
+    let front =
+    c.in_ok-take-in-Some.ensures.hits told agrees first s _ k.l (left_root c.in-Some.left c.in-Some.right first s path t' k root.cells) has alls.0 in
+    let back = c.take-in-Some.ensures.hits told agree (first + leaf_count k.l) (right_begin s k.l k.r) _ k.r
+    (right_root c.in-Some.left c.in-Some.right first s path t' k root.cells) has alls.1 in
+    on_ok (Appends c.take.new.hits.items c.take-in-Some.new.hits.items
+    (AreHits g.row.D (bytes_of (g.F.Pages.files c.args.folder.now (Segment c.args.head.now.id))) c.args.head.now has c.args.live.now (first + leaf_count k.l)
+    (right_begin s k.l k.r) k.r))
+    (Appends c.args.hits.now.items c.take-in-Some.new.hits.items
+    (AreHits g.row.D (bytes_of (g.F.Pages.files c.args.folder.now (Segment c.args.head.now.id))) c.args.head.now has c.args.live.now first s t'))
     c.take-in-Some.result
-    (λ b. children_hits (bytes_of (g.F.Pages.files c.args.folder.now (Segment c.args.head.now.id))) c.args.head.now has c.args.live.now c.in-Some.left c.in-Some.right first s path t' k c.args.hits.now.items c.take.new.hits.items c.take-in-Some.new.hits.items front b)
-    (subst (λ f. OnOk c.take-in-Some.result (Appends c.take.new.hits.items c.take-in-Some.new.hits.items (AreHits g.row.D (bytes_of (f (Segment c.args.head.now.id))) c.args.head.now has c.args.live.now (first + leaf_count k.l) (right_begin s k.l k.r) k.r))) same back)
+    (λ b. children_hits (bytes_of (g.F.Pages.files c.args.folder.now (Segment c.args.head.now.id))) c.args.head.now has c.args.live.now c.in-Some.left
+    c.in-Some.right first s path t' k c.args.hits.now.items c.take.new.hits.items c.take-in-Some.new.hits.items front b)
+    (subst (λ f. OnOk c.take-in-Some.result
+    (Appends c.take.new.hits.items c.take-in-Some.new.hits.items
+    (AreHits g.row.D (bytes_of (f (Segment c.args.head.now.id))) c.args.head.now has c.args.live.now (first + leaf_count k.l) (right_begin s k.l k.r) k.r)))
+    same back)
 
 pub returns-in_ok-take-in-Some-clause-shown : goal.returns-in_ok-take-in-Some-clause-shown
 returns-in_ok-take-in-Some-clause-shown g t c = λ first s path t' is.
     let k = c.in-Some.ensures.some first s path t' is in
-    right_damage c.take-in-Some.result c.args.head.now c.in-Some.left c.in-Some.right first s path t' k (c.take-in-Some.ensures.shown (first + leaf_count k.l) (right_begin s k.l k.r) _ k.r k.right_is)
+    right_damage c.take-in-Some.result c.args.head.now c.in-Some.left c.in-Some.right first s path t' k
+    (c.take-in-Some.ensures.shown (first + leaf_count k.l) (right_begin s k.l k.r) _ k.r k.right_is)
 
 pub returns-in_ok-take-in-Some-clause-whole : goal.returns-in_ok-take-in-Some-clause-whole
 returns-in_ok-take-in-Some-clause-whole g t c = λ told agrees first s path t' items is holds.
     let k = c.in-Some.ensures.some first s path t' is in
     let same = c.take.ensures.files told in
     let agree = subst (λ f. Agrees f c.take.new.cache) (sym same) (c.take.ensures.agrees told agrees) in
-    let j = held (bytes_of (g.F.Pages.files c.args.folder.now (Segment c.args.head.now.id))) c.args.head.now c.in-Some.left c.in-Some.right first s path t' k items holds in
+    let j = held (bytes_of (g.F.Pages.files c.args.folder.now (Segment c.args.head.now.id))) c.args.head.now c.in-Some.left c.in-Some.right first s path t' k
+    items holds in
     c.take-in-Some.ensures.whole told agree (first + leaf_count k.l) (right_begin s k.l k.r) _ k.r j.back_items k.right_is
-    (subst (λ f. HoldsTree g.row.D (bytes_of (f (Segment c.args.head.now.id))) c.args.head.now (first + leaf_count k.l) (right_begin s k.l k.r) k.r j.back_items) (sym same) j.back_holds)
+    (subst (λ f. HoldsTree g.row.D (bytes_of (f (Segment c.args.head.now.id))) c.args.head.now (first + leaf_count k.l) (right_begin s k.l k.r) k.r
+    j.back_items) (sym same) j.back_holds)
 
 pub returns-in-None-clause-hits : goal.returns-in-None-clause-hits
 returns-in-None-clause-hits g t c = λ told agrees first s path t' root has all. c.take_leaf.ensures.hits told agrees first s path t' root.is has all

@@ -13,7 +13,8 @@ use Rattle.bkd_reader.specs.Counts.{tested, touched}
 use Rattle.bkd_reader.specs.Hits.{AreHits, Appends}
 use Rattle.bkd_reader.proofs.HitLemmas.{begins_on}
 use Rattle.bkd_reader.proofs.Cells.{touched_all, crossed_touched}
-use Rattle.bkd_reader.proofs.Trees.{handed_on, on_ok, some_leaf, count_at, only_leaf, none_below, left_damage, right_damage, held, left_root, right_root, children_hits}
+use Rattle.bkd_reader.proofs.Trees.{handed_on, on_ok, some_leaf, count_at, only_leaf, none_below}
+use Rattle.bkd_reader.proofs.Trees.{left_damage, right_damage, held, left_root, right_root, children_hits}
 use Rattle.bkd_reader.proofs.walk.+visit.Goals as goal
 
 -- ---- the cell is not crossed
@@ -21,7 +22,11 @@ use Rattle.bkd_reader.proofs.walk.+visit.Goals as goal
 pub returns-in-Outside-clause-hits : goal.returns-in-Outside-clause-hits
 returns-in-Outside-clause-hits g t c = λ told agrees first s path t' root.
     let all = subst (AllAnswer (g.S.Shape.has c.args.shape.now) false) (c.cell.ensures first s path t' root.is) c.in-Outside.ensures.answer.all in
-    record { out = []; grew = sym (append-nil c.args.hits.now.items); holds = none_below g.row.D _ c.args.head.now (g.S.Shape.has c.args.shape.now) c.args.live.now first s path t' root.cells all }
+    record {
+      out = [];
+      grew = sym (append-nil c.args.hits.now.items);
+      holds = none_below g.row.D _ c.args.head.now (g.S.Shape.has c.args.shape.now) c.args.live.now first s path t' root.cells all;
+    }
 
 pub returns-in-Outside-clause-compares : goal.returns-in-Outside-clause-compares
 returns-in-Outside-clause-compares g t c = λ first s path t' is.
@@ -53,7 +58,8 @@ returns-in-Inside-clause-reads g t c = λ first s path t' root.
 pub returns-in_err-visit-in-Some-clause-tests : goal.returns-in_err-visit-in-Some-clause-tests
 returns-in_err-visit-in-Some-clause-tests g t c = λ first s path t' root.
     let k = c.in-Some.ensures.some first s path t' root.is in
-    let left = subst (λ f. g.S.Shape.tests c.visit.new.shape ≤ g.S.Shape.tests c.compare.new.self + tested f (count_of c.args.head.now) first k.l) c.compare.ensures.crosses
+    let left = subst (λ f. g.S.Shape.tests c.visit.new.shape ≤ g.S.Shape.tests c.compare.new.self + tested f (count_of c.args.head.now) first k.l)
+    c.compare.ensures.crosses
     (c.in_err-visit-in-Some.ensures.tests first s _ k.l (left_root c.in-Some.left c.in-Some.right first s path t' k root.cells)) in
     let both = ap (tested (g.S.Shape.crosses c.args.shape.now) (count_of c.args.head.now) first) k.is in
     let same = c.compare.ensures.tests in
@@ -72,8 +78,10 @@ pub returns-in_err-visit-in-Some-clause-reads : goal.returns-in_err-visit-in-Som
 returns-in_err-visit-in-Some-clause-reads g t c = λ first s path t' root.
     let k = c.in-Some.ensures.some first s path t' root.is in
     let given = c.in_err-visit-in-Some.ensures.reads first s _ k.l (left_root c.in-Some.left c.in-Some.right first s path t' k root.cells) in
-    let has = subst (λ f. g.F.Pages.reads c.visit.new.folder ≤ g.F.Pages.reads c.args.folder.now + touched f (g.S.Shape.crosses c.compare.new.self) k.l) c.compare.ensures.has given in
-    let left = subst (λ f. g.F.Pages.reads c.visit.new.folder ≤ g.F.Pages.reads c.args.folder.now + touched (g.S.Shape.has c.args.shape.now) f k.l) c.compare.ensures.crosses has in
+    let has = subst (λ f. g.F.Pages.reads c.visit.new.folder ≤ g.F.Pages.reads c.args.folder.now + touched f (g.S.Shape.crosses c.compare.new.self) k.l)
+    c.compare.ensures.has given in
+    let left = subst (λ f. g.F.Pages.reads c.visit.new.folder ≤ g.F.Pages.reads c.args.folder.now + touched (g.S.Shape.has c.args.shape.now) f k.l)
+    c.compare.ensures.crosses has in
     let both = ap (touched (g.S.Shape.has c.args.shape.now) (g.S.Shape.crosses c.args.shape.now)) k.is in
     omega (arith, left, both)
 
@@ -81,43 +89,66 @@ pub returns-in_err-visit-in-Some-clause-shown : goal.returns-in_err-visit-in-Som
 returns-in_err-visit-in-Some-clause-shown g t c = λ first s path t' is.
     let k = c.in-Some.ensures.some first s path t' is in
     handed_on c.from_residual.result c.in_err-visit-in-Some.field-0.0 (IsLeafDamage g.row.D c.args.head.now first s t') c.from_residual.ensures.1
-    (left_damage {T = Unit {0}} (Err c.in_err-visit-in-Some.field-0.0) c.args.head.now c.in-Some.left c.in-Some.right first s path t' k (c.in_err-visit-in-Some.ensures.shown first s _ k.l k.left_is))
+    (left_damage {T = Unit {0}} (Err c.in_err-visit-in-Some.field-0.0) c.args.head.now c.in-Some.left c.in-Some.right first s path t' k
+    (c.in_err-visit-in-Some.ensures.shown first s _ k.l k.left_is))
 
 pub returns-in_err-visit-in-Some-clause-whole : goal.returns-in_err-visit-in-Some-clause-whole
 returns-in_err-visit-in-Some-clause-whole g t c = λ told agrees first s path t' items is holds.
     let k = c.in-Some.ensures.some first s path t' is in
-    let j = held (bytes_of (g.F.Pages.files c.args.folder.now (Segment c.args.head.now.id))) c.args.head.now c.in-Some.left c.in-Some.right first s path t' k items holds in
+    let j = held (bytes_of (g.F.Pages.files c.args.folder.now (Segment c.args.head.now.id))) c.args.head.now c.in-Some.left c.in-Some.right first s path t' k
+    items holds in
     handed_on c.from_residual.result c.in_err-visit-in-Some.field-0.0 (λ _. ⊥) c.from_residual.ensures.1
     (c.in_err-visit-in-Some.ensures.whole told agrees first s _ k.l j.front_items k.left_is j.front_holds)
 
 -- ---- both children are walked
 
 pub returns-in_ok-visit-in-Some-clause-begins : goal.returns-in_ok-visit-in-Some-clause-begins
-returns-in_ok-visit-in-Some-clause-begins g t c = begins_on c.args.hits.now.items c.visit.new.hits.items c.visit-in-Some.new.hits.items c.visit.ensures.begins c.visit-in-Some.ensures.begins
+returns-in_ok-visit-in-Some-clause-begins g t c =
+    begins_on c.args.hits.now.items c.visit.new.hits.items c.visit-in-Some.new.hits.items c.visit.ensures.begins c.visit-in-Some.ensures.begins
 
 pub returns-in_ok-visit-in-Some-clause-hits : goal.returns-in_ok-visit-in-Some-clause-hits
 returns-in_ok-visit-in-Some-clause-hits g t c = λ told agrees first s path t' root.
     let k = c.in-Some.ensures.some first s path t' root.is in
     let same = c.visit.ensures.files told in
     let agree = subst (λ f. Agrees f c.visit.new.cache) (sym same) (c.visit.ensures.agrees told agrees) in
-    let front = subst (λ h. Appends c.args.hits.now.items c.visit.new.hits.items (AreHits g.row.D (bytes_of (g.F.Pages.files c.args.folder.now (Segment c.args.head.now.id))) c.args.head.now h c.args.live.now first s k.l)) c.compare.ensures.has
+    let front = subst
+    (λ h. Appends c.args.hits.now.items c.visit.new.hits.items
+    (AreHits g.row.D (bytes_of (g.F.Pages.files c.args.folder.now (Segment c.args.head.now.id))) c.args.head.now h c.args.live.now first s k.l))
+    c.compare.ensures.has
     (c.in_ok-visit-in-Some.ensures.hits told agrees first s _ k.l (left_root c.in-Some.left c.in-Some.right first s path t' k root.cells)) in
-    let back = c.visit-in-Some.ensures.hits told agree (first + leaf_count k.l) (right_begin s k.l k.r) _ k.r (right_root c.in-Some.left c.in-Some.right first s path t' k root.cells) in
-    let back_files = subst (λ f. OnOk c.visit-in-Some.result (Appends c.visit.new.hits.items c.visit-in-Some.new.hits.items (AreHits g.row.D (bytes_of (f (Segment c.args.head.now.id))) c.args.head.now (g.S.Shape.has c.visit.new.shape) c.args.live.now (first + leaf_count k.l) (right_begin s k.l k.r) k.r))) same back in
-    on_ok (Appends c.visit.new.hits.items c.visit-in-Some.new.hits.items (AreHits g.row.D (bytes_of (g.F.Pages.files c.args.folder.now (Segment c.args.head.now.id))) c.args.head.now (g.S.Shape.has c.args.shape.now) c.args.live.now (first + leaf_count k.l) (right_begin s k.l k.r) k.r))
-    (Appends c.args.hits.now.items c.visit-in-Some.new.hits.items (AreHits g.row.D (bytes_of (g.F.Pages.files c.args.folder.now (Segment c.args.head.now.id))) c.args.head.now (g.S.Shape.has c.args.shape.now) c.args.live.now first s t'))
+    let back = c.visit-in-Some.ensures.hits told agree (first + leaf_count k.l) (right_begin s k.l k.r) _ k.r
+    (right_root c.in-Some.left c.in-Some.right first s path t' k root.cells) in
+    let back_files = subst
+    (λ f. OnOk c.visit-in-Some.result
+    (Appends c.visit.new.hits.items c.visit-in-Some.new.hits.items
+    (AreHits g.row.D (bytes_of (f (Segment c.args.head.now.id))) c.args.head.now (g.S.Shape.has c.visit.new.shape) c.args.live.now (first + leaf_count k.l)
+    (right_begin s k.l k.r) k.r))) same back in
+    on_ok (Appends c.visit.new.hits.items c.visit-in-Some.new.hits.items
+    (AreHits g.row.D (bytes_of (g.F.Pages.files c.args.folder.now (Segment c.args.head.now.id))) c.args.head.now (g.S.Shape.has c.args.shape.now)
+    c.args.live.now (first + leaf_count k.l) (right_begin s k.l k.r) k.r))
+    (Appends c.args.hits.now.items c.visit-in-Some.new.hits.items
+    (AreHits g.row.D (bytes_of (g.F.Pages.files c.args.folder.now (Segment c.args.head.now.id))) c.args.head.now (g.S.Shape.has c.args.shape.now)
+    c.args.live.now first s t'))
     c.visit-in-Some.result
-    (λ b. children_hits (bytes_of (g.F.Pages.files c.args.folder.now (Segment c.args.head.now.id))) c.args.head.now (g.S.Shape.has c.args.shape.now) c.args.live.now c.in-Some.left c.in-Some.right first s path t' k c.args.hits.now.items c.visit.new.hits.items c.visit-in-Some.new.hits.items front b)
-    (subst (λ h. OnOk c.visit-in-Some.result (Appends c.visit.new.hits.items c.visit-in-Some.new.hits.items (AreHits g.row.D (bytes_of (g.F.Pages.files c.args.folder.now (Segment c.args.head.now.id))) c.args.head.now h c.args.live.now (first + leaf_count k.l) (right_begin s k.l k.r) k.r)))
+    (λ b. children_hits (bytes_of (g.F.Pages.files c.args.folder.now (Segment c.args.head.now.id))) c.args.head.now (g.S.Shape.has c.args.shape.now)
+    c.args.live.now c.in-Some.left c.in-Some.right first s path t' k c.args.hits.now.items c.visit.new.hits.items c.visit-in-Some.new.hits.items front b)
+    (subst (λ h. OnOk c.visit-in-Some.result
+    (Appends c.visit.new.hits.items c.visit-in-Some.new.hits.items
+    (AreHits g.row.D (bytes_of (g.F.Pages.files c.args.folder.now (Segment c.args.head.now.id))) c.args.head.now h c.args.live.now (first + leaf_count k.l)
+    (right_begin s k.l k.r) k.r)))
     (c.visit.ensures.has ∙ c.compare.ensures.has) back_files)
 
 pub returns-in_ok-visit-in-Some-clause-tests : goal.returns-in_ok-visit-in-Some-clause-tests
 returns-in_ok-visit-in-Some-clause-tests g t c = λ first s path t' root.
     let k = c.in-Some.ensures.some first s path t' root.is in
-    let left = subst (λ f. g.S.Shape.tests c.visit.new.shape ≤ g.S.Shape.tests c.compare.new.self + tested f (count_of c.args.head.now) first k.l) c.compare.ensures.crosses
+    let left = subst (λ f. g.S.Shape.tests c.visit.new.shape ≤ g.S.Shape.tests c.compare.new.self + tested f (count_of c.args.head.now) first k.l)
+    c.compare.ensures.crosses
     (c.visit.ensures.tests first s _ k.l (left_root c.in-Some.left c.in-Some.right first s path t' k root.cells)) in
-    let right = subst (λ f. g.S.Shape.tests c.visit-in-Some.new.shape ≤ g.S.Shape.tests c.visit.new.shape + tested f (count_of c.args.head.now) (first + leaf_count k.l) k.r) (c.visit.ensures.crosses ∙ c.compare.ensures.crosses)
-    (c.visit-in-Some.ensures.tests (first + leaf_count k.l) (right_begin s k.l k.r) _ k.r (right_root c.in-Some.left c.in-Some.right first s path t' k root.cells)) in
+    let right = subst
+    (λ f. g.S.Shape.tests c.visit-in-Some.new.shape ≤ g.S.Shape.tests c.visit.new.shape + tested f (count_of c.args.head.now) (first + leaf_count k.l) k.r)
+    (c.visit.ensures.crosses ∙ c.compare.ensures.crosses)
+    (c.visit-in-Some.ensures.tests (first + leaf_count k.l) (right_begin s k.l k.r) _ k.r
+    (right_root c.in-Some.left c.in-Some.right first s path t' k root.cells)) in
     let both = ap (tested (g.S.Shape.crosses c.args.shape.now) (count_of c.args.head.now) first) k.is in
     let same = c.compare.ensures.tests in
     omega (arith, left, right, both, same)
@@ -135,40 +166,53 @@ pub returns-in_ok-visit-in-Some-clause-reads : goal.returns-in_ok-visit-in-Some-
 returns-in_ok-visit-in-Some-clause-reads g t c = λ first s path t' root.
     let k = c.in-Some.ensures.some first s path t' root.is in
     let given = c.visit.ensures.reads first s _ k.l (left_root c.in-Some.left c.in-Some.right first s path t' k root.cells) in
-    let has = subst (λ f. g.F.Pages.reads c.visit.new.folder ≤ g.F.Pages.reads c.args.folder.now + touched f (g.S.Shape.crosses c.compare.new.self) k.l) c.compare.ensures.has given in
-    let left = subst (λ f. g.F.Pages.reads c.visit.new.folder ≤ g.F.Pages.reads c.args.folder.now + touched (g.S.Shape.has c.args.shape.now) f k.l) c.compare.ensures.crosses has in
-    let given_right = c.visit-in-Some.ensures.reads (first + leaf_count k.l) (right_begin s k.l k.r) _ k.r (right_root c.in-Some.left c.in-Some.right first s path t' k root.cells) in
-    let has_right = subst (λ f. g.F.Pages.reads c.visit-in-Some.new.folder ≤ g.F.Pages.reads c.visit.new.folder + touched f (g.S.Shape.crosses c.visit.new.shape) k.r) (c.visit.ensures.has ∙ c.compare.ensures.has) given_right in
-    let right = subst (λ f. g.F.Pages.reads c.visit-in-Some.new.folder ≤ g.F.Pages.reads c.visit.new.folder + touched (g.S.Shape.has c.args.shape.now) f k.r) (c.visit.ensures.crosses ∙ c.compare.ensures.crosses) has_right in
+    let has = subst (λ f. g.F.Pages.reads c.visit.new.folder ≤ g.F.Pages.reads c.args.folder.now + touched f (g.S.Shape.crosses c.compare.new.self) k.l)
+    c.compare.ensures.has given in
+    let left = subst (λ f. g.F.Pages.reads c.visit.new.folder ≤ g.F.Pages.reads c.args.folder.now + touched (g.S.Shape.has c.args.shape.now) f k.l)
+    c.compare.ensures.crosses has in
+    let given_right = c.visit-in-Some.ensures.reads (first + leaf_count k.l) (right_begin s k.l k.r) _ k.r
+    (right_root c.in-Some.left c.in-Some.right first s path t' k root.cells) in
+    let has_right = subst
+    (λ f. g.F.Pages.reads c.visit-in-Some.new.folder ≤ g.F.Pages.reads c.visit.new.folder + touched f (g.S.Shape.crosses c.visit.new.shape) k.r)
+    (c.visit.ensures.has ∙ c.compare.ensures.has) given_right in
+    let right = subst (λ f. g.F.Pages.reads c.visit-in-Some.new.folder ≤ g.F.Pages.reads c.visit.new.folder + touched (g.S.Shape.has c.args.shape.now) f k.r)
+    (c.visit.ensures.crosses ∙ c.compare.ensures.crosses) has_right in
     let both = ap (touched (g.S.Shape.has c.args.shape.now) (g.S.Shape.crosses c.args.shape.now)) k.is in
     omega (arith, left, right, both)
 
 pub returns-in_ok-visit-in-Some-clause-shown : goal.returns-in_ok-visit-in-Some-clause-shown
 returns-in_ok-visit-in-Some-clause-shown g t c = λ first s path t' is.
     let k = c.in-Some.ensures.some first s path t' is in
-    right_damage c.visit-in-Some.result c.args.head.now c.in-Some.left c.in-Some.right first s path t' k (c.visit-in-Some.ensures.shown (first + leaf_count k.l) (right_begin s k.l k.r) _ k.r k.right_is)
+    right_damage c.visit-in-Some.result c.args.head.now c.in-Some.left c.in-Some.right first s path t' k
+    (c.visit-in-Some.ensures.shown (first + leaf_count k.l) (right_begin s k.l k.r) _ k.r k.right_is)
 
 pub returns-in_ok-visit-in-Some-clause-whole : goal.returns-in_ok-visit-in-Some-clause-whole
 returns-in_ok-visit-in-Some-clause-whole g t c = λ told agrees first s path t' items is holds.
     let k = c.in-Some.ensures.some first s path t' is in
     let same = c.visit.ensures.files told in
     let agree = subst (λ f. Agrees f c.visit.new.cache) (sym same) (c.visit.ensures.agrees told agrees) in
-    let j = held (bytes_of (g.F.Pages.files c.args.folder.now (Segment c.args.head.now.id))) c.args.head.now c.in-Some.left c.in-Some.right first s path t' k items holds in
+    let j = held (bytes_of (g.F.Pages.files c.args.folder.now (Segment c.args.head.now.id))) c.args.head.now c.in-Some.left c.in-Some.right first s path t' k
+    items holds in
     c.visit-in-Some.ensures.whole told agree (first + leaf_count k.l) (right_begin s k.l k.r) _ k.r j.back_items k.right_is
-    (subst (λ f. HoldsTree g.row.D (bytes_of (f (Segment c.args.head.now.id))) c.args.head.now (first + leaf_count k.l) (right_begin s k.l k.r) k.r j.back_items) (sym same) j.back_holds)
+    (subst (λ f. HoldsTree g.row.D (bytes_of (f (Segment c.args.head.now.id))) c.args.head.now (first + leaf_count k.l) (right_begin s k.l k.r) k.r
+    j.back_items) (sym same) j.back_holds)
 
 -- ---- a leaf whose cell is crossed
 
 pub returns-in-None-clause-hits : goal.returns-in-None-clause-hits
 returns-in-None-clause-hits g t c = λ told agrees first s path t' root.
-    subst (λ h. OnOk c.test_leaf.result (Appends c.args.hits.now.items c.test_leaf.new.hits.items (AreHits g.row.D (bytes_of (g.F.Pages.files c.args.folder.now (Segment c.args.head.now.id))) c.args.head.now h c.args.live.now first s t'))) c.compare.ensures.has
+    subst (λ h. OnOk c.test_leaf.result
+    (Appends c.args.hits.now.items c.test_leaf.new.hits.items
+    (AreHits g.row.D (bytes_of (g.F.Pages.files c.args.folder.now (Segment c.args.head.now.id))) c.args.head.now h c.args.live.now first s t')))
+    c.compare.ensures.has
     (c.test_leaf.ensures.hits told agrees first s path t' root.is)
 
 pub returns-in-None-clause-tests : goal.returns-in-None-clause-tests
 returns-in-None-clause-tests g t c = λ first s path t' root.
     let crossed = subst (λ r. g.S.Shape.crosses c.args.shape.now r ≡ true) (c.cell.ensures first s path t' root.is) c.in-Crosses.ensures.answer in
     let given = c.test_leaf.ensures.tests first s path t' root.is (subst (λ f. f (cell_of path t') ≡ true) (sym c.compare.ensures.crosses) crossed) in
-    let few = subst (λ f. g.S.Shape.tests c.test_leaf.new.shape ≤ g.S.Shape.tests c.compare.new.self + tested f (count_of c.args.head.now) first t') c.compare.ensures.crosses given in
+    let few = subst (λ f. g.S.Shape.tests c.test_leaf.new.shape ≤ g.S.Shape.tests c.compare.new.self + tested f (count_of c.args.head.now) first t')
+    c.compare.ensures.crosses given in
     let same = c.compare.ensures.tests in
     omega (arith, few, same)
 
@@ -183,8 +227,10 @@ pub returns-in-None-clause-reads : goal.returns-in-None-clause-reads
 returns-in-None-clause-reads g t c = λ first s path t' root.
     let one : c.args.node.now.leaves ≡ 1 = search rules in
     let crossed = subst (λ r. g.S.Shape.crosses c.args.shape.now r ≡ true) (c.cell.ensures first s path t' root.is) c.in-Crosses.ensures.answer in
-    let it = only_leaf (λ u. g.S.Shape.crosses c.args.shape.now (cell_of path u) ≡ true → 1 ≡ touched (g.S.Shape.has c.args.shape.now) (g.S.Shape.crosses c.args.shape.now) u) t'
+    let it = only_leaf
+    (λ u. g.S.Shape.crosses c.args.shape.now (cell_of path u) ≡ true → 1 ≡ touched (g.S.Shape.has c.args.shape.now) (g.S.Shape.crosses c.args.shape.now) u) t'
     (count_at c.args.node.now first s path t' root.is ∙ one)
-    (λ len own e. crossed_touched (g.S.Shape.has c.args.shape.now) (g.S.Shape.crosses c.args.shape.now) (count_of c.args.head.now) first len own own refl e) crossed in
+    (λ len own e. crossed_touched (g.S.Shape.has c.args.shape.now) (g.S.Shape.crosses c.args.shape.now) (count_of c.args.head.now) first len own own refl e)
+    crossed in
     let most = c.test_leaf.ensures.reads in
     omega (arith, it, most)

@@ -1,5 +1,5 @@
 use Rattle.std.proofs.Common.{arith}
-use Rattle.leaf_codec.proofs.ReadNumbers.{AreBytes-from}
+use Rattle.leaf_codec.proofs.CanonicalNumbers.{AreBytes-from}
 use Rattle.leaf_codec.proofs.read_parts.are_bytes.Goals as goal
 
 pub returns : goal.returns

@@ -2,7 +2,7 @@ use Rattle.std.proofs.Common.{◌≡◌, ◌<◌, ◌-◌, ◌%◌, ℕ, List, l
 use Rattle.std.proofs.lemmas.List.{take_all}
 use Rattle.std.proofs.lemmas.List.Elements.{All-drop, All-get_or}
 use Rattle.leaf_codec.specs.Words.{AreBytes}
-use Rattle.leaf_codec.proofs.Pieces.{IsCut, cut_step, cut_short}
+use Rattle.leaf_codec.proofs.SpelledPieces.{IsCut, cut_step, cut_short}
 use Rattle.leaf_codec.proofs.read_sorted.are_cut.Goals as goal
 
 -- what holds of the pieces behind the first one holds of the slice of them

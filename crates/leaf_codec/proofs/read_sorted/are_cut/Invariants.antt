@@ -1,6 +1,6 @@
 use Rattle.std.proofs.Common.{◌≡◌, ◌%◌, length}
 use Rattle.leaf_codec.specs.Words.{AreBytes}
-use Rattle.leaf_codec.proofs.Pieces.{IsCut}
+use Rattle.leaf_codec.proofs.SpelledPieces.{IsCut}
 use Rattle.leaf_codec.proofs.read_sorted.are_cut.Given as goal
 
 -- the whole is cut right exactly where the rest is

@@ -4,7 +4,7 @@ use Rattle.std.proofs.lemmas.List.{map_push}
 use Rattle.leaf_codec.specs.Dimensions.{count_values}
 use Rattle.leaf_codec.proofs.Lists.{range_more}
 use Rattle.leaf_codec.proofs.SeenBytes.{seen_none, seen_more, seen_count, values-map, has_value}
-use Rattle.leaf_codec.proofs.ReadNumbers.{AreBytes-from as small}
+use Rattle.leaf_codec.proofs.CanonicalNumbers.{AreBytes-from as small}
 use Rattle.leaf_codec.proofs.view.different.Goals as goal
 
 pub loop-i-init : goal.loop-i-init

@@ -1,7 +1,7 @@
 use Rattle.std.proofs.Common.{◌≡◌, true, sym, ◌∙◌, arith, ltb-true, lt-ltb, eqb-true, eq-eqb}
 use Rattle.std.proofs.lemmas.Bool.{false≢true, not-true, not-false}
 use Rattle.leaf_codec.specs.Views.{raw_numbers_of}
-use Rattle.leaf_codec.proofs.ReadNumbers.{row_canonical, canonical_last, refuses_row, refuses_least, refuses_high, takes_width, width_of, span-lt}
+use Rattle.leaf_codec.proofs.CanonicalNumbers.{row_canonical, canonical_last, refuses_row, refuses_least, refuses_high, takes_width, width_of, span-lt}
 use Rattle.leaf_codec.proofs.read_numbers.Numbers.are_canonical.Goals as goal
 use Rattle.leaf_codec.proofs.read_numbers.Numbers.are_canonical.Goals.{then-span-via-then-span, then-span-via-else-span+then-not-span}
 

@@ -3,7 +3,7 @@ use Rattle.std.proofs.Common.{ap, ◌∙◌, arith, append_assoc, length-append,
 use Rattle.std.proofs.lemmas.List.Elements.{All-take, All-drop}
 use Rattle.leaf_codec.specs.Raw.{RawNumbers}
 use Rattle.byte_cursor.specs.Vint.{vint}
-use Rattle.leaf_codec.proofs.ReadNumbers.{HasWords, has_words, AreBytes-from}
+use Rattle.leaf_codec.proofs.CanonicalNumbers.{HasWords, has_words, AreBytes-from}
 use Rattle.byte_cursor.proofs.SpelledVints.{vint_front, length-vint}
 use Rattle.leaf_codec.proofs.Written.{flag_is}
 use Rattle.leaf_codec.proofs.read_numbers.Numbers.take.Goals as goal

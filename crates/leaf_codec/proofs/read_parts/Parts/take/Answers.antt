@@ -3,7 +3,7 @@ use Rattle.std.specs.Prelude.{All}
 use Rattle.leaf_codec.specs.Raw.{MaySort, sorted_raw, start_of, place_of}
 use Rattle.leaf_codec.proofs.TakeKeys.{lengths_same, prefixes_same, total_is, sorts_same, to_end, last_words, bytes_within, leaf_front}
 use Rattle.leaf_codec.specs.Words.{AreBytes}
-use Rattle.leaf_codec.proofs.ReadNumbers.{AreBytes-from}
+use Rattle.leaf_codec.proofs.CanonicalNumbers.{AreBytes-from}
 use Rattle.std.proofs.lemmas.List.Elements.{All-take, All-drop}
 use Rattle.leaf_codec.proofs.read_parts.Parts.take.Goals as goal
 
