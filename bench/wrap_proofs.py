@@ -7,8 +7,8 @@ A line is broken where the fewest brackets are open, and in no text: behind `in`
 before a sign between parts, before an argument. A list or record is broken as a whole, as the formatter does it. A line
 never is broken behind `where` or `do`, and goes on deeper than its own first column, so antt reads it as going on. The
 formatter says where it goes on, and that the program is the same. Afterwards the tokens are compared with those of
-before. Where nothing is left to break a line stays, and is counted. Answers can't be split into files (rattle reads only
-what the file declares): a file of them that would so have over 300 lines, and more than now, is left as it is.
+before. Where nothing is left to break a line stays, and is counted. Answers can't be split into files (rattle reads
+only what the file declares): a file of them that would so have over 300 lines, and more than now, is left as it is.
 """
 import glob
 import os
