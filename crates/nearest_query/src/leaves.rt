@@ -19,6 +19,7 @@ ghost use Rattle.nearest_query.specs.Best.{AreBest, AreAdded};
 ghost use Rattle.nearest_query.specs.Segments.{live_items};
 
 use crate::candidates::Candidates;
+use crate::outwards::{offer_above, offer_below};
 use inner_pack::NodeAt;
 use leaf_codec::LeafView;
 use live_bits::LiveBits;
@@ -70,7 +71,8 @@ pub fn open_leaf<const D: usize, F: Pages>(
     Ok(())
 }
 
-/// Offers the live entries of a leaf that is read in place.
+/// Offers the live entries of a leaf that is read in place: outwards from the point, up to those that are too far away
+/// in the dimension in which they ascend.
 fn offer_leaf<const D: usize>(
     view: &LeafView<'_, D>,
     live: &LiveBits,
@@ -81,17 +83,10 @@ fn offer_leaf<const D: usize>(
     ensures found { (seen : List Near) → AreBest seen found.old
         → OnOk result (AreAdded seen (nears_of at.now.c (live_items live.now view.now)) found.new) }
 {
-    for i in 0..view.count() {
-        let doc = view.doc(i);
-        if !live.is_live(doc) {
-            continue;
-        }
-        found.offer(Near {
-            dist2: view.point(i).dist2(at),
-            doc,
-        })?;
-    }
-    Ok(())
+    let d = view.sorted_dimension();
+    let place = view.count_below(d, &at.c[d]);
+    offer_above(view, live, at, d, place, found)?;
+    offer_below(view, live, at, d, place, found)
 }
 
 /// Offers all of the entries.
