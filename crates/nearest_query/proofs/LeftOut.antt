@@ -28,8 +28,10 @@ far_best entries c n best near = record {
   linked = best.linked;
   nearest = nearest_same c.many.room entries (found_of c) n best.nearest
       (λ a h e. let l = All-contains (λ b. b.dist2 < n.dist2) (found_of c) a near.1 h in omega (arith, l))
-      (inr ((let few = best.nearest.few in let full = near.0 in omega (arith, few, full)),
-      All-weaker (λ a. a.dist2 < n.dist2) (λ a. ComesBefore a n) (λ a l. record { near = omega (arith, l); tie = λ t. absurd (omega (arith, l, t)) }) (found_of c) near.1));
+      (inr (
+        (let few = best.nearest.few in let full = near.0 in omega (arith, few, full)),
+        All-weaker (λ a. a.dist2 < n.dist2) (λ a. ComesBefore a n) (λ a l. record { near = omega (arith, l); tie = λ t. absurd (omega (arith, l, t)) }) (found_of c) near.1,
+      ));
 }
 
 pub nearer_than : (d e : ℕ) (c : Candidates) → AreNearer d c → d ≤ e → AreNearer e c

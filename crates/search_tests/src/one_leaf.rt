@@ -100,7 +100,15 @@ const FOUND: [(&[u32], [i32; 2], u16, &[Near]); 12] = [
         2,
         &[Near { doc: 3, dist2: 9 }, Near { doc: 2, dist2: 10 }],
     ),
-    (EACH, [114, 5], 1, &[Near { doc: 0, dist2: 10_000 }]),
+    (
+        EACH,
+        [114, 5],
+        1,
+        &[Near {
+            doc: 0,
+            dist2: 10_000,
+        }],
+    ),
     // some are dead, or all
     (&[0, 2, 3, 4, 5], [10, 5], 1, &[Near { doc: 3, dist2: 9 }]),
     (&[0, 2, 4, 5], [10, 5], 1, &[Near { doc: 2, dist2: 10 }]),
