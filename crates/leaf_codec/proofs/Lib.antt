@@ -29,3 +29,4 @@ pub mod DimensionsFound
 pub mod ReadLeaf
 pub mod OrderedKeys
 pub mod Apart
+pub mod Ascending

@@ -99,7 +99,7 @@ less_second : (d : ℕ) (x y : Item) → int_cmp (get_or x.at d (pos 0)) (get_or
 unfolding leaf_cmp
 less_second d x y same less = rw (same, less) refl
 
-not_greater : (d : ℕ) (x y : Item) → int_cmp (get_or x.at d (pos 0)) (get_or y.at d (pos 0)) ≡ Greater → leaf_cmp d x y ≡ Less → ⊥
+pub not_greater : (d : ℕ) (x y : Item) → int_cmp (get_or x.at d (pos 0)) (get_or y.at d (pos 0)) ≡ Greater → leaf_cmp d x y ≡ Less → ⊥
 unfolding leaf_cmp
 not_greater d x y greater less = absurd (let no = rw greater at less in cc)
 

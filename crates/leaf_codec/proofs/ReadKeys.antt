@@ -166,6 +166,13 @@ rank_value D p s i d n w h slots here lt byte word =
     ((λ j. get_or s.bases d 0 + byte j * get_or s.scales d 0 + bit_and (word j) (get_or s.masks d 0)) ∙ read.value, read.fits)
 
 -- the coordinate from the bytes of a key's number
+-- a coordinate that a function returns
+pub coordinate_stays : (D : ℕ) (p : Parts) (i d : ℕ) (x : ℤ) → IsParts D p → i < p.count → d < D → x ≡ coordinate (key_at D (raw_keys_of p) i d) → to_z w32 (of_z w32 x) ≡ coordinate (key_at D (raw_keys_of p) i d)
+coordinate_stays D p i d x h here lt is =
+    let long = length-key_at D p.count (raw_keys_of p) i d h.raw here lt in
+    let small = AreBytes-key_at D p.count (raw_keys_of p) i d h.raw here in
+    ap (λ (y : ℤ). to_z w32 (of_z w32 y)) is ∙ to_z-of_z (coordinate-fits (key_at D (raw_keys_of p) i d) long small)
+
 pub coordinate_read : (D : ℕ) (p : Parts) (i d n : ℕ) (b : List ℕ) (x : ℤ) → IsParts D p → i < p.count → d < D
     → n ≡ number_of (key_at D (raw_keys_of p) i d) → b ≡ to_be_bytes w32 n → ((y : ℤ) → FitsSigned w32 y → key y ≡ b → x ≡ y)
     → to_z w32 (of_z w32 x) ≡ coordinate (key_at D (raw_keys_of p) i d)
@@ -174,8 +181,7 @@ coordinate_read D p i d n b x h here lt number bytes back =
     let long = length-key_at D p.count (raw_keys_of p) i d h.raw here lt in
     let small = AreBytes-key_at D p.count (raw_keys_of p) i d h.raw here in
     let fits = coordinate-fits k long small in
-    let is = back (coordinate k) fits (key-coordinate k long small ∙ sym (bytes ∙ ap (to_be_bytes w32) number ∙ to_be-number_of k long small)) in
-    ap (λ (y : ℤ). to_z w32 (of_z w32 y)) is ∙ to_z-of_z fits
+    coordinate_stays D p i d x h here lt (back (coordinate k) fits (key-coordinate k long small ∙ sym (bytes ∙ ap (to_be_bytes w32) number ∙ to_be-number_of k long small)))
 
 -- the prefix of a dimension lies among the prefixes, which are few
 pub front_within : (D : ℕ) (p : Parts) (d : ℕ) → IsParts D p → D ≤ 8 → d < D → (start_of p.lengths.now d + get_or p.lengths.now d 0 ≤ length p.prefixes.now) × (length p.prefixes.now ≤ 32)

@@ -1,5 +1,5 @@
 -- What a view says at a place, and its order.
-use Rattle.std.proofs.Common.{◌≡◌, ◌<◌, ◌+◌, ℕ, zero, suc, List, [], ◌∷◌, length, get_or, refl, sym, ap, subst, ◌∙◌, arith, ℤ, Option, Some}
+use Rattle.std.proofs.Common.{◌≡◌, ◌<◌, ◌+◌, ℕ, zero, suc, List, [], ◌∷◌, length, get_or, refl, sym, ap, subst, ◌∙◌, arith, ℤ, pos, Option, Some}
 use Rattle.std.specs.Prelude.{All, IsSomeAnd, slice_get}
 use Rattle.std.specs.List.{AllByRecursion}
 use Rattle.std.specs.List.Sorted.{IsStrictlySortedBy}
@@ -9,8 +9,10 @@ use Rattle.std.specs.declared.cmp.Ordering.TheVariants.{Less}
 use Rattle.point_codec.specs.Points.{Item}
 use Rattle.leaf_codec.specs.declared.read_numbers.Numbers.{Numbers}
 use Rattle.leaf_codec.specs.declared.read_parts.Parts.{Parts}
+use Rattle.leaf_codec.specs.Ascending.{coordinate as coordinate_in}
 use Rattle.leaf_codec.specs.LeafOrder.{leaf_cmp}
-use Rattle.leaf_codec.specs.Raw.{RawNumbers, RawKeys, offset_at, point_at, raw_item, raw_items}
+use Rattle.leaf_codec.specs.Words.{coordinate}
+use Rattle.leaf_codec.specs.Raw.{RawNumbers, RawKeys, offset_at, key_at, point_at, raw_item, raw_items}
 use Rattle.leaf_codec.specs.Views.{items_said, raw_numbers_of, raw_keys_of, AscendInside}
 use Rattle.leaf_codec.proofs.OrderLemmas.{leaf_total}
 use Rattle.point_codec.specs.Points.{Region, in_box}
@@ -18,7 +20,7 @@ use Rattle.std.proofs.Common.{true}
 use Rattle.std.specs.Ordering.{is_lt}
 use Rattle.std.specs.declared.cmp.Ordering.TheVariants.{Equal, Greater}
 use Rattle.leaf_codec.proofs.ItemsDecoded.{raw_item_is, length-point_at}
-use Rattle.leaf_codec.proofs.KeysLemmas.{length-raw_items, get_or-raw_items}
+use Rattle.leaf_codec.proofs.KeysLemmas.{length-raw_items, get_or-raw_items, get_or-point_at}
 
 pub said_length : (D : ℕ) (n : Numbers) (p : Parts) (xs : List Item) → items_said D n p ≡ xs → length xs ≡ n.count
 said_length D n p xs is = ap length (sym is) ∙ length-raw_items D n.count (raw_numbers_of n) (raw_keys_of p)
@@ -42,6 +44,10 @@ said_doc D n p i xs v is lt e = some_and (slice_get xs i) _ (λ (x : Item). v �
 
 pub said_point : (D : ℕ) (n : Numbers) (p : Parts) (i : ℕ) (xs : List Item) (v : List ℤ) → items_said D n p ≡ xs → i < length xs → v ≡ point_at D (raw_keys_of p) i → IsSomeAnd (slice_get xs i) (λ x. v ≡ x.at)
 said_point D n p i xs v is lt e = some_and (slice_get xs i) _ (λ (x : Item). v ≡ x.at) (item_said D n p i xs is lt) e
+
+pub said_coordinate : (D : ℕ) (n : Numbers) (p : Parts) (i d : ℕ) (xs : List Item) (v : ℤ) → items_said D n p ≡ xs → i < length xs → d < D → v ≡ coordinate (key_at D (raw_keys_of p) i d) → IsSomeAnd (slice_get xs i) (λ x. v ≡ coordinate_in d x)
+said_coordinate D n p i d xs v is lt within e =
+    some_and (slice_get xs i) _ (λ (x : Item). v ≡ coordinate_in d x) (item_said D n p i xs is lt) (e ∙ sym (get_or-point_at D i d (raw_keys_of p) (pos 0) within))
 
 pub said_points : (D : ℕ) (n : Numbers) (p : Parts) (xs : List Item) → items_said D n p ≡ xs → All (λ x. length x.at ≡ D) xs
 said_points D n p xs is =

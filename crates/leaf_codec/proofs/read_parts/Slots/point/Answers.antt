@@ -5,18 +5,17 @@ use Rattle.std.proofs.lemmas.List.FromFn.{get_or-map-range_with_len, length-map-
 use Rattle.leaf_codec.specs.Words.{coordinate}
 use Rattle.leaf_codec.specs.Raw.{key_at, point_at}
 use Rattle.leaf_codec.specs.Views.{raw_keys_of}
-use Rattle.leaf_codec.proofs.ReadKeys.{coordinate_read}
+use Rattle.leaf_codec.proofs.ReadKeys.{coordinate_stays}
 use Rattle.leaf_codec.proofs.read_parts.Slots.point.Goals as goal
 
 pub loop-d-preserved : goal.loop-d-preserved
 loop-d-preserved g c =
     let l = c.loop-d in
-    let x = c.from_sortable.result in
     record {
       long = search rules;
       filled = λ k e lt. elim (cases_eq k l.d) [
         | inl same ↦ rw same (get_or-set_same l.c l.d _ e (omega (arith, l.invariant.long, c.loop-d-test.true))
-            ∙ coordinate_read g.row.D c.args.parts.now c.args.i l.d c.rank.result c.to_be_bytes.result x c.requires.parts c.requires.within (omega (arith, c.loop-d-test.true)) c.rank.ensures c.to_be_bytes.ensures c.from_sortable.ensures.back)
+            ∙ coordinate_stays g.row.D c.args.parts.now c.args.i l.d c.coordinate.result c.requires.parts c.requires.within (omega (arith, c.loop-d-test.true)) c.coordinate.ensures)
         | inr apart ↦ get_or-set_other l.c l.d k _ e apart ∙ l.invariant.filled k e (omega arith)
       ];
     }

@@ -3,12 +3,14 @@ use Rattle.std.proofs.Math.Logic.{∥∥₁_elim}
 use Rattle.std.proofs.Props.{props}
 use Rattle.point_codec.specs.Points.{Item}
 use Rattle.point_codec.specs.Seen.{region_of}
+use Rattle.leaf_codec.proofs.Ascending.{ascend_in}
 use Rattle.leaf_codec.proofs.ItemsDecoded.{docs}
 use Rattle.leaf_codec.proofs.KeysOf.{raw_keys}
 use Rattle.leaf_codec.proofs.RawNumbersLemmas.{raw_numbers}
 use Rattle.leaf_codec.specs.Leaves.{SpellsLeafIn}
 use Rattle.leaf_codec.specs.Raw.{keys_bytes}
-use Rattle.leaf_codec.proofs.ReadLeaf.{spelled_fields, after_numbers, said_are, within_500}
+use Rattle.leaf_codec.specs.Views.{items_said}
+use Rattle.leaf_codec.proofs.ReadLeaf.{spelled_fields, after_numbers, said_are, order_of, within_500}
 use Rattle.leaf_codec.proofs.view.LeafView.of_valid.Goals as goal
 
 pub take-requires : goal.take-requires
@@ -37,7 +39,12 @@ invariant_of-result g c = (
     counted = c.in-Some-take.ensures.found.counted ∙ sym c.in-Some.ensures.found.counted;
     slots = c.of-slots.ensures;
   },
-  tt,
+  (
+    ∥∥₁_elim c.requires (hlevel props) (λ x.
+        ascend_in _ (items_said g.row.D c.in-Some.numbers c.in-Some-take.parts)
+        (order_of g.row.D c.args.count c.in-Some.at c.args.b.now (region_of c.args.cell.now) x.0 c.in-Some.numbers c.in-Some-take.parts x.1 c.in-Some.ensures.found c.in-Some-take.ensures.found).ascending),
+    tt,
+  ),
 )
 
 pub returns : goal.returns

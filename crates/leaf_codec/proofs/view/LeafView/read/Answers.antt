@@ -1,6 +1,7 @@
 use Rattle.std.proofs.Common.{sym, ◌∙◌, arith, rules, true≢false}
 use Rattle.point_codec.specs.Seen.{region_of}
-use Rattle.leaf_codec.specs.Views.{IsReadable, raw_numbers_of}
+use Rattle.leaf_codec.specs.Views.{IsReadable, items_said, raw_numbers_of}
+use Rattle.leaf_codec.proofs.Ascending.{ascend_in}
 use Rattle.leaf_codec.proofs.ItemsDecoded.{docs}
 use Rattle.leaf_codec.proofs.KeysOf.{raw_keys}
 use Rattle.leaf_codec.proofs.RawNumbersLemmas.{raw_numbers}
@@ -56,7 +57,7 @@ invariant_of-result g c = (
     counted = c.in_ok-parts.ensures.found.counted ∙ sym c.in_ok-numbers.ensures.found.counted;
     slots = c.of-slots.ensures;
   },
-  tt,
+  (ascend_in _ (items_said g.row.D c.in_ok-numbers.numbers c.in_ok-parts.parts) (c.are_in_order.ensures.0 c.if-not-are_in_order.false).ascending, tt),
 )
 
 pub returns-clause-some : goal.returns-clause-some
