@@ -164,7 +164,7 @@ farther_above t x y h k = grind (arith, ints)
 farther_below : (t x y : ℤ) → int_lt x t ≡ true → int_le y x ≡ true → unsigned_abs (x -ℤ t) ≤ unsigned_abs (y -ℤ t)
 farther_below t x y h k = grind (arith, ints)
 
-module _ (D d : ℕ) (at : List ℤ) (place : ℕ) (xs : List Item) (parted : AreParted D d at place xs) (dims : length at ≡ D) where
+module _ (D d : ℕ) (at : List ℤ) (place : ℕ) (xs : List Item) (parted : AreParted D d at place xs) where
   abbrev target : ℤ
   target = get_or at d (pos 0)
 
@@ -172,6 +172,7 @@ module _ (D d : ℕ) (at : List ℤ) (place : ℕ) (xs : List Item) (parted : Ar
   far_one k x e lt le =
       let long : length (get_or xs k e).at ≡ D = parted.points k e lt in
       let dim = parted.dimension in
+      let dims = parted.dims in
       let squares = mul-le-mul le le in
       let g = gap_within d (get_or xs k e).at at (omega (arith, long, dim)) (omega (arith, dims, dim)) in
       omega (arith, squares, g)

@@ -10,6 +10,7 @@ gap2 d at x = square (coordinate d x -ℤ slice_index_or at d (pos 0))
 
 -- the entries, of D dimensions, ascend in dimension d; those before the place are below the point there, and no other
 pub record AreParted (D d : ℕ) (at : List ℤ) (place : ℕ) (items : List Item) : Type 0 where
+  pub dims : length at ≡ D
   pub dimension : d < D
   pub within : place ≤ length items
   pub points : All (λ x. length x.at ≡ D) items

@@ -1,6 +1,6 @@
 //! Entries offered to the candidates: those of a leaf, and those of the buffer.
 
-ghost use Rattle.std.specs.Prelude.{◌≡◌, ◌≤◌, ◌+◌, ◌⊎◌, ℕ, List, [], IsTrue, OnOk, IfOk};
+ghost use Rattle.std.specs.Prelude.{◌≡◌, ◌≤◌, ◌+◌, ◌⊎◌, ℕ, List, length, IsTrue, OnOk};
 ghost use Rattle.outer_io.specs.Files.{bytes_of};
 ghost use Rattle.outer_io.specs.declared.file_name.FileName.TheVariants.{Segment};
 ghost use Rattle.point_codec.specs.Points.{Item, Region};
@@ -84,9 +84,18 @@ fn offer_leaf<const D: usize>(
         → OnOk result (AreAdded seen (nears_of at.now.c (live_items live.now view.now)) found.new) }
 {
     let d = view.sorted_dimension();
-    let place = view.count_below(d, &at.c[d]);
+    let place = view.count_below(d, &coordinates(at)[d]);
     offer_above(view, live, at, d, place, found)?;
     offer_below(view, live, at, d, place, found)
+}
+
+/// The coordinates of the point.
+fn coordinates<const D: usize>(at: &Point<D>) -> &[i32]
+    requires { D ≤ 8 }
+    ensures value { result.now ≡ at.now.c }
+    ensures long { length at.now.c ≡ D }
+{
+    &at.c
 }
 
 /// Offers all of the entries.

@@ -1,4 +1,4 @@
-use Rattle.std.proofs.Common.{◌≡◌, ◌<◌, ◌≤◌, ◌+◌, ◌-◌, ◌∙◌, ℕ, List, [], length, take, drop, get_or, Some, refl, sym, ap, subst, arith, rules}
+use Rattle.std.proofs.Common.{◌≡◌, ◌<◌, ◌≤◌, ◌+◌, ◌-◌, ◌∙◌, ℕ, List, [], length, take, drop, get_or, Some, refl, sym, ap, subst, arith}
 use Rattle.std.proofs.lemmas.List.{take_all, drop_all, length-take-le}
 use Rattle.std.proofs.lemmas.Option.{slice_get-get_or, get_or_from_slice_get}
 use Rattle.std.specs.Prelude.{slice_get}
@@ -49,11 +49,10 @@ returns-then-is_beyond-clause-found g c = λ seen best.
     let to : i < c.args.place = omega (arith, next, c.loop-i.auto.i) in
     let within : i < length xs = omega (arith, to, c.requires.within) in
     let is : slice_get xs i ≡ Some x = slice_get-get_or xs i no_item within in
-    let dims : length at ≡ g.row.D = search rules in
     let was = subst (λ n. AreAdded seen (nears_of at (live_items live (drop n (take c.args.place xs)))) c.loop-i.found) next (c.loop-i.invariant.found seen best) in
     let near = c.is_beyond.ensures c.if-is_beyond.true x is was.after was.best in
     added_both seen _ _ _ c.loop-i.found c.loop-i.found was
-    (far_added at live c.loop-i.found (gap2 c.args.d at x) near (take (i + 1) xs) (far_below g.row.D c.args.d at c.args.place xs c.requires dims i x to (λ e. get_or_from_slice_get xs i x e is)) was.after was.best)
+    (far_added at live c.loop-i.found (gap2 c.args.d at x) near (take (i + 1) xs) (far_below g.row.D c.args.d at c.args.place xs c.requires i x to (λ e. get_or_from_slice_get xs i x e is)) was.after was.best)
     (λ f. down_rest at live f xs c.args.place (i + 1) (omega (arith, to)))
 
 pub returns-clause-found : goal.returns-clause-found
