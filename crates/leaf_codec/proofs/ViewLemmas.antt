@@ -1,6 +1,6 @@
 -- What a view says at a place, and its order.
 use Rattle.std.proofs.Common.{◌≡◌, ◌<◌, ◌+◌, ℕ, zero, suc, List, [], ◌∷◌, length, get_or, refl, sym, ap, subst, ◌∙◌, arith, ℤ, pos, Option, Some}
-use Rattle.std.specs.Prelude.{IsSomeAnd, slice_get}
+use Rattle.std.specs.Prelude.{All, IsSomeAnd, slice_get}
 use Rattle.std.specs.List.{AllByRecursion}
 use Rattle.std.specs.List.Sorted.{IsStrictlySortedBy}
 use Rattle.std.specs.Cmp.{IsTotalOrder}
@@ -19,7 +19,7 @@ use Rattle.point_codec.specs.Points.{Region, in_box}
 use Rattle.std.proofs.Common.{true}
 use Rattle.std.specs.Ordering.{is_lt}
 use Rattle.std.specs.declared.cmp.Ordering.TheVariants.{Equal, Greater}
-use Rattle.leaf_codec.proofs.ItemsDecoded.{raw_item_is}
+use Rattle.leaf_codec.proofs.ItemsDecoded.{raw_item_is, length-point_at}
 use Rattle.leaf_codec.proofs.KeysLemmas.{length-raw_items, get_or-raw_items, get_or-point_at}
 
 pub said_length : (D : ℕ) (n : Numbers) (p : Parts) (xs : List Item) → items_said D n p ≡ xs → length xs ≡ n.count
@@ -54,6 +54,12 @@ pub said_coordinate : (D : ℕ) (n : Numbers) (p : Parts) (i d : ℕ) (xs : List
 said_coordinate D n p i d xs v is lt within e =
     some_and (slice_get xs i) _ (λ (x : Item). v ≡ coordinate_in d x) (item_said D n p i xs is lt)
     (e ∙ sym (get_or-point_at D i d (raw_keys_of p) (pos 0) within))
+
+pub said_points : (D : ℕ) (n : Numbers) (p : Parts) (xs : List Item) → items_said D n p ≡ xs → All (λ x. length x.at ≡ D) xs
+said_points D n p xs is =
+    subst (All (λ (x : Item). length x.at ≡ D)) is
+    (λ i x lt. ap (λ (y : Item). length y.at) (get_or-raw_items D n.count i (raw_numbers_of n) (raw_keys_of p) x (omega (arith, lt, said_length D n p (items_said D n p) refl)) ∙ raw_item_is D i (raw_numbers_of n) (raw_keys_of p))
+    ∙ length-point_at D i (raw_keys_of p))
 
 -- ---- strict order, from each to the next
 

@@ -117,6 +117,7 @@ impl<'a, const D: usize> LeafView<'a, D> {
     /// The dimension by which the entries are sorted; 0 where all points are equal.
     pub fn sorted_dimension(&self) -> usize
         ensures within { result < D }
+        ensures points { All (λ x. length x.at ≡ D) self.now }
         ensures ascends { AscendIn result self.now }
     {
         leading::<D>(&self.parts)

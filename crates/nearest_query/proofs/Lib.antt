@@ -15,3 +15,4 @@ pub mod Ends
 pub mod Roots
 pub mod Start
 pub mod Parts
+pub mod LeftOut

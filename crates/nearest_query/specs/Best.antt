@@ -1,5 +1,5 @@
 -- What is kept of the entries seen so far.
-use Rattle.std.specs.Prelude.{ℕ, ◌≡◌, ◌≤◌, ◌+◌, ◌↔◌, Some, IsTrue, true, false, List, ◌∷◌, ◌++◌, All, sum_by, length}
+use Rattle.std.specs.Prelude.{ℕ, ◌≡◌, ◌≤◌, ◌<◌, ◌+◌, ◌↔◌, Some, IsTrue, true, false, List, ◌∷◌, ◌++◌, All, sum_by, length}
 use Rattle.std.specs.Prelude.{nat_eq, nat_le, not, if◌then◌else◌}
 use Rattle.std.specs.declared.cmp.Ordering.{Ordering}
 use Rattle.std.specs.declared.cmp.Ordering.TheVariants.{Less}
@@ -53,6 +53,10 @@ pub record AreBest (entries : List Near) (c : Candidates) : Type 0 where
   pub some : 1 ≤ c.many.room
   pub linked : AreLinked c.many
   pub nearest : IsNearest c.many.room entries (found_of c)
+
+-- all places are taken by numbers that are nearer than this distance
+abbrev pub AreNearer : ℕ → Candidates → Type 0
+AreNearer dist2 c = (c.many.room ≤ length (found_of c)) × All (λ a. a.dist2 < dist2) (found_of c)
 
 -- so many entries were seen: those seen before, and these
 pub record AreAdded (seen entries : List Near) (c : Candidates) : Type 0 where

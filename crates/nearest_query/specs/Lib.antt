@@ -2,3 +2,4 @@ pub mod Best
 pub mod Segments
 pub mod Fronts
 pub mod Search
+pub mod Parted

@@ -1,6 +1,6 @@
 //! Entries offered to the candidates: those of a leaf, and those of the buffer.
 
-ghost use Rattle.std.specs.Prelude.{◌≡◌, ◌≤◌, ◌+◌, ◌⊎◌, ℕ, List, [], IsTrue, OnOk, IfOk};
+ghost use Rattle.std.specs.Prelude.{◌≡◌, ◌≤◌, ◌+◌, ◌⊎◌, ℕ, List, length, IsTrue, OnOk};
 ghost use Rattle.outer_io.specs.Files.{bytes_of};
 ghost use Rattle.outer_io.specs.declared.file_name.FileName.TheVariants.{Segment};
 ghost use Rattle.point_codec.specs.Points.{Item, Region};
@@ -19,6 +19,7 @@ ghost use Rattle.nearest_query.specs.Best.{AreBest, AreAdded};
 ghost use Rattle.nearest_query.specs.Segments.{live_items};
 
 use crate::candidates::Candidates;
+use crate::outwards::{offer_above, offer_below};
 use inner_pack::NodeAt;
 use leaf_codec::LeafView;
 use live_bits::LiveBits;
@@ -70,7 +71,8 @@ pub fn open_leaf<const D: usize, F: Pages>(
     Ok(())
 }
 
-/// Offers the live entries of a leaf that is read in place.
+/// Offers the live entries of a leaf that is read in place: outwards from the point, up to those that are too far away
+/// in the dimension in which they ascend.
 fn offer_leaf<const D: usize>(
     view: &LeafView<'_, D>,
     live: &LiveBits,
@@ -81,17 +83,19 @@ fn offer_leaf<const D: usize>(
     ensures found { (seen : List Near) → AreBest seen found.old
         → OnOk result (AreAdded seen (nears_of at.now.c (live_items live.now view.now)) found.new) }
 {
-    for i in 0..view.count() {
-        let doc = view.doc(i);
-        if !live.is_live(doc) {
-            continue;
-        }
-        found.offer(Near {
-            dist2: view.point(i).dist2(at),
-            doc,
-        })?;
-    }
-    Ok(())
+    let d = view.sorted_dimension();
+    let place = view.count_below(d, &coordinates(at)[d]);
+    offer_above(view, live, at, d, place, found)?;
+    offer_below(view, live, at, d, place, found)
+}
+
+/// The coordinates of the point.
+fn coordinates<const D: usize>(at: &Point<D>) -> &[i32]
+    requires { D ≤ 8 }
+    ensures value { result.now ≡ at.now.c }
+    ensures long { length at.now.c ≡ D }
+{
+    &at.c
 }
 
 /// Offers all of the entries.

@@ -8,6 +8,7 @@ mod frontier;
 mod laws;
 mod leaves;
 mod many;
+mod outwards;
 mod query;
 mod search;
 mod survey;
