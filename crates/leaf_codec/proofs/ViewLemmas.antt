@@ -58,7 +58,9 @@ said_coordinate D n p i d xs v is lt within e =
 pub said_points : (D : ℕ) (n : Numbers) (p : Parts) (xs : List Item) → items_said D n p ≡ xs → All (λ x. length x.at ≡ D) xs
 said_points D n p xs is =
     subst (All (λ (x : Item). length x.at ≡ D)) is
-    (λ i x lt. ap (λ (y : Item). length y.at) (get_or-raw_items D n.count i (raw_numbers_of n) (raw_keys_of p) x (omega (arith, lt, said_length D n p (items_said D n p) refl)) ∙ raw_item_is D i (raw_numbers_of n) (raw_keys_of p))
+    (λ i x lt. ap (λ (y : Item). length y.at)
+    (get_or-raw_items D n.count i (raw_numbers_of n) (raw_keys_of p) x (omega (arith, lt, said_length D n p (items_said D n p) refl))
+    ∙ raw_item_is D i (raw_numbers_of n) (raw_keys_of p))
     ∙ length-point_at D i (raw_keys_of p))
 
 -- ---- strict order, from each to the next

@@ -20,7 +20,8 @@ use Rattle.nearest_query.specs.Segments.{live_items}
 pub added_none : (seen : List Near) (c : Candidates) → AreBest seen c → AreAdded seen [] c
 added_none seen c best = record { after = seen; best = best; totals = λ f. omega arith }
 
-pub added_more : (seen entries more : List Near) (c d : Candidates) (n : Near) → AreAdded seen entries c → ((es : List Near) → AreBest es c → AreBest (n ∷ es) d)
+pub added_more : (seen entries more : List Near) (c d : Candidates) (n : Near) → AreAdded seen entries c
+    → ((es : List Near) → AreBest es c → AreBest (n ∷ es) d)
     → more ≡ entries ++ n ∷ [] → AreAdded seen more d
 added_more seen entries more c d n was step e = record {
   after = n ∷ was.after;
@@ -36,7 +37,8 @@ pub added_same : (seen entries more : List Near) (c : Candidates) → AreAdded s
 added_same seen entries more c was e = subst (λ es. AreAdded seen es c) (sym e) was
 
 -- the entries of a list, and one more
-pub entries_more : {D : ℕ} (at : List ℤ) (es : List (Entry D)) (i : ℕ) (e : Entry D) (n : Near) → i < length es → e ≡ get_or es i e → n ≡ record { dist2 = dist2 e.point.c at; doc = e.doc }
+pub entries_more : {D : ℕ} (at : List ℤ) (es : List (Entry D)) (i : ℕ) (e : Entry D) (n : Near) → i < length es → e ≡ get_or es i e
+    → n ≡ record { dist2 = dist2 e.point.c at; doc = e.doc }
     → nears_of at (items_of (take (i + 1) es)) ≡ nears_of at (items_of (take i es)) ++ n ∷ []
 entries_more at es i e n h is same =
     ap (nears_of at) (map-more (λ x. record { doc = x.doc; at = x.point.c }) es i e h)
@@ -45,10 +47,13 @@ entries_more at es i e n h is same =
     ∙ ap (λ x. nears_of at (items_of (take i es)) ++ x ∷ []) (sym same)
 
 -- the live ones among items, and one more
-pub live_more : (at : List ℤ) (live : LiveSet) (xs : List Item) (i : ℕ) (x : Item) (n : Near) → i < length xs → x ≡ get_or xs i x → is_live live x.doc ≡ true → n ≡ near_of at x
+pub live_more : (at : List ℤ) (live : LiveSet) (xs : List Item) (i : ℕ) (x : Item) (n : Near) → i < length xs → x ≡ get_or xs i x → is_live live x.doc ≡ true
+    → n ≡ near_of at x
     → nears_of at (live_items live (take (i + 1) xs)) ≡ nears_of at (live_items live (take i xs)) ++ n ∷ []
 live_more at live xs i x n h is alive same =
-    ap (nears_of at) (filter_more (λ y. is_live live y.doc) xs i x h ∙ ap (λ y. live_items live (take i xs) ++ cond (is_live live y.doc) (y ∷ []) []) (sym is) ∙ ap (λ b. live_items live (take i xs) ++ cond b (x ∷ []) []) alive)
+    ap (nears_of at)
+    (filter_more (λ y. is_live live y.doc) xs i x h ∙ ap (λ y. live_items live (take i xs) ++ cond (is_live live y.doc) (y ∷ []) []) (sym is)
+    ∙ ap (λ b. live_items live (take i xs) ++ cond b (x ∷ []) []) alive)
     ∙ map-append (near_of at) (live_items live (take i xs)) (x ∷ [])
     ∙ ap (λ y. nears_of at (live_items live (take i xs)) ++ y ∷ []) (sym same)
 
@@ -59,7 +64,9 @@ append_nothing (x ∷ xs) = ap (λ ys. x ∷ ys) (append_nothing xs)
 pub dead_more : (at : List ℤ) (live : LiveSet) (xs : List Item) (i : ℕ) (x : Item) → i < length xs → x ≡ get_or xs i x → is_live live x.doc ≡ false
     → nears_of at (live_items live (take (i + 1) xs)) ≡ nears_of at (live_items live (take i xs))
 dead_more at live xs i x h is dead =
-    ap (nears_of at) (filter_more (λ y. is_live live y.doc) xs i x h ∙ ap (λ y. live_items live (take i xs) ++ cond (is_live live y.doc) (y ∷ []) []) (sym is) ∙ ap (λ b. live_items live (take i xs) ++ cond b (x ∷ []) []) dead ∙ append_nothing (live_items live (take i xs)))
+    ap (nears_of at)
+    (filter_more (λ y. is_live live y.doc) xs i x h ∙ ap (λ y. live_items live (take i xs) ++ cond (is_live live y.doc) (y ∷ []) []) (sym is)
+    ∙ ap (λ b. live_items live (take i xs) ++ cond b (x ∷ []) []) dead ∙ append_nothing (live_items live (take i xs)))
 
 abbrev pub near_with : ℕ → ℕ → Near
 near_with d doc = record { dist2 = d; doc = doc }

@@ -1,5 +1,6 @@
 -- How far the entries below a node are.
-use Rattle.std.proofs.Common.{◌≡◌, ℕ, ◌+◌, ◌*◌, ◌≤◌, ◌<◌, Bool, true, false, cond, List, [], ◌∷◌, length, get_or, ℤ, ◌-ℤ◌, ◌≤ℤ◌, unsigned_abs, pos, refl, sym, ◌∙◌, arith}
+use Rattle.std.proofs.Common.{◌≡◌, ℕ, ◌+◌, ◌*◌, ◌≤◌, ◌<◌, Bool, true, false, cond, List, [], ◌∷◌}
+use Rattle.std.proofs.Common.{length, get_or, ℤ, ◌-ℤ◌, ◌≤ℤ◌, unsigned_abs, pos, refl, sym, ◌∙◌, arith}
 use Rattle.std.proofs.lemmas.Int.{ints}
 use Rattle.std.proofs.lemmas.List.{length-set}
 use Rattle.std.proofs.lemmas.List.Sums.{sum_by-cons}
@@ -59,7 +60,8 @@ module _ (D : ℕ) (at : List ℤ) (d : ℕ) (path : Region) (dim : ℕ) (x : �
 -- ---- a sum that is nothing over what is far
 
 module _ (f : Near → ℕ) (d : ℕ) (none : (y : Near) → d ≤ y.dist2 → f y ≡ 0) (D : ℕ) where
-  zero_items : (at : List ℤ) (live : LiveSet) (own : Region) (items : List Item) → IsFar D at d own → All (λ y. in_box own y.at ≡ true) items → All (λ y. IsPoint D y.at) items
+  zero_items : (at : List ℤ) (live : LiveSet) (own : Region) (items : List Item) → IsFar D at d own → All (λ y. in_box own y.at ≡ true) items
+      → All (λ y. IsPoint D y.at) items
       → sum_by f (nears_of at (live_items live items)) ≡ 0
   zero_items at live own [] far inside points = refl
   zero_items at live own (y ∷ ys) far inside points =
@@ -73,12 +75,14 @@ module _ (f : Near → ℕ) (d : ℕ) (none : (y : Near) → d ≤ y.dist2 → f
       by_live true h = let c = sum_by-cons f (near_of at y) (nears_of at (live_items live ys)) in let p = here in omega (arith, c, p, h)
       by_live false h = h
 
-  zero_leaf : (bytes : List ℕ) (head : Head) (number : ℕ) (s : Spot) (len : ℕ) (own : Region) (at : List ℤ) (live : LiveSet) (items : List Item) → HoldsLeaf D bytes head number s len own items → IsFar D at d own
+  zero_leaf : (bytes : List ℕ) (head : Head) (number : ℕ) (s : Spot) (len : ℕ) (own : Region) (at : List ℤ) (live : LiveSet) (items : List Item)
+      → HoldsLeaf D bytes head number s len own items → IsFar D at d own
       → sum_by f (nears_of at (live_items live items)) ≡ 0
   unfolding HoldsLeaf
   zero_leaf bytes head number s len own at live items h far = zero_items at live own items far h.spells.inside h.spells.spells.are_leaf.points
 
-  zero_below : (w : World) (i first : ℕ) (s : Spot) (path : Region) (t : IndexTree) → length path.hi ≡ D → length path.lo ≡ D → HasCells D path t → HasLeaves D w i first s t → IsFar D w.at d path
+  zero_below : (w : World) (i first : ℕ) (s : Spot) (path : Region) (t : IndexTree) → length path.hi ≡ D → length path.lo ≡ D → HasCells D path t
+      → HasLeaves D w i first s t → IsFar D w.at d path
       → span (λ j n. sum_by f (nears_at w j n)) i first (leaf_count t) ≡ 0
   zero_below w i first s path (Leaf len own) hi lo cells leaves far =
       span_one (λ j n. sum_by f (nears_at w j n)) i first
@@ -88,14 +92,17 @@ module _ (f : Near → ℕ) (d : ℕ) (none : (y : Near) → d ≤ y.dist2 → f
       let hi' : length (left_of path dim x).hi ≡ D = length-set path.hi dim x ∙ hi in
       let lo' : length (right_of path dim x).lo ≡ D = length-set path.lo dim x ∙ lo in
       let a = zero_below w i first s (left_of path dim x) l hi' lo cells.1 leaves.0 (far_left D w.at d path dim x hi lo cut.dimension cut.from cut.to far) in
-      let b = zero_below w i (first + leaf_count l) (right_begin s l r) (right_of path dim x) r hi lo' cells.2 leaves.1 (far_right D w.at d path dim x hi lo cut.dimension cut.from cut.to far) in
+      let b = zero_below w i (first + leaf_count l) (right_begin s l r) (right_of path dim x) r hi lo' cells.2 leaves.1
+      (far_right D w.at d path dim x hi lo cut.dimension cut.from cut.to far) in
       let c = span_split (λ n. sum_by f (nears_at w i n)) first (leaf_count l) (leaf_count r) in
       omega (arith, a, b, c)
 
   -- nothing that counts is below a node that is far
-  pub zero_node : (w : World) (i first : ℕ) (s : Spot) (path : Region) (t : IndexTree) → length path.hi ≡ D → length path.lo ≡ D → HasCells D path t → HasLeaves D w i first s t → d ≤ least_dist2 w.at (cell_of path t)
+  pub zero_node : (w : World) (i first : ℕ) (s : Spot) (path : Region) (t : IndexTree) → length path.hi ≡ D → length path.lo ≡ D → HasCells D path t
+      → HasLeaves D w i first s t → d ≤ least_dist2 w.at (cell_of path t)
       → span (λ j n. sum_by f (nears_at w j n)) i first (leaf_count t) ≡ 0
   zero_node w i first s path (Leaf len own) hi lo cells leaves h =
       span_one (λ j n. sum_by f (nears_at w j n)) i first
       ∙ zero_leaf _ _ first s len own w.at (live_at w i) (w.table i first) leaves.0 (far_cell D w.at d own h)
-  zero_node w i first s path (Split dim x l r) hi lo cells leaves h = zero_below w i first s path (Split dim x l r) hi lo cells leaves (far_cell D w.at d path h)
+  zero_node w i first s path (Split dim x l r) hi lo cells leaves h =
+      zero_below w i first s path (Split dim x l r) hi lo cells leaves (far_cell D w.at d path h)

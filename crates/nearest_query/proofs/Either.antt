@@ -41,20 +41,24 @@ best_of entries c lt kept = record { some = kept.some; linked = kept.linked; nea
 pub nearest_few : (entries : List Near) (c : Candidates) → c.many.room ≤ 64 → AreBest entries c → IsNearest c.many.room entries c.few.items
 nearest_few entries c le best = subst (IsNearest c.many.room entries) (few_is c le) best.nearest
 
-pub best_few : (entries more : List Near) (old new : Candidates) → old.many.room ≤ 64 → new.many ≡ old.many → AreBest entries old → IsNearest old.many.room more new.few.items → AreBest more new
+pub best_few : (entries more : List Near) (old new : Candidates) → old.many.room ≤ 64 → new.many ≡ old.many → AreBest entries old
+    → IsNearest old.many.room more new.few.items → AreBest more new
 best_few entries more old new le same best is =
     let room : new.many.room ≡ old.many.room = ap (λ (m : Many). m.room) same in
     record {
       some = (let s = best.some in omega (arith, room, s));
       linked = subst AreLinked (sym same) best.linked;
-      nearest = subst (IsNearest new.many.room more) (sym (few_is new (omega (arith, room, le)))) (subst (λ (k : ℕ). IsNearest k more new.few.items) (sym room) is);
+      nearest =
+          subst (IsNearest new.many.room more) (sym (few_is new (omega (arith, room, le)))) (subst (λ (k : ℕ). IsNearest k more new.few.items) (sym room) is);
     }
 
 -- all are as near as the last, where they are in order
-pub all_nearer : (k d : ℕ) (entries found : List Near) → IsNearest k entries found → 0 < length found → ((e : Near) → (get_or found (length found - 1) e).dist2 < d) → All (λ a. a.dist2 < d) found
+pub all_nearer : (k d : ℕ) (entries found : List Near) → IsNearest k entries found → 0 < length found
+    → ((e : Near) → (get_or found (length found - 1) e).dist2 < d) → All (λ a. a.dist2 < d) found
 all_nearer k d entries found was some last = All-weaker (λ a. Contains found a) (λ a. a.dist2 < d) nearer found (All-contains_itself found)
   where
     nearer : (a : Near) → Contains found a → a.dist2 < d
     nearer a h =
         let l = last a in
-        ⊎_elim (λ e. let s : a.dist2 ≡ (get_or found (length found - 1) a).dist2 = ap (λ (y : Near). y.dist2) e in omega (arith, l, s)) (λ b. omega (arith, l, b.near)) (up_to_last found a a was.rises some h)
+        ⊎_elim (λ e. let s : a.dist2 ≡ (get_or found (length found - 1) a).dist2 = ap (λ (y : Near). y.dist2) e in omega (arith, l, s))
+        (λ b. omega (arith, l, b.near)) (up_to_last found a a was.rises some h)

@@ -1,5 +1,6 @@
 -- Where a search ends.
-use Rattle.std.proofs.Common.{◌≡◌, ℕ, ◌≤◌, ◌<◌, Bool, true, false, ◌&&◌, cond, eqb, List, [], ◌∷◌, length, get_or, Option, Some, None, refl, sym, ap, subst, ◌∙◌, inl, inr, ⊎_elim, arith}
+use Rattle.std.proofs.Common.{◌≡◌, ℕ, ◌≤◌, ◌<◌, Bool, true, false, ◌&&◌, cond, eqb, List, [], ◌∷◌, length}
+use Rattle.std.proofs.Common.{get_or, Option, Some, None, refl, sym, ap, subst, ◌∙◌, inl, inr, ⊎_elim, arith}
 use Rattle.std.proofs.lemmas.Bool.Decides.{nat_tests}
 use Rattle.std.proofs.lemmas.Map.Views.{exact_unsigned_eq}
 use Rattle.std.proofs.lemmas.List.Sums.{sum_by-cons, get_or-le-sum_by}
@@ -32,7 +33,9 @@ same_itself : (x : Near) → is_same x x ≡ true
 same_itself x = grind (arith, nat_tests)
 
 same_is : (x y : Near) → is_same x y ≡ true → x ≡ y
-same_is x y h = let p = both (eqb x.dist2 y.dist2) (eqb x.doc y.doc) h in same_near x y (exact_unsigned_eq x.dist2 y.dist2 p.0) (exact_unsigned_eq x.doc y.doc p.1)
+same_is x y h =
+    let p = both (eqb x.dist2 y.dist2) (eqb x.doc y.doc) h in
+    same_near x y (exact_unsigned_eq x.dist2 y.dist2 p.0) (exact_unsigned_eq x.doc y.doc p.1)
   where
     both : (a b : Bool) → (a && b) ≡ true → (a ≡ true) × (b ≡ true)
     both true b h = (refl, h)
@@ -58,7 +61,8 @@ same_members xs ys h x k = let c = counts_some x xs k in let t = h (one_if x) in
 
 -- ---- the nodes that wait are far
 
-zero_turns : {D : ℕ} (w : World) (d : ℕ) (f : Near → ℕ) → ((y : Near) → d ≤ y.dist2 → f y ≡ 0) → (nodes : List (NodeAt D)) (turns : List Waiting) → All (IsNode D w nodes) turns → All (λ t. d ≤ t.dist2.0) turns
+zero_turns : {D : ℕ} (w : World) (d : ℕ) (f : Near → ℕ) → ((y : Near) → d ≤ y.dist2 → f y ≡ 0) → (nodes : List (NodeAt D)) (turns : List Waiting)
+    → All (IsNode D w nodes) turns → All (λ t. d ≤ t.dist2.0) turns
     → sum_by (spread (λ i n. sum_by f (nears_at w i n))) turns ≡ 0
 zero_turns w d f none nodes [] all far = refl
 zero_turns {D} w d f none nodes (t ∷ ts) all far =
@@ -74,15 +78,21 @@ zero_turns {D} w d f none nodes (t ∷ ts) all far =
 -- the last is the farthest
 last_greatest : (ns : List Near) (b : ℕ) → AllPairs ComesBefore ns → last_of ns ≡ Some b → (a : Near) → Contains ns a → a.dist2 ≤ b
 last_greatest [] b up e a h = cc
-last_greatest (n ∷ []) b up e a h = ⊎_elim (λ same. let d : n.dist2 ≡ a.dist2 = ap (λ y. y.dist2) same in let f : n.dist2 ≡ b = cc in omega (arith, d, f)) (λ k. nil_none a _ k) (cons_cases n [] a h)
+last_greatest (n ∷ []) b up e a h =
+    ⊎_elim (λ same. let d : n.dist2 ≡ a.dist2 = ap (λ y. y.dist2) same in let f : n.dist2 ≡ b = cc in omega (arith, d, f)) (λ k. nil_none a _ k)
+    (cons_cases n [] a h)
 last_greatest (n ∷ (m ∷ ns)) b up e a h =
     let rest = last_greatest (m ∷ ns) b (pairs_tail ComesBefore n (m ∷ ns) up) e in
     ⊎_elim
-    (λ same. let d : n.dist2 ≡ a.dist2 = ap (λ y. y.dist2) same in let f = (pairs_head ComesBefore n (m ∷ ns) up m (cons_head m ns)).near in let l = rest m (cons_head m ns) in omega (arith, d, f, l))
+    (λ same.
+    let d : n.dist2 ≡ a.dist2 = ap (λ y. y.dist2) same in
+    let f = (pairs_head ComesBefore n (m ∷ ns) up m (cons_head m ns)).near in
+    let l = rest m (cons_head m ns) in omega (arith, d, f, l))
     (λ k. rest a k)
     (cons_cases n (m ∷ ns) a h)
 
-module _ {D : ℕ} (w : World) (all : List Near) (turns : List Waiting) (nodes : List (NodeAt D)) (found : Candidates) (s : IsSought D w all turns nodes found) where
+module _ {D : ℕ} (w : World) (all : List Near) (turns : List Waiting) (nodes : List (NodeAt D)) (found : Candidates)
+    (s : IsSought D w all turns nodes found) where
   pub seen_in : (x : Near) → Contains s.seen x → Contains all x
   seen_in x h = let c = counts_some x s.seen h in let t = s.totals (one_if x) in some_counted x all (omega (arith, c, t))
 
@@ -95,17 +105,25 @@ module _ {D : ℕ} (w : World) (all : List Near) (turns : List Waiting) (nodes :
       some_counted x s.seen (omega (arith, c, t, z))
     where
       other : (y : Near) → d ≤ y.dist2 → is_same x y ≡ false
-      other y le = by_test _ (is_same x y) (λ e. let p = same_is x y e in let q : x.dist2 ≡ y.dist2 = ap (λ z. z.dist2) p in absurd (omega (arith, q, le, lt))) (λ e. e)
+      other y le =
+          by_test _ (is_same x y) (λ e. let p = same_is x y e in let q : x.dist2 ≡ y.dist2 = ap (λ z. z.dist2) p in absurd (omega (arith, q, le, lt))) (λ e. e)
 
-  pub stop_nearest : (d : ℕ) → All (λ t. d ≤ t.dist2.0) turns → found.many.room ≤ length (found_of found) → All (λ a. a.dist2 < d) (found_of found) → IsNearest found.many.room all (found_of found)
+  pub stop_nearest : (d : ℕ) → All (λ t. d ≤ t.dist2.0) turns → found.many.room ≤ length (found_of found) → All (λ a. a.dist2 < d) (found_of found)
+      → IsNearest found.many.room all (found_of found)
   stop_nearest d far full before = nearest_wider found.many.room s.seen all (found_of found) s.best.nearest seen_in
       (λ x h. by_test _ (nat_lt x.dist2 d)
       (λ lt. inl (near_seen d far x h (grind (arith, nat_tests))))
-      (λ ge. inr (let few = s.best.nearest.few in omega (arith, few, full), λ a m. let l = All-contains (λ b. b.dist2 < d) (found_of found) a before m in let g : d ≤ x.dist2 = grind (arith, nat_tests) in omega (arith, l, g))))
+      (λ ge. inr (
+        let few = s.best.nearest.few in omega (arith, few, full),
+        λ a m. let l = All-contains (λ b. b.dist2 < d) (found_of found) a before m in let g : d ≤ x.dist2 = grind (arith, nat_tests) in omega (arith, l, g),
+      )))
 
   pub end_nearest : turns ≡ [] → IsNearest found.many.room all (found_of found)
   end_nearest e = nearest_wider found.many.room s.seen all (found_of found) s.best.nearest seen_in
-      (λ x h. inl (let c = counts_some x all h in let t = s.totals (one_if x) in let z : sum_by (spread (λ i n. sum_by (one_if x) (nears_at w i n))) turns ≡ 0 = ap (λ ts. sum_by (spread (λ i n. sum_by (one_if x) (nears_at w i n))) ts) e in some_counted x s.seen (omega (arith, c, t, z))))
+      (λ x h. inl (let c = counts_some x all h in
+      let t = s.totals (one_if x) in
+      let z : sum_by (spread (λ i n. sum_by (one_if x) (nears_at w i n))) turns ≡ 0 =
+      ap (λ ts. sum_by (spread (λ i n. sum_by (one_if x) (nears_at w i n))) ts) e in some_counted x s.seen (omega (arith, c, t, z))))
 
   last_within : (d : ℕ) (nearest : List Near) → All (λ t. d ≤ t.dist2.0) turns → IsNearest found.many.room all nearest
       → (found.many.room ≤ length (found_of found) → (a : Near) × Contains (found_of found) a × (d ≤ a.dist2))
@@ -117,7 +135,8 @@ module _ {D : ℕ} (w : World) (all : List Near) (turns : List Waiting) (nodes :
 
       too_near : (b : ℕ) → last_of nearest ≡ Some b → b < d → ⊥
       too_near b e lt =
-          let narrow = nearest_narrower found.many.room s.seen all nearest is seen_in (λ a h. let l = last_greatest nearest b is.rises e a h in near_seen d far a (is.among a h) (omega (arith, l, lt))) in
+          let narrow = nearest_narrower found.many.room s.seen all nearest is seen_in
+          (λ a h. let l = last_greatest nearest b is.rises e a h in near_seen d far a (is.among a h) (omega (arith, l, lt))) in
           let same = nearest_unique found.many.room s.seen nearest (found_of found) narrow s.best.nearest in
           let after = not_ended (let l = ap length same in let m = full in omega (arith, l, m)) in
           let l = last_greatest nearest b is.rises e after.0 (subst (λ ns. Contains ns after.0) (sym same) after.1) in
@@ -140,14 +159,17 @@ module _ {D : ℕ} (w : World) (all : List Near) (turns : List Waiting) (nodes :
       (λ enough. ap (λ b. is_within (cond b None (last_of nearest)) d) enough ∙ last_within d nearest far is not_ended enough)
 
 -- the next node is one of the world
-pub next_node : {D : ℕ} (w : World) (all : List Near) (next : Waiting) (turns : List Waiting) (nodes nodes' : List (NodeAt D)) (found : Candidates) → IsSought D w all (next ∷ turns) nodes found → nodes' ≡ nodes → IsNode D w nodes' next
+pub next_node : {D : ℕ} (w : World) (all : List Near) (next : Waiting) (turns : List Waiting) (nodes nodes' : List (NodeAt D)) (found : Candidates)
+    → IsSought D w all (next ∷ turns) nodes found → nodes' ≡ nodes → IsNode D w nodes' next
 next_node {D} w all next turns nodes nodes' found s e = subst (λ ns. IsNode D w ns next) (sym e) (All-head (IsNode D w nodes) next turns s.nodes_are)
 
 -- and within the bound, where the search hasn't ended
-pub next_within : {D : ℕ} (w : World) (all : List Near) (next : Waiting) (turns : List Waiting) (nodes : List (NodeAt D)) (found : Candidates) → IsSought D w all (next ∷ turns) nodes found
+pub next_within : {D : ℕ} (w : World) (all : List Near) (next : Waiting) (turns : List Waiting) (nodes : List (NodeAt D)) (found : Candidates)
+    → IsSought D w all (next ∷ turns) nodes found
     → (room : ℕ) (nearest : List Near) → found.many.room ≡ room → IsNearest room all nearest → All (λ t. next.dist2.0 ≤ t.dist2.0) turns
     → (1 ≤ found.many.room → found.many.room ≤ length (found_of found) → (a : Near) × Contains (found_of found) a × (next.dist2.0 ≤ a.dist2))
     → is_within (bound_of room nearest) next.dist2.0 ≡ true
 next_within w all next turns nodes found s room nearest e is least not_ended =
     subst (λ k. is_within (bound_of k nearest) next.dist2.0 ≡ true) e
-    (goes_on w all (next ∷ turns) nodes found s next.dist2.0 nearest (All-cons (λ t. next.dist2.0 ≤ t.dist2.0) next turns (omega arith) least) (subst (λ k. IsNearest k all nearest) (sym e) is) (not_ended s.best.some))
+    (goes_on w all (next ∷ turns) nodes found s next.dist2.0 nearest (All-cons (λ t. next.dist2.0 ≤ t.dist2.0) next turns (omega arith) least)
+    (subst (λ k. IsNearest k all nearest) (sym e) is) (not_ended s.best.some))

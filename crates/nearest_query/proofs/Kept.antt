@@ -1,5 +1,6 @@
 -- One more entry offered to the candidates.
-use Rattle.std.proofs.Common.{◌≡◌, ◌≢◌, ℕ, ◌+◌, ◌≤◌, ◌<◌, Bool, true, false, not, cond, eqb, List, [], ◌∷◌, ◌++◌, length, length-append, Option, Some, None, refl, sym, ap, subst, ◌∙◌, ◌⊎◌, inl, inr, ⊎_elim, arith}
+use Rattle.std.proofs.Common.{◌≡◌, ◌≢◌, ℕ, ◌+◌, ◌≤◌, ◌<◌, Bool, true, false, not, cond, eqb, List, [], ◌∷◌, ◌++◌, length}
+use Rattle.std.proofs.Common.{length-append, Option, Some, None, refl, sym, ap, subst, ◌∙◌, ◌⊎◌, inl, inr, ⊎_elim, arith}
 use Rattle.std.proofs.lemmas.Map.Views.{btree_set_contains_iff}
 use Rattle.std.proofs.lemmas.List.Elements.{All-contains, All-contains_itself, All-weaker, Contains-push_cases, Contains-push}
 use Rattle.std.specs.declared.cmp.Ordering.TheVariants.{Less}
@@ -54,7 +55,10 @@ skip_best entries c n best full all = record {
       (λ a h e. (not_behind a h).0)
       (by_test _ (has c.in_order n)
       (λ h. inl (n, in_keys c.in_order n h, refl))
-      (λ h. inr (length_is, All-weaker (λ a. Contains c.in_order.keys a) (λ a. ComesBefore a n) (λ a k. before a k h) c.in_order.keys (All-contains_itself c.in_order.keys))));
+      (λ h. inr (
+        length_is,
+        All-weaker (λ a. Contains c.in_order.keys a) (λ a. ComesBefore a n) (λ a k. before a k h) c.in_order.keys (All-contains_itself c.in_order.keys),
+      )));
 }
   where
     length_is : length c.in_order.keys ≡ c.room
@@ -71,16 +75,19 @@ skip_best entries c n best full all = record {
           tie = λ t.
               let le = parts.1 t in
               let far : a.dist2 ≡ n.dist2 = let p = parts.0 in omega arith in
-              let other : a.doc ≢ n.doc = λ e. let on : has c.in_order n ≡ true = subst (λ y. has c.in_order y ≡ true) (same_near a n far e) (from_keys c.in_order a h) in cc in
+              let other : a.doc ≢ n.doc = λ e.
+              let on : has c.in_order n ≡ true = subst (λ y. has c.in_order y ≡ true) (same_near a n far e) (from_keys c.in_order a h) in cc in
               omega arith;
         }
 
 -- a candidate that is as near already
-pub stay_best : (entries : List Near) (c : Many) (n : Near) (d : ℕ) → AreKept entries c → hash.get eqb c.distances n.doc ≡ Some d → d ≤ n.dist2 → AreKept (n ∷ entries) c
+pub stay_best : (entries : List Near) (c : Many) (n : Near) (d : ℕ) → AreKept entries c → hash.get eqb c.distances n.doc ≡ Some d → d ≤ n.dist2
+    → AreKept (n ∷ entries) c
 stay_best entries c n d best e near = record {
   some = best.some;
   linked = best.linked;
-  nearest = nearest_same c.room entries c.in_order.keys n best.nearest low (inl (record { dist2 = d; doc = n.doc }, in_keys c.in_order _ ((links c best.linked (record { dist2 = d; doc = n.doc })).0 e), refl));
+  nearest = nearest_same c.room entries c.in_order.keys n best.nearest low
+      (inl (record { dist2 = d; doc = n.doc }, in_keys c.in_order _ ((links c best.linked (record { dist2 = d; doc = n.doc })).0 e), refl));
 }
   where
     low : (a : Near) → Contains c.in_order.keys a → n.doc ≡ a.doc → a.dist2 ≤ n.dist2
@@ -126,7 +133,9 @@ module _ (entries : List Near) (old : BTreeSet Near) (mid new : Many) (n : Near)
 
   pub put_best : length mid.in_order.keys + 1 ≤ mid.room
       → ((x : Near) → Contains entries x → x.doc ≡ n.doc → n.dist2 ≤ x.dist2)
-      → ((a : Near) → has old a ≡ true → (has mid.in_order a ≡ true) ⊎ ((n.doc ≡ a.doc) ⊎ ((length mid.in_order.keys + 1 ≡ mid.room) × (ComesBefore n a) × ((b : Near) → has mid.in_order b ≡ true → ComesBefore b a))))
+      → ((a : Near) → has old a ≡ true
+      → (has mid.in_order a ≡ true)
+      ⊎ ((n.doc ≡ a.doc) ⊎ ((length mid.in_order.keys + 1 ≡ mid.room) × (ComesBefore n a) × ((b : Near) → has mid.in_order b ≡ true → ComesBefore b a))))
       → (length old.keys ≡ mid.room → length mid.in_order.keys + 1 ≡ mid.room)
       → ((x : Near) → length old.keys ≡ mid.room → All (λ a. ComesBefore a x) old.keys → ComesBefore n x)
       → AreKept (n ∷ entries) new
@@ -140,7 +149,8 @@ module _ (entries : List Near) (old : BTreeSet Near) (mid new : Many) (n : Near)
         (in_keys new.in_order n holds)
         one
         low
-        (λ a h. ⊎_elim (λ k. inl (in_keys new.in_order a (stays a k))) (λ k. inr (⊎_elim (λ e. inl e) (λ gone. inr (all_before a gone)) k)) (kept a (from_keys old a h)))
+        (λ a h. ⊎_elim (λ k. inl (in_keys new.in_order a (stays a k))) (λ k. inr (⊎_elim (λ e. inl e) (λ gone. inr (all_before a gone)) k))
+        (kept a (from_keys old a h)))
         (λ e. let l = length_put in let f = full e in omega arith)
         first);
   }
@@ -153,15 +163,19 @@ module _ (entries : List Near) (old : BTreeSet Near) (mid new : Many) (n : Near)
       )
 
 -- a candidate comes nearer
-pub improved_best : (entries : List Near) (old mid new : Many) (n : Near) (d : ℕ) → AreKept entries old → hash.get eqb old.distances n.doc ≡ Some d → n.dist2 < d
+pub improved_best : (entries : List Near) (old mid new : Many) (n : Near) (d : ℕ) → AreKept entries old → hash.get eqb old.distances n.doc ≡ Some d
+    → n.dist2 < d
     → mid.room ≡ old.room → mid.distances ≡ old.distances
     → sorted.UpdatesBy near_cmp (near_cmp (record { dist2 = d; doc = n.doc })) old.in_order mid.in_order false
     → length mid.in_order.keys + cond (sorted.contains_by (near_cmp (record { dist2 = d; doc = n.doc })) old.in_order) 1 0 ≡ length old.in_order.keys
     → IsPut n mid new → AreKept (n ∷ entries) new
 improved_best entries old mid new n d best e near room same gone len put =
-    put_best entries old.in_order mid new n (let s = best.some in omega arith) (subst (λ k. IsNearest k entries old.in_order.keys) (sym room) best.nearest) but put sub
+    put_best entries old.in_order mid new n (let s = best.some in omega arith) (subst (λ k. IsNearest k entries old.in_order.keys) (sym room) best.nearest) but
+    put sub
     (let f = best.nearest.few in let l = length_mid in omega arith) low kept (λ f. let l = length_mid in omega arith)
-    (λ x f all. let p = All-contains (λ a. ComesBefore a x) old.in_order.keys w all w_in in record { near = let q = p.near in omega arith; tie = λ t. let q = p.near in absurd (omega arith) })
+    (λ x f all.
+    let p = All-contains (λ a. ComesBefore a x) old.in_order.keys w all w_in in
+    record { near = let q = p.near in omega arith; tie = λ t. let q = p.near in absurd (omega arith) })
   where
     w : Near
     w = record { dist2 = d; doc = n.doc }
@@ -179,7 +193,8 @@ improved_best entries old mid new n d best e near room same gone len put =
     length_mid = ap (λ b. length mid.in_order.keys + cond b 1 0) (sym w_has) ∙ len
 
     but : LinkedBut n (given mid) (has mid.in_order)
-    but = subst (λ m. LinkedBut n (λ k. hash.get eqb m k) (has mid.in_order)) (sym same) (but_improved w (given old) (has old.in_order) (has mid.in_order) is e gone.0 n refl)
+    but = subst (λ m. LinkedBut n (λ k. hash.get eqb m k) (has mid.in_order)) (sym same)
+        (but_improved w (given old) (has old.in_order) (has mid.in_order) is e gone.0 n refl)
 
     sub : (a : Near) → has mid.in_order a ≡ true → has old.in_order a ≡ true
     sub a h = was_in w (given old) (has old.in_order) (has mid.in_order) is e gone.0 a h
@@ -187,13 +202,16 @@ improved_best entries old mid new n d best e near room same gone len put =
     low : (x : Near) → Contains entries x → x.doc ≡ n.doc → n.dist2 ≤ x.dist2
     low x h f = let l = best.nearest.least w x w_in h f in omega arith
 
-    kept : (a : Near) → has old.in_order a ≡ true → (has mid.in_order a ≡ true) ⊎ ((n.doc ≡ a.doc) ⊎ ((length mid.in_order.keys + 1 ≡ mid.room) × (ComesBefore n a) × ((b : Near) → has mid.in_order b ≡ true → ComesBefore b a)))
+    kept : (a : Near) → has old.in_order a ≡ true
+        → (has mid.in_order a ≡ true)
+        ⊎ ((n.doc ≡ a.doc) ⊎ ((length mid.in_order.keys + 1 ≡ mid.room) × (ComesBefore n a) × ((b : Near) → has mid.in_order b ≡ true → ComesBefore b a)))
     kept a h = by_test _ (is_at (near_cmp w) a)
         (λ at. inr (inl (ap (λ y. y.doc) (at_one w a at))))
         (λ off. inl (gone.0 a ∙ ap (λ b. cond b false (has old.in_order a)) off ∙ h))
 
 -- a number more, where there is a place
-pub added_best : (entries : List Near) (old new : Many) (n : Near) → AreKept entries old → hash.get eqb old.distances n.doc ≡ None → length old.in_order.keys < old.room
+pub added_best : (entries : List Near) (old new : Many) (n : Near) → AreKept entries old → hash.get eqb old.distances n.doc ≡ None
+    → length old.in_order.keys < old.room
     → IsPut n old new → AreKept (n ∷ entries) new
 added_best entries old new n best e room put =
     put_best entries old.in_order old new n best.some best.nearest (but_none n (given old) (has old.in_order) is e) put (λ a h. h)
@@ -216,7 +234,8 @@ pub replaced_best : (entries : List Near) (old mid new : Many) (n w : Near) → 
     → hash.UpdatesBy eqb (eqb w.doc) old.distances mid.distances None
     → IsPut n mid new → AreKept (n ∷ entries) new
 replaced_best entries old mid new n w best e full after room cut below gone lost put =
-    put_best entries old.in_order mid new n (let s = best.some in omega arith) (subst (λ k. IsNearest k entries old.in_order.keys) (sym room) best.nearest) but put sub
+    put_best entries old.in_order mid new n (let s = best.some in omega arith) (subst (λ k. IsNearest k entries old.in_order.keys) (sym room) best.nearest) but
+    put sub
     (let l = length_mid in omega arith) low kept (λ f. let l = length_mid in omega arith)
     (λ x f all. before_trans n after.0 x n_before (All-contains (λ a. ComesBefore a x) old.in_order.keys after.0 all after.1))
   where
@@ -236,10 +255,13 @@ replaced_best entries old mid new n w best e full after room cut below gone lost
     mid_before a h = before_from_less a w (All-contains (λ q. near_cmp q w ≡ Less) mid.in_order.keys a below h)
 
     w_after : ComesBefore n w
-    w_after = ⊎_elim (λ h. before_trans n after.0 w n_before (mid_before after.0 h)) (λ same. subst (λ y. ComesBefore n y) (sym same) n_before) (Contains-push_cases mid.in_order.keys w after.0 (subst (λ ks. Contains ks after.0) cut after.1))
+    w_after = ⊎_elim (λ h. before_trans n after.0 w n_before (mid_before after.0 h)) (λ same. subst (λ y. ComesBefore n y) (sym same) n_before)
+        (Contains-push_cases mid.in_order.keys w after.0 (subst (λ ks. Contains ks after.0) cut after.1))
 
     length_mid : length mid.in_order.keys + 1 ≡ mid.room
-    length_mid = let l : length old.in_order.keys ≡ length mid.in_order.keys + 1 = ap length cut ∙ length-append mid.in_order.keys (w ∷ []) in let f = best.nearest.few in omega arith
+    length_mid =
+        let l : length old.in_order.keys ≡ length mid.in_order.keys + 1 = ap length cut ∙ length-append mid.in_order.keys (w ∷ []) in
+        let f = best.nearest.few in omega arith
 
     but : LinkedBut n (given mid) (has mid.in_order)
     but = but_replaced w (given old) (has old.in_order) (has mid.in_order) is w_given gone.0 n (given mid) e lost.0
@@ -253,7 +275,13 @@ replaced_best entries old mid new n w best e full after room cut below gone lost
         (λ out. let p = All-contains (λ a. ComesBefore a x) old.in_order.keys after.0 out.1 after.1 in let q = n_before.near in let r = p.near in omega arith)
         (best.nearest.left_out x h)
 
-    kept : (a : Near) → has old.in_order a ≡ true → (has mid.in_order a ≡ true) ⊎ ((n.doc ≡ a.doc) ⊎ ((length mid.in_order.keys + 1 ≡ mid.room) × (ComesBefore n a) × ((b : Near) → has mid.in_order b ≡ true → ComesBefore b a)))
+    kept : (a : Near) → has old.in_order a ≡ true
+        → (has mid.in_order a ≡ true)
+        ⊎ ((n.doc ≡ a.doc) ⊎ ((length mid.in_order.keys + 1 ≡ mid.room) × (ComesBefore n a) × ((b : Near) → has mid.in_order b ≡ true → ComesBefore b a)))
     kept a h = by_test _ (is_at (near_cmp w) a)
-        (λ at. inr (inr (length_mid, subst (λ y. ComesBefore n y) (at_one w a at) w_after, λ b k. subst (λ y. ComesBefore b y) (at_one w a at) (mid_before b (in_keys mid.in_order b k)))))
+        (λ at. inr (inr (
+          length_mid,
+          subst (λ y. ComesBefore n y) (at_one w a at) w_after,
+          λ b k. subst (λ y. ComesBefore b y) (at_one w a at) (mid_before b (in_keys mid.in_order b k)),
+        )))
         (λ off. inl (gone.0 a ∙ ap (λ b. cond b false (has old.in_order a)) off ∙ h))

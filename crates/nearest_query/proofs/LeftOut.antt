@@ -1,5 +1,6 @@
 -- Entries of a leaf offered outwards from a point's place: what is left out changes nothing.
-use Rattle.std.proofs.Common.{◌≡◌, ℕ, zero, suc, ◌+◌, ◌*◌, ◌-◌, ◌≤◌, ◌<◌, Bool, true, false, cond, List, [], ◌∷◌, ◌++◌, length, take, drop, get_or, map, ℤ, ◌-ℤ◌, pos, int_le, int_lt, unsigned_abs, Option, Some, refl, sym, ap, subst, ◌∙◌, inr, arith}
+use Rattle.std.proofs.Common.{◌≡◌, ℕ, zero, suc, ◌+◌, ◌*◌, ◌-◌, ◌≤◌, ◌<◌, Bool, true, false, cond, List, [], ◌∷◌, ◌++◌, length, take, drop}
+use Rattle.std.proofs.Common.{get_or, map, ℤ, ◌-ℤ◌, pos, int_le, int_lt, unsigned_abs, Option, Some, refl, sym, ap, subst, ◌∙◌, inr, arith}
 use Rattle.std.proofs.Math.Nat.{mul-le-mul}
 use Rattle.std.proofs.lemmas.Int.{ints}
 use Rattle.std.proofs.lemmas.List.{get_or-map, get_or-take, get_or-drop, length-take-le, length-drop, take-take, drop_all}
@@ -30,7 +31,8 @@ far_best entries c n best near = record {
       (λ a h e. let l = All-contains (λ b. b.dist2 < n.dist2) (found_of c) a near.1 h in omega (arith, l))
       (inr (
         (let few = best.nearest.few in let full = near.0 in omega (arith, few, full)),
-        All-weaker (λ a. a.dist2 < n.dist2) (λ a. ComesBefore a n) (λ a l. record { near = omega (arith, l); tie = λ t. absurd (omega (arith, l, t)) }) (found_of c) near.1,
+        All-weaker (λ a. a.dist2 < n.dist2) (λ a. ComesBefore a n) (λ a l. record { near = omega (arith, l); tie = λ t. absurd (omega (arith, l, t)) })
+            (found_of c) near.1,
       ));
 }
 
@@ -47,7 +49,8 @@ far_added at live c d near (x ∷ xs) far seen best =
     here : AreNearer (dist2 x.at at) c
     here = nearer_than d (dist2 x.at at) c near (All-head (λ y. d ≤ dist2 y.at at) x xs far)
 
-    by_live : (b : Bool) → AreAdded seen (nears_of at (live_items live xs)) c → AreAdded seen (nears_of at (cond b (x ∷ live_items live xs) (live_items live xs))) c
+    by_live : (b : Bool) → AreAdded seen (nears_of at (live_items live xs)) c
+        → AreAdded seen (nears_of at (cond b (x ∷ live_items live xs) (live_items live xs))) c
     by_live false was = was
     by_live true was = record {
       after = near_of at x ∷ was.after;
@@ -61,17 +64,20 @@ far_added at live c d near (x ∷ xs) far seen best =
 
 -- ---- one after another
 
-pub added_both : (seen entries more whole : List Near) (c d : Candidates) (first : AreAdded seen entries c) → AreAdded first.after more d → ((f : Near → ℕ) → sum_by f whole ≡ sum_by f entries + sum_by f more) → AreAdded seen whole d
+pub added_both : (seen entries more whole : List Near) (c d : Candidates) (first : AreAdded seen entries c) → AreAdded first.after more d
+    → ((f : Near → ℕ) → sum_by f whole ≡ sum_by f entries + sum_by f more) → AreAdded seen whole d
 added_both seen entries more whole c d first next total = record {
   after = next.after;
   best = next.best;
   totals = λ f. let a = first.totals f in let b = next.totals f in let t = total f in omega (arith, a, b, t);
 }
 
-pub one_dead : (at : List ℤ) (live : LiveSet) (x : Item) (seen : List Near) (c : Candidates) → is_live live x.doc ≡ false → AreBest seen c → AreAdded seen (nears_of at (live_items live (x ∷ []))) c
+pub one_dead : (at : List ℤ) (live : LiveSet) (x : Item) (seen : List Near) (c : Candidates) → is_live live x.doc ≡ false → AreBest seen c
+    → AreAdded seen (nears_of at (live_items live (x ∷ []))) c
 one_dead at live x seen c dead best = added_same seen [] _ c (added_none seen c best) (ap (λ b. nears_of at (cond b (x ∷ []) [])) dead)
 
-pub one_live : (at : List ℤ) (live : LiveSet) (x : Item) (n : Near) (seen : List Near) (c : Candidates) → is_live live x.doc ≡ true → n ≡ near_of at x → AreBest (n ∷ seen) c
+pub one_live : (at : List ℤ) (live : LiveSet) (x : Item) (n : Near) (seen : List Near) (c : Candidates) → is_live live x.doc ≡ true → n ≡ near_of at x
+    → AreBest (n ∷ seen) c
     → AreAdded seen (nears_of at (live_items live (x ∷ []))) c
 one_live at live x n seen c alive is best =
     added_same seen (n ∷ []) _ c
@@ -97,7 +103,8 @@ module _ (at : List ℤ) (live : LiveSet) (f : Near → ℕ) where
   by_parts [] = refl
   by_parts (x ∷ xs) = by_live (is_live live x.doc) (by_parts xs) ∙ sym (sum_by-cons part x xs)
     where
-      by_live : (b : Bool) → live_sum xs ≡ sum_by part xs → sum_by f (nears_of at (cond b (x ∷ live_items live xs) (live_items live xs))) ≡ cond b (f (near_of at x)) 0 + sum_by part xs
+      by_live : (b : Bool) → live_sum xs ≡ sum_by part xs
+          → sum_by f (nears_of at (cond b (x ∷ live_items live xs) (live_items live xs))) ≡ cond b (f (near_of at x)) 0 + sum_by part xs
       by_live true h = let c = sum_by-cons f (near_of at x) (nears_of at (live_items live xs)) in omega (arith, c, h)
       by_live false h = omega (arith, h)
 
@@ -125,7 +132,8 @@ module _ (at : List ℤ) (live : LiveSet) (f : Near → ℕ) where
       let t = sum_by-cons part x [] in
       omega (arith, a, b, c, s, e, t)
 
-  pub up_more : (xs : List Item) (p i : ℕ) (x : Item) → p ≤ i → i < length xs → get_or xs i x ≡ x → live_sum (drop p (take (i + 1) xs)) ≡ live_sum (drop p (take i xs)) + live_sum (x ∷ [])
+  pub up_more : (xs : List Item) (p i : ℕ) (x : Item) → p ≤ i → i < length xs → get_or xs i x ≡ x
+      → live_sum (drop p (take (i + 1) xs)) ≡ live_sum (drop p (take i xs)) + live_sum (x ∷ [])
   up_more xs p i x le lt is =
       let a = between xs p i le in
       let b = between xs p (i + 1) (omega (arith, le)) in
@@ -139,7 +147,8 @@ module _ (at : List ℤ) (live : LiveSet) (f : Near → ℕ) where
       let t = sum_halves xs i in
       omega (arith, a, s, t)
 
-  pub down_more : (xs : List Item) (p i : ℕ) (x : Item) → i < p → i < length xs → get_or xs i x ≡ x → live_sum (drop i (take p xs)) ≡ live_sum (drop (i + 1) (take p xs)) + live_sum (x ∷ [])
+  pub down_more : (xs : List Item) (p i : ℕ) (x : Item) → i < p → i < length xs → get_or xs i x ≡ x
+      → live_sum (drop i (take p xs)) ≡ live_sum (drop (i + 1) (take p xs)) + live_sum (x ∷ [])
   down_more xs p i x le lt is =
       let a = between xs i p (omega (arith, le)) in
       let b = between xs (i + 1) p (omega (arith, le)) in
@@ -168,7 +177,8 @@ module _ (D d : ℕ) (at : List ℤ) (place : ℕ) (xs : List Item) (parted : Ar
   abbrev target : ℤ
   target = get_or at d (pos 0)
 
-  far_one : (k : ℕ) (x e : Item) → k < length xs → unsigned_abs (coordinate d x -ℤ target) ≤ unsigned_abs (coordinate d (get_or xs k e) -ℤ target) → gap2 d at x ≤ dist2 (get_or xs k e).at at
+  far_one : (k : ℕ) (x e : Item) → k < length xs → unsigned_abs (coordinate d x -ℤ target) ≤ unsigned_abs (coordinate d (get_or xs k e) -ℤ target)
+      → gap2 d at x ≤ dist2 (get_or xs k e).at at
   far_one k x e lt le =
       let long : length (get_or xs k e).at ≡ D = parted.points k e lt in
       let dim = parted.dimension in
@@ -179,7 +189,8 @@ module _ (D d : ℕ) (at : List ℤ) (place : ℕ) (xs : List Item) (parted : Ar
 
   rises : (i k : ℕ) (x e : Item) → get_or xs i e ≡ x → i ≤ k → k < length xs → int_le (coordinate d x) (coordinate d (get_or xs k e)) ≡ true
   rises i k x e is le lt =
-      (λ j. int_le (sym (get_or-map (coordinate d) xs i e (pos 0) (omega (arith, le, lt)) ∙ ap (coordinate d) is) j) (sym (get_or-map (coordinate d) xs k e (pos 0) lt) j))
+      (λ j. int_le (sym (get_or-map (coordinate d) xs i e (pos 0) (omega (arith, le, lt)) ∙ ap (coordinate d) is) j)
+      (sym (get_or-map (coordinate d) xs k e (pos 0) lt) j))
       ∙ parted.ascend i k le lt
 
   -- from an entry on that is not below the point, none is nearer than it is in dimension d
@@ -187,9 +198,11 @@ module _ (D d : ℕ) (at : List ℤ) (place : ℕ) (xs : List Item) (parted : Ar
   far_above i x from lt is k e h =
       let at_k : get_or (drop i xs) k e ≡ get_or xs (i + k) e = get_or-drop i xs k e in
       let under : i + k < length xs = omega (arith, h, length-drop i xs) in
-      let low : int_le target (coordinate d x) ≡ true = ap (λ y. int_le target (coordinate d y)) (sym here) ∙ parted.above (i - place) x (omega (arith, from, lt, length-drop place xs)) in
+      let low : int_le target (coordinate d x) ≡ true =
+      ap (λ y. int_le target (coordinate d y)) (sym here) ∙ parted.above (i - place) x (omega (arith, from, lt, length-drop place xs)) in
       subst (λ y. gap2 d at x ≤ dist2 y.at at) (sym at_k)
-      (far_one (i + k) x e under (farther_above target (coordinate d x) (coordinate d (get_or xs (i + k) e)) low (rises i (i + k) x e (is e) (omega arith) under)))
+      (far_one (i + k) x e under
+      (farther_above target (coordinate d x) (coordinate d (get_or xs (i + k) e)) low (rises i (i + k) x e (is e) (omega arith) under)))
     where
       back : place + (i - place) ≡ i
       back = omega (arith, from)
@@ -203,7 +216,11 @@ module _ (D d : ℕ) (at : List ℤ) (place : ℕ) (xs : List Item) (parted : Ar
       let within = parted.within in
       let under : k < i + 1 = omega (arith, h, length-take-le (i + 1) xs (omega (arith, to, within))) in
       let at_k : get_or (take (i + 1) xs) k e ≡ get_or xs k e = get_or-take (i + 1) xs k e under in
-      let high : int_lt (coordinate d x) target ≡ true = ap (λ y. int_lt (coordinate d y) target) (sym (get_or-take place xs i x to ∙ is x)) ∙ parted.below i x (omega (arith, to, length-take-le place xs within)) in
-      let up : int_le (coordinate d (get_or xs k e)) (coordinate d x) ≡ true = subst (λ y. int_le (coordinate d (get_or xs k e)) (coordinate d y) ≡ true) (is e) (rises k i (get_or xs k e) e refl (omega (arith, under)) (omega (arith, to, within))) in
+      let high : int_lt (coordinate d x) target ≡ true =
+      ap (λ y. int_lt (coordinate d y) target) (sym (get_or-take place xs i x to ∙ is x))
+      ∙ parted.below i x (omega (arith, to, length-take-le place xs within)) in
+      let up : int_le (coordinate d (get_or xs k e)) (coordinate d x) ≡ true =
+      subst (λ y. int_le (coordinate d (get_or xs k e)) (coordinate d y) ≡ true) (is e)
+      (rises k i (get_or xs k e) e refl (omega (arith, under)) (omega (arith, to, within))) in
       subst (λ y. gap2 d at x ≤ dist2 y.at at) (sym at_k)
       (far_one k x e (omega (arith, under, to, within)) (farther_below target (coordinate d x) (coordinate d (get_or xs k e)) high up))

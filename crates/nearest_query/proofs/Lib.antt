@@ -4,6 +4,7 @@ pub mod Offers
 pub mod Links
 pub mod Kept
 pub mod Among
+pub mod AmongWays
 pub mod Either
 pub mod Added
 pub mod Turns

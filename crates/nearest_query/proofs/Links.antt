@@ -39,7 +39,8 @@ other_docs m n e = grind (arith, nat_tests)
 
 -- the two cases of a number
 pub by_doc : (P : Type 0) (m n : ℕ) → (m ≡ n → P) → (m ≢ n → P) → P
-by_doc P m n same other = elim (eqb m n) as (λ b. eqb m n ≡ b → P) [ true ↦ λ e. same (exact_unsigned_eq m n e) | false ↦ λ e. other (λ s. let t = same_docs m n s in cc) ] refl
+by_doc P m n same other =
+    elim (eqb m n) as (λ b. eqb m n ≡ b → P) [ true ↦ λ e. same (exact_unsigned_eq m n e) | false ↦ λ e. other (λ s. let t = same_docs m n s in cc) ] refl
 
 -- the two cases of a test
 pub by_test : (P : Type 0) (b : Bool) → (b ≡ true → P) → (b ≡ false → P) → P

@@ -24,9 +24,12 @@ pub nearest_same : (k : ℕ) (entries found : List Near) (n : Near) → IsNeares
 nearest_same k entries found n was low out = record {
   rises = was.rises;
   among = λ a h. cons_tail n entries a (was.among a h);
-  least = λ a x h k e. ⊎_elim (λ is. let f : n.doc ≡ a.doc = ap (λ y. y.doc) is ∙ e in let l = low a h f in let s : n.dist2 ≡ x.dist2 = ap (λ y. y.dist2) is in omega (arith, l, s)) (λ in'. was.least a x h in' e) (cons_cases n entries x k);
+  least = λ a x h k e. ⊎_elim
+      (λ is. let f : n.doc ≡ a.doc = ap (λ y. y.doc) is ∙ e in let l = low a h f in let s : n.dist2 ≡ x.dist2 = ap (λ y. y.dist2) is in omega (arith, l, s))
+      (λ in'. was.least a x h in' e) (cons_cases n entries x k);
   few = was.few;
-  left_out = λ x h. ⊎_elim (λ is. let f = λ (y : Near). HasNumber found y.doc ⊎ ((length found ≡ k) × All (λ a. ComesBefore a y) found) in subst f is out) (λ in'. was.left_out x in') (cons_cases n entries x h);
+  left_out = λ x h. ⊎_elim (λ is. let f = λ (y : Near). HasNumber found y.doc ⊎ ((length found ≡ k) × All (λ a. ComesBefore a y) found) in subst f is out)
+      (λ in'. was.left_out x in') (cons_cases n entries x h);
 }
 
 -- an entry that is found now
@@ -72,9 +75,11 @@ nearest_after k entries old new n was rises few from has one low kept full first
     least a x h k e = ⊎_elim (λ is. least_here a x h is e) (λ in'. least_there a x in' e (from a h)) (cons_cases n entries x k)
 
     over : (a x b : Near) → a.doc ≡ x.doc → a.dist2 ≤ x.dist2 → ComesBefore b a → ComesBefore b x
-    over a x b e l h = record { near = omega (arith, l, h.near); tie = λ t. let s : a.dist2 ≤ b.dist2 = omega (arith, l, h.near) in let p = h.tie s in omega (arith, p, e) }
+    over a x b e l h =
+        record { near = omega (arith, l, h.near); tie = λ t. let s : a.dist2 ≤ b.dist2 = omega (arith, l, h.near) in let p = h.tie s in omega (arith, p, e) }
 
-    left_found : (x a : Near) → Contains entries x → Contains old a → a.doc ≡ x.doc → Contains new a ⊎ ((n.doc ≡ a.doc) ⊎ ((length new ≡ k) × ((b : Near) → Contains new b → ComesBefore b a))) → Left x
+    left_found : (x a : Near) → Contains entries x → Contains old a → a.doc ≡ x.doc
+        → Contains new a ⊎ ((n.doc ≡ a.doc) ⊎ ((length new ≡ k) × ((b : Near) → Contains new b → ComesBefore b a))) → Left x
     left_found x a c h e (inl in') = inl (a, in', e)
     left_found x a c h e (inr (inl is)) = inl (n, has, is ∙ e)
     left_found x a c h e (inr (inr gone)) = inr (gone.0, every x (λ b g. over a x b e (was.least a x h c (sym e)) (gone.1 b g)))
@@ -84,4 +89,5 @@ nearest_after k entries old new n was rises few from has one low kept full first
     left_old x e all b (inr in') = All-contains (λ a. ComesBefore a x) old b all in'
 
     left : (x : Near) → Contains entries x → Left x
-    left x h = ⊎_elim (λ has'. left_found x has'.0 h has'.1 has'.2 (kept has'.0 has'.1)) (λ out. inr (full out.0, every x (λ b g. left_old x out.0 out.1 b (from b g)))) (was.left_out x h)
+    left x h = ⊎_elim (λ has'. left_found x has'.0 h has'.1 has'.2 (kept has'.0 has'.1))
+        (λ out. inr (full out.0, every x (λ b g. left_old x out.0 out.1 b (from b g)))) (was.left_out x h)

@@ -43,7 +43,14 @@ pub same_near : (a b : Near) → a.dist2 ≡ b.dist2 → a.doc ≡ b.doc → a �
 same_near a b e f = λ i. record { dist2 = e i; doc = f i }
 
 pub before_trans : (a b c : Near) → ComesBefore a b → ComesBefore b c → ComesBefore a c
-before_trans a b c h k = record { near = omega (arith, h.near, k.near); tie = λ t. let s : b.dist2 ≤ a.dist2 = omega (arith, h.near, k.near) in let u : c.dist2 ≤ b.dist2 = omega (arith, h.near, k.near) in let p = h.tie s in let q = k.tie u in omega arith }
+before_trans a b c h k = record {
+  near = omega (arith, h.near, k.near);
+  tie = λ t.
+      let s : b.dist2 ≤ a.dist2 = omega (arith, h.near, k.near) in
+      let u : c.dist2 ≤ b.dist2 = omega (arith, h.near, k.near) in
+      let p = h.tie s in
+      let q = k.tie u in omega arith;
+}
 
 pub before_itself : (a : Near) → ComesBefore a a → (a.doc < a.doc)
 before_itself a h = let s : a.dist2 ≤ a.dist2 = omega arith in h.tie s

@@ -37,15 +37,27 @@ of_whole D head first s t root part (Size file size needed) h =
     let n = h.2 in
     (h.0, h.1, record { number = n.number; spot = n.spot; len = n.len; own = n.own; is = part n.number n.spot n.len n.own n.is; needs = n.needs })
 of_whole D head first s t root part (Leaf file number offset len bytes) h =
-    let n = h.2 in
-    (h.0, h.1, record { number = n.number; spot = n.spot; own = n.own; is = part n.number n.spot len n.own n.is; page_is = n.page_is; offset_is = n.offset_is; none = n.none })
+    let n = h.2 in (
+      h.0,
+      h.1,
+      record {
+        number = n.number;
+        spot = n.spot;
+        own = n.own;
+        is = part n.number n.spot len n.own n.is;
+        page_is = n.page_is;
+        offset_is = n.offset_is;
+        none = n.none;
+      },
+    )
 of_whole D head first s t root part (Body file bytes) h = h
 of_whole D head first s t root part (Missing file) h = h
 of_whole D head first s t root part (Unequal file said found) h = h
 of_whole D head first s t root part (Beyond doc next) h = h
 of_whole D head first s t root part (Doubled doc) h = h
 
-pub parts_put : {D : ℕ} (heads : List Head) (trees : ℕ → IndexTree) (at : List ℤ) (seg : ℕ) (node : NodeAt D) (old new : Front D) (first : ℕ) (s : Spot) (path : Region) (t : IndexTree) → IsWaiting at seg node old new
+pub parts_put : {D : ℕ} (heads : List Head) (trees : ℕ → IndexTree) (at : List ℤ) (seg : ℕ) (node : NodeAt D) (old new : Front D) (first : ℕ) (s : Spot)
+    (path : Region) (t : IndexTree) → IsWaiting at seg node old new
     → seg < length heads → IsAt node first s path t
     → ((number : ℕ) (at : Spot) (len : ℕ) (own : Region) → IsLeafOf first s t number at len own → IsLeafOf 0 front (trees seg) number at len own)
     → All (IsPart heads trees old.nodes) old.turns → All (IsPart heads trees new.nodes) new.turns
@@ -61,22 +73,37 @@ parts_put heads trees at seg node old new first s path t put lt is part all =
       path = path;
       tree = t;
       is = subst (λ k. IsAt node k s path t) (sym e) is;
-      part = subst (λ k. (number : ℕ) (at : Spot) (len : ℕ) (own : Region) → IsLeafOf k s t number at len own → IsLeafOf 0 front (trees seg) number at len own) (sym e) part;
+      part = subst (λ k. (number : ℕ) (at : Spot) (len : ℕ) (own : Region) → IsLeafOf k s t number at len own → IsLeafOf 0 front (trees seg) number at len own)
+          (sym e) part;
     })
     (All-weaker (IsPart heads trees old.nodes) (IsPart heads trees new.nodes)
-    (λ u k. record { inside = k.inside; node = k.node; stands = stands_still old.nodes new.nodes node k.node u.place put.grown k.stands; spot = k.spot; path = k.path; tree = k.tree; is = k.is; part = k.part }) old.turns all))
+    (λ u k. record {
+      inside = k.inside;
+      node = k.node;
+      stands = stands_still old.nodes new.nodes node k.node u.place put.grown k.stands;
+      spot = k.spot;
+      path = k.path;
+      tree = k.tree;
+      is = k.is;
+      part = k.part;
+    }) old.turns all))
 
-pub parts_fork : {D : ℕ} (heads : List Head) (trees : ℕ → IndexTree) (at : List ℤ) (next : Waiting) (old mid new : Front D) (left right : NodeAt D) → (n : IsPart heads trees old.nodes next)
+pub parts_fork : {D : ℕ} (heads : List Head) (trees : ℕ → IndexTree) (at : List ℤ) (next : Waiting) (old mid new : Front D) (left right : NodeAt D)
+    → (n : IsPart heads trees old.nodes next)
     → AreChildren left right next.first n.spot n.path n.tree → IsWaiting at next.segment left old mid → IsWaiting at next.segment right mid new
     → All (IsPart heads trees old.nodes) old.turns → All (IsPart heads trees new.nodes) new.turns
 parts_fork heads trees at next old mid new left right n kids put_left put_right all =
-    let part = subst (λ t. (number : ℕ) (at : Spot) (len : ℕ) (own : Region) → IsLeafOf next.first n.spot t number at len own → IsLeafOf 0 front (trees next.segment) number at len own) kids.is n.part in
+    let part = subst
+    (λ t. (number : ℕ) (at : Spot) (len : ℕ) (own : Region) → IsLeafOf next.first n.spot t number at len own
+    → IsLeafOf 0 front (trees next.segment) number at len own) kids.is n.part in
     parts_put heads trees at next.segment right mid new _ _ _ kids.r put_right n.inside kids.right_is (λ number sp len own h. part number sp len own (inr h))
     (parts_put heads trees at next.segment left old mid _ _ _ kids.l put_left n.inside kids.left_is (λ number sp len own h. part number sp len own (inl h)) all)
 
 -- what a leaf shows is shown of its segment
-pub leaf_shown : {D : ℕ} {T : Type 0} (heads : List Head) (trees : ℕ → IndexTree) (nodes : List (NodeAt D)) (next : Waiting) (node : NodeAt D) (r : Result T PageFault) → (n : IsPart heads trees nodes next) → node ≡ n.node
-    → ((first : ℕ) (s : Spot) (path : Region) (t : IndexTree) → IsAt node first s path t → OnDamage r (IsLeafDamage D (get_or heads next.segment no_head) first s t))
+pub leaf_shown : {D : ℕ} {T : Type 0} (heads : List Head) (trees : ℕ → IndexTree) (nodes : List (NodeAt D)) (next : Waiting) (node : NodeAt D)
+    (r : Result T PageFault) → (n : IsPart heads trees nodes next) → node ≡ n.node
+    → ((first : ℕ) (s : Spot) (path : Region) (t : IndexTree) → IsAt node first s path t
+    → OnDamage r (IsLeafDamage D (get_or heads next.segment no_head) first s t))
     → OnDamage r (IsSegmentDamage D heads trees)
 leaf_shown {D} heads trees nodes next node r n same shown =
     on_damage (IsLeafDamage D (get_or heads next.segment no_head) next.first n.spot n.tree) (IsSegmentDamage D heads trees) r

@@ -15,6 +15,7 @@ unfolding HoldsLeaf
 one_holding D bytes head number s len own xs ys h k = one_leaf D _ xs ys h.spells.spells k.spells.spells
 
 -- a leaf's page is one for its place
-pub holding_page : (D : ℕ) (bytes : List ℕ) (head : Head) (number : ℕ) (s : Spot) (len : ℕ) (own : Region) (items : List Item) → HoldsLeaf D bytes head number s len own items → IsFilePage (Segment head.id) bytes (page_of head s.page)
+pub holding_page : (D : ℕ) (bytes : List ℕ) (head : Head) (number : ℕ) (s : Spot) (len : ℕ) (own : Region) (items : List Item)
+    → HoldsLeaf D bytes head number s len own items → IsFilePage (Segment head.id) bytes (page_of head s.page)
 unfolding HoldsLeaf
 holding_page D bytes head number s len own items h = h.page

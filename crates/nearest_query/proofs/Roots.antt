@@ -1,5 +1,6 @@
 -- The roots of the segments, and what they cover.
-use Rattle.std.proofs.Common.{◌≡◌, ℕ, ◌+◌, ◌-◌, ◌/◌, ◌≤◌, ◌<◌, zero, suc, true, false, cond, List, [], ◌∷◌, length, get_or, ℤ, Option, refl, sym, ap, subst, ◌∙◌, arith}
+use Rattle.std.proofs.Common.{◌≡◌, ℕ, ◌+◌, ◌-◌, ◌/◌, ◌≤◌, ◌<◌, zero, suc, true, false, cond, List}
+use Rattle.std.proofs.Common.{[], ◌∷◌, length, get_or, ℤ, Option, refl, sym, ap, subst, ◌∙◌, arith}
 use Rattle.std.proofs.lemmas.List.{map-append}
 use Rattle.std.proofs.lemmas.List.Sums.{sum_by-cons, sum_by-append}
 use Rattle.std.proofs.lemmas.List.Elements.{filter-append}
@@ -37,7 +38,8 @@ pub root_nodes : {D : ℕ} (w : World) (at : List ℤ) (i : ℕ) (node : NodeAt 
     → IsWaiting at i node old new → All (IsNode D w old.nodes) old.turns → All (IsNode D w new.nodes) new.turns
 root_nodes w at i node old new roots at_is lt walk put all =
     let r = roots i lt in
-    nodes_put w at i node old new 0 front r.root r.tree put at_is lt (walk r.root r.tree r.has) r.has.tree.root_cell.hi_dims r.has.tree.root_cell.lo_dims r.has.tree.cells r.leaves all
+    nodes_put w at i node old new 0 front r.root r.tree put at_is lt (walk r.root r.tree r.has) r.has.tree.root_cell.hi_dims r.has.tree.root_cell.lo_dims
+    r.has.tree.cells r.leaves all
 
 pub root_totals : {D : ℕ} (w : World) (at : List ℤ) (i : ℕ) (node : NodeAt D) (old new : Front D) → HasRoots D w → i < length w.heads
     → ((root : Region) (t : IndexTree) → HasTree D (head_at w i).index root t → IsAt node 0 front root t)
@@ -53,14 +55,18 @@ root_totals w at i node old new roots lt walk put g was =
     let q = span_split (λ j. span g j 0 (head_at w j).index.leaves) 0 i 1 in
     let z : zero + i ≡ i = omega arith in
     let c = sum_by-cons (λ j. span g j 0 (head_at w j).index.leaves) (zero + i) [] in
-    let e : span g (zero + i) 0 (head_at w (zero + i)).index.leaves ≡ span g i 0 (head_at w i).index.leaves = ap (λ k. span g k 0 (head_at w k).index.leaves) z in
+    let e : span g (zero + i) 0 (head_at w (zero + i)).index.leaves ≡ span g i 0 (head_at w i).index.leaves =
+    ap (λ k. span g k 0 (head_at w k).index.leaves) z in
     omega (arith, s, p, q, c, e, was)
 
 -- ---- the leaves of a segment, told by their numbers
 
-abbrev pub leaves_of : (D : ℕ) (bytes : List ℕ) (head : Head) (first : ℕ) (s : Spot) (t : IndexTree) (items : List Item) → HoldsTree D bytes head first s t items → ℕ → List Item
+abbrev pub leaves_of : (D : ℕ) (bytes : List ℕ) (head : Head) (first : ℕ) (s : Spot) (t : IndexTree) (items : List Item)
+    → HoldsTree D bytes head first s t items → ℕ → List Item
 leaves_of D bytes head first s (Leaf len own) items h n = items
-leaves_of D bytes head first s (Split d x l r) items h n = cond (nat_lt n (first + leaf_count l)) (leaves_of D bytes head first s l h.front_items h.front_holds n) (leaves_of D bytes head (first + leaf_count l) (right_begin s l r) r h.back_items h.back_holds n)
+leaves_of D bytes head first s (Split d x l r) items h n =
+    cond (nat_lt n (first + leaf_count l)) (leaves_of D bytes head first s l h.front_items h.front_holds n)
+    (leaves_of D bytes head (first + leaf_count l) (right_begin s l r) r h.back_items h.back_holds n)
 
 abbrev pub least_of : List ℤ → ℕ → IndexTree → ℕ → ℕ
 least_of at first (Leaf len own) n = least_dist2 at own
@@ -86,11 +92,21 @@ module _ (D : ℕ) (w : World) (i : ℕ) (bytes : List ℕ) (bytes_are : bytes_o
       )
   has_leaves first s (Split d x l r) items h table least = (
     has_leaves first s l h.front_items h.front_holds
-        (λ n a b. let c = some_leaf r in table n a (omega (arith, b, c)) ∙ ap (λ t. cond t (leaves_of D bytes (head_at w i) first s l h.front_items h.front_holds n) (leaves_of D bytes (head_at w i) (first + leaf_count l) (right_begin s l r) r h.back_items h.back_holds n)) (in_left n (first + leaf_count l) b))
-        (λ n a b. let c = some_leaf r in least n a (omega (arith, b, c)) ∙ ap (λ t. cond t (least_of w.at first l n) (least_of w.at (first + leaf_count l) r n)) (in_left n (first + leaf_count l) b)),
+        (λ n a b.
+        let c = some_leaf r in
+        table n a (omega (arith, b, c))
+        ∙ ap (λ t. cond t (leaves_of D bytes (head_at w i) first s l h.front_items h.front_holds n)
+        (leaves_of D bytes (head_at w i) (first + leaf_count l) (right_begin s l r) r h.back_items h.back_holds n)) (in_left n (first + leaf_count l) b))
+        (λ n a b.
+        let c = some_leaf r in
+        least n a (omega (arith, b, c))
+        ∙ ap (λ t. cond t (least_of w.at first l n) (least_of w.at (first + leaf_count l) r n)) (in_left n (first + leaf_count l) b)),
     has_leaves (first + leaf_count l) (right_begin s l r) r h.back_items h.back_holds
-        (λ n a b. table n (omega (arith, a)) (omega (arith, b)) ∙ ap (λ t. cond t (leaves_of D bytes (head_at w i) first s l h.front_items h.front_holds n) (leaves_of D bytes (head_at w i) (first + leaf_count l) (right_begin s l r) r h.back_items h.back_holds n)) (in_right n (first + leaf_count l) a))
-        (λ n a b. least n (omega (arith, a)) (omega (arith, b)) ∙ ap (λ t. cond t (least_of w.at first l n) (least_of w.at (first + leaf_count l) r n)) (in_right n (first + leaf_count l) a)),
+        (λ n a b. table n (omega (arith, a)) (omega (arith, b))
+        ∙ ap (λ t. cond t (leaves_of D bytes (head_at w i) first s l h.front_items h.front_holds n)
+        (leaves_of D bytes (head_at w i) (first + leaf_count l) (right_begin s l r) r h.back_items h.back_holds n)) (in_right n (first + leaf_count l) a))
+        (λ n a b. least n (omega (arith, a)) (omega (arith, b))
+        ∙ ap (λ t. cond t (least_of w.at first l n) (least_of w.at (first + leaf_count l) r n)) (in_right n (first + leaf_count l) a)),
   )
 
   -- the live entries of all of them are those of the items
@@ -98,14 +114,22 @@ module _ (D : ℕ) (w : World) (i : ℕ) (bytes : List ℕ) (bytes_are : bytes_o
       → ((n : ℕ) → first ≤ n → n < first + leaf_count t → w.table i n ≡ leaves_of D bytes (head_at w i) first s t items h n)
       → span (λ j n. sum_by f (nears_at w j n)) i first (leaf_count t) ≡ sum_by f (nears_of w.at (live_items (live_at w i) items))
   leaf_totals f first s (Leaf len own) items h table =
-      span_one (λ j n. sum_by f (nears_at w j n)) i first ∙ ap (λ xs. sum_by f (nears_of w.at (live_items (live_at w i) xs))) (table first (omega arith) (omega arith))
+      span_one (λ j n. sum_by f (nears_at w j n)) i first
+      ∙ ap (λ xs. sum_by f (nears_of w.at (live_items (live_at w i) xs))) (table first (omega arith) (omega arith))
   leaf_totals f first s (Split d x l r) items h table =
       let a = leaf_totals f first s l h.front_items h.front_holds
-      (λ n a b. let c = some_leaf r in table n a (omega (arith, b, c)) ∙ ap (λ t. cond t (leaves_of D bytes (head_at w i) first s l h.front_items h.front_holds n) (leaves_of D bytes (head_at w i) (first + leaf_count l) (right_begin s l r) r h.back_items h.back_holds n)) (in_left n (first + leaf_count l) b)) in
+      (λ n a b.
+      let c = some_leaf r in
+      table n a (omega (arith, b, c))
+      ∙ ap (λ t. cond t (leaves_of D bytes (head_at w i) first s l h.front_items h.front_holds n)
+      (leaves_of D bytes (head_at w i) (first + leaf_count l) (right_begin s l r) r h.back_items h.back_holds n)) (in_left n (first + leaf_count l) b)) in
       let b = leaf_totals f (first + leaf_count l) (right_begin s l r) r h.back_items h.back_holds
-      (λ n a b. table n (omega (arith, a)) (omega (arith, b)) ∙ ap (λ t. cond t (leaves_of D bytes (head_at w i) first s l h.front_items h.front_holds n) (leaves_of D bytes (head_at w i) (first + leaf_count l) (right_begin s l r) r h.back_items h.back_holds n)) (in_right n (first + leaf_count l) a)) in
+      (λ n a b. table n (omega (arith, a)) (omega (arith, b))
+      ∙ ap (λ t. cond t (leaves_of D bytes (head_at w i) first s l h.front_items h.front_holds n)
+      (leaves_of D bytes (head_at w i) (first + leaf_count l) (right_begin s l r) r h.back_items h.back_holds n)) (in_right n (first + leaf_count l) a)) in
       let c = span_split (λ n. sum_by f (nears_at w i n)) first (leaf_count l) (leaf_count r) in
-      let joined : sum_by f (nears_of w.at (live_items (live_at w i) items)) ≡ sum_by f (nears_of w.at (live_items (live_at w i) h.front_items)) + sum_by f (nears_of w.at (live_items (live_at w i) h.back_items)) =
+      let joined : sum_by f (nears_of w.at (live_items (live_at w i) items))
+      ≡ sum_by f (nears_of w.at (live_items (live_at w i) h.front_items)) + sum_by f (nears_of w.at (live_items (live_at w i) h.back_items)) =
       ap (λ xs. sum_by f (nears_of w.at (live_items (live_at w i) xs))) h.joined
       ∙ ap (λ xs. sum_by f (nears_of w.at xs)) (filter-append (λ y. is_live (live_at w i) y.doc) h.front_items h.back_items)
       ∙ ap (sum_by f) (map-append (near_of w.at) (live_items (live_at w i) h.front_items) (live_items (live_at w i) h.back_items))
@@ -113,19 +137,28 @@ module _ (D : ℕ) (w : World) (i : ℕ) (bytes : List ℕ) (bytes_are : bytes_o
       omega (arith, a, b, c, joined)
 
 -- how many of them are within a bound
-pub near_totals : (w : World) (i : ℕ) (bound : Option ℕ) (first : ℕ) (t : IndexTree) → ((n : ℕ) → first ≤ n → n < first + leaf_count t → w.least i n ≡ least_of w.at first t n)
+pub near_totals : (w : World) (i : ℕ) (bound : Option ℕ) (first : ℕ) (t : IndexTree)
+    → ((n : ℕ) → first ≤ n → n < first + leaf_count t → w.least i n ≡ least_of w.at first t n)
     → span (one_within w bound) i first (leaf_count t) ≡ near_leaves w.at bound t
 unfolding near_leaves
-near_totals w i bound first (Leaf len own) least = span_one (one_within w bound) i first ∙ ap (λ d. cond (is_within bound d) 1 0) (least first (omega arith) (omega arith))
+near_totals w i bound first (Leaf len own) least =
+    span_one (one_within w bound) i first ∙ ap (λ d. cond (is_within bound d) 1 0) (least first (omega arith) (omega arith))
 near_totals w i bound first (Split d x l r) least =
-    let a = near_totals w i bound first l (λ n a b. let c = some_leaf r in least n a (omega (arith, b, c)) ∙ ap (λ t. cond t (least_of w.at first l n) (least_of w.at (first + leaf_count l) r n)) (in_left n (first + leaf_count l) b)) in
-    let b = near_totals w i bound (first + leaf_count l) r (λ n a b. least n (omega (arith, a)) (omega (arith, b)) ∙ ap (λ t. cond t (least_of w.at first l n) (least_of w.at (first + leaf_count l) r n)) (in_right n (first + leaf_count l) a)) in
+    let a = near_totals w i bound first l
+    (λ n a b.
+    let c = some_leaf r in
+    least n a (omega (arith, b, c))
+    ∙ ap (λ t. cond t (least_of w.at first l n) (least_of w.at (first + leaf_count l) r n)) (in_left n (first + leaf_count l) b)) in
+    let b = near_totals w i bound (first + leaf_count l) r
+    (λ n a b. least n (omega (arith, a)) (omega (arith, b))
+    ∙ ap (λ t. cond t (least_of w.at first l n) (least_of w.at (first + leaf_count l) r n)) (in_right n (first + leaf_count l) a)) in
     let c = span_split (one_within w bound i) first (leaf_count l) (leaf_count r) in
     omega (arith, a, b, c)
 
 -- ---- sums over positions are sums over lists
 
-pub sum_in : (f : Near → ℕ) (at : List ℤ) (contents : ℕ → List Item) (heads : List Head) (lives : List LiveSet) (a : ℕ) (h : ℕ → ℕ) → length lives ≡ length heads
+pub sum_in : (f : Near → ℕ) (at : List ℤ) (contents : ℕ → List Item) (heads : List Head) (lives : List LiveSet) (a : ℕ) (h : ℕ → ℕ)
+    → length lives ≡ length heads
     → ((i : ℕ) → i < length heads → h (a + i) ≡ sum_by f (nears_of at (live_items (get_or lives i no_live) (contents (get_or heads i no_head).id))))
     → sum_by h (range_with_len a (length heads)) ≡ sum_by f (nears_of at (live_in contents heads lives))
 sum_in f at contents [] lives a h same each = refl
@@ -134,8 +167,10 @@ sum_in f at contents (x ∷ xs) (l ∷ ls) a h same each =
     let c = sum_by-cons h a (range_with_len (a + 1) (length xs)) in
     let z : a + zero ≡ a = omega arith in
     let first : h a ≡ sum_by f (nears_of at (live_items l (contents x.id))) = ap h (sym z) ∙ each zero (omega arith) in
-    let rest = sum_in f at contents xs ls (a + 1) h (omega arith) (λ i lt. let e : a + 1 + i ≡ a + suc i = omega arith in ap h e ∙ each (suc i) (omega arith)) in
-    let joined = ap (sum_by f) (map-append (near_of at) (live_items l (contents x.id)) (live_in contents xs ls)) ∙ sum_by-append f (nears_of at (live_items l (contents x.id))) (nears_of at (live_in contents xs ls)) in
+    let rest =
+    sum_in f at contents xs ls (a + 1) h (omega arith) (λ i lt. let e : a + 1 + i ≡ a + suc i = omega arith in ap h e ∙ each (suc i) (omega arith)) in
+    let joined = ap (sum_by f) (map-append (near_of at) (live_items l (contents x.id)) (live_in contents xs ls))
+    ∙ sum_by-append f (nears_of at (live_items l (contents x.id))) (nears_of at (live_in contents xs ls)) in
     omega (arith, c, first, rest, joined)
 
 -- a tree of the index has so many leaves within the bound
@@ -154,6 +189,7 @@ near_in D at bound (x ∷ xs) a h n all each =
     let z : a + zero ≡ a = omega arith in
     let k = each zero (omega arith) in
     let first : h a ≡ all.0 = ap h (sym z) ∙ k.is ∙ sym (all.2 k.root k.tree k.has) in
-    let rest = near_in D at bound xs (a + 1) h all.1 all.3 (λ i lt. let e : a + 1 + i ≡ a + suc i = omega arith in subst (λ m. HasNear D at bound (get_or xs i no_head) (h m)) (sym e) (each (suc i) (omega arith))) in
+    let rest = near_in D at bound xs (a + 1) h all.1 all.3
+    (λ i lt. let e : a + 1 + i ≡ a + suc i = omega arith in subst (λ m. HasNear D at bound (get_or xs i no_head) (h m)) (sym e) (each (suc i) (omega arith))) in
     let t = all.4 in
     omega (arith, c, first, rest, t)

@@ -37,7 +37,8 @@ pub opened : (D : ℕ) (bytes : List ℕ) (head : Head) (items : List Item) → 
 unfolding IsSegment
 opened D bytes head items s = record { root = s.root; tree = s.tree; has = s.has; holds = s.holds }
 
-module _ (D : ℕ) (at : List ℤ) (heads : List Head) (lives : List LiveSet) (files : Files) (contents : ℕ → List Item) (segments : AreSegments D files contents heads) where
+module _ (D : ℕ) (at : List ℤ) (heads : List Head) (lives : List LiveSet) (files : Files) (contents : ℕ → List Item)
+    (segments : AreSegments D files contents heads) where
   abbrev pub head_of : ℕ → Head
   head_of i = get_or heads i no_head
 
@@ -45,7 +46,8 @@ module _ (D : ℕ) (at : List ℤ) (heads : List Head) (lives : List LiveSet) (f
   bytes_at i = bytes_of (files (Segment (head_of i).id))
 
   pub open_at : (i : ℕ) → i < length heads → Opened D (bytes_at i) (head_of i) (contents (head_of i).id)
-  open_at i h = opened D (bytes_at i) (head_of i) (contents (head_of i).id) (All-get_or (λ x. IsSegment D (bytes_of (files (Segment x.id))) x (contents x.id)) heads i no_head h segments)
+  open_at i h = opened D (bytes_at i) (head_of i) (contents (head_of i).id)
+      (All-get_or (λ x. IsSegment D (bytes_of (files (Segment x.id))) x (contents x.id)) heads i no_head h segments)
 
   abbrev pub table_of : (i : ℕ) → (i < length heads) ⊎ (length heads ≤ i) → ℕ → List Item
   table_of i (inl h) n = leaves_of D (bytes_at i) (head_of i) 0 front (open_at i h).tree (contents (head_of i).id) (open_at i h).holds n
@@ -56,11 +58,20 @@ module _ (D : ℕ) (at : List ℤ) (heads : List Head) (lives : List LiveSet) (f
   leasts_of i (inr h) n = 0
 
   abbrev pub world : World
-  world = record { at = at; heads = heads; lives = lives; files = files; table = λ i. table_of i (cases_lt i (length heads)); least = λ i. leasts_of i (cases_lt i (length heads)) }
+  world = record {
+    at = at;
+    heads = heads;
+    lives = lives;
+    files = files;
+    table = λ i. table_of i (cases_lt i (length heads));
+    least = λ i. leasts_of i (cases_lt i (length heads));
+  }
 
   record IsRoot (i : ℕ) : Type 0 where
     root : HasRoot D world i
-    totals : (f : Near → ℕ) → span (λ j n. sum_by f (nears_at world j n)) i 0 (head_of i).index.leaves ≡ sum_by f (nears_of at (live_items (live_at world i) (contents (head_of i).id)))
+    totals : (f : Near → ℕ)
+        → span (λ j n. sum_by f (nears_at world j n)) i 0 (head_of i).index.leaves
+        ≡ sum_by f (nears_of at (live_items (live_at world i) (contents (head_of i).id)))
     near : (bound : Option ℕ) → HasNear D at bound (head_of i) (span (one_within world bound) i 0 (head_of i).index.leaves)
 
   is_root : (i : ℕ) (c : (i < length heads) ⊎ (length heads ≤ i)) → i < length heads → world.table i ≡ table_of i c → world.least i ≡ leasts_of i c → IsRoot i
@@ -69,9 +80,21 @@ module _ (D : ℕ) (at : List ℤ) (heads : List Head) (lives : List LiveSet) (f
       let o = open_at i h in
       let count : (head_of i).index.leaves ≡ leaf_count o.tree = shaped_count (head_of i).index.leaves o.tree o.has.tree.shaped in
       record {
-        root = record { root = o.root; tree = o.tree; has = o.has; leaves = has_leaves D world i (bytes_at i) refl 0 front o.tree (contents (head_of i).id) o.holds (λ n a b. ap (λ t. t n) e) (λ n a b. ap (λ t. t n) f) };
-        totals = λ k. ap (λ m. span (λ j n. sum_by k (nears_at world j n)) i 0 m) count ∙ leaf_totals D world i (bytes_at i) refl k 0 front o.tree (contents (head_of i).id) o.holds (λ n a b. ap (λ t. t n) e);
-        near = λ bound. record { root = o.root; tree = o.tree; has = o.has; is = ap (λ m. span (one_within world bound) i 0 m) count ∙ near_totals world i bound 0 o.tree (λ n a b. ap (λ t. t n) f) };
+        root = record {
+          root = o.root;
+          tree = o.tree;
+          has = o.has;
+          leaves =
+              has_leaves D world i (bytes_at i) refl 0 front o.tree (contents (head_of i).id) o.holds (λ n a b. ap (λ t. t n) e) (λ n a b. ap (λ t. t n) f);
+        };
+        totals = λ k. ap (λ m. span (λ j n. sum_by k (nears_at world j n)) i 0 m) count
+            ∙ leaf_totals D world i (bytes_at i) refl k 0 front o.tree (contents (head_of i).id) o.holds (λ n a b. ap (λ t. t n) e);
+        near = λ bound. record {
+          root = o.root;
+          tree = o.tree;
+          has = o.has;
+          is = ap (λ m. span (one_within world bound) i 0 m) count ∙ near_totals world i bound 0 o.tree (λ n a b. ap (λ t. t n) f);
+        };
       }
 
   root_at : (i : ℕ) → i < length heads → IsRoot i
@@ -80,7 +103,8 @@ module _ (D : ℕ) (at : List ℤ) (heads : List Head) (lives : List LiveSet) (f
   pub roots : HasRoots D world
   roots i lt = (root_at i lt).root
 
-  pub start : (buffer : List Item) (turns : List Waiting) (nodes : List (NodeAt D)) (found : Candidates) → length lives ≡ length heads → AreAdded [] (nears_of at buffer) found
+  pub start : (buffer : List Item) (turns : List Waiting) (nodes : List (NodeAt D)) (found : Candidates) → length lives ≡ length heads
+      → AreAdded [] (nears_of at buffer) found
       → All (IsNode D world nodes) turns
       → ((g : ℕ → ℕ → ℕ) → sum_by (spread g) turns ≡ sum_by (λ i. span g i 0 (head_at world i).index.leaves) (range_with_len 0 (length heads)))
       → IsSought D world (nears_of at (live_in contents heads lives ++ buffer)) turns nodes found
@@ -95,7 +119,8 @@ module _ (D : ℕ) (at : List ℤ) (heads : List Head) (lives : List LiveSet) (f
         let t = totals g in
         let i = sum_in f at contents heads lives 0 (λ i. span g i 0 (head_at world i).index.leaves) same
         (λ i lt. let e : zero + i ≡ i = omega arith in ap (λ k. span g k 0 (head_at world k).index.leaves) e ∙ (root_at i lt).totals f) in
-        let j = ap (sum_by f) (map-append (near_of at) (live_in contents heads lives) buffer) ∙ sum_by-append f (nears_of at (live_in contents heads lives)) (nears_of at buffer) in
+        let j = ap (sum_by f) (map-append (near_of at) (live_in contents heads lives) buffer)
+        ∙ sum_by-append f (nears_of at (live_in contents heads lives)) (nears_of at buffer) in
         omega (arith, a, z, t, i, j);
   }
 
@@ -105,4 +130,6 @@ module _ (D : ℕ) (at : List ℤ) (heads : List Head) (lives : List LiveSet) (f
   start_near bound turns n all totals =
       totals (one_within world bound)
       ∙ near_in D at bound heads 0 (λ i. span (one_within world bound) i 0 (head_at world i).index.leaves) n all
-      (λ i lt. let e : zero + i ≡ i = omega arith in subst (λ k. HasNear D at bound (head_of i) (span (one_within world bound) k 0 (head_at world k).index.leaves)) (sym e) ((root_at i lt).near bound))
+      (λ i lt.
+      let e : zero + i ≡ i = omega arith in
+      subst (λ k. HasNear D at bound (head_of i) (span (one_within world bound) k 0 (head_at world k).index.leaves)) (sym e) ((root_at i lt).near bound))

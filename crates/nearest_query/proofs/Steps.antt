@@ -43,7 +43,8 @@ one_leaf_tree P (Leaf len own) h f = f len own
 one_leaf_tree P (Split d x l r) h f = let a = some_leaf l in let b = some_leaf r in absurd (omega (arith, a, b, h))
 
 -- a node that is put is one of its segment's tree, and those that waited stay so
-pub nodes_put : {D : ℕ} (w : World) (at : List ℤ) (seg : ℕ) (node : NodeAt D) (old new : Front D) (first : ℕ) (s : Spot) (path : Region) (t : IndexTree) → IsWaiting at seg node old new → w.at ≡ at
+pub nodes_put : {D : ℕ} (w : World) (at : List ℤ) (seg : ℕ) (node : NodeAt D) (old new : Front D) (first : ℕ) (s : Spot) (path : Region) (t : IndexTree)
+    → IsWaiting at seg node old new → w.at ≡ at
     → seg < length w.heads → IsAt node first s path t → length path.hi ≡ D → length path.lo ≡ D → HasCells D path t → HasLeaves D w seg first s t
     → All (IsNode D w old.nodes) old.turns → All (IsNode D w new.nodes) new.turns
 nodes_put {D} w at seg node old new first s path t put at_is inside is hi lo cells leaves all =
@@ -85,7 +86,8 @@ nodes_put {D} w at seg node old new first s path t put at_is inside is hi lo cel
     }) old.turns all))
 
 -- both children cover what the node does
-pub children_span : {D : ℕ} (w : World) (nodes : List (NodeAt D)) (next : Waiting) (n : IsNode D w nodes next) (left right : NodeAt D) → AreChildren left right next.first n.spot n.path n.tree
+pub children_span : {D : ℕ} (w : World) (nodes : List (NodeAt D)) (next : Waiting) (n : IsNode D w nodes next) (left right : NodeAt D)
+    → AreChildren left right next.first n.spot n.path n.tree
     → (leaves : (left.leaves ≡ left.leaves)) → (g : ℕ → ℕ → ℕ) → left.leaves + right.leaves ≡ n.node.leaves
     → ((first : ℕ) (s : Spot) (path : Region) (t : IndexTree) → IsAt left first s path t → left.leaves ≡ leaf_count t)
     → span g next.segment left.first left.leaves + span g next.segment right.first right.leaves ≡ spread g next
@@ -95,7 +97,8 @@ children_span w nodes next n left right kids leaves g sum counted =
     let b : right.first ≡ next.first + left.leaves = kids.right_is.first_is ∙ ap (λ k. next.first + k) (sym lc) in
     let c : next.leaves ≡ left.leaves + right.leaves = n.count ∙ sym n.node_count ∙ sym sum in
     let p : span g next.segment left.first left.leaves ≡ span g next.segment next.first left.leaves = ap (λ k. span g next.segment k left.leaves) a in
-    let q : span g next.segment right.first right.leaves ≡ span g next.segment (next.first + left.leaves) right.leaves = ap (λ k. span g next.segment k right.leaves) b in
+    let q : span g next.segment right.first right.leaves ≡ span g next.segment (next.first + left.leaves) right.leaves =
+    ap (λ k. span g next.segment k right.leaves) b in
     let r : spread g next ≡ span g next.segment next.first (left.leaves + right.leaves) = ap (λ k. span g next.segment next.first k) c in
     let s = span_split (g next.segment) next.first left.leaves right.leaves in
     omega (arith, p, q, r, s)
@@ -111,7 +114,8 @@ record Parts (D : ℕ) (w : World) (i first : ℕ) (s : Spot) (path : Region) (d
   left_leaves : HasLeaves D w i first s l
   right_leaves : HasLeaves D w i (first + leaf_count l) (right_begin s l r) r
 
-parts : (D : ℕ) (w : World) (i first : ℕ) (s : Spot) (path : Region) (t : IndexTree) (dim : ℕ) (x : ℤ) (l r : IndexTree) → t ≡ Split dim x l r → length path.hi ≡ D → length path.lo ≡ D → HasCells D path t → HasLeaves D w i first s t
+parts : (D : ℕ) (w : World) (i first : ℕ) (s : Spot) (path : Region) (t : IndexTree) (dim : ℕ) (x : ℤ) (l r : IndexTree) → t ≡ Split dim x l r
+    → length path.hi ≡ D → length path.lo ≡ D → HasCells D path t → HasLeaves D w i first s t
     → Parts D w i first s path dim x l r
 parts D w i first s path t dim x l r e hi lo cells leaves =
     let cells' : HasCells D path (Split dim x l r) = subst (λ u. HasCells D path u) e cells in
@@ -128,14 +132,16 @@ parts D w i first s path t dim x l r e hi lo cells leaves =
     }
 
 -- both children wait now
-pub fork_step : {D : ℕ} (w : World) (all : List Near) (at : List ℤ) (next : Waiting) (old mid new : Front D) (left right : NodeAt D) (found : Candidates) → w.at ≡ at
+pub fork_step : {D : ℕ} (w : World) (all : List Near) (at : List ℤ) (next : Waiting) (old mid new : Front D) (left right : NodeAt D) (found : Candidates)
+    → w.at ≡ at
     → (s : IsSought D w all (next ∷ old.turns) old.nodes found)
     → ((n : IsNode D w old.nodes next) → AreChildren left right next.first n.spot n.path n.tree × (left.leaves + right.leaves ≡ n.node.leaves))
     → IsWaiting at next.segment left old mid → IsWaiting at next.segment right mid new → IsSought D w all new.turns new.nodes found
 fork_step {D} w all at next old mid new left right found at_is s kids_of put_left put_right = record {
   seen = s.seen;
   best = s.best;
-  nodes_are = nodes_put w at next.segment right mid new (next.first + leaf_count kids.l) (right_begin n.spot kids.l kids.r) (right_of n.path kids.dimension kids.value) kids.r put_right at_is n.inside kids.right_is
+  nodes_are = nodes_put w at next.segment right mid new (next.first + leaf_count kids.l) (right_begin n.spot kids.l kids.r)
+      (right_of n.path kids.dimension kids.value) kids.r put_right at_is n.inside kids.right_is
       pieces.right_hi pieces.right_lo pieces.right_cells pieces.right_leaves
       (nodes_put w at next.segment left old mid next.first n.spot (left_of n.path kids.dimension kids.value) kids.l put_left at_is n.inside kids.left_is
       pieces.left_hi pieces.left_lo pieces.left_cells pieces.left_leaves (All-tail (IsNode D w old.nodes) next old.turns s.nodes_are));
@@ -166,12 +172,14 @@ Opens {D} at files head live node r old new =
     → AreBest seen old → OnOk r (AreAdded seen (nears_of at (live_items live items)) new)
 
 -- the entries of a leaf were seen now
-pub leaf_step : {D : ℕ} {T E : Type 0} (w : World) (all : List Near) (next : Waiting) (turns : List Waiting) (nodes : List (NodeAt D)) (node : NodeAt D) (old new : Candidates) (r : Result T E)
+pub leaf_step : {D : ℕ} {T E : Type 0} (w : World) (all : List Near) (next : Waiting) (turns : List Waiting) (nodes : List (NodeAt D)) (node : NodeAt D)
+    (old new : Candidates) (r : Result T E)
     → IsSought D w all (next ∷ turns) nodes old → node.leaves ≡ 1 → ((n : IsNode D w nodes next) → node ≡ n.node)
     → Opens w.at w.files (head_at w next.segment) (live_at w next.segment) node r old new
     → OnOk r (IsSought D w all turns nodes new)
 leaf_step {D} w all next turns nodes node old new r s single node_is opens =
-    (one_leaf_tree (λ t. IsAt node next.first n.spot n.path t → HasLeaves D w next.segment next.first n.spot t → OnOk r (IsSought D w all turns nodes new)) n.tree is_one
+    (one_leaf_tree (λ t. IsAt node next.first n.spot n.path t → HasLeaves D w next.segment next.first n.spot t → OnOk r (IsSought D w all turns nodes new))
+    n.tree is_one
     (λ len own is leaves. on_ok (AreAdded s.seen (nears_at w next.segment next.first) new) (IsSought D w all turns nodes new) r after
     (opens next.first n.spot n.path len own (w.table next.segment next.first) s.seen is leaves.0 s.best)))
     (subst (λ m. IsAt m next.first n.spot n.path n.tree) (sym (node_is n)) n.is) n.leaves
@@ -192,19 +200,25 @@ leaf_step {D} w all next turns nodes node old new r s single node_is opens =
           let t = s.totals f in
           let a = added.totals f in
           let c = sum_by-cons (spread g) next turns in
-          let e : spread g next ≡ g next.segment next.first = ap (λ k. span g next.segment next.first k) (n.count ∙ is_one) ∙ span_one g next.segment next.first in
+          let e : spread g next ≡ g next.segment next.first =
+          ap (λ k. span g next.segment next.first k) (n.count ∙ is_one) ∙ span_one g next.segment next.first in
           omega (arith, t, a, c, e);
     }
 
 -- a leaf within the bound counts as one
-pub leaf_counts : {D : ℕ} (w : World) (bound : Option ℕ) (nodes : List (NodeAt D)) (next : Waiting) → (n : IsNode D w nodes next) → n.node.leaves ≡ 1 → is_within bound next.dist2.0 ≡ true
+pub leaf_counts : {D : ℕ} (w : World) (bound : Option ℕ) (nodes : List (NodeAt D)) (next : Waiting) → (n : IsNode D w nodes next) → n.node.leaves ≡ 1
+    → is_within bound next.dist2.0 ≡ true
     → spread (one_within w bound) next ≡ 1
 leaf_counts {D} w bound nodes next n single in' =
     ap (λ k. span (one_within w bound) next.segment next.first k) (n.count ∙ sym n.node_count ∙ single) ∙ span_one (one_within w bound) next.segment next.first
-    ∙ ap (λ b. cond b 1 0) (one_leaf_tree (λ t. HasLeaves D w next.segment next.first n.spot t → next.dist2.0 ≡ least_dist2 w.at (cell_of n.path t) → is_within bound (w.least next.segment next.first) ≡ true) n.tree (sym n.node_count ∙ single)
+    ∙ ap (λ b. cond b 1 0)
+    (one_leaf_tree
+    (λ t. HasLeaves D w next.segment next.first n.spot t → next.dist2.0 ≡ least_dist2 w.at (cell_of n.path t)
+    → is_within bound (w.least next.segment next.first) ≡ true) n.tree (sym n.node_count ∙ single)
     (λ len own leaves dist. ap (is_within bound) (leaves.1 ∙ sym dist) ∙ in') n.leaves n.dist)
 
-pub sought_moved : {D : ℕ} (w : World) (all : List Near) (turns turns' : List Waiting) (nodes : List (NodeAt D)) (found : Candidates) → IsPermutation turns turns' → IsSought D w all turns nodes found → IsSought D w all turns' nodes found
+pub sought_moved : {D : ℕ} (w : World) (all : List Near) (turns turns' : List Waiting) (nodes : List (NodeAt D)) (found : Candidates)
+    → IsPermutation turns turns' → IsSought D w all turns nodes found → IsSought D w all turns' nodes found
 sought_moved {D} w all turns turns' nodes found moved s = record {
   seen = s.seen;
   best = s.best;
@@ -218,7 +232,8 @@ OpensWhole {D} files head node r =
     (first : ℕ) (s : Spot) (path : Region) (len : ℕ) (own : Region) (items : List Item)
     → IsAt node first s path (Leaf len own) → HoldsLeaf D (bytes_of (files (Segment head.id))) head first s len own items → NotDamaged r
 
-pub leaf_whole : {D : ℕ} {T : Type 0} (w : World) (next : Waiting) (nodes : List (NodeAt D)) (node : NodeAt D) (r : Result T PageFault) → (n : IsNode D w nodes next) → node.leaves ≡ 1 → node ≡ n.node
+pub leaf_whole : {D : ℕ} {T : Type 0} (w : World) (next : Waiting) (nodes : List (NodeAt D)) (node : NodeAt D) (r : Result T PageFault)
+    → (n : IsNode D w nodes next) → node.leaves ≡ 1 → node ≡ n.node
     → OpensWhole w.files (head_at w next.segment) node r → NotDamaged r
 leaf_whole {D} w next nodes node r n single same opens =
     (one_leaf_tree (λ t. IsAt node next.first n.spot n.path t → HasLeaves D w next.segment next.first n.spot t → NotDamaged r) n.tree

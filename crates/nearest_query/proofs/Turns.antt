@@ -24,7 +24,8 @@ span_split h a zero n =
 span_split h a (suc m) n =
     let e : suc m + n ≡ suc (m + n) = omega arith in
     let f : a + suc m ≡ a + 1 + m = omega arith in
-    let p : sum_by h (range_with_len a (suc m + n)) ≡ h a + sum_by h (range_with_len (a + 1) (m + n)) = ap (λ k. sum_by h (range_with_len a k)) e ∙ sum_by-cons h a (range_with_len (a + 1) (m + n)) in
+    let p : sum_by h (range_with_len a (suc m + n)) ≡ h a + sum_by h (range_with_len (a + 1) (m + n)) =
+    ap (λ k. sum_by h (range_with_len a k)) e ∙ sum_by-cons h a (range_with_len (a + 1) (m + n)) in
     let q : sum_by h (range_with_len (a + suc m) n) ≡ sum_by h (range_with_len (a + 1 + m) n) = ap (λ k. sum_by h (range_with_len k n)) f in
     let r : sum_by h (range_with_len a (suc m)) ≡ h a + sum_by h (range_with_len (a + 1) m) = sum_by-cons h a (range_with_len (a + 1) m) in
     let i = span_split h (a + 1) m n in
@@ -54,10 +55,18 @@ pub waiting_work : {D : ℕ} (at : List ℤ) (seg : ℕ) (node : NodeAt D) (old 
 waiting_work at seg node old new h = sum_by_pushed work (turn_of h.dist seg node (length old.nodes)) old.turns new.turns h.moved
 
 pub stands_new : {D : ℕ} (nodes new : List (NodeAt D)) (node : NodeAt D) → new ≡ nodes ++ node ∷ [] → Stands new (length nodes) node
-stands_new nodes new node e = subst (λ ns. Stands ns (length nodes) node) (sym e) (record { within = (let l = length-append nodes (node ∷ []) in omega (arith, l)); is = λ d. get_or-append_seam nodes node [] d })
+stands_new nodes new node e =
+    subst (λ ns. Stands ns (length nodes) node) (sym e)
+    (record { within = (let l = length-append nodes (node ∷ []) in omega (arith, l)); is = λ d. get_or-append_seam nodes node [] d })
 
-pub stands_still : {D : ℕ} (nodes new : List (NodeAt D)) (more node : NodeAt D) (place : ℕ) → new ≡ nodes ++ more ∷ [] → Stands nodes place node → Stands new place node
-stands_still nodes new more node place e h = subst (λ ns. Stands ns place node) (sym e) (record { within = (let l = length-append nodes (more ∷ []) in let w = h.within in omega (arith, l, w)); is = λ d. get_or-append nodes (more ∷ []) d place h.within ∙ h.is d })
+pub stands_still : {D : ℕ} (nodes new : List (NodeAt D)) (more node : NodeAt D) (place : ℕ) → new ≡ nodes ++ more ∷ [] → Stands nodes place node
+    → Stands new place node
+stands_still nodes new more node place e h =
+    subst (λ ns. Stands ns place node) (sym e)
+    (record {
+      within = (let l = length-append nodes (more ∷ []) in let w = h.within in omega (arith, l, w));
+      is = λ d. get_or-append nodes (more ∷ []) d place h.within ∙ h.is d;
+    })
 
 pub inside_put : {D : ℕ} (n : ℕ) (at : List ℤ) (seg : ℕ) (node : NodeAt D) (old new : Front D) → seg < n → IsWaiting at seg node old new
     → All (IsInside n old.nodes) old.turns → All (IsInside n new.nodes) new.turns
@@ -66,7 +75,12 @@ inside_put n at seg node old new lt h all =
     (All-cons (IsInside n new.nodes) (turn_of h.dist seg node (length old.nodes)) old.turns
     (record { inside = lt; node = node; stands = stands_new old.nodes new.nodes node h.grown; leaves_are = refl })
     (All-weaker (IsInside n old.nodes) (IsInside n new.nodes)
-    (λ t k. record { inside = k.inside; node = k.node; stands = stands_still old.nodes new.nodes node k.node t.place h.grown k.stands; leaves_are = k.leaves_are }) old.turns all))
+    (λ t k. record {
+      inside = k.inside;
+      node = k.node;
+      stands = stands_still old.nodes new.nodes node k.node t.place h.grown k.stands;
+      leaves_are = k.leaves_are;
+    }) old.turns all))
 
 -- an element read is the one that any default gives
 pub read_any : {X : Type 0} (xs : List X) (i : ℕ) (x d : X) → i < length xs → x ≡ get_or xs i x → get_or xs i d ≡ x

@@ -1,5 +1,6 @@
 -- There is one list of the nearest numbers.
-use Rattle.std.proofs.Common.{◌≡◌, ℕ, ◌+◌, ◌≤◌, ◌<◌, zero, suc, Bool, true, false, List, [], ◌∷◌, ◌++◌, length, length-append, get_or, refl, sym, subst, ◌∙◌, ◌⊎◌, inr, ⊎_elim, arith}
+use Rattle.std.proofs.Common.{◌≡◌, ℕ, ◌+◌, ◌≤◌, ◌<◌, zero, suc, Bool, true, false, List, [], ◌∷◌, ◌++◌}
+use Rattle.std.proofs.Common.{length, length-append, get_or, refl, sym, subst, ◌∙◌, ◌⊎◌, inr, ⊎_elim, arith}
 use Rattle.std.proofs.lemmas.Map.Keys.{sorted_from_all_adjacent}
 use Rattle.std.proofs.lemmas.Map.Views.{Contains-from_any, list_any-from_Contains, tells_apart}
 use Rattle.std.proofs.lemmas.List.Elements.{All-contains, All-contains_itself, All-weaker, Contains-push_cases}
@@ -12,13 +13,16 @@ use Rattle.point_codec.proofs.Ordered.{in_order_is}
 use Rattle.point_codec.specs.declared.entries.Near.{Near}
 use Rattle.documents.specs.NearestEntries.{ComesBefore, HasNumber, IsNearest}
 use Rattle.nearest_query.specs.Best.{near_cmp}
-use Rattle.nearest_query.proofs.Order.{near_total, near_exact, same_near, less_from_before, before_itself, before_trans, cons_cases, cons_head, cons_tail, nil_none}
+use Rattle.nearest_query.proofs.Order.{near_total, near_exact, same_near, less_from_before, before_itself}
+use Rattle.nearest_query.proofs.Order.{before_trans, cons_cases, cons_head, cons_tail, nil_none}
 
 no_near : Near
 no_near = record { dist2 = 0; doc = 0 }
 
 pub sorted_from_pairs : (ks : List Near) → AllPairs ComesBefore ks → IsStrictlySortedBy near_cmp ks
-sorted_from_pairs ks up = sorted_from_all_adjacent near_total ks no_near (λ k h. less_from_before (get_or ks k no_near) (get_or ks (k + 1) no_near) (up k (k + 1) no_near (omega arith) h))
+sorted_from_pairs ks up =
+    sorted_from_all_adjacent near_total ks no_near
+    (λ k h. less_from_before (get_or ks k no_near) (get_or ks (k + 1) no_near) (up k (k + 1) no_near (omega arith) h))
 
 pub pairs_tail : (R : Near → Near → Type 0) (x : Near) (xs : List Near) → AllPairs R (x ∷ xs) → AllPairs R xs
 pairs_tail R x xs up i j d h k = up (suc i) (suc j) d (omega arith) (omega arith)
@@ -27,17 +31,24 @@ pub pairs_head : (R : Near → Near → Type 0) (x : Near) (xs : List Near) → 
 pairs_head R x xs up y (k, h, e) = subst (λ z. R x z) e (up zero (suc k) y (omega arith) (omega arith))
 
 -- two ascending lists, of which the second has what the first has: without the first element of both
-drop_both : (x : Near) (xs : List Near) (y : Near) (ys : List Near) → AllPairs ComesBefore (x ∷ xs) → ((a : Near) → Contains (x ∷ xs) a → Contains (y ∷ ys) a) → y ≡ x
+drop_both : (x : Near) (xs : List Near) (y : Near) (ys : List Near) → AllPairs ComesBefore (x ∷ xs) → ((a : Near) → Contains (x ∷ xs) a → Contains (y ∷ ys) a)
+    → y ≡ x
     → (a : Near) → Contains xs a → Contains ys a
 drop_both x xs y ys up sub e a h =
-    ⊎_elim (λ f. absurd (let b = before_itself a (subst (λ z. ComesBefore z a) (sym e ∙ f) (pairs_head ComesBefore x xs up a h)) in omega arith)) (λ k. k) (cons_cases y ys a (sub a (cons_tail x xs a h)))
+    ⊎_elim (λ f. absurd (let b = before_itself a (subst (λ z. ComesBefore z a) (sym e ∙ f) (pairs_head ComesBefore x xs up a h)) in omega arith)) (λ k. k)
+    (cons_cases y ys a (sub a (cons_tail x xs a h)))
 
 -- and without the first element of the second, which the first doesn't have
-drop_one : (x : Near) (xs : List Near) (y : Near) (ys : List Near) → AllPairs ComesBefore (x ∷ xs) → AllPairs ComesBefore (y ∷ ys) → ((a : Near) → Contains (x ∷ xs) a → Contains (y ∷ ys) a) → Contains ys x
+drop_one : (x : Near) (xs : List Near) (y : Near) (ys : List Near) → AllPairs ComesBefore (x ∷ xs) → AllPairs ComesBefore (y ∷ ys)
+    → ((a : Near) → Contains (x ∷ xs) a → Contains (y ∷ ys) a) → Contains ys x
     → (a : Near) → Contains (x ∷ xs) a → Contains ys a
 drop_one x xs y ys up vp sub h a k =
     let first = pairs_head ComesBefore y ys vp x h in
-    ⊎_elim (λ e. absurd (let b = before_itself y (⊎_elim (λ f. subst (λ z. ComesBefore y z) (f ∙ sym e) first) (λ m. before_trans y x y first (subst (λ z. ComesBefore x z) (sym e) (pairs_head ComesBefore x xs up a m))) (cons_cases x xs a k)) in omega arith)) (λ m. m) (cons_cases y ys a (sub a k))
+    ⊎_elim (λ e. absurd
+    (let b = before_itself y
+    (⊎_elim (λ f. subst (λ z. ComesBefore y z) (f ∙ sym e) first)
+    (λ m. before_trans y x y first (subst (λ z. ComesBefore x z) (sym e) (pairs_head ComesBefore x xs up a m))) (cons_cases x xs a k)) in omega arith)) (λ m. m)
+    (cons_cases y ys a (sub a k))
 
 -- an ascending list within another is no longer
 pub no_longer : (xs ys : List Near) → AllPairs ComesBefore xs → AllPairs ComesBefore ys → ((a : Near) → Contains xs a → Contains ys a) → length xs ≤ length ys
@@ -64,12 +75,15 @@ has_too k entries f g isf isg a h = ⊎_elim found (λ out. absurd (full out.0 o
         let l = isf.least c.0 b c.1 (isg.among b m) (sym c.2) in
         let r = isg.least b c.0 m (isf.among c.0 c.1) c.2 in
         subst (λ x. Contains f x) (same_near c.0 b (omega (arith, l, r)) c.2) c.1)
-        (λ out. absurd (let t = before_itself a (before_trans a b a (All-contains (λ c. ComesBefore c b) f a out.1 h) (All-contains (λ c. ComesBefore c a) g b all m)) in omega arith))
+        (λ out. absurd
+        (let t = before_itself a (before_trans a b a (All-contains (λ c. ComesBefore c b) f a out.1 h) (All-contains (λ c. ComesBefore c a) g b all m)) in
+        omega arith))
         (isf.left_out b (isg.among b m))
 
     full : length g ≡ k → All (λ b. ComesBefore b a) g → ⊥
     full e all =
-        let up : AllPairs ComesBefore (g ++ a ∷ []) = all_pairs_push ComesBefore g a isg.rises (λ i d m. All-contains (λ b. ComesBefore b a) g (get_or g i d) all (i, m, at_itself g i d m)) in
+        let up : AllPairs ComesBefore (g ++ a ∷ []) =
+        all_pairs_push ComesBefore g a isg.rises (λ i d m. All-contains (λ b. ComesBefore b a) g (get_or g i d) all (i, m, at_itself g i d m)) in
         let l = no_longer (g ++ a ∷ []) f up isf.rises (λ b m. ⊎_elim (λ n. back all b n) (λ n. subst (λ x. Contains f x) n h) (Contains-push_cases g a b m)) in
         let n = length-append g (a ∷ []) in
         let few = isf.few in
@@ -106,7 +120,12 @@ nearest_wider k seen all found is sub out = record {
   among = λ a h. sub a (is.among a h);
   least = λ a x h m e. ⊎_elim (λ n. is.least a x h n e) (λ o. let l = o.1 a h in omega arith) (out x m);
   few = is.few;
-  left_out = λ x m. ⊎_elim (λ n. is.left_out x n) (λ o. inr (o.0, All-weaker (λ a. Contains found a) (λ a. ComesBefore a x) (λ a h. let l = o.1 a h in record { near = omega arith; tie = λ t. absurd (omega arith) }) found (All-contains_itself found))) (out x m);
+  left_out = λ x m. ⊎_elim (λ n. is.left_out x n)
+      (λ o. inr (
+        o.0,
+        All-weaker (λ a. Contains found a) (λ a. ComesBefore a x) (λ a h. let l = o.1 a h in record { near = omega arith; tie = λ t. absurd (omega arith) })
+            found (All-contains_itself found),
+      )) (out x m);
 }
 
 -- and those among more are those among some that have all of them

@@ -1,6 +1,6 @@
 -- What is kept of the entries seen so far.
-use Rattle.std.specs.Prelude.{ℕ, ◌≡◌, ◌≤◌, ◌<◌, ◌+◌, ◌↔◌, Some, IsTrue, true, false, List, ◌∷◌, ◌++◌, All, sum_by, length}
-use Rattle.std.specs.Prelude.{nat_eq, nat_le, not, if◌then◌else◌}
+use Rattle.std.specs.Prelude.{ℕ, ◌≡◌, ◌≤◌, ◌<◌, ◌+◌, ◌↔◌, Some, IsTrue, true, false, List, ◌∷◌, ◌++◌, All, sum_by}
+use Rattle.std.specs.Prelude.{length, nat_eq, nat_le, not, if◌then◌else◌}
 use Rattle.std.specs.declared.cmp.Ordering.{Ordering}
 use Rattle.std.specs.declared.cmp.Ordering.TheVariants.{Less}
 use Rattle.std.specs.Ordering.{nat_cmp, ordering_then, is_lt}

@@ -2,7 +2,7 @@ use Rattle.std.proofs.Common.{◌≡◌, ◌∙◌, sym}
 use Rattle.std.specs.declared.cmp.Ordering.TheVariants.{Less}
 use Rattle.std.proofs.lemmas.List.Elements.{All-more}
 use Rattle.nearest_query.specs.Best.{near_cmp}
-use Rattle.nearest_query.proofs.Among.{less_from_lt}
+use Rattle.nearest_query.proofs.AmongWays.{less_from_lt}
 use Rattle.nearest_query.proofs.few.rank.Goals as goal
 
 pub loop-i-preserved : goal.loop-i-preserved

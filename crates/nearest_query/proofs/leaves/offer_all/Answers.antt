@@ -8,8 +8,10 @@ use Rattle.nearest_query.proofs.leaves.offer_all.Goals as goal
 pub loop-entry-preserved : goal.loop-entry-preserved
 loop-entry-preserved g c = record {
   room = c.in_ok-offer.ensures.room ∙ c.loop-entry.invariant.room;
-  found = λ seen best. added_more seen _ _ c.loop-entry.found c.offer.new.self (record { dist2 = c.dist2.result; doc = c.entry-item.result.doc }) (c.loop-entry.invariant.found seen best) c.in_ok-offer.ensures.best
-      (entries_more c.args.at.now.c c.args.entries.now c.loop-entry.entry-index c.entry-item.result _ c.loop-entry-test.true c.entry-item.is (with_dist _ _ _ c.dist2.ensures));
+  found = λ seen best. added_more seen _ _ c.loop-entry.found c.offer.new.self (record { dist2 = c.dist2.result; doc = c.entry-item.result.doc })
+      (c.loop-entry.invariant.found seen best) c.in_ok-offer.ensures.best
+      (entries_more c.args.at.now.c c.args.entries.now c.loop-entry.entry-index c.entry-item.result _ c.loop-entry-test.true c.entry-item.is
+      (with_dist _ _ _ c.dist2.ensures));
 }
 
 pub returns-clause-found : goal.returns-clause-found

@@ -23,8 +23,12 @@ offer_above-requires g c = (
       within = c.count_below-place.ensures.within;
       points = c.sorted_dimension-d.ensures.points;
       ascend = c.sorted_dimension-d.ensures.ascends;
-      below = subst (λ (cs : List ℤ). All (λ (x : Item). int_lt (coordinate c.sorted_dimension-d.result x) (get_or cs c.sorted_dimension-d.result (pos 0)) ≡ true) (take c.count_below-place.result c.args.view.now)) c.coordinates.ensures.value c.count_below-place.ensures.below;
-      above = subst (λ (cs : List ℤ). All (λ (x : Item). int_le (get_or cs c.sorted_dimension-d.result (pos 0)) (coordinate c.sorted_dimension-d.result x) ≡ true) (drop c.count_below-place.result c.args.view.now)) c.coordinates.ensures.value c.count_below-place.ensures.above;
+      below = subst
+          (λ (cs : List ℤ). All (λ (x : Item). int_lt (coordinate c.sorted_dimension-d.result x) (get_or cs c.sorted_dimension-d.result (pos 0)) ≡ true)
+          (take c.count_below-place.result c.args.view.now)) c.coordinates.ensures.value c.count_below-place.ensures.below;
+      above = subst
+          (λ (cs : List ℤ). All (λ (x : Item). int_le (get_or cs c.sorted_dimension-d.result (pos 0)) (coordinate c.sorted_dimension-d.result x) ≡ true)
+          (drop c.count_below-place.result c.args.view.now)) c.coordinates.ensures.value c.count_below-place.ensures.above;
     },
   ),
 )
@@ -40,8 +44,12 @@ offer_below-requires g c = (
       within = c.count_below-place.ensures.within;
       points = c.sorted_dimension-d.ensures.points;
       ascend = c.sorted_dimension-d.ensures.ascends;
-      below = subst (λ (cs : List ℤ). All (λ (x : Item). int_lt (coordinate c.sorted_dimension-d.result x) (get_or cs c.sorted_dimension-d.result (pos 0)) ≡ true) (take c.count_below-place.result c.args.view.now)) c.coordinates.ensures.value c.count_below-place.ensures.below;
-      above = subst (λ (cs : List ℤ). All (λ (x : Item). int_le (get_or cs c.sorted_dimension-d.result (pos 0)) (coordinate c.sorted_dimension-d.result x) ≡ true) (drop c.count_below-place.result c.args.view.now)) c.coordinates.ensures.value c.count_below-place.ensures.above;
+      below = subst
+          (λ (cs : List ℤ). All (λ (x : Item). int_lt (coordinate c.sorted_dimension-d.result x) (get_or cs c.sorted_dimension-d.result (pos 0)) ≡ true)
+          (take c.count_below-place.result c.args.view.now)) c.coordinates.ensures.value c.count_below-place.ensures.below;
+      above = subst
+          (λ (cs : List ℤ). All (λ (x : Item). int_le (get_or cs c.sorted_dimension-d.result (pos 0)) (coordinate c.sorted_dimension-d.result x) ≡ true)
+          (drop c.count_below-place.result c.args.view.now)) c.coordinates.ensures.value c.count_below-place.ensures.above;
     },
   ),
 )

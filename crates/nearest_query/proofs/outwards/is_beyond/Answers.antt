@@ -12,7 +12,8 @@ pub returns : goal.returns
 returns g c = λ yes x is seen best.
     let said = said_of (λ y. c.coordinate.result ≡ coordinate c.args.d y) _ x is c.coordinate.ensures in
     let round : to_z w32 (of_z w32 c.coordinate.result) ≡ c.coordinate.result = search rules in
-    let gap : c.from.result ≡ gap2 c.args.d c.args.at.now.c x = c.from.ensures ∙ c.squared_gap-gap.ensures ∙ ap (λ (v : ℤ). square (v -ℤ get_or c.args.at.now.c c.args.d (pos 0))) (round ∙ said) in (
+    let gap : c.from.result ≡ gap2 c.args.d c.args.at.now.c x =
+    c.from.ensures ∙ c.squared_gap-gap.ensures ∙ ap (λ (v : ℤ). square (v -ℤ get_or c.args.at.now.c c.args.d (pos 0))) (round ∙ said) in (
       c.ends_before.ensures.full yes,
       subst (λ (n : ℕ). All (λ (a : Near). a.dist2 < n) (found_of c.args.found.now)) gap (c.ends_before.ensures.yes yes seen best),
     )

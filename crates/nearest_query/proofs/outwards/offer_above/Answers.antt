@@ -16,7 +16,8 @@ pub loop-i-init : goal.loop-i-init
 loop-i-init g c = record {
   room = refl;
   found = λ seen best. added_same seen [] _ c.args.found.now (added_none seen c.args.found.now best)
-      (ap (λ xs. nears_of c.args.at.now.c (live_items c.args.live.now xs)) (drop_all c.args.place (take c.args.place c.args.view.now) (omega (arith, length-take-le c.args.place c.args.view.now c.requires.within))));
+      (ap (λ xs. nears_of c.args.at.now.c (live_items c.args.live.now xs))
+      (drop_all c.args.place (take c.args.place c.args.view.now) (omega (arith, length-take-le c.args.place c.args.view.now c.requires.within))));
 }
 
 pub loop-i-preserved : goal.loop-i-preserved
@@ -50,9 +51,11 @@ returns-then-is_beyond-clause-found g c = λ seen best.
     let was = c.loop-i.invariant.found seen best in
     let near = c.is_beyond.ensures c.if-is_beyond.true x is was.after was.best in
     added_both seen _ _ _ c.loop-i.found c.loop-i.found was
-    (far_added at live c.loop-i.found (gap2 c.args.d at x) near (drop i xs) (far_above g.row.D c.args.d at c.args.place xs c.requires i x from within (λ e. get_or_from_slice_get xs i x e is)) was.after was.best)
+    (far_added at live c.loop-i.found (gap2 c.args.d at x) near (drop i xs)
+    (far_above g.row.D c.args.d at c.args.place xs c.requires i x from within (λ e. get_or_from_slice_get xs i x e is)) was.after was.best)
     (λ f. up_rest at live f xs c.args.place i from)
 
 pub returns-clause-found : goal.returns-clause-found
 returns-clause-found g c = λ seen best. added_same seen _ _ c.loop-i.found (c.loop-i.invariant.found seen best)
-    (ap (λ xs. nears_of c.args.at.now.c (live_items c.args.live.now (drop c.args.place xs))) (sym (take_all c.loop-i.i c.args.view.now (omega (arith, c.loop-i-test.false, c.count-i-end.ensures)))))
+    (ap (λ xs. nears_of c.args.at.now.c (live_items c.args.live.now (drop c.args.place xs)))
+    (sym (take_all c.loop-i.i c.args.view.now (omega (arith, c.loop-i-test.false, c.count-i-end.ensures)))))

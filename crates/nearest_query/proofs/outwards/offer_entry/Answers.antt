@@ -21,5 +21,6 @@ returns-clause-found g c = λ x is seen best.
     let alive : is_live c.args.live.now x.doc ≡ true = ap (is_live c.args.live.now) (sym doc) ∙ sym c.is_live.ensures ∙ c.if-not-is_live.false in
     let n = near_with c.dist2.result c.doc-doc.result in
     on_ok (AreBest (n ∷ seen) c.offer.new.self) (AreAdded seen (nears_of c.args.at.now.c (live_items c.args.live.now (x ∷ []))) c.offer.new.self) c.offer.result
-    (λ b. one_live c.args.at.now.c c.args.live.now x n seen c.offer.new.self alive (near_read c.args.at.now.c x c.dist2.result c.doc-doc.result c.point.result.c c.dist2.ensures point doc) b)
+    (λ b. one_live c.args.at.now.c c.args.live.now x n seen c.offer.new.self alive
+    (near_read c.args.at.now.c x c.dist2.result c.doc-doc.result c.point.result.c c.dist2.ensures point doc) b)
     (c.offer.ensures.best seen best)

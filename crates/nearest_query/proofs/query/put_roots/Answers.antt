@@ -9,24 +9,31 @@ use Rattle.nearest_query.proofs.query.put_roots.Goals as goal
 
 pub loop-i-preserved : goal.loop-i-preserved
 loop-i-preserved g c = record {
-  inside = inside_put (length c.args.heads.now) c.args.at.now.c c.loop-i.i c.walk.result c.loop-i.frontier c.put.new.self c.loop-i-test.true c.in_ok-put.ensures.put c.loop-i.invariant.inside;
+  inside = inside_put (length c.args.heads.now) c.args.at.now.c c.loop-i.i c.walk.result c.loop-i.frontier c.put.new.self c.loop-i-test.true
+      c.in_ok-put.ensures.put c.loop-i.invariant.inside;
   parts = λ trees have.
       let t = have c.loop-i.i c.loop-i-test.true in
-      parts_put c.args.heads.now trees c.args.at.now.c c.loop-i.i c.walk.result c.loop-i.frontier c.put.new.self 0 front t.0 (trees c.loop-i.i) c.in_ok-put.ensures.put c.loop-i-test.true
+      parts_put c.args.heads.now trees c.args.at.now.c c.loop-i.i c.walk.result c.loop-i.frontier c.put.new.self 0 front t.0 (trees c.loop-i.i)
+      c.in_ok-put.ensures.put c.loop-i-test.true
       (c.walk.ensures t.0 (trees c.loop-i.i) (subst (λ h. HasTree g.row.D h t.0 (trees c.loop-i.i)) (sym c.index.ensures.value)
-      (subst (λ h. HasTree g.row.D h.index t.0 (trees c.loop-i.i)) (read_any c.args.heads.now c.loop-i.i c.index-heads-i.result no_head c.loop-i-test.true c.index-heads-i.is) t.1)))
+      (subst (λ h. HasTree g.row.D h.index t.0 (trees c.loop-i.i))
+      (read_any c.args.heads.now c.loop-i.i c.index-heads-i.result no_head c.loop-i-test.true c.index-heads-i.is) t.1)))
       (λ number at len own h. h)
       (c.loop-i.invariant.parts trees have);
   nodes = λ w roots heads_are at_is.
       root_nodes w c.args.at.now.c c.loop-i.i c.walk.result c.loop-i.frontier c.put.new.self roots at_is
       (subst (λ hs. c.loop-i.i < length hs) (sym heads_are) c.loop-i-test.true)
       (λ root t has. c.walk.ensures root t (subst (λ h. HasTree g.row.D h root t) (sym c.index.ensures.value)
-      (subst (λ h. HasTree g.row.D h.index root t) (ap (λ hs. get_or hs c.loop-i.i no_head) heads_are ∙ read_any c.args.heads.now c.loop-i.i c.index-heads-i.result no_head c.loop-i-test.true c.index-heads-i.is) has)))
+      (subst (λ h. HasTree g.row.D h.index root t)
+      (ap (λ hs. get_or hs c.loop-i.i no_head) heads_are
+      ∙ read_any c.args.heads.now c.loop-i.i c.index-heads-i.result no_head c.loop-i-test.true c.index-heads-i.is) has)))
       c.in_ok-put.ensures.put (c.loop-i.invariant.nodes w roots heads_are at_is);
   totals = λ w roots heads_are h.
       root_totals w c.args.at.now.c c.loop-i.i c.walk.result c.loop-i.frontier c.put.new.self roots
       (subst (λ hs. c.loop-i.i < length hs) (sym heads_are) c.loop-i-test.true)
       (λ root t has. c.walk.ensures root t (subst (λ h. HasTree g.row.D h root t) (sym c.index.ensures.value)
-      (subst (λ h. HasTree g.row.D h.index root t) (ap (λ hs. get_or hs c.loop-i.i no_head) heads_are ∙ read_any c.args.heads.now c.loop-i.i c.index-heads-i.result no_head c.loop-i-test.true c.index-heads-i.is) has)))
+      (subst (λ h. HasTree g.row.D h.index root t)
+      (ap (λ hs. get_or hs c.loop-i.i no_head) heads_are
+      ∙ read_any c.args.heads.now c.loop-i.i c.index-heads-i.result no_head c.loop-i-test.true c.index-heads-i.is) has)))
       c.in_ok-put.ensures.put h (c.loop-i.invariant.totals w roots heads_are h);
 }

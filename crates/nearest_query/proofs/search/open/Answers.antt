@@ -20,7 +20,8 @@ pub returns-in_err-fork-in-Some-clause-reads : goal.returns-in_err-fork-in-Some-
 returns-in_err-fork-in-Some-clause-reads g c = λ w bound n at within.
     let same = c.node.ensures ∙ n.stands.is c.node.result.now in
     let kids = c.in-Some.ensures.some c.args.next.first n.spot n.path n.tree (subst (λ m. IsAt m c.args.next.first n.spot n.path n.tree) (sym same) n.is) in
-    let counted = children_span w c.args.frontier.now.nodes c.args.next n c.in-Some.left c.in-Some.right kids refl (one_within w bound) (c.in-Some.ensures.sum ∙ ap (λ m. m.leaves) same) c.fork.ensures.counted in
+    let counted = children_span w c.args.frontier.now.nodes c.args.next n c.in-Some.left c.in-Some.right kids refl (one_within w bound)
+    (c.in-Some.ensures.sum ∙ ap (λ m. m.leaves) same) c.fork.ensures.counted in
     let most = c.fork.ensures.most (one_within w bound) in
     omega (arith, counted, most)
 
@@ -47,45 +48,65 @@ returns-in_ok-fork-in-Some-clause-sought g c = λ told agrees w all over s.
     let put = c.in_ok-fork-in-Some.ensures.put in
     fork_step w all c.args.at.now.c c.args.next c.args.frontier.now put.0 c.fork.new.frontier c.in-Some.left c.in-Some.right c.args.found.now over.at_is s
     (λ n.
-    let same = c.node.ensures ∙ n.stands.is c.node.result.now in
-    (c.in-Some.ensures.some c.args.next.first n.spot n.path n.tree (subst (λ m. IsAt m c.args.next.first n.spot n.path n.tree) (sym same) n.is), c.in-Some.ensures.sum ∙ ap (λ m. m.leaves) same))
+    let same = c.node.ensures ∙ n.stands.is c.node.result.now in (
+      c.in-Some.ensures.some c.args.next.first n.spot n.path n.tree (subst (λ m. IsAt m c.args.next.first n.spot n.path n.tree) (sym same) n.is),
+      c.in-Some.ensures.sum ∙ ap (λ m. m.leaves) same,
+    ))
     put.1 put.2
 
 pub returns-in_ok-fork-in-Some-clause-reads : goal.returns-in_ok-fork-in-Some-clause-reads
 returns-in_ok-fork-in-Some-clause-reads g c = λ w bound n at within.
     let same = c.node.ensures ∙ n.stands.is c.node.result.now in
     let kids = c.in-Some.ensures.some c.args.next.first n.spot n.path n.tree (subst (λ m. IsAt m c.args.next.first n.spot n.path n.tree) (sym same) n.is) in
-    let counted = children_span w c.args.frontier.now.nodes c.args.next n c.in-Some.left c.in-Some.right kids refl (one_within w bound) (c.in-Some.ensures.sum ∙ ap (λ m. m.leaves) same) c.fork.ensures.counted in
+    let counted = children_span w c.args.frontier.now.nodes c.args.next n c.in-Some.left c.in-Some.right kids refl (one_within w bound)
+    (c.in-Some.ensures.sum ∙ ap (λ m. m.leaves) same) c.fork.ensures.counted in
     let most = c.fork.ensures.most (one_within w bound) in
     omega (arith, counted, most)
 
 pub returns-in-None-clause-sought : goal.returns-in-None-clause-sought
 returns-in-None-clause-sought g c = λ told agrees w all over s.
     let single = c.in-None.ensures.none.0 refl in
-    let head : head_at w c.args.next.segment ≡ c.index-heads-next.result = ap (λ hs. get_or hs c.args.next.segment no_head) over.heads_are ∙ read_any c.args.heads.now c.args.next.segment c.index-heads-next.result no_head c.requires.inside.inside c.index-heads-next.is in
-    let live : live_at w c.args.next.segment ≡ c.index-lives-next.result = ap (λ ls. get_or ls c.args.next.segment no_live) over.lives_are ∙ read_any c.args.lives.now c.args.next.segment c.index-lives-next.result no_live (omega (arith, c.requires.lives, c.requires.inside.inside)) c.index-lives-next.is in
-    leaf_step w all c.args.next c.args.frontier.now.turns c.args.frontier.now.nodes c.node-in-None.result.now c.args.found.now c.open_leaf.new.found c.open_leaf.result s
-    (ap (λ m. m.leaves) (c.node-in-None.ensures ∙ c.requires.inside.stands.is c.node-in-None.result.now ∙ sym (c.node.ensures ∙ c.requires.inside.stands.is c.node.result.now)) ∙ single)
+    let head : head_at w c.args.next.segment ≡ c.index-heads-next.result =
+    ap (λ hs. get_or hs c.args.next.segment no_head) over.heads_are
+    ∙ read_any c.args.heads.now c.args.next.segment c.index-heads-next.result no_head c.requires.inside.inside c.index-heads-next.is in
+    let live : live_at w c.args.next.segment ≡ c.index-lives-next.result =
+    ap (λ ls. get_or ls c.args.next.segment no_live) over.lives_are
+    ∙ read_any c.args.lives.now c.args.next.segment c.index-lives-next.result no_live (omega (arith, c.requires.lives, c.requires.inside.inside))
+    c.index-lives-next.is in
+    leaf_step w all c.args.next c.args.frontier.now.turns c.args.frontier.now.nodes c.node-in-None.result.now c.args.found.now c.open_leaf.new.found
+    c.open_leaf.result s
+    (ap (λ m. m.leaves)
+    (c.node-in-None.ensures ∙ c.requires.inside.stands.is c.node-in-None.result.now ∙ sym (c.node.ensures ∙ c.requires.inside.stands.is c.node.result.now))
+    ∙ single)
     (λ n. c.node-in-None.ensures ∙ n.stands.is c.node-in-None.result.now)
-    (subst (λ a. Opens a w.files (head_at w c.args.next.segment) (live_at w c.args.next.segment) c.node-in-None.result.now c.open_leaf.result c.args.found.now c.open_leaf.new.found) (sym over.at_is)
-    (subst (λ f. Opens c.args.at.now.c f (head_at w c.args.next.segment) (live_at w c.args.next.segment) c.node-in-None.result.now c.open_leaf.result c.args.found.now c.open_leaf.new.found) (sym over.files_are)
-    (subst (λ h. Opens c.args.at.now.c (g.F.Pages.files c.args.folder.now) h (live_at w c.args.next.segment) c.node-in-None.result.now c.open_leaf.result c.args.found.now c.open_leaf.new.found) (sym head)
-    (subst (λ l. Opens c.args.at.now.c (g.F.Pages.files c.args.folder.now) c.index-heads-next.result l c.node-in-None.result.now c.open_leaf.result c.args.found.now c.open_leaf.new.found) (sym live)
+    (subst (λ a. Opens a w.files (head_at w c.args.next.segment) (live_at w c.args.next.segment) c.node-in-None.result.now c.open_leaf.result c.args.found.now
+    c.open_leaf.new.found) (sym over.at_is)
+    (subst (λ f. Opens c.args.at.now.c f (head_at w c.args.next.segment) (live_at w c.args.next.segment) c.node-in-None.result.now c.open_leaf.result
+    c.args.found.now c.open_leaf.new.found) (sym over.files_are)
+    (subst (λ h. Opens c.args.at.now.c (g.F.Pages.files c.args.folder.now) h (live_at w c.args.next.segment) c.node-in-None.result.now c.open_leaf.result
+    c.args.found.now c.open_leaf.new.found) (sym head)
+    (subst (λ l. Opens c.args.at.now.c (g.F.Pages.files c.args.folder.now) c.index-heads-next.result l c.node-in-None.result.now c.open_leaf.result
+    c.args.found.now c.open_leaf.new.found) (sym live)
     (c.open_leaf.ensures.found told agrees)))))
 
 pub returns-in-None-clause-reads : goal.returns-in-None-clause-reads
 returns-in-None-clause-reads g c = λ w bound n at within.
     let single = c.in-None.ensures.none.0 refl in
-    let one = leaf_counts w bound c.args.frontier.now.nodes c.args.next n (ap (λ m. m.leaves) (sym (c.node.ensures ∙ n.stands.is c.node.result.now)) ∙ single) within in
+    let one = leaf_counts w bound c.args.frontier.now.nodes c.args.next n (ap (λ m. m.leaves) (sym (c.node.ensures ∙ n.stands.is c.node.result.now)) ∙ single)
+    within in
     let reads = c.open_leaf.ensures.reads in
     omega (arith, one, reads)
 
 pub returns-in-None-clause-whole : goal.returns-in-None-clause-whole
 returns-in-None-clause-whole g c = λ told agrees w over n.
     let single = c.in-None.ensures.none.0 refl in
-    let head : head_at w c.args.next.segment ≡ c.index-heads-next.result = ap (λ hs. get_or hs c.args.next.segment no_head) over.heads_are ∙ read_any c.args.heads.now c.args.next.segment c.index-heads-next.result no_head c.requires.inside.inside c.index-heads-next.is in
+    let head : head_at w c.args.next.segment ≡ c.index-heads-next.result =
+    ap (λ hs. get_or hs c.args.next.segment no_head) over.heads_are
+    ∙ read_any c.args.heads.now c.args.next.segment c.index-heads-next.result no_head c.requires.inside.inside c.index-heads-next.is in
     leaf_whole w c.args.next c.args.frontier.now.nodes c.node-in-None.result.now c.open_leaf.result n
-    (ap (λ m. m.leaves) (c.node-in-None.ensures ∙ c.requires.inside.stands.is c.node-in-None.result.now ∙ sym (c.node.ensures ∙ c.requires.inside.stands.is c.node.result.now)) ∙ single)
+    (ap (λ m. m.leaves)
+    (c.node-in-None.ensures ∙ c.requires.inside.stands.is c.node-in-None.result.now ∙ sym (c.node.ensures ∙ c.requires.inside.stands.is c.node.result.now))
+    ∙ single)
     (c.node-in-None.ensures ∙ n.stands.is c.node-in-None.result.now)
     (subst (λ f. OpensWhole f (head_at w c.args.next.segment) c.node-in-None.result.now c.open_leaf.result) (sym over.files_are)
     (subst (λ h. OpensWhole (g.F.Pages.files c.args.folder.now) h c.node-in-None.result.now c.open_leaf.result) (sym head)
@@ -102,9 +123,12 @@ returns-in_ok-fork-in-Some-clause-parts g c = λ trees all.
 
 pub returns-in-None-clause-shown : goal.returns-in-None-clause-shown
 returns-in-None-clause-shown g c = λ trees n.
-    let head : get_or c.args.heads.now c.args.next.segment no_head ≡ c.index-heads-next.result = read_any c.args.heads.now c.args.next.segment c.index-heads-next.result no_head c.requires.inside.inside c.index-heads-next.is in
-    leaf_shown c.args.heads.now trees c.args.frontier.now.nodes c.args.next c.node-in-None.result.now c.open_leaf.result n (c.node-in-None.ensures ∙ n.stands.is c.node-in-None.result.now)
-    (subst (λ h. (first : ℕ) (s : Spot) (path : Region) (t : IndexTree) → IsAt c.node-in-None.result.now first s path t → OnDamage c.open_leaf.result (IsLeafDamage g.row.D h first s t)) (sym head) c.open_leaf.ensures.shown)
+    let head : get_or c.args.heads.now c.args.next.segment no_head ≡ c.index-heads-next.result =
+    read_any c.args.heads.now c.args.next.segment c.index-heads-next.result no_head c.requires.inside.inside c.index-heads-next.is in
+    leaf_shown c.args.heads.now trees c.args.frontier.now.nodes c.args.next c.node-in-None.result.now c.open_leaf.result n
+    (c.node-in-None.ensures ∙ n.stands.is c.node-in-None.result.now)
+    (subst (λ h. (first : ℕ) (s : Spot) (path : Region) (t : IndexTree) → IsAt c.node-in-None.result.now first s path t
+    → OnDamage c.open_leaf.result (IsLeafDamage g.row.D h first s t)) (sym head) c.open_leaf.ensures.shown)
 
 pub returns-in-None-clause-parts : goal.returns-in-None-clause-parts
 returns-in-None-clause-parts g c = λ trees all.

@@ -16,10 +16,13 @@ use Rattle.nearest_query.proofs.search.search.Goals as goal
 pub returns-then-ends_before-clause-answer : goal.returns-then-ends_before-clause-answer
 returns-then-ends_before-clause-answer g c = λ told agrees w all over s.
     let d = c.in-Some.next.dist2.0 in
-    let far : All (λ t. d ≤ t.dist2.0) (c.in-Some.next ∷ c.pop.new.self.turns) = All-cons (λ t. d ≤ t.dist2.0) c.in-Some.next c.pop.new.self.turns (omega arith) c.in-Some.ensures.least in
-    let here = sought_moved w all c.loop-next.frontier.turns (c.in-Some.next ∷ c.pop.new.self.turns) c.loop-next.frontier.nodes c.loop-next.found c.in-Some.ensures.some (c.loop-next.invariant.sought told agrees w all over s) in
+    let far : All (λ t. d ≤ t.dist2.0) (c.in-Some.next ∷ c.pop.new.self.turns) =
+    All-cons (λ t. d ≤ t.dist2.0) c.in-Some.next c.pop.new.self.turns (omega arith) c.in-Some.ensures.least in
+    let here = sought_moved w all c.loop-next.frontier.turns (c.in-Some.next ∷ c.pop.new.self.turns) c.loop-next.frontier.nodes c.loop-next.found
+    c.in-Some.ensures.some (c.loop-next.invariant.sought told agrees w all over s) in
     subst (λ k. IsNearest k all (found_of c.loop-next.found)) c.loop-next.invariant.room
-    (stop_nearest w all (c.in-Some.next ∷ c.pop.new.self.turns) c.loop-next.frontier.nodes c.loop-next.found here d far (c.ends_before.ensures.full c.if-ends_before.true) (c.ends_before.ensures.yes c.if-ends_before.true here.seen here.best))
+    (stop_nearest w all (c.in-Some.next ∷ c.pop.new.self.turns) c.loop-next.frontier.nodes c.loop-next.found here d far
+    (c.ends_before.ensures.full c.if-ends_before.true) (c.ends_before.ensures.yes c.if-ends_before.true here.seen here.best))
 
 pub returns-then-ends_before-clause-reads : goal.returns-then-ends_before-clause-reads
 returns-then-ends_before-clause-reads g c = λ told agrees w all nearest over s is.
@@ -37,7 +40,8 @@ open-requires g c = (
         c.requires.lives,
         subst (λ ns. IsInside (length c.args.heads.now) ns c.in-Some.next) (sym c.in-Some.ensures.nodes)
             (All-head (IsInside (length c.args.heads.now) c.loop-next.frontier.nodes) c.in-Some.next c.pop.new.self.turns
-            (All-permutation (IsInside (length c.args.heads.now) c.loop-next.frontier.nodes) c.loop-next.frontier.turns (c.in-Some.next ∷ c.pop.new.self.turns) c.in-Some.ensures.some c.loop-next.invariant.inside)),
+            (All-permutation (IsInside (length c.args.heads.now) c.loop-next.frontier.nodes) c.loop-next.frontier.turns (c.in-Some.next ∷ c.pop.new.self.turns)
+            c.in-Some.ensures.some c.loop-next.invariant.inside)),
       ),
     ),
   ),
@@ -56,41 +60,62 @@ loop-next-preserved g c = record {
   faults = c.in_ok-open.ensures.cause.fine ∙ c.loop-next.invariant.faults;
   others = λ i h. ⊎_elim (λ k. c.loop-next.invariant.others i k) (λ k. inr k) (c.in_ok-open.ensures.others i h);
   agrees = λ told a. subst (λ f. Agrees f c.open.new.cache) (c.loop-next.invariant.files told)
-      (c.in_ok-open.ensures.agrees told (subst (λ f. Agrees f c.loop-next.cache) (sym (c.loop-next.invariant.files told)) (c.loop-next.invariant.agrees told a)));
+      (c.in_ok-open.ensures.agrees told
+      (subst (λ f. Agrees f c.loop-next.cache) (sym (c.loop-next.invariant.files told)) (c.loop-next.invariant.agrees told a)));
   inside = c.in_ok-open.ensures.inside
       (subst (λ ns. All (IsInside (length c.args.heads.now) ns) c.pop.new.self.turns) (sym c.in-Some.ensures.nodes)
       (All-tail (IsInside (length c.args.heads.now) c.loop-next.frontier.nodes) c.in-Some.next c.pop.new.self.turns
-      (All-permutation (IsInside (length c.args.heads.now) c.loop-next.frontier.nodes) c.loop-next.frontier.turns (c.in-Some.next ∷ c.pop.new.self.turns) c.in-Some.ensures.some c.loop-next.invariant.inside)));
+      (All-permutation (IsInside (length c.args.heads.now) c.loop-next.frontier.nodes) c.loop-next.frontier.turns (c.in-Some.next ∷ c.pop.new.self.turns)
+      c.in-Some.ensures.some c.loop-next.invariant.inside)));
   parts = λ trees all. c.in_ok-open.ensures.parts trees
       (subst (λ ns. All (IsPart c.args.heads.now trees ns) (c.in-Some.next ∷ c.pop.new.self.turns)) (sym c.in-Some.ensures.nodes)
-      (All-permutation (IsPart c.args.heads.now trees c.loop-next.frontier.nodes) c.loop-next.frontier.turns (c.in-Some.next ∷ c.pop.new.self.turns) c.in-Some.ensures.some (c.loop-next.invariant.parts trees all)));
+      (All-permutation (IsPart c.args.heads.now trees c.loop-next.frontier.nodes) c.loop-next.frontier.turns (c.in-Some.next ∷ c.pop.new.self.turns)
+      c.in-Some.ensures.some (c.loop-next.invariant.parts trees all)));
   sought = λ told a w all over s.
-      c.in_ok-open.ensures.sought told (subst (λ f. Agrees f c.loop-next.cache) (sym (c.loop-next.invariant.files told)) (c.loop-next.invariant.agrees told a)) w all
-      (record { at_is = over.at_is; heads_are = over.heads_are; lives_are = over.lives_are; files_are = over.files_are ∙ sym (c.loop-next.invariant.files told) })
+      c.in_ok-open.ensures.sought told (subst (λ f. Agrees f c.loop-next.cache) (sym (c.loop-next.invariant.files told)) (c.loop-next.invariant.agrees told a))
+      w all
+      (record {
+        at_is = over.at_is;
+        heads_are = over.heads_are;
+        lives_are = over.lives_are;
+        files_are = over.files_are ∙ sym (c.loop-next.invariant.files told);
+      })
       (subst (λ ns. IsSought g.row.D w all (c.in-Some.next ∷ c.pop.new.self.turns) ns c.loop-next.found) (sym c.in-Some.ensures.nodes)
-      (sought_moved w all c.loop-next.frontier.turns (c.in-Some.next ∷ c.pop.new.self.turns) c.loop-next.frontier.nodes c.loop-next.found c.in-Some.ensures.some (c.loop-next.invariant.sought told a w all over s)));
+      (sought_moved w all c.loop-next.frontier.turns (c.in-Some.next ∷ c.pop.new.self.turns) c.loop-next.frontier.nodes c.loop-next.found c.in-Some.ensures.some
+      (c.loop-next.invariant.sought told a w all over s)));
   reads = λ told a w all nearest over s is.
       let r = c.loop-next.invariant.reads told a w all nearest over s is in
-      let here = sought_moved w all c.loop-next.frontier.turns (c.in-Some.next ∷ c.pop.new.self.turns) c.loop-next.frontier.nodes c.loop-next.found c.in-Some.ensures.some (c.loop-next.invariant.sought told a w all over s) in
-      let o = c.in_ok-open.ensures.reads w (bound_of c.args.found.now.many.room nearest) (next_node w all c.in-Some.next c.pop.new.self.turns c.loop-next.frontier.nodes c.pop.new.self.nodes c.loop-next.found here c.in-Some.ensures.nodes) over.at_is
-      (next_within w all c.in-Some.next c.pop.new.self.turns c.loop-next.frontier.nodes c.loop-next.found here c.args.found.now.many.room nearest c.loop-next.invariant.room is c.in-Some.ensures.least (c.ends_before.ensures.no c.if-ends_before.false)) in
-      let p = sum_by_popped (spread (one_within w (bound_of c.args.found.now.many.room nearest))) c.in-Some.next c.loop-next.frontier.turns c.pop.new.self.turns c.in-Some.ensures.some in
+      let here = sought_moved w all c.loop-next.frontier.turns (c.in-Some.next ∷ c.pop.new.self.turns) c.loop-next.frontier.nodes c.loop-next.found
+      c.in-Some.ensures.some (c.loop-next.invariant.sought told a w all over s) in
+      let o = c.in_ok-open.ensures.reads w (bound_of c.args.found.now.many.room nearest)
+      (next_node w all c.in-Some.next c.pop.new.self.turns c.loop-next.frontier.nodes c.pop.new.self.nodes c.loop-next.found here c.in-Some.ensures.nodes)
+      over.at_is
+      (next_within w all c.in-Some.next c.pop.new.self.turns c.loop-next.frontier.nodes c.loop-next.found here c.args.found.now.many.room nearest
+      c.loop-next.invariant.room is c.in-Some.ensures.least (c.ends_before.ensures.no c.if-ends_before.false)) in
+      let p = sum_by_popped (spread (one_within w (bound_of c.args.found.now.many.room nearest))) c.in-Some.next c.loop-next.frontier.turns c.pop.new.self.turns
+      c.in-Some.ensures.some in
       omega (arith, r, o, p);
 }
 
 pub returns-in_err-open-clause-reads : goal.returns-in_err-open-clause-reads
 returns-in_err-open-clause-reads g c = λ told a w all nearest over s is.
     let r = c.loop-next.invariant.reads told a w all nearest over s is in
-    let here = sought_moved w all c.loop-next.frontier.turns (c.in-Some.next ∷ c.pop.new.self.turns) c.loop-next.frontier.nodes c.loop-next.found c.in-Some.ensures.some (c.loop-next.invariant.sought told a w all over s) in
-    let o = c.in_err-open.ensures.reads w (bound_of c.args.found.now.many.room nearest) (next_node w all c.in-Some.next c.pop.new.self.turns c.loop-next.frontier.nodes c.pop.new.self.nodes c.loop-next.found here c.in-Some.ensures.nodes) over.at_is
-    (next_within w all c.in-Some.next c.pop.new.self.turns c.loop-next.frontier.nodes c.loop-next.found here c.args.found.now.many.room nearest c.loop-next.invariant.room is c.in-Some.ensures.least (c.ends_before.ensures.no c.if-ends_before.false)) in
-    let p = sum_by_popped (spread (one_within w (bound_of c.args.found.now.many.room nearest))) c.in-Some.next c.loop-next.frontier.turns c.pop.new.self.turns c.in-Some.ensures.some in
+    let here = sought_moved w all c.loop-next.frontier.turns (c.in-Some.next ∷ c.pop.new.self.turns) c.loop-next.frontier.nodes c.loop-next.found
+    c.in-Some.ensures.some (c.loop-next.invariant.sought told a w all over s) in
+    let o = c.in_err-open.ensures.reads w (bound_of c.args.found.now.many.room nearest)
+    (next_node w all c.in-Some.next c.pop.new.self.turns c.loop-next.frontier.nodes c.pop.new.self.nodes c.loop-next.found here c.in-Some.ensures.nodes)
+    over.at_is
+    (next_within w all c.in-Some.next c.pop.new.self.turns c.loop-next.frontier.nodes c.loop-next.found here c.args.found.now.many.room nearest
+    c.loop-next.invariant.room is c.in-Some.ensures.least (c.ends_before.ensures.no c.if-ends_before.false)) in
+    let p = sum_by_popped (spread (one_within w (bound_of c.args.found.now.many.room nearest))) c.in-Some.next c.loop-next.frontier.turns c.pop.new.self.turns
+    c.in-Some.ensures.some in
     omega (arith, r, o, p)
 
 pub returns-clause-answer : goal.returns-clause-answer
 returns-clause-answer g c = λ told agrees w all over s.
     subst (λ k. IsNearest k all (found_of c.loop-next.found)) c.loop-next.invariant.room
-    (end_nearest w all c.loop-next.frontier.turns c.loop-next.frontier.nodes c.loop-next.found (c.loop-next.invariant.sought told agrees w all over s) c.in_default.ensures.none)
+    (end_nearest w all c.loop-next.frontier.turns c.loop-next.frontier.nodes c.loop-next.found (c.loop-next.invariant.sought told agrees w all over s)
+    c.in_default.ensures.none)
 
 pub returns-clause-reads : goal.returns-clause-reads
 returns-clause-reads g c = λ told agrees w all nearest over s is.
@@ -99,8 +124,10 @@ returns-clause-reads g c = λ told agrees w all nearest over s is.
 
 pub returns-in_err-open-clause-whole : goal.returns-in_err-open-clause-whole
 returns-in_err-open-clause-whole g c = λ told a w all over s.
-    let here = sought_moved w all c.loop-next.frontier.turns (c.in-Some.next ∷ c.pop.new.self.turns) c.loop-next.frontier.nodes c.loop-next.found c.in-Some.ensures.some (c.loop-next.invariant.sought told a w all over s) in
-    let h = c.in_err-open.ensures.whole told (subst (λ f. Agrees f c.loop-next.cache) (sym (c.loop-next.invariant.files told)) (c.loop-next.invariant.agrees told a)) w
+    let here = sought_moved w all c.loop-next.frontier.turns (c.in-Some.next ∷ c.pop.new.self.turns) c.loop-next.frontier.nodes c.loop-next.found
+    c.in-Some.ensures.some (c.loop-next.invariant.sought told a w all over s) in
+    let h = c.in_err-open.ensures.whole told
+    (subst (λ f. Agrees f c.loop-next.cache) (sym (c.loop-next.invariant.files told)) (c.loop-next.invariant.agrees told a)) w
     (record { at_is = over.at_is; heads_are = over.heads_are; lives_are = over.lives_are; files_are = over.files_are ∙ sym (c.loop-next.invariant.files told) })
     (next_node w all c.in-Some.next c.pop.new.self.turns c.loop-next.frontier.nodes c.pop.new.self.nodes c.loop-next.found here c.in-Some.ensures.nodes) in
     let p = err_from_is_err_and c.from_residual.result c.from_residual.ensures.1 in
@@ -111,6 +138,7 @@ returns-in_err-open-clause-shown g c = λ trees all.
     let h = c.in_err-open.ensures.shown trees
     (subst (λ ns. IsPart c.args.heads.now trees ns c.in-Some.next) (sym c.in-Some.ensures.nodes)
     (All-head (IsPart c.args.heads.now trees c.loop-next.frontier.nodes) c.in-Some.next c.pop.new.self.turns
-    (All-permutation (IsPart c.args.heads.now trees c.loop-next.frontier.nodes) c.loop-next.frontier.turns (c.in-Some.next ∷ c.pop.new.self.turns) c.in-Some.ensures.some (c.loop-next.invariant.parts trees all)))) in
+    (All-permutation (IsPart c.args.heads.now trees c.loop-next.frontier.nodes) c.loop-next.frontier.turns (c.in-Some.next ∷ c.pop.new.self.turns)
+    c.in-Some.ensures.some (c.loop-next.invariant.parts trees all)))) in
     let p = err_from_is_err_and c.from_residual.result c.from_residual.ensures.1 in
     rw (p.1, p.2) h

@@ -17,10 +17,14 @@ invariant-loop-next g l = record {
   others : (i : ℕ) → KeepsFile l.cache i → KeepsFile l.initial.cache i ⊎ HasId l.heads i;
   agrees : IsTrue g.F.Pages.told → Agrees (g.F.Pages.files l.initial.folder) l.initial.cache → Agrees (g.F.Pages.files l.initial.folder) l.cache;
   inside : All (IsInside (length l.heads) l.frontier.nodes) l.frontier.turns;
-  parts : (trees : ℕ → IndexTree) → All (IsPart l.heads trees l.initial.frontier.nodes) l.initial.frontier.turns → All (IsPart l.heads trees l.frontier.nodes) l.frontier.turns;
-  sought : IsTrue g.F.Pages.told → Agrees (g.F.Pages.files l.initial.folder) l.initial.cache → (w : World) (all : List Near) → IsOver w l.at.c l.heads l.lives (g.F.Pages.files l.initial.folder)
-      → IsSought g.row.D w all l.initial.frontier.turns l.initial.frontier.nodes l.initial.found → IsSought g.row.D w all l.frontier.turns l.frontier.nodes l.found;
-  reads : IsTrue g.F.Pages.told → Agrees (g.F.Pages.files l.initial.folder) l.initial.cache → (w : World) (all nearest : List Near) → IsOver w l.at.c l.heads l.lives (g.F.Pages.files l.initial.folder)
+  parts : (trees : ℕ → IndexTree) → All (IsPart l.heads trees l.initial.frontier.nodes) l.initial.frontier.turns
+      → All (IsPart l.heads trees l.frontier.nodes) l.frontier.turns;
+  sought : IsTrue g.F.Pages.told → Agrees (g.F.Pages.files l.initial.folder) l.initial.cache → (w : World) (all : List Near)
+      → IsOver w l.at.c l.heads l.lives (g.F.Pages.files l.initial.folder)
+      → IsSought g.row.D w all l.initial.frontier.turns l.initial.frontier.nodes l.initial.found
+      → IsSought g.row.D w all l.frontier.turns l.frontier.nodes l.found;
+  reads : IsTrue g.F.Pages.told → Agrees (g.F.Pages.files l.initial.folder) l.initial.cache → (w : World) (all nearest : List Near)
+      → IsOver w l.at.c l.heads l.lives (g.F.Pages.files l.initial.folder)
       → IsSought g.row.D w all l.initial.frontier.turns l.initial.frontier.nodes l.initial.found → IsNearest l.initial.found.many.room all nearest
       → g.F.Pages.reads l.folder + sum_by (spread (one_within w (bound_of l.initial.found.many.room nearest))) l.frontier.turns
       ≤ g.F.Pages.reads l.initial.folder + sum_by (spread (one_within w (bound_of l.initial.found.many.room nearest))) l.initial.frontier.turns;

@@ -12,7 +12,10 @@ returns-then-len-self-clause-best c = λ entries best e after.
 
 pub returns-in-Some-clause-best : goal.returns-in-Some-clause-best
 returns-in-Some-clause-best c = λ entries best e after.
-    on_ok (IsPut c.args.near (record c.args.self.now { in_order = c.pop_last.new.self; distances = c.remove.new.self }) c.put-in-Some.new.self) (AreKept (c.args.near ∷ entries) c.put-in-Some.new.self) c.put-in-Some.result
-    (λ put. replaced_best entries c.args.self.now (record c.args.self.now { in_order = c.pop_last.new.self; distances = c.remove.new.self }) c.put-in-Some.new.self c.args.near c.in-Some.last best e
-    (omega (arith, c.if-len-self.false, c.len.ensures.len)) (after (omega (arith, c.if-len-self.false, c.len.ensures.len))) refl c.in-Some.ensures.removal c.in-Some.ensures.all_below c.in-Some.ensures.updates c.remove.ensures.updates put)
+    on_ok (IsPut c.args.near (record c.args.self.now { in_order = c.pop_last.new.self; distances = c.remove.new.self }) c.put-in-Some.new.self)
+    (AreKept (c.args.near ∷ entries) c.put-in-Some.new.self) c.put-in-Some.result
+    (λ put. replaced_best entries c.args.self.now (record c.args.self.now { in_order = c.pop_last.new.self; distances = c.remove.new.self })
+    c.put-in-Some.new.self c.args.near c.in-Some.last best e
+    (omega (arith, c.if-len-self.false, c.len.ensures.len)) (after (omega (arith, c.if-len-self.false, c.len.ensures.len))) refl c.in-Some.ensures.removal
+    c.in-Some.ensures.all_below c.in-Some.ensures.updates c.remove.ensures.updates put)
     c.put-in-Some.ensures.put
