@@ -6,7 +6,7 @@ ghost use Rattle.point_codec.specs.Points.{in_box};
 use cell_relate::{BoxShape, Relation, Shape};
 use point_codec::{Cell, Point};
 
-/// The points of a box, which is said to cross each cell.
+/// The points of a box, which is said to cross each cell. It tells no reach, so each entry of a leaf is tested.
 #[derive(Drop)]
 pub struct Crossed {
     bounds: BoxShape<2>,

@@ -1,9 +1,9 @@
 -- Tables of counts that rise, one entry or one leaf at a time.
 use Rattle.std.proofs.Common.{◌≡◌, ℕ, zero, suc, ◌+◌, ◌<◌, ◌≤◌, Bool, true, false, ◌&&◌, eqb, cond, min, List, [], ◌∷◌}
-use Rattle.std.proofs.Common.{◌++◌, length, take, set, filter, get_or, replicate, ℤ, refl, sym, ap, subst, ◌∙◌, arith}
+use Rattle.std.proofs.Common.{◌++◌, length, take, drop, set, filter, get_or, replicate, ℤ, refl, sym, ap, subst, ◌∙◌, arith}
 use Rattle.std.specs.List.{All, count_by}
 use Rattle.std.proofs.lemmas.Bool.{eqb-true, eq-eqb, true≢false}
-use Rattle.std.proofs.lemmas.List.{get_or-replicate, get_or-set_other, get_or-set_same, length-replicate, length-set}
+use Rattle.std.proofs.lemmas.List.{take-append-drop, get_or-replicate, get_or-set_other, get_or-set_same, length-replicate, length-set}
 use Rattle.std.proofs.lemmas.List.Elements.{All-cons, All-head, All-nil, All-tail}
 use Rattle.std.proofs.lemmas.List.Sums.{sum_by-append, sum_by-cons, sum_by_more, count_by-le-length}
 use Rattle.point_codec.specs.Points.{Item, Region, in_box}
@@ -11,6 +11,7 @@ use Rattle.point_codec.specs.Seen.{items_of}
 use Rattle.point_codec.specs.declared.entries.Entry.{Entry}
 use Rattle.live_bits.specs.LiveSet.{LiveSet, is_live}
 use Rattle.cell_relate.specs.Relations.{AllAnswer}
+use Rattle.bkd_reader.proofs.Beyond.{HasNone}
 use Rattle.bkd_reader.proofs.HitLemmas.{no_item}
 use Rattle.point_counts.specs.Grids.{number_in}
 use Rattle.point_counts.specs.Tables.{is_at, all_at, live_at, HasCounts, Adds}
@@ -241,3 +242,27 @@ most_counted box place xs table k lt few h =
 pub noughts : (table : List ℕ) (n : ℕ) → table ≡ replicate n 0 → HasCounts (λ k. 0) table
 noughts table n is = no_counts table (λ k lt. ap (λ (xs : List ℕ). get_or xs k 0) is
     ∙ get_or-replicate n k 0 0 (let long = ap length is in omega (arith, lt, long, length-replicate {A = ℕ} n 0)))
+
+-- ---- entries that the box doesn't have
+
+no_one : (b c : Bool) → ◌≡◌ {A = ℕ} (cond (b && (false && c)) 1 0) 0
+no_one true c = refl
+no_one false c = refl
+
+pub none_placed : (box : Region) (place : List ℤ → ℕ) (live : LiveSet) (xs : List Item) → HasNone (in_box box) xs → (k : ℕ)
+    → live_at box place live xs k ≡ 0
+none_placed box place live [] none k = refl
+none_placed box place live (x ∷ xs) none k =
+    let one : Item → ℕ = λ e. cond (is_live live e.doc && is_at box place k e.at) 1 0 in
+    let here : one x ≡ 0 =
+    ap (λ b. cond (is_live live x.doc && (b && eqb (place x.at) k)) 1 0) (All-head (λ (y : Item). in_box box y.at ≡ false) x xs none)
+    ∙ no_one (is_live live x.doc) (eqb (place x.at) k) in
+    let rest : live_at box place live xs k ≡ 0 = none_placed box place live xs (All-tail (λ (y : Item). in_box box y.at ≡ false) x xs none) k in
+    sum_by-cons one x xs ∙ omega (arith, here, rest)
+
+pub none_more : (box : Region) (place : List ℤ → ℕ) (live : LiveSet) (xs : List Item) (n : ℕ) → HasNone (in_box box) (drop n xs) → (k : ℕ)
+    → live_at box place live (take n xs) k ≡ live_at box place live xs k
+none_more box place live xs n none k =
+    let one : Item → ℕ = λ e. cond (is_live live e.doc && is_at box place k e.at) 1 0 in
+    let rest = none_placed box place live (drop n xs) none k in
+    omega (arith, rest, sum_by-append one (take n xs) (drop n xs), ap (λ ys. live_at box place live ys k) (take-append-drop n xs))

@@ -61,7 +61,7 @@ pub(crate) fn count_leaf<const D: usize, S: Sorting<D>, F: Pages>(
     Ok(())
 }
 
-/// Counts the leaf's live entries, each at its place.
+/// Counts the leaf's live entries, each at its place. Those beyond the box where the leaf ascends are not looked at.
 fn count_live<const D: usize, S: Sorting<D>>(
     leaf: &LeafView<'_, D>,
     sorting: &S,
@@ -70,7 +70,10 @@ fn count_live<const D: usize, S: Sorting<D>>(
 )
     ensures { Adds (live_at (S.bounds sorting.now) (S.place sorting.now) live.now leaf.now) table.old table.new }
 {
-    for i in 0..leaf.count() {
+    let d = leaf.sorted_dimension();
+    let (low, high) = sorting.reach(d);
+    let (from, end) = leaf.between(d, &low, &high);
+    for i in from..end {
         if !live.is_live(leaf.doc(i)) {
             continue;
         }

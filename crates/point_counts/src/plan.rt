@@ -150,6 +150,10 @@ impl<const D: usize> Sorting<D> for GridPlan<D> {
             }
         }
     }
+
+    fn reach(&self, d: usize) -> (i32, i32) {
+        (self.lo.c[d], self.hi.c[d])
+    }
 }
 
 /// How many buckets the box has. None where it has no point.

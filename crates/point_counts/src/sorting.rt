@@ -1,10 +1,10 @@
 //! A box whose points are counted, each at a place of a table.
 
-ghost use Rattle.std.specs.Prelude.{◌≡◌, ℕ, List, ℤ, Bool, true, false, MatchOption};
+ghost use Rattle.std.specs.Prelude.{◌≡◌, ◌<◌, ℕ, List, ℤ, Bool, true, false, MatchOption};
 ghost use Rattle.point_codec.specs.Points.{Region, in_box};
 ghost use Rattle.point_codec.specs.Seen.{region_of};
 ghost use Rattle.cell_relate.specs.Boxes.{crosses};
-ghost use Rattle.cell_relate.specs.Relations.{RelatesTo};
+ghost use Rattle.cell_relate.specs.Relations.{RelatesTo, IsReach};
 ghost use Rattle.point_counts.specs.Tables.{LiesAs};
 
 use cell_relate::{BoxShape, Relation, Shape};
@@ -40,6 +40,11 @@ pub(crate) trait Sorting<const D: usize> {
     /// How the cell lies.
     fn lie_of(&self, c: &Cell<D>) -> Lie
         ensures { LiesAs (bounds self.now) (place self.now) (parts self.now) (region_of c.now) result };
+
+    /// Between which coordinates in dimension `d` the box lies.
+    fn reach(&self, d: usize) -> (i32, i32)
+        requires { d < D }
+        ensures { IsReach (in_box (bounds self.now)) d result.0 result.1 };
 }
 
 /// A box, all points of which are counted at one place.
@@ -70,6 +75,10 @@ impl<const D: usize> Sorting<D> for WholeBox<D> {
             Relation::Inside => Lie::At(0),
             Relation::Crosses => Lie::Parted,
         }
+    }
+
+    fn reach(&self, d: usize) -> (i32, i32) {
+        (self.lo.c[d], self.hi.c[d])
     }
 }
 
