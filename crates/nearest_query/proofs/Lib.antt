@@ -16,3 +16,4 @@ pub mod Roots
 pub mod Start
 pub mod Parts
 pub mod LeftOut
+pub mod Waits
