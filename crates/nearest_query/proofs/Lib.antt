@@ -17,3 +17,4 @@ pub mod Roots
 pub mod Start
 pub mod Parts
 pub mod LeftOut
+pub mod Waits

@@ -1,5 +1,5 @@
 -- What contracts see of the nodes that wait.
-use Rattle.std.specs.Prelude.{ℕ, ◌+◌, ◌-◌, ◌*◌, ◌≡◌, List, [], ◌∷◌, ◌++◌, length, sum_by, ℤ}
+use Rattle.std.specs.Prelude.{ℕ, ◌+◌, ◌-◌, ◌*◌, ◌≡◌, ◌≤◌, All, List, [], ◌∷◌, ◌++◌, length, sum_by, ℤ}
 use Rattle.std.specs.List.{range_with_len}
 use Rattle.std.specs.List.Sorted.{IsPermutation}
 use Rattle.std.specs.declared.cmp.Ordering.{Ordering}
@@ -15,6 +15,10 @@ use Rattle.nearest_query.specs.Segments.{least_dist2}
 -- the nearest comes first
 abbrev pub wait_cmp : Waiting → Waiting → Ordering
 wait_cmp a b = nat_cmp b.dist2.0 a.dist2.0
+
+-- none of the turns is nearer
+abbrev pub IsLeast : Waiting → List Waiting → Type 0
+IsLeast t turns = All (λ u. t.dist2.0 ≤ u.dist2.0) turns
 
 -- the turns of the nodes that wait, in no order, and all nodes that ever waited, told by their places
 pub record Front (D : ℕ) : Type 0 where

@@ -8,11 +8,11 @@ ghost use Rattle.inner_pack.specs.Places.{Spot};
 ghost use Rattle.inner_pack.specs.Trees.{IndexTree, leaf_count};
 ghost use Rattle.inner_pack.specs.Nodes.{IsAt};
 
+use crate::queue::Queue;
 use inner_pack::NodeAt;
 use point_codec::Point;
 use std::alloc::{AllocError, Global};
 use std::cmp::Reverse;
-use std::collections::BinaryHeap;
 use std::marker::Model;
 
 /// A node that waits, by its place among all nodes that ever waited.
@@ -36,19 +36,16 @@ pub struct Waiting {
 /// The nodes that wait, the nearest first. The nodes themselves stand aside, so that little is moved.
 #[derive(Drop)]
 pub struct Frontier<'a, const D: usize> {
-    heap: BinaryHeap<Waiting>,
+    queue: Queue,
     nodes: Vec<NodeAt<'a, D>>,
 }
 
 impl<'a, const D: usize> Model for Frontier<'a, D> {
-    ghost use Rattle.std.specs.BinaryHeap.{heap_items, IsHeap};
-    ghost use Rattle.nearest_query.specs.Fronts.{Front, wait_cmp};
+    ghost use Rattle.nearest_query.specs.Fronts.{Front};
 
     ghost Value = { Front D };
 
-    ghost view = { λ f. record { turns = heap_items f.heap; nodes = f.nodes.items } };
-
-    ghost invariant = { λ f. IsHeap wait_cmp (heap_items f.heap) };
+    ghost view = { λ f. record { turns = f.queue; nodes = f.nodes.items } };
 }
 
 impl<'a, const D: usize> Frontier<'a, D> {
@@ -60,7 +57,7 @@ impl<'a, const D: usize> Frontier<'a, D> {
         ensures { result ≡ record { turns = []; nodes = [] } }
     {
         Frontier {
-            heap: BinaryHeap::new(alloc),
+            queue: Queue::new(alloc),
             nodes: Vec::new(alloc),
         }
     }
@@ -87,7 +84,7 @@ impl<'a, const D: usize> Frontier<'a, D> {
             leaves: node.leaf_count(),
         };
         self.nodes.extend_from_slice(std::slice::from_ref(node))?;
-        self.heap.push(waiting)?;
+        self.queue.put(waiting)?;
         Ok(())
     }
 
@@ -98,7 +95,7 @@ impl<'a, const D: usize> Frontier<'a, D> {
         ensures none { IfNone result (self.old.turns ≡ []) }
         ensures nodes { self.new.nodes ≡ self.old.nodes }
     {
-        self.heap.pop()
+        self.queue.pop()
     }
 
     /// The node of this place.

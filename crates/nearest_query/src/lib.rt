@@ -10,6 +10,7 @@ mod leaves;
 mod many;
 mod outwards;
 mod query;
+mod queue;
 mod search;
 mod survey;
 

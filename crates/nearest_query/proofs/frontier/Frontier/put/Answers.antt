@@ -10,8 +10,7 @@ returns-clause-put g c =
     rw (← c.self.view_is) (record {
       dist = c.least_dist2.result;
       grown = c.in_ok-extend_from_slice.ensures.items ∙ ap (λ xs. c.self.inside.nodes.items ++ xs) c.from_ref.ensures.value;
-      moved = same_turn _ _ c.least_dist2.result c.args.segment _ _ _ _ _ _ c.first_leaf.ensures.field c.leaf_count.ensures.field place
-          c.in_ok-push.ensures.permutation;
+      moved = same_turn _ _ c.least_dist2.result c.args.segment _ _ _ _ _ _ c.first_leaf.ensures.field c.leaf_count.ensures.field place c.in_ok-put.ensures.put;
       is = λ first s path t at. (
         c.least_dist2.ensures.value ∙ ap (λ r. dist2 c.args.at.now.c (nearest_in r c.args.at.now.c)) (c.cell.ensures first s path t at),
         sym c.first_leaf.ensures.field ∙ c.first_leaf.ensures.number first s path t at,
