@@ -248,6 +248,25 @@ fn a_square_with_a_hole(rt: HostRuntime) -> Result<(), Fail> {
     Ok(())
 }
 
+const TRIANGLE: &str = r#"{"type":"Polygon","coordinates":[[[-3,1],[8,2],[5,7],[-3,1]]]}"#;
+
+// between which coordinates of the plane the polygon lies
+fn reaches<S: Shape<2>>(shape: &S) -> [Option<(i32, i32)>; 2] {
+    [shape.reach(0), shape.reach(1)]
+}
+
+#[test]
+fn how_far_a_polygon_reaches(rt: HostRuntime) -> Result<(), Fail> {
+    match read_polygon(rt.alloc(), TRIANGLE) {
+        Ok(rings) => {
+            let shape = PolygonShape::new(rt.alloc(), &rings)?;
+            same(&rt, reaches(&shape), [Some((-3, 8)), Some((1, 7))]);
+            Ok(())
+        }
+        Err(_) => Err("no polygon")?,
+    }
+}
+
 const OUTSIDE: Option<(Relation, bool)> = Some((Relation::Outside, false));
 
 #[test]
