@@ -1,22 +1,22 @@
 -- Entries of a leaf offered outwards from a point's place: what is left out changes nothing.
-use Rattle.std.proofs.Common.{◌≡◌, ℕ, zero, suc, ◌+◌, ◌*◌, ◌-◌, ◌≤◌, ◌<◌, Bool, true, false, cond, List, [], ◌∷◌, ◌++◌, length, take, drop, get_or, map, ℤ, ◌-ℤ◌, pos, int_le, int_lt, unsigned_abs, Option, Some, refl, sym, ap, subst, ◌∙◌, inr, arith}
+use Rattle.std.proofs.Common.{◌≡◌, ℕ, zero, suc, ◌+◌, ◌-◌, ◌≤◌, ◌<◌, Bool, true, false, cond, List, [], ◌∷◌, length, take, drop, get_or, ℤ, ◌-ℤ◌, pos, int_le, int_lt, unsigned_abs, Option, Some, refl, sym, ap, subst, ◌∙◌, inr, arith}
 use Rattle.std.proofs.Math.Nat.{mul-le-mul}
 use Rattle.std.proofs.lemmas.Int.{ints}
-use Rattle.std.proofs.lemmas.List.{get_or-map, get_or-take, get_or-drop, length-take-le, length-drop, take-take, drop_all}
+use Rattle.std.proofs.lemmas.List.{get_or-map, get_or-take, get_or-drop, length-take-le, length-drop, take-take}
 use Rattle.std.proofs.lemmas.List.Sums.{sum_by-cons, sum_by_more, sum_by-take-drop}
 use Rattle.std.proofs.lemmas.List.Elements.{All-contains, All-head, All-tail, All-weaker}
 use Rattle.std.specs.Prelude.{IsSomeAnd}
 use Rattle.std.specs.List.{sum_by, All}
 use Rattle.point_codec.specs.Points.{Item, dist2, square}
 use Rattle.point_codec.specs.declared.entries.Near.{Near}
-use Rattle.leaf_codec.specs.Ascending.{AscendIn, coordinate}
+use Rattle.leaf_codec.specs.Ascending.{coordinate}
 use Rattle.live_bits.specs.LiveSet.{LiveSet, is_live}
 use Rattle.documents.specs.NearestEntries.{ComesBefore, near_of, nears_of}
 use Rattle.nearest_query.specs.declared.candidates.Candidates.{Candidates}
 use Rattle.nearest_query.specs.Best.{AreBest, AreAdded, AreNearer, found_of}
 use Rattle.nearest_query.specs.Parted.{AreParted, gap2}
 use Rattle.nearest_query.specs.Segments.{live_items}
-use Rattle.nearest_query.proofs.Added.{added_none, added_same, near_with, no_item}
+use Rattle.nearest_query.proofs.Added.{added_none, added_same}
 use Rattle.nearest_query.proofs.Offers.{nearest_same}
 
 -- ---- entries that change nothing

@@ -7,6 +7,7 @@ use nearest_query::nearest;
 use page_cache::PageCache;
 use point_codec::{Entry, Near, Point};
 use std::alloc::Global;
+use std::process::Abort;
 use std::test::Fail;
 
 /// The head's fields: two dimensions, form 3, 6 entries a leaf, 6 entries, 1 leaf, 33 bytes of index, one leaf page.
@@ -79,7 +80,9 @@ const LEFT: [Near; 4] = [
 const EACH: &[u32] = &[0, 1, 2, 3, 4, 5];
 
 /// The live numbers, where it is asked from, for how many, and those that are found.
-const FOUND: [(&[u32], [i32; 2], u16, &[Near]); 12] = [
+type Row = (&'static [u32], [i32; 2], u16, &'static [Near]);
+
+const ROWS: [Row; 12] = [
     // 3 comes first, and 1 ties with it
     (EACH, [10, 5], 1, &[Near { doc: 1, dist2: 9 }]),
     (
@@ -116,11 +119,18 @@ const FOUND: [(&[u32], [i32; 2], u16, &[Near]); 12] = [
     (&[], [10, 5], 1, &[]),
 ];
 
+/// The nearest of a row.
+fn check_row(rt: &impl Abort, alloc: Global, row: Row) -> Result<(), Fail> {
+    let (live, at, k, expected) = row;
+    let found = nearest_in_leaf(alloc, live, &[], at, k)?;
+    same_at(rt, found.as_slice(), expected, &(at, k));
+    Ok(())
+}
+
 #[test]
 fn the_nearest_on_both_sides(rt: HostRuntime) -> Result<(), Fail> {
-    for (live, at, k, expected) in FOUND {
-        let found = nearest_in_leaf(rt.alloc(), live, &[], at, k)?;
-        same_at(&rt, found.as_slice(), expected, &(at, k));
+    for row in ROWS {
+        check_row(&rt, rt.alloc(), row)?;
     }
     Ok(())
 }

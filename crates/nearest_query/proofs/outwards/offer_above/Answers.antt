@@ -1,11 +1,9 @@
-use Rattle.std.proofs.Common.{◌≡◌, ◌<◌, ◌≤◌, ◌+◌, ◌-◌, ◌∙◌, ℕ, List, [], length, take, drop, get_or, Some, refl, sym, ap, subst, arith}
+use Rattle.std.proofs.Common.{◌≡◌, ◌<◌, ◌≤◌, ◌∙◌, [], length, take, drop, get_or, Some, refl, sym, ap, arith}
 use Rattle.std.proofs.lemmas.List.{take_all, drop_all, length-take-le}
 use Rattle.std.proofs.lemmas.Option.{slice_get-get_or, get_or_from_slice_get}
 use Rattle.std.specs.Prelude.{slice_get}
 use Rattle.point_codec.specs.Points.{Item}
-use Rattle.point_codec.specs.declared.entries.Near.{Near}
 use Rattle.documents.specs.NearestEntries.{nears_of}
-use Rattle.nearest_query.specs.Best.{AreBest, AreAdded}
 use Rattle.nearest_query.specs.Parted.{gap2}
 use Rattle.nearest_query.specs.Segments.{live_items}
 use Rattle.nearest_query.proofs.Added.{added_none, added_same, no_item}
