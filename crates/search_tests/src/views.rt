@@ -58,7 +58,7 @@ const ROWS: [Row; 3] = [
     (
         (6, 9),
         &[1, 2, 3, 4, 5, 7],
-        6,
+        4,
         Tally {
             tested: 4,
             touched: 4,
