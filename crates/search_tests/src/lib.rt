@@ -27,6 +27,8 @@ mod nearest_ones;
 #[cfg(test)]
 mod number_rows;
 #[cfg(test)]
+mod reached_entries;
+#[cfg(test)]
 mod ring_parity_rings;
 #[cfg(test)]
 mod stored;
