@@ -27,4 +27,14 @@ mod nearest_ones;
 #[cfg(test)]
 mod number_rows;
 #[cfg(test)]
+mod one_leaf;
+#[cfg(test)]
 mod reached_entries;
+#[cfg(test)]
+mod ring_parity_rings;
+#[cfg(test)]
+mod stored;
+#[cfg(test)]
+mod views;
+#[cfg(test)]
+mod walks;
