@@ -1,3 +1,10 @@
 mod Lines
 mod Tells
 mod Replying
+mod Applying
+mod Places
+mod Ended
+mod Begun
+mod Merging
+mod Merged
+mod Opened

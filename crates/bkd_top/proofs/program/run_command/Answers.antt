@@ -4,7 +4,7 @@ use Rattle.command_words.specs.Commands.{Asked, said}
 use Rattle.bkd_top.specs.Commands.{is_session, reads_input, reads_whole}
 use Rattle.run_status.specs.Ends.{DoesNothing}
 use Rattle.bkd_top.proofs.Commanding.{batch_ends, called, check_ends, count_ends, explain_ends, generate_ends, is_so, left_by, load_ends, ranges_ends, run_ends}
-use Rattle.bkd_top.proofs.Commanding.{session_asked, taken_by}
+use Rattle.bkd_top.proofs.Commanding.{merging_ends, session_asked, taken_by}
 use Rattle.script_run.proofs.Starting.{canonical_still}
 use Rattle.bkd_top.proofs.program.run_command.Goals as goal
 
@@ -299,3 +299,38 @@ returns-in-Batch-clause-leaves g c = λ told.
       stored = c.run_batch.ensures.stored told;
       unwritten = λ none. ap g.K.Sink.written (c.run_batch.ensures.unwritten none);
     })
+
+pub returns-in-MergingBatch-clause-ends : goal.returns-in-MergingBatch-clause-ends
+returns-in-MergingBatch-clause-ends g c = λ told state h source.
+    merging_ends (IsTrue g.K.Sink.told) c.args.words
+    (record { state = state; files = g.F.Pages.files c.args.folder.now; input = g.S.Source.left c.args.input.now; written = g.K.Sink.written c.args.out.now })
+    (g.F.Pages.files c.run_merging_batch.new.folder) (g.K.Sink.written c.run_merging_batch.new.out) c.run_merging_batch.result
+    _ (ap said c.in-MergingBatch.is) (c.run_merging_batch.ensures.ends (source (ap (λ (a : Asked). reads_input a) (ap said c.in-MergingBatch.is))) told state h)
+
+pub returns-in-MergingBatch-clause-canon : goal.returns-in-MergingBatch-clause-canon
+returns-in-MergingBatch-clause-canon g c = λ told state h a. (c.run_merging_batch.ensures.leaves told).canon a
+
+pub returns-in-MergingBatch-clause-unread : goal.returns-in-MergingBatch-clause-unread
+returns-in-MergingBatch-clause-unread g c = is_so (λ a. reads_input a) c.args.words _ (ap said c.in-MergingBatch.is) refl
+
+pub returns-in-MergingBatch-clause-large : goal.returns-in-MergingBatch-clause-large
+returns-in-MergingBatch-clause-large g c = λ e. ap (λ (a : Asked). reads_whole a) (ap said c.in-MergingBatch.is)
+
+pub returns-in-MergingBatch-clause-untouched : goal.returns-in-MergingBatch-clause-untouched
+returns-in-MergingBatch-clause-untouched g c = λ other. c.run_merging_batch.ensures.untouched
+
+pub returns-in-MergingBatch-clause-input : goal.returns-in-MergingBatch-clause-input
+returns-in-MergingBatch-clause-input g c = λ told.
+    taken_by c.args.words _ (g.S.Source.left c.args.input.now) (g.S.Source.left c.run_merging_batch.new.input) c.run_merging_batch.result
+    (ap said c.in-MergingBatch.is) (c.run_merging_batch.ensures.input told)
+
+pub returns-in-MergingBatch-clause-damage : goal.returns-in-MergingBatch-clause-damage
+returns-in-MergingBatch-clause-damage g c = record { never = c.run_merging_batch.ensures.whole; evident = c.run_merging_batch.ensures.evident }
+
+pub returns-in-MergingBatch-clause-leaves : goal.returns-in-MergingBatch-clause-leaves
+returns-in-MergingBatch-clause-leaves g c = λ told.
+    left_by c.args.words _
+    (called g.S.Source.told g.K.Sink.told (g.S.Source.left c.args.input.now) (g.F.Pages.files c.args.folder.now) (g.F.Pages.files c.run_merging_batch.new.folder)
+    (g.K.Sink.written c.args.out.now) (g.K.Sink.written c.run_merging_batch.new.out)
+    (g.F.Pages.reads c.args.folder.now) (g.F.Pages.reads c.run_merging_batch.new.folder))
+    c.run_merging_batch.result (ap said c.in-MergingBatch.is) (c.run_merging_batch.ensures.leaves told)

@@ -9,6 +9,8 @@ use Rattle.segment_set.specs.Seen.{Sees}
 use Rattle.index_core.specs.Sessions.{Guards, IsCommitAnew, SessionData, Trusts}
 use Rattle.index_core.specs.Effects.{BringsCanonical}
 use Rattle.index_core.specs.Closed.{IsTracked}
+use Rattle.segment_set.specs.Kept.{Follows}
+use Rattle.segment_set.proofs.Carried.{follows_none}
 use Rattle.index_core.proofs.Closing.{tracked_commit, tracked_same}
 use Rattle.index_core.proofs.Bringing.{brings_same, brings_still, brings_then, brings_two, brings_written}
 use Rattle.index_core.proofs.Guarding.{guards_after, kept_after_calls, set_after}
@@ -345,3 +347,17 @@ returns-clause-tracked g c told = on_ok_any c.sweep.result (λ m.
     (tracked_commit _ old (g.F.Pages.files c.save.new.folder) (g.F.Pages.files c.write.new.folder) swept c.self.inside.set.names c.save.new.self.names
     c.write.new.self.set.names c.sweep.new.self.set.names m told c.save.ensures.kept (ap (λ (u : SetData). u.names) c.write.ensures.set)
     (c.write.ensures.others told) (c.in_ok-write.ensures.gone told) (c.sweep.ensures.tracked told m)))
+
+pub returns-then-not-is_changed-clause-follows : goal.returns-then-not-is_changed-clause-follows
+returns-then-not-is_changed-clause-follows g c = follows_none _ _
+
+pub returns-in_err-commit-clause-follows : goal.returns-in_err-commit-clause-follows
+returns-in_err-commit-clause-follows g c = subst (λ (u : SessionData). Follows u.set.names u.set.parts c.save.new.self.parts) c.self.view_is c.save.ensures.follows
+
+pub returns-in_err-write-clause-follows : goal.returns-in_err-write-clause-follows
+returns-in_err-write-clause-follows g c = subst (λ (u : SessionData). Follows u.set.names u.set.parts c.write.new.self.set.parts) c.self.view_is
+    (subst (λ (u : SetData). Follows c.self.inside.set.names c.self.inside.set.parts u.parts) (sym c.write.ensures.set) c.save.ensures.follows)
+
+pub returns-clause-follows : goal.returns-clause-follows
+returns-clause-follows g c = subst (λ (u : SessionData). Follows u.set.names u.set.parts c.sweep.new.self.set.parts) c.self.view_is
+    (subst (Follows c.self.inside.set.names c.self.inside.set.parts) (sym (ap (λ (u : SetData). u.parts) c.sweep.ensures.alone.is ∙ ap (λ (u : SetData). u.parts) c.write.ensures.set)) c.save.ensures.follows)
