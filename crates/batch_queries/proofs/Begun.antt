@@ -1,5 +1,6 @@
 -- A batch that is answered while a merge begins, by what the calls answered.
-use Rattle.std.proofs.Common.{◌≡◌, ◌≤◌, ◌⊎◌, ⊎_elim, ℕ, zero, suc, Bool, true, false, if◌then◌else◌, List, [], ◌∷◌, map, take, length, Some, None, Result, Ok, Err, OnOk, refl, sym, ap, subst, ◌∙◌, arith}
+use Rattle.std.proofs.Common.{◌≡◌, ◌≤◌, ◌⊎◌, ⊎_elim, ℕ, zero, suc, Bool, true, false, if◌then◌else◌, List, [], ◌∷◌, map, take, length, Some, None, Result, Ok}
+use Rattle.std.proofs.Common.{Err, OnOk, refl, sym, ap, subst, ◌∙◌, arith}
 use Rattle.std.specs.List.{Contains}
 use Rattle.std.proofs.lemmas.Bool.{false≢true}
 use Rattle.outer_io.specs.declared.file_name.FileName.TheVariants.{Segment}
@@ -56,7 +57,8 @@ begun_is D files i s before after positions x none does = begun_by D files i s b
 taken : (n : ℕ) (xs : List ℕ) (x : ℕ) → Contains (take n xs) x → Contains xs x
 taken zero xs x h = nil_none x (Contains xs x) h
 taken (suc n) [] x h = nil_none x (Contains [] x) h
-taken (suc n) (y ∷ ys) x h = ⊎_elim (λ e. subst (λ z. Contains (y ∷ ys) z) e (cons_head y ys)) (λ t. cons_tail y ys x (taken n ys x t)) (cons_cases y (take n ys) x h)
+taken (suc n) (y ∷ ys) x h =
+    ⊎_elim (λ e. subst (λ z. Contains (y ∷ ys) z) e (cons_head y ys)) (λ t. cons_tail y ys x (taken n ys x t)) (cons_cases y (take n ys) x h)
 
 -- the segments of an open session are named
 first_named : (D : ℕ) (files : Files) (r : Resident D) (s : SessionData) → IsOpened D files r s → (id : ℕ) → is_among (first_ids s) id ≡ true
@@ -102,16 +104,20 @@ module _ (D : ℕ) (told : Type 0) (r : Resident D) where
       kept = λ t o. begins.kept t o.trusts.guards;
       whole = λ t o. begins.whole t o.index (o.seen o.index o.stored) o.trusts.guards;
       cause = fault_to a.faults b.faults fault begins.cause;
-      evident = on_evident_less {X = Applied} (told × Trusts D a.files a.session) (told × IsOpened D a.files r a.session) b.files (Err fault) (λ h. (h.0, h.1.trusts)) begins.evident;
+      evident = on_evident_less {X = Applied} (told × Trusts D a.files a.session) (told × IsOpened D a.files r a.session) b.files (Err fault)
+          (λ h. (h.0, h.1.trusts)) begins.evident;
     })
 
     -- it is begun
-    pub begins_done : {T : Type 0} (x : Applied) (y : T) → positions ≡ below merged_count → Applies D told (λ i. step_on i (asks.MergeBegin positions)) false a b (Ok x)
+    pub begins_done : {T : Type 0} (x : Applied) (y : T) → positions ≡ below merged_count
+        → Applies D told (λ i. step_on i (asks.MergeBegin positions)) false a b (Ok x)
         → OnDone (Ok x) (HasBegun positions a.session.set b.session.set) → BeginsMerge D told r (moment_of a) (moment_of b) (Ok y)
     begins_done x y first begins leaves = record {
       begun = λ t o i h.
-          let does = begun_is D b.files i b.session.set a.text b.text positions x (ap (λ (j : Index). j.begun) h.is) (begins.does t i (o.seen i h) o.trusts.guards) in
-          let has : HasBegun positions a.session.set b.session.set = subst (λ (z : Applied). OnDone (Ok z) (HasBegun positions a.session.set b.session.set)) does.0 leaves in
+          let does = begun_is D b.files i b.session.set a.text b.text positions x (ap (λ (j : Index). j.begun) h.is)
+              (begins.does t i (o.seen i h) o.trusts.guards) in
+          let has : HasBegun positions a.session.set b.session.set =
+              subst (λ (z : Applied). OnDone (Ok z) (HasBegun positions a.session.set b.session.set)) does.0 leaves in
           record {
             seen = does.1;
             trusts = record {
@@ -126,7 +132,8 @@ module _ (D : ℕ) (told : Type 0) (r : Resident D) where
                   (sym (has.inputs.2 ∙ ap (λ (ps : List ℕ). chosen_ids ps (ids_of a.session.set.parts)) first))
                   (first_chosen merged_count (ids_of a.session.set.parts) id (omega arith) there),
             );
-            named = λ id there. subst (λ (s : SetData). is_named s.names.names (Segment id) ≡ true) (sym has.alone.is) (first_named D a.files r a.session o id there);
+            named = λ id there. subst (λ (s : SetData). is_named s.names.names (Segment id) ≡ true) (sym has.alone.is)
+                (first_named D a.files r a.session o id there);
           };
       brings = λ t o. begins.canon t o.index (o.seen o.index o.stored) o.trusts.guards;
       kept = λ t o. begins.kept t o.trusts.guards;

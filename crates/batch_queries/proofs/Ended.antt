@@ -57,7 +57,8 @@ says_done old new s (Err fault) kept = tt
 
 module _ (D : ℕ) (told : Type 0) (ids : List ℕ) (i : Index) (a b : Place) where
   -- a fault of the call that ends it
-  pub end_stopped : {T : Type 0} (fault : PageFault) (r : Result T PageFault) → r ≡ Err fault → Applies D told (λ j. step_on j asks.MergeEnd) false a b (Err fault)
+  pub end_stopped : {T : Type 0} (fault : PageFault) (r : Result T PageFault) → r ≡ Err fault
+      → Applies D told (λ j. step_on j asks.MergeEnd) false a b (Err fault)
       → EndsMerge D told ids i (moment_of a) (moment_of b) r
   end_stopped {T} fault r is ends = subst (EndsMerge D told ids i (moment_of a) (moment_of b)) (sym is) (record {
     keeps = λ t g. inl (ends.kept t g.trusts.guards);
@@ -103,7 +104,8 @@ module _ (D : ℕ) (told : Type 0) (ids : List ℕ) (i : Index) (a b : Place) wh
       keeps_on (Ok y) same stores = inr stores.0
       keeps_on (Err fault) same stores = ⊎_elim (λ more. inl (kept_after a.files b.files c.files same more)) inr stores
 
-      merged_on : (q : Result T PageFault) → IsCommitted D told (moment_of b) c q → told → IsBegun D a.files a.session ids i → OnOk q (IsMerged D ids i (moment_of a) c)
+      merged_on : (q : Result T PageFault) → IsCommitted D told (moment_of b) c q → told → IsBegun D a.files a.session ids i
+          → OnOk q (IsMerged D ids i (moment_of a) c)
       merged_on (Err fault) commit t g = tt
       merged_on (Ok y) commit t g =
           let seen = (seen_on t g).1 in

@@ -1,6 +1,7 @@
 mod Lines
 mod Tells
 mod Replying
+mod Sizes
 mod Applying
 mod Places
 mod Ended

@@ -1,5 +1,6 @@
 -- The same with a session: the batch is answered while the merge begins, the text goes out, and the merge is ended.
-use Rattle.std.proofs.Common.{◌≡◌, ◌≤◌, ◌+◌, ◌==◌, ◌++◌, ℕ, zero, suc, Bool, true, false, List, [], ◌∷◌, length, map, take, Option, Some, None, Result, Ok, Err, IfOk, OnErr, OnOk, IsErrOf}
+use Rattle.std.proofs.Common.{◌≡◌, ◌≤◌, ◌+◌, ◌==◌, ◌++◌, ℕ, zero, suc, Bool, true, false, List, [], ◌∷◌, length, map, take, Option, Some, None, Result, Ok, Err}
+use Rattle.std.proofs.Common.{IfOk, OnErr, OnOk, IsErrOf}
 use Rattle.std.proofs.Common.{refl, sym, ap, subst, ◌∙◌, ◌⊎◌, inl, inr, ⊎_elim, arith}
 use Rattle.std.specs.List.{Contains}
 use Rattle.std.proofs.lemmas.Bool.{both_ways}
@@ -52,7 +53,8 @@ use Rattle.batch_queries.specs.MergeRuns.{BeginsMerge, EndsMerge, IsBegun, IsMer
 use Rattle.batch_queries.proofs.Merging.{counted_folder, counted_kept, counted_shows, counted_sink, counted_whole, ends_cut, ends_whole, stopped, text_whole}
 
 -- a state that is stored where an index is, is an index
-an_index : (files : Files) (i : Index) (state : State) → IsStored files (Some i) → IsStored files state → (P : State → Type 0) → ((j : Index) → IsStored files (Some j) → P (Some j)) → P state
+an_index : (files : Files) (i : Index) (state : State) → IsStored files (Some i) → IsStored files state → (P : State → Type 0)
+    → ((j : Index) → IsStored files (Some j) → P (Some j)) → P state
 an_index files i None is h P by = absurd (says_some files is.commit h is.holds.commit)
 an_index files i (Some j) is h P by = by j h
 
@@ -73,14 +75,17 @@ module _ (D : ℕ) (told out : Type 0) (r : Resident D) (lines : List (List ℕ)
   -- a fault while it is answered
   pub beside_stopped : {T : Type 0} (fault : PageFault) (q : Result ℕ Stop) → q ≡ Err (stop_of fault) → BeginsMerge {T = T} D told r a b (Err fault)
       → MergesBatch told out trusts lines from (record { files = b.files; faults = b.faults; written = old; sink = before }) (status_of q)
-  beside_stopped {T} fault q is begins = stopped {T = T} told out trusts lines from _ fault q is begins.kept (λ t h state s. begins.whole t h) begins.cause begins.evident refl
+  beside_stopped {T} fault q is begins =
+      stopped {T = T} told out trusts lines from _ fault q is begins.kept (λ t h state s. begins.whole t h) begins.cause begins.evident refl
 
   -- the sink failed
-  pub beside_cut : {T : Type 0} (y : T) (text : List ℕ) (refused : ℕ) (q : Result ℕ Stop) → q ≡ Err stop.SinkFault → BeginsMerge D told r a b (Ok y) → Texts text refused
+  pub beside_cut : {T : Type 0} (y : T) (text : List ℕ) (refused : ℕ) (q : Result ℕ Stop) → q ≡ Err stop.SinkFault → BeginsMerge D told r a b (Ok y)
+      → Texts text refused
       → (out → WritesPart old new text) → Rose before now
       → MergesBatch told out trusts lines from (record { files = b.files; faults = b.faults; written = new; sink = now }) (status_of q)
   beside_cut y text refused q is begins texts part rises =
-      subst (λ (w : Result ℕ Stop). MergesBatch told out trusts lines from (record { files = b.files; faults = b.faults; written = new; sink = now }) (status_of w)) (sym is) (record {
+      subst (λ (w : Result ℕ Stop). MergesBatch told out trusts lines from (record { files = b.files; faults = b.faults; written = new; sink = now })
+          (status_of w)) (sym is) (record {
         done = λ d. d;
         ends = λ t o state h. an_index a.files o.index state o.stored h (λ s. CutsAll out (TellsBatch s) lines old new)
             (λ i stored. ends_cut out (Some i) lines text refused old new (texts o i stored) part);
@@ -97,7 +102,8 @@ module _ (D : ℕ) (told out : Type 0) (r : Resident D) (lines : List (List ℕ)
         sink = λ e. rises;
       })
 
-  module _ {T U : Type 0} (y : T) (text : List ℕ) (refused : ℕ) (begins : BeginsMerge D told r a b (Ok y)) (texts : Texts text refused) (sent : out → new ≡ old ++ text)
+  module _ {T U : Type 0} (y : T) (text : List ℕ) (refused : ℕ) (begins : BeginsMerge D told r a b (Ok y)) (texts : Texts text refused)
+      (sent : out → new ≡ old ++ text)
       (c : Moment) (e : Result U PageFault) (ends : (ids : List ℕ) (i : Index) → EndsMerge D told ids i b c e) where
     abbrev to : Place
     to = record { files = c.files; faults = c.faults; written = new; sink = now }
@@ -122,10 +128,12 @@ module _ (D : ℕ) (told out : Type 0) (r : Resident D) (lines : List (List ℕ)
     told_whole o i stored = text_whole out (Some i) lines text refused old new (texts o i stored) sent
 
     all_or_none : (state : State) → told → trusts → IsStored a.files state → WholeOrNone out (TellsBatch state) lines old new
-    all_or_none state t o h = an_index a.files o.index state o.stored h (λ s. WholeOrNone out (TellsBatch s) lines old new) (λ i stored. inr (refused, told_whole o i stored))
+    all_or_none state t o h =
+        an_index a.files o.index state o.stored h (λ s. WholeOrNone out (TellsBatch s) lines old new) (λ i stored. inr (refused, told_whole o i stored))
 
     -- the merge was not ended, or not committed
-    pub end_stopped : (fault : PageFault) (q : Result ℕ Stop) → q ≡ Err (stop_of fault) → e ≡ Err fault → MergesBatch told out trusts lines from to (status_of q)
+    pub end_stopped : (fault : PageFault) (q : Result ℕ Stop) → q ≡ Err (stop_of fault) → e ≡ Err fault
+        → MergesBatch told out trusts lines from to (status_of q)
     end_stopped fault q is failed = subst (λ (w : Result ℕ Stop). MergesBatch told out trusts lines from to (status_of w)) (sym is) (by fault failed)
       where
         kept_by : (f : PageFault) → e ≡ Err f → told → trusts → FaultKeeps a.files c.files f
@@ -138,7 +146,8 @@ module _ (D : ℕ) (told out : Type 0) (r : Resident D) (lines : List (List ℕ)
         by page.Failed is = record {
           done = λ d. d;
           ends = λ t o state h. all_or_none state t o h;
-          leaves = λ t o. record { stored = still t o; kept = kept_by page.Failed is t o; merged = λ w. absurd w; levels = λ w. absurd w; canon = λ w. absurd w };
+          leaves = λ t o. record
+              { stored = still t o; kept = kept_by page.Failed is t o; merged = λ w. absurd w; levels = λ w. absurd w; canon = λ w. absurd w };
           whole = λ t o state h d. d;
           evident = tt;
           folder = λ same. subst (λ n. Rose n c.faults) begins.cause.fine ((ends ids (new_index D 2)).cause.failed is);
@@ -147,7 +156,8 @@ module _ (D : ℕ) (told out : Type 0) (r : Resident D) (lines : List (List ℕ)
         by page.Memory is = record {
           done = λ d. d;
           ends = λ t o state h. all_or_none state t o h;
-          leaves = λ t o. record { stored = still t o; kept = kept_by page.Memory is t o; merged = λ w. absurd w; levels = λ w. absurd w; canon = λ w. absurd w };
+          leaves = λ t o. record
+              { stored = still t o; kept = kept_by page.Memory is t o; merged = λ w. absurd w; levels = λ w. absurd w; canon = λ w. absurd w };
           whole = λ t o state h d. d;
           evident = tt;
           folder = λ w. absurd cc;
@@ -156,7 +166,8 @@ module _ (D : ℕ) (told out : Type 0) (r : Resident D) (lines : List (List ℕ)
         by (page.Damaged d) is = record {
           done = λ d. d;
           ends = λ t o state h. whole_by (page.Damaged d) is t o;
-          leaves = λ t o. record { stored = still t o; kept = kept_by (page.Damaged d) is t o; merged = λ w. absurd w; levels = λ w. absurd w; canon = λ w. absurd w };
+          leaves = λ t o. record
+              { stored = still t o; kept = kept_by (page.Damaged d) is t o; merged = λ w. absurd w; levels = λ w. absurd w; canon = λ w. absurd w };
           whole = λ t o state h d. whole_by (page.Damaged d) is t o;
           evident = on_evident_less {X = U} (told × Trusts D b.files b.session) (told × trusts) c.files (Err (page.Damaged d))
               (λ h. (h.0, (is_begun h.0 h.1 h.1.index h.1.stored).trusts))
@@ -177,10 +188,12 @@ module _ (D : ℕ) (told out : Type 0) (r : Resident D) (lines : List (List ℕ)
         let first : ids ≡ map (λ (m : Listed). m.segment) (take merged_count k.listed) =
         ap (λ (ns : List ℕ). take merged_count ns) (o.unchanged.same.ids ∙ ap (λ (d : CommitData). map (λ (m : Listed). m.segment) d.listed) same)
         ∙ take-map (λ (m : Listed). m.segment) merged_count k.listed in
-        among_from ids l.segment (subst (λ (ns : List ℕ). Contains ns l.segment) (sym first) (in_map (λ (m : Listed). m.segment) (take merged_count k.listed) l inside))
+        among_from ids l.segment
+            (subst (λ (ns : List ℕ). Contains ns l.segment) (sym first) (in_map (λ (m : Listed). m.segment) (take merged_count k.listed) l inside))
 
     -- and the commit of now lists none of these
-    none_listed : (i : Index) → IsMerged D ids i b c → (d : CommitData) → c.session.commit ≡ Some d → (id : ℕ) → ListsFile d (Segment id) → is_among ids id ≡ true → ⊥
+    none_listed : (i : Index) → IsMerged D ids i b c → (d : CommitData) → c.session.commit ≡ Some d → (id : ℕ) → ListsFile d (Segment id)
+        → is_among ids id ≡ true → ⊥
     none_listed i m d is id (s, there, at) among =
         let same : d ≡ m.unchanged.commit = some_inj d m.unchanged.commit (sym is ∙ m.unchanged.is) in
         let listed : Contains (ids_of c.session.set.parts) s.segment =

@@ -1,5 +1,6 @@
 -- A batch with a merge beside it goes from one place to another, by what each call of it answered.
-use Rattle.std.proofs.Common.{◌≡◌, ◌≤◌, ◌+◌, ◌==◌, ◌++◌, ℕ, zero, suc, Bool, true, false, List, [], ◌∷◌, length, map, take, Option, Some, None, Result, Ok, Err, IfOk, OnErr, OnOk, IsErrOf}
+use Rattle.std.proofs.Common.{◌≡◌, ◌≤◌, ◌+◌, ◌==◌, ◌++◌, ℕ, zero, suc, Bool, true, false, List, [], ◌∷◌, length, map, take, Option, Some, None, Result, Ok, Err}
+use Rattle.std.proofs.Common.{IfOk, OnErr, OnOk, IsErrOf}
 use Rattle.std.proofs.Common.{refl, sym, ap, subst, ◌∙◌, ◌⊎◌, inl, inr, ⊎_elim, arith}
 use Rattle.std.specs.List.{Contains}
 use Rattle.std.proofs.lemmas.Bool.{both_ways}
@@ -102,8 +103,30 @@ stopped {T} told out trusts lines a b fault r is kept whole cause evident same =
 
 -- ---- from elsewhere
 
+-- a damage of files that are trusted more
+status_less : (T U : Type 0) (files : Files) (s : Status) → (U → T) → OnStatusDamage s (IsEvident T files) → OnStatusDamage s (IsEvident U files)
+status_less T U files (status.Damaged d) back h = on_evident_less {X = ℕ} T U files (Err (page.Damaged d)) back h
+status_less T U files status.Usage back h = tt
+status_less T U files status.SourceFault back h = tt
+status_less T U files status.TooLarge back h = tt
+status_less T U files status.Done back h = tt
+status_less T U files (status.SomeRefused count) back h = tt
+status_less T U files status.SinkFault back h = tt
+status_less T U files status.Memory back h = tt
+status_less T U files status.FolderFault back h = tt
+
+-- and of files that are trusted whatever they hold
+pub all_evident : (told : Type 0) (files : Files) (s : Status) → OnStatusDamage s (IsEvident (told × Unit {0}) files) → OnStatusDamage s (IsEvident told files)
+all_evident told files s = status_less (told × Unit {0}) told files s (λ t. (t, tt))
+
+-- another status, which is the same
+pub status_is : (told out trusts : Type 0) (lines : List (List ℕ)) (a b : Place) (r : Result ℕ Stop) (s : Status) → s ≡ status_of r
+    → MergesBatch told out trusts lines a b (status_of r) → MergesBatch told out trusts lines a b s
+status_is told out trusts lines a b r s is merges = subst (MergesBatch told out trusts lines a b) (sym is) merges
+
 -- after a call that left the files and the text
-pub merges_after : {U : Type 0} (told out trusted trusts : Type 0) (lines : List (List ℕ)) (a b c : Place) (x : U) (s : Status) → (told → b.files ≡ a.files) → b.written ≡ a.written → b.sink ≡ a.sink
+pub merges_after : {U : Type 0} (told out trusted trusts : Type 0) (lines : List (List ℕ)) (a b c : Place) (x : U) (s : Status) → (told → b.files ≡ a.files)
+    → b.written ≡ a.written → b.sink ≡ a.sink
     → HasPageCause a.faults b.faults (Ok x) → (told → trusted → trusts) → MergesBatch told out trusts lines b c s → MergesBatch told out trusted lines a c s
 merges_after told out trusted trusts lines a b c x s files written sink cause more merges = record {
   done = merges.done;
@@ -111,28 +134,19 @@ merges_after told out trusted trusts lines a b c x s files written sink cause mo
       (merges.ends t (more t h) state (subst (λ (f : Files). IsStored f state) (sym (files t)) stored));
   leaves = λ t h. subst (λ (f : Files). MergeLeaves f c.files s) (files t) (merges.leaves t (more t h));
   whole = λ t h state stored. merges.whole t (more t h) state (subst (λ (f : Files). IsStored f state) (sym (files t)) stored);
-  evident = status_less s (λ h. (h.0, more h.0 h.1)) merges.evident;
+  evident = status_less (told × trusts) (told × trusted) c.files s (λ h. (h.0, more h.0 h.1)) merges.evident;
   folder = λ e. subst (λ n. Rose n c.faults) cause.fine (merges.folder e);
   sink = λ e. subst (λ n. Rose n c.sink) sink (merges.sink e);
 }
-  where
-    status_less : (q : Status) → (told × trusted → told × trusts) → OnStatusDamage q (IsEvident (told × trusts) c.files) → OnStatusDamage q (IsEvident (told × trusted) c.files)
-    status_less (status.Damaged d) back h = on_evident_less {X = U} (told × trusts) (told × trusted) c.files (Err (page.Damaged d)) back h
-    status_less status.Usage back h = tt
-    status_less status.SourceFault back h = tt
-    status_less status.TooLarge back h = tt
-    status_less status.Done back h = tt
-    status_less (status.SomeRefused count) back h = tt
-    status_less status.SinkFault back h = tt
-    status_less status.Memory back h = tt
-    status_less status.FolderFault back h = tt
 
 -- ---- the text goes out
 
 -- all of it
-pub text_whole : (out : Type 0) (state : State) (lines : List (List ℕ)) (text : List ℕ) (refused : ℕ) (old new : List ℕ) → IsBatchText state lines text refused → (out → new ≡ old ++ text)
+pub text_whole : (out : Type 0) (state : State) (lines : List (List ℕ)) (text : List ℕ) (refused : ℕ) (old new : List ℕ) → IsBatchText state lines text refused
+    → (out → new ≡ old ++ text)
     → TellsAll out (TellsBatch state) 1 lines old new refused
-text_whole out state lines text refused old new is sent = record { of_lines = is.of_lines; all = is.all; text = λ o. sent o ∙ ap (λ (w : List ℕ). old ++ w) (is.text tt); count = is.count }
+text_whole out state lines text refused old new is sent =
+    record { of_lines = is.of_lines; all = is.all; text = λ o. sent o ∙ ap (λ (w : List ℕ). old ++ w) (is.text tt); count = is.count }
 
 pub ends_whole : (out : Type 0) (state : State) (lines : List (List ℕ)) (old new : List ℕ) (count : ℕ) → TellsAll out (TellsBatch state) 1 lines old new count
     → EndsMerging out (TellsBatch state) lines old new (status_of (Ok count))
@@ -140,7 +154,8 @@ ends_whole out state lines old new zero all = all
 ends_whole out state lines old new (suc n) all = (omega arith, all)
 
 -- or a part of it
-pub ends_cut : (out : Type 0) (state : State) (lines : List (List ℕ)) (text : List ℕ) (refused : ℕ) (old new : List ℕ) → IsBatchText state lines text refused → (out → WritesPart old new text)
+pub ends_cut : (out : Type 0) (state : State) (lines : List (List ℕ)) (text : List ℕ) (refused : ℕ) (old new : List ℕ) → IsBatchText state lines text refused
+    → (out → WritesPart old new text)
     → CutsAll out (TellsBatch state) lines old new
 ends_cut out state lines text refused old new is part =
     record { of_lines = is.of_lines; all = is.all; text = λ o. subst (λ (w : List ℕ). WritesPart old new w) (is.text tt) (part o) }
@@ -182,11 +197,13 @@ none_leaves files s none kept = record {
 }
 
 -- what was sent went out whole, or the sink failed
-pub sent_how : {T : Type 0} (known : T) (r : Result T Stop) → IfOk r (λ x. x ≡ known) → OnErr r (IsErrOf r stop.SinkFault) → (r ≡ Ok known) ⊎ (r ≡ Err stop.SinkFault)
+pub sent_how : {T : Type 0} (known : T) (r : Result T Stop) → IfOk r (λ x. x ≡ known) → OnErr r (IsErrOf r stop.SinkFault) → (r ≡ Ok known)
+    ⊎ (r ≡ Err stop.SinkFault)
 sent_how known (Ok x) same only = inl (ap Ok same)
 sent_how known (Err e) same only = inr only
 
-pub none_told : (told out : Type 0) (lines : List (List ℕ)) (a b : Place) (text : List ℕ) (refused : ℕ) (r : Result ℕ Stop) → b.files ≡ a.files → IsBatchText None lines text refused
+pub none_told : (told out : Type 0) (lines : List (List ℕ)) (a b : Place) (text : List ℕ) (refused : ℕ) (r : Result ℕ Stop) → b.files ≡ a.files
+    → IsBatchText None lines text refused
     → (out → IsSent text a.written b.written r) → (IsErrOf r stop.SinkFault → Rose a.sink b.sink) → (r ≡ Ok refused) ⊎ (r ≡ Err stop.SinkFault)
     → MergesBatch told out (a.files Commit ≡ None) lines a b (status_of r)
 none_told told out lines a b text refused r same is sent rose how =
@@ -203,7 +220,8 @@ none_told told out lines a b text refused r same is sent rose how =
     done : (out → b.written ≡ a.written ++ text) → MergesBatch told out (a.files Commit ≡ None) lines a b (status_of (Ok refused))
     done sent = record {
       done = does_lines (Ok refused);
-      ends = λ t none state h. subst (λ (s : State). EndsMerging out (TellsBatch s) lines a.written b.written (status_of (Ok refused))) (none_stored a.files state none h)
+      ends = λ t none state h. subst (λ (s : State). EndsMerging out (TellsBatch s) lines a.written b.written (status_of (Ok refused)))
+          (none_stored a.files state none h)
           (ends_whole out None lines a.written b.written refused (text_whole out None lines text refused a.written b.written is sent));
       leaves = λ t none. subst (λ (f : Files). MergeLeaves a.files f (status_of (Ok refused))) (sym same)
           (none_leaves a.files (status_of (Ok refused)) none (counted_kept a.files a.files refused));
@@ -213,12 +231,14 @@ none_told told out lines a b text refused r same is sent rose how =
       sink = λ e. counted_sink refused e;
     }
 
-    failed : (out → WritesPart a.written b.written text) → Rose a.sink b.sink → MergesBatch told out (a.files Commit ≡ None) lines a b (status_of (Err stop.SinkFault))
+    failed : (out → WritesPart a.written b.written text) → Rose a.sink b.sink
+        → MergesBatch told out (a.files Commit ≡ None) lines a b (status_of (Err stop.SinkFault))
     failed part rises = record {
       done = λ d. d;
       ends = λ t none state h. subst (λ (s : State). CutsAll out (TellsBatch s) lines a.written b.written) (none_stored a.files state none h)
           (ends_cut out None lines text refused a.written b.written is part);
-      leaves = λ t none. subst (λ (f : Files). MergeLeaves a.files f status.SinkFault) (sym same) (none_leaves a.files status.SinkFault none (kept_itself a.files));
+      leaves = λ t none. subst (λ (f : Files). MergeLeaves a.files f status.SinkFault) (sym same)
+          (none_leaves a.files status.SinkFault none (kept_itself a.files));
       whole = λ t none state h d. d;
       evident = tt;
       folder = λ e. absurd cc;

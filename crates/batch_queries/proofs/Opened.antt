@@ -19,13 +19,16 @@ use Rattle.batch_run.specs.Residents.{IsCopyIn, IsCopyOf}
 use Rattle.batch_queries.specs.MergeRuns.{IsOpened}
 
 -- the copy is that of each index that is stored
-copy_of : {D : ℕ} (files : Files) (c : CommitData) (r : Resident D) → IsCopyIn files c r → IsCommitIn files c → (i : Index) → IsStored files (Some i) → IsCopyOf i.docs r
+copy_of : {D : ℕ} (files : Files) (c : CommitData) (r : Resident D) → IsCopyIn files c r → IsCommitIn files c → (i : Index) → IsStored files (Some i)
+    → IsCopyOf i.docs r
 copy_of files c r copy says i h =
     copy.held i.docs (subst (λ (d : CommitData). HoldsIndex files d i.docs) (one_file (bytes_of (files Commit)) h.commit c h.holds.commit says) h.holds)
 
 -- the files were the same all the time
-pub opened : (D : ℕ) (first middle last : Files) (c : CommitData) (r : Resident D) (s : SessionData) → middle ≡ first → last ≡ middle → IsCommitIn first c → IsCopyIn first c r
-    → (IsCommitIn middle c → (i : Index) → IsStored middle (Some i) → Sees D middle s.set i) → (IsCommitIn middle c → Guards D middle s) → IsFaithful D middle s.set
+pub opened : (D : ℕ) (first middle last : Files) (c : CommitData) (r : Resident D) (s : SessionData) → middle ≡ first → last ≡ middle → IsCommitIn first c
+    → IsCopyIn first c r
+    → (IsCommitIn middle c → (i : Index) → IsStored middle (Some i) → Sees D middle s.set i) → (IsCommitIn middle c → Guards D middle s)
+    → IsFaithful D middle s.set
     → (IsCommitIn middle c → AreTraced D middle s.set.parts) → IsUnchanged s → IsOpened D last r s
 opened D first middle last c r s same again says copy seen guards faithful traced unchanged =
     subst (λ (f : Files). IsOpened D f r s) (sym again) (record {
@@ -44,5 +47,6 @@ opened D first middle last c r s same again says copy seen guards faithful trace
     still = subst (λ (f : Files). IsCommitIn f c) (sym same) says
 
 -- where a damage says that nothing is stored, and something is, there is none
-pub none_undefined : {T : Type 0} (files : Files) (r : Result T PageFault) (state : State) → IsStored files state → OnDamage r (λ _. IsUndefined files) → NotDamaged r
+pub none_undefined : {T : Type 0} (files : Files) (r : Result T PageFault) (state : State) → IsStored files state → OnDamage r (λ _. IsUndefined files)
+    → NotDamaged r
 none_undefined files r state h undefined = on_damage_weaker r (λ _. IsUndefined files) (λ _. ⊥) (λ d none. none state h) undefined

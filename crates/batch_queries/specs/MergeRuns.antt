@@ -1,5 +1,5 @@
--- How a batch with a merge beside it goes from one place to another: it is opened, then answered while the merge begins,
--- and then the merge is ended and committed.
+-- How a batch with a merge beside it goes from one place to another: copy and session are opened, the batch is answered
+-- while the merge begins, the text goes out, and the merge is ended and committed.
 use Rattle.std.specs.Prelude.{ℕ, ◌≡◌, ◌⊎◌, true, false, List, take, Contains, Some, Result, OnOk}
 use Rattle.outer_io.specs.Counts.{Rose}
 use Rattle.outer_io.specs.declared.file_name.FileName.TheVariants.{Segment}

@@ -127,7 +127,8 @@ module _ (told : Type 0) (w : Words) (b : Before) (files : Files) (new : List �
   pub batch_ends : (forks : ℕ) → said w ≡ Batch forks → EndsBatch told (TellsBatch b.state) (lines_of b.input) b.written new s → EndsAsked told (said w) b files new s
   batch_ends forks is ends = subst (λ (a : Asked). EndsAsked told a b files new s) (sym is) ends
 
-  pub merging_ends : (forks : ℕ) → said w ≡ MergingBatch forks → EndsMerging told (TellsBatch b.state) (lines_of b.input) b.written new s → EndsAsked told (said w) b files new s
+  pub merging_ends : (forks : ℕ) → said w ≡ MergingBatch forks → EndsMerging told (TellsBatch b.state) (lines_of b.input) b.written new s
+      → EndsAsked told (said w) b files new s
   merging_ends forks is ends = subst (λ (a : Asked). EndsAsked told a b files new s) (sym is) ends
 
 -- what is asked isn't nothing

@@ -38,7 +38,7 @@ use std::thread::Threads;
 /// | `session` | does the lines of a script as `run` does, each as soon as it has come |
 /// | `count` | says how many live points lie in a box, or in each bucket of a grid |
 /// | `ranges` | does the lines of a script over documents that have ranges, as `run` does those over points |
-/// | `batch` | answers queries from a copy of the index in memory, parts of the list beside each other; with `--merge` it merges the segments beside them |
+/// | `batch` | answers queries from a copy of the index in memory by threads; segments may be merged beside that |
 ///
 /// **The headline.** On a folder that stores an index, or none, what `run` writes is, line for line, what a scan of the
 /// live documents answers to the script's adds, deletes and queries, whatever flushes, merges, snapshots and

@@ -29,7 +29,8 @@ use Rattle.index_model.specs.declared.session.Applied.TheVariants as applied
 use Rattle.index_core.specs.Replies.{begin_answer, end_answer}
 use Rattle.index_core.specs.Effects.{HasBegun, HasEnded, OnDone}
 
-pub begin_leaves : {T : Type 0} (positions : List ℕ) (s t : SetData) (r : Result T BeginFault) → OnOk r ((b : BegunMerge) × (t.begun ≡ Some b) × (b.inputs ≡ chosen_ids positions (ids_of s.parts))) → StaysButMerge s t
+pub begin_leaves : {T : Type 0} (positions : List ℕ) (s t : SetData) (r : Result T BeginFault)
+    → OnOk r ((b : BegunMerge) × (t.begun ≡ Some b) × (b.inputs ≡ chosen_ids positions (ids_of s.parts))) → StaysButMerge s t
     → OnDone (begin_answer r) (HasBegun positions s t)
 begin_leaves positions s t (Ok x) inputs alone = record { inputs = inputs; alone = alone }
 begin_leaves positions s t (Err begin.Begun) inputs alone = tt
@@ -38,32 +39,40 @@ begin_leaves positions s t (Err (begin.Damaged d)) inputs alone = tt
 begin_leaves positions s t (Err begin.Memory) inputs alone = tt
 
 -- what went is gone: the one that came has a name that was free, and those that went are named
-not_again : (names : NameList) (ids : List ℕ) (id : ℕ) → ((n : ℕ) → Contains ids n → is_named names.names (Segment n) ≡ true) → is_named names.names (Segment id) ≡ false → is_among ids id ≡ false
-not_again names ids id named fresh = false_from_ne_true (is_among ids id) (λ there. both_ways (is_named names.names (Segment id)) fresh (named id (among_to ids id there)))
+not_again : (names : NameList) (ids : List ℕ) (id : ℕ) → ((n : ℕ) → Contains ids n → is_named names.names (Segment n) ≡ true)
+    → is_named names.names (Segment id) ≡ false → is_among ids id ≡ false
+not_again names ids id named fresh =
+    false_from_ne_true (is_among ids id) (λ there. both_ways (is_named names.names (Segment id)) fresh (named id (among_to ids id there)))
 
 not_but : (ids : List ℕ) (parts : List Part) (p : Part) → Contains (parts_but ids parts) p → is_among ids p.head.id ≡ false
 not_but ids parts p there = not-true (is_among ids p.head.id) (of_filter (λ (q : Part). not (is_among ids q.head.id)) parts p there).1
 
-put_gone : (D : ℕ) (told : Type 0) (before after : NameList) (files : Files) (ids : List ℕ) (n : NewSegmentData) (old new : List Part) → ((id : ℕ) → Contains ids id → is_named before.names (Segment id) ≡ true)
+put_gone : (D : ℕ) (told : Type 0) (before after : NameList) (files : Files) (ids : List ℕ) (n : NewSegmentData) (old new : List Part)
+    → ((id : ℕ) → Contains ids id → is_named before.names (Segment id) ≡ true)
     → IsPut D told before after files ids n old new → (p : Part) → Contains new p → is_among ids p.head.id ≡ false
 put_gone D told before after files ids n old new named put p there =
     placed_cases _ (parts_but ids old) new put.placed p there
     (λ e. subst (λ (q : Part). is_among ids q.head.id ≡ false) e (not_again before ids put.id named put.fresh))
     (λ h. not_but ids old p h)
 
-pub gone_by : (D : ℕ) (told : Type 0) (before after : NameList) (files : Files) (ids : List ℕ) (built : Option NewSegmentData) (old new : List Part) → ((id : ℕ) → Contains ids id → is_named before.names (Segment id) ≡ true)
+pub gone_by : (D : ℕ) (told : Type 0) (before after : NameList) (files : Files) (ids : List ℕ) (built : Option NewSegmentData) (old new : List Part)
+    → ((id : ℕ) → Contains ids id → is_named before.names (Segment id) ≡ true)
     → Replaces D told before after files ids built old new → (p : Part) → Contains new p → is_among ids p.head.id ≡ false
 gone_by D told before after files ids None old new named is p there = not_but ids old p (subst (λ (ps : List Part). Contains ps p) is there)
 gone_by D told before after files ids (Some n) old new named put p there = put_gone D told before after files ids n old new named put p there
 
 -- the inputs of a begun merge are named
-inputs_named : (D : ℕ) (s : SetData) → IsWell D s → (b : BegunMerge) → s.begun ≡ Some b → (id : ℕ) → Contains b.inputs id → is_named s.names.names (Segment id) ≡ true
+inputs_named : (D : ℕ) (s : SetData) → IsWell D s → (b : BegunMerge) → s.begun ≡ Some b → (id : ℕ) → Contains b.inputs id
+    → is_named s.names.names (Segment id) ≡ true
 inputs_named D s well b is id there =
-    let among = All-contains (λ n. is_among (ids_of s.parts) n ≡ true) b.inputs id (subst (λ o. All (λ n. is_among (ids_of s.parts) n ≡ true) (inputs_of o)) is well.inputs) there in
+    let among = All-contains (λ n. is_among (ids_of s.parts) n ≡ true) b.inputs id
+        (subst (λ o. All (λ n. is_among (ids_of s.parts) n ≡ true) (inputs_of o)) is well.inputs) there in
     ids_named s.names s.parts well.named id (among_to (ids_of s.parts) id among)
 
-pub end_leaves : {T : Type 0} (D : ℕ) (told : Type 0) (files : Files) (s t : SetData) (r : Result T EndFault) → IsWell D s → OnOk r (t.begun ≡ None) → ((b : BegunMerge) → s.begun ≡ Some b → OnOk r (IsEnded b s.parts t.parts))
-    → ((b : BegunMerge) → s.begun ≡ Some b → OnOk r (Replaces D told s.names t.names files b.inputs (living b.built) s.parts t.parts)) → ((m : FileName) → is_named s.names.names m ≡ true → is_named t.names.names m ≡ true)
+pub end_leaves : {T : Type 0} (D : ℕ) (told : Type 0) (files : Files) (s t : SetData) (r : Result T EndFault) → IsWell D s → OnOk r (t.begun ≡ None)
+    → ((b : BegunMerge) → s.begun ≡ Some b → OnOk r (IsEnded b s.parts t.parts))
+    → ((b : BegunMerge) → s.begun ≡ Some b → OnOk r (Replaces D told s.names t.names files b.inputs (living b.built) s.parts t.parts))
+    → ((m : FileName) → is_named s.names.names m ≡ true → is_named t.names.names m ≡ true)
     → t.buffer ≡ s.buffer → (told → AreCanonical D files s.names t.parts) → OnDone (end_answer r) (HasEnded D told files s t)
 end_leaves D told files s t (Ok x) well ended parts replaced named buffer canon = record {
   ended = ended;

@@ -4,10 +4,11 @@ use Rattle.std.proofs.lemmas.Result.{err_from_is_err_and}
 use Rattle.page_cache.specs.declared.faults.PageFault.{PageFault}
 use Rattle.index_core.proofs.Sizes.{session_fits}
 use Rattle.batch_queries.proofs.Ended.{end_stopped, ended_committed, says_done}
+use Rattle.batch_queries.proofs.Sizes.{command_fits}
 use Rattle.batch_queries.proofs.begun.end_merge.Goals as goal
 
 pub apply-requires-after_bounds : goal.apply-requires-after_bounds
-apply-requires-after_bounds g c κs = λ _. (session_fits g.row.D c.requires, (c.requires, (tt, refl)))
+apply-requires-after_bounds g c κs = λ _. (session_fits g.row.D c.requires, (command_fits g.row.D c.requires, (c.requires, (tt, refl))))
 
 pub commit-requires-after_bounds : goal.commit-requires-after_bounds
 commit-requires-after_bounds g c κs = λ _. session_fits g.row.D c.requires

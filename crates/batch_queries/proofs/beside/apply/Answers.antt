@@ -1,11 +1,6 @@
 -- What the session does is one record.
-use Rattle.std.proofs.Common.{ap, refl, subst, ◌≡◌, ◌∙◌}
-use Rattle.index_core.proofs.Sizes.{session_fits}
 use Rattle.batch_queries.proofs.Applying.{applies_calm}
 use Rattle.batch_queries.proofs.beside.apply.Goals as goal
-
-pub apply-requires-after_bounds : goal.apply-requires-after_bounds
-apply-requires-after_bounds g c κs = λ _. (session_fits g.row.D c.requires.few, c.requires.limits)
 
 pub returns-clause-applies : goal.returns-clause-applies
 returns-clause-applies g c = applies_calm g.row.D _ _ _ _ _ _ c.requires.calm (record {
