@@ -5,7 +5,7 @@ mod Sizes
 mod Applying
 mod Places
 mod Ended
-mod Begun
-mod Merging
+mod Beginning
+mod MergeCalls
 mod Merged
 mod Opened

@@ -50,7 +50,7 @@ use Rattle.batch_queries.specs.Batched.{IsBatchText, TellsBatch}
 use Rattle.batch_queries.specs.Ends.{CutsAll, EndsBatch}
 use Rattle.batch_queries.specs.Merging.{EndsMerging, MergeKeeps, MergeLeaves, MergesFirst, WholeOrNone, merged_count}
 use Rattle.batch_queries.specs.MergeRuns.{BeginsMerge, EndsMerge, IsBegun, IsMerged, IsOpened, MergesBatch, Place, first_ids}
-use Rattle.batch_queries.proofs.Merging.{counted_folder, counted_kept, counted_shows, counted_sink, counted_whole, ends_cut, ends_whole, stopped, text_whole}
+use Rattle.batch_queries.proofs.MergeCalls.{counted_folder, counted_kept, counted_shows, counted_sink, counted_whole, ends_cut, ends_whole, stopped, text_whole}
 
 -- a state that is stored where an index is, is an index
 an_index : (files : Files) (i : Index) (state : State) → IsStored files (Some i) → IsStored files state → (P : State → Type 0)

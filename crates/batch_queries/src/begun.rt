@@ -10,7 +10,7 @@ ghost use Rattle.batch_queries.specs.MergeRuns.{BeginsMerge, EndsMerge, IsOpened
 
 use crate::Memory;
 use crate::asking::collect;
-use crate::beside::{apply, beside};
+use crate::both::{apply, beside};
 use crate::telling::{Text, tell_all};
 use batch_run::Resident;
 use bkd_build::Gate;

@@ -5,12 +5,12 @@
 
 mod asking;
 mod begun;
-mod beside;
+mod both;
 mod merging;
 mod run;
 mod telling;
 
-pub use beside::beside;
+pub use both::beside;
 pub use merging::run_merging_batch;
 pub use run::run_batch;
 

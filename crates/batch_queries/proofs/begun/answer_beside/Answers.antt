@@ -8,7 +8,7 @@ use Rattle.index_core.proofs.Sizes.{session_fits}
 use Rattle.batch_run.specs.Queries.{reply_of}
 use Rattle.batch_run.specs.declared.queries.Query.{Query}
 use Rattle.batch_queries.specs.Asked.{asked_in}
-use Rattle.batch_queries.proofs.Begun.{begins_done, begins_fault, begins_memory, begins_none}
+use Rattle.batch_queries.proofs.Beginning.{begins_done, begins_fault, begins_memory, begins_none}
 use Rattle.batch_queries.proofs.Replying.{replies_told}
 use Rattle.batch_queries.proofs.begun.answer_beside.Goals as goal
 

@@ -11,7 +11,7 @@ use Rattle.index_opening.specs.Evidence.{IsTwice}
 use Rattle.index_opening.proofs.Evident.{on_evident_at}
 use Rattle.run_status.specs.declared.stop.Stop.{Stop}
 use Rattle.batch_run.specs.Copies.{IsCommitIn}
-use Rattle.batch_queries.proofs.Merging.{merges_after, stopped}
+use Rattle.batch_queries.proofs.MergeCalls.{merges_after, stopped}
 use Rattle.batch_queries.proofs.Opened.{none_undefined, opened}
 use Rattle.batch_queries.proofs.merging.merge_over.Goals as goal
 
