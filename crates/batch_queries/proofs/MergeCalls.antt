@@ -3,7 +3,7 @@ use Rattle.std.proofs.Common.{◌≡◌, ◌≤◌, ◌+◌, ◌==◌, ◌++◌,
 use Rattle.std.proofs.Common.{IfOk, OnErr, OnOk, IsErrOf}
 use Rattle.std.proofs.Common.{refl, sym, ap, subst, ◌∙◌, ◌⊎◌, inl, inr, ⊎_elim, arith}
 use Rattle.std.specs.List.{Contains}
-use Rattle.std.proofs.lemmas.Bool.{both_ways}
+use Rattle.std.proofs.lemmas.Bool.Decides.{nat_tests}
 use Rattle.std.proofs.lemmas.List.{take-map}
 use Rattle.outer_io.specs.Counts.{Rose}
 use Rattle.outer_io.specs.declared.file_name.FileName.TheVariants.{Commit, Segment}
@@ -36,14 +36,14 @@ use Rattle.index_core.proofs.Guarding.{says_some}
 use Rattle.index_core.proofs.Listed.{attached_listed, new_canonical}
 use Rattle.index_core.proofs.Undone.{kept_equal, levels_after, undone_after}
 use Rattle.run_status.specs.Ends.{DoesNothing, IsAnswer, IsDamaged, OnStatusDamage}
-use Rattle.run_status.specs.Sent.{IsSent}
+use Rattle.run_status.specs.Sent.{IsCut, IsSent}
 use Rattle.run_status.specs.Stops.{status_of, stop_of}
 use Rattle.run_status.specs.Told.{TellsAll}
 use Rattle.run_status.specs.declared.status.Status.{Status}
 use Rattle.run_status.specs.declared.status.Status.TheVariants as status
 use Rattle.run_status.specs.declared.stop.Stop.{Stop}
 use Rattle.run_status.specs.declared.stop.Stop.TheVariants as stop
-use Rattle.run_status.proofs.Ending.{does_lines, folder_stopped, rose_from, sink_stopped}
+use Rattle.run_status.proofs.Ending.{counted, does_lines}
 use Rattle.batch_run.specs.declared.resident.Resident.{Resident}
 use Rattle.batch_run.specs.Copies.{IsCommitIn}
 use Rattle.batch_queries.specs.Batched.{IsBatchText, TellsBatch}
@@ -54,7 +54,7 @@ use Rattle.batch_queries.specs.MergeRuns.{BeginsMerge, EndsMerge, IsBegun, IsMer
 -- ---- faults
 
 -- what stays where nothing went out: all that is kept
-leaves_fault : {T : Type 0} (old new : Files) (fault : PageFault) → SameKept old new → MergeLeaves old new (status_of (Err (stop_of fault)))
+leaves_fault : (old new : Files) (fault : PageFault) → SameKept old new → MergeLeaves old new (status_of (Err (stop_of fault)))
 leaves_fault old new page.Failed same =
     record { stored = λ state h. stored_still old new state same h; kept = inl same; merged = λ a. absurd a; levels = λ a. absurd a; canon = λ a. absurd a }
 leaves_fault old new page.Memory same =
@@ -76,7 +76,7 @@ stopped {T} told out trusts lines a b fault r is kept whole cause evident same =
     by page.Failed kept whole cause evident = record {
       done = λ d. d;
       ends = λ t h state s. inl (λ o. same);
-      leaves = λ t h. leaves_fault {T = T} a.files b.files page.Failed (kept t h);
+      leaves = λ t h. leaves_fault a.files b.files page.Failed (kept t h);
       whole = λ t h state s d. d;
       evident = tt;
       folder = λ e. cause.failed refl;
@@ -85,7 +85,7 @@ stopped {T} told out trusts lines a b fault r is kept whole cause evident same =
     by page.Memory kept whole cause evident = record {
       done = λ d. d;
       ends = λ t h state s. inl (λ o. same);
-      leaves = λ t h. leaves_fault {T = T} a.files b.files page.Memory (kept t h);
+      leaves = λ t h. leaves_fault a.files b.files page.Memory (kept t h);
       whole = λ t h state s d. d;
       evident = tt;
       folder = λ e. absurd cc;
@@ -94,7 +94,7 @@ stopped {T} told out trusts lines a b fault r is kept whole cause evident same =
     by (page.Damaged d) kept whole cause evident = record {
       done = λ d. d;
       ends = λ t h state s. whole t h state s;
-      leaves = λ t h. leaves_fault {T = T} a.files b.files (page.Damaged d) (kept t h);
+      leaves = λ t h. leaves_fault a.files b.files (page.Damaged d) (kept t h);
       whole = λ t h state s d. whole t h state s;
       evident = evident;
       folder = λ e. absurd cc;
@@ -148,10 +148,18 @@ pub text_whole : (out : Type 0) (state : State) (lines : List (List ℕ)) (text 
 text_whole out state lines text refused old new is sent =
     record { of_lines = is.of_lines; all = is.all; text = λ o. sent o ∙ ap (λ (w : List ℕ). old ++ w) (is.text tt); count = is.count }
 
+ends_counted : (out : Type 0) (state : State) (lines : List (List ℕ)) (old new : List ℕ) (count : ℕ) (b : Bool) → (count == 0) ≡ b
+    → TellsAll out (TellsBatch state) 1 lines old new count → EndsMerging out (TellsBatch state) lines old new (counted b count)
+ends_counted out state lines old new count true is all =
+    let none : count ≡ 0 = grind (arith, nat_tests) in
+    subst (λ n. TellsAll out (TellsBatch state) 1 lines old new n) none all
+ends_counted out state lines old new count false is all =
+    let some : 1 ≤ count = grind (arith, nat_tests) in
+    (some, all)
+
 pub ends_whole : (out : Type 0) (state : State) (lines : List (List ℕ)) (old new : List ℕ) (count : ℕ) → TellsAll out (TellsBatch state) 1 lines old new count
     → EndsMerging out (TellsBatch state) lines old new (status_of (Ok count))
-ends_whole out state lines old new zero all = all
-ends_whole out state lines old new (suc n) all = (omega arith, all)
+ends_whole out state lines old new count all = ends_counted out state lines old new count (count == 0) refl all
 
 -- or a part of it
 pub ends_cut : (out : Type 0) (state : State) (lines : List (List ℕ)) (text : List ℕ) (refused : ℕ) (old new : List ℕ) → IsBatchText state lines text refused
@@ -160,25 +168,40 @@ pub ends_cut : (out : Type 0) (state : State) (lines : List (List ℕ)) (text : 
 ends_cut out state lines text refused old new is part =
     record { of_lines = is.of_lines; all = is.all; text = λ o. subst (λ (w : List ℕ). WritesPart old new w) (is.text tt) (part o) }
 
+whole_by : (b : Bool) (count : ℕ) → IsDamaged (counted b count) → ⊥
+whole_by true count d = d
+whole_by false count d = d
+
 pub counted_whole : (count : ℕ) → IsDamaged (status_of (Ok count)) → ⊥
-counted_whole zero d = d
-counted_whole (suc n) d = d
+counted_whole count d = whole_by (count == 0) count d
+
+shows_by : (told : Type 0) (files : Files) (b : Bool) (count : ℕ) → OnStatusDamage (counted b count) (IsEvident told files)
+shows_by told files true count = tt
+shows_by told files false count = tt
 
 pub counted_shows : (told : Type 0) (files : Files) (count : ℕ) → OnStatusDamage (status_of (Ok count)) (IsEvident told files)
-counted_shows told files zero = tt
-counted_shows told files (suc n) = tt
+counted_shows told files count = shows_by told files (count == 0) count
+
+kept_by : (old new : Files) (b : Bool) (count : ℕ) → MergeKeeps old new (counted b count)
+kept_by old new true count = tt
+kept_by old new false count = tt
 
 pub counted_kept : (old new : Files) (count : ℕ) → MergeKeeps old new (status_of (Ok count))
-counted_kept old new zero = tt
-counted_kept old new (suc n) = tt
+counted_kept old new count = kept_by old new (count == 0) count
+
+folder_by : (b : Bool) (count : ℕ) {P : Type 0} → counted b count ≡ status.FolderFault → P
+folder_by true count e = cc
+folder_by false count e = cc
 
 pub counted_folder : (count : ℕ) {P : Type 0} → status_of (Ok count) ≡ status.FolderFault → P
-counted_folder zero e = absurd cc
-counted_folder (suc n) e = absurd cc
+counted_folder count e = folder_by (count == 0) count e
+
+sink_by : (b : Bool) (count : ℕ) {P : Type 0} → counted b count ≡ status.SinkFault → P
+sink_by true count e = cc
+sink_by false count e = cc
 
 pub counted_sink : (count : ℕ) {P : Type 0} → status_of (Ok count) ≡ status.SinkFault → P
-counted_sink zero e = absurd cc
-counted_sink (suc n) e = absurd cc
+counted_sink count e = sink_by (count == 0) count e
 
 -- ---- where no index is there
 
@@ -244,3 +267,18 @@ none_told told out lines a b text refused r same is sent rose how =
       folder = λ e. absurd cc;
       sink = λ e. rises;
     }
+
+-- ---- what was sent
+
+pub sent_part : (text reply old new : List ℕ) (e : Stop) → reply ≡ text → IsErrOf {T = ℕ} (Err e) stop.SinkFault → IsCut reply old new e → WritesPart old new text
+sent_part text reply old new e same only cut =
+    let is : e ≡ stop.SinkFault = cc in
+    subst (λ (w : List ℕ). WritesPart old new w) same (subst (IsCut reply old new) is cut)
+
+pub sent_whole : (text reply old new : List ℕ) → reply ≡ text → new ≡ old ++ reply → new ≡ old ++ text
+sent_whole text reply old new same grew = grew ∙ ap (λ (w : List ℕ). old ++ w) same
+
+-- another number of refused lines, which is the same
+pub status_known : (told out trusts : Type 0) (lines : List (List ℕ)) (a b : Place) (n m : ℕ) → m ≡ n → MergesBatch told out trusts lines a b (status_of (Ok n))
+    → MergesBatch told out trusts lines a b (status_of (Ok m))
+status_known told out trusts lines a b n m same merges = subst (λ (k : ℕ). MergesBatch told out trusts lines a b (status_of (Ok k))) (sym same) merges

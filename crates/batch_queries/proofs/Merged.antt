@@ -168,7 +168,7 @@ module _ (D : ℕ) (told out : Type 0) (r : Resident D) (lines : List (List ℕ)
           ends = λ t o state h. whole_by (page.Damaged d) is t o;
           leaves = λ t o. record
               { stored = still t o; kept = kept_by (page.Damaged d) is t o; merged = λ w. absurd w; levels = λ w. absurd w; canon = λ w. absurd w };
-          whole = λ t o state h d. whole_by (page.Damaged d) is t o;
+          whole = λ t o state h ends. whole_by (page.Damaged d) is t o;
           evident = on_evident_less {X = U} (told × Trusts D b.files b.session) (told × trusts) c.files (Err (page.Damaged d))
               (λ h. (h.0, (is_begun h.0 h.1 h.1.index h.1.stored).trusts))
               (subst (λ (w : Result U PageFault). OnDamage w (IsEvident (told × Trusts D b.files b.session) c.files)) is (ends ids (new_index D 2)).evident);

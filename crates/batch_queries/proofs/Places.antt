@@ -25,11 +25,11 @@ below_less (suc n) x h =
 
 in_below : (n x : ℕ) → x < n → Contains (below n) x
 in_below zero x h = absurd (omega (arith, h))
-in_below (suc n) x h = by (ltb x n) refl
+in_below (suc n) x h = by (in_below n x) (ltb x n) refl
   where
-    by : (b : Bool) → ltb x n ≡ b → Contains (below n ++ n ∷ []) x
-    by true less = Contains-append_left (below n) (n ∷ []) x (in_below n x (ltb-true x n less))
-    by false past =
+    by : (x < n → Contains (below n) x) → (b : Bool) → ltb x n ≡ b → Contains (below n ++ n ∷ []) x
+    by before true less = Contains-append_left (below n) (n ∷ []) x (before (ltb-true x n less))
+    by before false past =
         let same : n ≡ x = omega (arith, h, ltb-false x n past) in
         Contains-append_right (below n) (n ∷ []) x (subst (λ m. Contains (n ∷ []) m) same (cons_head n []))
 
@@ -52,11 +52,11 @@ in_take (suc n) (x ∷ xs) id h = ⊎_elim
 
 fewer : (p : ℕ → Bool) (xs : List ℕ) → length (filter p xs) ≤ length xs
 fewer p [] = omega arith
-fewer p (x ∷ xs) = by (p x)
+fewer p (x ∷ xs) = by (p x) (fewer p xs)
   where
-    by : (b : Bool) → length (cond b (x ∷ filter p xs) (filter p xs)) ≤ suc (length xs)
-    by true = omega (arith, fewer p xs)
-    by false = omega (arith, fewer p xs)
+    by : (b : Bool) → length (filter p xs) ≤ length xs → length (cond b (x ∷ filter p xs) (filter p xs)) ≤ suc (length xs)
+    by true less = omega (arith, less)
+    by false less = omega (arith, less)
 
 pub first_chosen : (n : ℕ) (ids : List ℕ) (id : ℕ) → n ≤ 64 → is_among (take n ids) id ≡ true → is_among (chosen_ids (below n) ids) id ≡ true
 first_chosen n ids id few there =

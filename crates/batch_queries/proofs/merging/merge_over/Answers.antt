@@ -1,5 +1,5 @@
 -- The copy is loaded and the session attached, and both are of the index that is stored.
-use Rattle.std.proofs.Common.{◌≡◌, Err, IsTrue, Some, ap, refl, subst, sym, ◌∙◌}
+use Rattle.std.proofs.Common.{◌≡◌, ℕ, lit<, Err, IsTrue, Some, ap, refl, subst, sym, ◌∙◌}
 use Rattle.std.proofs.lemmas.Result.{err_from_is_err_and}
 use Rattle.outer_io.specs.Files.{Files}
 use Rattle.index_model.specs.State.{State}
@@ -18,6 +18,10 @@ use Rattle.batch_queries.proofs.merging.merge_over.Goals as goal
 pub attach-requires : goal.attach-requires
 attach-requires g c = (session_fits g.row.D c.requires.few, c.requires.dims)
 
+pub merge_with-requires-after_bounds : goal.merge_with-requires-after_bounds
+merge_with-requires-after_bounds g c κs = λ _.
+    (lit< tt, (session_fits g.row.D c.requires.few, (c.requires.some, (c.requires.few, c.requires.lines))))
+
 pub returns-in_err-resident : goal.returns-in_err-resident
 returns-in_err-resident g c =
     let p = err_from_is_err_and c.from_residual.result c.from_residual.ensures.1 in
@@ -25,8 +29,8 @@ returns-in_err-resident g c =
     let e = c.in_err-resident.ensures in
     stopped (IsTrue g.F.Pages.told) _ (IsCommitIn old c.args.commit) _ _ _ c.in_err-resident.field-0.0 _ (p.1 ∙ ap (λ (s : Stop). Err s) p.2)
     (λ told says. kept_equal _ _ (e.files told))
-        (λ told says state stored. none_undefined old (Err c.in_err-resident.field-0.0) state stored (e.undefined told says)) e.cause
-    (on_evident_at IsTwice _ _ old _ (Err c.in_err-resident.field-0.0) (λ h. h) (λ h. e.files h.0) e.evident) refl
+        (λ told says state stored. none_undefined {T = ℕ} old (Err c.in_err-resident.field-0.0) state stored (e.undefined told says)) e.cause
+    (on_evident_at {X = ℕ} IsTwice _ _ old _ (Err c.in_err-resident.field-0.0) (λ h. h) (λ h. e.files h.0) e.evident) refl
 
 pub returns-in_err-session : goal.returns-in_err-session
 returns-in_err-session g c =
@@ -39,7 +43,7 @@ returns-in_err-session g c =
     (λ told says state stored. e.whole told (subst (λ (f : Files). IsCommitIn f c.args.commit) (sym (first.files told)) says) state
     (subst (λ (f : Files). IsStored f state) (sym (first.files told)) stored))
     (cause_then _ _ _ (Err c.in_err-session.field-0.0) first.cause.fine e.cause)
-    (on_evident_at IsTwice _ _ _ _ (Err c.in_err-session.field-0.0)
+    (on_evident_at {X = ℕ} IsTwice _ _ _ _ (Err c.in_err-session.field-0.0)
     (λ h. (h.0, subst (λ (f : Files). IsCommitIn f c.args.commit) (sym (first.files h.0)) h.1)) (λ h. e.files h.0) e.evident) refl
 
 pub returns : goal.returns

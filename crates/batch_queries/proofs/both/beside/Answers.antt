@@ -1,0 +1,18 @@
+-- Both halves may be called, and what they hold has room in memory.
+use Rattle.std.proofs.Common.{lit<, refl}
+use Rattle.index_core.proofs.Sizes.{session_fits}
+use Rattle.batch_queries.proofs.Sizes.{command_fits, query_fits}
+use Rattle.batch_queries.proofs.both.beside.Goals as goal
+
+pub join_mut-requires-room-G-FnMut-2 : goal.join_mut-requires-room-G-FnMut-2
+join_mut-requires-room-G-FnMut-2 g c κs within = command_fits g.row.D c.requires.few
+
+pub join_mut-requires-room-G-FnOnce-2 : goal.join_mut-requires-room-G-FnOnce-2
+join_mut-requires-room-G-FnOnce-2 g c κs within = command_fits g.row.D c.requires.few
+
+pub join_mut-requires-after_bounds : goal.join_mut-requires-after_bounds
+join_mut-requires-after_bounds g c κs within =
+    let syncs = (c.type_bounds.sync-R.shared, c.type_bounds.sync-G.shared) in
+    ((lit< tt, (query_fits g.row.D c.requires.few, ((syncs.0, syncs.1, c.requires.range), syncs))),
+    (session_fits g.row.D c.requires.few,
+    (command_fits g.row.D c.requires.few, ((syncs.0, syncs.1, c.requires.few, tt, refl), syncs))))
