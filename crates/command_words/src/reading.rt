@@ -6,7 +6,9 @@ ghost use Rattle.command_words.specs.Commands.{IsWithin, asked_by, command_of, s
 ghost use Rattle.command_words.specs.Commands.{check, generate, session, count, ranges, batch};
 ghost use Rattle.command_words.specs.Found.{AreFound, is_plain};
 
-use crate::options::{CACHE, COLUMNS, DOCS, FORKS, MERGE, SEED, columns_by, flag, has_flag, text_option};
+use crate::options::{
+    CACHE, COLUMNS, DOCS, FORKS, MERGE, SEED, columns_by, flag, has_flag, text_option,
+};
 use crate::{Words, WordsFault};
 use clap::error::ErrorKind;
 use clap::{ArgMatches, Command, Error};

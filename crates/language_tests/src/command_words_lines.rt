@@ -49,10 +49,7 @@ const COMMANDS: [(&str, &str); 18] = [
     ),
     (". batch --forks 2", "Batch { forks: 2 }"),
     (". batch --merge", "MergingBatch { forks: 1 }"),
-    (
-        ". batch --merge --forks=0",
-        "MergingBatch { forks: 0 }",
-    ),
+    (". batch --merge --forks=0", "MergingBatch { forks: 0 }"),
 ];
 
 /// Words that are none of a command.

@@ -20,19 +20,19 @@ beside-replies-requires-after_bounds g c κs = λ _.
     (c.requires.few, subst (λ (qs : List (Query g.row.D)). All (IsInRange g.row.D) qs) (sym c.as_slice.ensures.value) c.in_ok-queries.ensures.range))))
 
 pub drop-queries-requires-room-T-Destruct : goal.drop-queries-requires-room-T-Destruct
-drop-queries-requires-room-T-Destruct g c = query_fits g.row.D c.requires.few
+drop-queries-requires-room-T-Destruct g c κs = query_fits g.row.D c.requires.few
 
 pub drop-queries-requires-in_err-begun-room-T-Destruct : goal.drop-queries-requires-in_err-begun-room-T-Destruct
-drop-queries-requires-in_err-begun-room-T-Destruct g c = query_fits g.row.D c.requires.few
+drop-queries-requires-in_err-begun-room-T-Destruct g c κs = query_fits g.row.D c.requires.few
 
 pub drop-queries-requires-in_err-replies-room-T-Destruct : goal.drop-queries-requires-in_err-replies-room-T-Destruct
-drop-queries-requires-in_err-replies-room-T-Destruct g c = query_fits g.row.D c.requires.few
+drop-queries-requires-in_err-replies-room-T-Destruct g c κs = query_fits g.row.D c.requires.few
 
 pub drop-queries-requires-in_err-tell_all-room-T-Destruct : goal.drop-queries-requires-in_err-tell_all-room-T-Destruct
-drop-queries-requires-in_err-tell_all-room-T-Destruct g c = query_fits g.row.D c.requires.few
+drop-queries-requires-in_err-tell_all-room-T-Destruct g c κs = query_fits g.row.D c.requires.few
 
 pub drop-queries-requires-2-room-T-Destruct : goal.drop-queries-requires-2-room-T-Destruct
-drop-queries-requires-2-room-T-Destruct g c = query_fits g.row.D c.requires.few
+drop-queries-requires-2-room-T-Destruct g c κs = query_fits g.row.D c.requires.few
 
 pub returns-in_err-queries-clause-begins : goal.returns-in_err-queries-clause-begins
 returns-in_err-queries-clause-begins g c =

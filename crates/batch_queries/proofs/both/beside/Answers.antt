@@ -11,8 +11,25 @@ pub join_mut-requires-room-G-FnOnce-2 : goal.join_mut-requires-room-G-FnOnce-2
 join_mut-requires-room-G-FnOnce-2 g c κs within = command_fits g.row.D c.requires.few
 
 pub join_mut-requires-after_bounds : goal.join_mut-requires-after_bounds
-join_mut-requires-after_bounds g c κs within =
-    let syncs = (c.type_bounds.sync-R.shared, c.type_bounds.sync-G.shared) in
-    ((lit< tt, (query_fits g.row.D c.requires.few, ((syncs.0, syncs.1, c.requires.range), syncs))),
-    (session_fits g.row.D c.requires.few,
-    (command_fits g.row.D c.requires.few, ((syncs.0, syncs.1, c.requires.few, tt, refl), syncs))))
+join_mut-requires-after_bounds g c κs within = (
+  (
+    lit< tt,
+    (
+      query_fits g.row.D c.requires.few,
+      (
+        (record { shared = c.type_bounds.sync-R.shared }, record { shared = c.type_bounds.sync-G.shared }, c.requires.range),
+        (record { shared = c.type_bounds.sync-R.shared }, record { shared = c.type_bounds.sync-G.shared }),
+      ),
+    ),
+  ),
+  (
+    session_fits g.row.D c.requires.few,
+    (
+      command_fits g.row.D c.requires.few,
+      (
+        (record { shared = c.type_bounds.sync-R.shared }, record { shared = c.type_bounds.sync-G.shared }, c.requires.few, tt, refl),
+        (record { shared = c.type_bounds.sync-R.shared }, record { shared = c.type_bounds.sync-G.shared }),
+      ),
+    ),
+  ),
+)

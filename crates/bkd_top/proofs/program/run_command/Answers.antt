@@ -204,8 +204,7 @@ returns-in-Count g c =
     let input = g.S.Source.left c.args.input.now in
     let old = g.F.Pages.files c.args.folder.now in
     let new = g.F.Pages.files c.run_count.new.folder in
-    let before = g.K.Sink.written c.args.out.now in
-    let after = g.K.Sink.written c.run_count.new.out in
+    let before = g.K.Sink.written c.args.out.now in let after = g.K.Sink.written c.run_count.new.out in
     record {
       never_usage = e.never_usage;
       ends = λ told state h source. count_ends (IsTrue g.K.Sink.told) c.args.words
@@ -230,15 +229,16 @@ returns-in-Ranges g c =
     let input = g.S.Source.left c.args.input.now in
     let old = g.F.Pages.files c.args.folder.now in
     let new = g.F.Pages.files c.run_ranges.new.folder in
-    let before = g.K.Sink.written c.args.out.now in
-    let after = g.K.Sink.written c.run_ranges.new.out in
+    let before = g.K.Sink.written c.args.out.now in let after = g.K.Sink.written c.run_ranges.new.out in
     record {
       never_usage = e.never_usage;
       ends = λ told state h source. ranges_ends (IsTrue g.K.Sink.told) c.args.words
           (record { state = state; files = old; input = input; written = before }) new after c.run_ranges.result _ _ is (e.ends (source reads) told state h);
       input = λ told. taken_by c.args.words _ input (g.S.Source.left c.run_ranges.new.input) c.run_ranges.result is (e.input told);
       unread = is_so (λ a. reads_input a) c.args.words _ is refl;
-      large = λ w. ap (λ (a : Asked). reads_whole a) is; untouched = λ other. e.untouched; canon = e.canon;
+      large = λ w. ap (λ (a : Asked). reads_whole a) is;
+      untouched = λ other. e.untouched;
+      canon = e.canon;
       leaves = λ told. left_by c.args.words _
           (called g.S.Source.told g.K.Sink.told input old new before after (g.F.Pages.reads c.args.folder.now) (g.F.Pages.reads c.run_ranges.new.folder))
           c.run_ranges.result is (λ source. e.costs source told);
@@ -254,8 +254,7 @@ returns-in-Batch g c =
     let input = g.S.Source.left c.args.input.now in
     let old = g.F.Pages.files c.args.folder.now in
     let new = g.F.Pages.files c.run_batch.new.folder in
-    let before = g.K.Sink.written c.args.out.now in
-    let after = g.K.Sink.written c.run_batch.new.out in
+    let before = g.K.Sink.written c.args.out.now in let after = g.K.Sink.written c.run_batch.new.out in
     record {
       never_usage = e.never_usage;
       ends = λ told state h source. batch_ends (IsTrue g.K.Sink.told) c.args.words
@@ -281,8 +280,7 @@ returns-in-MergingBatch g c =
     let input = g.S.Source.left c.args.input.now in
     let old = g.F.Pages.files c.args.folder.now in
     let new = g.F.Pages.files c.run_merging_batch.new.folder in
-    let before = g.K.Sink.written c.args.out.now in
-    let after = g.K.Sink.written c.run_merging_batch.new.out in
+    let before = g.K.Sink.written c.args.out.now in let after = g.K.Sink.written c.run_merging_batch.new.out in
     record {
       never_usage = e.never_usage;
       ends = λ told state h source. merging_ends (IsTrue g.K.Sink.told) c.args.words
@@ -290,7 +288,8 @@ returns-in-MergingBatch g c =
           c.run_merging_batch.result _ is (e.ends (source reads) told state h);
       input = λ told. taken_by c.args.words _ input (g.S.Source.left c.run_merging_batch.new.input) c.run_merging_batch.result is (e.input told);
       unread = is_so (λ a. reads_input a) c.args.words _ is refl;
-      large = λ w. ap (λ (a : Asked). reads_whole a) is; untouched = λ other. e.untouched;
+      large = λ w. ap (λ (a : Asked). reads_whole a) is;
+      untouched = λ other. e.untouched;
       canon = λ told state h a. (e.leaves told).canon a;
       leaves = λ told. left_by c.args.words _
           (called g.S.Source.told g.K.Sink.told input old new before after (g.F.Pages.reads c.args.folder.now) (g.F.Pages.reads c.run_merging_batch.new.folder))
