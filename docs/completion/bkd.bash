@@ -20,7 +20,7 @@ _bkd() {
         run | session | ranges) options='--cache --forks' ;;
         load) options='--columns --forks' ;;
         explain | count) options='--cache' ;;
-        batch) options='--forks' ;;
+        batch) options='--forks --merge' ;;
         generate) options='--docs --seed --forks' ;;
     esac
     # each option stands at most once

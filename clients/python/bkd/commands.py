@@ -105,14 +105,16 @@ def explain(folder: Folder, queries: Iterable[Request], cache: int = 1024, *, pr
     return _asked(folder, ["explain", "--cache", str(cache)], asked, program, timeout, held)
 
 
-def batch(folder: Folder, queries: Iterable[Request], forks: int = 1, *, program: Which = None,
+def batch(folder: Folder, queries: Iterable[Request], forks: int = 1, merge: bool = False, *, program: Which = None,
           timeout: float | None = None, held: int | None = None) -> list[Any]:
     """The answers to queries, in order, from a copy of the stored index in memory, by `forks` levels of two threads
     each.
 
-    The place of a query that is refused has its `Refused`.
+    With `merge` the segments are merged beside the answering, and that is committed. The place of a query that is
+    refused has its `Refused`.
     """
-    return _asked(folder, ["batch", "--forks", str(forks)], queries, program, timeout, held)
+    words = ["batch", "--forks", str(forks)] + (["--merge"] if merge else [])
+    return _asked(folder, words, queries, program, timeout, held)
 
 
 def points_in(lo: Point, hi: Point) -> Request:

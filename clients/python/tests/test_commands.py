@@ -158,7 +158,9 @@ def test_batch(has, tmp_path):
         for forks in (0, 2):
             found = index.batch(asked, forks)
             assert found[:-1] == answers[:-1] and isinstance(found[-1], bkd.Refused)
-    assert bkd.batch(tmp_path, asked, program=program)[:-1] == answers[:-1]
+    assert bkd.batch(tmp_path, asked, merge=True, program=program)[:-1] == answers[:-1]
+    if program.words != STAND_IN:
+        assert len(open_stored(tmp_path).parts) == 1
 
 
 def test_ranges(has, tmp_path):

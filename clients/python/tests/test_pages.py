@@ -63,7 +63,7 @@ def completed(*words):
     (("bkd", ".", "ge"), ["generate"]),
     (("bkd", ".", "run", "--"), ["--cache", "--forks"]),
     (("bkd", ".", "session", "--"), ["--cache", "--forks"]),
-    (("bkd", ".", "batch", "--"), ["--forks"]),
+    (("bkd", ".", "batch", "--"), ["--forks", "--merge"]),
     (("bkd", ".", "run", "--cache", "5", "--"), ["--forks"]),
     (("bkd", ".", "run", "--forks", ""), ["0", "1", "2", "3", "4", "5", "6"]),
     (("bkd", ".", "generate", "--d"), ["--docs"]),

@@ -1,3 +1,11 @@
 mod Lines
 mod Tells
 mod Replying
+mod Sizes
+mod Applying
+mod Places
+mod Ended
+mod Beginning
+mod MergeCalls
+mod Merged
+mod Opened

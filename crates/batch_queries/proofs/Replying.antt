@@ -1,5 +1,6 @@
 -- The replies to queries are what a script answers to their lines.
-use Rattle.std.proofs.Common.{◌≡◌, ℕ, List, [], ◌∷◌, map, ap, refl, sym, ◌∙◌}
+use Rattle.std.proofs.Common.{◌≡◌, ℕ, List, [], ◌∷◌, length, map, ap, refl, sym, ◌∙◌}
+use Rattle.std.proofs.lemmas.List.{length-map}
 use Rattle.documents.specs.Documents.{hits}
 use Rattle.script_lang.specs.Replies.{found_of, hits_text, near_text}
 use Rattle.script_lang.specs.Requests.{Request}
@@ -34,3 +35,7 @@ pub replies_told : (D : ℕ) (i : Index) (queries : List (Query D)) (replies : L
     → replies ≡ map (reply_of D i.docs) queries → map request_of queries ≡ asked → map text_of_reply replies ≡ map (reply_text i) asked
 replies_told D i queries replies asked dims are is =
     ap (λ (rs : List Reply). map text_of_reply rs) are ∙ each_told D i dims queries ∙ ap (λ (qs : List Request). map (reply_text i) qs) is
+
+-- as many as there are of a list are as many as there are of what it is mapped to
+pub counted_through : {X Y : Type 0} (f : X → Y) (xs : List X) (ys : List Y) (n : ℕ) → n ≡ length xs → map f xs ≡ ys → n ≡ length ys
+counted_through f xs ys n counted is = counted ∙ sym (length-map xs f) ∙ ap length is

@@ -4,7 +4,7 @@ use Rattle.std.proofs.lemmas.Bool.{false≢true}
 use Rattle.outer_io.specs.Files.{Files}
 use Rattle.script_lang.specs.Lines.{lines_of}
 use Rattle.stored_index.specs.Stored.{IsStored}
-use Rattle.command_words.specs.Commands.{Asked, Run, Load, Explain, Check, Generate, Session, Count, Ranges, Batch, said}
+use Rattle.command_words.specs.Commands.{Asked, Run, Load, Explain, Check, Generate, Session, Count, Ranges, Batch, MergingBatch, said}
 use Rattle.command_words.specs.declared.Words.{Words}
 use Rattle.drawn_points.specs.Generated.{generated}
 use Rattle.explain_queries.specs.Explained.{IsScope, Scope, silence}
@@ -13,6 +13,7 @@ use Rattle.run_status.specs.Told as telling
 use Rattle.count_queries.specs.Counted as counts
 use Rattle.batch_queries.specs.Batched.{TellsBatch}
 use Rattle.batch_queries.specs.Ends.{EndsBatch}
+use Rattle.batch_queries.specs.Merging.{EndsMerging, MergeLeaves}
 use Rattle.bkd_top.specs.Calls.{Call, LeavesAsked, OnAsked, TakesInput, WholeLeaves}
 use Rattle.bkd_top.specs.Checking.{EndsCheck}
 use Rattle.bkd_top.specs.Commands.{Before, EndsAsked, EndsExplain, EndsWhole, reads_input, reads_whole}
@@ -72,6 +73,7 @@ no_memory_ends told (Count cache) b files new keeps same still =
       text = λ t. still t ∙ sym (append-nil b.written);
     }
 no_memory_ends told (Batch forks) b files new keeps same still = still
+no_memory_ends told (MergingBatch forks) b files new keeps same still = inl still
 
 -- what passes a test of what is asked does not fail it
 pub is_so : {P : Type 0} (test : Asked → Bool) (w : Words) (a : Asked) → said w ≡ a → test a ≡ true → test (said w) ≡ false → P
@@ -91,6 +93,7 @@ whole_reads (Session cache forks) e = refl
 whole_reads (Count cache) e = refl
 whole_reads (Ranges cache forks) e = refl
 whole_reads (Batch forks) e = refl
+whole_reads (MergingBatch forks) e = refl
 
 -- each command ends as its own definition says
 module _ (told : Type 0) (w : Words) (b : Before) (files : Files) (new : List ℕ) (s : Status) where
@@ -124,6 +127,10 @@ module _ (told : Type 0) (w : Words) (b : Before) (files : Files) (new : List �
   pub batch_ends : (forks : ℕ) → said w ≡ Batch forks → EndsBatch told (TellsBatch b.state) (lines_of b.input) b.written new s → EndsAsked told (said w) b files new s
   batch_ends forks is ends = subst (λ (a : Asked). EndsAsked told a b files new s) (sym is) ends
 
+  pub merging_ends : (forks : ℕ) → said w ≡ MergingBatch forks → EndsMerging told (TellsBatch b.state) (lines_of b.input) b.written new s
+      → EndsAsked told (said w) b files new s
+  merging_ends forks is ends = subst (λ (a : Asked). EndsAsked told a b files new s) (sym is) ends
+
 -- what is asked isn't nothing
 pub is_none_and : {P : Type 0} (a : Asked) (o : Option Asked) → o ≡ None → o ≡ Some a → P
 is_none_and a o none some = absurd (apart (sym none ∙ some))
@@ -148,6 +155,7 @@ taken_whole (Session cache forks) left now s e takes = absurd (false≢true e)
 taken_whole (Count cache) left now s e takes = takes
 taken_whole (Ranges cache forks) left now s e takes = takes
 taken_whole (Batch forks) left now s e takes = takes
+taken_whole (MergingBatch forks) left now s e takes = takes
 
 -- for want of memory nothing was read
 no_input : (left now : List ℕ) → ReadsInput left now status.Memory
@@ -164,6 +172,7 @@ none_taken (Some (Session cache forks)) left now = λ answer. absurd answer
 none_taken (Some (Count cache)) left now = no_input left now
 none_taken (Some (Ranges cache forks)) left now = no_input left now
 none_taken (Some (Batch forks)) left now = no_input left now
+none_taken (Some (MergingBatch forks)) left now = no_input left now
 
 -- ---- what is left
 
@@ -188,6 +197,9 @@ left_by w a c s is leaves = subst (λ (b : Asked). LeavesAsked b c s) (sym is) l
 no_whole : (files : Files) → WholeLeaves files files status.Memory
 no_whole files = record { levels = λ state h a. absurd a; undone = inl (kept_itself files) }
 
+no_merge : (files : Files) → MergeLeaves files files status.Memory
+no_merge files = record { stored = λ state h. h; kept = inl (kept_itself files); merged = λ a. absurd a; levels = λ a. absurd a; canon = λ a. absurd a }
+
 -- where memory was wanting before anything was done each command has left what was there
 none_left_of : (a : Asked) (source sink : Bool) (input written : List ℕ) (files : Files) (reads : ℕ)
     → LeavesAsked a (record { source = source; sink = sink; input = input; old = files; new = files; written = written; written_now = written; before = reads; now = reads })
@@ -199,6 +211,7 @@ none_left_of (Explain cache) source sink input written files reads = record { fi
 none_left_of (Count cache) source sink input written files reads = record { files = refl; reads = λ told pages opening scope is t tells. omega arith }
 none_left_of (Batch forks) source sink input written files reads =
     record { files = refl; reads = λ answer. absurd answer; stored = λ some. absurd (some tt); unwritten = λ none. refl }
+none_left_of (MergingBatch forks) source sink input written files reads = no_merge files
 none_left_of (Load columns forks) source sink input written files reads = no_whole files
 none_left_of (Generate docs seed forks) source sink input written files reads = no_whole files
 none_left_of Check source sink input written files reads = record { ends = λ told. refl; files = refl; reads = λ pages is. omega arith; named = tt }

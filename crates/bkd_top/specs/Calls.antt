@@ -4,6 +4,7 @@ use Rattle.std.specs.Prelude.{ℕ, ◌≡◌, ◌⊎◌, Bool, IsTrue, List, [],
 use Rattle.outer_io.specs.Files.{Files}
 use Rattle.script_lang.specs.Lines.{lines_of}
 use Rattle.command_words.specs.Commands.{Asked, Run, Load, Explain, Check, Generate, Session, Count, Ranges, Batch}
+use Rattle.command_words.specs.Commands.{MergingBatch}
 use Rattle.index_model.specs.State.{State}
 use Rattle.stored_index.specs.Stored.{IsStored}
 use Rattle.index_opening.specs.Evidence.{IsEvident}
@@ -16,6 +17,7 @@ use Rattle.script_run.specs.declared.language.Language.TheVariants as language
 use Rattle.run_status.specs.Causes.{ReadsInput}
 use Rattle.count_queries.specs.Counts as counts
 use Rattle.batch_queries.specs.Ends.{LeavesNoText, ReadsOnce, StoresSome}
+use Rattle.batch_queries.specs.Merging.{MergeLeaves}
 use Rattle.bkd_top.specs.Checking.{Checks}
 use Rattle.bkd_top.specs.Commands.{ReadsFew}
 
@@ -41,6 +43,7 @@ TakesInput (Session cache forks) left now s = IsAnswer s → now ≡ []
 TakesInput (Count cache) left now s = ReadsInput left now s
 TakesInput (Ranges cache forks) left now s = ReadsInput left now s
 TakesInput (Batch forks) left now s = ReadsInput left now s
+TakesInput (MergingBatch forks) left now s = ReadsInput left now s
 TakesInput Check left now s = Unit {0}
 TakesInput (Generate docs seed forks) left now s = Unit {0}
 
@@ -103,4 +106,5 @@ LeavesAsked (Load columns forks) c s = WholeLeaves c.old c.new s
 LeavesAsked (Generate docs seed forks) c s = WholeLeaves c.old c.new s
 LeavesAsked (Count cache) c s = CountCosts (IsTrue c.source) (lines_of c.input) c.old c.new c.before c.now
 LeavesAsked (Batch forks) c s = BatchLeaves c s
+LeavesAsked (MergingBatch forks) c s = MergeLeaves c.old c.new s
 LeavesAsked Check c s = Checks (IsTrue c.sink) c.old c.new c.written c.written_now c.before c.now s

@@ -10,6 +10,7 @@ use Rattle.index_model.specs.Script.{Answer}
 use Rattle.stored_index.specs.Stored.{IsStored}
 use Rattle.stored_index.specs.Opening.{IsOpening, segments_pages}
 use Rattle.command_words.specs.Commands.{Asked, Run, Load, Explain, Check, Generate, Session, Count, Ranges, Batch}
+use Rattle.command_words.specs.Commands.{MergingBatch}
 use Rattle.load_points.specs.Loaded.{load_answer}
 use Rattle.drawn_points.specs.Generated.{generated}
 use Rattle.explain_queries.specs.Explained.{Scope, IsScope, Told, TellsLine, TellsLines}
@@ -17,6 +18,7 @@ use Rattle.count_queries.specs.Counted as counts
 use Rattle.script_run.specs.Languages.{meaning}
 use Rattle.batch_queries.specs.Batched.{TellsBatch}
 use Rattle.batch_queries.specs.Ends.{EndsBatch}
+use Rattle.batch_queries.specs.Merging.{EndsMerging}
 use Rattle.script_run.specs.Progress.{start}
 use Rattle.script_run.specs.RangeScript.{AreRanges, EndsRanges}
 use Rattle.script_run.specs.Runs.{Ends, EndsSession}
@@ -41,6 +43,7 @@ reads_input (Session cache forks) = true
 reads_input (Count cache) = true
 reads_input (Ranges cache forks) = true
 reads_input (Batch forks) = true
+reads_input (MergingBatch forks) = true
 
 -- its lines are done as they come, and no input is too large
 abbrev pub is_session : Asked → Bool
@@ -213,3 +216,5 @@ EndsAsked told (Count cache) b files new s =
 EndsAsked told (Ranges cache forks) b files new s =
     AreRanges b.state → EndsRanges told (start b.state (lines_of b.input) b.written) files new s
 EndsAsked told (Batch forks) b files new s = EndsBatch told (TellsBatch b.state) (lines_of b.input) b.written new s
+EndsAsked told (MergingBatch forks) b files new s =
+    EndsMerging told (TellsBatch b.state) (lines_of b.input) b.written new s

@@ -15,7 +15,7 @@ use crate::check::run_check;
 use crate::explain::run_explain;
 use crate::loads::{run_generate, run_load};
 use crate::scripts::{run_ranges, run_script, run_session};
-use batch_queries::run_batch;
+use batch_queries::{run_batch, run_merging_batch};
 use bkd_build::Gate;
 use command_words::{Words, WordsFault, read_words};
 use count_queries::run_count;
@@ -38,7 +38,7 @@ use std::thread::Threads;
 /// | `session` | does the lines of a script as `run` does, each as soon as it has come |
 /// | `count` | says how many live points lie in a box, or in each bucket of a grid |
 /// | `ranges` | does the lines of a script over documents that have ranges, as `run` does those over points |
-/// | `batch` | answers queries from a copy of the index in memory, parts of the list beside each other |
+/// | `batch` | answers queries from a copy of the index in memory by threads; segments may be merged beside that |
 ///
 /// **The headline.** On a folder that stores an index, or none, what `run` writes is, line for line, what a scan of the
 /// live documents answers to the script's adds, deletes and queries, whatever flushes, merges, snapshots and
@@ -176,5 +176,8 @@ fn run_command<S: Source, F: Folder, K: Sink, R: Threads + Sync, G: Gate>(
             run_ranges(rt, alloc, settings, input, folder, out, gate)
         }
         Words::Batch { forks } => run_batch(rt, alloc, forks, input, folder, out, gate),
+        Words::MergingBatch { forks } => {
+            run_merging_batch(rt, alloc, forks, input, folder, out, gate)
+        }
     }
 }

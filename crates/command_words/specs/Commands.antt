@@ -1,11 +1,12 @@
 -- What the words of the command line ask for: a folder, the name of a command, and the command's options, which `clap`
 -- reads.
 use Rattle.std.specs.Prelude.{ℕ, ◌≤◌, ◌==◌, ◌&&◌, Bool, true, not, nat_le, if◌then◌else◌, List, [], ◌∷◌, length, fold}
-use Rattle.std.specs.Prelude.{find, Option, Some, None, unwrap_or, option_and_then, option_map, codes, pos, All}
+use Rattle.std.specs.Prelude.{find, false, Option, Some, None, unwrap_or, option_and_then, option_map, codes, pos, All}
 use Rattle.std.specs.List.{list_all, slice_split}
 use Rattle.std.specs.Str.{bytes_eq}
 use Rattle.std.specs.Str.Parse.{digits_value, without_leading_sign}
 use Rattle.clap.specs.Words.{App, Row, Rule, Kinds, new_app, new_rule, with_rule, first_of, matches_of, fault_of}
+use Rattle.clap.specs.declared.builder.action.ArgAction.TheVariants.{SetTrue}
 use Rattle.clap.specs.declared.builder.value_parser.ValueParser.TheVariants as parser
 use Rattle.command_words.specs.declared.Words.{Words}
 use Rattle.command_words.specs.declared.Words.TheVariants as words
@@ -21,6 +22,7 @@ pub data Asked : Type 0 where
   Count : (cache : ℕ) → Asked
   Ranges : (cache forks : ℕ) → Asked
   Batch : (forks : ℕ) → Asked
+  MergingBatch : (forks : ℕ) → Asked
 
 -- ---- the options
 
@@ -32,6 +34,10 @@ text_option name = record (new_rule name) { long = Some name }
 abbrev pub number_option : List ℕ → ℕ → ℕ → Rule
 number_option name least greatest =
     record (text_option name) { parser = Some (parser.Signed (pos least) (pos greatest)) }
+
+-- `--name`, without a value
+abbrev pub flag : List ℕ → Rule
+flag name = record (text_option name) { action = Some SetTrue }
 
 -- an option that may not be left out
 abbrev pub required : Rule → Rule
@@ -52,6 +58,9 @@ docs = required (number_option (codes "docs") 1 1000000)
 abbrev pub seed : Rule
 seed = required (number_option (codes "seed") 1 2147483646)
 
+abbrev pub merge : Rule
+merge = flag (codes "merge")
+
 -- ---- what is found for them
 
 -- the number that is read from a text, where the range has no negative number
@@ -67,6 +76,14 @@ cache_by found = unwrap_or (number_by cache found) 1024
 
 abbrev pub forks_by : List Row → ℕ
 forks_by found = unwrap_or (number_by forks found) 1
+
+-- a flag is set: its text is then `true`, which no word can say otherwise
+abbrev pub is_true : Option (List ℕ) → Bool
+is_true None = false
+is_true (Some text) = bytes_eq text (codes "true")
+
+abbrev pub is_set : List ℕ → List Row → Bool
+is_set name found = is_true (first_of name found)
 
 -- the names between the commas of a text: 1 to 8, none of them empty
 unfoldable pub are_names : List (List ℕ) → Bool
@@ -149,8 +166,8 @@ ranges = record {
 abbrev pub batch : Form
 batch = record {
   name = codes "batch";
-  options = forks ∷ [];
-  asks = λ found. Some (Batch (forks_by found));
+  options = forks ∷ merge ∷ [];
+  asks = λ found. Some (if is_set merge.id found then MergingBatch (forks_by found) else Batch (forks_by found));
 }
 
 abbrev pub forms : List Form
@@ -193,6 +210,7 @@ said (words.Session cache_pages forks) = Session cache_pages forks
 said (words.Count cache_pages) = Count cache_pages
 said (words.Ranges cache_pages forks) = Ranges cache_pages forks
 said (words.Batch forks) = Batch forks
+said (words.MergingBatch forks) = MergingBatch forks
 
 -- ---- the ranges
 
@@ -211,3 +229,4 @@ IsWithin (words.Session cache_pages forks) = (1 ≤ cache_pages) × (cache_pages
 IsWithin (words.Count cache_pages) = (1 ≤ cache_pages) × (cache_pages ≤ 65536)
 IsWithin (words.Ranges cache_pages forks) = (1 ≤ cache_pages) × (cache_pages ≤ 65536) × (forks ≤ 6)
 IsWithin (words.Batch forks) = forks ≤ 6
+IsWithin (words.MergingBatch forks) = forks ≤ 6

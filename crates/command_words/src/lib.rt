@@ -37,6 +37,8 @@ pub enum Words {
     Ranges { cache_pages: u32, forks: u8 },
     /// Answers a list of queries at once: levels of the list that fork, 0 to 6.
     Batch { forks: u8 },
+    /// The same, and merges the segments beside it.
+    MergingBatch { forks: u8 },
 }
 
 /// Why words are no command.
@@ -81,7 +83,7 @@ impl<T: Drop> From<AllocFailed<T>> for WordsFault {
 /// | `FOLDER session [--cache N] [--forks N]` | cache 1,024; forks 1 |
 /// | `FOLDER count [--cache N]` | cache 1,024 |
 /// | `FOLDER ranges [--cache N] [--forks N]` | cache 1,024; forks 1 |
-/// | `FOLDER batch [--forks N]` | forks 1 |
+/// | `FOLDER batch [--forks N] [--merge]` | forks 1; nothing is merged |
 pub fn read_words(alloc: Global, words: &[String]) -> Result<Words, WordsFault>
     ensures words { IfOk result (λ w. asked (map string_bytes words.now) ≡ Some (said w)) }
     ensures usage { result ≡ Err WordsFault.Usage → asked (map string_bytes words.now) ≡ None }

@@ -4,12 +4,12 @@ ghost use Rattle.std.specs.Prelude.{◌≡◌, ◌≢◌, ◌≤◌, ◌==◌, f
 ghost use Rattle.std.specs.List.{slice_split};
 ghost use Rattle.clap.specs.Words.{first_of, found_of, rows_of, rule_of};
 ghost use Rattle.command_words.specs.Commands.{AreColumns, text_option, number_option, number_of, are_names};
-ghost use Rattle.command_words.specs.Commands.{columns_by, names_of};
+ghost use Rattle.command_words.specs.Commands.{columns_by, flag, is_set, names_of};
 ghost use Rattle.command_words.specs.Found.{IsFound};
 
 use crate::WordsFault;
 use byte_cursor::Bytes;
-use clap::{Arg, ArgMatches, value_parser};
+use clap::{Arg, ArgAction, ArgMatches, value_parser};
 use std::alloc::{AllocError, Global};
 
 /// How many columns a point may have.
@@ -17,6 +17,9 @@ const MOST_COLUMNS: usize = 8;
 
 /// The option that names columns.
 pub(crate) const COLUMNS: &str = "columns";
+
+/// The flag that merges segments beside a batch.
+pub(crate) const MERGE: &str = "merge";
 
 /// An option that takes a number from `least` to `greatest`, as `--cache 16`.
 #[derive(Clone, Copy)]
@@ -76,6 +79,24 @@ pub(crate) fn text_option<'a>(alloc: Global, name: &'a str) -> Arg<'a>
     ensures local { result.global ≡ false }
 {
     Arg::new(alloc, name).long(name)
+}
+
+/// An option without a value, which is set or not.
+pub(crate) fn flag<'a>(alloc: Global, name: &'a str) -> Arg<'a>
+    ensures rule { rule_of result ≡ flag name.entry.now }
+    ensures local { result.global ≡ false }
+{
+    text_option(alloc, name).action(ArgAction::SetTrue)
+}
+
+/// Whether the words set a flag.
+pub(crate) fn has_flag(matches: &ArgMatches<'_>, name: &str) -> bool
+    ensures { result ≡ is_set name.now (rows_of (found_of matches.now)) }
+{
+    match matches.get_str(name) {
+        Some(text) => text == "true",
+        None => false,
+    }
 }
 
 /// The columns that the words name.

@@ -6,7 +6,9 @@ ghost use Rattle.command_words.specs.Commands.{IsWithin, asked_by, command_of, s
 ghost use Rattle.command_words.specs.Commands.{check, generate, session, count, ranges, batch};
 ghost use Rattle.command_words.specs.Found.{AreFound, is_plain};
 
-use crate::options::{CACHE, COLUMNS, DOCS, FORKS, SEED, columns_by, text_option};
+use crate::options::{
+    CACHE, COLUMNS, DOCS, FORKS, MERGE, SEED, columns_by, flag, has_flag, text_option,
+};
 use crate::{Words, WordsFault};
 use clap::error::ErrorKind;
 use clap::{ArgMatches, Command, Error};
@@ -124,7 +126,7 @@ pub(crate) fn read_ranges(alloc: Global, words: &[String]) -> Result<Words, Word
     })
 }
 
-/// `batch [--forks N]`
+/// `batch [--forks N] [--merge]`
 pub(crate) fn read_batch(alloc: Global, words: &[String]) -> Result<Words, WordsFault>
     ensures words { IfOk result (λ w. asked_by batch (map string_bytes words.now) ≡ Some (said w)) }
     ensures usage { result ≡ Err WordsFault.Usage → asked_by batch (map string_bytes words.now) ≡ None }
@@ -132,9 +134,12 @@ pub(crate) fn read_batch(alloc: Global, words: &[String]) -> Result<Words, Words
 {
     let command = batch_command(alloc)?;
     let matches = parse(command, words)?;
-    Ok(Words::Batch {
-        forks: FORKS.read(&matches).unwrap_or(FORK_LEVELS) as u8,
-    })
+    let forks = FORKS.read(&matches).unwrap_or(FORK_LEVELS) as u8;
+    if has_flag(&matches, MERGE) {
+        Ok(Words::MergingBatch { forks })
+    } else {
+        Ok(Words::Batch { forks })
+    }
 }
 
 fn run_command<'a>(alloc: Global) -> Result<Command<'a>, AllocError>
@@ -193,7 +198,9 @@ fn ranges_command<'a>(alloc: Global) -> Result<Command<'a>, AllocError>
 fn batch_command<'a>(alloc: Global) -> Result<Command<'a>, AllocError>
     ensures { IfOk result (λ c. app_of c ≡ command_of batch) }
 {
-    Command::new(alloc, "batch").arg(FORKS.arg(alloc))
+    Command::new(alloc, "batch")
+        .arg(FORKS.arg(alloc))?
+        .arg(flag(alloc, MERGE))
 }
 
 /// What the command finds in the words.

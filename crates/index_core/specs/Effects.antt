@@ -1,10 +1,13 @@
 -- What done commands on segments leave of a set: the documents stay, and segments, buffer and begun merge are as these
 -- say.
-use Rattle.std.specs.Prelude.{◌≡◌, ◌≤◌, ◌⊎◌, ℕ, true, List, [], length, All, Contains, None, Some, Result, Ok, Err}
+use Rattle.std.specs.Prelude.{◌≡◌, ◌≤◌, ◌⊎◌, ℕ, true, false, List, [], length, All, Contains, None, Some, Result, Ok}
+use Rattle.std.specs.Prelude.{Err}
+use Rattle.outer_io.specs.declared.file_name.FileName.{FileName}
 use Rattle.outer_io.specs.declared.file_name.FileName.TheVariants.{Segment}
 use Rattle.outer_io.specs.Files.{Files}
 use Rattle.page_cache.specs.declared.faults.PageFault.{PageFault}
 use Rattle.live_bits.specs.LiveSet.{is_live}
+use Rattle.documents.specs.Entries.{is_among}
 use Rattle.merge_policy.specs.Choice.{free_count}
 use Rattle.script_lang.specs.Requests.{Request}
 use Rattle.script_lang.specs.Requests as asks
@@ -12,6 +15,7 @@ use Rattle.index_model.specs.State.{Index}
 use Rattle.index_model.specs.declared.session.Applied.{Applied}
 use Rattle.index_model.specs.declared.session.Applied.TheVariants as applied
 use Rattle.segment_view.specs.Parts.{Contents, Part, ids_of}
+use Rattle.file_names.specs.Names.{is_named}
 use Rattle.segment_set.specs.Sets.{BegunMerge, SetData, pins_of, sizes_of}
 use Rattle.segment_set.specs.Seen.{Sees, StandsOver}
 use Rattle.segment_set.specs.Kept.{AreCanonical, HasCanonical, StaysButMerge}
@@ -71,10 +75,14 @@ pub record HasBegun (positions : List ℕ) (s t : SetData) : Type 0 where
   pub inputs : (b : BegunMerge) × (t.begun ≡ Some b) × (b.inputs ≡ chosen_ids positions (ids_of s.parts))
   pub alone : StaysButMerge s t
 
--- what the begun merge had built took the place of its inputs
+-- What the begun merge had built took the place of its inputs: no segment of now has the id of one. What was named is
+-- named still.
 pub record HasEnded (D : ℕ) (told : Type 0) (files : Files) (s t : SetData) : Type 0 where
   pub ended : t.begun ≡ None
   pub parts : (b : BegunMerge) → s.begun ≡ Some b → IsEnded b s.parts t.parts
+  pub gone : (b : BegunMerge) → s.begun ≡ Some b → (p : Part) → Contains t.parts p
+      → is_among b.inputs p.head.id ≡ false
+  pub named : (m : FileName) → is_named s.names.names m ≡ true → is_named t.names.names m ≡ true
   pub buffer : t.buffer ≡ s.buffer
   pub canon : told → AreCanonical D files s.names t.parts
 

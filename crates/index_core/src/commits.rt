@@ -23,7 +23,7 @@ ghost use Rattle.segment_set.specs.Faithful.{IsFaithful};
 ghost use Rattle.segment_view.specs.Parts.{Part};
 ghost use Rattle.segment_set.specs.Sets.{IsNamed, IsSettled};
 ghost use Rattle.file_names.specs.Names.{is_named};
-ghost use Rattle.segment_set.specs.Kept.{IsCommitOf, IsNeeded, StaysButFiles};
+ghost use Rattle.segment_set.specs.Kept.{Follows, IsCommitOf, IsNeeded, StaysButFiles};
 ghost use Rattle.index_core.specs.Sessions.{AreTraced, Guards, GuardsSet, IsCommitAnew, IsSound, IsUnchanged, Trusts};
 ghost use Rattle.index_core.specs.Closed.{IsClosed, IsIdle, IsTracked, NamesOnlyListed};
 ghost use Rattle.index_core.specs.Costs.{ReadsAtMost};
@@ -83,9 +83,10 @@ impl<const D: usize> Session<D> {
         // what is not done loses nothing that is kept, and after a damage no commit is in flight
         ensures undone { IsTrue F.told → Guards D (F.files folder.old) self.old
             → KeepsUndone (F.files folder.old) (F.files folder.new) result }
-        // each segment that is written is canonical, whatever is answered
+        // each segment that is written is canonical, whatever is answered, and has a name that wasn't in the list
         ensures canon { IsTrue F.told
             → BringsCanonical D (F.files folder.old) (F.files folder.new) self.old.set.parts self.new.set.parts }
+        ensures follows { Follows self.old.set.names self.old.set.parts self.new.set.parts }
         ensures cause { HasPageCause (F.faults folder.old) (F.faults folder.new) result }
         ensures whole { IsTrue F.told → (i : Index) → Sees D (F.files folder.old) self.old.set i → NotDamaged result }
         // what a damage shows

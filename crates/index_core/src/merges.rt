@@ -126,6 +126,8 @@ impl<const D: usize> Session<D> {
             return Ok(Applied::Refused(Refusal::NotBegun));
         }
         put_ok(out)?;
+        // the inputs of the begun merge are named
+        let _leaf = self.set.leaf();
         end_answer(self.set.merge_end(alloc, folder))
     }
 }

@@ -4,7 +4,7 @@ use std::alloc::Global;
 use std::test::Fail;
 
 /// Commands with what is read of them.
-const COMMANDS: [(&str, &str); 15] = [
+const COMMANDS: [(&str, &str); 18] = [
     (". run", "Run { cache_pages: 1024, forks: 1 }"),
     (". run --", "Run { cache_pages: 1024, forks: 1 }"),
     ("run run --cache 1", "Run { cache_pages: 1, forks: 1 }"),
@@ -47,10 +47,13 @@ const COMMANDS: [(&str, &str); 15] = [
         ". generate --forks 0 --docs 007 --seed +9",
         "Generate { docs: 7, seed: 9, forks: 0 }",
     ),
+    (". batch --forks 2", "Batch { forks: 2 }"),
+    (". batch --merge", "MergingBatch { forks: 1 }"),
+    (". batch --merge --forks=0", "MergingBatch { forks: 0 }"),
 ];
 
 /// Words that are none of a command.
-const REFUSED: [&str; 42] = [
+const REFUSED: [&str; 46] = [
     ".",
     ". scan",
     ". Run",
@@ -93,6 +96,10 @@ const REFUSED: [&str; 42] = [
     ". generate --docs 1000001 --seed 1",
     ". generate --docs 1 --seed 0",
     ". generate --docs 1 --seed 2147483647",
+    ". batch --merge true",
+    ". batch --merge=true",
+    ". batch merge",
+    ". run --merge",
 ];
 
 /// The words between single spaces.

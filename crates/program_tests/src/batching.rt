@@ -26,6 +26,18 @@ const FORKS: [&[&str]; 8] = [
     &[".", "batch", "--forks", "6"],
 ];
 
+/// The same with a merge beside it.
+pub(crate) const MERGING: [&[&str]; 8] = [
+    &[".", "batch", "--merge"],
+    &[".", "batch", "--merge", "--forks", "0"],
+    &[".", "batch", "--merge", "--forks", "1"],
+    &[".", "batch", "--merge", "--forks", "2"],
+    &[".", "batch", "--merge", "--forks", "3"],
+    &[".", "batch", "--merge", "--forks", "4"],
+    &[".", "batch", "--merge", "--forks", "5"],
+    &[".", "batch", "--merge", "--forks", "6"],
+];
+
 /// What a script leaves, the lines of `batch`, the status, and what is told.
 type Row = (&'static str, &'static str, u8, &'static str);
 
@@ -59,7 +71,7 @@ fn answers_what_scripts_leave(rt: HostRuntime) -> Result<(), Fail> {
     for (script, lines, number, told) in ROWS {
         let mut folder = MemFolder::new(rt.alloc(), Vec::new(rt.alloc()));
         called(&rt, rt.alloc(), &[".", "run"], script, &mut folder)?;
-        for words in FORKS {
+        for words in FORKS.iter().chain(MERGING.iter()) {
             let (status, text) = called(&rt, rt.alloc(), words, lines, &mut folder)?;
             same_at(&rt, text.as_str(), told, &script);
             same(&rt, code(&status), number);
@@ -81,7 +93,7 @@ polygon {\"type\":\"Polygon\",\"coordinates\":[[[0,40000000],[20000000,40000000]
 const OF_CITIES_TOLD: &str = "hits 2\n0\n1\nnear 1\n2 255830545480\nhits 2\n1\n2\n";
 
 /// The folder of the three cities.
-fn cities<R: Threads + Sync>(rt: &R, alloc: Global) -> Result<MemFolder, Fail> {
+pub(crate) fn cities<R: Threads + Sync>(rt: &R, alloc: Global) -> Result<MemFolder, Fail> {
     let mut folder = MemFolder::new(alloc, Vec::new(alloc));
     let words = [".", "load", "--columns", "lon,lat"];
     called(rt, alloc, &words, CITIES, &mut folder)?;
@@ -91,7 +103,7 @@ fn cities<R: Threads + Sync>(rt: &R, alloc: Global) -> Result<MemFolder, Fail> {
 #[test]
 fn answers_of_cities(rt: HostRuntime) -> Result<(), Fail> {
     let mut folder = cities(&rt, rt.alloc())?;
-    for words in FORKS {
+    for words in FORKS.iter().chain(MERGING.iter()) {
         let (status, text) = called(&rt, rt.alloc(), words, OF_CITIES, &mut folder)?;
         same(&rt, text.as_str(), OF_CITIES_TOLD);
         same(&rt, code(&status), 0);
@@ -154,7 +166,7 @@ fn answers_as_run_does(rt: HostRuntime) -> Result<(), Fail> {
         let mut folder = MemFolder::new(rt.alloc(), Vec::new(rt.alloc()));
         called(&rt, rt.alloc(), &[".", "run"], script.as_str(), &mut folder)?;
         let (_, expected) = called(&rt, rt.alloc(), &[".", "run"], lines.as_str(), &mut folder)?;
-        for words in FORKS {
+        for words in FORKS.iter().chain(MERGING.iter()) {
             let (_, text) = called(&rt, rt.alloc(), words, lines.as_str(), &mut folder)?;
             same_at(&rt, text.as_str(), expected.as_str(), &lines);
         }
@@ -178,10 +190,11 @@ fn damage_comes_before_the_text(rt: HostRuntime) -> Result<(), Fail> {
 }
 
 /// Words that are none of the command.
-const OTHER_WORDS: [&[&str]; 3] = [
+const OTHER_WORDS: [&[&str]; 4] = [
     &[".", "batch", "more"],
     &[".", "batch", "--forks", "7"],
     &[".", "batch", "--cache", "16"],
+    &[".", "batch", "--merge", "1"],
 ];
 
 #[test]
@@ -195,7 +208,7 @@ fn other_words_are_refused(rt: HostRuntime) -> Result<(), Fail> {
 }
 
 /// The first two queries of the cities.
-const TWO: &str = "box 0 45000000 15000000 55000000\nnearest 1 12000000 42000000\n";
+pub(crate) const TWO: &str = "box 0 45000000 15000000 55000000\nnearest 1 12000000 42000000\n";
 
 #[test]
 fn halves_run_beside_each_other(rt: HostRuntime) -> Result<(), Fail> {

@@ -25,12 +25,13 @@ fn failing(alloc: Global, folder: &mut MemFolder, stops: bool, call: u64) -> Res
 }
 
 /// A command on what a script leaves, its input, and how the folder may answer a query for all documents afterwards:
-/// as before, or as the command leaves it.
+/// as before, or as the command leaves it. Where a call fails, `begun` may be told, or nothing.
 struct Row {
     script: &'static str,
     words: &'static [&'static str],
     input: &'static str,
     text: &'static str,
+    begun: &'static str,
     before: &'static str,
     after: &'static str,
 }
@@ -40,6 +41,7 @@ const FIRST_LOAD: Row = Row {
     words: &[".", "load", "--columns", "a"],
     input: "a\n5\n6\n",
     text: "loaded 2\nnext 2\n",
+    begun: "",
     before: "line 1: no index\n",
     after: "hits 2\n0\n1\n",
 };
@@ -49,6 +51,7 @@ const SECOND_LOAD: Row = Row {
     words: &[".", "load", "--columns", "a"],
     input: "a\n5\n6\n",
     text: "loaded 2\nnext 4\n",
+    begun: "",
     before: "hits 1\n1\n",
     after: "hits 3\n1\n2\n3\n",
 };
@@ -58,6 +61,7 @@ const GENERATED: Row = Row {
     words: &[".", "generate", "--docs", "2", "--seed", "1"],
     input: "",
     text: "docs 2 live 1\nbox hits 0\nnearest sum 163801049044\n",
+    begun: "",
     before: "line 1: no index\n",
     after: "line 1: wrong words\n",
 };
@@ -67,6 +71,7 @@ const EXPLAINED: Row = Row {
     words: &[".", "explain"],
     input: "box 0 9\nnearest 1 1\n",
     text: "tested 0 touched 1 hits 1\ntouched 1 near 1\n",
+    begun: "tested 0 touched 1 hits 1\n",
     before: "hits 1\n1\n",
     after: "hits 1\n1\n",
 };
@@ -76,6 +81,7 @@ const CHECKED: Row = Row {
     words: &[".", "check"],
     input: "",
     text: "ok dims 1 leaf 500 next 2 live 1 segments 1\n",
+    begun: "",
     before: "hits 1\n1\n",
     after: "hits 1\n1\n",
 };
@@ -85,21 +91,33 @@ const BATCHED: Row = Row {
     words: &[".", "batch"],
     input: "box 0 9\nnearest 1 1\n",
     text: "hits 1\n1\nnear 1\n1 1\n",
+    begun: "",
     before: "hits 1\n1\n",
     after: "hits 1\n1\n",
 };
 
-const ROWS: [&Row; 6] = [
+const MERGED: Row = Row {
+    script: "create 1\nadd 1\nadd 2\nflush\nadd 20\nflush\ndelete 0\n",
+    words: &[".", "batch", "--merge"],
+    input: "box 0 9\nnearest 1 1\n",
+    text: "hits 1\n1\nnear 1\n1 1\n",
+    begun: "hits 1\n1\nnear 1\n1 1\n",
+    before: "hits 1\n1\n",
+    after: "hits 1\n1\n",
+};
+
+const ROWS: [&Row; 7] = [
     &FIRST_LOAD,
     &SECOND_LOAD,
     &GENERATED,
     &EXPLAINED,
     &CHECKED,
     &BATCHED,
+    &MERGED,
 ];
 
 /// Each call on the folder fails in turn, or the program stops before it. Nothing of a command that is done at once
-/// goes out then, and of queries what is told of the first ones.
+/// goes out then, of queries what is told of the first ones, and of a batch with a merge all or nothing.
 fn fails_in_turn<R: Threads + Sync + Abort>(rt: &R, alloc: Global, row: &Row) -> Result<(), Fail> {
     for stops in [false, true] {
         for call in 0..64 {
@@ -155,16 +173,21 @@ fn a_batch_fails(rt: HostRuntime) -> Result<(), Fail> {
     fails_in_turn(&rt, rt.alloc(), &BATCHED)
 }
 
-/// Whether a text is nothing, or what is told of the first query.
+#[test]
+fn a_merging_batch_fails(rt: HostRuntime) -> Result<(), Fail> {
+    fails_in_turn(&rt, rt.alloc(), &MERGED)
+}
+
+/// Whether a text is nothing, or what may be told before a call fails.
 fn is_begun(row: &Row, text: &str) -> bool {
-    text.is_empty() || row.text.starts_with("tested") && text == "tested 0 touched 1 hits 1\n"
+    text.is_empty() || text == row.begun
 }
 
 /// Where the output has no more room, a prefix of the text went out, and what the command leaves is stored.
 #[test]
 fn an_output_without_room(rt: HostRuntime) -> Result<(), Fail> {
     let alloc = rt.alloc();
-    for row in [&FIRST_LOAD, &EXPLAINED, &BATCHED] {
+    for row in [&FIRST_LOAD, &EXPLAINED, &BATCHED, &MERGED] {
         for room in 0..=row.text.len() {
             let mut folder = MemFolder::new(alloc, Vec::new(alloc));
             called(&rt, alloc, &[".", "run"], row.script, &mut folder)?;

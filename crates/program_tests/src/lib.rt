@@ -13,6 +13,8 @@ mod asserts;
 #[cfg(test)]
 mod batching;
 #[cfg(test)]
+mod batching_merges;
+#[cfg(test)]
 mod checked_entries;
 #[cfg(test)]
 mod checked_folders;

@@ -4,7 +4,7 @@ use Rattle.command_words.specs.Commands.{Asked, said}
 use Rattle.bkd_top.specs.Commands.{is_session, reads_input, reads_whole}
 use Rattle.run_status.specs.Ends.{DoesNothing}
 use Rattle.bkd_top.proofs.Commanding.{batch_ends, called, check_ends, count_ends, explain_ends, generate_ends, is_so, left_by, load_ends, ranges_ends, run_ends}
-use Rattle.bkd_top.proofs.Commanding.{session_asked, taken_by}
+use Rattle.bkd_top.proofs.Commanding.{merging_ends, session_asked, taken_by}
 use Rattle.script_run.proofs.Starting.{canonical_still}
 use Rattle.bkd_top.proofs.program.run_command.Goals as goal
 
@@ -196,106 +196,104 @@ returns-in-Check-clause-causes g c = record {
   sink = c.run_check.ensures.sink_fault;
 }
 
-pub returns-in-Count-clause-ends : goal.returns-in-Count-clause-ends
-returns-in-Count-clause-ends g c = λ told state h source.
-    count_ends (IsTrue g.K.Sink.told) c.args.words
-    (record { state = state; files = g.F.Pages.files c.args.folder.now; input = g.S.Source.left c.args.input.now; written = g.K.Sink.written c.args.out.now })
-    (g.F.Pages.files c.run_count.new.folder) (g.K.Sink.written c.run_count.new.out) c.run_count.result
-    _ (ap said c.in-Count.is) (c.run_count.ensures.ends (source (ap (λ (a : Asked). reads_input a) (ap said c.in-Count.is))) told)
+pub returns-in-Count : goal.returns-in-Count
+returns-in-Count g c =
+    let is = ap said c.in-Count.is in
+    let reads = ap (λ (a : Asked). reads_input a) is in
+    let e = c.run_count.ensures in
+    let input = g.S.Source.left c.args.input.now in
+    let old = g.F.Pages.files c.args.folder.now in
+    let new = g.F.Pages.files c.run_count.new.folder in
+    let before = g.K.Sink.written c.args.out.now in let after = g.K.Sink.written c.run_count.new.out in
+    record {
+      never_usage = e.never_usage;
+      ends = λ told state h source. count_ends (IsTrue g.K.Sink.told) c.args.words
+          (record { state = state; files = old; input = input; written = before }) new after c.run_count.result _ is (e.ends (source reads) told);
+      input = λ told. taken_by c.args.words _ input (g.S.Source.left c.run_count.new.input) c.run_count.result is (e.input told);
+      unread = is_so (λ a. reads_input a) c.args.words _ is refl;
+      large = λ w. ap (λ (a : Asked). reads_whole a) is;
+      untouched = λ other. e.untouched;
+      canon = λ told state h a. canonical_still _ _ (e.files told);
+      leaves = λ told. left_by c.args.words _
+          (called g.S.Source.told g.K.Sink.told input old new before after (g.F.Pages.reads c.args.folder.now) (g.F.Pages.reads c.run_count.new.folder))
+          c.run_count.result is (record { files = e.files told; reads = λ source. e.reads source told });
+      damage = record { never = e.whole; evident = e.evident };
+      causes = e.causes;
+    }
 
-pub returns-in-Count-clause-canon : goal.returns-in-Count-clause-canon
-returns-in-Count-clause-canon g c = λ told state h a. canonical_still _ _ (c.run_count.ensures.files told)
+pub returns-in-Ranges : goal.returns-in-Ranges
+returns-in-Ranges g c =
+    let is = ap said c.in-Ranges.is in
+    let reads = ap (λ (a : Asked). reads_input a) is in
+    let e = c.run_ranges.ensures in
+    let input = g.S.Source.left c.args.input.now in
+    let old = g.F.Pages.files c.args.folder.now in
+    let new = g.F.Pages.files c.run_ranges.new.folder in
+    let before = g.K.Sink.written c.args.out.now in let after = g.K.Sink.written c.run_ranges.new.out in
+    record {
+      never_usage = e.never_usage;
+      ends = λ told state h source. ranges_ends (IsTrue g.K.Sink.told) c.args.words
+          (record { state = state; files = old; input = input; written = before }) new after c.run_ranges.result _ _ is (e.ends (source reads) told state h);
+      input = λ told. taken_by c.args.words _ input (g.S.Source.left c.run_ranges.new.input) c.run_ranges.result is (e.input told);
+      unread = is_so (λ a. reads_input a) c.args.words _ is refl;
+      large = λ w. ap (λ (a : Asked). reads_whole a) is;
+      untouched = λ other. e.untouched;
+      canon = e.canon;
+      leaves = λ told. left_by c.args.words _
+          (called g.S.Source.told g.K.Sink.told input old new before after (g.F.Pages.reads c.args.folder.now) (g.F.Pages.reads c.run_ranges.new.folder))
+          c.run_ranges.result is (λ source. e.costs source told);
+      damage = e.damage;
+      causes = e.causes;
+    }
 
-pub returns-in-Count-clause-unread : goal.returns-in-Count-clause-unread
-returns-in-Count-clause-unread g c = is_so (λ a. reads_input a) c.args.words _ (ap said c.in-Count.is) refl
+pub returns-in-Batch : goal.returns-in-Batch
+returns-in-Batch g c =
+    let is = ap said c.in-Batch.is in
+    let reads = ap (λ (a : Asked). reads_input a) is in
+    let e = c.run_batch.ensures in
+    let input = g.S.Source.left c.args.input.now in
+    let old = g.F.Pages.files c.args.folder.now in
+    let new = g.F.Pages.files c.run_batch.new.folder in
+    let before = g.K.Sink.written c.args.out.now in let after = g.K.Sink.written c.run_batch.new.out in
+    record {
+      never_usage = e.never_usage;
+      ends = λ told state h source. batch_ends (IsTrue g.K.Sink.told) c.args.words
+          (record { state = state; files = old; input = input; written = before }) new after c.run_batch.result _ is (e.ends (source reads) told state h);
+      input = λ told. taken_by c.args.words _ input (g.S.Source.left c.run_batch.new.input) c.run_batch.result is (e.input told);
+      unread = is_so (λ a. reads_input a) c.args.words _ is refl;
+      large = λ w. ap (λ (a : Asked). reads_whole a) is;
+      untouched = λ other. e.untouched;
+      canon = λ told state h a. canonical_still _ _ (e.files told);
+      leaves = λ told. left_by c.args.words _
+          (called g.S.Source.told g.K.Sink.told input old new before after (g.F.Pages.reads c.args.folder.now) (g.F.Pages.reads c.run_batch.new.folder))
+          c.run_batch.result is
+          (record { files = e.files told; reads = e.reads told; stored = e.stored told; unwritten = λ none. ap g.K.Sink.written (e.unwritten none) });
+      damage = record { never = e.whole; evident = e.evident };
+      causes = e.causes;
+    }
 
-pub returns-in-Count-clause-large : goal.returns-in-Count-clause-large
-returns-in-Count-clause-large g c = λ e. ap (λ (a : Asked). reads_whole a) (ap said c.in-Count.is)
-
-pub returns-in-Count-clause-untouched : goal.returns-in-Count-clause-untouched
-returns-in-Count-clause-untouched g c = λ other. c.run_count.ensures.untouched
-
-pub returns-in-Count-clause-input : goal.returns-in-Count-clause-input
-returns-in-Count-clause-input g c = λ told.
-    taken_by c.args.words _ (g.S.Source.left c.args.input.now) (g.S.Source.left c.run_count.new.input) c.run_count.result
-    (ap said c.in-Count.is) (c.run_count.ensures.input told)
-
-pub returns-in-Count-clause-damage : goal.returns-in-Count-clause-damage
-returns-in-Count-clause-damage g c = record { never = c.run_count.ensures.whole; evident = c.run_count.ensures.evident }
-
-pub returns-in-Count-clause-leaves : goal.returns-in-Count-clause-leaves
-returns-in-Count-clause-leaves g c = λ told.
-    left_by c.args.words _
-    (called g.S.Source.told g.K.Sink.told (g.S.Source.left c.args.input.now) (g.F.Pages.files c.args.folder.now) (g.F.Pages.files c.run_count.new.folder)
-    (g.K.Sink.written c.args.out.now) (g.K.Sink.written c.run_count.new.out) (g.F.Pages.reads c.args.folder.now) (g.F.Pages.reads c.run_count.new.folder))
-    c.run_count.result (ap said c.in-Count.is) (record { files = c.run_count.ensures.files told; reads = λ source. c.run_count.ensures.reads source told })
-
-pub returns-in-Ranges-clause-ends : goal.returns-in-Ranges-clause-ends
-returns-in-Ranges-clause-ends g c = λ told state h source.
-    ranges_ends (IsTrue g.K.Sink.told) c.args.words
-    (record { state = state; files = g.F.Pages.files c.args.folder.now; input = g.S.Source.left c.args.input.now; written = g.K.Sink.written c.args.out.now })
-    (g.F.Pages.files c.run_ranges.new.folder) (g.K.Sink.written c.run_ranges.new.out) c.run_ranges.result
-    _ _ (ap said c.in-Ranges.is) (c.run_ranges.ensures.ends (source (ap (λ (a : Asked). reads_input a) (ap said c.in-Ranges.is))) told state h)
-
-pub returns-in-Ranges-clause-canon : goal.returns-in-Ranges-clause-canon
-returns-in-Ranges-clause-canon g c = c.run_ranges.ensures.canon
-
-pub returns-in-Ranges-clause-unread : goal.returns-in-Ranges-clause-unread
-returns-in-Ranges-clause-unread g c = is_so (λ a. reads_input a) c.args.words _ (ap said c.in-Ranges.is) refl
-
-pub returns-in-Ranges-clause-large : goal.returns-in-Ranges-clause-large
-returns-in-Ranges-clause-large g c = λ e. ap (λ (a : Asked). reads_whole a) (ap said c.in-Ranges.is)
-
-pub returns-in-Ranges-clause-untouched : goal.returns-in-Ranges-clause-untouched
-returns-in-Ranges-clause-untouched g c = λ other. c.run_ranges.ensures.untouched
-
-pub returns-in-Ranges-clause-input : goal.returns-in-Ranges-clause-input
-returns-in-Ranges-clause-input g c = λ told.
-    taken_by c.args.words _ (g.S.Source.left c.args.input.now) (g.S.Source.left c.run_ranges.new.input)
-    c.run_ranges.result (ap said c.in-Ranges.is) (c.run_ranges.ensures.input told)
-
-pub returns-in-Ranges-clause-leaves : goal.returns-in-Ranges-clause-leaves
-returns-in-Ranges-clause-leaves g c = λ told.
-    left_by c.args.words _
-    (called g.S.Source.told g.K.Sink.told (g.S.Source.left c.args.input.now) (g.F.Pages.files c.args.folder.now) (g.F.Pages.files c.run_ranges.new.folder)
-    (g.K.Sink.written c.args.out.now) (g.K.Sink.written c.run_ranges.new.out) (g.F.Pages.reads c.args.folder.now) (g.F.Pages.reads c.run_ranges.new.folder))
-    c.run_ranges.result (ap said c.in-Ranges.is) (λ source. c.run_ranges.ensures.costs source told)
-
-pub returns-in-Batch-clause-ends : goal.returns-in-Batch-clause-ends
-returns-in-Batch-clause-ends g c = λ told state h source.
-    batch_ends (IsTrue g.K.Sink.told) c.args.words
-    (record { state = state; files = g.F.Pages.files c.args.folder.now; input = g.S.Source.left c.args.input.now; written = g.K.Sink.written c.args.out.now })
-    (g.F.Pages.files c.run_batch.new.folder) (g.K.Sink.written c.run_batch.new.out) c.run_batch.result
-    _ (ap said c.in-Batch.is) (c.run_batch.ensures.ends (source (ap (λ (a : Asked). reads_input a) (ap said c.in-Batch.is))) told state h)
-
-pub returns-in-Batch-clause-canon : goal.returns-in-Batch-clause-canon
-returns-in-Batch-clause-canon g c = λ told state h a. canonical_still _ _ (c.run_batch.ensures.files told)
-
-pub returns-in-Batch-clause-unread : goal.returns-in-Batch-clause-unread
-returns-in-Batch-clause-unread g c = is_so (λ a. reads_input a) c.args.words _ (ap said c.in-Batch.is) refl
-
-pub returns-in-Batch-clause-large : goal.returns-in-Batch-clause-large
-returns-in-Batch-clause-large g c = λ e. ap (λ (a : Asked). reads_whole a) (ap said c.in-Batch.is)
-
-pub returns-in-Batch-clause-untouched : goal.returns-in-Batch-clause-untouched
-returns-in-Batch-clause-untouched g c = λ other. c.run_batch.ensures.untouched
-
-pub returns-in-Batch-clause-input : goal.returns-in-Batch-clause-input
-returns-in-Batch-clause-input g c = λ told.
-    taken_by c.args.words _ (g.S.Source.left c.args.input.now) (g.S.Source.left c.run_batch.new.input) c.run_batch.result
-    (ap said c.in-Batch.is) (c.run_batch.ensures.input told)
-
-pub returns-in-Batch-clause-damage : goal.returns-in-Batch-clause-damage
-returns-in-Batch-clause-damage g c = record { never = c.run_batch.ensures.whole; evident = c.run_batch.ensures.evident }
-
-pub returns-in-Batch-clause-leaves : goal.returns-in-Batch-clause-leaves
-returns-in-Batch-clause-leaves g c = λ told.
-    left_by c.args.words _
-    (called g.S.Source.told g.K.Sink.told (g.S.Source.left c.args.input.now) (g.F.Pages.files c.args.folder.now) (g.F.Pages.files c.run_batch.new.folder)
-    (g.K.Sink.written c.args.out.now) (g.K.Sink.written c.run_batch.new.out) (g.F.Pages.reads c.args.folder.now) (g.F.Pages.reads c.run_batch.new.folder))
-    c.run_batch.result (ap said c.in-Batch.is) (record {
-      files = c.run_batch.ensures.files told;
-      reads = c.run_batch.ensures.reads told;
-      stored = c.run_batch.ensures.stored told;
-      unwritten = λ none. ap g.K.Sink.written (c.run_batch.ensures.unwritten none);
-    })
+pub returns-in-MergingBatch : goal.returns-in-MergingBatch
+returns-in-MergingBatch g c =
+    let is = ap said c.in-MergingBatch.is in
+    let reads = ap (λ (a : Asked). reads_input a) is in
+    let e = c.run_merging_batch.ensures in
+    let input = g.S.Source.left c.args.input.now in
+    let old = g.F.Pages.files c.args.folder.now in
+    let new = g.F.Pages.files c.run_merging_batch.new.folder in
+    let before = g.K.Sink.written c.args.out.now in let after = g.K.Sink.written c.run_merging_batch.new.out in
+    record {
+      never_usage = e.never_usage;
+      ends = λ told state h source. merging_ends (IsTrue g.K.Sink.told) c.args.words
+          (record { state = state; files = old; input = input; written = before }) new after
+          c.run_merging_batch.result _ is (e.ends (source reads) told state h);
+      input = λ told. taken_by c.args.words _ input (g.S.Source.left c.run_merging_batch.new.input) c.run_merging_batch.result is (e.input told);
+      unread = is_so (λ a. reads_input a) c.args.words _ is refl;
+      large = λ w. ap (λ (a : Asked). reads_whole a) is;
+      untouched = λ other. e.untouched;
+      canon = λ told state h a. (e.leaves told).canon a;
+      leaves = λ told. left_by c.args.words _
+          (called g.S.Source.told g.K.Sink.told input old new before after (g.F.Pages.reads c.args.folder.now) (g.F.Pages.reads c.run_merging_batch.new.folder))
+          c.run_merging_batch.result is (e.leaves told);
+      damage = record { never = e.whole; evident = e.evident };
+      causes = e.causes;
+    }

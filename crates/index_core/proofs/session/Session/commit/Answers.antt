@@ -9,6 +9,8 @@ use Rattle.segment_set.specs.Seen.{Sees}
 use Rattle.index_core.specs.Sessions.{Guards, IsCommitAnew, SessionData, Trusts}
 use Rattle.index_core.specs.Effects.{BringsCanonical}
 use Rattle.index_core.specs.Closed.{IsTracked}
+use Rattle.segment_set.specs.Kept.{Follows}
+use Rattle.segment_set.proofs.Carried.{follows_none}
 use Rattle.index_core.proofs.Closing.{tracked_commit, tracked_same}
 use Rattle.index_core.proofs.Bringing.{brings_same, brings_still, brings_then, brings_two, brings_written}
 use Rattle.index_core.proofs.Guarding.{guards_after, kept_after_calls, set_after}
@@ -18,7 +20,7 @@ use Rattle.index_core.proofs.Sizes.{session_fits}
 use Rattle.index_model.specs.State.{at_rest}
 use Rattle.index_core.specs.Damages.{ShowsMerge}
 use Rattle.index_core.proofs.Showing.{damage_to, merge_none, merge_to}
-use Rattle.index_core.proofs.Answering.{fault_cause}
+use Rattle.index_core.proofs.Answering.{fault_cause, no_cause}
 use Rattle.index_core.proofs.Lightly.{commits_few}
 use Rattle.index_core.proofs.Tracing.{traced_by, traced_shows}
 use Rattle.index_core.proofs.Undone.{few_listed, undone_flight, undone_kept, undone_written}
@@ -28,23 +30,35 @@ use Rattle.segment_set.specs.Faithful.{IsFaithful}
 use Rattle.index_opening.proofs.Evident.{none_evident}
 use Rattle.index_core.proofs.session.Session.commit.Goals as goal
 
-pub returns-then-not-is_changed-clause-kept : goal.returns-then-not-is_changed-clause-kept
-returns-then-not-is_changed-clause-kept g c told guards = unchanged_says _ _ _ (c.is_changed.ensures.unchanged.0 c.if-not-is_changed.true) guards
-
-pub returns-then-not-is_changed-clause-flight : goal.returns-then-not-is_changed-clause-flight
-returns-then-not-is_changed-clause-flight g c told guards = inl (kept_itself _)
-
-pub returns-then-not-is_changed-clause-stored : goal.returns-then-not-is_changed-clause-stored
-returns-then-not-is_changed-clause-stored g c told i seen guards =
-    (unchanged_is_stored _ _ _ i (c.is_changed.ensures.unchanged.0 c.if-not-is_changed.true) (c.is_changed.ensures.sound c.if-not-is_changed.true) guards seen, (c.is_changed.ensures.unchanged.0 c.if-not-is_changed.true).same.empty)
-
-pub returns-then-not-is_changed-clause-emptied : goal.returns-then-not-is_changed-clause-emptied
-returns-then-not-is_changed-clause-emptied g c = (c.is_changed.ensures.unchanged.0 c.if-not-is_changed.true).same.empty
-
-pub returns-then-not-is_changed-clause-committed : goal.returns-then-not-is_changed-clause-committed
-returns-then-not-is_changed-clause-committed g c =
+pub returns-then-not-is_changed : goal.returns-then-not-is_changed
+returns-then-not-is_changed g c =
     let unchanged = c.is_changed.ensures.unchanged.0 c.if-not-is_changed.true in
-    (ap is_some unchanged.is, unchanged.done)
+    record {
+      seen = λ told i seen. seen;
+      guards = λ told guards. guards;
+      kept = λ told guards. unchanged_says _ _ _ unchanged guards;
+      flight = λ told guards. inl (kept_itself _);
+      stored = λ told i seen guards. (unchanged_is_stored _ _ _ i unchanged (c.is_changed.ensures.sound c.if-not-is_changed.true) guards seen, unchanged.same.empty);
+      emptied = unchanged.same.empty;
+      committed = (ap is_some unchanged.is, unchanged.done);
+      idle = λ same. (refl, refl, refl, refl);
+      anew = λ changed. absurd (changed unchanged);
+      unchanged = unchanged;
+      levels = λ changed none. absurd (changed unchanged);
+      few = λ told guards none. inl refl;
+      rested = λ settled. refl;
+      undone = λ told guards. tt;
+      canon = λ told. brings_same _ _ _ _ _ refl refl;
+      follows = follows_none _ _;
+      cause = no_cause _ tt;
+      whole = λ told i seen. tt;
+      damage = merge_none _ _ _ _ _ _ tt;
+      faithful = λ told faithful. faithful;
+      traced = λ told trusts. trusts.traced;
+      evident = tt;
+      tracked = λ told m.
+          tracked_same (g.F.Pages.files c.args.folder.now) (g.F.Pages.files c.args.folder.now) c.args.self.now.set.names c.args.self.now.set.names m refl refl;
+    }
 
 pub returns-in_err-commit-clause-seen : goal.returns-in_err-commit-clause-seen
 returns-in_err-commit-clause-seen g c told i seen = c.save.ensures.seen told i (subst (λ (u : SessionData). Sees g.row.D (g.F.Pages.files c.args.folder.now) u.set i) (sym c.self.view_is) seen)
@@ -133,18 +147,6 @@ returns-in_err-commit-clause-whole g c told i seen =
     let p = err_from_is_err_and c.from_residual.result c.from_residual.ensures.1 in
     rw (p.1, p.2) (c.in_err-commit.ensures.whole told i (subst (λ (u : SessionData). Sees g.row.D (g.F.Pages.files c.args.folder.now) u.set i) (sym c.self.view_is) seen))
 
-pub returns-then-not-is_changed-clause-idle : goal.returns-then-not-is_changed-clause-idle
-returns-then-not-is_changed-clause-idle g c unchanged = (refl, refl, refl, refl)
-
-pub returns-then-not-is_changed-clause-anew : goal.returns-then-not-is_changed-clause-anew
-returns-then-not-is_changed-clause-anew g c changed = absurd (changed (c.is_changed.ensures.unchanged.0 c.if-not-is_changed.true))
-
-pub returns-then-not-is_changed-clause-unchanged : goal.returns-then-not-is_changed-clause-unchanged
-returns-then-not-is_changed-clause-unchanged g c = c.is_changed.ensures.unchanged.0 c.if-not-is_changed.true
-
-pub returns-then-not-is_changed-clause-canon : goal.returns-then-not-is_changed-clause-canon
-returns-then-not-is_changed-clause-canon g c told = brings_same _ _ _ _ _ refl refl
-
 pub returns-in_err-commit-clause-idle : goal.returns-in_err-commit-clause-idle
 returns-in_err-commit-clause-idle g c unchanged = absurd (both_ways c.is_changed.result (c.is_changed.ensures.unchanged.1 unchanged) c.if-not-is_changed.false)
 
@@ -196,9 +198,6 @@ returns-clause-canon g c told = subst (λ (u : SessionData). BringsCanonical g.r
     (brings_then _ _ _ _ _ c.save.new.self.parts _ (brings_written _ _ _ _ _ _ _ _ told c.save.ensures.kept c.save.ensures.follows (c.save.ensures.canon told)) (brings_two _ _ _ _ _ (c.write.ensures.others told) (ap (λ (u : SetData). u.parts) c.write.ensures.set)))
     (brings_still _ _ _ _ _ (c.sweep.ensures.segments told) (ap (λ (u : SetData). u.parts) c.sweep.ensures.alone.is)))
 
-pub returns-then-not-is_changed-clause-damage : goal.returns-then-not-is_changed-clause-damage
-returns-then-not-is_changed-clause-damage g c = merge_none _ _ _ _ _ _ tt
-
 pub returns-in_err-commit-clause-damage : goal.returns-in_err-commit-clause-damage
 returns-in_err-commit-clause-damage g c =
     let p = err_from_is_err_and c.from_residual.result c.from_residual.ensures.1 in
@@ -212,12 +211,6 @@ returns-in_err-write-clause-damage g c =
 
 pub returns-clause-damage : goal.returns-clause-damage
 returns-clause-damage g c = merge_none _ _ _ _ _ _ c.sweep.ensures.whole
-
-pub returns-then-not-is_changed-clause-levels : goal.returns-then-not-is_changed-clause-levels
-returns-then-not-is_changed-clause-levels g c changed none = absurd (changed (c.is_changed.ensures.unchanged.0 c.if-not-is_changed.true))
-
-pub returns-then-not-is_changed-clause-rested : goal.returns-then-not-is_changed-clause-rested
-returns-then-not-is_changed-clause-rested g c settled = refl
 
 pub returns-in_err-commit-clause-levels : goal.returns-in_err-commit-clause-levels
 returns-in_err-commit-clause-levels g c changed none = on_ok_none _ _ _ (err_from_is_err_and c.from_residual.result c.from_residual.ensures.1).1
@@ -256,9 +249,6 @@ pub returns-clause-faithful : goal.returns-clause-faithful
 returns-clause-faithful g c told faithful =
     c.sweep.ensures.faithful told (c.write.ensures.faithful told (c.save.ensures.faithful told (subst (λ (u : SessionData). IsFaithful g.row.D (g.F.Pages.files c.args.folder.now) u.set) (sym c.self.view_is) faithful)))
 
-pub returns-then-not-is_changed-clause-traced : goal.returns-then-not-is_changed-clause-traced
-returns-then-not-is_changed-clause-traced g c told trusts = trusts.traced
-
 pub returns-in_err-commit-clause-traced : goal.returns-in_err-commit-clause-traced
 returns-in_err-commit-clause-traced g c told trusts =
     traced_by _ _ _ _ _ c.save.new.self told c.save.ensures.kept c.save.ensures.follows (c.save.ensures.canon told) (subst (Trusts g.row.D (g.F.Pages.files c.args.folder.now)) (sym c.self.view_is) trusts)
@@ -290,12 +280,6 @@ returns-in_err-write-clause-evident g c =
 pub returns-clause-evident : goal.returns-clause-evident
 returns-clause-evident g c = none_evident _ _ _ c.sweep.ensures.whole
 
-pub returns-then-not-is_changed-clause-few : goal.returns-then-not-is_changed-clause-few
-returns-then-not-is_changed-clause-few g c told guards none = inl refl
-
-pub returns-then-not-is_changed-clause-undone : goal.returns-then-not-is_changed-clause-undone
-returns-then-not-is_changed-clause-undone g c told guards = tt
-
 pub returns-in_err-commit-clause-few : goal.returns-in_err-commit-clause-few
 returns-in_err-commit-clause-few g c told guards none = on_ok_none _ _ _ (err_from_is_err_and c.from_residual.result c.from_residual.ensures.1).1
 
@@ -326,10 +310,6 @@ pub returns-clause-undone : goal.returns-clause-undone
 returns-clause-undone g c told guards = undone_written (g.F.Pages.files c.args.folder.now) (g.F.Pages.files c.sweep.new.folder) c.sweep.new.self.commit c.sweep.result c.sweep.ensures.whole
     (says_still (g.F.Pages.files c.write.new.folder) (g.F.Pages.files c.sweep.new.folder) c.write.new.self.commit c.sweep.new.self.commit (c.sweep.ensures.kept told (c.write.ensures.guards told (set_after _ _ _ _ _ _ told c.save.ensures.kept c.save.ensures.stays.leaf (subst (Guards g.row.D (g.F.Pages.files c.args.folder.now)) (sym c.self.view_is) guards).set) (c.in_ok-commit.ensures.live told))) c.sweep.ensures.written.0 (c.in_ok-write.ensures.kept told))
 
-pub returns-then-not-is_changed-clause-tracked : goal.returns-then-not-is_changed-clause-tracked
-returns-then-not-is_changed-clause-tracked g c told m =
-    tracked_same (g.F.Pages.files c.args.folder.now) (g.F.Pages.files c.args.folder.now) c.args.self.now.set.names c.args.self.now.set.names m refl refl
-
 pub returns-in_err-commit-clause-tracked : goal.returns-in_err-commit-clause-tracked
 returns-in_err-commit-clause-tracked g c told = on_ok_none _ _ _ (err_from_is_err_and c.from_residual.result c.from_residual.ensures.1).1
 
@@ -345,3 +325,16 @@ returns-clause-tracked g c told = on_ok_any c.sweep.result (λ m.
     (tracked_commit _ old (g.F.Pages.files c.save.new.folder) (g.F.Pages.files c.write.new.folder) swept c.self.inside.set.names c.save.new.self.names
     c.write.new.self.set.names c.sweep.new.self.set.names m told c.save.ensures.kept (ap (λ (u : SetData). u.names) c.write.ensures.set)
     (c.write.ensures.others told) (c.in_ok-write.ensures.gone told) (c.sweep.ensures.tracked told m)))
+
+pub returns-in_err-commit-clause-follows : goal.returns-in_err-commit-clause-follows
+returns-in_err-commit-clause-follows g c =
+    subst (λ (u : SessionData). Follows u.set.names u.set.parts c.save.new.self.parts) c.self.view_is c.save.ensures.follows
+
+pub returns-in_err-write-clause-follows : goal.returns-in_err-write-clause-follows
+returns-in_err-write-clause-follows g c = subst (λ (u : SessionData). Follows u.set.names u.set.parts c.write.new.self.set.parts) c.self.view_is
+    (subst (λ (u : SetData). Follows c.self.inside.set.names c.self.inside.set.parts u.parts) (sym c.write.ensures.set) c.save.ensures.follows)
+
+pub returns-clause-follows : goal.returns-clause-follows
+returns-clause-follows g c = subst (λ (u : SessionData). Follows u.set.names u.set.parts c.sweep.new.self.set.parts) c.self.view_is
+    (subst (Follows c.self.inside.set.names c.self.inside.set.parts)
+    (sym (ap (λ (u : SetData). u.parts) c.sweep.ensures.alone.is ∙ ap (λ (u : SetData). u.parts) c.write.ensures.set)) c.save.ensures.follows)

@@ -54,7 +54,11 @@ returns-clause-leaves g c =
     let files = g.F.Pages.files c.merge_end.new.folder in
     subst (λ r. OnDone r (HasEnded g.row.D (IsTrue g.F.Pages.told) files c.args.self.now.set c.merge_end.new.self)) (sym c.end_answer.ensures)
     (subst (λ (s : SessionData). OnDone (end_answer c.merge_end.result) (HasEnded g.row.D (IsTrue g.F.Pages.told) files s.set c.merge_end.new.self)) c.self.view_is
-    (end_leaves g.row.D (IsTrue g.F.Pages.told) files c.self.inside.set c.merge_end.new.self c.merge_end.result done.ended done.parts done.buffer done.canon))
+    (end_leaves g.row.D (IsTrue g.F.Pages.told) files c.self.inside.set c.merge_end.new.self c.merge_end.result c.leaf-leaf.ensures.well
+    done.ended done.parts done.replaced done.kept.more done.buffer done.canon))
+
+pub leaf-leaf-requires : goal.leaf-leaf-requires
+leaf-leaf-requires g c = set_fits g.row.D c.self.invariant.few
 
 pub returns-in_err-put_ok-clause-damage : goal.returns-in_err-put_ok-clause-damage
 returns-in_err-put_ok-clause-damage g c =

@@ -1,0 +1,284 @@
+-- A batch with a merge beside it goes from one place to another, by what each call of it answered.
+use Rattle.std.proofs.Common.{◌≡◌, ◌≤◌, ◌+◌, ◌==◌, ◌++◌, ℕ, zero, suc, Bool, true, false, List, [], ◌∷◌, length, map, take, Option, Some, None, Result, Ok, Err}
+use Rattle.std.proofs.Common.{IfOk, OnErr, OnOk, IsErrOf}
+use Rattle.std.proofs.Common.{refl, sym, ap, subst, ◌∙◌, ◌⊎◌, inl, inr, ⊎_elim, arith}
+use Rattle.std.specs.List.{Contains}
+use Rattle.std.proofs.lemmas.Bool.Decides.{nat_tests}
+use Rattle.std.proofs.lemmas.List.{take-map}
+use Rattle.outer_io.specs.Counts.{Rose}
+use Rattle.outer_io.specs.declared.file_name.FileName.TheVariants.{Commit, Segment}
+use Rattle.outer_io.specs.Files.{Files, bytes_of}
+use Rattle.outer_io.specs.Parts.{WritesPart}
+use Rattle.documents.specs.Entries.{is_among}
+use Rattle.documents.proofs.Kept.{among_from}
+use Rattle.documents.proofs.Lists.{in_map, of_map}
+use Rattle.page_cache.specs.declared.faults.PageFault.{PageFault}
+use Rattle.page_cache.specs.declared.faults.PageFault.TheVariants as page
+use Rattle.page_cache.specs.Causes.{HasPageCause}
+use Rattle.page_cache.specs.Evidence.{FaultShows, NotDamaged, OnDamage}
+use Rattle.commit_list.specs.declared.listed.Listed.{Listed}
+use Rattle.commit_list.specs.Commits.{CommitData}
+use Rattle.commit_list.proofs.CommitPages.{one_file}
+use Rattle.index_model.specs.State.{Index, State, at_rest, new_index}
+use Rattle.stored_index.specs.Kept.{ListsFile, SameKept}
+use Rattle.stored_index.specs.Stored.{IsStored, index_of}
+use Rattle.stored_index.proofs.KeptFiles.{kept_after, kept_itself, stored_still}
+use Rattle.stored_index.proofs.Whole.{held_for}
+use Rattle.index_opening.specs.Evidence.{IsEvident}
+use Rattle.index_opening.proofs.Evident.{on_evident_less}
+use Rattle.segment_view.specs.Parts.{Part, ids_of}
+use Rattle.index_core.specs.Light.{KeepsLevels}
+use Rattle.index_core.specs.Sessions.{IsLast, SessionData, Trusts}
+use Rattle.index_core.specs.Steps.{FaultKeeps, HasCommit, KeepsUndone}
+use Rattle.index_core.specs.Whole.{HasNewCanonical, Moment}
+use Rattle.index_core.proofs.Bringing.{brings_then}
+use Rattle.index_core.proofs.Guarding.{says_some}
+use Rattle.index_core.proofs.Listed.{attached_listed, new_canonical}
+use Rattle.index_core.proofs.Undone.{kept_equal, levels_after, undone_after}
+use Rattle.run_status.specs.Ends.{DoesNothing, IsAnswer, IsDamaged, OnStatusDamage}
+use Rattle.run_status.specs.Sent.{IsCut, IsSent}
+use Rattle.run_status.specs.Stops.{status_of, stop_of}
+use Rattle.run_status.specs.Told.{TellsAll}
+use Rattle.run_status.specs.declared.status.Status.{Status}
+use Rattle.run_status.specs.declared.status.Status.TheVariants as status
+use Rattle.run_status.specs.declared.stop.Stop.{Stop}
+use Rattle.run_status.specs.declared.stop.Stop.TheVariants as stop
+use Rattle.run_status.proofs.Ending.{counted, does_lines}
+use Rattle.batch_run.specs.declared.resident.Resident.{Resident}
+use Rattle.batch_run.specs.Copies.{IsCommitIn}
+use Rattle.batch_queries.specs.Batched.{IsBatchText, TellsBatch}
+use Rattle.batch_queries.specs.Ends.{CutsAll, EndsBatch}
+use Rattle.batch_queries.specs.Merging.{EndsMerging, MergeKeeps, MergeLeaves, MergesFirst, WholeOrNone, merged_count}
+use Rattle.batch_queries.specs.MergeRuns.{BeginsMerge, EndsMerge, IsBegun, IsMerged, IsOpened, MergesBatch, Place, first_ids}
+
+-- ---- faults
+
+-- what stays where nothing went out: all that is kept
+leaves_fault : (old new : Files) (fault : PageFault) → SameKept old new → MergeLeaves old new (status_of (Err (stop_of fault)))
+leaves_fault old new page.Failed same =
+    record { stored = λ state h. stored_still old new state same h; kept = inl same; merged = λ a. absurd a; levels = λ a. absurd a; canon = λ a. absurd a }
+leaves_fault old new page.Memory same =
+    record { stored = λ state h. stored_still old new state same h; kept = inl same; merged = λ a. absurd a; levels = λ a. absurd a; canon = λ a. absurd a }
+leaves_fault old new (page.Damaged d) same =
+    record { stored = λ state h. stored_still old new state same h; kept = same; merged = λ a. absurd a; levels = λ a. absurd a; canon = λ a. absurd a }
+
+-- a fault before the text goes out
+pub stopped : {T : Type 0} (told out trusts : Type 0) (lines : List (List ℕ)) (a b : Place) (fault : PageFault) (r : Result ℕ Stop) → r ≡ Err (stop_of fault)
+    → (told → trusts → SameKept a.files b.files) → (told → trusts → (state : State) → IsStored a.files state → NotDamaged {T = T} (Err fault))
+    → HasPageCause {T = T} a.faults b.faults (Err fault) → OnDamage {T = T} (Err fault) (IsEvident (told × trusts) b.files) → b.written ≡ a.written
+    → MergesBatch told out trusts lines a b (status_of r)
+stopped {T} told out trusts lines a b fault r is kept whole cause evident same =
+    subst (λ (q : Result ℕ Stop). MergesBatch told out trusts lines a b (status_of q)) (sym is) (by fault kept whole cause evident)
+  where
+    by : (f : PageFault) → (told → trusts → SameKept a.files b.files) → (told → trusts → (state : State) → IsStored a.files state → NotDamaged {T = T} (Err f))
+        → HasPageCause {T = T} a.faults b.faults (Err f) → OnDamage {T = T} (Err f) (IsEvident (told × trusts) b.files)
+        → MergesBatch told out trusts lines a b (status_of (Err (stop_of f)))
+    by page.Failed kept whole cause evident = record {
+      done = λ d. d;
+      ends = λ t h state s. inl (λ o. same);
+      leaves = λ t h. leaves_fault a.files b.files page.Failed (kept t h);
+      whole = λ t h state s d. d;
+      evident = tt;
+      folder = λ e. cause.failed refl;
+      sink = λ e. absurd cc;
+    }
+    by page.Memory kept whole cause evident = record {
+      done = λ d. d;
+      ends = λ t h state s. inl (λ o. same);
+      leaves = λ t h. leaves_fault a.files b.files page.Memory (kept t h);
+      whole = λ t h state s d. d;
+      evident = tt;
+      folder = λ e. absurd cc;
+      sink = λ e. absurd cc;
+    }
+    by (page.Damaged d) kept whole cause evident = record {
+      done = λ d. d;
+      ends = λ t h state s. whole t h state s;
+      leaves = λ t h. leaves_fault a.files b.files (page.Damaged d) (kept t h);
+      whole = λ t h state s d. whole t h state s;
+      evident = evident;
+      folder = λ e. absurd cc;
+      sink = λ e. absurd cc;
+    }
+
+-- ---- from elsewhere
+
+-- a damage of files that are trusted more
+status_less : (T U : Type 0) (files : Files) (s : Status) → (U → T) → OnStatusDamage s (IsEvident T files) → OnStatusDamage s (IsEvident U files)
+status_less T U files (status.Damaged d) back h = on_evident_less {X = ℕ} T U files (Err (page.Damaged d)) back h
+status_less T U files status.Usage back h = tt
+status_less T U files status.SourceFault back h = tt
+status_less T U files status.TooLarge back h = tt
+status_less T U files status.Done back h = tt
+status_less T U files (status.SomeRefused count) back h = tt
+status_less T U files status.SinkFault back h = tt
+status_less T U files status.Memory back h = tt
+status_less T U files status.FolderFault back h = tt
+
+-- and of files that are trusted whatever they hold
+pub all_evident : (told : Type 0) (files : Files) (s : Status) → OnStatusDamage s (IsEvident (told × Unit {0}) files) → OnStatusDamage s (IsEvident told files)
+all_evident told files s = status_less (told × Unit {0}) told files s (λ t. (t, tt))
+
+-- another status, which is the same
+pub status_is : (told out trusts : Type 0) (lines : List (List ℕ)) (a b : Place) (r : Result ℕ Stop) (s : Status) → s ≡ status_of r
+    → MergesBatch told out trusts lines a b (status_of r) → MergesBatch told out trusts lines a b s
+status_is told out trusts lines a b r s is merges = subst (MergesBatch told out trusts lines a b) (sym is) merges
+
+-- after a call that left the files and the text
+pub merges_after : {U : Type 0} (told out trusted trusts : Type 0) (lines : List (List ℕ)) (a b c : Place) (x : U) (s : Status) → (told → b.files ≡ a.files)
+    → b.written ≡ a.written → b.sink ≡ a.sink
+    → HasPageCause a.faults b.faults (Ok x) → (told → trusted → trusts) → MergesBatch told out trusts lines b c s → MergesBatch told out trusted lines a c s
+merges_after told out trusted trusts lines a b c x s files written sink cause more merges = record {
+  done = merges.done;
+  ends = λ t h state stored. subst (λ (w : List ℕ). EndsMerging out (TellsBatch state) lines w c.written s) written
+      (merges.ends t (more t h) state (subst (λ (f : Files). IsStored f state) (sym (files t)) stored));
+  leaves = λ t h. subst (λ (f : Files). MergeLeaves f c.files s) (files t) (merges.leaves t (more t h));
+  whole = λ t h state stored. merges.whole t (more t h) state (subst (λ (f : Files). IsStored f state) (sym (files t)) stored);
+  evident = status_less (told × trusts) (told × trusted) c.files s (λ h. (h.0, more h.0 h.1)) merges.evident;
+  folder = λ e. subst (λ n. Rose n c.faults) cause.fine (merges.folder e);
+  sink = λ e. subst (λ n. Rose n c.sink) sink (merges.sink e);
+}
+
+-- ---- the text goes out
+
+-- all of it
+pub text_whole : (out : Type 0) (state : State) (lines : List (List ℕ)) (text : List ℕ) (refused : ℕ) (old new : List ℕ) → IsBatchText state lines text refused
+    → (out → new ≡ old ++ text)
+    → TellsAll out (TellsBatch state) 1 lines old new refused
+text_whole out state lines text refused old new is sent =
+    record { of_lines = is.of_lines; all = is.all; text = λ o. sent o ∙ ap (λ (w : List ℕ). old ++ w) (is.text tt); count = is.count }
+
+ends_counted : (out : Type 0) (state : State) (lines : List (List ℕ)) (old new : List ℕ) (count : ℕ) (b : Bool) → (count == 0) ≡ b
+    → TellsAll out (TellsBatch state) 1 lines old new count → EndsMerging out (TellsBatch state) lines old new (counted b count)
+ends_counted out state lines old new count true is all =
+    let none : count ≡ 0 = grind (arith, nat_tests) in
+    subst (λ n. TellsAll out (TellsBatch state) 1 lines old new n) none all
+ends_counted out state lines old new count false is all =
+    let some : 1 ≤ count = grind (arith, nat_tests) in
+    (some, all)
+
+pub ends_whole : (out : Type 0) (state : State) (lines : List (List ℕ)) (old new : List ℕ) (count : ℕ) → TellsAll out (TellsBatch state) 1 lines old new count
+    → EndsMerging out (TellsBatch state) lines old new (status_of (Ok count))
+ends_whole out state lines old new count all = ends_counted out state lines old new count (count == 0) refl all
+
+-- or a part of it
+pub ends_cut : (out : Type 0) (state : State) (lines : List (List ℕ)) (text : List ℕ) (refused : ℕ) (old new : List ℕ) → IsBatchText state lines text refused
+    → (out → WritesPart old new text)
+    → CutsAll out (TellsBatch state) lines old new
+ends_cut out state lines text refused old new is part =
+    record { of_lines = is.of_lines; all = is.all; text = λ o. subst (λ (w : List ℕ). WritesPart old new w) (is.text tt) (part o) }
+
+whole_by : (b : Bool) (count : ℕ) → IsDamaged (counted b count) → ⊥
+whole_by true count d = d
+whole_by false count d = d
+
+pub counted_whole : (count : ℕ) → IsDamaged (status_of (Ok count)) → ⊥
+counted_whole count d = whole_by (count == 0) count d
+
+shows_by : (told : Type 0) (files : Files) (b : Bool) (count : ℕ) → OnStatusDamage (counted b count) (IsEvident told files)
+shows_by told files true count = tt
+shows_by told files false count = tt
+
+pub counted_shows : (told : Type 0) (files : Files) (count : ℕ) → OnStatusDamage (status_of (Ok count)) (IsEvident told files)
+counted_shows told files count = shows_by told files (count == 0) count
+
+kept_by : (old new : Files) (b : Bool) (count : ℕ) → MergeKeeps old new (counted b count)
+kept_by old new true count = tt
+kept_by old new false count = tt
+
+pub counted_kept : (old new : Files) (count : ℕ) → MergeKeeps old new (status_of (Ok count))
+counted_kept old new count = kept_by old new (count == 0) count
+
+folder_by : (b : Bool) (count : ℕ) {P : Type 0} → counted b count ≡ status.FolderFault → P
+folder_by true count e = cc
+folder_by false count e = cc
+
+pub counted_folder : (count : ℕ) {P : Type 0} → status_of (Ok count) ≡ status.FolderFault → P
+counted_folder count e = folder_by (count == 0) count e
+
+sink_by : (b : Bool) (count : ℕ) {P : Type 0} → counted b count ≡ status.SinkFault → P
+sink_by true count e = cc
+sink_by false count e = cc
+
+pub counted_sink : (count : ℕ) {P : Type 0} → status_of (Ok count) ≡ status.SinkFault → P
+counted_sink count e = sink_by (count == 0) count e
+
+-- ---- where no index is there
+
+-- nothing is stored, and nothing is asked of the folder
+none_stored : (files : Files) (state : State) → files Commit ≡ None → IsStored files state → None ≡ state
+none_stored files None none h = refl
+none_stored files (Some i) none h = absurd (says_some files h.commit none h.holds.commit)
+
+none_leaves : (files : Files) (s : Status) → files Commit ≡ None → MergeKeeps files files s → MergeLeaves files files s
+none_leaves files s none kept = record {
+  stored = λ state h. h;
+  kept = kept;
+  merged = λ a c says. absurd (says_some files c none says);
+  levels = λ a. inl refl;
+  canon = λ a c says l inside apart head has. absurd (says_some files c none says);
+}
+
+-- what was sent went out whole, or the sink failed
+pub sent_how : {T : Type 0} (known : T) (r : Result T Stop) → IfOk r (λ x. x ≡ known) → OnErr r (IsErrOf r stop.SinkFault) → (r ≡ Ok known)
+    ⊎ (r ≡ Err stop.SinkFault)
+sent_how known (Ok x) same only = inl (ap Ok same)
+sent_how known (Err e) same only = inr only
+
+pub none_told : (told out : Type 0) (lines : List (List ℕ)) (a b : Place) (text : List ℕ) (refused : ℕ) (r : Result ℕ Stop) → b.files ≡ a.files
+    → IsBatchText None lines text refused
+    → (out → IsSent text a.written b.written r) → (IsErrOf r stop.SinkFault → Rose a.sink b.sink) → (r ≡ Ok refused) ⊎ (r ≡ Err stop.SinkFault)
+    → MergesBatch told out (a.files Commit ≡ None) lines a b (status_of r)
+none_told told out lines a b text refused r same is sent rose how =
+    ⊎_elim
+    (λ ok. subst (λ (q : Result ℕ Stop). MergesBatch told out (a.files Commit ≡ None) lines a b (status_of q)) (sym ok)
+    (done (subst (λ (q : Result ℕ Stop). out → IsSent text a.written b.written q) ok sent)))
+    (λ cut. subst (λ (q : Result ℕ Stop). MergesBatch told out (a.files Commit ≡ None) lines a b (status_of q)) (sym cut)
+    (failed (subst (λ (q : Result ℕ Stop). out → IsSent text a.written b.written q) cut sent) (rose cut)))
+    how
+  where
+    same_kept : SameKept a.files b.files
+    same_kept = kept_equal a.files b.files same
+
+    done : (out → b.written ≡ a.written ++ text) → MergesBatch told out (a.files Commit ≡ None) lines a b (status_of (Ok refused))
+    done sent = record {
+      done = does_lines (Ok refused);
+      ends = λ t none state h. subst (λ (s : State). EndsMerging out (TellsBatch s) lines a.written b.written (status_of (Ok refused)))
+          (none_stored a.files state none h)
+          (ends_whole out None lines a.written b.written refused (text_whole out None lines text refused a.written b.written is sent));
+      leaves = λ t none. subst (λ (f : Files). MergeLeaves a.files f (status_of (Ok refused))) (sym same)
+          (none_leaves a.files (status_of (Ok refused)) none (counted_kept a.files a.files refused));
+      whole = λ t none state h. counted_whole refused;
+      evident = counted_shows (told × (a.files Commit ≡ None)) b.files refused;
+      folder = λ e. counted_folder refused e;
+      sink = λ e. counted_sink refused e;
+    }
+
+    failed : (out → WritesPart a.written b.written text) → Rose a.sink b.sink
+        → MergesBatch told out (a.files Commit ≡ None) lines a b (status_of (Err stop.SinkFault))
+    failed part rises = record {
+      done = λ d. d;
+      ends = λ t none state h. subst (λ (s : State). CutsAll out (TellsBatch s) lines a.written b.written) (none_stored a.files state none h)
+          (ends_cut out None lines text refused a.written b.written is part);
+      leaves = λ t none. subst (λ (f : Files). MergeLeaves a.files f status.SinkFault) (sym same)
+          (none_leaves a.files status.SinkFault none (kept_itself a.files));
+      whole = λ t none state h d. d;
+      evident = tt;
+      folder = λ e. absurd cc;
+      sink = λ e. rises;
+    }
+
+-- ---- what was sent
+
+pub sent_part : (text reply old new : List ℕ) (e : Stop) → reply ≡ text → IsErrOf {T = ℕ} (Err e) stop.SinkFault → IsCut reply old new e → WritesPart old new text
+sent_part text reply old new e same only cut =
+    let is : e ≡ stop.SinkFault = cc in
+    subst (λ (w : List ℕ). WritesPart old new w) same (subst (IsCut reply old new) is cut)
+
+pub sent_whole : (text reply old new : List ℕ) → reply ≡ text → new ≡ old ++ reply → new ≡ old ++ text
+sent_whole text reply old new same grew = grew ∙ ap (λ (w : List ℕ). old ++ w) same
+
+-- another number of refused lines, which is the same
+pub status_known : (told out trusts : Type 0) (lines : List (List ℕ)) (a b : Place) (n m : ℕ) → m ≡ n → MergesBatch told out trusts lines a b (status_of (Ok n))
+    → MergesBatch told out trusts lines a b (status_of (Ok m))
+status_known told out trusts lines a b n m same merges = subst (λ (k : ℕ). MergesBatch told out trusts lines a b (status_of (Ok k))) (sym same) merges
