@@ -28,7 +28,7 @@ use Rattle.index_core.specs.Effects.{HasBegun, OnDone}
 use Rattle.index_core.specs.Sessions.{IsLast, SessionData, Trusts}
 use Rattle.index_core.specs.Steps.{Applies, DoesOver, Place}
 use Rattle.index_core.specs.Whole.{Moment}
-use Rattle.index_core.proofs.Answering.{done_cause, fault_to, memory_cause}
+use Rattle.index_core.proofs.FaultCauses.{done_cause, fault_to, memory_cause}
 use Rattle.index_core.proofs.Bringing.{brings_same}
 use Rattle.index_core.proofs.Guarding.{names_listed}
 use Rattle.batch_run.specs.declared.resident.Resident.{Resident}
@@ -115,9 +115,9 @@ module _ (D : ℕ) (told : Type 0) (r : Resident D) where
     begins_done x y first begins leaves = record {
       begun = λ t o i h.
           let does = begun_is D b.files i b.session.set a.text b.text positions x (ap (λ (j : Index). j.begun) h.is)
-              (begins.does t i (o.seen i h) (λ e. o.trusts.guards)) in
+          (begins.does t i (o.seen i h) (λ e. o.trusts.guards)) in
           let has : HasBegun positions a.session.set b.session.set =
-              subst (λ (z : Applied). OnDone (Ok z) (HasBegun positions a.session.set b.session.set)) does.0 leaves in
+          subst (λ (z : Applied). OnDone (Ok z) (HasBegun positions a.session.set b.session.set)) does.0 leaves in
           record {
             seen = does.1;
             trusts = record {

@@ -26,7 +26,7 @@ use Rattle.index_core.specs.Effects.{HasEnded, OnDone}
 use Rattle.index_core.specs.Sessions.{SessionData, Trusts}
 use Rattle.index_core.specs.Steps.{Applies, DoesOver, KeepsOver, Place, SaysCommit, Stores}
 use Rattle.index_core.specs.Whole.{Moment}
-use Rattle.index_core.proofs.Answering.{cause_then, fault_to}
+use Rattle.index_core.proofs.FaultCauses.{cause_then, fault_to}
 use Rattle.index_core.proofs.Bringing.{brings_then}
 use Rattle.index_core.proofs.Undone.{fault_kept, levels_after, undone_after}
 use Rattle.index_core.proofs.Wholes.{IsCommitted}

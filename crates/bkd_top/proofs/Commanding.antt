@@ -39,7 +39,8 @@ asked_is x y o is also = some_inj (sym is ∙ also)
     some_inj e = cc
 
 -- where every other end is ruled out, it is done, or memory was wanting
-pub completes : (s : Status) (before now : Counts) → (s ≡ status.Usage → ⊥) → (s ≡ status.TooLarge → ⊥) → NoneRose before now → (IsDamaged s → ⊥) → HasCauses before now s
+pub completes : (s : Status) (before now : Counts) → (s ≡ status.Usage → ⊥) → (s ≡ status.TooLarge → ⊥) → NoneRose before now → (IsDamaged s → ⊥)
+    → HasCauses before now s
     → IsAnswer s ⊎ (s ≡ status.Memory)
 completes status.Done before now usage large none damage causes = inl tt
 completes (status.SomeRefused count) before now usage large none damage causes = inl tt
@@ -52,14 +53,17 @@ completes status.SinkFault before now usage large none damage causes = absurd (n
 completes (status.Damaged d) before now usage large none damage causes = absurd (damage tt)
 
 -- memory was wanting before anything was done
-pub no_memory_ends : (told : Type 0) (a : Asked) (b : Before) (files : Files) (new : List ℕ) → IsStored files b.state → files ≡ b.files → (told → new ≡ b.written) → EndsAsked told a b files new status.Memory
-no_memory_ends told (Run cache forks) b files new keeps same still = stops_here {told = told} (meaning language.Points) (start b.state (lines_of b.input) b.written) files new still (inl keeps)
+pub no_memory_ends : (told : Type 0) (a : Asked) (b : Before) (files : Files) (new : List ℕ) → IsStored files b.state → files ≡ b.files
+    → (told → new ≡ b.written) → EndsAsked told a b files new status.Memory
+no_memory_ends told (Run cache forks) b files new keeps same still =
+    stops_here {told = told} (meaning language.Points) (start b.state (lines_of b.input) b.written) files new still (inl keeps)
 no_memory_ends told (Load columns forks) b files new keeps same still = record { text = still; stored = inl keeps }
 no_memory_ends told (Explain cache) b files new keeps same still =
     λ scope is. record { done = []; rest = lines_of b.input; whole = refl; of_done = silence; tells = refl; text = λ t. still t ∙ sym (append-nil b.written) }
 no_memory_ends told Check b files new keeps same still = (same, still)
 no_memory_ends told (Generate docs seed forks) b files new keeps same still = record { text = still; stored = inl keeps }
-no_memory_ends told (Session cache forks) b files new keeps same still = stops_here {told = told} (meaning language.Points) (start b.state (lines_of b.input) b.written) files new still (inl keeps)
+no_memory_ends told (Session cache forks) b files new keeps same still =
+    stops_here {told = told} (meaning language.Points) (start b.state (lines_of b.input) b.written) files new still (inl keeps)
 no_memory_ends told (Ranges cache forks) b files new keeps same still = λ ranges.
     ends_ranges told b.state (lines_of b.input) b.written files new status.Memory ranges
     (stops_here {told = told} (meaning language.Ranges) (start b.state (lines_of b.input) b.written) files new still (inl keeps))
@@ -97,22 +101,27 @@ whole_reads (MergingBatch forks) e = refl
 
 -- each command ends as its own definition says
 module _ (told : Type 0) (w : Words) (b : Before) (files : Files) (new : List ℕ) (s : Status) where
-  pub run_ends : (cache forks : ℕ) → said w ≡ Run cache forks → Ends (meaning language.Points) told (start b.state (lines_of b.input) b.written) files new s → EndsAsked told (said w) b files new s
+  pub run_ends : (cache forks : ℕ) → said w ≡ Run cache forks → Ends (meaning language.Points) told (start b.state (lines_of b.input) b.written) files new s
+      → EndsAsked told (said w) b files new s
   run_ends cache forks is ends = subst (λ (a : Asked). EndsAsked told a b files new s) (sym is) ends
 
-  pub load_ends : (columns : List (List ℕ)) (forks : ℕ) → said w ≡ Load columns forks → EndsWhole told b (load_answer b.state b.input columns) files new s → EndsAsked told (said w) b files new s
+  pub load_ends : (columns : List (List ℕ)) (forks : ℕ) → said w ≡ Load columns forks → EndsWhole told b (load_answer b.state b.input columns) files new s
+      → EndsAsked told (said w) b files new s
   load_ends columns forks is ends = subst (λ (a : Asked). EndsAsked told a b files new s) (sym is) ends
 
-  pub explain_ends : (cache : ℕ) → said w ≡ Explain cache → ((scope : Scope) → IsScope b.files scope → EndsExplain told scope (lines_of b.input) b.written new s) → EndsAsked told (said w) b files new s
+  pub explain_ends : (cache : ℕ) → said w ≡ Explain cache
+      → ((scope : Scope) → IsScope b.files scope → EndsExplain told scope (lines_of b.input) b.written new s) → EndsAsked told (said w) b files new s
   explain_ends cache is ends = subst (λ (a : Asked). EndsAsked told a b files new s) (sym is) ends
 
   pub check_ends : said w ≡ Check → (files ≡ b.files) × EndsCheck told b.files b.written new s → EndsAsked told (said w) b files new s
   check_ends is ends = subst (λ (a : Asked). EndsAsked told a b files new s) (sym is) ends
 
-  pub generate_ends : (docs seed forks : ℕ) → said w ≡ Generate docs seed forks → EndsWhole told b (generated b.state docs seed) files new s → EndsAsked told (said w) b files new s
+  pub generate_ends : (docs seed forks : ℕ) → said w ≡ Generate docs seed forks → EndsWhole told b (generated b.state docs seed) files new s
+      → EndsAsked told (said w) b files new s
   generate_ends docs seed forks is ends = subst (λ (a : Asked). EndsAsked told a b files new s) (sym is) ends
 
-  pub session_asked : (cache forks : ℕ) → said w ≡ Session cache forks → EndsSession (meaning language.Points) told (start b.state (lines_of b.input) b.written) files new s → EndsAsked told (said w) b files new s
+  pub session_asked : (cache forks : ℕ) → said w ≡ Session cache forks
+      → EndsSession (meaning language.Points) told (start b.state (lines_of b.input) b.written) files new s → EndsAsked told (said w) b files new s
   session_asked cache forks is ends = subst (λ (a : Asked). EndsAsked told a b files new s) (sym is) ends
 
   pub ranges_ends : (cache forks : ℕ) → said w ≡ Ranges cache forks
@@ -124,7 +133,8 @@ module _ (told : Type 0) (w : Words) (b : Before) (files : Files) (new : List �
       → EndsAsked told (said w) b files new s
   count_ends cache is ends = subst (λ (a : Asked). EndsAsked told a b files new s) (sym is) ends
 
-  pub batch_ends : (forks : ℕ) → said w ≡ Batch forks → EndsBatch told (TellsBatch b.state) (lines_of b.input) b.written new s → EndsAsked told (said w) b files new s
+  pub batch_ends : (forks : ℕ) → said w ≡ Batch forks → EndsBatch told (TellsBatch b.state) (lines_of b.input) b.written new s
+      → EndsAsked told (said w) b files new s
   batch_ends forks is ends = subst (λ (a : Asked). EndsAsked told a b files new s) (sym is) ends
 
   pub merging_ends : (forks : ℕ) → said w ≡ MergingBatch forks → EndsMerging told (TellsBatch b.state) (lines_of b.input) b.written new s
@@ -202,11 +212,14 @@ no_merge files = record { stored = λ state h. h; kept = inl (kept_itself files)
 
 -- where memory was wanting before anything was done each command has left what was there
 none_left_of : (a : Asked) (source sink : Bool) (input written : List ℕ) (files : Files) (reads : ℕ)
-    → LeavesAsked a (record { source = source; sink = sink; input = input; old = files; new = files; written = written; written_now = written; before = reads; now = reads })
+    → LeavesAsked a
+    (record { source = source; sink = sink; input = input; old = files; new = files; written = written; written_now = written; before = reads; now = reads })
     status.Memory
 none_left_of (Run cache forks) source sink input written files reads = λ told. nothing_costs language.Points (lines_of input) files reads status.Memory (λ a. a)
-none_left_of (Session cache forks) source sink input written files reads = λ told. nothing_costs language.Points (lines_of input) files reads status.Memory (λ a. a)
-none_left_of (Ranges cache forks) source sink input written files reads = λ told. nothing_costs language.Ranges (lines_of input) files reads status.Memory (λ a. a)
+none_left_of (Session cache forks) source sink input written files reads = λ told.
+    nothing_costs language.Points (lines_of input) files reads status.Memory (λ a. a)
+none_left_of (Ranges cache forks) source sink input written files reads = λ told.
+    nothing_costs language.Ranges (lines_of input) files reads status.Memory (λ a. a)
 none_left_of (Explain cache) source sink input written files reads = record { files = refl; reads = λ told pages opening scope is t tells. omega arith }
 none_left_of (Count cache) source sink input written files reads = record { files = refl; reads = λ told pages opening scope is t tells. omega arith }
 none_left_of (Batch forks) source sink input written files reads =

@@ -42,27 +42,33 @@ count_sent is_refused m (Ok n) is known = known ∙ byte_counts is_refused m is
 count_sent is_refused m (Err e) is known = tt
 
 module _ (told : Type 0) (b : Before) (a : Answer) (files : Files) (text new : List ℕ) where
-  told_done : (is_refused : Bool) → DoesWhole files b.state a [] text (Ok is_refused) → (told → new ≡ b.written ++ text) → EndsWhole told b a files new (done_status is_refused)
+  told_done : (is_refused : Bool) → DoesWhole files b.state a [] text (Ok is_refused) → (told → new ≡ b.written ++ text)
+      → EndsWhole told b a files new (done_status is_refused)
   told_done true (is, refused, stored) went = (record { text = λ t. went t ∙ ap (λ bs. b.written ++ bs) is; stored = stored }, refused, refl)
   told_done false (is, refused, stored) went = (record { text = λ t. went t ∙ ap (λ bs. b.written ++ bs) is; stored = stored }, refused)
 
   -- the text was sent, or cut
-  pub sent_ends : (is_refused : Bool) (r : Result ℕ Stop) → DoesWhole files b.state a [] text (Ok is_refused) → (told → IsSent text b.written new r) → IfOk r (λ n. n ≡ cond is_refused 1 0)
+  pub sent_ends : (is_refused : Bool) (r : Result ℕ Stop) → DoesWhole files b.state a [] text (Ok is_refused) → (told → IsSent text b.written new r)
+      → IfOk r (λ n. n ≡ cond is_refused 1 0)
       → OnErr r (IsErrOf r stop.SinkFault) → EndsWhole told b a files new (status_of r)
-  sent_ends is_refused (Ok n) does sent count only = subst (EndsWhole told b a files new) (sym (ap (λ m. status_of (Ok m)) count ∙ status_done is_refused)) (told_done is_refused does sent)
-  sent_ends is_refused (Err stop.SinkFault) (is, refused, stored) sent count only = record { text = λ t. subst (WritesPart b.written new) is (sent t); stored = stored }
+  sent_ends is_refused (Ok n) does sent count only =
+      subst (EndsWhole told b a files new) (sym (ap (λ m. status_of (Ok m)) count ∙ status_done is_refused)) (told_done is_refused does sent)
+  sent_ends is_refused (Err stop.SinkFault) (is, refused, stored) sent count only =
+      record { text = λ t. subst (WritesPart b.written new) is (sent t); stored = stored }
   sent_ends is_refused (Err stop.FolderFault) does sent count only = absurd cc
   sent_ends is_refused (Err stop.Memory) does sent count only = absurd cc
   sent_ends is_refused (Err (stop.Damaged d)) does sent count only = absurd cc
 
   -- there was a fault before it
-  pub fault_ends : (fault : PageFault) → DoesWhole files b.state a [] text (Err fault) → (told → new ≡ b.written) → EndsWhole told b a files new (status_of (Err (stop_of fault)))
+  pub fault_ends : (fault : PageFault) → DoesWhole files b.state a [] text (Err fault) → (told → new ≡ b.written)
+      → EndsWhole told b a files new (status_of (Err (stop_of fault)))
   fault_ends page.Failed does went = record { text = went; stored = does }
   fault_ends page.Memory does went = record { text = went; stored = does }
   fault_ends (page.Damaged d) does went = absurd does
 
 -- what a command did shows no damage
-pub whole_undamaged : (files : Files) (stored : State) (a : Answer) (before after : List ℕ) (r : Result Bool PageFault) → DoesWhole files stored a before after r → NotDamaged r
+pub whole_undamaged : (files : Files) (stored : State) (a : Answer) (before after : List ℕ) (r : Result Bool PageFault)
+    → DoesWhole files stored a before after r → NotDamaged r
 whole_undamaged files stored a before after (Ok b) does = tt
 whole_undamaged files stored a before after (Err page.Failed) does = tt
 whole_undamaged files stored a before after (Err page.Memory) does = tt
@@ -74,7 +80,8 @@ of_done (Ok x) is p = p
 of_done (Err e) is p = absurd (false≢true is)
 
 -- its text is one that began empty
-pub does_from : (files : Files) (stored : State) (a : Answer) (before after text : List ℕ) (r : Result Bool PageFault) → before ≡ [] → text ≡ after → DoesWhole files stored a before after r → DoesWhole files stored a [] text r
+pub does_from : (files : Files) (stored : State) (a : Answer) (before after text : List ℕ) (r : Result Bool PageFault) → before ≡ [] → text ≡ after
+    → DoesWhole files stored a before after r → DoesWhole files stored a [] text r
 does_from files stored a before after text r empty same does =
     subst (λ (t : List ℕ). DoesWhole files stored a [] t r) (sym same) (subst (λ (b : List ℕ). DoesWhole files stored a b after r) empty does)
 
@@ -106,7 +113,8 @@ fault_no_answer page.Failed a = absurd a
 fault_no_answer page.Memory a = absurd a
 fault_no_answer (page.Damaged d) a = absurd a
 
-pub fault_rose : {T : Type 0} (old new : ℕ) (fault : PageFault) → HasPageCause {T = T} old new (Err fault) → status_of (Err (stop_of fault)) ≡ status.FolderFault → Rose old new
+pub fault_rose : {T : Type 0} (old new : ℕ) (fault : PageFault) → HasPageCause {T = T} old new (Err fault)
+    → status_of (Err (stop_of fault)) ≡ status.FolderFault → Rose old new
 fault_rose old new page.Failed cause e = cause.failed refl
 fault_rose old new page.Memory cause e = absurd cc
 fault_rose old new (page.Damaged d) cause e = absurd cc

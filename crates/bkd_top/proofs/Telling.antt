@@ -35,7 +35,8 @@ silence_follows a = λ i. record { text = append-nil a.text i; refused = add-zer
 
 -- ---- lists of lines
 
-pub tells_append : (s : Scope) (line : ℕ) (xs ys : List (List ℕ)) (a b : Told) → TellsLines s line xs a → TellsLines s (line + length xs) ys b → TellsLines s line (xs ++ ys) (followed_by a b)
+pub tells_append : (s : Scope) (line : ℕ) (xs ys : List (List ℕ)) (a b : Told) → TellsLines s line xs a → TellsLines s (line + length xs) ys b
+    → TellsLines s line (xs ++ ys) (followed_by a b)
 tells_append s line [] ys a b none more =
     subst (λ t. TellsLines s line ys t) (sym (ap (λ t. followed_by t b) none ∙ follow_silence b)) (subst (λ n. TellsLines s n ys b) (add-zero line) more)
 tells_append s line (x ∷ xs) ys a b (first, rest, one, others, is) more = (
@@ -55,7 +56,8 @@ pub record Parts (s : Scope) (line : ℕ) (xs ys : List (List ℕ)) (t : Told) :
   pub is : t ≡ followed_by front back
 
 pub tells_split : (s : Scope) (line : ℕ) (xs ys : List (List ℕ)) (t : Told) → TellsLines s line (xs ++ ys) t → Parts s line xs ys t
-tells_split s line [] ys t all = record { front = silence; back = t; of_front = refl; of_back = subst (λ n. TellsLines s n ys t) (sym (add-zero line)) all; is = sym (follow_silence t) }
+tells_split s line [] ys t all =
+    record { front = silence; back = t; of_front = refl; of_back = subst (λ n. TellsLines s n ys t) (sym (add-zero line)) all; is = sym (follow_silence t) }
 tells_split s line (x ∷ xs) ys t (first, rest, one, others, is) =
     let h = tells_split s (line + 1) xs ys rest others in
     record {
@@ -76,10 +78,19 @@ front_touches s line xs ys t p = let same = ap (λ (u : Told). u.touched) p.is i
 -- ---- stages
 
 pub stage_here : (told : Type 0) (s : Scope) (a : Stage) → Tellings told s a a
-stage_here told s a = record { done = []; whole = refl; line = sym (add-zero a.line); of_done = silence; tells = refl; refused = sym (add-zero a.refused); text = λ t. sym (append-nil a.written) }
+stage_here told s a = record {
+  done = [];
+  whole = refl;
+  line = sym (add-zero a.line);
+  of_done = silence;
+  tells = refl;
+  refused = sym (add-zero a.refused);
+  text = λ t. sym (append-nil a.written);
+}
 
 -- one line more was told
-pub stage_on : (told : Type 0) (s : Scope) (a b c : Stage) (x : List ℕ) (t : Told) → Tellings told s a b → b.rest ≡ x ∷ c.rest → c.line ≡ b.line + 1 → TellsLine s b.line x t → c.refused ≡ b.refused + t.refused
+pub stage_on : (told : Type 0) (s : Scope) (a b c : Stage) (x : List ℕ) (t : Told) → Tellings told s a b → b.rest ≡ x ∷ c.rest → c.line ≡ b.line + 1
+    → TellsLine s b.line x t → c.refused ≡ b.refused + t.refused
     → (told → c.written ≡ b.written ++ t.text) → Tellings told s a c
 stage_on told s a b c x t p rest line one refused text = record {
   done = p.done ++ x ∷ [];
@@ -92,7 +103,8 @@ stage_on told s a b c x t p rest line one refused text = record {
 }
 
 -- all lines were told
-pub stage_all : (told : Type 0) (s : Scope) (a b : Stage) (new : List ℕ) → Tellings told s a b → b.rest ≡ [] → (told → new ≡ b.written) → EndsTold told s a.line a.refused a.rest a.written new (Ok b.refused)
+pub stage_all : (told : Type 0) (s : Scope) (a b : Stage) (new : List ℕ) → Tellings told s a b → b.rest ≡ [] → (told → new ≡ b.written)
+    → EndsTold told s a.line a.refused a.rest a.written new (Ok b.refused)
 stage_all told s a b new p none text = (
   p.of_done.refused,
   p.refused,
@@ -105,11 +117,14 @@ stage_all told s a b new p none text = (
 )
 
 -- nothing more was told
-pub stage_stops : (told : Type 0) (s : Scope) (a b : Stage) (new : List ℕ) → Tellings told s a b → (told → new ≡ b.written) → TellsSome told s a.line a.rest a.written new
-stage_stops told s a b new p text = record { done = p.done; rest = b.rest; whole = p.whole; of_done = p.of_done; tells = p.tells; text = λ h. text h ∙ p.text h }
+pub stage_stops : (told : Type 0) (s : Scope) (a b : Stage) (new : List ℕ) → Tellings told s a b → (told → new ≡ b.written)
+    → TellsSome told s a.line a.rest a.written new
+stage_stops told s a b new p text =
+    record { done = p.done; rest = b.rest; whole = p.whole; of_done = p.of_done; tells = p.tells; text = λ h. text h ∙ p.text h }
 
 -- the sink failed at the next line
-pub stage_breaks : (told : Type 0) (s : Scope) (a b : Stage) (x : List ℕ) (rest : List (List ℕ)) (t : Told) (new : List ℕ) → Tellings told s a b → b.rest ≡ x ∷ rest → TellsLine s b.line x t
+pub stage_breaks : (told : Type 0) (s : Scope) (a b : Stage) (x : List ℕ) (rest : List (List ℕ)) (t : Told) (new : List ℕ) → Tellings told s a b
+    → b.rest ≡ x ∷ rest → TellsLine s b.line x t
     → (told → WritesPart b.written new t.text) → TellsPart told s a.line a.rest a.written new
 stage_breaks told s a b x rest t new p is one text = record {
   done = p.done;
@@ -124,7 +139,8 @@ stage_breaks told s a b x rest t new p is one text = record {
 }
 
 -- it stops at a line for what that answers
-pub line_stops : (told : Type 0) (s : Scope) (a b : Stage) (x : List ℕ) (rest : List (List ℕ)) (new : List ℕ) (e : Stop) → Tellings told s a b → b.rest ≡ x ∷ rest
+pub line_stops : (told : Type 0) (s : Scope) (a b : Stage) (x : List ℕ) (rest : List (List ℕ)) (new : List ℕ) (e : Stop) → Tellings told s a b
+    → b.rest ≡ x ∷ rest
     → SendsLine told s b.line x b.written new (Err e) → EndsTold told s a.line a.refused a.rest a.written new (Err e)
 line_stops told s a b x rest new stop.FolderFault p is h = stage_stops told s a b new p h
 line_stops told s a b x rest new stop.Memory p is h = stage_stops told s a b new p h
@@ -133,12 +149,16 @@ line_stops told s a b x rest new (stop.Damaged d) p is h = absurd h
 
 -- ---- the status
 
-told_counted : (told : Type 0) (s : Scope) (lines : List (List ℕ)) (old new : List ℕ) (b : Bool) (count n : ℕ) → (count == 0) ≡ b → count ≡ 0 + n → TellsAll told s 1 lines old new n → EndsExplain told s lines old new (counted b count)
-told_counted told s lines old new true count n test is all = let zero_is : n ≡ 0 = grind (arith, nat_tests) in subst (TellsAll told s 1 lines old new) zero_is all
+told_counted : (told : Type 0) (s : Scope) (lines : List (List ℕ)) (old new : List ℕ) (b : Bool) (count n : ℕ) → (count == 0) ≡ b → count ≡ 0 + n
+    → TellsAll told s 1 lines old new n → EndsExplain told s lines old new (counted b count)
+told_counted told s lines old new true count n test is all =
+    let zero_is : n ≡ 0 = grind (arith, nat_tests) in
+    subst (TellsAll told s 1 lines old new) zero_is all
 told_counted told s lines old new false count n test is all =
     let some_is : 1 ≤ count = grind (arith, nat_tests) in (some_is, subst (TellsAll told s 1 lines old new) (sym (is ∙ zero-add n)) all)
 
-pub told_ends : (told : Type 0) (s : Scope) (lines : List (List ℕ)) (old new : List ℕ) (done : Result ℕ Stop) → EndsTold told s 1 0 lines old new done → EndsExplain told s lines old new (status_of done)
+pub told_ends : (told : Type 0) (s : Scope) (lines : List (List ℕ)) (old new : List ℕ) (done : Result ℕ Stop) → EndsTold told s 1 0 lines old new done
+    → EndsExplain told s lines old new (status_of done)
 told_ends told s lines old new (Ok count) (n, is, all) = told_counted told s lines old new (count == 0) count n refl is all
 told_ends told s lines old new (Err stop.FolderFault) h = h
 told_ends told s lines old new (Err stop.Memory) h = h
@@ -146,7 +166,8 @@ told_ends told s lines old new (Err stop.SinkFault) h = h
 told_ends told s lines old new (Err (stop.Damaged damage)) h = h
 
 -- no end of explaining is damage
-pub told_undamaged : (told : Type 0) (s : Scope) (line refused : ℕ) (lines : List (List ℕ)) (old new : List ℕ) (done : Result ℕ Stop) → EndsTold told s line refused lines old new done → IsDamaged (status_of done) → ⊥
+pub told_undamaged : (told : Type 0) (s : Scope) (line refused : ℕ) (lines : List (List ℕ)) (old new : List ℕ) (done : Result ℕ Stop)
+    → EndsTold told s line refused lines old new done → IsDamaged (status_of done) → ⊥
 told_undamaged told s line refused lines old new (Ok count) h d = by (count == 0) d
   where
     by : (b : Bool) → IsDamaged (counted b count) → ⊥
@@ -163,28 +184,35 @@ single : (s : Scope) (line : ℕ) (x : List ℕ) (a : Told) → TellsLines s lin
 single s line x a (first, rest, one, none, is) = subst (λ t. TellsLine s line x t) (sym (is ∙ ap (followed_by first) none ∙ silence_follows first)) one
 
 -- one line more was told, as it was sent
-pub stage_sent : (told : Type 0) (s : Scope) (a b c : Stage) (x : List ℕ) (is_refused : Bool) → Tellings told s a b → b.rest ≡ x ∷ c.rest → c.line ≡ b.line + 1 → c.refused ≡ b.refused + cond is_refused 1 0
+pub stage_sent : (told : Type 0) (s : Scope) (a b c : Stage) (x : List ℕ) (is_refused : Bool) → Tellings told s a b → b.rest ≡ x ∷ c.rest → c.line ≡ b.line + 1
+    → c.refused ≡ b.refused + cond is_refused 1 0
     → SendsLine told s b.line x b.written c.written (Ok is_refused) → Tellings told s a c
 stage_sent told s a b c x is_refused p rest line refused all =
     stage_on told s a b c x all.of_lines p rest line (single s b.line x all.of_lines all.tells) (refused ∙ ap (λ n. b.refused + n) (sym all.count)) all.text
 
 -- it was sent, or a part of it
-pub sent_line : (told : Type 0) (s : Scope) (line : ℕ) (bytes before text old new : List ℕ) (is_refused : Bool) → before ≡ [] → IsTold (TellsLine s line bytes) before text is_refused → (r : Result Bool Stop)
+pub sent_line : (told : Type 0) (s : Scope) (line : ℕ) (bytes before text old new : List ℕ) (is_refused : Bool) → before ≡ []
+    → IsTold (TellsLine s line bytes) before text is_refused → (r : Result Bool Stop)
     → IfOk r (λ b. b ≡ is_refused) → OnErr r (IsErrOf r stop.SinkFault) → (told → IsSent text old new r) → SendsLine told s line bytes old new r
-sent_line told s line bytes before text old new is_refused empty is (Ok b) known only sent = subst (λ q. SendsLine told s line bytes old new (Ok q)) (sym known) (record {
-  of_lines = is.told;
-  tells = one_line s line bytes is.told is.tells;
-  text = λ t. sent t ∙ ap (λ bs. old ++ bs) (is.text ∙ ap (λ bs. bs ++ is.told.text) empty);
-  count = is.refused;
-})
+sent_line told s line bytes before text old new is_refused empty is (Ok b) known only sent =
+    subst (λ q. SendsLine told s line bytes old new (Ok q)) (sym known) (record {
+      of_lines = is.told;
+      tells = one_line s line bytes is.told is.tells;
+      text = λ t. sent t ∙ ap (λ bs. old ++ bs) (is.text ∙ ap (λ bs. bs ++ is.told.text) empty);
+      count = is.refused;
+    })
 sent_line told s line bytes before text old new is_refused empty is (Err stop.SinkFault) known only sent =
     (is.told, is.tells, λ t. subst (WritesPart old new) (is.text ∙ ap (λ bs. bs ++ is.told.text) empty) (sent t))
-sent_line told s line bytes before text old new is_refused empty is (Err stop.FolderFault) known only sent = let e : IsErrOf {T = Bool} (Err stop.FolderFault) stop.SinkFault = only in absurd cc
-sent_line told s line bytes before text old new is_refused empty is (Err stop.Memory) known only sent = let e : IsErrOf {T = Bool} (Err stop.Memory) stop.SinkFault = only in absurd cc
-sent_line told s line bytes before text old new is_refused empty is (Err (stop.Damaged d)) known only sent = let e : IsErrOf {T = Bool} (Err (stop.Damaged d)) stop.SinkFault = only in absurd cc
+sent_line told s line bytes before text old new is_refused empty is (Err stop.FolderFault) known only sent =
+    let e : IsErrOf {T = Bool} (Err stop.FolderFault) stop.SinkFault = only in absurd cc
+sent_line told s line bytes before text old new is_refused empty is (Err stop.Memory) known only sent =
+    let e : IsErrOf {T = Bool} (Err stop.Memory) stop.SinkFault = only in absurd cc
+sent_line told s line bytes before text old new is_refused empty is (Err (stop.Damaged d)) known only sent =
+    let e : IsErrOf {T = Bool} (Err (stop.Damaged d)) stop.SinkFault = only in absurd cc
 
 -- nothing was sent of it
-pub left_line : (told : Type 0) (s : Scope) (line : ℕ) (bytes old new : List ℕ) (fault : PageFault) → FaultShows (λ _. ⊥) fault → (r : Result Bool Stop) → r ≡ Err (stop_of fault) → new ≡ old
+pub left_line : (told : Type 0) (s : Scope) (line : ℕ) (bytes old new : List ℕ) (fault : PageFault) → FaultShows (λ _. ⊥) fault → (r : Result Bool Stop)
+    → r ≡ Err (stop_of fault) → new ≡ old
     → SendsLine told s line bytes old new r
 left_line told s line bytes old new page.Failed whole r is same = subst (SendsLine told s line bytes old new) (sym is) (λ t. same)
 left_line told s line bytes old new page.Memory whole r is same = subst (SendsLine told s line bytes old new) (sym is) (λ t. same)
@@ -192,12 +220,16 @@ left_line told s line bytes old new (page.Damaged d) whole r is same = absurd wh
 
 -- no line was told
 pub none_told : (told : Type 0) (s : Scope) (line : ℕ) (lines : List (List ℕ)) (old new : List ℕ) → new ≡ old → TellsSome told s line lines old new
-none_told told s line lines old new same = record { done = []; rest = lines; whole = refl; of_done = silence; tells = refl; text = λ t. same ∙ sym (append-nil old) }
+none_told told s line lines old new same =
+    record { done = []; rest = lines; whole = refl; of_done = silence; tells = refl; text = λ t. same ∙ sym (append-nil old) }
 
-pub unread_ends : (told : Type 0) (s : Scope) (line refused : ℕ) (lines : List (List ℕ)) (old new : List ℕ) (fault : PageFault) → FaultShows (λ _. ⊥) fault → (r : Result ℕ Stop) → r ≡ Err (stop_of fault)
+pub unread_ends : (told : Type 0) (s : Scope) (line refused : ℕ) (lines : List (List ℕ)) (old new : List ℕ) (fault : PageFault) → FaultShows (λ _. ⊥) fault
+    → (r : Result ℕ Stop) → r ≡ Err (stop_of fault)
     → new ≡ old → EndsTold told s line refused lines old new r
-unread_ends told s line refused lines old new page.Failed whole r is same = subst (EndsTold told s line refused lines old new) (sym is) (none_told told s line lines old new same)
-unread_ends told s line refused lines old new page.Memory whole r is same = subst (EndsTold told s line refused lines old new) (sym is) (none_told told s line lines old new same)
+unread_ends told s line refused lines old new page.Failed whole r is same =
+    subst (EndsTold told s line refused lines old new) (sym is) (none_told told s line lines old new same)
+unread_ends told s line refused lines old new page.Memory whole r is same =
+    subst (EndsTold told s line refused lines old new) (sym is) (none_told told s line lines old new same)
 unread_ends told s line refused lines old new (page.Damaged d) whole r is same = absurd whole
 
 -- ---- the leaves that are left to touch
@@ -211,7 +243,8 @@ pub record Left (s : Scope) (line : ℕ) (rest : List (List ℕ)) (before now al
 pub left_here : (s : Scope) (line : ℕ) (lines : List (List ℕ)) (now : ℕ) (t : Told) → TellsLines s line lines t → Left s line lines now now t.touched
 left_here s line lines now t tells = record { told = t; tells = tells; fits = omega arith }
 
-left_split : (s : Scope) (line : ℕ) (x : List ℕ) (more : List (List ℕ)) (before now new all : ℕ) (t : Told) → TellsLines s line (x ∷ more) t → now + t.touched ≤ before + all
+left_split : (s : Scope) (line : ℕ) (x : List ℕ) (more : List (List ℕ)) (before now new all : ℕ) (t : Told) → TellsLines s line (x ∷ more) t
+    → now + t.touched ≤ before + all
     → ((u : Told) → TellsLine s line x u → new ≤ now + u.touched) → Left s (line + 1) more before new all
 left_split s line x more before now new all t (first, others, one, tells, is) fits reads = record {
   told = others;
@@ -219,9 +252,11 @@ left_split s line x more before now new all t (first, others, one, tells, is) fi
   fits = let few = reads first one in let same = ap (λ (u : Told). u.touched) is in omega (arith, fits, few, same);
 }
 
-pub left_on : (s : Scope) (line : ℕ) (rest : List (List ℕ)) (x : List ℕ) (more : List (List ℕ)) (before now new all : ℕ) → rest ≡ x ∷ more → Left s line rest before now all
+pub left_on : (s : Scope) (line : ℕ) (rest : List (List ℕ)) (x : List ℕ) (more : List (List ℕ)) (before now new all : ℕ) → rest ≡ x ∷ more
+    → Left s line rest before now all
     → ((u : Told) → TellsLine s line x u → new ≤ now + u.touched) → Left s (line + 1) more before new all
-left_on s line rest x more before now new all is left reads = left_split s line x more before now new all left.told (subst (λ ls. TellsLines s line ls left.told) is left.tells) left.fits reads
+left_on s line rest x more before now new all is left reads =
+    left_split s line x more before now new all left.told (subst (λ ls. TellsLines s line ls left.told) is left.tells) left.fits reads
 
 pub left_end : (s : Scope) (line : ℕ) (rest : List (List ℕ)) (before now all : ℕ) → Left s line rest before now all → now ≤ before + all
 left_end s line rest before now all left = omega (arith, left.fits)

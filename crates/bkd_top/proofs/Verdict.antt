@@ -20,7 +20,8 @@ pub told_text : (files : Files) (before sent after : List ℕ) → before ≡ []
 told_text files before sent after empty same (text, is, appended) = subst (IsChecked files) (sym (same ∙ appended ∙ ap (λ xs. xs ++ text) empty)) is
 
 module _ (told : Type 0) (files : Files) (old new : List ℕ) where
-  pub sent_check : (text : List ℕ) (r : Result ℕ Stop) → IsChecked files text → (told → IsSent text old new r) → IfOk r (λ n. n ≡ 0) → OnErr r (IsErrOf r stop.SinkFault)
+  pub sent_check : (text : List ℕ) (r : Result ℕ Stop) → IsChecked files text → (told → IsSent text old new r) → IfOk r (λ n. n ≡ 0)
+      → OnErr r (IsErrOf r stop.SinkFault)
       → EndsCheck told files old new (status_of r)
   sent_check text (Ok n) is sent count only = subst (λ (m : ℕ). EndsCheck told files old new (status_of (Ok m))) (sym count) (text, is, sent)
   sent_check text (Err stop.SinkFault) is sent count only = (text, is, sent)
@@ -28,7 +29,8 @@ module _ (told : Type 0) (files : Files) (old new : List ℕ) where
   sent_check text (Err stop.Memory) is sent count only = absurd cc
   sent_check text (Err (stop.Damaged d)) is sent count only = absurd cc
 
-  pub fault_check : (fault : PageFault) → FaultShows (λ _. IsUndefined files) fault → (told → new ≡ old) → EndsCheck told files old new (status_of (Err (stop_of fault)))
+  pub fault_check : (fault : PageFault) → FaultShows (λ _. IsUndefined files) fault → (told → new ≡ old)
+      → EndsCheck told files old new (status_of (Err (stop_of fault)))
   fault_check page.Failed undefined still = still
   fault_check page.Memory undefined still = still
   fault_check (page.Damaged d) undefined still = (undefined, still)

@@ -1,12 +1,14 @@
 -- What a parse finds for the options of a plain command: each value has passed the parser of its option, and is read by it.
-use Rattle.std.proofs.Common.{◌≡◌, ◌⊎◌, ◌∙◌, ◌<◌, ◌||◌, ◌&&◌, not, ap, zero, suc, ℕ, Bool, true, false, List, [], ◌∷◌, map, length, is_some, Option, Some, None, refl, sym, subst, inl, inr, arith, codes}
+use Rattle.std.proofs.Common.{◌≡◌, ◌⊎◌, ◌∙◌, ◌<◌, ◌||◌, ◌&&◌, not, ap, zero, suc, ℕ, Bool, true, false, List, [], ◌∷◌}
+use Rattle.std.proofs.Common.{map, length, is_some, Option, Some, None, refl, sym, subst, inl, inr, arith, codes}
 use Rattle.std.specs.List.{All, slice_index_or, list_any}
 use Rattle.std.specs.Str.{bytes_eq}
 use Rattle.std.specs.Borrow.{Bor}
 use Rattle.std.proofs.lemmas.Bool.{or_parts, both_ways, not-true}
 use Rattle.std.proofs.lemmas.List.Elements.{All-map}
 use Rattle.std.proofs.lemmas.Slice.Eq.{bytes_eq-Decides}
-use Rattle.clap.specs.Words.{App, Rule, Accepts, IsParsedFrom, SameRules, app_of, args_of, groups_of, first_value, found_of, has_subcommand, matched_of, one_text, parser_of, read_as, reading_of, rule_of}
+use Rattle.clap.specs.Words.{App, Rule, Accepts, IsParsedFrom, SameRules, app_of, args_of, groups_of, first_value}
+use Rattle.clap.specs.Words.{found_of, has_subcommand, matched_of, one_text, parser_of, read_as, reading_of, rule_of}
 use Rattle.clap.specs.Built.{IsAuto}
 use Rattle.clap.specs.Simple.{has_simple_rules, is_buildable, is_simple}
 use Rattle.clap.specs.Faults.{is_simple_and_free}

@@ -1,5 +1,6 @@
 -- Names between commas.
-use Rattle.std.proofs.Common.{◌≡◌, ◌∙◌, ◌+◌, ◌<◌, ◌≤◌, ◌&&◌, ◌==◌, ap, ap₂, sym, subst, zero, suc, ℕ, Bool, true, false, not, List, [], ◌∷◌, ◌++◌, length, map, take, get_or, arith, nat_le, refl, Some, None, Option}
+use Rattle.std.proofs.Common.{◌≡◌, ◌∙◌, ◌+◌, ◌<◌, ◌≤◌, ◌&&◌, ◌==◌, ap, ap₂, sym, subst, zero, suc, ℕ, Bool, true, false}
+use Rattle.std.proofs.Common.{not, List, [], ◌∷◌, ◌++◌, length, map, take, get_or, arith, nat_le, refl, Some, None, Option}
 use Rattle.std.specs.List.{All, list_all, slice_split}
 use Rattle.std.specs.Borrow.{Bor}
 use Rattle.std.proofs.lemmas.Bool.{and_parts, cond-true, cond-false, leb-true, not-true, eqb-false, eq-eqb, both_ways}

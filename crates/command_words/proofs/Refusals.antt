@@ -25,13 +25,24 @@ refused command words e has other = refused_by (fault_of command words) e (match
 
 -- where the second word is the name of no command, nothing is asked for
 pub unknown : (texts : List (List ℕ)) (name : List ℕ) → 2 ≤ length texts → get_or texts 1 name ≡ name
-    → (name ≡ run.name → ⊥) → (name ≡ load.name → ⊥) → (name ≡ explain.name → ⊥) → (name ≡ check.name → ⊥) → (name ≡ generate.name → ⊥) → (name ≡ session.name → ⊥) → (name ≡ count.name → ⊥)
+    → (name ≡ run.name → ⊥) → (name ≡ load.name → ⊥) → (name ≡ explain.name → ⊥) → (name ≡ check.name → ⊥) → (name ≡ generate.name → ⊥)
+    → (name ≡ session.name → ⊥) → (name ≡ count.name → ⊥)
     → (name ≡ ranges.name → ⊥) → (name ≡ batch.name → ⊥)
     → asked texts ≡ None
 unknown [] name two second no_run no_load no_explain no_check no_generate no_session no_count no_ranges no_batch = absurd (omega arith)
 unknown (folder ∷ []) name two second no_run no_load no_explain no_check no_generate no_session no_count no_ranges no_batch = absurd (omega arith)
 unknown (folder ∷ word ∷ options) name two second no_run no_load no_explain no_check no_generate no_session no_count no_ranges no_batch =
-    rw (differs run.name no_run, differs load.name no_load, differs explain.name no_explain, differs check.name no_check, differs generate.name no_generate, differs session.name no_session, differs count.name no_count, differs ranges.name no_ranges, differs batch.name no_batch) refl
+    rw (
+      differs run.name no_run,
+      differs load.name no_load,
+      differs explain.name no_explain,
+      differs check.name no_check,
+      differs generate.name no_generate,
+      differs session.name no_session,
+      differs count.name no_count,
+      differs ranges.name no_ranges,
+      differs batch.name no_batch,
+    ) refl
   where
     differs : (form : List ℕ) → (name ≡ form → ⊥) → bytes_eq word form ≡ false
     differs form other = false_from_ne_true _ (λ same. other (sym second ∙ (bytes_eq-Decides word form).0 same))

@@ -19,7 +19,8 @@ use Rattle.index_opening.proofs.Evident.{on_evident_less}
 use Rattle.index_core.specs.Sessions.{AreTraced, Guards, IsTraced, SessionData, Trusts}
 use Rattle.index_core.specs.Effects.{BringsCanonical}
 use Rattle.index_core.specs.Whole.{Adds, Moment, with_points}
-use Rattle.index_core.proofs.Answering.{cause_then, fault_to, no_cause}
+use Rattle.index_core.proofs.Answering.{no_cause}
+use Rattle.index_core.proofs.FaultCauses.{cause_then, fault_to}
 use Rattle.index_core.proofs.Bringing.{brings_same, brings_then}
 use Rattle.drawn_points.specs.Draws.{point}
 use Rattle.drawn_points.specs.Generated.{document, documents, kept}

@@ -1,5 +1,6 @@
 -- Documents are added without a text for each.
-use Rattle.std.proofs.Common.{◌≡◌, ◌≤◌, ◌<◌, ◌+◌, ◌^◌, ℕ, List, [], ◌∷◌, ◌++◌, length, map, take, get_or, Result, Ok, Err, OnOk, refl, sym, ap, subst, ◌∙◌, arith, All, ℤ}
+use Rattle.std.proofs.Common.{◌≡◌, ◌≤◌, ◌<◌, ◌+◌, ◌^◌, ℕ, List, [], ◌∷◌, ◌++◌, length, map, take}
+use Rattle.std.proofs.Common.{get_or, Result, Ok, Err, OnOk, refl, sym, ap, subst, ◌∙◌, arith, All, ℤ}
 use Rattle.std.specs.declared.cmp.Ordering.{Ordering}
 use Rattle.std.specs.Ordering.{int_cmp}
 use Rattle.std.specs.Cmp.{IsTotalOrder}
@@ -39,7 +40,8 @@ use Rattle.segment_set.specs.declared.faults.AddFault.{AddFault}
 use Rattle.segment_set.specs.declared.faults.AddFault.TheVariants as add
 use Rattle.index_core.specs.Sessions.{Guards, SessionData, Trusts}
 use Rattle.index_core.specs.Whole.{Adds, Moment, added, with_point, with_points}
-use Rattle.index_core.proofs.Answering.{cause_then, fault_to, memory_cause, no_cause}
+use Rattle.index_core.proofs.Answering.{no_cause}
+use Rattle.index_core.proofs.FaultCauses.{cause_then, fault_to, memory_cause}
 use Rattle.index_core.proofs.Bringing.{brings_same, brings_then, brings_written}
 use Rattle.index_core.proofs.Guarding.{guards_after, kept_after_calls}
 use Rattle.index_core.proofs.Tracing.{traced_by, traced_shows}
@@ -82,7 +84,8 @@ on_ok_map (Err e) h p = tt
 pub adds_then : {T U : Type 0} (D : ℕ) (told : Type 0) (xs ys : List (List ℤ)) (a b c : Moment) (x : U) (r : Result T PageFault)
     → Adds D told xs a b (Ok x) → Adds D told ys b c r → Adds D told (xs ++ ys) a c r
 adds_then D told xs ys a b c x r first second = record {
-  seen = λ t i seen. on_ok_map r (subst (Sees D c.files c.session.set) (sym (fold-append with_point i xs ys))) (second.seen t (with_points i xs) (first.seen t i seen));
+  seen = λ t i seen.
+      on_ok_map r (subst (Sees D c.files c.session.set) (sym (fold-append with_point i xs ys))) (second.seen t (with_points i xs) (first.seen t i seen));
   given = on_ok_map r (λ more. let long = length-append xs ys in let some = first.given in omega arith) second.given;
   guards = λ t guards. second.guards t (first.guards t guards);
   kept = λ t guards. kept_after a.files b.files c.files (first.kept t guards) (second.kept t (first.guards t guards));
@@ -91,7 +94,8 @@ adds_then D told xs ys a b c x r first second = record {
   whole = λ t i seen. second.whole t (with_points i xs) (first.seen t i seen);
   faithful = λ t faithful. second.faithful t (first.faithful t faithful);
   traced = λ t trusts. second.traced t (trusts_then t trusts);
-  evident = on_evident_less (told × Trusts D b.files b.session) (told × Trusts D a.files a.session) c.files r (λ (t, trusts). (t, trusts_then t trusts)) second.evident;
+  evident = on_evident_less (told × Trusts D b.files b.session) (told × Trusts D a.files a.session) c.files r (λ (t, trusts). (t, trusts_then t trusts))
+      second.evident;
 }
   where
     trusts_then : told → Trusts D a.files a.session → Trusts D b.files b.session
@@ -157,13 +161,15 @@ put_ok P (Err add.Failed) p = tt
 put_ok P (Err (add.Damaged d)) p = tt
 put_ok P (Err add.Memory) p = tt
 
-pub adds_one : (D : ℕ) (told : Type 0) (point : List ℤ) (old new : Moment) (r : Result ℕ AddFault) → IsPut D told point old new r → Adds D told (point ∷ []) old new (added r)
+pub adds_one : (D : ℕ) (told : Type 0) (point : List ℤ) (old new : Moment) (r : Result ℕ AddFault) → IsPut D told point old new r
+    → Adds D told (point ∷ []) old new (added r)
 adds_one D told point old new r put = record {
   seen = λ t i seen. put_ok (Sees D new.files new.session.set (with_point i point)) r (put.seen t i seen);
   given = put_ok (new.session.set.given ≡ old.session.set.given + 1) r put.given;
   guards = λ t guards. guards_after D told old.files new.files old.session new.session t put.commit put.refused put.keeps put.follows put.leaf guards;
   kept = λ t guards. kept_after_calls D told old.files new.files old.session.set new.session.set.names t put.keeps guards.set;
-  canon = λ t. brings_written D told old.files new.files old.session.set.names new.session.set.names old.session.set.parts new.session.set.parts t put.keeps put.follows (put.second t);
+  canon = λ t. brings_written D told old.files new.files old.session.set.names new.session.set.names old.session.set.parts new.session.set.parts t put.keeps
+      put.follows (put.second t);
   cause = put_cause old.faults new.faults r put.cause;
   whole = λ t i seen. put_shows (λ _. ⊥) r (put.whole t i seen);
   faithful = put.faithful;
@@ -180,14 +186,16 @@ no_pairs (x ∷ xs) none = absurd (omega (arith, none))
 one_in_order : {K : Type 0} (R : K → K → Ordering) (o : IsTotalOrder R) (x : K) → in_order R (x ∷ []) ≡ x ∷ []
 one_in_order {K = K} R o x =
     ap (map (λ (e : K × Unit {0}). e.0))
-    (entries-insert o empty x tt ∙ ap (put R x tt) (no_pairs (entries (empty {X = Unit {0}} {R = R})) (sym (len-entries (empty {X = Unit {0}} {R = R})) ∙ len-empty R (Unit {0}))))
+    (entries-insert o empty x tt
+    ∙ ap (put R x tt) (no_pairs (entries (empty {X = Unit {0}} {R = R})) (sym (len-entries (empty {X = Unit {0}} {R = R})) ∙ len-empty R (Unit {0}))))
 
 pub one_ordered : (point : List ℤ) → ordered (point ∷ []) ≡ point ∷ []
 one_ordered point = one_in_order (slice_cmp int_cmp) (lists_total int_cmp_total) point
 
 -- what the set's call says of the points that it got, where these are the one
 pub put_seen : (D : ℕ) (told : Type 0) (point : List ℤ) (points : List (List ℤ)) (f g : Files) (s t : SetData) (r : Result ℕ AddFault) → points ≡ point ∷ []
-    → (told → (i : Index) → Sees D f s i → OnOk r (Sees D g t (record i { next = i.next + 1; given = i.given + length points; docs = i.docs ++ record { number = i.next; points = points } ∷ [] })))
+    → (told → (i : Index) → Sees D f s i
+    → OnOk r (Sees D g t (record i { next = i.next + 1; given = i.given + length points; docs = i.docs ++ record { number = i.next; points = points } ∷ [] })))
     → told → (i : Index) → Sees D f s i → OnOk r (Sees D g t (with_point i point))
 put_seen D told point points f g s t r is seen = subst
     (λ (ps : List (List ℤ)). told → (i : Index) → Sees D f s i
@@ -196,60 +204,78 @@ put_seen D told point points f g s t r is seen = subst
 
 pub put_given : (P : Type 0) (point : List ℤ) (points : List (List ℤ)) (before now : ℕ) (r : Result ℕ AddFault) → points ≡ point ∷ []
     → OnOk r (P × (now ≡ before + length points)) → OnOk r (now ≡ before + 1)
-put_given P point points before now r is given = on_ok_map r (λ (both : P × (now ≡ before + length points)). both.1 ∙ ap (λ (ps : List (List ℤ)). before + length ps) is) given
+put_given P point points before now r is given =
+    on_ok_map r (λ (both : P × (now ≡ before + length points)). both.1 ∙ ap (λ (ps : List (List ℤ)). before + length ps) is) given
 
 -- ---- of the session that the code opened
 
-pub adds_seen : {T : Type 0} (D : ℕ) (told : Type 0) (points : List (List ℤ)) (files : Files) (s u : SessionData) (faults : ℕ) (new : Moment) (r : Result T PageFault) → u ≡ s
-    → Adds D told points (record { files = files; session = u; faults = faults }) new r → Adds D told points (record { files = files; session = s; faults = faults }) new r
-adds_seen D told points files s u faults new r same adds = subst (λ (v : SessionData). Adds D told points (record { files = files; session = v; faults = faults }) new r) same adds
+pub adds_seen : {T : Type 0} (D : ℕ) (told : Type 0) (points : List (List ℤ)) (files : Files) (s u : SessionData) (faults : ℕ) (new : Moment)
+    (r : Result T PageFault) → u ≡ s
+    → Adds D told points (record { files = files; session = u; faults = faults }) new r
+    → Adds D told points (record { files = files; session = s; faults = faults }) new r
+adds_seen D told points files s u faults new r same adds =
+    subst (λ (v : SessionData). Adds D told points (record { files = files; session = v; faults = faults }) new r) same adds
 
-pub adds_memory_as : {T : Type 0} (D : ℕ) (told : Type 0) (points : List (List ℤ)) (at : Moment) (r : Result T PageFault) → r ≡ Err page.Memory → Adds D told points at at r
+pub adds_memory_as : {T : Type 0} (D : ℕ) (told : Type 0) (points : List (List ℤ)) (at : Moment) (r : Result T PageFault) → r ≡ Err page.Memory
+    → Adds D told points at at r
 adds_memory_as D told points at r is = subst (Adds D told points at at) (sym is) (adds_no_memory D told points at)
 
-pub adds_as : {T : Type 0} (D : ℕ) (told : Type 0) (points : List (List ℤ)) (old new : Moment) (r q : Result T PageFault) → q ≡ r → Adds D told points old new r → Adds D told points old new q
+pub adds_as : {T : Type 0} (D : ℕ) (told : Type 0) (points : List (List ℤ)) (old new : Moment) (r q : Result T PageFault) → q ≡ r → Adds D told points old new r
+    → Adds D told points old new q
 adds_as D told points old new r q is adds = subst (Adds D told points old new) (sym is) adds
 
 -- ---- one point after the other
 
 -- one point more of the list
-pub adds_more : {T U : Type 0} (D : ℕ) (told : Type 0) (points : List (Point D)) (k : ℕ) (p : Point D) (a b c : Moment) (x : U) (r : Result T PageFault) → k < length points → p ≡ get_or points k p
+pub adds_more : {T U : Type 0} (D : ℕ) (told : Type 0) (points : List (Point D)) (k : ℕ) (p : Point D) (a b c : Moment) (x : U) (r : Result T PageFault)
+    → k < length points → p ≡ get_or points k p
     → Adds D told (coordinates_of (take k points)) a b (Ok x) → Adds D told (p.c ∷ []) b c r → Adds D told (coordinates_of (take (k + 1) points)) a c r
 adds_more D told points k p a b c x r inside is first second =
     subst (λ (qs : List (List ℤ)). Adds D told qs a c r)
-    (sym (map-append (λ (q : Point D). q.c) (take k points) (p ∷ [])) ∙ sym (ap coordinates_of (take_more points k p inside ∙ ap (λ (q : Point D). take k points ++ q ∷ []) (sym is))))
+    (sym (map-append (λ (q : Point D). q.c) (take k points) (p ∷ []))
+    ∙ sym (ap coordinates_of (take_more points k p inside ∙ ap (λ (q : Point D). take k points ++ q ∷ []) (sym is))))
     (adds_then D told (coordinates_of (take k points)) (p.c ∷ []) a b c x r first second)
 
 -- all of them
-pub adds_all : {T : Type 0} (D : ℕ) (told : Type 0) (points : List (Point D)) (k : ℕ) (a b : Moment) (r : Result T PageFault) → length points ≤ k → Adds D told (coordinates_of (take k points)) a b r
+pub adds_all : {T : Type 0} (D : ℕ) (told : Type 0) (points : List (Point D)) (k : ℕ) (a b : Moment) (r : Result T PageFault) → length points ≤ k
+    → Adds D told (coordinates_of (take k points)) a b r
     → Adds D told (coordinates_of points) a b r
 adds_all D told points k a b r long adds = subst (λ (qs : List (Point D)). Adds D told (coordinates_of qs) a b r) (take_all k points long) adds
 
 -- there is room for the next one
-pub room_for_next : (D : ℕ) (points : List (Point D)) (k before now : ℕ) → k < length points → before + length points ≤ 2 ^ 24 → now ≡ before + length (coordinates_of (take k points)) → now + 1 ≤ 2 ^ 24
+pub room_for_next : (D : ℕ) (points : List (Point D)) (k before now : ℕ) → k < length points → before + length points ≤ 2 ^ 24
+    → now ≡ before + length (coordinates_of (take k points)) → now + 1 ≤ 2 ^ 24
 room_for_next D points k before now inside fits is =
-    let long = length-map (take k points) (λ (q : Point D). q.c) in let cut = length-take-le k points (omega (arith, inside)) in omega (arith, inside, fits, is, long, cut)
+    let long = length-map (take k points) (λ (q : Point D). q.c) in
+    let cut = length-take-le k points (omega (arith, inside)) in
+    omega (arith, inside, fits, is, long, cut)
 
 -- ---- calls that only read
 
-pub guards_cache : (D : ℕ) (told : Type 0) (f g : Files) (s u : SessionData) (t : SetData) → u ≡ s → told → StaysButCache u.set t → (told → g ≡ f) → Guards D f s
+pub guards_cache : (D : ℕ) (told : Type 0) (f g : Files) (s u : SessionData) (t : SetData) → u ≡ s → told → StaysButCache u.set t → (told → g ≡ f)
+    → Guards D f s
     → Guards D g (record { set = t; commit = u.commit; refused = u.refused })
 guards_cache D told f g s u t is h stays same guards = guards_after D told f g u (record { set = t; commit = u.commit; refused = u.refused }) h refl refl
-    (keeps_calm told u.set.names t.names f g (ap (λ (v : SetData). v.names) stays.is) same) (follows_same u.set.names u.set.parts t.parts (ap (λ (v : SetData). v.parts) stays.is))
+    (keeps_calm told u.set.names t.names f g (ap (λ (v : SetData). v.names) stays.is) same)
+    (follows_same u.set.names u.set.parts t.parts (ap (λ (v : SetData). v.parts) stays.is))
     (ap (λ (v : SetData). v.leaf) stays.is) (subst (Guards D f) (sym is) guards)
 
-pub faithful_seen : (D : ℕ) (f g : Files) (s u : SessionData) (t : SetData) → u ≡ s → (IsFaithful D f u.set → IsFaithful D g t) → IsFaithful D f s.set → IsFaithful D g t
+pub faithful_seen : (D : ℕ) (f g : Files) (s u : SessionData) (t : SetData) → u ≡ s → (IsFaithful D f u.set → IsFaithful D g t) → IsFaithful D f s.set
+    → IsFaithful D g t
 faithful_seen D f g s u t is faithful was = faithful (subst (λ (v : SessionData). IsFaithful D f v.set) (sym is) was)
 
-pub evident_seen : {T : Type 0} (D : ℕ) (told : Type 0) (f g : Files) (s u : SessionData) (r : Result T PageFault) → u ≡ s → OnDamage r (IsEvident (told × IsFaithful D f u.set) g)
+pub evident_seen : {T : Type 0} (D : ℕ) (told : Type 0) (f g : Files) (s u : SessionData) (r : Result T PageFault) → u ≡ s
+    → OnDamage r (IsEvident (told × IsFaithful D f u.set) g)
     → OnDamage r (IsEvident (told × IsFaithful D f s.set) g)
 evident_seen D told f g s u r is evident = subst (λ (v : SessionData). OnDamage r (IsEvident (told × IsFaithful D f v.set) g)) is evident
 
 -- ---- a call that gives no name
 
-pub guards_same : (D : ℕ) (files : Files) (s u : SessionData) (t : SetData) → u ≡ s → t.names ≡ u.set.names → t.leaf ≡ u.set.leaf → Follows u.set.names u.set.parts t.parts → Guards D files s
+pub guards_same : (D : ℕ) (files : Files) (s u : SessionData) (t : SetData) → u ≡ s → t.names ≡ u.set.names → t.leaf ≡ u.set.leaf
+    → Follows u.set.names u.set.parts t.parts → Guards D files s
     → Guards D files (record { set = t; commit = u.commit; refused = u.refused })
-guards_same D files s u t is names leaf follows guards = guards_after D (Unit {0}) files files u (record { set = t; commit = u.commit; refused = u.refused }) tt refl refl
+guards_same D files s u t is names leaf follows guards =
+    guards_after D (Unit {0}) files files u (record { set = t; commit = u.commit; refused = u.refused }) tt refl refl
     (keeps_calm (Unit {0}) u.set.names t.names files files names (λ told. refl)) follows leaf (subst (Guards D files) (sym is) guards)
 
 -- ---- a new set
@@ -258,4 +284,5 @@ guards_same D files s u t is names leaf follows guards = guards_after D (Unit {0
 pub bare_parts : (names : NameList) (parts : List Part) → names ≡ record { names = []; next_segment = 0 } → All (IsNamed names) parts → parts ≡ []
 bare_parts names [] is all = refl
 bare_parts names (p ∷ ps) is all =
-    absurd (both_ways (is_named [] (Segment p.head.id)) (is_named-none (Segment p.head.id)) (subst (λ (n : NameList). IsNamed n p) is (All-head (IsNamed names) p ps all)))
+    absurd (both_ways (is_named [] (Segment p.head.id)) (is_named-none (Segment p.head.id))
+    (subst (λ (n : NameList). IsNamed n p) is (All-head (IsNamed names) p ps all)))

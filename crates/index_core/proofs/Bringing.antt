@@ -20,7 +20,8 @@ use Rattle.segment_set.proofs.Carried.{canon_file, canon_named, keeps_calm}
 use Rattle.index_core.specs.Effects.{BringsCanonical, IsOfBefore}
 
 -- the same segments, each with its file as it was
-pub brings_still : (D : ℕ) (f g : Files) (s t : List Part) → ((p : Part) → Contains s p → g (Segment p.head.id) ≡ f (Segment p.head.id)) → t ≡ s → BringsCanonical D f g s t
+pub brings_still : (D : ℕ) (f g : Files) (s t : List Part) → ((p : Part) → Contains s p → g (Segment p.head.id) ≡ f (Segment p.head.id)) → t ≡ s
+    → BringsCanonical D f g s t
 brings_still D f g s t files same p there =
     let was = subst (λ (ps : List Part). Contains ps p) same there in
     inl (record { part = p; was = was; head = refl; file = files p was })
@@ -39,7 +40,8 @@ brings_cleared D files number s t is p there =
     inl (record { part = r.0; was = r.1; head = ap (λ (q : Part). q.head) r.2; file = refl })
 
 -- a call on the set that writes segments under new names alone
-pub brings_written : (D : ℕ) (told : Type 0) (f g : Files) (m n : NameList) (s t : List Part) → told → KeepsNamed told m n f g → Follows m s t → AreCanonical D g m t → BringsCanonical D f g s t
+pub brings_written : (D : ℕ) (told : Type 0) (f g : Files) (m n : NameList) (s t : List Part) → told → KeepsNamed told m n f g → Follows m s t
+    → AreCanonical D g m t → BringsCanonical D f g s t
 brings_written D told f g m n s t is_told keeps follows canon p there = by (is_named m.names (Segment p.head.id)) refl
   where
     by : (b : Bool) → is_named m.names (Segment p.head.id) ≡ b → IsOfBefore f g s p ⊎ HasCanonical D g p.head
@@ -50,7 +52,8 @@ brings_written D told f g m n s t is_told keeps follows canon p there = by (is_n
         (follows.each p there)
 
 -- one that gives no name
-pub brings_named : (D : ℕ) (told : Type 0) (f g : Files) (m n : NameList) (s t : List Part) → told → (told → g ≡ f) → n ≡ m → Follows m s t → All (IsNamed n) t → BringsCanonical D f g s t
+pub brings_named : (D : ℕ) (told : Type 0) (f g : Files) (m n : NameList) (s t : List Part) → told → (told → g ≡ f) → n ≡ m → Follows m s t → All (IsNamed n) t
+    → BringsCanonical D f g s t
 brings_named D told f g m n s t is_told files names follows named =
     brings_written D told f g m n s t is_told (keeps_calm told m n f g names files) follows
     (canon_named D g m t (subst (λ (l : NameList). All (IsNamed l) t) names named))
@@ -71,15 +74,18 @@ brings_then D f g h s t u first second p there = ⊎_elim (λ r. through r) inr 
         (first r.part r.was)
 
 -- sets that stand over the same files have the same head of each id
-pub brings_anew : (D : ℕ) (files : Files) (s t : SetData) (i j : Index) → Sees D files s i → Sees D files t j → ids_of t.parts ≡ ids_of s.parts → BringsCanonical D files files s.parts t.parts
+pub brings_anew : (D : ℕ) (files : Files) (s t : SetData) (i j : Index) → Sees D files s i → Sees D files t j → ids_of t.parts ≡ ids_of s.parts
+    → BringsCanonical D files files s.parts t.parts
 brings_anew D files s t i j old new ids p there = inl (record {
   part = r.0;
   was = r.1;
   head = one_head D (bytes_of (files (Segment p.head.id))) r.0.head p.head r.2
-      (subst (λ n. IsHeadOf D (bytes_of (files (Segment n))) r.0.head) r.2 (head_of_segment D _ r.0.head _ (All-contains (IsRead D files old.contents) s.parts r.0 old.stands.now r.1).held))
+      (subst (λ n. IsHeadOf D (bytes_of (files (Segment n))) r.0.head) r.2
+      (head_of_segment D _ r.0.head _ (All-contains (IsRead D files old.contents) s.parts r.0 old.stands.now r.1).held))
       (head_of_segment D _ p.head _ (All-contains (IsRead D files new.contents) t.parts p new.stands.now there).held);
   file = refl;
 })
   where
     r : (q : Part) × Contains s.parts q × (q.head.id ≡ p.head.id)
-    r = of_map (λ (q : Part). q.head.id) s.parts p.head.id (subst (λ (ns : List ℕ). Contains ns p.head.id) ids (in_map (λ (q : Part). q.head.id) t.parts p there))
+    r = of_map (λ (q : Part). q.head.id) s.parts p.head.id
+        (subst (λ (ns : List ℕ). Contains ns p.head.id) ids (in_map (λ (q : Part). q.head.id) t.parts p there))

@@ -1,11 +1,10 @@
 -- What commands do to the index as it is seen, by what the calls on the set did.
-use Rattle.std.proofs.Common.{◌≡◌, ◌↔◌, ◌≤◌, ◌<◌, ◌+◌, ◌^◌, ℕ, ℤ, Bool, true, false, not, ◌||◌, cond, nat_eq, nat_lt, nat_le, List, [], ◌∷◌, ◌++◌, length, filter, Option, None, Some, is_some, Result, Ok, Err, OnOk, OnErr, IsErrOf, refl, sym, ap, subst, ◌∙◌, arith}
+use Rattle.std.proofs.Common.{◌≡◌, ◌↔◌, ◌<◌, ◌+◌, ◌^◌, ℕ, ℤ, Bool, true, false, not, ◌||◌, cond, nat_eq, nat_lt, List, [], ◌∷◌, ◌++◌, length}
+use Rattle.std.proofs.Common.{filter, Option, None, Some, is_some, Result, Ok, Err, OnOk, OnErr, IsErrOf, refl, sym, ap, subst, ◌∙◌, arith}
 use Rattle.std.specs.List.{AllZip}
 use Rattle.std.specs.Option.{option_map}
 use Rattle.std.specs.Str.{bytes_eq}
 use Rattle.std.proofs.lemmas.Bool.{both_ways, lt-ltb}
-use Rattle.std.proofs.lemmas.Bool.Decides.{nat_tests}
-use Rattle.std.proofs.Math.Seq.{take-append_seam}
 use Rattle.outer_io.specs.Files.{Files}
 use Rattle.point_codec.specs.Points.{in_box}
 use Rattle.documents.specs.Documents.{Document, deleted, hits, is_live, passes, without}
@@ -25,13 +24,11 @@ use Rattle.segment_set.specs.declared.faults.BeginFault.{BeginFault}
 use Rattle.segment_set.specs.declared.faults.BeginFault.TheVariants as begin
 use Rattle.segment_set.specs.declared.faults.EndFault.{EndFault}
 use Rattle.segment_set.specs.declared.faults.EndFault.TheVariants as end
-use Rattle.segment_set.specs.declared.faults.SnapFault.{SnapFault}
-use Rattle.segment_set.specs.declared.faults.SnapFault.TheVariants as snap
 use Rattle.segment_set.specs.Sets.{HasView, NamedView, SetData, has_name}
 use Rattle.segment_set.specs.Seen.{Sees, ShowsSnapshot}
 use Rattle.index_core.specs.Steps.{DoesOver}
-use Rattle.index_core.specs.Replies.{add_answer, begin_answer, end_answer, snap_answer, text_after}
-use Rattle.index_core.proofs.Answering.{does_as, does_done, does_fault}
+use Rattle.index_core.specs.Replies.{add_answer, begin_answer, end_answer}
+use Rattle.index_core.proofs.Answering.{does_as, does_done}
 
 -- ---- a document is added
 
@@ -42,28 +39,33 @@ pub not_full : (r : Result ℕ AddFault) (given : ℕ) → nat_lt (2 ^ 24) given
 not_full r given fits full e = both_ways (nat_lt (2 ^ 24) given) fits (lt-ltb (2 ^ 24) given (full.0 e))
 
 pub does_add : (D : ℕ) (old new : Files) (s t : SetData) (i : Index) (points : List (List ℤ)) (r : Result ℕ AddFault) (before after : List ℕ) → Sees D old s i
-    → nat_lt (2 ^ 24) (s.given + length points) ≡ false → (IsErrOf r add.Full → ⊥) → OnOk r (Sees D new t (with_document points i)) → OnErr r (Sees D new t i) → after ≡ before ++ doc_text s.next
+    → nat_lt (2 ^ 24) (s.given + length points) ≡ false → (IsErrOf r add.Full → ⊥) → OnOk r (Sees D new t (with_document points i)) → OnErr r (Sees D new t i)
+    → after ≡ before ++ doc_text s.next
     → DoesOver D new (step_on i (asks.Add points)) i t before after (add_answer r)
 unfolding step_on
 does_add D old new s t i points r before after seen fits full done refused grew =
     does_as D new (step_on i (asks.Add points)) (Done (Some (with_document points i)) (doc_text i.next)) i t before after (add_answer r)
-    (ap (λ b. cond b (Refused why.Full) (Done (Some (with_document points i)) (doc_text i.next))) (ap (λ n. nat_lt (2 ^ 24) (n + length points)) seen.given ∙ fits))
+    (ap (λ b. cond b (Refused why.Full) (Done (Some (with_document points i)) (doc_text i.next)))
+    (ap (λ n. nat_lt (2 ^ 24) (n + length points)) seen.given ∙ fits))
     (by r full done refused)
   where
     by : (r : Result ℕ AddFault) → (IsErrOf r add.Full → ⊥) → OnOk r (Sees D new t (with_document points i)) → OnErr r (Sees D new t i)
         → DoesOver D new (Done (Some (with_document points i)) (doc_text i.next)) i t before after (add_answer r)
-    by (Ok n) full done refused = does_done D new i (with_document points i) t (doc_text i.next) before after done (grew ∙ ap (λ n. before ++ doc_text n) (sym seen.next))
+    by (Ok n) full done refused =
+        does_done D new i (with_document points i) t (doc_text i.next) before after done (grew ∙ ap (λ n. before ++ doc_text n) (sym seen.next))
     by (Err add.Full) full done refused = absurd (full refl)
     by (Err add.Failed) full done refused = refused
     by (Err (add.Damaged d)) full done refused = refused
     by (Err add.Memory) full done refused = refused
 
-pub does_full : (D : ℕ) (files : Files) (s : SetData) (i : Index) (points : List (List ℤ)) (text : List ℕ) → Sees D files s i → nat_lt (2 ^ 24) (s.given + length points) ≡ true
+pub does_full : (D : ℕ) (files : Files) (s : SetData) (i : Index) (points : List (List ℤ)) (text : List ℕ) → Sees D files s i
+    → nat_lt (2 ^ 24) (s.given + length points) ≡ true
     → DoesOver D files (step_on i (asks.Add points)) i s text text (Ok (applied.Refused why.Full))
 unfolding step_on
 does_full D files s i points text seen full =
     does_as D files (step_on i (asks.Add points)) (Refused why.Full) i s text text (Ok (applied.Refused why.Full))
-    (ap (λ b. cond b (Refused why.Full) (Done (Some (with_document points i)) (doc_text i.next))) (ap (λ n. nat_lt (2 ^ 24) (n + length points)) seen.given ∙ full))
+    (ap (λ b. cond b (Refused why.Full) (Done (Some (with_document points i)) (doc_text i.next)))
+    (ap (λ n. nat_lt (2 ^ 24) (n + length points)) seen.given ∙ full))
     (refl, seen, refl)
 
 -- ---- documents are deleted
@@ -72,22 +74,27 @@ deleted_none : (number : ℕ) (docs : List Document) → is_live number docs ≡
 deleted_none number [] none = refl
 deleted_none number (d ∷ ds) none = by (nat_eq d.number number) (deleted_none number ds) none
   where
-    by : (b : Bool) → (is_live number ds ≡ false → deleted number ds ≡ ds) → (b || is_live number ds) ≡ false → cond (not b) (d ∷ deleted number ds) (deleted number ds) ≡ d ∷ ds
+    by : (b : Bool) → (is_live number ds ≡ false → deleted number ds ≡ ds) → (b || is_live number ds) ≡ false
+        → cond (not b) (d ∷ deleted number ds) (deleted number ds) ≡ d ∷ ds
     by true rest e = absurd cc
     by false rest e = ap (λ (xs : List Document). d ∷ xs) (rest e)
 
-pub does_delete : (D : ℕ) (files : Files) (t : SetData) (i : Index) (number : ℕ) (live : Bool) (before after : List ℕ) → live ≡ is_live number i.docs → Sees D files t (record i { docs = deleted number i.docs })
+pub does_delete : (D : ℕ) (files : Files) (t : SetData) (i : Index) (number : ℕ) (live : Bool) (before after : List ℕ) → live ≡ is_live number i.docs
+    → Sees D files t (record i { docs = deleted number i.docs })
     → after ≡ before ++ deleted_text (cond live 1 0) → DoesOver D files (step_on i (asks.Delete number)) i t before after (Ok applied.Done)
 unfolding step_on
 does_delete D files t i number live before after same seen grew =
-    does_done D files i (record i { docs = deleted number i.docs }) t (deleted_text (cond (is_live number i.docs) 1 0)) before after seen (grew ∙ ap (λ b. before ++ deleted_text (cond b 1 0)) same)
+    does_done D files i (record i { docs = deleted number i.docs }) t (deleted_text (cond (is_live number i.docs) 1 0)) before after seen
+    (grew ∙ ap (λ b. before ++ deleted_text (cond b 1 0)) same)
 
 -- where none has the number the set is seen as before
-pub seen_deleted : (D : ℕ) (files : Files) (t : SetData) (i : Index) (number : ℕ) → is_live number i.docs ≡ false → Sees D files t (record i { docs = deleted number i.docs }) → Sees D files t i
+pub seen_deleted : (D : ℕ) (files : Files) (t : SetData) (i : Index) (number : ℕ) → is_live number i.docs ≡ false
+    → Sees D files t (record i { docs = deleted number i.docs }) → Sees D files t i
 seen_deleted D files t i number none seen = subst (λ (ds : List Document). Sees D files t (record i { docs = ds })) (deleted_none number i.docs none) seen
 
 pub does_delete_box : (D : ℕ) (old new : Files) (s t : SetData) (i : Index) (lo hi : List ℤ) (found : List ℕ) (before after : List ℕ) → Sees D old s i
-    → found ≡ hits (in_box (record { lo = lo; hi = hi })) i.docs → Sees D new t (record i { docs = filter (λ (d : Document). not (is_among found d.number)) i.docs })
+    → found ≡ hits (in_box (record { lo = lo; hi = hi })) i.docs
+    → Sees D new t (record i { docs = filter (λ (d : Document). not (is_among found d.number)) i.docs })
     → after ≡ before ++ deleted_text (length found) → DoesOver D new (step_on i (asks.DeleteBox lo hi)) i t before after (Ok applied.Done)
 unfolding step_on
 does_delete_box D old new s t i lo hi found before after seen is left grew =
@@ -100,16 +107,19 @@ does_delete_box D old new s t i lo hi found before after seen is left grew =
 
     same : filter (λ (d : Document). not (is_among found d.number)) i.docs ≡ without test i.docs
     same = ap (λ (ns : List ℕ). filter (λ (d : Document). not (is_among ns d.number)) i.docs) is
-        ∙ filter_alike (λ (d : Document). not (is_among (hits test i.docs) d.number)) (λ d. not (passes test d)) i.docs (λ d h. ap not (among_hits test i.docs seen.docs.ascend d h))
+        ∙ filter_alike (λ (d : Document). not (is_among (hits test i.docs) d.number)) (λ d. not (passes test d)) i.docs
+        (λ d h. ap not (among_hits test i.docs seen.docs.ascend d h))
 
 -- ---- views
 
 -- a snapshot has the name in the set just where one has it in the index
-names_seen : (c : Contents) (next : ℕ) (name : List ℕ) (views : List NamedView) (ts : List Snapshot) → AllZip (ShowsSnapshot c next) views ts → has_name name views ≡ is_some (snapshot_of name ts)
+names_seen : (c : Contents) (next : ℕ) (name : List ℕ) (views : List NamedView) (ts : List Snapshot) → AllZip (ShowsSnapshot c next) views ts
+    → has_name name views ≡ is_some (snapshot_of name ts)
 names_seen c next name [] [] shown = refl
 names_seen c next name [] (t ∷ ts) shown = absurd shown
 names_seen c next name (v ∷ vs) [] shown = absurd shown
-names_seen c next name (v ∷ vs) (t ∷ ts) shown = by (bytes_eq v.name name) (bytes_eq t.name name) (ap (λ n. bytes_eq n name) shown.0.name) (names_seen c next name vs ts shown.1)
+names_seen c next name (v ∷ vs) (t ∷ ts) shown =
+    by (bytes_eq v.name name) (bytes_eq t.name name) (ap (λ n. bytes_eq n name) shown.0.name) (names_seen c next name vs ts shown.1)
   where
     by : (a b : Bool) → a ≡ b → has_name name vs ≡ is_some (snapshot_of name ts) → (a || has_name name vs) ≡ is_some (cond b (Some t) (snapshot_of name ts))
     by true true e rest = refl
@@ -117,17 +127,19 @@ names_seen c next name (v ∷ vs) (t ∷ ts) shown = by (bytes_eq v.name name) (
     by false true e rest = absurd cc
     by false false e rest = rest
 
-pub name_seen : (D : ℕ) (files : Files) (s : SetData) (i : Index) (name : List ℕ) → Sees D files s i → is_some (snapshot_of name i.snapshots) ≡ has_name name s.snapshots
+pub name_seen : (D : ℕ) (files : Files) (s : SetData) (i : Index) (name : List ℕ) → Sees D files s i
+    → is_some (snapshot_of name i.snapshots) ≡ has_name name s.snapshots
 name_seen D files s i name seen = sym (names_seen seen.contents s.next name s.snapshots i.snapshots seen.snapshots)
 
-snapshots_long : (c : Contents) (next : ℕ) (views : List NamedView) (ts : List Snapshot) → AllZip (ShowsSnapshot c next) views ts → length ts ≡ length views
+pub snapshots_long : (c : Contents) (next : ℕ) (views : List NamedView) (ts : List Snapshot) → AllZip (ShowsSnapshot c next) views ts → length ts ≡ length views
 snapshots_long c next [] [] shown = refl
 snapshots_long c next [] (t ∷ ts) shown = absurd shown
 snapshots_long c next (v ∷ vs) [] shown = absurd shown
 snapshots_long c next (v ∷ vs) (t ∷ ts) shown = omega (arith, snapshots_long c next vs ts shown.1)
 
 -- the documents of a view
-pub view_docs : (D : ℕ) (files : Files) (s : SetData) (i : Index) (view : Option (List ℕ)) → Sees D files s i → HasView view s → (docs : List Document) × (viewed_docs view i ≡ Some docs)
+pub view_docs : (D : ℕ) (files : Files) (s : SetData) (i : Index) (view : Option (List ℕ)) → Sees D files s i → HasView view s
+    → (docs : List Document) × (viewed_docs view i ≡ Some docs)
 view_docs D files s i None seen has = (i.docs, refl)
 view_docs D files s i (Some name) seen has = by (snapshot_of name i.snapshots) (name_seen D files s i name seen ∙ has)
   where
@@ -143,13 +155,16 @@ no_docs D files s i (Some name) seen none = by (snapshot_of name i.snapshots) (�
     by None e = refl
     by (Some t) e = absurd (e refl)
 
-pub does_answered : (D : ℕ) (files : Files) (t : SetData) (i : Index) (view : Option (List ℕ)) (docs : List Document) (text : List Document → List ℕ) (before after : List ℕ) → viewed_docs view i ≡ Some docs
+pub does_answered : (D : ℕ) (files : Files) (t : SetData) (i : Index) (view : Option (List ℕ)) (docs : List Document) (text : List Document → List ℕ)
+    (before after : List ℕ) → viewed_docs view i ≡ Some docs
     → Sees D files t i → after ≡ before ++ text docs → DoesOver D files (answered i (viewed_docs view i) text) i t before after (Ok applied.Done)
 does_answered D files t i view docs text before after is seen grew =
-    does_as D files (answered i (viewed_docs view i) text) (Done (Some i) (text docs)) i t before after (Ok applied.Done) (ap (λ (o : Option (List Document)). answered i o text) is)
+    does_as D files (answered i (viewed_docs view i) text) (Done (Some i) (text docs)) i t before after (Ok applied.Done)
+    (ap (λ (o : Option (List Document)). answered i o text) is)
     (does_done D files i i t (text docs) before after seen grew)
 
-pub does_unknown : (D : ℕ) (files : Files) (s : SetData) (i : Index) (view : Option (List ℕ)) (out : List Document → List ℕ) (text : List ℕ) → Sees D files s i → (HasView view s → ⊥)
+pub does_unknown : (D : ℕ) (files : Files) (s : SetData) (i : Index) (view : Option (List ℕ)) (out : List Document → List ℕ) (text : List ℕ) → Sees D files s i
+    → (HasView view s → ⊥)
     → DoesOver D files (answered i (viewed_docs view i) out) i s text text (Ok (applied.Refused why.UnknownSnapshot))
 does_unknown D files s i view out text seen none =
     does_as D files (answered i (viewed_docs view i) out) (Refused why.UnknownSnapshot) i s text text (Ok (applied.Refused why.UnknownSnapshot))
@@ -157,7 +172,8 @@ does_unknown D files s i view out text seen none =
 
 -- ---- merges
 
-pub does_begin : {T : Type 0} (D : ℕ) (old new : Files) (s t : SetData) (i : Index) (which : List ℕ) (r : Result T BeginFault) (before after : List ℕ) → Sees D old s i → is_some s.begun ≡ false
+pub does_begin : {T : Type 0} (D : ℕ) (old new : Files) (s t : SetData) (i : Index) (which : List ℕ) (r : Result T BeginFault) (before after : List ℕ)
+    → Sees D old s i → is_some s.begun ≡ false
     → (IsErrOf r begin.Begun → ⊥) → OnOk r (Sees D new t (record i { begun = true })) → OnErr r (Sees D new t i) → after ≡ before ++ ok_text
     → DoesOver D new (step_on i (asks.MergeBegin which)) i t before after (begin_answer r)
 unfolding step_on
@@ -181,7 +197,8 @@ does_begun D files s i which text seen some =
     does_as D files (step_on i (asks.MergeBegin which)) (Refused why.Begun) i s text text (Ok (applied.Refused why.Begun))
     (ap (λ b. cond b (Refused why.Begun) (Done (Some (record i { begun = true })) ok_text)) (seen.begun ∙ some)) (refl, seen, refl)
 
-pub does_end : {T : Type 0} (D : ℕ) (old new : Files) (s t : SetData) (i : Index) (r : Result T EndFault) (before after : List ℕ) → Sees D old s i → is_some s.begun ≡ true
+pub does_end : {T : Type 0} (D : ℕ) (old new : Files) (s t : SetData) (i : Index) (r : Result T EndFault) (before after : List ℕ) → Sees D old s i
+    → is_some s.begun ≡ true
     → (IsErrOf r end.NotBegun → ⊥) → OnOk r (Sees D new t (record i { begun = false })) → OnErr r (Sees D new t i) → after ≡ before ++ ok_text
     → DoesOver D new (step_on i asks.MergeEnd) i t before after (end_answer r)
 unfolding step_on
@@ -204,71 +221,3 @@ unfolding step_on
 does_not_begun D files s i text seen none =
     does_as D files (step_on i asks.MergeEnd) (Refused why.NotBegun) i s text text (Ok (applied.Refused why.NotBegun))
     (ap (λ b. cond b (Done (Some (record i { begun = false })) ok_text) (Refused why.NotBegun)) (seen.begun ∙ none)) (refl, seen, refl)
-
--- ---- snapshots
-
-abbrev with_snapshot : List ℕ → Index → Index
-with_snapshot name i = record i { snapshots = i.snapshots ++ record { name = name; docs = i.docs } ∷ [] }
-
-le_true : (m n : ℕ) → m ≤ n → nat_le m n ≡ true
-le_true m n h = grind (arith, nat_tests)
-
-le_from : (m n : ℕ) → nat_le m n ≡ true → m ≤ n
-le_from m n e = grind (arith, nat_tests)
-
-le_false : (m n : ℕ) → (m ≤ n → ⊥) → nat_le m n ≡ false
-le_false m n h = by (nat_le m n) refl
-  where
-    by : (b : Bool) → nat_le m n ≡ b → b ≡ false
-    by true e = absurd (h (le_from m n e))
-    by false e = refl
-
-ok_err : {T E : Type 0} (x : T) (e : E) → Ok x ≡ Err e → ⊥
-ok_err x e same = cc
-
-snapped_is : (D : ℕ) (files : Files) (s : SetData) (i : Index) (name : List ℕ) (a b : Bool) → Sees D files s i → has_name name s.snapshots ≡ a → nat_le 16 (length s.snapshots) ≡ b
-    → step_on i (asks.Snapshot name) ≡ cond a (Refused why.NameTaken) (cond b (Refused why.TooManySnapshots) (Done (Some (with_snapshot name i)) ok_text))
-unfolding step_on
-snapped_is D files s i name a b seen taken many =
-    ap (λ t. cond t (Refused why.NameTaken) (cond (nat_le 16 (length i.snapshots)) (Refused why.TooManySnapshots) (Done (Some (with_snapshot name i)) ok_text))) (name_seen D files s i name seen ∙ taken)
-    ∙ ap (λ t. cond a (Refused why.NameTaken) (cond t (Refused why.TooManySnapshots) (Done (Some (with_snapshot name i)) ok_text)))
-    (ap (nat_le 16) (snapshots_long seen.contents s.next s.snapshots i.snapshots seen.snapshots) ∙ many)
-
-pub does_snapshot : {T : Type 0} (D : ℕ) (files : Files) (s t : SetData) (i : Index) (name : List ℕ) (r : Result T SnapFault) (before after : List ℕ) → Sees D files s i
-    → OnOk r (Sees D files t (with_snapshot name i)) → OnErr r (t ≡ s) → (IsErrOf r snap.Taken ↔ (has_name name s.snapshots ≡ true))
-    → (IsErrOf r snap.TooMany ↔ ((has_name name s.snapshots ≡ false) × (16 ≤ length s.snapshots))) → after ≡ text_after (snap_answer r) (length before) (before ++ ok_text)
-    → DoesOver D files (step_on i (asks.Snapshot name)) i t before after (snap_answer r)
-does_snapshot D files s t i name (Ok x) before after seen done same taken many grew = by (has_name name s.snapshots) refl
-  where
-    by : (a : Bool) → has_name name s.snapshots ≡ a → DoesOver D files (step_on i (asks.Snapshot name)) i t before after (Ok applied.Done)
-    by true e = absurd (ok_err x snap.Taken (taken.1 e))
-    by false e = does_as D files (step_on i (asks.Snapshot name)) (Done (Some (with_snapshot name i)) ok_text) i t before after (Ok applied.Done)
-        (snapped_is D files s i name false false seen e (le_false 16 (length s.snapshots) (λ le. ok_err x snap.TooMany (many.1 (e, le)))))
-        (does_done D files i (with_snapshot name i) t ok_text before after done grew)
-does_snapshot D files s t i name (Err snap.Taken) before after seen done same taken many grew =
-    does_as D files (step_on i (asks.Snapshot name)) (Refused why.NameTaken) i t before after (Ok (applied.Refused why.NameTaken))
-    (snapped_is D files s i name true (nat_le 16 (length s.snapshots)) seen (taken.0 refl) refl)
-    (refl, subst (λ (u : SetData). Sees D files u i) (sym same) seen, grew ∙ take-append_seam before ok_text)
-does_snapshot D files s t i name (Err snap.TooMany) before after seen done same taken many grew =
-    does_as D files (step_on i (asks.Snapshot name)) (Refused why.TooManySnapshots) i t before after (Ok (applied.Refused why.TooManySnapshots))
-    (snapped_is D files s i name false true seen (many.0 refl).0 (le_true 16 (length s.snapshots) (many.0 refl).1))
-    (refl, subst (λ (u : SetData). Sees D files u i) (sym same) seen, grew ∙ take-append_seam before ok_text)
-does_snapshot D files s t i name (Err snap.Memory) before after seen done same taken many grew =
-    does_fault D files (step_on i (asks.Snapshot name)) i t before after _ (subst (λ (u : SetData). Sees D files u i) (sym same) seen)
-
-pub does_release : (D : ℕ) (files : Files) (s t : SetData) (i : Index) (name : List ℕ) (before after : List ℕ) → Sees D files s i → has_name name s.snapshots ≡ true
-    → Sees D files t (record i { snapshots = filter (λ (u : Snapshot). not (bytes_eq u.name name)) i.snapshots }) → after ≡ before ++ ok_text
-    → DoesOver D files (step_on i (asks.Release name)) i t before after (Ok applied.Done)
-unfolding step_on
-does_release D files s t i name before after seen has left grew =
-    does_as D files (step_on i (asks.Release name)) (Done (Some (record i { snapshots = filter (λ (u : Snapshot). not (bytes_eq u.name name)) i.snapshots })) ok_text) i t before after (Ok applied.Done)
-    (ap (λ b. cond b (Done (Some (record i { snapshots = filter (λ (u : Snapshot). not (bytes_eq u.name name)) i.snapshots })) ok_text) (Refused why.UnknownSnapshot)) (name_seen D files s i name seen ∙ has))
-    (does_done D files i _ t ok_text before after left grew)
-
-pub does_unnamed : (D : ℕ) (files : Files) (s : SetData) (i : Index) (name : List ℕ) (text : List ℕ) → Sees D files s i → has_name name s.snapshots ≡ false
-    → DoesOver D files (step_on i (asks.Release name)) i s text text (Ok (applied.Refused why.UnknownSnapshot))
-unfolding step_on
-does_unnamed D files s i name text seen none =
-    does_as D files (step_on i (asks.Release name)) (Refused why.UnknownSnapshot) i s text text (Ok (applied.Refused why.UnknownSnapshot))
-    (ap (λ b. cond b (Done (Some (record i { snapshots = filter (λ (u : Snapshot). not (bytes_eq u.name name)) i.snapshots })) ok_text) (Refused why.UnknownSnapshot)) (name_seen D files s i name seen ∙ none))
-    (refl, seen, refl)

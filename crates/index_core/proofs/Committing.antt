@@ -1,10 +1,10 @@
 -- What is stored: by a commit since which nothing changed, and by one that was written.
-use Rattle.std.proofs.Common.{◌≡◌, ◌≤◌, ◌↔◌, ℕ, Bool, true, false, List, [], ◌∷◌, ◌++◌, length, map, Option, None, Some, Result, Ok, Err, IfOk, OnOk, refl, sym, ap, subst, ◌∙◌, ◌⊎◌, inl, inr, ⊎_elim, arith}
+use Rattle.std.proofs.Common.{◌≡◌, ◌≤◌, ◌↔◌, ℕ, Bool, true, false, List, [], ◌∷◌, ◌++◌, length, map, Option, None, Some}
+use Rattle.std.proofs.Common.{Result, Ok, Err, IfOk, OnOk, refl, sym, ap, subst, ◌∙◌, ◌⊎◌, inl, inr, ⊎_elim, arith}
 use Rattle.std.specs.List.{All, AllZip, Contains, filter}
 use Rattle.std.proofs.lemmas.Bool.{both_ways}
 use Rattle.std.proofs.lemmas.List.{append-nil}
-use Rattle.std.proofs.lemmas.List.Elements.{All-head, All-tail, All-weaker}
-use Rattle.outer_io.specs.declared.file_name.FileName.{FileName}
+use Rattle.std.proofs.lemmas.List.Elements.{All-head, All-tail}
 use Rattle.outer_io.specs.declared.file_name.FileName.TheVariants.{Commit, CommitNew, Segment, Live}
 use Rattle.outer_io.specs.Files.{Files, bytes_of, SameButTwo}
 use Rattle.point_codec.specs.Points.{Item}
@@ -12,7 +12,6 @@ use Rattle.live_bits.specs.LiveSet.{IsLiveSet, LiveSet, is_live}
 use Rattle.documents.specs.Entries.{AreDocs}
 use Rattle.documents.proofs.Lists.{cons_head, cons_tail}
 use Rattle.page_cache.specs.declared.faults.PageFault.{PageFault}
-use Rattle.page_cache.proofs.Agreement.{agrees_other}
 use Rattle.commit_list.specs.declared.listed.Listed.{Listed}
 use Rattle.commit_list.specs.Commits.{CommitData}
 use Rattle.commit_list.specs.CommitFiles.{IsCommitFile, IsWrittenCommit}
@@ -20,22 +19,20 @@ use Rattle.commit_list.specs.Layout.{commit_body}
 use Rattle.commit_list.proofs.CommitPages.{one_file}
 use Rattle.segment_file.specs.LiveFiles.{IsLiveFile}
 use Rattle.segment_file.proofs.LiveReads.{set_is}
-use Rattle.segment_file.specs.Segments.{IsHeadOf, IsSegment}
+use Rattle.segment_file.specs.Segments.{IsSegment}
 use Rattle.stored_index.specs.Segments.{SegmentData, all_live_entries, live_sets, places}
 use Rattle.stored_index.specs.Stored.{HoldAll, HoldsFiles, IsStored, index_of}
-use Rattle.stored_index.specs.Kept.{ListsFile, SameKept}
+use Rattle.stored_index.specs.Kept.{SameKept}
 use Rattle.stored_index.proofs.KeptFiles.{kept_after, kept_but_commits}
 use Rattle.stored_index.proofs.Whole.{stored_from}
 use Rattle.index_model.specs.State.{Index, at_rest}
 use Rattle.segment_view.specs.Parts.{AreRead, Contents, IsRead, Part, ids_of, live_in_parts, lives_of}
-use Rattle.segment_set.specs.Sets.{IsWell, NamedView, SetData}
+use Rattle.segment_set.specs.Sets.{SetData}
 use Rattle.segment_set.specs.Seen.{Sees}
 use Rattle.segment_set.specs.Kept.{IsAsCommitted, IsCommitOf, StaysButFiles}
-use Rattle.segment_set.specs.Faithful.{HasFileHead, IsFaithful}
-use Rattle.segment_set.proofs.Standing.{stands_alike}
 use Rattle.index_core.specs.Sessions.{CoversPart, Guards, HasDims, IsLast, IsLastCommit, IsSound, IsUnchanged, ListsOnlyNamed, SessionData}
 use Rattle.index_core.specs.Steps.{KeepsOver, SaysCommit, Stores}
-use Rattle.index_core.proofs.Guarding.{cons_first, cons_rest, listed_still, says_some}
+use Rattle.index_core.proofs.Guarding.{cons_first, cons_rest, says_some}
 use Rattle.index_core.proofs.Numbers.{same_live}
 
 -- ---- whether something changed
@@ -51,28 +48,33 @@ pub changed_refused : (s : SessionData) → s.refused ≡ true → (true ≡ fal
 changed_refused s refused = (λ e. absurd cc, λ u. absurd (both_ways s.refused u.done refused))
 
 -- else just where the set differs from the commit
-pub changed_by : (s : SessionData) (c : CommitData) (differs : Bool) → s.commit ≡ Some c → s.refused ≡ false → ((differs ≡ false) ↔ IsAsCommitted s.set c) → (differs ≡ false) ↔ IsUnchanged s
+pub changed_by : (s : SessionData) (c : CommitData) (differs : Bool) → s.commit ≡ Some c → s.refused ≡ false → ((differs ≡ false) ↔ IsAsCommitted s.set c)
+    → (differs ≡ false) ↔ IsUnchanged s
 changed_by s c differs is done same = (
   λ e. record { commit = c; is = is; done = done; same = same.0 e },
   λ u. same.1 (subst (IsAsCommitted s.set) (some_same u.commit c (sym u.is ∙ is)) u.same),
 )
 
 -- a session that is as the commit says that its set saved, after a sweep
-saved_ids : (listed : List Listed) (parts : List Part) → AllZip (λ (l : Listed) (p : Part). (l.segment ≡ p.head.id) × (l.entries ≡ p.head.entries) × (l.live ≡ length p.live.live)) listed parts
+saved_ids : (listed : List Listed) (parts : List Part)
+    → AllZip (λ (l : Listed) (p : Part). (l.segment ≡ p.head.id) × (l.entries ≡ p.head.entries) × (l.live ≡ length p.live.live)) listed parts
     → (ids_of parts ≡ map (λ l. l.segment) listed) × (map (λ p. length p.live.live) parts ≡ map (λ l. l.live) listed)
 saved_ids [] [] all = (refl, refl)
 saved_ids [] (p ∷ ps) all = absurd all
 saved_ids (l ∷ ls) [] all = absurd all
 saved_ids (l ∷ ls) (p ∷ ps) all =
-    let rest = saved_ids ls ps all.1 in
-    (ap (λ n. n ∷ ids_of ps) (sym all.0.0) ∙ ap (λ (ns : List ℕ). l.segment ∷ ns) rest.0, ap (λ n. n ∷ map (λ (q : Part). length q.live.live) ps) (sym all.0.2) ∙ ap (λ (ns : List ℕ). l.live ∷ ns) rest.1)
+    let rest = saved_ids ls ps all.1 in (
+      ap (λ n. n ∷ ids_of ps) (sym all.0.0) ∙ ap (λ (ns : List ℕ). l.segment ∷ ns) rest.0,
+      ap (λ n. n ∷ map (λ (q : Part). length q.live.live) ps) (sym all.0.2) ∙ ap (λ (ns : List ℕ). l.live ∷ ns) rest.1,
+    )
 
 pub as_committed : (D : ℕ) (s m t : SetData) (c : CommitData) → IsCommitOf D s c → s.buffer ≡ [] → m ≡ s → StaysButFiles m t → IsAsCommitted t c
 as_committed D s m t c of empty same stays = record {
   next = ap (λ (u : SetData). u.next) stays.is ∙ ap (λ (u : SetData). u.next) same ∙ sym of.next;
   given = ap (λ (u : SetData). u.given) stays.is ∙ ap (λ (u : SetData). u.given) same ∙ sym of.given;
   ids = ap (λ (u : SetData). ids_of u.parts) stays.is ∙ ap (λ (u : SetData). ids_of u.parts) same ∙ (saved_ids c.listed s.parts of.lists).0;
-  counts = ap (λ (u : SetData). map (λ (p : Part). length p.live.live) u.parts) stays.is ∙ ap (λ (u : SetData). map (λ (p : Part). length p.live.live) u.parts) same
+  counts =
+      ap (λ (u : SetData). map (λ (p : Part). length p.live.live) u.parts) stays.is ∙ ap (λ (u : SetData). map (λ (p : Part). length p.live.live) u.parts) same
       ∙ (saved_ids c.listed s.parts of.lists).1;
   empty = ap (λ (u : SetData). u.buffer) stays.is ∙ ap (λ (u : SetData). u.buffer) same ∙ empty;
 }
@@ -96,7 +98,8 @@ entries_of c [] = refl
 entries_of c (p ∷ ps) = ap (λ (xs : List Item). filter (λ (x : Item). is_live p.live x.doc) (c p.head.id) ++ xs) (entries_of c ps)
 
 -- the files of a listed segment hold the part that they cover, where as many numbers are live in it as it is listed with
-holds_part : (D : ℕ) (files : Files) (contents : Contents) (c : CommitData) (l : Listed) (p : Part) → c.dims ≡ D → p.head.leaf ≡ c.leaf → IsRead D files contents p → IsLiveSet p.live
+holds_part : (D : ℕ) (files : Files) (contents : Contents) (c : CommitData) (l : Listed) (p : Part) → c.dims ≡ D → p.head.leaf ≡ c.leaf
+    → IsRead D files contents p → IsLiveSet p.live
     → l.segment ≡ p.head.id → length p.live.live ≡ l.live → CoversPart files l p → HoldsFiles files c l (data_of contents p)
 holds_part D files contents c l p dims leaf read set id count covers = record {
   segment = subst (λ n. IsSegment n (bytes_of (files (Segment l.segment))) p.head (contents p.head.id)) (sym dims)
@@ -112,7 +115,8 @@ holds_part D files contents c l p dims leaf read set id count covers = record {
     same : p.live ≡ covers.live
     same = same_live p.live covers.live set (live_file_set l.segment l.generation _ covers.live covers.file) covers.covers (count ∙ sym covers.count)
 
-hold_parts : (D : ℕ) (files : Files) (contents : Contents) (c : CommitData) (listed : List Listed) (parts : List Part) → c.dims ≡ D → All (λ p. p.head.leaf ≡ c.leaf) parts → AreRead D files contents parts
+hold_parts : (D : ℕ) (files : Files) (contents : Contents) (c : CommitData) (listed : List Listed) (parts : List Part) → c.dims ≡ D
+    → All (λ p. p.head.leaf ≡ c.leaf) parts → AreRead D files contents parts
     → All (λ p. IsLiveSet p.live) parts → ids_of parts ≡ map (λ l. l.segment) listed → map (λ p. length p.live.live) parts ≡ map (λ l. l.live) listed
     → ((l : Listed) (p : Part) → Contains listed l → Contains parts p → l.segment ≡ p.head.id → CoversPart files l p)
     → AllZip (HoldsFiles files c) listed (map (data_of contents) parts)
@@ -120,13 +124,16 @@ hold_parts D files contents c [] [] dims leaf read sets ids counts covers = tt
 hold_parts D files contents c [] (p ∷ ps) dims leaf read sets ids counts covers = absurd cc
 hold_parts D files contents c (l ∷ ls) [] dims leaf read sets ids counts covers = absurd cc
 hold_parts D files contents c (l ∷ ls) (p ∷ ps) dims leaf read sets ids counts covers = (
-  holds_part D files contents c l p dims (All-head (λ (q : Part). q.head.leaf ≡ c.leaf) p ps leaf) (All-head (IsRead D files contents) p ps read) (All-head (λ (q : Part). IsLiveSet q.live) p ps sets)
+  holds_part D files contents c l p dims (All-head (λ (q : Part). q.head.leaf ≡ c.leaf) p ps leaf) (All-head (IsRead D files contents) p ps read)
+      (All-head (λ (q : Part). IsLiveSet q.live) p ps sets)
       (sym (cons_first ids)) (cons_first counts) (covers l p (cons_head l ls) (cons_head p ps) (sym (cons_first ids))),
-  hold_parts D files contents c ls ps dims (All-tail (λ (q : Part). q.head.leaf ≡ c.leaf) p ps leaf) (All-tail (IsRead D files contents) p ps read) (All-tail (λ (q : Part). IsLiveSet q.live) p ps sets)
+  hold_parts D files contents c ls ps dims (All-tail (λ (q : Part). q.head.leaf ≡ c.leaf) p ps leaf) (All-tail (IsRead D files contents) p ps read)
+      (All-tail (λ (q : Part). IsLiveSet q.live) p ps sets)
       (cons_rest ids) (cons_rest counts) (λ m q inside there same. covers m q (cons_tail l ls m inside) (cons_tail p ps q there) same),
 )
 
-pub unchanged_is_stored : (D : ℕ) (files : Files) (s : SessionData) (i : Index) → IsUnchanged s → IsSound D s → Guards D files s → Sees D files s.set i → IsStored files (Some (at_rest i))
+pub unchanged_is_stored : (D : ℕ) (files : Files) (s : SessionData) (i : Index) → IsUnchanged s → IsSound D s → Guards D files s → Sees D files s.set i
+    → IsStored files (Some (at_rest i))
 unchanged_is_stored D files s i unchanged sound guards seen =
     subst (λ (x : Index). IsStored files (Some x)) is (stored_from files c parts i.docs last.says held alone docs few)
   where
@@ -141,22 +148,26 @@ unchanged_is_stored D files s i unchanged sound guards seen =
 
     leaf : c.leaf ≡ s.set.leaf
     leaf = ⊎_elim (λ none. absurd (says_some files c none last.says))
-        (λ (h : ListsOnlyNamed D files s.set). ap (λ (d : CommitData). d.leaf) (one_file (bytes_of (files Commit)) c h.commit last.says h.says) ∙ h.leaf) guards.set
+        (λ (h : ListsOnlyNamed D files s.set). ap (λ (d : CommitData). d.leaf) (one_file (bytes_of (files Commit)) c h.commit last.says h.says) ∙ h.leaf)
+        guards.set
 
     parts : List SegmentData
     parts = map (data_of seen.contents) s.set.parts
 
     entries : all_live_entries parts ≡ live_in_parts seen.contents s.set.parts ++ s.set.buffer
-    entries = entries_of seen.contents s.set.parts ∙ sym (append-nil (live_in_parts seen.contents s.set.parts)) ∙ ap (λ (xs : List Item). live_in_parts seen.contents s.set.parts ++ xs) (sym unchanged.same.empty)
+    entries = entries_of seen.contents s.set.parts ∙ sym (append-nil (live_in_parts seen.contents s.set.parts))
+        ∙ ap (λ (xs : List Item). live_in_parts seen.contents s.set.parts ++ xs) (sym unchanged.same.empty)
 
     held : HoldAll files c parts
-    held = hold_parts D files seen.contents c c.listed s.set.parts dims (λ k d lt. sound.well.leaf_size k d lt ∙ sym leaf) seen.stands.now sound.sets unchanged.same.ids unchanged.same.counts last.covers
+    held = hold_parts D files seen.contents c c.listed s.set.parts dims (λ k d lt. sound.well.leaf_size k d lt ∙ sym leaf) seen.stands.now sound.sets
+        unchanged.same.ids unchanged.same.counts last.covers
 
     alone : (number : ℕ) → places number (live_sets parts) ≤ 1
     alone number = subst (λ (ss : List LiveSet). places number ss ≤ 1) (sym (sets_of seen.contents s.set.parts)) (omega (arith, sound.well.spread.alone number))
 
     docs : AreDocs c.next (all_live_entries parts) i.docs
-    docs = subst (λ n. AreDocs n (all_live_entries parts) i.docs) unchanged.same.next (subst (λ (xs : List Item). AreDocs s.set.next xs i.docs) (sym entries) seen.docs)
+    docs = subst (λ n. AreDocs n (all_live_entries parts) i.docs) unchanged.same.next
+        (subst (λ (xs : List Item). AreDocs s.set.next xs i.docs) (sym entries) seen.docs)
 
     few : length (all_live_entries parts) ≤ c.given
     few = let long = ap length entries in let most = seen.few in let given = unchanged.same.given in omega arith
@@ -177,87 +188,37 @@ pub unchanged_says : (D : ℕ) (files : Files) (s : SessionData) → IsUnchanged
 unchanged_says D files s unchanged guards =
     (unchanged.commit, unchanged.is, (subst (λ (o : Option CommitData). IsLast files s.set o) unchanged.is (guards.last unchanged.done)).says)
 
--- ---- a commit that was written
-
--- what a save promises of the files in which the commit that it answers is put
-abbrev pub Promises : Files → CommitData → Index → Type 0
-Promises f c i = (files : Files) → IsCommitFile (bytes_of (files Commit)) c → ((m : FileName) → ListsFile c m → files m ≡ f m) → IsStored files (Some (at_rest i))
-
--- it comes true with the Commit file
-pub written_is_stored : (f g : Files) (c : CommitData) (i : Index) → Promises f c i → SameButTwo CommitNew Commit f g → IsCommitFile (bytes_of (g Commit)) c → IsStored g (Some (at_rest i))
-written_is_stored f g c i promise others says = promise g says (λ m lists. listed_still f g c m others lists)
-
--- the set is seen as before, since no segment's file was changed
-pub written_is_seen : (D : ℕ) (f g : Files) (s : SetData) (i : Index) → IsWell D s → SameButTwo CommitNew Commit f g → Sees D f s i → Sees D g s i
-written_is_seen D f g s i well others seen = record {
-  contents = seen.contents;
-  stands = stands_alike D f g seen.contents seen.contents s well (record { files = λ id named. others (Segment id) (λ e. cc) (λ e. cc); entries = λ id named. refl }) seen.stands;
-  dims = seen.dims;
-  leaf = seen.leaf;
-  next = seen.next;
-  given = seen.given;
-  begun = seen.begun;
-  docs = seen.docs;
-  few = seen.few;
-  snapshots = seen.snapshots;
-}
-
--- nor does what the set keeps of the files change, since it keeps pages and heads of segments' files alone
-heads_written : (D : ℕ) (f g : Files) (parts : List Part) → SameButTwo CommitNew Commit f g → All (HasFileHead D f) parts → All (HasFileHead D g) parts
-heads_written D f g parts others heads = All-weaker (HasFileHead D f) (HasFileHead D g)
-    (λ p has. subst (λ (b : Option (List ℕ)). ∥ IsHeadOf D (bytes_of b) p.head ∥₁) (sym (others (Segment p.head.id) (λ e. cc) (λ e. cc))) has) parts heads
-
-pub faithful_written : (D : ℕ) (f g : Files) (s : SetData) → SameButTwo CommitNew Commit f g → IsFaithful D f s → IsFaithful D g s
-faithful_written D f g s others faithful = record {
-  pages = agrees_other f g s.cache (λ id kept. others (Segment id) (λ e. cc) (λ e. cc)) faithful.pages;
-  heads = heads_written D f g s.parts others faithful.heads;
-  kept = All-weaker (λ (v : NamedView). All (HasFileHead D f) v.parts) (λ (v : NamedView). All (HasFileHead D g) v.parts) (λ v has. heads_written D f g v.parts others has) s.snapshots faithful.kept;
-}
-
--- of the session that the code opened
-pub faithful_done : (D : ℕ) (f g : Files) (s u : SessionData) → u ≡ s → SameButTwo CommitNew Commit f g → IsFaithful D f s.set → IsFaithful D g u.set
-faithful_done D f g s u same others faithful = faithful_written D f g u.set others (subst (λ (v : SessionData). IsFaithful D f v.set) (sym same) faithful)
-
-pub seen_done : (D : ℕ) (f g : Files) (s u : SessionData) (i : Index) → u ≡ s → IsWell D u.set → SameButTwo CommitNew Commit f g → Sees D f s.set i → Sees D g u.set i
-seen_done D f g s u i same well others seen = written_is_seen D f g u.set i well others (subst (λ (v : SessionData). Sees D f v.set i) (sym same) seen)
-
-pub stores_done : (f g : Files) (s u : SessionData) (c : CommitData) (i : Index) → u ≡ s → s.set.buffer ≡ [] → Promises f c i → SameButTwo CommitNew Commit f g → IsCommitFile (bytes_of (g Commit)) c
-    → IsStored g (Some (at_rest i)) × (u.set.buffer ≡ [])
-stores_done f g s u c i same empty promise others says = (written_is_stored f g c i promise others says, ap (λ (v : SessionData). v.set.buffer) same ∙ empty)
-
-pub stores_undone : (f g : Files) (c : CommitData) (i : Index) → Promises f c i → SameButTwo CommitNew Commit f g → (g Commit ≡ f Commit) ⊎ IsCommitFile (bytes_of (g Commit)) c
-    → SameKept f g ⊎ IsStored g (Some (at_rest i))
-stores_undone f g c i promise others which = ⊎_elim
-    (λ stays. inl (kept_but_commits f g others stays))
-    (λ says. inr (written_is_stored f g c i promise others says))
-    which
-
 -- ---- what is kept, whatever is answered
 
 pub says_written : (file : Option (List ℕ)) (c : CommitData) → IsWrittenCommit (bytes_of file) c → IsCommitFile (bytes_of file) c
 says_written file c written = record { body = commit_body c; file = written.file; spells = written.spells }
 
-pub which_says : (f g : Files) (c : CommitData) → (g Commit ≡ f Commit) ⊎ IsWrittenCommit (bytes_of (g Commit)) c → (g Commit ≡ f Commit) ⊎ IsCommitFile (bytes_of (g Commit)) c
+pub which_says : (f g : Files) (c : CommitData) → (g Commit ≡ f Commit) ⊎ IsWrittenCommit (bytes_of (g Commit)) c
+    → (g Commit ≡ f Commit) ⊎ IsCommitFile (bytes_of (g Commit)) c
 which_says f g c which = ⊎_elim inl (λ written. inr (says_written (g Commit) c written)) which
 
-pub kept_undone : (f g : Files) (c : CommitData) (saved : Option CommitData) → saved ≡ Some c → SameButTwo CommitNew Commit f g → (g Commit ≡ f Commit) ⊎ IsCommitFile (bytes_of (g Commit)) c
+pub kept_undone : (f g : Files) (c : CommitData) (saved : Option CommitData) → saved ≡ Some c → SameButTwo CommitNew Commit f g
+    → (g Commit ≡ f Commit) ⊎ IsCommitFile (bytes_of (g Commit)) c
     → SameKept f g ⊎ SaysCommit g saved
 kept_undone f g c saved is others which = ⊎_elim (λ stays. inl (kept_but_commits f g others stays)) (λ says. inr (c, is, says)) which
 
 pub says_still : (f g : Files) (commit other : Option CommitData) → SameKept f g → other ≡ commit → SaysCommit f commit → SaysCommit g other
 says_still f g commit other kept same (c, is, says) = (c, same ∙ is, subst (λ (b : Option (List ℕ)). IsCommitFile (bytes_of b) c) (sym kept.commit) says)
 
-pub keeps_fault : {T : Type 0} (f g : Files) (s : SessionData) (r : Result T PageFault) (fault : PageFault) → r ≡ Err fault → SameKept f g ⊎ SaysCommit g s.set.saved → KeepsOver true f g s r
+pub keeps_fault : {T : Type 0} (f g : Files) (s : SessionData) (r : Result T PageFault) (fault : PageFault) → r ≡ Err fault
+    → SameKept f g ⊎ SaysCommit g s.set.saved → KeepsOver true f g s r
 keeps_fault f g s r fault is kept = subst (KeepsOver true f g s) (sym is) kept
 
 pub keeps_any : {T : Type 0} (f g : Files) (s : SessionData) (r : Result T PageFault) → s.set.saved ≡ s.commit → SaysCommit g s.commit → KeepsOver true f g s r
 keeps_any f g s (Ok x) saved says = says
 keeps_any f g s (Err fault) saved (c, is, says) = inr (c, saved ∙ is, says)
 
-pub stores_fault : {T : Type 0} (f g : Files) (i : Index) (s : SetData) (r : Result T PageFault) (fault : PageFault) → r ≡ Err fault → SameKept f g ⊎ IsStored g (Some (at_rest i)) → Stores f g i s r
+pub stores_fault : {T : Type 0} (f g : Files) (i : Index) (s : SetData) (r : Result T PageFault) (fault : PageFault) → r ≡ Err fault
+    → SameKept f g ⊎ IsStored g (Some (at_rest i)) → Stores f g i s r
 stores_fault f g i s r fault is stored = subst (Stores f g i s) (sym is) stored
 
-pub stores_any : {T : Type 0} (f g : Files) (i : Index) (s : SetData) (r : Result T PageFault) → IsStored g (Some (at_rest i)) → s.buffer ≡ [] → Stores f g i s r
+pub stores_any : {T : Type 0} (f g : Files) (i : Index) (s : SetData) (r : Result T PageFault) → IsStored g (Some (at_rest i)) → s.buffer ≡ []
+    → Stores f g i s r
 stores_any f g i s (Ok x) stored empty = (stored, empty)
 stores_any f g i s (Err fault) stored empty = inr stored
 

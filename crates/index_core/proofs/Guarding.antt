@@ -1,5 +1,5 @@
 -- What a session guards stays so, through calls on its set, a commit and a sweep.
-use Rattle.std.proofs.Common.{◌≡◌, ◌<◌, ◌↔◌, ℕ, true, false, List, [], ◌∷◌, length, map, Option, None, Some, Result, Ok, Err, IfOk, refl, sym, ap, subst, ◌∙◌, ◌⊎◌, inl, inr, ⊎_elim, arith}
+use Rattle.std.proofs.Common.{◌≡◌, ◌<◌, ℕ, true, false, List, [], ◌∷◌, length, Option, None, Some, refl, sym, ap, subst, ◌∙◌, ◌⊎◌, inl, inr, ⊎_elim, arith}
 use Rattle.std.specs.List.{AllPairs, AllZip, Contains}
 use Rattle.std.proofs.lemmas.Bool.{both_ways}
 use Rattle.std.proofs.lemmas.List.Kept.{AllPairs-from_increasing}
@@ -14,13 +14,12 @@ use Rattle.commit_list.proofs.CommitPages.{file_there, one_file}
 use Rattle.segment_file.specs.Heads.{Head}
 use Rattle.segment_file.specs.LiveFiles.{IsLiveFile}
 use Rattle.stored_index.specs.Kept.{ListsFile, SameKept}
-use Rattle.stored_index.specs.Stored.{HasLive, HaveLive}
 use Rattle.stored_index.proofs.KeptFiles.{kept_named, kept_none, never_commits}
 use Rattle.stored_index.proofs.Pairwise.{partner_of}
-use Rattle.segment_view.specs.Parts.{Part, lives_of}
+use Rattle.segment_view.specs.Parts.{Part}
 use Rattle.file_names.specs.Names.{NameList, is_named}
 use Rattle.segment_set.specs.Sets.{SetData}
-use Rattle.segment_set.specs.Kept.{Follows, IsAtRest, IsCommitOf, IsNeeded, IsWithin, KeepsNamed}
+use Rattle.segment_set.specs.Kept.{Follows, IsCommitOf, IsNeeded, IsWithin, KeepsNamed}
 use Rattle.segment_set.proofs.Carried.{within_itself, within_then}
 use Rattle.index_core.specs.Sessions.{CoversPart, Guards, GuardsSet, IsLast, IsLastCommit, ListsOnlyNamed, SessionData}
 
@@ -41,7 +40,8 @@ pub says_some : (files : Files) (c : CommitData) → files Commit ≡ None → I
 says_some files c none says = let there = (file_there (files Commit) c says).0 in cc
 
 -- what the file's commit lists is named
-pub names_listed : (D : ℕ) (files : Files) (s : SetData) (c : CommitData) → GuardsSet D files s → IsCommitFile (bytes_of (files Commit)) c → (m : FileName) → ListsFile c m → is_named s.names.names m ≡ true
+pub names_listed : (D : ℕ) (files : Files) (s : SetData) (c : CommitData) → GuardsSet D files s → IsCommitFile (bytes_of (files Commit)) c → (m : FileName)
+    → ListsFile c m → is_named s.names.names m ≡ true
 names_listed D files s c guards says m lists = ⊎_elim
     (λ none. absurd (says_some files c none says))
     (λ h. h.named m (subst (λ (d : CommitData). ListsFile d m) (one_file (bytes_of (files Commit)) c h.commit says h.says) lists))
@@ -49,7 +49,8 @@ names_listed D files s c guards says m lists = ⊎_elim
 
 -- ---- through calls on the set
 
-pub set_after : (D : ℕ) (told : Type 0) (f g : Files) (s t : SetData) → told → KeepsNamed told s.names t.names f g → t.leaf ≡ s.leaf → GuardsSet D f s → GuardsSet D g t
+pub set_after : (D : ℕ) (told : Type 0) (f g : Files) (s t : SetData) → told → KeepsNamed told s.names t.names f g → t.leaf ≡ s.leaf → GuardsSet D f s
+    → GuardsSet D g t
 set_after D told f g s t is_told keeps leaf guards = ⊎_elim
     (λ none. inl (keeps.commit is_told ∙ none))
     (λ h. inr (record {
@@ -61,7 +62,8 @@ set_after D told f g s t is_told keeps leaf guards = ⊎_elim
     }))
     guards
 
-pub part_after : (f g : Files) (l : Listed) (p q : Part) → g (Live l.segment l.generation) ≡ f (Live l.segment l.generation) → p.head ≡ q.head → IsWithin p.live q.live → CoversPart f l q → CoversPart g l p
+pub part_after : (f g : Files) (l : Listed) (p q : Part) → g (Live l.segment l.generation) ≡ f (Live l.segment l.generation) → p.head ≡ q.head
+    → IsWithin p.live q.live → CoversPart f l q → CoversPart g l p
 part_after f g l p q same head within covers = record {
   entries = covers.entries ∙ ap (λ (h : Head). h.entries) (sym head);
   live = covers.live;
@@ -70,7 +72,8 @@ part_after f g l p q same head within covers = record {
   covers = within_then p.live q.live covers.live within covers.covers;
 }
 
-pub last_after : (D : ℕ) (told : Type 0) (f g : Files) (s t : SetData) (commit : Option CommitData) → told → KeepsNamed told s.names t.names f g → Follows s.names s.parts t.parts → GuardsSet D f s
+pub last_after : (D : ℕ) (told : Type 0) (f g : Files) (s t : SetData) (commit : Option CommitData) → told → KeepsNamed told s.names t.names f g
+    → Follows s.names s.parts t.parts → GuardsSet D f s
     → IsLast f s commit → IsLast g t commit
 last_after D told f g s t None is_told keeps follows guards last = keeps.commit is_told ∙ last
 last_after D told f g s t (Some c) is_told keeps follows guards last = record {
@@ -84,14 +87,17 @@ last_after D told f g s t (Some c) is_told keeps follows guards last = record {
       (follows.each p there);
 }
 
-pub guards_after : (D : ℕ) (told : Type 0) (f g : Files) (s t : SessionData) → told → t.commit ≡ s.commit → t.refused ≡ s.refused → KeepsNamed told s.set.names t.set.names f g
+pub guards_after : (D : ℕ) (told : Type 0) (f g : Files) (s t : SessionData) → told → t.commit ≡ s.commit → t.refused ≡ s.refused
+    → KeepsNamed told s.set.names t.set.names f g
     → Follows s.set.names s.set.parts t.set.parts → t.set.leaf ≡ s.set.leaf → Guards D f s → Guards D g t
 guards_after D told f g s t is_told commit refused keeps follows leaf guards = record {
   set = set_after D told f g s.set t.set is_told keeps leaf guards.set;
-  last = λ done. subst (IsLast g t.set) (sym commit) (last_after D told f g s.set t.set s.commit is_told keeps follows guards.set (guards.last (sym refused ∙ done)));
+  last = λ done.
+      subst (IsLast g t.set) (sym commit) (last_after D told f g s.set t.set s.commit is_told keeps follows guards.set (guards.last (sym refused ∙ done)));
 }
 
-pub kept_after_calls : (D : ℕ) (told : Type 0) (f g : Files) (s : SetData) (names : NameList) → told → KeepsNamed told s.names names f g → GuardsSet D f s → SameKept f g
+pub kept_after_calls : (D : ℕ) (told : Type 0) (f g : Files) (s : SetData) (names : NameList) → told → KeepsNamed told s.names names f g → GuardsSet D f s
+    → SameKept f g
 kept_after_calls D told f g s names is_told keeps guards = ⊎_elim
     (λ none. kept_none f g none (keeps.commit is_told ∙ none))
     (λ h. kept_named f g (is_named s.names.names) (keeps.commit is_told) (λ c says. names_listed D f s c (inr h) says) (keeps.files is_told))
@@ -120,11 +126,13 @@ one_listed (x ∷ xs) l m up h k same = ⊎_elim
     first y there = pairs_head (λ (a b : ℕ). a < b) x.segment (ids_of xs) up y.segment (in_map (λ (s : Listed). s.segment) xs y there)
 
 -- each listed segment stands beside the segment of its id
-beside : (R : Listed → Part → Type 0) (c : CommitData) (parts : List Part) → IsCommit c → ((l : Listed) (p : Part) → R l p → l.segment ≡ p.head.id) → AllZip R c.listed parts
+beside : (R : Listed → Part → Type 0) (c : CommitData) (parts : List Part) → IsCommit c → ((l : Listed) (p : Part) → R l p → l.segment ≡ p.head.id)
+    → AllZip R c.listed parts
     → (l : Listed) (p : Part) → Contains c.listed l → Contains parts p → l.segment ≡ p.head.id → R l p
 beside R c parts rules ids all l p inside there same =
     let m = partner_of R c.listed parts all p there in
-    subst (λ (k : Listed). R k p) (one_listed c.listed m.0 l (AllPairs-from_increasing (ids_of c.listed) rules.segments.rising) m.1 inside (ids m.0 p m.2 ∙ sym same)) m.2
+    subst (λ (k : Listed). R k p)
+    (one_listed c.listed m.0 l (AllPairs-from_increasing (ids_of c.listed) rules.segments.rising) m.1 inside (ids m.0 p m.2 ∙ sym same)) m.2
 
 -- it is listed with the part's entries and live numbers, and its file of live bits holds just these
 pub record IsListedAs (files : Files) (l : Listed) (p : Part) : Type 0 where
@@ -140,7 +148,8 @@ covers_all files c parts says all l p inside there same =
     record { entries = is.entries; live = p.live; file = is.file; count = sym is.count; covers = within_itself p.live }
 
 -- two facts of each pair
-pub zip_both : {A B : Type 0} (R S T : A → B → Type 0) (xs : List A) (ys : List B) → ((x : A) (y : B) → R x y → S x y → T x y) → AllZip R xs ys → AllZip S xs ys → AllZip T xs ys
+pub zip_both : {A B : Type 0} (R S T : A → B → Type 0) (xs : List A) (ys : List B) → ((x : A) (y : B) → R x y → S x y → T x y) → AllZip R xs ys → AllZip S xs ys
+    → AllZip T xs ys
 zip_both R S T [] [] both p q = tt
 zip_both R S T [] (y ∷ ys) both p q = absurd p
 zip_both R S T (x ∷ xs) [] both p q = absurd p
@@ -171,7 +180,8 @@ guards_written D f g s c of lives others says = record {
           segment = same.0;
           entries = same.1;
           count = same.2;
-          file = subst (λ (b : Option (List ℕ)). IsLiveFile l.segment l.generation (bytes_of b) p.live) (sym (others (Live l.segment l.generation) (λ e. cc) (λ e. cc))) file;
+          file = subst (λ (b : Option (List ℕ)). IsLiveFile l.segment l.generation (bytes_of b) p.live)
+              (sym (others (Live l.segment l.generation) (λ e. cc) (λ e. cc))) file;
         })
         of.lists lives);
   };
@@ -196,9 +206,11 @@ pub guards_done : (D : ℕ) (f g : Files) (s u : SessionData) (c : CommitData) �
     → AllZip (λ (l : Listed) (p : Part). IsLiveFile l.segment l.generation (bytes_of (f (Live l.segment l.generation))) p.live) c.listed s.set.parts
     → SameButTwo CommitNew Commit f g → IsCommitFile (bytes_of (g Commit)) c → Guards D g (record { set = u.set; commit = Some c; refused = false })
 guards_done D f g s u c same of lives others says =
-    subst (λ (v : SessionData). Guards D g (record { set = v.set; commit = Some c; refused = false })) (sym same) (guards_written D f g s.set c of lives others says)
+    subst (λ (v : SessionData). Guards D g (record { set = v.set; commit = Some c; refused = false })) (sym same)
+    (guards_written D f g s.set c of lives others says)
 
-pub guards_undone : (D : ℕ) (f g : Files) (s u : SessionData) (c : CommitData) → u ≡ s → IsCommitOf D s.set c → GuardsSet D f s.set → (g Commit ≡ f Commit) ⊎ IsCommitFile (bytes_of (g Commit)) c
+pub guards_undone : (D : ℕ) (f g : Files) (s u : SessionData) (c : CommitData) → u ≡ s → IsCommitOf D s.set c → GuardsSet D f s.set
+    → (g Commit ≡ f Commit) ⊎ IsCommitFile (bytes_of (g Commit)) c
     → Guards D g (record { set = u.set; commit = u.commit; refused = true })
 guards_undone D f g s u c same of guards which =
     subst (λ (v : SessionData). Guards D g (record { set = v.set; commit = v.commit; refused = true })) (sym same)
@@ -262,45 +274,3 @@ session_swept D f g s t c is done same still swept guards = (
 
     now : Guards D f (record { set = s.set; commit = Some c; refused = false })
     now = subst (Guards D f) before guards
-
--- ---- a set anew
-
--- the set of a commit that the file says guards it
-pub guards_attached : (D : ℕ) (files : Files) (s : SessionData) (c : CommitData) → s.commit ≡ Some c → c.dims ≡ D → IsCommitFile (bytes_of (files Commit)) c → IsAtRest s.set c
-    → ((m : FileName) → (is_named s.set.names.names m ≡ true) ↔ ListsFile c m) → HaveLive files c (lives_of s.set.parts) → Guards D files s
-guards_attached D files s c is dims says rest names lives = record {
-  set = inr (record { commit = c; says = says; dims = dims; leaf = sym rest.leaf; named = λ m lists. (names m).1 lists });
-  last = λ done. subst (IsLast files s.set) (sym is) (record {
-    says = says;
-    covers = covers_all files c s.set.parts says
-        (listed_as files c.listed s.set.parts rest.as_committed.ids rest.entries rest.as_committed.counts lives);
-  });
-}
-  where
-    listed_as : (files : Files) (listed : List Listed) (parts : List Part) → map (λ (p : Part). p.head.id) parts ≡ map (λ (l : Listed). l.segment) listed
-        → map (λ (p : Part). p.head.entries) parts ≡ map (λ (l : Listed). l.entries) listed → map (λ (p : Part). length p.live.live) parts ≡ map (λ (l : Listed). l.live) listed
-        → AllZip (HasLive files) listed (lives_of parts) → AllZip (IsListedAs files) listed parts
-    listed_as files [] [] ids entries counts lives = tt
-    listed_as files [] (p ∷ ps) ids entries counts lives = absurd lives
-    listed_as files (l ∷ ls) [] ids entries counts lives = absurd lives
-    listed_as files (l ∷ ls) (p ∷ ps) ids entries counts lives = (
-      record {
-        segment = sym (cons_first ids);
-        entries = sym (cons_first entries);
-        count = sym (cons_first counts);
-        file = lives.0;
-      },
-      listed_as files ls ps (cons_rest ids) (cons_rest entries) (cons_rest counts) lives.1,
-    )
-
--- the Commit file says the last commit of the session that the code opened
-pub says_last : (D : ℕ) (files : Files) (s u : SessionData) {c : CommitData} → u ≡ s → u.commit ≡ Some c → s.refused ≡ false → Guards D files s → IsCommitFile (bytes_of (files Commit)) c
-says_last D files s u {c = c} same is done guards =
-    (subst (λ (o : Option CommitData). IsLast files s.set o) (ap (λ (v : SessionData). v.commit) (sym same) ∙ is) (guards.last done)).says
-
-pub guards_anew : {E : Type 0} (D : ℕ) (files : Files) (s u : SessionData) (c : CommitData) (r : Result SetData E) → u ≡ s → u.commit ≡ Some c → c.dims ≡ D → IsCommitFile (bytes_of (files Commit)) c
-    → IfOk r (λ t. IsAtRest t c) → IfOk r (λ t. (m : FileName) → (is_named t.names.names m ≡ true) ↔ ListsFile c m) → IfOk r (λ t. HaveLive files c (lives_of t.parts))
-    → IfOk r (λ t. Guards D files (record s { set = t }))
-guards_anew D files s u c (Ok t) same is dims says rest names lives =
-    guards_attached D files (record s { set = t }) c (ap (λ (v : SessionData). v.commit) (sym same) ∙ is) dims says rest names lives
-guards_anew D files s u c (Err e) same is dims says rest names lives = tt

@@ -69,7 +69,9 @@ snap_keeps P (Err snap.TooMany) kept = kept
 snap_keeps P (Err snap.Memory) kept = tt
 
 -- what holds over all files holds over told ones
-pub still_told : (told : Type 0) (files : Files) (s t : SessionData) (r : Result Applied PageFault) → OnRefused r (IsStill (Unit {0}) files files s t) → OnRefused r (IsStill told files files s t)
+pub still_told : (told : Type 0) (files : Files) (s t : SessionData) (r : Result Applied PageFault) → OnRefused r (IsStill (Unit {0}) files files s t)
+    → OnRefused r (IsStill told files files s t)
 still_told told files s t (Ok applied.Done) still = tt
-still_told told files s t (Ok (applied.Refused why)) still = record { set = still.set; commit = still.commit; refused = still.refused; files = λ is_told. still.files tt }
+still_told told files s t (Ok (applied.Refused why)) still =
+    record { set = still.set; commit = still.commit; refused = still.refused; files = λ is_told. still.files tt }
 still_told told files s t (Err fault) still = tt

@@ -1,9 +1,14 @@
 pub mod Guarding
+pub mod SetGuards
 pub mod Numbers
 pub mod Committing
+pub mod WrittenCommit
 pub mod Answering
+pub mod FaultCauses
+pub mod CalmCalls
 pub mod Tracing
 pub mod Changing
+pub mod SnapshotChanges
 pub mod Sizes
 pub mod Leaving
 pub mod Adding

@@ -24,7 +24,8 @@ use Rattle.index_core.specs.Whole.{HasNewCanonical, IsNewSegment}
 use Rattle.index_core.proofs.Guarding.{says_some}
 
 -- a commit that the file says is the session's
-the_commit : (files : Files) (s : SessionData) (e : CommitData) → IsCommitFile (bytes_of (files Commit)) e → SaysCommit files s.commit → (u : IsUnchanged s) → e ≡ u.commit
+the_commit : (files : Files) (s : SessionData) (e : CommitData) → IsCommitFile (bytes_of (files Commit)) e → SaysCommit files s.commit → (u : IsUnchanged s)
+    → e ≡ u.commit
 the_commit files s e says_e (c, is, says) u = one_file (bytes_of (files Commit)) e c says_e says ∙ some_inj c u.commit (sym is ∙ u.is)
   where
     some_inj : (x y : CommitData) → Some x ≡ Some y → x ≡ y
@@ -35,7 +36,8 @@ pub new_canonical : (D : ℕ) (old new : Files) (a : SetData) (s : SessionData) 
     → BringsCanonical D old new a.parts s.set.parts → Sees D new s.set i → Guards D new s → SaysCommit new s.commit → IsUnchanged s → HasNewCanonical old new
 new_canonical D old new a s i listed brings seen guards (c, is, says) unchanged e says_e l inside apart head has =
     ⊎_elim
-    (λ (before : IsOfBefore old new a.parts p). absurd (listed before.part before.was (subst (IsNewSegment old) (sym (ap (λ (h : Head). h.id) before.head ∙ at)) apart)))
+    (λ (before : IsOfBefore old new a.parts p).
+    absurd (listed before.part before.was (subst (IsNewSegment old) (sym (ap (λ (h : Head). h.id) before.head ∙ at)) apart)))
     (λ canon. subst (λ n. HasCanonical n new head) (sym dims) (subst (HasCanonical D new) same canon))
     (brings p there)
   where
@@ -64,13 +66,16 @@ new_canonical D old new a s i listed brings seen guards (c, is, says) unchanged 
     read = All-contains (IsRead D new seen.contents) s.set.parts p seen.stands.now there
 
     own : IsHeadOf D (bytes_of (new (Segment l.segment))) p.head
-    own = subst (λ n. IsHeadOf D (bytes_of (new (Segment n))) p.head) at (head_of_segment D (bytes_of (new (Segment p.head.id))) p.head (seen.contents p.head.id) read.held)
+    own = subst (λ n.
+        IsHeadOf D (bytes_of (new (Segment n))) p.head) at (head_of_segment D (bytes_of (new (Segment p.head.id))) p.head (seen.contents p.head.id) read.held)
 
     same : p.head ≡ head
-    same = one_head D (bytes_of (new (Segment l.segment))) p.head head (at ∙ sym has.id) own (subst (λ n. IsHeadOf n (bytes_of (new (Segment l.segment))) head) dims has.is)
+    same = one_head D (bytes_of (new (Segment l.segment))) p.head head (at ∙ sym has.id) own
+        (subst (λ n. IsHeadOf n (bytes_of (new (Segment l.segment))) head) dims has.is)
 
 -- a session that was attached has no segment but those that the commit lists
-pub attached_listed : (D : ℕ) (files : Files) (s : SessionData) → Guards D files s → IsUnchanged s → (p : Part) → Contains s.set.parts p → IsNewSegment files p.head.id → ⊥
+pub attached_listed : (D : ℕ) (files : Files) (s : SessionData) → Guards D files s → IsUnchanged s → (p : Part) → Contains s.set.parts p
+    → IsNewSegment files p.head.id → ⊥
 attached_listed D files s guards unchanged p there apart =
     let last = subst (IsLast files s.set) unchanged.is (guards.last unchanged.done) in
     let found = of_map (λ (l : Listed). l.segment) unchanged.commit.listed p.head.id

@@ -37,7 +37,10 @@ fewer : (ys xs : List ℕ) → Rise xs → Rise ys → AreAmong xs ys → length
 fewer ys [] up rise among = omega arith
 fewer [] (x ∷ xs) up rise among = nil_none x _ (among x (cons_head x xs))
 fewer (y ∷ ys) (x ∷ xs) up rise among = ⊎_elim
-    (λ e. omega (arith, fewer ys xs (pairs_tail (λ (a b : ℕ). a < b) x xs up) (pairs_tail (λ (a b : ℕ). a < b) y ys rise) (rest_among x y xs ys up (sym e) among)))
+    (λ e. omega (
+      arith,
+      fewer ys xs (pairs_tail (λ (a b : ℕ). a < b) x xs up) (pairs_tail (λ (a b : ℕ). a < b) y ys rise) (rest_among x y xs ys up (sym e) among),
+    ))
     (λ later. omega (arith, fewer ys (x ∷ xs) up (pairs_tail (λ (a b : ℕ). a < b) y ys rise) (all_among x y xs ys up rise later among)))
     (cons_cases y ys x (among x (cons_head x xs)))
 
@@ -46,7 +49,9 @@ same_numbers [] [] up rise among long = refl
 same_numbers (y ∷ ys) [] up rise among long = absurd (omega (arith, long))
 same_numbers [] (x ∷ xs) up rise among long = absurd (omega (arith, long))
 same_numbers (y ∷ ys) (x ∷ xs) up rise among long = ⊎_elim
-    (λ e. let rest : xs ≡ ys = same_numbers ys xs (pairs_tail (λ (a b : ℕ). a < b) x xs up) (pairs_tail (λ (a b : ℕ). a < b) y ys rise) (rest_among x y xs ys up (sym e) among) (omega (arith, long)) in
+    (λ e.
+    let rest : xs ≡ ys = same_numbers ys xs (pairs_tail (λ (a b : ℕ). a < b) x xs up) (pairs_tail (λ (a b : ℕ). a < b) y ys rise)
+    (rest_among x y xs ys up (sym e) among) (omega (arith, long)) in
     ap (λ n. n ∷ xs) (sym e) ∙ ap (λ (ns : List ℕ). y ∷ ns) rest)
     (λ later. absurd (omega (arith, long, fewer ys (x ∷ xs) up (pairs_tail (λ (a b : ℕ). a < b) y ys rise) (all_among x y xs ys up rise later among))))
     (cons_cases y ys x (among x (cons_head x xs)))

@@ -48,10 +48,12 @@ begin_shows P (Err begin.Memory) p = tt
 
 -- ---- searches
 
-pub leaf_none : {T : Type 0} (D : ℕ) (told : Type 0) (files : Files) (s : SetData) (parts : List Part) (r : Result T PageFault) → NotDamaged r → ShowsLeaf D told files s parts r
+pub leaf_none : {T : Type 0} (D : ℕ) (told : Type 0) (files : Files) (s : SetData) (parts : List Part) (r : Result T PageFault) → NotDamaged r
+    → ShowsLeaf D told files s parts r
 leaf_none D told files s parts r none = record { shown = damage_none _ r none; damage = λ is_told agrees. damage_none _ r none }
 
-pub leaf_to : {T U : Type 0} (D : ℕ) (told : Type 0) (files : Files) (s : SetData) (parts : List Part) (r : Result U PageFault) (fault : PageFault) → r ≡ Err fault
+pub leaf_to : {T U : Type 0} (D : ℕ) (told : Type 0) (files : Files) (s : SetData) (parts : List Part) (r : Result U PageFault) (fault : PageFault)
+    → r ≡ Err fault
     → ShowsLeaf {T = T} D told files s parts (Err fault) → ShowsLeaf D told files s parts r
 leaf_to D told files s parts r fault is shows = record {
   shown = damage_to _ r fault is shows.shown;
@@ -77,7 +79,8 @@ merge_to D told old new s r fault is shows = record {
 
 -- ---- what commits and attaches anew
 
-pub anew_none : {T : Type 0} (D : ℕ) (told : Type 0) (old new : Files) (s : SetData) (commit : Option CommitData) (r : Result T PageFault) → NotDamaged r → ShowsAnew D told old new s commit r
+pub anew_none : {T : Type 0} (D : ℕ) (told : Type 0) (old new : Files) (s : SetData) (commit : Option CommitData) (r : Result T PageFault) → NotDamaged r
+    → ShowsAnew D told old new s commit r
 anew_none D told old new s commit r none = record {
   shown = damage_none _ r none;
   damage = λ is_told agrees. damage_none _ r none;
@@ -85,7 +88,8 @@ anew_none D told old new s commit r none = record {
 }
 
 -- by the commit's fault
-pub anew_saved : {T U : Type 0} (D : ℕ) (told : Type 0) (old new : Files) (s : SetData) (commit : Option CommitData) (r : Result U PageFault) (fault : PageFault) → r ≡ Err fault
+pub anew_saved : {T U : Type 0} (D : ℕ) (told : Type 0) (old new : Files) (s : SetData) (commit : Option CommitData) (r : Result U PageFault)
+    (fault : PageFault) → r ≡ Err fault
     → ShowsMerge {T = T} D told old new s (Err fault) → ShowsAnew D told old new s commit r
 anew_saved D told old new s commit r fault is shows = record {
   shown = damage_to _ r fault is (fault_each _ _ (λ d p. inl p) fault shows.shown);
@@ -94,7 +98,8 @@ anew_saved D told old new s commit r fault is shows = record {
 }
 
 -- by that of attaching
-pub anew_attached : {T : Type 0} (D : ℕ) (told : Type 0) (old new : Files) (s : SetData) (commit : Option CommitData) (c : CommitData) (r : Result T PageFault) (fault : PageFault) → r ≡ Err fault → commit ≡ Some c
+pub anew_attached : {T : Type 0} (D : ℕ) (told : Type 0) (old new : Files) (s : SetData) (commit : Option CommitData) (c : CommitData) (r : Result T PageFault)
+    (fault : PageFault) → r ≡ Err fault → commit ≡ Some c
     → FaultShows (IsAttachDamage c) fault → (told → FaultShows (IsAttachDamageOf new c) fault) → ShowsAnew D told old new s commit r
 anew_attached D told old new s commit c r fault is last shown damage = record {
   shown = damage_to _ r fault is (fault_each _ _ (λ d p. inr (c, last, p)) fault shown);

@@ -32,14 +32,16 @@ use Rattle.index_opening.proofs.Evident.{on_evident_twice}
 use Rattle.index_core.specs.Sessions.{AreTraced, Guards, GuardsSet, IsLast, IsLastCommit, IsListedWith, IsTraced, SessionData, Trusts}
 use Rattle.index_core.specs.Effects.{BringsCanonical, IsOfBefore}
 use Rattle.index_core.proofs.Bringing.{brings_written}
-use Rattle.index_core.proofs.Guarding.{IsSwept, guards_attached, guards_written, moved_says, names_listed, part_after}
+use Rattle.index_core.proofs.Guarding.{IsSwept, guards_written, moved_says, names_listed, part_after}
+use Rattle.index_core.proofs.SetGuards.{guards_attached}
 
 -- ---- a crowd
 
 -- by a segment that the commit lists, with at least what is live in it now
 listed_twice : (D : ℕ) (files : Files) (p : Part) (doc : ℕ) → IsListedWith D files p → CrowdsPart D files p doc → IsTwice files doc
 listed_twice D files p doc l crowd = InSegment l.commit l.says l.listed l.there (part_of p.head l.covers.live) (sym l.is) l.covers.file
-    (subst (λ n. CrowdsPart n files (part_of p.head l.covers.live) doc) (sym l.dims) (crowd_before D files p (part_of p.head l.covers.live) doc refl l.covers.covers crowd))
+    (subst (λ n. CrowdsPart n files (part_of p.head l.covers.live) doc) (sym l.dims)
+    (crowd_before D files p (part_of p.head l.covers.live) doc refl l.covers.covers crowd))
 
 -- no other segment has one
 pub crowded_listed : (D : ℕ) (files : Files) (parts : List Part) (doc : ℕ) → AreTraced D files parts → IsCrowdedIn D files parts doc → IsTwice files doc
@@ -47,7 +49,8 @@ crowded_listed D files parts doc traced (p, there, crowd) =
     ⊎_elim (λ l. listed_twice D files p doc l crowd) (λ canonical. absurd (none_crowded D files p doc canonical crowd)) (traced p there)
 
 -- a damage that is evident by the set's segments of before is so by those that the commit lists
-pub crowd_shows : {X : Type 0} (D : ℕ) (told : Type 0) (f g : Files) (s : SessionData) (r : Result X PageFault) → (told → Trusts D f s → AreTraced D g s.set.parts)
+pub crowd_shows : {X : Type 0} (D : ℕ) (told : Type 0) (f g : Files) (s : SessionData) (r : Result X PageFault)
+    → (told → Trusts D f s → AreTraced D g s.set.parts)
     → OnDamage r (IsEvidentIn D s.set.parts (told × IsFaithful D f s.set) g) → OnDamage r (IsEvident (told × Trusts D f s) g)
 crowd_shows D told f g s r traced = on_evident_twice (IsCrowdedIn D g s.set.parts) (IsTwice g) (told × IsFaithful D f s.set) (told × Trusts D f s) g r
     (λ (is_told, trusts). (is_told, trusts.faithful))
@@ -73,29 +76,34 @@ segment_named : (D : ℕ) (f : Files) (s : SetData) (p : Part) → GuardsSet D f
 segment_named D f s p guards h =
     subst (λ n. is_named s.names.names (Segment n) ≡ true) h.is (names_listed D f s h.commit guards h.says (Segment h.listed.segment) (h.listed, h.there, refl))
 
-live_stays : (D : ℕ) (told : Type 0) (f g : Files) (s : SetData) (names : NameList) (p : Part) → told → KeepsNamed told s.names names f g → GuardsSet D f s → (h : IsListedWith D f p)
+live_stays : (D : ℕ) (told : Type 0) (f g : Files) (s : SetData) (names : NameList) (p : Part) → told → KeepsNamed told s.names names f g → GuardsSet D f s
+    → (h : IsListedWith D f p)
     → g (Live h.listed.segment h.listed.generation) ≡ f (Live h.listed.segment h.listed.generation)
 live_stays D told f g s names p is_told keeps guards h =
     keeps.files is_told (Live h.listed.segment h.listed.generation)
     (names_listed D f s h.commit guards h.says (Live h.listed.segment h.listed.generation) (h.listed, h.there, refl, refl))
 
 -- the segments of before, in the files of now
-pub traced_before : (D : ℕ) (told : Type 0) (f g : Files) (s : SetData) (names : NameList) → told → KeepsNamed told s.names names f g → GuardsSet D f s → All (IsNamed s.names) s.parts
+pub traced_before : (D : ℕ) (told : Type 0) (f g : Files) (s : SetData) (names : NameList) → told → KeepsNamed told s.names names f g → GuardsSet D f s
+    → All (IsNamed s.names) s.parts
     → AreTraced D f s.parts → AreTraced D g s.parts
 traced_before D told f g s names is_told keeps guards named traced p there = ⊎_elim
     (λ h. inl (listed_after D f g p p (keeps.commit is_told) refl (within_itself p.live) h (live_stays D told f g s names p is_told keeps guards h)))
-    (λ canonical. inr (canon_file D f g p.head p.head refl (keeps.files is_told (Segment p.head.id) (All-contains (IsNamed s.names) s.parts p named there)) canonical))
+    (λ canonical.
+    inr (canon_file D f g p.head p.head refl (keeps.files is_told (Segment p.head.id) (All-contains (IsNamed s.names) s.parts p named there)) canonical))
     (traced p there)
 
 -- and those of now
-pub traced_after : (D : ℕ) (told : Type 0) (f g : Files) (s t : SetData) → told → KeepsNamed told s.names t.names f g → Follows s.names s.parts t.parts → BringsCanonical D f g s.parts t.parts → GuardsSet D f s
+pub traced_after : (D : ℕ) (told : Type 0) (f g : Files) (s t : SetData) → told → KeepsNamed told s.names t.names f g → Follows s.names s.parts t.parts
+    → BringsCanonical D f g s.parts t.parts → GuardsSet D f s
     → AreTraced D f s.parts → AreTraced D g t.parts
 traced_after D told f g s t is_told keeps follows brings guards traced p there = ⊎_elim
     (λ (o : IsOfBefore f g s.parts p). ⊎_elim
     (λ fresh. ⊎_elim
     (λ h. absurd (both_ways (is_named s.names.names (Segment p.head.id)) fresh
     (subst (λ (x : Head). is_named s.names.names (Segment x.id) ≡ true) o.head (segment_named D f s o.part guards h))))
-    (λ canonical. inr (canon_file D f g o.part.head p.head (sym o.head) (subst (λ (x : Head). g (Segment x.id) ≡ f (Segment x.id)) (sym o.head) o.file) canonical))
+    (λ canonical.
+    inr (canon_file D f g o.part.head p.head (sym o.head) (subst (λ (x : Head). g (Segment x.id) ≡ f (Segment x.id)) (sym o.head) o.file) canonical))
     (traced o.part o.was))
     (λ (q, here, head, within). ⊎_elim
     (λ h. inl (listed_after D f g p q (keeps.commit is_told) head within h (live_stays D told f g s t.names q is_told keeps guards h)))
@@ -106,13 +114,15 @@ traced_after D told f g s t is_told keeps follows brings guards traced p there =
     (brings p there)
 
 -- of a session, by what the call on its set says
-pub traced_by : (D : ℕ) (told : Type 0) (f g : Files) (s : SessionData) (t : SetData) → told → KeepsNamed told s.set.names t.names f g → Follows s.set.names s.set.parts t.parts
+pub traced_by : (D : ℕ) (told : Type 0) (f g : Files) (s : SessionData) (t : SetData) → told → KeepsNamed told s.set.names t.names f g
+    → Follows s.set.names s.set.parts t.parts
     → AreCanonical D g s.set.names t.parts → Trusts D f s → AreTraced D g t.parts
 traced_by D told f g s t is_told keeps follows canon trusts = traced_after D told f g s.set t is_told keeps follows
     (brings_written D told f g s.set.names t.names s.set.parts t.parts is_told keeps follows canon) trusts.guards.set trusts.traced
 
 -- a damage of a call that may merge
-pub traced_shows : {X : Type 0} (D : ℕ) (told : Type 0) (f g : Files) (s : SessionData) (names : NameList) (r : Result X PageFault) → KeepsNamed told s.set.names names f g → All (IsNamed s.set.names) s.set.parts
+pub traced_shows : {X : Type 0} (D : ℕ) (told : Type 0) (f g : Files) (s : SessionData) (names : NameList) (r : Result X PageFault)
+    → KeepsNamed told s.set.names names f g → All (IsNamed s.set.names) s.set.parts
     → OnDamage r (IsEvidentIn D s.set.parts (told × IsFaithful D f s.set) g) → OnDamage r (IsEvident (told × Trusts D f s) g)
 traced_shows D told f g s names r keeps named =
     crowd_shows D told f g s r (λ is_told trusts. traced_before D told f g s.set names is_told keeps trusts.guards.set named trusts.traced)
@@ -120,7 +130,8 @@ traced_shows D told f g s names r keeps named =
 -- and of one that changes no file
 pub calm_shows : {X : Type 0} (D : ℕ) (told : Type 0) (f g : Files) (s : SessionData) (r : Result X PageFault) → (told → g ≡ f)
     → OnDamage r (IsEvidentIn D s.set.parts (told × IsFaithful D f s.set) g) → OnDamage r (IsEvident (told × Trusts D f s) g)
-calm_shows D told f g s r same = crowd_shows D told f g s r (λ is_told trusts. subst (λ (h : Files). AreTraced D h s.set.parts) (sym (same is_told)) trusts.traced)
+calm_shows D told f g s r same =
+    crowd_shows D told f g s r (λ is_told trusts. subst (λ (h : Files). AreTraced D h s.set.parts) (sym (same is_told)) trusts.traced)
 
 -- the same segments without a number
 pub traced_cleared : (D : ℕ) (files : Files) (number : ℕ) (s t : List Part) → t ≡ cleared number s → AreTraced D files s → AreTraced D files t
@@ -134,7 +145,8 @@ traced_cleared D files number s t is traced p there =
 -- ---- a commit
 
 -- each segment is one that the last commit lists
-traced_last : (D : ℕ) (files : Files) (s : SetData) (c : CommitData) → c.dims ≡ D → IsLastCommit files s c → ((p : Part) → Contains s.parts p → (l : Listed) × Contains c.listed l × (l.segment ≡ p.head.id))
+traced_last : (D : ℕ) (files : Files) (s : SetData) (c : CommitData) → c.dims ≡ D → IsLastCommit files s c
+    → ((p : Part) → Contains s.parts p → (l : Listed) × Contains c.listed l × (l.segment ≡ p.head.id))
     → AreTraced D files s.parts
 traced_last D files s c dims last lists p there =
     let (l, inside, is) = lists p there in
@@ -145,7 +157,9 @@ traced_written : (D : ℕ) (f g : Files) (s : SetData) (c : CommitData) → IsCo
     → AllZip (λ (l : Listed) (p : Part). IsLiveFile l.segment l.generation (bytes_of (f (Live l.segment l.generation))) p.live) c.listed s.parts
     → SameButTwo CommitNew Commit f g → IsCommitFile (bytes_of (g Commit)) c → AreTraced D g s.parts
 traced_written D f g s c of lives others says = traced_last D g s c of.dims ((guards_written D f g s c of lives others says).last refl)
-    (λ p there. let m = partner_of (λ (l : Listed) (q : Part). (l.segment ≡ q.head.id) × (l.entries ≡ q.head.entries) × (l.live ≡ length q.live.live)) c.listed s.parts of.lists p there in (m.0, m.1, m.2.0))
+    (λ p there.
+    let m = partner_of (λ (l : Listed) (q : Part). (l.segment ≡ q.head.id) × (l.entries ≡ q.head.entries) × (l.live ≡ length q.live.live)) c.listed s.parts
+    of.lists p there in (m.0, m.1, m.2.0))
 
 -- it says the one of before
 traced_still : (D : ℕ) (f g : Files) (parts : List Part) → SameButTwo CommitNew Commit f g → g Commit ≡ f Commit → AreTraced D f parts → AreTraced D g parts
@@ -170,7 +184,12 @@ traced_swept D f g s t c swept last traced = subst (AreTraced D g) (sym swept.pa
     (traced p there))
   where
     listed : {p : Part} → (h : IsListedWith D f p) → ListsFile c (Live h.listed.segment h.listed.generation)
-    listed h = (h.listed, subst (λ (d : CommitData). Contains d.listed h.listed) (sym (one_file (bytes_of (f Commit)) c h.commit last.says h.says)) h.there, refl, refl)
+    listed h = (
+      h.listed,
+      subst (λ (d : CommitData). Contains d.listed h.listed) (sym (one_file (bytes_of (f Commit)) c h.commit last.says h.says)) h.there,
+      refl,
+      refl,
+    )
 
 -- of a session whose set was swept
 pub session_traced : (D : ℕ) (f g : Files) (s : SessionData) (t : SetData) (c : CommitData) → s.commit ≡ Some c → s.refused ≡ false → IsSwept f g s.set t c
@@ -183,10 +202,12 @@ pub traced_attached : (D : ℕ) (files : Files) (t : SetData) (c : CommitData) �
     → ((m : FileName) → (is_named t.names.names m ≡ true) ↔ ListsFile c m) → HaveLive files c (lives_of t.parts) → AreTraced D files t.parts
 traced_attached D files t c dims says rest names lives =
     traced_last D files t c dims ((guards_attached D files (record { set = t; commit = Some c; refused = false }) c refl dims says rest names lives).last refl)
-    (λ p there. of_map (λ (l : Listed). l.segment) c.listed p.head.id (subst (λ (ns : List ℕ). Contains ns p.head.id) rest.as_committed.ids (in_map (λ (q : Part). q.head.id) t.parts p there)))
+    (λ p there. of_map (λ (l : Listed). l.segment) c.listed p.head.id
+    (subst (λ (ns : List ℕ). Contains ns p.head.id) rest.as_committed.ids (in_map (λ (q : Part). q.head.id) t.parts p there)))
 
 pub traced_anew : {E : Type 0} (D : ℕ) (files : Files) (c : CommitData) (r : Result SetData E) → c.dims ≡ D → IsCommitFile (bytes_of (files Commit)) c
-    → IfOk r (λ t. IsAtRest t c) → IfOk r (λ t. (m : FileName) → (is_named t.names.names m ≡ true) ↔ ListsFile c m) → IfOk r (λ t. HaveLive files c (lives_of t.parts))
+    → IfOk r (λ t. IsAtRest t c) → IfOk r (λ t. (m : FileName) → (is_named t.names.names m ≡ true) ↔ ListsFile c m)
+    → IfOk r (λ t. HaveLive files c (lives_of t.parts))
     → IfOk r (λ t. AreTraced D files t.parts)
 traced_anew D files c (Ok t) dims says rest names lives = traced_attached D files t c dims says rest names lives
 traced_anew D files c (Err e) dims says rest names lives = tt

@@ -25,7 +25,8 @@ says_commit : (files : Files) (commit : Option CommitData) → SaysCommit files 
 says_commit files commit (c, is, says) = (c, says)
 
 -- the commit that the folder failed in may be there
-pub undone_flight : {T : Type 0} (U : Type 0) (old new : Files) (commit : Option CommitData) (fault : PageFault) (r : Result T PageFault) → r ≡ Err fault → NotDamaged {T = U} (Err fault)
+pub undone_flight : {T : Type 0} (U : Type 0) (old new : Files) (commit : Option CommitData) (fault : PageFault) (r : Result T PageFault) → r ≡ Err fault
+    → NotDamaged {T = U} (Err fault)
     → SameKept old new ⊎ SaysCommit new commit → KeepsUndone old new r
 undone_flight {T} U old new commit fault r is whole flight = subst (KeepsUndone old new) (sym is) (by fault whole)
   where
@@ -38,7 +39,8 @@ undone_flight {T} U old new commit fault r is whole flight = subst (KeepsUndone 
     by (page.Damaged d) w = absurd w
 
 -- and it is there where the folder failed behind it
-pub undone_written : {T : Type 0} (old new : Files) (commit : Option CommitData) (r : Result T PageFault) → NotDamaged r → SaysCommit new commit → KeepsUndone old new r
+pub undone_written : {T : Type 0} (old new : Files) (commit : Option CommitData) (r : Result T PageFault) → NotDamaged r → SaysCommit new commit
+    → KeepsUndone old new r
 undone_written old new commit (Ok x) whole says = tt
 undone_written old new commit (Err page.Failed) whole says = inr (says_commit new commit says)
 undone_written old new commit (Err page.Memory) whole says = inr (says_commit new commit says)

@@ -39,6 +39,7 @@ pub record IsCommitted {T : Type 0} (D : ℕ) (told : Type 0) (b c : Moment) (re
   pub whole : told → (i : Index) → Sees D b.files b.session.set i → NotDamaged result
 
 -- reading the commit of a folder that stores a state finds no damage
-pub state_undamaged : {P : Type 0} (files : Files) (state : State) → IsStored files state → (files Commit ≡ None → P) → ((c : CommitData) → IsCommitFile (bytes_of (files Commit)) c → P) → P
+pub state_undamaged : {P : Type 0} (files : Files) (state : State) → IsStored files state → (files Commit ≡ None → P)
+    → ((c : CommitData) → IsCommitFile (bytes_of (files Commit)) c → P) → P
 state_undamaged files None h absent whole = absent h
 state_undamaged files (Some i) h absent whole = whole h.commit h.holds.commit

@@ -28,7 +28,8 @@ use Rattle.index_core.specs.Sessions.{Guards, IsUnchanged, SessionData, Trusts}
 use Rattle.index_core.specs.Light.{KeepsLevels}
 use Rattle.index_core.specs.Steps.{FaultKeeps, KeepsUndone}
 use Rattle.index_core.specs.Whole.{Adds, DoesWhole, HasNewCanonical, IsNewSegment, Moment, with_point, with_points}
-use Rattle.index_core.proofs.Answering.{cause_then, fault_to, memory_cause, no_cause}
+use Rattle.index_core.proofs.Answering.{no_cause}
+use Rattle.index_core.proofs.FaultCauses.{cause_then, fault_to, memory_cause}
 use Rattle.load_points.specs.Loaded.{full_text, loaded_text, matched, opened, refusal}
 use Rattle.load_points.specs.Loads.{IsLoading, Loads, Place, StartsFrom, StartsNone}
 use Rattle.load_points.proofs.Counted.{added_is, done_answer, full_is, matched_is, rest_done}

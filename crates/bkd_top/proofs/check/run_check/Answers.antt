@@ -18,7 +18,8 @@ returns-clause-done g c = λ d. does_lines c.stopped.result (subst DoesNothing c
 
 pub returns-in-Ok-clause-checks : goal.returns-in-Ok-clause-checks
 returns-in-Ok-clause-checks g c = λ told. record {
-  ends = rw c.status_of.ensures (sent_check (IsTrue g.K.Sink.told) (g.F.Pages.files c.args.folder.now) (g.K.Sink.written c.args.out.now) (g.K.Sink.written c.send.new.out)
+  ends = rw c.status_of.ensures
+      (sent_check (IsTrue g.K.Sink.told) (g.F.Pages.files c.args.folder.now) (g.K.Sink.written c.args.out.now) (g.K.Sink.written c.send.new.out)
       c.as_slice.result.now c.send.result (told_text _ _ _ _ c.new-text.ensures.items c.as_slice.ensures.value (rw c.in-Ok.is at (c.check.ensures.tells told)))
       c.send.ensures.text c.send.ensures.known c.send.ensures.cause);
   files = c.check.ensures.files told;
@@ -29,7 +30,8 @@ returns-in-Ok-clause-checks g c = λ told. record {
 
 pub returns-clause-checks : goal.returns-clause-checks
 returns-clause-checks g c = λ told. record {
-  ends = rw c.status_of-in-Err.ensures (rw c.stopped.ensures (fault_check (IsTrue g.K.Sink.told) (g.F.Pages.files c.args.folder.now) (g.K.Sink.written c.args.out.now)
+  ends = rw c.status_of-in-Err.ensures
+      (rw c.stopped.ensures (fault_check (IsTrue g.K.Sink.told) (g.F.Pages.files c.args.folder.now) (g.K.Sink.written c.args.out.now)
       (g.K.Sink.written c.args.out.now) c.in-Err.fault (rw c.in-Err.is at (c.check.ensures.undefined told)) (λ sink. refl)));
   files = c.check.ensures.files told;
   reads = c.check.ensures.reads told;
@@ -48,8 +50,10 @@ pub returns-clause-damage : goal.returns-clause-damage
 returns-clause-damage g c = record {
   never = λ told state h d. fault_whole (g.F.Pages.files c.args.folder.now) state c.in-Err.fault h (rw c.in-Err.is at (c.check.ensures.undefined told))
       (subst IsDamaged (c.status_of-in-Err.ensures ∙ ap status_of c.stopped.ensures) d);
-  evident = rw c.status_of-in-Err.ensures (rw c.stopped.ensures (fault_status (IsEvident (IsTrue g.F.Pages.told) (g.F.Pages.files c.check.new.folder)) c.in-Err.fault
-      (rw c.in-Err.is at (on_evident_at IsTwice (IsTrue g.F.Pages.told) (IsTrue g.F.Pages.told) (g.F.Pages.files c.args.folder.now) (g.F.Pages.files c.check.new.folder)
+  evident =
+      rw c.status_of-in-Err.ensures (rw c.stopped.ensures (fault_status (IsEvident (IsTrue g.F.Pages.told) (g.F.Pages.files c.check.new.folder)) c.in-Err.fault
+      (rw c.in-Err.is at (on_evident_at IsTwice (IsTrue g.F.Pages.told) (IsTrue g.F.Pages.told) (g.F.Pages.files c.args.folder.now)
+      (g.F.Pages.files c.check.new.folder)
       c.check.result (λ told. told) c.check.ensures.files c.check.ensures.evident))));
 }
 
@@ -57,7 +61,8 @@ pub returns-in-Ok-clause-folder_fault : goal.returns-in-Ok-clause-folder_fault
 returns-in-Ok-clause-folder_fault g c = λ e. sent_no_folder c.send.result c.send.ensures.cause (folder_stopped c.send.result (sym c.status_of.ensures ∙ e))
 
 pub returns-clause-folder_fault : goal.returns-clause-folder_fault
-returns-clause-folder_fault g c = λ e. fault_rose _ _ c.in-Err.fault (rw c.in-Err.is at c.check.ensures.cause) (sym (c.status_of-in-Err.ensures ∙ ap status_of c.stopped.ensures) ∙ e)
+returns-clause-folder_fault g c = λ e.
+    fault_rose _ _ c.in-Err.fault (rw c.in-Err.is at c.check.ensures.cause) (sym (c.status_of-in-Err.ensures ∙ ap status_of c.stopped.ensures) ∙ e)
 
 pub returns-in-Ok-clause-sink_fault : goal.returns-in-Ok-clause-sink_fault
 returns-in-Ok-clause-sink_fault g c = λ e. c.send.ensures.sink (sink_stopped c.send.result (sym c.status_of.ensures ∙ e))

@@ -29,7 +29,8 @@ pub lines-preserved : goal.lines-preserved
 lines-preserved g c = record {
   going = λ told s e.
       let so_far = c.lines.invariant.going told s e in (
-        stage_sent _ s _ _ _ _ c.in-Ok.is_refused so_far.0 c.first_line.ensures.line refl (refused_more c.lines.refused c.in-Ok.is_refused _ _ refl c.from-refused.ensures) (c.in-Ok.ensures.ends told s so_far.1),
+        stage_sent _ s _ _ _ _ c.in-Ok.is_refused so_far.0 c.first_line.ensures.line refl
+            (refused_more c.lines.refused c.in-Ok.is_refused _ _ refl c.from-refused.ensures) (c.in-Ok.ensures.ends told s so_far.1),
         c.in-Ok.ensures.stays told s so_far.1,
       );
   left = λ told s e t tells.
@@ -54,10 +55,12 @@ returns-in-Err-clause-files g c = λ told. c.in-Err.ensures.files told ∙ c.lin
 pub returns-in-Err-clause-reads : goal.returns-in-Err-clause-reads
 returns-in-Err-clause-reads g c = λ told s e t tells.
     let so_far = c.lines.invariant.going told s e in
-    left_end s _ _ _ _ _ (left_on s _ _ _ _ _ _ _ _ c.first_line.ensures.line (c.lines.invariant.left told s e t tells) (c.in-Err.ensures.reads told s so_far.1))
+    left_end s _ _ _ _ _ (left_on s _ _ _ _ _ _ _ _ c.first_line.ensures.line (c.lines.invariant.left told s e t tells)
+    (c.in-Err.ensures.reads told s so_far.1))
 
 pub returns-in-Err-clause-cause : goal.returns-in-Err-clause-cause
-returns-in-Err-clause-cause g c = cause_from _ _ _ _ _ _ _ c.lines.invariant.folder_later c.lines.invariant.sink_later (cause_to _ _ _ _ c.in-Err.stop c.in-Err.ensures.cause)
+returns-in-Err-clause-cause g c =
+    cause_from _ _ _ _ _ _ _ c.lines.invariant.folder_later c.lines.invariant.sink_later (cause_to _ _ _ _ c.in-Err.stop c.in-Err.ensures.cause)
 
 pub returns-clause-ends : goal.returns-clause-ends
 returns-clause-ends g c = λ told s e.
@@ -80,5 +83,7 @@ returns-clause-cause g c = record {
 
 pub returns-in-Err-clause-evident : goal.returns-in-Err-clause-evident
 returns-in-Err-clause-evident g c =
-    stop_less {X = ℕ} (IsTrue g.F.Pages.told × IsFaithful g.row.D (g.F.Pages.files c.lines.folder) c.lines.set) (IsTrue g.F.Pages.told × IsFaithful g.row.D (g.F.Pages.files c.args.folder.now) c.args.set.now)
-    (g.F.Pages.files c.tell_line.new.folder) (Err c.in-Err.stop) (λ p. (p.0, c.lines.invariant.faithful p.0 p.1)) (same_stop Bool ℕ _ c.in-Err.stop c.in-Err.ensures.evident)
+    stop_less {X = ℕ} (IsTrue g.F.Pages.told × IsFaithful g.row.D (g.F.Pages.files c.lines.folder) c.lines.set)
+    (IsTrue g.F.Pages.told × IsFaithful g.row.D (g.F.Pages.files c.args.folder.now) c.args.set.now)
+    (g.F.Pages.files c.tell_line.new.folder) (Err c.in-Err.stop) (λ p. (p.0, c.lines.invariant.faithful p.0 p.1))
+    (same_stop Bool ℕ _ c.in-Err.stop c.in-Err.ensures.evident)

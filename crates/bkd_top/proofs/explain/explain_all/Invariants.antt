@@ -15,7 +15,8 @@ invariant-lines g l = record {
       (record { line = l.initial.number; refused = l.initial.refused; rest = lines_of l.initial.rest; written = g.K.Sink.written l.initial.out })
       (record { line = l.number; refused = l.refused; rest = lines_of l.rest; written = g.K.Sink.written l.out })
       × IsExplaining g.row.D (g.F.Pages.files l.folder) l.set s;
-  left : IsTrue g.F.Pages.told → (s : Scope) → IsExplaining g.row.D (g.F.Pages.files l.initial.folder) l.initial.set s → (t : Told) → TellsLines s l.initial.number (lines_of l.initial.rest) t
+  left : IsTrue g.F.Pages.told → (s : Scope) → IsExplaining g.row.D (g.F.Pages.files l.initial.folder) l.initial.set s → (t : Told)
+      → TellsLines s l.initial.number (lines_of l.initial.rest) t
       → Left s l.number (lines_of l.rest) (g.F.Pages.reads l.initial.folder) (g.F.Pages.reads l.folder) t.touched;
   files : IsTrue g.F.Pages.told → g.F.Pages.files l.folder ≡ g.F.Pages.files l.initial.folder;
   faithful : IsTrue g.F.Pages.told → IsFaithful g.row.D (g.F.Pages.files l.initial.folder) l.initial.set → IsFaithful g.row.D (g.F.Pages.files l.folder) l.set;

@@ -13,7 +13,8 @@ lines-init g c = record { going = stage_here _ _ _; room = omega (arith, c.requi
 
 pub lines-preserved : goal.lines-preserved
 lines-preserved g c = record {
-  going = stage_sent _ _ _ _ _ _ c.in-Ok.was_refused c.lines.invariant.going c.first_line.ensures.line refl (refused_more c.lines.refused c.in-Ok.was_refused _ _ refl c.from-refused.ensures) c.in-Ok.ensures.ends;
+  going = stage_sent _ _ _ _ _ _ c.in-Ok.was_refused c.lines.invariant.going c.first_line.ensures.line refl
+      (refused_more c.lines.refused c.in-Ok.was_refused _ _ refl c.from-refused.ensures) c.in-Ok.ensures.ends;
   room = omega (arith, c.lines.invariant.room, c.first_line.ensures.shorter);
   counted = omega (arith, c.lines.invariant.counted, at_most_one _ _ c.from-refused.ensures);
   sink_later = let cause = c.tell_first.ensures.cause 0 in omega (arith, c.lines.invariant.sink_later, cause.sink_later);
@@ -23,7 +24,8 @@ pub returns-in-Err-clause-ends : goal.returns-in-Err-clause-ends
 returns-in-Err-clause-ends g c = line_stops _ _ _ _ _ _ _ c.in-Err.stop c.lines.invariant.going c.first_line.ensures.line c.in-Err.ensures.ends
 
 pub returns-in-Err-clause-cause : goal.returns-in-Err-clause-cause
-returns-in-Err-clause-cause g c faults = cause_from faults _ _ _ _ _ _ (omega arith) c.lines.invariant.sink_later (cause_to _ _ _ _ c.in-Err.stop (c.in-Err.ensures.cause faults))
+returns-in-Err-clause-cause g c faults =
+    cause_from faults _ _ _ _ _ _ (omega arith) c.lines.invariant.sink_later (cause_to _ _ _ _ c.in-Err.stop (c.in-Err.ensures.cause faults))
 
 pub returns-clause-ends : goal.returns-clause-ends
 returns-clause-ends g c =
@@ -31,7 +33,8 @@ returns-clause-ends g c =
     stage_all _ _ _ _ _ c.lines.invariant.going (no_lines _ none) (λ sink. refl)
 
 pub returns-clause-cause : goal.returns-clause-cause
-returns-clause-cause g c faults = record { folder_later = omega arith; sink_later = c.lines.invariant.sink_later; folder = λ e. absurd cc; sink = λ e. absurd cc }
+returns-clause-cause g c faults =
+    record { folder_later = omega arith; sink_later = c.lines.invariant.sink_later; folder = λ e. absurd cc; sink = λ e. absurd cc }
 
 pub returns-in-Err-clause-undamaged : goal.returns-in-Err-clause-undamaged
 returns-in-Err-clause-undamaged g c = same_stop Bool ℕ (λ _. ⊥) c.in-Err.stop c.in-Err.ensures.undamaged

@@ -20,7 +20,9 @@ explain_all-requires g c = (set_fits g.row.D c.requires.most_dims, (c.requires.l
 pub returns-in-Ok-clause-ends : goal.returns-in-Ok-clause-ends
 returns-in-Ok-clause-ends g c = λ told says s scope.
     c.explain_all.ensures.ends told s
-    (subst (λ (f : Files). IsExplaining g.row.D f c.in-Ok.set s) (sym (c.in-Ok.ensures.files told)) (attached_explains g.row.D (g.F.Pages.files c.args.folder.now) c.args.commit c.in-Ok.set s c.requires.dims says (c.in-Ok.ensures.seen told says) c.in-Ok.ensures.commit scope))
+    (subst (λ (f : Files). IsExplaining g.row.D f c.in-Ok.set s) (sym (c.in-Ok.ensures.files told))
+    (attached_explains g.row.D (g.F.Pages.files c.args.folder.now) c.args.commit c.in-Ok.set s c.requires.dims says (c.in-Ok.ensures.seen told says)
+    c.in-Ok.ensures.commit scope))
 
 pub returns-in-Ok-clause-files : goal.returns-in-Ok-clause-files
 returns-in-Ok-clause-files g c = λ told. c.explain_all.ensures.files told ∙ c.in-Ok.ensures.files told
@@ -30,7 +32,9 @@ returns-in-Ok-clause-reads g c = λ told says s scope t tells.
     let holds = scope_holds (g.F.Pages.files c.args.folder.now) c.args.commit s says scope in
     let opened = c.in-Ok.ensures.reads told s.heads holds.sets holds.heads holds.live in
     let more = c.explain_all.ensures.reads told s
-    (subst (λ (f : Files). IsExplaining g.row.D f c.in-Ok.set s) (sym (c.in-Ok.ensures.files told)) (attached_explains g.row.D (g.F.Pages.files c.args.folder.now) c.args.commit c.in-Ok.set s c.requires.dims says (c.in-Ok.ensures.seen told says) c.in-Ok.ensures.commit scope)) t tells in
+    (subst (λ (f : Files). IsExplaining g.row.D f c.in-Ok.set s) (sym (c.in-Ok.ensures.files told))
+    (attached_explains g.row.D (g.F.Pages.files c.args.folder.now) c.args.commit c.in-Ok.set s c.requires.dims says (c.in-Ok.ensures.seen told says)
+    c.in-Ok.ensures.commit scope)) t tells in
     omega (arith, opened, more)
 
 pub returns-in-Ok-clause-cause : goal.returns-in-Ok-clause-cause
@@ -38,22 +42,27 @@ returns-in-Ok-clause-cause g c = cause_from _ _ _ _ _ _ _ c.in-Ok.ensures.cause.
 
 pub returns-clause-ends : goal.returns-clause-ends
 returns-clause-ends g c = λ told says s scope.
-    unread_ends (IsTrue g.K.Sink.told) s 1 0 _ _ _ c.in-Err.fault (c.in-Err.ensures.whole told says s.state scope.stored) c.stopped.result c.stopped.ensures refl
+    unread_ends (IsTrue g.K.Sink.told) s 1 0 _ _ _ c.in-Err.fault (c.in-Err.ensures.whole told says s.state scope.stored) c.stopped.result c.stopped.ensures
+    refl
 
 pub returns-clause-files : goal.returns-clause-files
 returns-clause-files g c = c.in-Err.ensures.files
 
 pub returns-clause-reads : goal.returns-clause-reads
 returns-clause-reads g c = λ told says s scope t tells.
-    let holds = scope_holds (g.F.Pages.files c.args.folder.now) c.args.commit s says scope in let opened = c.in-Err.ensures.reads told s.heads holds.sets holds.heads holds.live in omega (arith, opened)
+    let holds = scope_holds (g.F.Pages.files c.args.folder.now) c.args.commit s says scope in
+    let opened = c.in-Err.ensures.reads told s.heads holds.sets holds.heads holds.live in omega (arith, opened)
 
 pub returns-clause-cause : goal.returns-clause-cause
 returns-clause-cause g c = fault_cause _ _ _ c.in-Err.fault c.in-Err.ensures.cause c.stopped.result c.stopped.ensures
 
 pub returns-in-Ok-clause-evident : goal.returns-in-Ok-clause-evident
 returns-in-Ok-clause-evident g c =
-    stop_less _ _ _ c.explain_all.result (λ p. (p.0, subst (λ (f : Files). IsFaithful g.row.D f c.in-Ok.set) (sym (c.in-Ok.ensures.files p.0)) (c.in-Ok.ensures.faithful p.0))) c.explain_all.ensures.evident
+    stop_less _ _ _ c.explain_all.result
+    (λ p. (p.0, subst (λ (f : Files). IsFaithful g.row.D f c.in-Ok.set) (sym (c.in-Ok.ensures.files p.0)) (c.in-Ok.ensures.faithful p.0)))
+    c.explain_all.ensures.evident
 
 pub returns-clause-evident : goal.returns-clause-evident
 returns-clause-evident g c =
-    fault_shows _ c.in-Err.fault (fault_at _ _ _ _ c.in-Err.fault (λ p. p) (λ p. c.in-Err.ensures.files p.0) c.in-Err.ensures.evident) c.stopped.result c.stopped.ensures
+    fault_shows _ c.in-Err.fault (fault_at _ _ _ _ c.in-Err.fault (λ p. p) (λ p. c.in-Err.ensures.files p.0) c.in-Err.ensures.evident) c.stopped.result
+    c.stopped.ensures

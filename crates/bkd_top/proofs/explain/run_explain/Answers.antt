@@ -12,7 +12,8 @@ returns-in-Ok-clause-never_usage g c = λ e. does_lines c.explain_lines.result (
 
 pub returns-in-Ok-clause-ends : goal.returns-in-Ok-clause-ends
 returns-in-Ok-clause-ends g c = λ source told s scope.
-    rw c.status_of.ensures (told_ends _ s _ _ _ c.explain_lines.result (rw (c.as_slice.ensures.value ∙ c.in-Ok.ensures.whole source) at (c.explain_lines.ensures.ends told s scope)))
+    rw c.status_of.ensures
+    (told_ends _ s _ _ _ c.explain_lines.result (rw (c.as_slice.ensures.value ∙ c.in-Ok.ensures.whole source) at (c.explain_lines.ensures.ends told s scope)))
 
 pub returns-in-Ok-clause-files : goal.returns-in-Ok-clause-files
 returns-in-Ok-clause-files g c = c.explain_lines.ensures.files
@@ -42,7 +43,8 @@ returns-in-Ok-clause-input g c = λ told. record {
 pub returns-in-Ok-clause-damage : goal.returns-in-Ok-clause-damage
 returns-in-Ok-clause-damage g c = record {
   never = λ told state h d.
-      let scope = scope_of _ state h in told_undamaged _ scope.0 _ _ _ _ _ c.explain_lines.result (c.explain_lines.ensures.ends told scope.0 scope.1) (subst IsDamaged c.status_of.ensures d);
+      let scope = scope_of _ state h in
+      told_undamaged _ scope.0 _ _ _ _ _ c.explain_lines.result (c.explain_lines.ensures.ends told scope.0 scope.1) (subst IsDamaged c.status_of.ensures d);
   evident = rw c.status_of.ensures (status_shows _ c.explain_lines.result c.explain_lines.ensures.evident);
 }
 

@@ -9,11 +9,13 @@ use Rattle.bkd_top.proofs.explain.tell_first.Goals as goal
 
 pub returns-in-Ok-clause-ends : goal.returns-in-Ok-clause-ends
 returns-in-Ok-clause-ends g c =
-    sent_line (IsTrue g.K.Sink.told) _ c.args.number c.args.line.now _ _ _ _ c.in-Ok.refused c.clear.ensures.items c.in-Ok.ensures c.send.result c.send.ensures.known c.send.ensures.cause
+    sent_line (IsTrue g.K.Sink.told) _ c.args.number c.args.line.now _ _ _ _ c.in-Ok.refused c.clear.ensures.items c.in-Ok.ensures c.send.result
+    c.send.ensures.known c.send.ensures.cause
     (λ sink. sent_as _ _ _ _ c.send.result c.as_slice.ensures.value (c.send.ensures.text sink))
 
 pub returns-in-Ok-clause-cause : goal.returns-in-Ok-clause-cause
-returns-in-Ok-clause-cause g c faults = send_cause faults faults _ _ c.in-Ok.refused (no_cause faults c.in-Ok.refused) c.send.result c.send.ensures.cause c.send.ensures.later c.send.ensures.sink
+returns-in-Ok-clause-cause g c faults =
+    send_cause faults faults _ _ c.in-Ok.refused (no_cause faults c.in-Ok.refused) c.send.result c.send.ensures.cause c.send.ensures.later c.send.ensures.sink
 
 pub returns-in-Err-clause-ends : goal.returns-in-Err-clause-ends
 returns-in-Err-clause-ends g c = λ sink. refl

@@ -11,7 +11,8 @@ explain_line-requires g c = (set_fits g.row.D c.requires.few, (c.requires.some, 
 
 pub returns-in-Ok-clause-ends : goal.returns-in-Ok-clause-ends
 returns-in-Ok-clause-ends g c = λ told s e.
-    sent_line (IsTrue g.K.Sink.told) s c.args.number c.args.line.now _ _ _ _ c.in-Ok.refused c.clear.ensures.items (c.in-Ok.ensures.does told s e) c.send.result c.send.ensures.known c.send.ensures.cause
+    sent_line (IsTrue g.K.Sink.told) s c.args.number c.args.line.now _ _ _ _ c.in-Ok.refused c.clear.ensures.items (c.in-Ok.ensures.does told s e) c.send.result
+    c.send.ensures.known c.send.ensures.cause
     (λ sink. sent_as _ _ _ _ c.send.result c.as_slice.ensures.value (c.send.ensures.text sink))
 
 pub returns-in-Ok-clause-stays : goal.returns-in-Ok-clause-stays
@@ -24,11 +25,13 @@ pub returns-in-Ok-clause-reads : goal.returns-in-Ok-clause-reads
 returns-in-Ok-clause-reads g c = c.in-Ok.ensures.reads
 
 pub returns-in-Ok-clause-cause : goal.returns-in-Ok-clause-cause
-returns-in-Ok-clause-cause g c = send_cause _ _ _ _ c.in-Ok.refused c.in-Ok.ensures.cause c.send.result c.send.ensures.cause c.send.ensures.later c.send.ensures.sink
+returns-in-Ok-clause-cause g c =
+    send_cause _ _ _ _ c.in-Ok.refused c.in-Ok.ensures.cause c.send.result c.send.ensures.cause c.send.ensures.later c.send.ensures.sink
 
 pub returns-in-Err-clause-ends : goal.returns-in-Err-clause-ends
 returns-in-Err-clause-ends g c = λ told s e.
-    left_line (IsTrue g.K.Sink.told) s c.args.number c.args.line.now _ _ c.in-Err.fault (c.in-Err.ensures.whole told s e) c.stopped.result c.stopped.ensures refl
+    left_line (IsTrue g.K.Sink.told) s c.args.number c.args.line.now _ _ c.in-Err.fault (c.in-Err.ensures.whole told s e) c.stopped.result c.stopped.ensures
+    refl
 
 pub returns-in-Err-clause-stays : goal.returns-in-Err-clause-stays
 returns-in-Err-clause-stays g c = c.in-Err.ensures.stays

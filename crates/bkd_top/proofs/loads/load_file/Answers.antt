@@ -5,14 +5,19 @@ use Rattle.bkd_top.proofs.Finished.{does_from, of_done, whole_undamaged}
 use Rattle.bkd_top.proofs.loads.load_file.Goals as goal
 
 pub returns-clause-ends : goal.returns-clause-ends
-returns-clause-ends g c = λ told state h. c.tell.ensures.ends _ _ _ (does_from (g.F.Pages.files c.load-done.new.folder) state _ _ _ _ c.load-done.result c.new-text.ensures.items c.as_slice.ensures.value (c.load-done.ensures.loads told state h)) refl
+returns-clause-ends g c = λ told state h.
+    c.tell.ensures.ends
+    _ _ _ (does_from (g.F.Pages.files c.load-done.new.folder) state _ _ _ _ c.load-done.result c.new-text.ensures.items c.as_slice.ensures.value
+    (c.load-done.ensures.loads told state h)) refl
 
 pub returns-clause-canon : goal.returns-clause-canon
 returns-clause-canon g c = λ told state h answer. of_done c.load-done.result (c.tell.ensures.answer answer) (c.load-done.ensures.canon told state h)
 
 pub returns-clause-damage : goal.returns-clause-damage
 returns-clause-damage g c = record {
-  never = λ told state h. c.tell.ensures.damaged (whole_undamaged (g.F.Pages.files c.load-done.new.folder) state (load_answer state c.args.file.now c.args.columns.now) c.new-text.result.items c.load-done.new.text.items c.load-done.result (c.load-done.ensures.loads told state h));
+  never = λ told state h. c.tell.ensures.damaged
+      (whole_undamaged (g.F.Pages.files c.load-done.new.folder) state (load_answer state c.args.file.now c.args.columns.now) c.new-text.result.items
+      c.load-done.new.text.items c.load-done.result (c.load-done.ensures.loads told state h));
   evident = c.tell.ensures.evident g.F.Pages.told (g.F.Pages.files c.load-done.new.folder) c.load-done.ensures.evident;
 }
 

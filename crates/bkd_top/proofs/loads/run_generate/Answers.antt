@@ -5,14 +5,19 @@ use Rattle.bkd_top.proofs.Finished.{does_from, of_done, whole_undamaged}
 use Rattle.bkd_top.proofs.loads.run_generate.Goals as goal
 
 pub returns-clause-ends : goal.returns-clause-ends
-returns-clause-ends g c = λ told state h input. c.tell.ensures.ends _ _ _ (does_from (g.F.Pages.files c.generate-done.new.folder) state _ _ _ _ c.generate-done.result c.new-text.ensures.items c.as_slice.ensures.value (c.generate-done.ensures.generates told state h)) refl
+returns-clause-ends g c = λ told state h input.
+    c.tell.ensures.ends
+    _ _ _ (does_from (g.F.Pages.files c.generate-done.new.folder) state _ _ _ _ c.generate-done.result c.new-text.ensures.items c.as_slice.ensures.value
+    (c.generate-done.ensures.generates told state h)) refl
 
 pub returns-clause-canon : goal.returns-clause-canon
 returns-clause-canon g c = λ told state h answer. of_done c.generate-done.result (c.tell.ensures.answer answer) (c.generate-done.ensures.canon told state h)
 
 pub returns-clause-damage : goal.returns-clause-damage
 returns-clause-damage g c = record {
-  never = λ told state h. c.tell.ensures.damaged (whole_undamaged (g.F.Pages.files c.generate-done.new.folder) state (generated state c.args.docs c.args.seed) c.new-text.result.items c.generate-done.new.text.items c.generate-done.result (c.generate-done.ensures.generates told state h));
+  never = λ told state h. c.tell.ensures.damaged
+      (whole_undamaged (g.F.Pages.files c.generate-done.new.folder) state (generated state c.args.docs c.args.seed) c.new-text.result.items
+      c.generate-done.new.text.items c.generate-done.result (c.generate-done.ensures.generates told state h));
   evident = c.tell.ensures.evident g.F.Pages.told (g.F.Pages.files c.generate-done.new.folder) c.generate-done.ensures.evident;
 }
 

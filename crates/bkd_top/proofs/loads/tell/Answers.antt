@@ -16,11 +16,13 @@ returns-in-Ok-clause-done g c = λ d. does_lines c.send.result (subst DoesNothin
 
 pub returns-in-Ok-clause-ends : goal.returns-in-Ok-clause-ends
 returns-in-Ok-clause-ends g c = λ b a files does same.
-    rw c.status_of.ensures (sent_ends (IsTrue g.K.Sink.told) b a files c.args.text.now _ c.in-Ok.refused c.send.result (rw c.in-Ok.is at does) (rw (sym same) at c.send.ensures.text)
+    rw c.status_of.ensures
+    (sent_ends (IsTrue g.K.Sink.told) b a files c.args.text.now _ c.in-Ok.refused c.send.result (rw c.in-Ok.is at does) (rw (sym same) at c.send.ensures.text)
     (count_sent c.in-Ok.refused _ c.send.result c.from.ensures c.send.ensures.known) c.send.ensures.cause)
 
 pub returns-in-Ok-clause-folder_fault : goal.returns-in-Ok-clause-folder_fault
-returns-in-Ok-clause-folder_fault g c = λ old new cause e. sent_no_folder c.send.result c.send.ensures.cause (folder_stopped c.send.result (sym c.status_of.ensures ∙ e))
+returns-in-Ok-clause-folder_fault g c = λ old new cause e.
+    sent_no_folder c.send.result c.send.ensures.cause (folder_stopped c.send.result (sym c.status_of.ensures ∙ e))
 
 pub returns-in-Ok-clause-damaged : goal.returns-in-Ok-clause-damaged
 returns-in-Ok-clause-damaged g c = λ whole d. sent_undamaged c.send.result c.send.ensures.cause (subst IsDamaged c.status_of.ensures d)
@@ -33,16 +35,19 @@ returns-in-Err-clause-done g c = λ d. does_lines c.stopped.result (subst DoesNo
 
 pub returns-in-Err-clause-ends : goal.returns-in-Err-clause-ends
 returns-in-Err-clause-ends g c = λ b a files does same.
-    rw c.status_of-in-Err.ensures (rw c.stopped.ensures (fault_ends (IsTrue g.K.Sink.told) b a files c.args.text.now _ c.in-Err.fault (rw c.in-Err.is at does) (λ sink. sym same)))
+    rw c.status_of-in-Err.ensures
+    (rw c.stopped.ensures (fault_ends (IsTrue g.K.Sink.told) b a files c.args.text.now _ c.in-Err.fault (rw c.in-Err.is at does) (λ sink. sym same)))
 
 pub returns-in-Err-clause-answer : goal.returns-in-Err-clause-answer
 returns-in-Err-clause-answer g c = λ a. fault_no_answer c.in-Err.fault (subst IsAnswer (c.status_of-in-Err.ensures ∙ ap status_of c.stopped.ensures) a)
 
 pub returns-in-Err-clause-folder_fault : goal.returns-in-Err-clause-folder_fault
-returns-in-Err-clause-folder_fault g c = λ old new cause e. fault_rose old new c.in-Err.fault (rw c.in-Err.is at cause) (sym (c.status_of-in-Err.ensures ∙ ap status_of c.stopped.ensures) ∙ e)
+returns-in-Err-clause-folder_fault g c = λ old new cause e.
+    fault_rose old new c.in-Err.fault (rw c.in-Err.is at cause) (sym (c.status_of-in-Err.ensures ∙ ap status_of c.stopped.ensures) ∙ e)
 
 pub returns-in-Err-clause-damaged : goal.returns-in-Err-clause-damaged
-returns-in-Err-clause-damaged g c = λ whole d. fault_undamaged c.in-Err.fault (rw c.in-Err.is at whole) (subst IsDamaged (c.status_of-in-Err.ensures ∙ ap status_of c.stopped.ensures) d)
+returns-in-Err-clause-damaged g c = λ whole d.
+    fault_undamaged c.in-Err.fault (rw c.in-Err.is at whole) (subst IsDamaged (c.status_of-in-Err.ensures ∙ ap status_of c.stopped.ensures) d)
 
 pub returns-in-Err-clause-sink_fault : goal.returns-in-Err-clause-sink_fault
 returns-in-Err-clause-sink_fault g c = λ e. fault_no_sink c.in-Err.fault (sym (c.status_of-in-Err.ensures ∙ ap status_of c.stopped.ensures) ∙ e)

@@ -32,7 +32,8 @@ pub returns-in-Err-Memory-clause-ends : goal.returns-in-Err-Memory-clause-ends
 returns-in-Err-Memory-clause-ends g c = λ told state h a is source. no_memory_ends (IsTrue g.K.Sink.told) a _ _ _ h refl (λ sink. refl)
 
 pub returns-in-Ok-clause-untouched : goal.returns-in-Ok-clause-untouched
-returns-in-Ok-clause-untouched g c = λ e. c.run_command.ensures.untouched (subst (λ (o : Option Asked). does (λ a. is_session a) o ≡ false) c.in-Ok.ensures.words e)
+returns-in-Ok-clause-untouched g c = λ e.
+    c.run_command.ensures.untouched (subst (λ (o : Option Asked). does (λ a. is_session a) o ≡ false) c.in-Ok.ensures.words e)
 
 pub returns-in-Ok-clause-usage : goal.returns-in-Ok-clause-usage
 returns-in-Ok-clause-usage g c = record {
@@ -67,11 +68,14 @@ pub returns-in-Err-Memory-clause-complete : goal.returns-in-Err-Memory-clause-co
 returns-in-Err-Memory-clause-complete g c = λ told state h a is source fits none. inr refl
 
 pub returns-in-Ok-clause-input : goal.returns-in-Ok-clause-input
-returns-in-Ok-clause-input g c = λ told. subst (λ (o : Option Asked). OnAsked (λ a. TakesInput a (g.S.Source.left c.args.input.now) (g.S.Source.left c.run_command.new.input) c.run_command.result) o)
+returns-in-Ok-clause-input g c = λ told.
+    subst (λ (o : Option Asked).
+    OnAsked (λ a. TakesInput a (g.S.Source.left c.args.input.now) (g.S.Source.left c.run_command.new.input) c.run_command.result) o)
     (sym c.in-Ok.ensures.words) (c.run_command.ensures.input told)
 
 pub returns-in-Err-Usage-clause-input : goal.returns-in-Err-Usage-clause-input
-returns-in-Err-Usage-clause-input g c = λ told. subst (λ (o : Option Asked). OnAsked (λ a. TakesInput a (g.S.Source.left c.args.input.now) (g.S.Source.left c.args.input.now) status.Usage) o)
+returns-in-Err-Usage-clause-input g c = λ told.
+    subst (λ (o : Option Asked). OnAsked (λ a. TakesInput a (g.S.Source.left c.args.input.now) (g.S.Source.left c.args.input.now) status.Usage) o)
     (sym (c.in-Err-Usage.ensures.usage (ap (λ (f : WordsFault). Err f) c.in-Err-Usage.field-0-is))) tt
 
 pub returns-in-Err-Memory-clause-input : goal.returns-in-Err-Memory-clause-input
@@ -108,4 +112,6 @@ returns-in-Err-Usage-clause-leaves g c = λ told. subst (λ (o : Option Asked). 
     status.Usage) o) (sym (c.in-Err-Usage.ensures.usage (ap (λ (f : WordsFault). Err f) c.in-Err-Usage.field-0-is))) tt
 
 pub returns-in-Err-Memory-clause-leaves : goal.returns-in-Err-Memory-clause-leaves
-returns-in-Err-Memory-clause-leaves g c = λ told. none_left _ g.S.Source.told g.K.Sink.told (g.S.Source.left c.args.input.now) (g.K.Sink.written c.args.out.now) (g.F.Pages.files c.args.folder.now) (g.F.Pages.reads c.args.folder.now)
+returns-in-Err-Memory-clause-leaves g c = λ told.
+    none_left _ g.S.Source.told g.K.Sink.told (g.S.Source.left c.args.input.now) (g.K.Sink.written c.args.out.now) (g.F.Pages.files c.args.folder.now)
+    (g.F.Pages.reads c.args.folder.now)

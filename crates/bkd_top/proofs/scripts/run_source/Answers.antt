@@ -11,26 +11,34 @@ pub returns-clause-never : goal.returns-clause-never
 returns-clause-never g c = λ e. never_refuses c.run_lines.result (rw c.status_of_lines.ensures at e)
 
 pub returns-clause-ends : goal.returns-clause-ends
-returns-clause-ends g c = λ source told state h. rw c.status_of_lines.ensures (session_ends (meaning c.args.work.now.language) _ _ _ _ c.run_lines.result (with_lines _ _ _ source (c.run_lines.ensures.does told) state h).0)
+returns-clause-ends g c = λ source told state h.
+    rw c.status_of_lines.ensures
+    (session_ends (meaning c.args.work.now.language) _ _ _ _ c.run_lines.result (with_lines _ _ _ source (c.run_lines.ensures.does told) state h).0)
 
 pub returns-clause-lines : goal.returns-clause-lines
 returns-clause-lines g c = λ source a. when_read c.run_lines.result (subst IsAnswer c.status_of_lines.ensures a) (c.run_lines.ensures.read source)
 
 pub returns-clause-canon : goal.returns-clause-canon
-returns-clause-canon g c = λ told state h a. when_read c.run_lines.result (subst IsAnswer c.status_of_lines.ensures a) ((c.run_lines.ensures.does told).2 state h).1.canon
+returns-clause-canon g c = λ told state h a.
+    when_read c.run_lines.result (subst IsAnswer c.status_of_lines.ensures a) ((c.run_lines.ensures.does told).2 state h).1.canon
 
 pub returns-clause-costs : goal.returns-clause-costs
 returns-clause-costs g c = λ source told.
     record {
-      levels = λ state h asks a. when_read c.run_lines.result (subst IsAnswer c.status_of_lines.ensures a) ((with_lines _ _ _ source (c.run_lines.ensures.does told) state h).1.levels asks);
+      levels = λ state h asks a.
+          when_read c.run_lines.result (subst IsAnswer c.status_of_lines.ensures a)
+          ((with_lines _ _ _ source (c.run_lines.ensures.does told) state h).1.levels asks);
       still = λ state h asks. (with_lines _ _ _ source (c.run_lines.ensures.does told) state h).1.still asks;
       reads = λ s scope. (with_lines _ _ _ source (c.run_lines.ensures.does told) s.state scope.stored).1.reads s scope;
-      undone = λ commit says quiet. rw c.status_of_lines.ensures (read_keeps _ _ c.run_lines.result (with_lines _ _ _ source (c.run_lines.ensures.undone told) commit says quiet));
+      undone = λ commit says quiet.
+          rw c.status_of_lines.ensures (read_keeps _ _ c.run_lines.result (with_lines _ _ _ source (c.run_lines.ensures.undone told) commit says quiet));
     }
 
 pub returns-clause-damage : goal.returns-clause-damage
 returns-clause-damage g c = record {
-  never = λ told state h d. session_undamaged (meaning c.args.work.now.language) _ _ _ _ c.run_lines.result ((c.run_lines.ensures.does told).2 state h).0 (subst IsDamaged c.status_of_lines.ensures d);
+  never = λ told state h d.
+      session_undamaged (meaning c.args.work.now.language) _ _ _ _ c.run_lines.result ((c.run_lines.ensures.does told).2 state h).0
+      (subst IsDamaged c.status_of_lines.ensures d);
   evident = rw c.status_of_lines.ensures (read_shows _ c.run_lines.result c.run_lines.ensures.evident);
 }
 

@@ -12,7 +12,9 @@ pub returns-clause-lines : goal.returns-clause-lines
 returns-clause-lines g c = λ d. none_rose (c.run_source.ensures.causes.source (nothing_done c.run_source.result d c.run_source.ensures.never))
 
 pub returns-clause-ends : goal.returns-clause-ends
-returns-clause-ends g c = λ told state h. run_ends (meaning c.args.work.now.language) _ _ _ _ c.run_source.result (c.run_source.ensures.ends refl told state h) (λ e. none_rose (c.run_source.ensures.causes.source e))
+returns-clause-ends g c = λ told state h.
+    run_ends (meaning c.args.work.now.language) _ _ _ _ c.run_source.result (c.run_source.ensures.ends refl told state h)
+    (λ e. none_rose (c.run_source.ensures.causes.source e))
 
 pub returns-clause-canon : goal.returns-clause-canon
 returns-clause-canon g c = c.run_source.ensures.canon

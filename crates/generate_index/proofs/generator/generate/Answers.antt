@@ -9,7 +9,7 @@ use Rattle.index_core.specs.Light.{KeepsLevels}
 use Rattle.index_core.specs.Steps.{KeepsUndone}
 use Rattle.index_core.specs.Whole.{DoesWhole, HasNewCanonical}
 use Rattle.index_core.proofs.Undone.{fault_kept, kept_equal, undone_kept}
-use Rattle.index_core.proofs.Answering.{cause_then, done_cause, fault_to, memory_cause}
+use Rattle.index_core.proofs.FaultCauses.{cause_then, done_cause, fault_to, memory_cause}
 use Rattle.index_core.proofs.Wholes.{state_undamaged}
 use Rattle.index_model.specs.State.{State}
 use Rattle.stored_index.specs.Stored.{IsStored}

@@ -4,7 +4,7 @@ use Rattle.std.proofs.lemmas.Result.{err_from_is_err_and}
 use Rattle.outer_io.specs.declared.file_name.FileName.TheVariants.{Commit}
 use Rattle.page_cache.specs.declared.faults.PageFault.{PageFault}
 use Rattle.index_core.specs.Sessions.{Trusts}
-use Rattle.index_core.proofs.Answering.{cause_then, fault_to, memory_cause}
+use Rattle.index_core.proofs.FaultCauses.{cause_then, fault_to, memory_cause}
 use Rattle.index_core.proofs.Undone.{begins_none, levels_after, undone_after, undone_kept}
 use Rattle.stored_index.proofs.KeptFiles.{kept_itself}
 use Rattle.drawn_points.specs.Generated.{generated}

@@ -15,7 +15,8 @@ returns-clause-rule c =
     let parser : c.range.result ≡ Signed (pos c.args.self.least) (pos c.args.self.greatest) =
     narrowed c.args.self.least c.args.self.greatest (omega arith) (omega arith) c.value_parser.result c.range.result
     c.new-range.result.start c.new-range.result.end c.value_parser.ensures start end c.range.ensures in
-    let value : c.value_parser-2.result.value_parser ≡ Some (Signed (pos c.args.self.least) (pos c.args.self.greatest)) = given.1 ∙ ap Some (given.2 ∙ parser) in
+    let value : c.value_parser-2.result.value_parser ≡ Some (Signed (pos c.args.self.least) (pos c.args.self.greatest)) =
+    given.1 ∙ ap Some (given.2 ∙ parser) in
     ap rule_of c.value_parser-2.ensures.others
     ∙ ap (λ (r : Rule). record r { parser = c.value_parser-2.result.value_parser }) c.text_option.ensures.rule
     ∙ ap (λ p. record (text_option c.args.self.name.now) { parser = p }) value

@@ -6,7 +6,8 @@ use Rattle.std.proofs.Common.{◌≡◌, ◌+◌, ◌^◌, nat_lt, false}
 use Rattle.script_lang.specs.Replies.{doc_text}
 use Rattle.script_lang.specs.declared.faults.Refusal.TheVariants as why
 use Rattle.index_core.specs.Sessions.{SessionData}
-use Rattle.index_core.proofs.Answering.{applies_is, applies_memory, applies_merging, applies_refused, applies_seen, begins_with, cause_add, whole_add}
+use Rattle.index_core.proofs.Answering.{applies_is, applies_memory, applies_merging, applies_refused, applies_seen, begins_with}
+use Rattle.index_core.proofs.FaultCauses.{cause_add, whole_add}
 use Rattle.index_core.proofs.Changing.{does_add, does_full, not_full}
 use Rattle.segment_set.proofs.Sizes.{set_fits}
 use Rattle.segment_set.specs.Sets.{IsNamed}
@@ -23,7 +24,8 @@ use Rattle.std.proofs.lemmas.Bool.{both_ways, lt-ltb}
 use Rattle.index_core.proofs.session.Session.add.Goals as goal
 
 pub returns-then-is_full-clause-applies : goal.returns-then-is_full-clause-applies
-returns-then-is_full-clause-applies g c = applies_refused _ _ _ _ _ _ _ why.Full (λ i seen. does_full _ _ _ i _ _ seen (sym c.is_full.ensures.full ∙ c.if-is_full.true))
+returns-then-is_full-clause-applies g c =
+    applies_refused _ _ _ _ _ _ _ why.Full (λ i seen. does_full _ _ _ i _ _ seen (sym c.is_full.ensures.full ∙ c.if-is_full.true))
 
 pub returns-in_err-put_doc-clause-applies : goal.returns-in_err-put_doc-clause-applies
 returns-in_err-put_doc-clause-applies g c =
@@ -38,7 +40,15 @@ returns-clause-applies g c =
     applies_is _ _ _ _ _ _ _ _ c.add_answer.ensures
     (applies_seen _ _ _ _ _ _ _ _ _ _ _ c.self.view_is
     (applies_merging _ _ _ _ _ _
-    (record { commit = refl; refused = refl; leaf = c.add.ensures.leaf; keeps = c.add.ensures.kept; follows = c.add.ensures.follows; brings = λ told. brings_written _ _ _ _ _ _ _ _ told c.add.ensures.kept c.add.ensures.follows (c.add.ensures.canon told); faithful = c.add.ensures.faithful })
+    (record {
+      commit = refl;
+      refused = refl;
+      leaf = c.add.ensures.leaf;
+      keeps = c.add.ensures.kept;
+      follows = c.add.ensures.follows;
+      brings = λ told. brings_written _ _ _ _ _ _ _ _ told c.add.ensures.kept c.add.ensures.follows (c.add.ensures.canon told);
+      faithful = c.add.ensures.faithful;
+    })
     (subst (λ (u : SessionData). All (IsNamed u.set.names) u.set.parts) (sym c.self.view_is) c.is_full.ensures.named)
     (λ told i seen. does_add _ _ _ _ _ i _ c.add.result _ _ seen fits full (c.add.ensures.seen told i seen) (c.add.ensures.refused told i seen)
     (c.in_ok-put_doc.ensures.ok ∙ ap (λ n. c.args.out.now.items ++ doc_text n) c.next.ensures))
@@ -60,7 +70,9 @@ pub returns-in_err-put_doc-clause-reads : goal.returns-in_err-put_doc-clause-rea
 returns-in_err-put_doc-clause-reads g c room = refl
 
 pub returns-clause-reads : goal.returns-clause-reads
-returns-clause-reads g c = subst (λ (u : SessionData). length u.set.buffer + length c.args.points.now ≤ 16384 → g.F.Pages.reads c.add.new.folder ≡ g.F.Pages.reads c.args.folder.now) c.self.view_is c.add.ensures.unread
+returns-clause-reads g c =
+    subst (λ (u : SessionData). length u.set.buffer + length c.args.points.now ≤ 16384 → g.F.Pages.reads c.add.new.folder ≡ g.F.Pages.reads c.args.folder.now)
+    c.self.view_is c.add.ensures.unread
 
 pub returns-then-is_full-clause-damage : goal.returns-then-is_full-clause-damage
 returns-then-is_full-clause-damage g c = merge_none _ _ _ _ _ _ tt
@@ -72,8 +84,11 @@ returns-in_err-put_doc-clause-damage g c =
 
 pub returns-clause-damage : goal.returns-clause-damage
 returns-clause-damage g c =
-    subst (ShowsMerge g.row.D (IsTrue g.F.Pages.told) (g.F.Pages.files c.args.folder.now) (g.F.Pages.files c.add.new.folder) c.args.self.now.set) (sym c.add_answer.ensures)
-    (subst (λ (u : SessionData). ShowsMerge g.row.D (IsTrue g.F.Pages.told) (g.F.Pages.files c.args.folder.now) (g.F.Pages.files c.add.new.folder) u.set (add_answer c.add.result)) c.self.view_is
+    subst (ShowsMerge g.row.D (IsTrue g.F.Pages.told) (g.F.Pages.files c.args.folder.now) (g.F.Pages.files c.add.new.folder) c.args.self.now.set)
+    (sym c.add_answer.ensures)
+    (subst (λ (u : SessionData).
+    ShowsMerge g.row.D (IsTrue g.F.Pages.told) (g.F.Pages.files c.args.folder.now) (g.F.Pages.files c.add.new.folder) u.set (add_answer c.add.result))
+    c.self.view_is
     (record {
       shown = add_shows _ c.add.result c.add.ensures.shown;
       damage = λ told agrees. add_shows _ c.add.result (c.add.ensures.damage told agrees);
@@ -90,8 +105,10 @@ returns-in_err-put_doc-clause-still g c =
 
 pub returns-clause-still : goal.returns-clause-still
 returns-clause-still g c =
-    let fits : nat_lt (2 ^ 24) (c.self.inside.set.given + length c.args.points.now) ≡ false = ap (λ (u : SessionData). nat_lt (2 ^ 24) (u.set.given + length c.args.points.now)) c.self.view_is ∙ sym c.is_full.ensures.full ∙ c.if-is_full.false in
-    answer_keeps _ _ _ c.add_answer.ensures (add_keeps _ c.add.result (not_full c.add.result (c.self.inside.set.given + length c.args.points.now) fits c.add.ensures.full))
+    let fits : nat_lt (2 ^ 24) (c.self.inside.set.given + length c.args.points.now) ≡ false =
+    ap (λ (u : SessionData). nat_lt (2 ^ 24) (u.set.given + length c.args.points.now)) c.self.view_is ∙ sym c.is_full.ensures.full ∙ c.if-is_full.false in
+    answer_keeps _ _ _ c.add_answer.ensures
+    (add_keeps _ c.add.result (not_full c.add.result (c.self.inside.set.given + length c.args.points.now) fits c.add.ensures.full))
 
 pub returns-then-is_full-clause-light : goal.returns-then-is_full-clause-light
 returns-then-is_full-clause-light g c room = light_same _ _ _ _
@@ -112,14 +129,20 @@ returns-in_err-put_doc-clause-unread g c =
 
 pub returns-clause-unread : goal.returns-clause-unread
 returns-clause-unread g c =
-    let fits : nat_lt (2 ^ 24) (c.self.inside.set.given + length c.args.points.now) ≡ false = ap (λ (u : SessionData). nat_lt (2 ^ 24) (u.set.given + length c.args.points.now)) c.self.view_is ∙ sym c.is_full.ensures.full ∙ c.if-is_full.false in
-    answer_keeps _ _ _ c.add_answer.ensures (add_keeps _ c.add.result (not_full c.add.result (c.self.inside.set.given + length c.args.points.now) fits c.add.ensures.full))
+    let fits : nat_lt (2 ^ 24) (c.self.inside.set.given + length c.args.points.now) ≡ false =
+    ap (λ (u : SessionData). nat_lt (2 ^ 24) (u.set.given + length c.args.points.now)) c.self.view_is ∙ sym c.is_full.ensures.full ∙ c.if-is_full.false in
+    answer_keeps _ _ _ c.add_answer.ensures
+    (add_keeps _ c.add.result (not_full c.add.result (c.self.inside.set.given + length c.args.points.now) fits c.add.ensures.full))
 
 pub returns-then-is_full-clause-barred : goal.returns-then-is_full-clause-barred
 returns-then-is_full-clause-barred g c over = refl
 
 pub returns-in_err-put_doc-clause-barred : goal.returns-in_err-put_doc-clause-barred
-returns-in_err-put_doc-clause-barred g c over = absurd (both_ways (nat_lt (2 ^ 24) (c.args.self.now.set.given + length c.args.points.now)) (sym c.is_full.ensures.full ∙ c.if-is_full.false) (lt-ltb (2 ^ 24) (c.args.self.now.set.given + length c.args.points.now) over))
+returns-in_err-put_doc-clause-barred g c over =
+    absurd (both_ways (nat_lt (2 ^ 24) (c.args.self.now.set.given + length c.args.points.now)) (sym c.is_full.ensures.full ∙ c.if-is_full.false)
+    (lt-ltb (2 ^ 24) (c.args.self.now.set.given + length c.args.points.now) over))
 
 pub returns-clause-barred : goal.returns-clause-barred
-returns-clause-barred g c over = absurd (both_ways (nat_lt (2 ^ 24) (c.args.self.now.set.given + length c.args.points.now)) (sym c.is_full.ensures.full ∙ c.if-is_full.false) (lt-ltb (2 ^ 24) (c.args.self.now.set.given + length c.args.points.now) over))
+returns-clause-barred g c over =
+    absurd (both_ways (nat_lt (2 ^ 24) (c.args.self.now.set.given + length c.args.points.now)) (sym c.is_full.ensures.full ∙ c.if-is_full.false)
+    (lt-ltb (2 ^ 24) (c.args.self.now.set.given + length c.args.points.now) over))

@@ -26,7 +26,8 @@ returns-in_err-list g c =
 made : (g : given.Over) (c : After-drop-of g) → c.of.result ≡ c.args.point.now.c ∷ []
 made g c =
     c.of.ensures
-    ∙ ap (λ (ps : List (Point g.row.D)). ordered (coordinates_of ps)) (c.push_reserved.ensures.items ∙ ap (λ (ps : List (Point g.row.D)). ps ++ c.args.point.now ∷ []) c.in_ok-list.ensures.items)
+    ∙ ap (λ (ps : List (Point g.row.D)). ordered (coordinates_of ps))
+    (c.push_reserved.ensures.items ∙ ap (λ (ps : List (Point g.row.D)). ps ++ c.args.point.now ∷ []) c.in_ok-list.ensures.items)
     ∙ one_ordered c.args.point.now.c
 
 pub returns : goal.returns

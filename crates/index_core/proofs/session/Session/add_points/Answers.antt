@@ -21,12 +21,14 @@ loop-point-init g c = adds_none g.row.D _ _ tt
 
 pub loop-point-preserved : goal.loop-point-preserved
 loop-point-preserved g c =
-    adds_more g.row.D _ c.args.points.now c.loop-point.point-index c.point-item.result _ _ _ tt _ c.loop-point-test.true c.point-item.is c.loop-point.invariant c.in_ok-add_point.ensures
+    adds_more g.row.D _ c.args.points.now c.loop-point.point-index c.point-item.result _ _ _ tt _ c.loop-point-test.true c.point-item.is c.loop-point.invariant
+    c.in_ok-add_point.ensures
 
 pub returns-in_err-add_point : goal.returns-in_err-add_point
 returns-in_err-add_point g c =
     let p = err_from_is_err_and c.from_residual.result c.from_residual.ensures.1 in
-    adds_stopped g.row.D _ _ _ _ _ c.in_err-add_point.field-0.0 _ (p.1 ∙ ap (λ (e : PageFault). Err e) p.2) (adds_then g.row.D _ _ _ _ _ _ tt _ c.loop-point.invariant c.in_err-add_point.ensures)
+    adds_stopped g.row.D _ _ _ _ _ c.in_err-add_point.field-0.0 _ (p.1 ∙ ap (λ (e : PageFault). Err e) p.2)
+    (adds_then g.row.D _ _ _ _ _ _ tt _ c.loop-point.invariant c.in_err-add_point.ensures)
 
 pub returns : goal.returns
 returns g c = adds_all g.row.D _ c.args.points.now c.loop-point.point-index _ _ _ c.loop-point-test.false c.loop-point.invariant

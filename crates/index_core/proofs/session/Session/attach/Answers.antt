@@ -2,10 +2,10 @@
 use Rattle.std.proofs.Common.{◌≤◌, Err, refl, subst, ap, ◌∙◌}
 use Rattle.std.proofs.lemmas.Result.{err_from_is_err_and}
 use Rattle.page_cache.specs.declared.faults.PageFault.{PageFault}
-use Rattle.index_core.proofs.Guarding.{guards_attached}
+use Rattle.index_core.proofs.SetGuards.{guards_attached}
 use Rattle.index_core.proofs.Tracing.{traced_attached}
 use Rattle.segment_set.proofs.Sizes.{set_fits}
-use Rattle.index_core.proofs.Answering.{done_cause, fault_cause}
+use Rattle.index_core.proofs.FaultCauses.{done_cause, fault_cause}
 use Rattle.index_core.proofs.session.Session.attach.Goals as goal
 
 pub returns-clause-guards : goal.returns-clause-guards

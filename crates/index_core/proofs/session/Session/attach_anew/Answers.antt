@@ -3,7 +3,7 @@ use Rattle.std.proofs.Common.{subst, sym, ap, ◌∙◌}
 use Rattle.stored_index.specs.Kept.{ListsFile}
 use Rattle.segment_set.specs.Kept.{IsAsCommitted}
 use Rattle.index_core.specs.Sessions.{HasDims, SessionData}
-use Rattle.index_core.proofs.Guarding.{guards_anew, says_last}
+use Rattle.index_core.proofs.SetGuards.{guards_anew, says_last}
 use Rattle.index_core.proofs.Tracing.{traced_anew}
 use Rattle.index_core.proofs.Committing.{on_ok_each, some_same}
 use Rattle.segment_set.proofs.Sizes.{set_fits}
@@ -19,7 +19,8 @@ pub returns-clause-seen : goal.returns-clause-seen
 returns-clause-seen g c told done guards i stored = c.attach.ensures.seen told (says_last _ _ _ _ c.self.view_is c.in-Some.is done guards) i stored
 
 pub returns-clause-guards : goal.returns-clause-guards
-returns-clause-guards g c told done guards = guards_anew _ _ _ _ _ c.attach.result c.self.view_is c.in-Some.is (subst (HasDims g.row.D) c.in-Some.is c.self.invariant.has)
+returns-clause-guards g c told done guards =
+    guards_anew _ _ _ _ _ c.attach.result c.self.view_is c.in-Some.is (subst (HasDims g.row.D) c.in-Some.is c.self.invariant.has)
     (says_last _ _ _ _ c.self.view_is c.in-Some.is done guards) c.attach.ensures.commit c.attach.ensures.names (c.attach.ensures.live told)
 
 pub returns-clause-emptied : goal.returns-clause-emptied
@@ -27,7 +28,8 @@ returns-clause-emptied g c = on_ok_each (λ s rest. rest.as_committed.empty) c.a
 
 pub returns-clause-unchanged : goal.returns-clause-unchanged
 returns-clause-unchanged g c last is =
-    on_ok_each (λ s rest. subst (IsAsCommitted s) (some_same _ _ (sym c.in-Some.is ∙ ap (λ (u : SessionData). u.commit) c.self.view_is ∙ is)) rest.as_committed) c.attach.result c.attach.ensures.commit
+    on_ok_each (λ s rest. subst (IsAsCommitted s) (some_same _ _ (sym c.in-Some.is ∙ ap (λ (u : SessionData). u.commit) c.self.view_is ∙ is)) rest.as_committed)
+    c.attach.result c.attach.ensures.commit
 
 pub returns-clause-names : goal.returns-clause-names
 returns-clause-names g c last is = on_ok_each (λ s names m named.
@@ -38,16 +40,21 @@ pub returns-clause-whole : goal.returns-clause-whole
 returns-clause-whole g c told done guards state stored = c.attach.ensures.whole told (says_last _ _ _ _ c.self.view_is c.in-Some.is done guards) state stored
 
 pub returns-clause-shown : goal.returns-clause-shown
-returns-clause-shown g c last is = subst (λ d. OnDamage c.attach.result (IsAttachDamage d)) (some_same _ _ (sym c.in-Some.is ∙ ap (λ (u : SessionData). u.commit) c.self.view_is ∙ is)) c.attach.ensures.shown
+returns-clause-shown g c last is =
+    subst (λ d. OnDamage c.attach.result (IsAttachDamage d)) (some_same _ _ (sym c.in-Some.is ∙ ap (λ (u : SessionData). u.commit) c.self.view_is ∙ is))
+    c.attach.ensures.shown
 
 pub returns-clause-damage : goal.returns-clause-damage
-returns-clause-damage g c told last is = subst (λ d. OnDamage c.attach.result (IsAttachDamageOf (g.F.Pages.files c.args.folder.now) d)) (some_same _ _ (sym c.in-Some.is ∙ ap (λ (u : SessionData). u.commit) c.self.view_is ∙ is)) (c.attach.ensures.damage told)
+returns-clause-damage g c told last is =
+    subst (λ d. OnDamage c.attach.result (IsAttachDamageOf (g.F.Pages.files c.args.folder.now) d))
+    (some_same _ _ (sym c.in-Some.is ∙ ap (λ (u : SessionData). u.commit) c.self.view_is ∙ is)) (c.attach.ensures.damage told)
 
 pub returns-clause-faithful : goal.returns-clause-faithful
 returns-clause-faithful g c told = c.attach.ensures.faithful told
 
 pub returns-clause-evident : goal.returns-clause-evident
-returns-clause-evident g c = on_evident_less _ _ _ c.attach.result (λ (told, done, guards). (told, says_last _ _ _ _ c.self.view_is c.in-Some.is done guards)) c.attach.ensures.evident
+returns-clause-evident g c =
+    on_evident_less _ _ _ c.attach.result (λ (told, done, guards). (told, says_last _ _ _ _ c.self.view_is c.in-Some.is done guards)) c.attach.ensures.evident
 
 pub returns-clause-traced : goal.returns-clause-traced
 returns-clause-traced g c told done guards = traced_anew _ _ _ c.attach.result (subst (HasDims g.row.D) c.in-Some.is c.self.invariant.has)

@@ -14,9 +14,10 @@ use Rattle.segment_set.proofs.Sizes.{set_fits}
 use Rattle.index_core.specs.Closed.{IsTracked, NamesOnlyListed}
 use Rattle.index_core.specs.Sessions.{Guards, SessionData}
 use Rattle.index_core.specs.Steps.{SaysCommit}
-use Rattle.index_core.proofs.Answering.{cause_then, fault_cause}
+use Rattle.index_core.proofs.FaultCauses.{cause_then, fault_cause}
 use Rattle.index_core.proofs.Bringing.{brings_still, brings_then}
-use Rattle.index_core.proofs.Closing.{at_ease, flight_then, guards_eased, keeps_either, levels_then, names_eased, on_ok_then, only_listed, tracked_then, unchanged_closed}
+use Rattle.index_core.proofs.Closing.{at_ease, flight_then, guards_eased, keeps_either, levels_then}
+use Rattle.index_core.proofs.Closing.{names_eased, on_ok_then, only_listed, tracked_then, unchanged_closed}
 use Rattle.index_core.proofs.Committing.{keeps_fault, on_ok_any, on_ok_none, says_still, stores_any, stores_fault}
 use Rattle.index_core.proofs.Sizes.{session_fits}
 use Rattle.index_core.proofs.Undone.{undone_written}

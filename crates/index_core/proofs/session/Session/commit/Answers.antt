@@ -20,7 +20,8 @@ use Rattle.index_core.proofs.Sizes.{session_fits}
 use Rattle.index_model.specs.State.{at_rest}
 use Rattle.index_core.specs.Damages.{ShowsMerge}
 use Rattle.index_core.proofs.Showing.{damage_to, merge_none, merge_to}
-use Rattle.index_core.proofs.Answering.{fault_cause, no_cause}
+use Rattle.index_core.proofs.Answering.{no_cause}
+use Rattle.index_core.proofs.FaultCauses.{fault_cause}
 use Rattle.index_core.proofs.Lightly.{commits_few}
 use Rattle.index_core.proofs.Tracing.{traced_by, traced_shows}
 use Rattle.index_core.proofs.Undone.{few_listed, undone_flight, undone_kept, undone_written}

@@ -5,7 +5,8 @@ use Rattle.page_cache.specs.declared.faults.PageFault.{PageFault}
 use Rattle.script_lang.specs.Replies.{ok_text}
 use Rattle.index_model.specs.Step.{step_on}
 use Rattle.index_model.specs.declared.session.Applied.TheVariants as applied
-use Rattle.index_core.proofs.Answering.{applies_is, begins_itself, begins_same, begins_with, does_done, does_fault, done_cause, fault_to, memory_cause}
+use Rattle.index_core.proofs.Answering.{applies_is, begins_itself, begins_same, begins_with, does_done, does_fault}
+use Rattle.index_core.proofs.FaultCauses.{done_cause, fault_to, memory_cause}
 use Rattle.page_cache.specs.declared.faults.PageFault.TheVariants as page
 use Rattle.index_core.proofs.Showing.{damage_to, merge_none, merge_to}
 use Rattle.index_core.proofs.Keeping.{fault_keeps}

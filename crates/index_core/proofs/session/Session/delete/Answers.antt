@@ -6,7 +6,8 @@ use Rattle.std.proofs.Common.{◌≡◌, cond, take}
 use Rattle.script_lang.specs.Replies.{deleted_text}
 use Rattle.index_model.specs.declared.session.Applied.TheVariants as applied
 use Rattle.segment_set.specs.Sets.{SetData}
-use Rattle.index_core.proofs.Answering.{applies, applies_memory, applies_seen, applies_unsaid, begins_with, calm_like, cut_back, no_cause}
+use Rattle.index_core.proofs.Answering.{applies, applies_memory, applies_seen, applies_unsaid, begins_with, no_cause}
+use Rattle.index_core.proofs.CalmCalls.{calm_like, cut_back}
 use Rattle.index_core.proofs.Changing.{does_delete, seen_deleted}
 use Rattle.segment_set.proofs.Sizes.{set_fits}
 use Rattle.index_core.proofs.Bringing.{brings_cleared}
@@ -23,7 +24,9 @@ returns-in_err-put_deleted-clause-applies g c files faults =
 pub returns-then-delete-clause-applies : goal.returns-then-delete-clause-applies
 returns-then-delete-clause-applies g c files faults = applies_seen _ _ _ _ _ _ _ _ _ _ _ c.self.view_is
     (applies _ _ _ _ _ _
-    (calm_like _ _ _ _ _ _ _ _ _ _ _ _ (ap (λ (u : SetData). u.names) c.delete.ensures.alone) (ap (λ (u : SetData). u.leaf) c.delete.ensures.alone) c.delete.ensures.follows (λ told. refl) (λ told. brings_cleared _ files _ _ _ (ap (λ (u : SetData). u.parts) c.delete.ensures.alone)) (λ told. c.delete.ensures.faithful files))
+    (calm_like _ _ _ _ _ _ _ _ _ _ _ _ (ap (λ (u : SetData). u.names) c.delete.ensures.alone) (ap (λ (u : SetData). u.leaf) c.delete.ensures.alone)
+    c.delete.ensures.follows (λ told. refl) (λ told. brings_cleared _ files _ _ _ (ap (λ (u : SetData). u.parts) c.delete.ensures.alone))
+    (λ told. c.delete.ensures.faithful files))
     (λ told i seen. does_delete _ _ _ i _ c.delete.result _ _ (c.delete.ensures.live files i seen) (c.delete.ensures.seen files i seen)
     (c.in_ok-put_deleted.ensures.ok ∙ ap (λ b. c.args.out.now.items ++ deleted_text (cond b 1 0)) (sym c.if-delete.true)))
     (begins_with _ _ _ c.in_ok-put_deleted.ensures.ok) (no_cause faults applied.Done) (λ told i seen. tt) tt)
@@ -33,19 +36,27 @@ returns-in_err-put_deleted-2-clause-applies g c files faults =
     let p = err_from_is_err_and c.from_residual-in_err-put_deleted-2.result c.from_residual-in_err-put_deleted-2.ensures.1 in
     applies_seen _ _ _ _ _ _ _ _ _ _ _ c.self.view_is
     (applies_unsaid {T = Unit {0}} _ _ _ _ _ _ tt
-    (calm_like _ _ _ _ _ _ _ _ _ _ _ _ (ap (λ (u : SetData). u.names) c.delete.ensures.alone) (ap (λ (u : SetData). u.leaf) c.delete.ensures.alone) c.delete.ensures.follows (λ told. refl) (λ told. brings_cleared _ files _ _ _ (ap (λ (u : SetData). u.parts) c.delete.ensures.alone)) (λ told. c.delete.ensures.faithful files))
-    (p.1 ∙ ap (λ (e : PageFault). Err e) p.2) (λ told i seen. seen_deleted _ _ _ i _ (sym (c.delete.ensures.live files i seen) ∙ c.if-delete.false) (c.delete.ensures.seen files i seen))
-    (c.in_err-put_deleted-2.ensures.memory ∙ c.truncate.ensures.items ∙ ap (take c.len-before.result) c.in_ok-put_deleted.ensures.ok ∙ cut_back c.len-before.result _ _ (c.len-before.ensures ∙ c.args.out.now.ok.0))
+    (calm_like _ _ _ _ _ _ _ _ _ _ _ _ (ap (λ (u : SetData). u.names) c.delete.ensures.alone) (ap (λ (u : SetData). u.leaf) c.delete.ensures.alone)
+    c.delete.ensures.follows (λ told. refl) (λ told. brings_cleared _ files _ _ _ (ap (λ (u : SetData). u.parts) c.delete.ensures.alone))
+    (λ told. c.delete.ensures.faithful files))
+    (p.1 ∙ ap (λ (e : PageFault). Err e) p.2)
+    (λ told i seen. seen_deleted _ _ _ i _ (sym (c.delete.ensures.live files i seen) ∙ c.if-delete.false) (c.delete.ensures.seen files i seen))
+    (c.in_err-put_deleted-2.ensures.memory ∙ c.truncate.ensures.items ∙ ap (take c.len-before.result) c.in_ok-put_deleted.ensures.ok
+    ∙ cut_back c.len-before.result _ _ (c.len-before.ensures ∙ c.args.out.now.ok.0))
     (no_cause faults tt))
 
 pub returns-clause-applies : goal.returns-clause-applies
 returns-clause-applies g c files faults =
     let cut : c.truncate.new.self.items ≡ c.args.out.now.items =
-    c.truncate.ensures.items ∙ ap (take c.len-before.result) c.in_ok-put_deleted.ensures.ok ∙ cut_back c.len-before.result _ _ (c.len-before.ensures ∙ c.args.out.now.ok.0) in
-    let grew : c.put_deleted-2.new.out.items ≡ c.args.out.now.items ++ deleted_text 0 = c.in_ok-put_deleted-2.ensures.ok ∙ ap (λ xs. xs ++ deleted_text 0) cut in
+    c.truncate.ensures.items ∙ ap (take c.len-before.result) c.in_ok-put_deleted.ensures.ok
+    ∙ cut_back c.len-before.result _ _ (c.len-before.ensures ∙ c.args.out.now.ok.0) in
+    let grew : c.put_deleted-2.new.out.items ≡ c.args.out.now.items ++ deleted_text 0 =
+    c.in_ok-put_deleted-2.ensures.ok ∙ ap (λ xs. xs ++ deleted_text 0) cut in
     applies_seen _ _ _ _ _ _ _ _ _ _ _ c.self.view_is
     (applies _ _ _ _ _ _
-    (calm_like _ _ _ _ _ _ _ _ _ _ _ _ (ap (λ (u : SetData). u.names) c.delete.ensures.alone) (ap (λ (u : SetData). u.leaf) c.delete.ensures.alone) c.delete.ensures.follows (λ told. refl) (λ told. brings_cleared _ files _ _ _ (ap (λ (u : SetData). u.parts) c.delete.ensures.alone)) (λ told. c.delete.ensures.faithful files))
+    (calm_like _ _ _ _ _ _ _ _ _ _ _ _ (ap (λ (u : SetData). u.names) c.delete.ensures.alone) (ap (λ (u : SetData). u.leaf) c.delete.ensures.alone)
+    c.delete.ensures.follows (λ told. refl) (λ told. brings_cleared _ files _ _ _ (ap (λ (u : SetData). u.parts) c.delete.ensures.alone))
+    (λ told. c.delete.ensures.faithful files))
     (λ told i seen. does_delete _ _ _ i _ c.delete.result _ _ (c.delete.ensures.live files i seen) (c.delete.ensures.seen files i seen)
     (grew ∙ ap (λ b. c.args.out.now.items ++ deleted_text (cond b 1 0)) (sym c.if-delete.false)))
     (begins_with _ _ _ grew) (no_cause faults applied.Done) (λ told i seen. tt) tt)

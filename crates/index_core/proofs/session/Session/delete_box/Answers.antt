@@ -8,7 +8,8 @@ use Rattle.documents.specs.Documents.{hits}
 use Rattle.script_lang.specs.Replies.{deleted_text}
 use Rattle.segment_set.specs.Sets.{SetData}
 use Rattle.segment_set.specs.Kept.{Follows}
-use Rattle.index_core.proofs.Answering.{applies_done, applies_fault, applies_seen, applies_unsaid, begins_itself, calm_cache, calm_like}
+use Rattle.index_core.proofs.Answering.{applies_done, applies_fault, applies_seen, applies_unsaid, begins_itself}
+use Rattle.index_core.proofs.CalmCalls.{calm_cache, calm_like}
 use Rattle.index_core.proofs.Changing.{does_delete_box}
 use Rattle.segment_set.proofs.Sizes.{set_fits}
 use Rattle.index_core.proofs.Sizes.{box_fits}
@@ -28,7 +29,8 @@ returns-in_err-hits-clause-applies g c =
     let p = err_from_is_err_and c.from_residual.result c.from_residual.ensures.1 in
     applies_seen _ _ _ _ _ _ _ _ _ _ _ c.self.view_is
     (applies_fault _ _ _ _ _ _ c.in_err-hits.field-0.0 (calm_cache _ _ _ _ _ _ _ _ _ _ _ _ c.visit.ensures.alone c.visit.ensures.files c.visit.ensures.faithful)
-    (p.1 ∙ ap (λ (e : PageFault). Err e) p.2) c.visit.ensures.seen (begins_itself _) c.in_err-hits.ensures.cause c.in_err-hits.ensures.whole c.in_err-hits.ensures.evident)
+    (p.1 ∙ ap (λ (e : PageFault). Err e) p.2) c.visit.ensures.seen (begins_itself _) c.in_err-hits.ensures.cause c.in_err-hits.ensures.whole
+    c.in_err-hits.ensures.evident)
 
 pub returns-in_err-put_deleted-clause-applies : goal.returns-in_err-put_deleted-clause-applies
 returns-in_err-put_deleted-clause-applies g c =
@@ -42,9 +44,11 @@ returns-clause-applies g c =
     let long = c.in-Ok.ensures.1 ∙ c.len.ensures ∙ sym c.as_slice.ensures.len in
     applies_seen _ _ _ _ _ _ _ _ _ _ _ c.self.view_is
     (applies_done _ _ _ _ _ c.in_ok-hits.hits _
-    (calm_like _ _ _ _ _ _ _ _ _ _ _ _ (c.delete_all.ensures.names ∙ ap (λ (u : SetData). u.names) c.visit.ensures.alone.is) (c.delete_all.ensures.stays.leaf ∙ ap (λ (u : SetData). u.leaf) c.visit.ensures.alone.is)
+    (calm_like _ _ _ _ _ _ _ _ _ _ _ _ (c.delete_all.ensures.names ∙ ap (λ (u : SetData). u.names) c.visit.ensures.alone.is)
+    (c.delete_all.ensures.stays.leaf ∙ ap (λ (u : SetData). u.leaf) c.visit.ensures.alone.is)
     (subst (λ (u : SetData). Follows u.names u.parts c.delete_all.new.self.parts) c.visit.ensures.alone.is c.delete_all.ensures.follows) c.visit.ensures.files
-    (λ told. brings_then _ _ _ _ _ c.visit.new.self.parts _ (brings_same _ _ _ _ _ (c.visit.ensures.files told) (ap (λ (u : SetData). u.parts) c.visit.ensures.alone.is))
+    (λ told. brings_then _ _ _ _ _ c.visit.new.self.parts
+    _ (brings_same _ _ _ _ _ (c.visit.ensures.files told) (ap (λ (u : SetData). u.parts) c.visit.ensures.alone.is))
     (brings_named _ _ _ _ _ _ _ _ told (λ t. refl) c.delete_all.ensures.names c.delete_all.ensures.follows c.leaf-leaf.ensures.well.named))
     (λ told faithful. c.delete_all.ensures.faithful _ (c.visit.ensures.faithful told faithful)))
     (λ told i seen. does_delete_box _ _ _ _ _ i _ _ c.as_slice.result.now _ _ seen
@@ -76,29 +80,43 @@ bounds_of lo hi = record { lo = lo; hi = hi }
 
 pub returns-in_err-hits-clause-reads : goal.returns-in_err-hits-clause-reads
 returns-in_err-hits-clause-reads g c =
-    subst (λ (u : SessionData). ReadsTouched g.row.D (in_box (bounds_of c.args.lo.now.c c.args.hi.now.c)) (crosses (bounds_of c.args.lo.now.c c.args.hi.now.c)) u.set.parts (g.F.Pages.reads c.args.folder.now) (g.F.Pages.reads c.visit.new.folder)) c.self.view_is
-    (subst (λ (s : Asked). ReadsTouched g.row.D (in_box s.bounds) (crosses s.bounds) c.self.inside.set.parts (g.F.Pages.reads c.args.folder.now) (g.F.Pages.reads c.visit.new.folder)) c.new-shape.ensures c.visit.ensures.reads)
+    subst (λ (u : SessionData).
+    ReadsTouched g.row.D (in_box (bounds_of c.args.lo.now.c c.args.hi.now.c)) (crosses (bounds_of c.args.lo.now.c c.args.hi.now.c)) u.set.parts
+    (g.F.Pages.reads c.args.folder.now) (g.F.Pages.reads c.visit.new.folder)) c.self.view_is
+    (subst (λ (s : Asked). ReadsTouched g.row.D (in_box s.bounds) (crosses s.bounds) c.self.inside.set.parts (g.F.Pages.reads c.args.folder.now)
+    (g.F.Pages.reads c.visit.new.folder)) c.new-shape.ensures c.visit.ensures.reads)
 
 pub returns-in_err-put_deleted-clause-reads : goal.returns-in_err-put_deleted-clause-reads
 returns-in_err-put_deleted-clause-reads g c =
-    subst (λ (u : SessionData). ReadsTouched g.row.D (in_box (bounds_of c.args.lo.now.c c.args.hi.now.c)) (crosses (bounds_of c.args.lo.now.c c.args.hi.now.c)) u.set.parts (g.F.Pages.reads c.args.folder.now) (g.F.Pages.reads c.visit.new.folder)) c.self.view_is
-    (subst (λ (s : Asked). ReadsTouched g.row.D (in_box s.bounds) (crosses s.bounds) c.self.inside.set.parts (g.F.Pages.reads c.args.folder.now) (g.F.Pages.reads c.visit.new.folder)) c.new-shape.ensures c.visit.ensures.reads)
+    subst (λ (u : SessionData).
+    ReadsTouched g.row.D (in_box (bounds_of c.args.lo.now.c c.args.hi.now.c)) (crosses (bounds_of c.args.lo.now.c c.args.hi.now.c)) u.set.parts
+    (g.F.Pages.reads c.args.folder.now) (g.F.Pages.reads c.visit.new.folder)) c.self.view_is
+    (subst (λ (s : Asked). ReadsTouched g.row.D (in_box s.bounds) (crosses s.bounds) c.self.inside.set.parts (g.F.Pages.reads c.args.folder.now)
+    (g.F.Pages.reads c.visit.new.folder)) c.new-shape.ensures c.visit.ensures.reads)
 
 pub returns-clause-reads : goal.returns-clause-reads
 returns-clause-reads g c =
-    subst (λ (u : SessionData). ReadsTouched g.row.D (in_box (bounds_of c.args.lo.now.c c.args.hi.now.c)) (crosses (bounds_of c.args.lo.now.c c.args.hi.now.c)) u.set.parts (g.F.Pages.reads c.args.folder.now) (g.F.Pages.reads c.visit.new.folder)) c.self.view_is
-    (subst (λ (s : Asked). ReadsTouched g.row.D (in_box s.bounds) (crosses s.bounds) c.self.inside.set.parts (g.F.Pages.reads c.args.folder.now) (g.F.Pages.reads c.visit.new.folder)) c.new-shape.ensures c.visit.ensures.reads)
+    subst (λ (u : SessionData).
+    ReadsTouched g.row.D (in_box (bounds_of c.args.lo.now.c c.args.hi.now.c)) (crosses (bounds_of c.args.lo.now.c c.args.hi.now.c)) u.set.parts
+    (g.F.Pages.reads c.args.folder.now) (g.F.Pages.reads c.visit.new.folder)) c.self.view_is
+    (subst (λ (s : Asked). ReadsTouched g.row.D (in_box s.bounds) (crosses s.bounds) c.self.inside.set.parts (g.F.Pages.reads c.args.folder.now)
+    (g.F.Pages.reads c.visit.new.folder)) c.new-shape.ensures c.visit.ensures.reads)
 
 pub returns-in_default-clause-reads : goal.returns-in_default-clause-reads
 returns-in_default-clause-reads g c =
-    subst (λ (u : SessionData). ReadsTouched g.row.D (in_box (bounds_of c.args.lo.now.c c.args.hi.now.c)) (crosses (bounds_of c.args.lo.now.c c.args.hi.now.c)) u.set.parts (g.F.Pages.reads c.args.folder.now) (g.F.Pages.reads c.visit.new.folder)) c.self.view_is
-    (subst (λ (s : Asked). ReadsTouched g.row.D (in_box s.bounds) (crosses s.bounds) c.self.inside.set.parts (g.F.Pages.reads c.args.folder.now) (g.F.Pages.reads c.visit.new.folder)) c.new-shape.ensures c.visit.ensures.reads)
+    subst (λ (u : SessionData).
+    ReadsTouched g.row.D (in_box (bounds_of c.args.lo.now.c c.args.hi.now.c)) (crosses (bounds_of c.args.lo.now.c c.args.hi.now.c)) u.set.parts
+    (g.F.Pages.reads c.args.folder.now) (g.F.Pages.reads c.visit.new.folder)) c.self.view_is
+    (subst (λ (s : Asked). ReadsTouched g.row.D (in_box s.bounds) (crosses s.bounds) c.self.inside.set.parts (g.F.Pages.reads c.args.folder.now)
+    (g.F.Pages.reads c.visit.new.folder)) c.new-shape.ensures c.visit.ensures.reads)
 
 pub returns-in_err-hits-clause-damage : goal.returns-in_err-hits-clause-damage
 returns-in_err-hits-clause-damage g c =
     let p = err_from_is_err_and c.from_residual.result c.from_residual.ensures.1 in
-    subst (λ (u : SessionData). ShowsLeaf g.row.D (IsTrue g.F.Pages.told) (g.F.Pages.files c.args.folder.now) u.set u.set.parts c.from_residual.result) c.self.view_is
-    (leaf_to {T = Unit {0}} _ _ _ _ _ _ c.in_err-hits.field-0.0 (p.1 ∙ ap (λ (e : PageFault). Err e) p.2) (record { shown = c.in_err-hits.ensures.shown; damage = c.in_err-hits.ensures.damage }))
+    subst (λ (u : SessionData). ShowsLeaf g.row.D (IsTrue g.F.Pages.told) (g.F.Pages.files c.args.folder.now) u.set u.set.parts c.from_residual.result)
+    c.self.view_is
+    (leaf_to {T = Unit {0}} _ _ _ _ _ _ c.in_err-hits.field-0.0 (p.1 ∙ ap (λ (e : PageFault). Err e) p.2)
+    (record { shown = c.in_err-hits.ensures.shown; damage = c.in_err-hits.ensures.damage }))
 
 pub returns-in_err-put_deleted-clause-damage : goal.returns-in_err-put_deleted-clause-damage
 returns-in_err-put_deleted-clause-damage g c =

@@ -35,7 +35,8 @@ returns-in_err-shape-clause-reads g c n touched = omega arith
 
 pub returns-clause-reads : goal.returns-clause-reads
 returns-clause-reads g c =
-    subst (λ (s : Asked). ReadsTouched g.row.D (has g.row.D s.edges) (crosses g.row.D s.edges) (viewed_parts (viewed c.args.view.now) c.args.self.now.set) (g.F.Pages.reads c.args.folder.now) (g.F.Pages.reads c.find.new.folder))
+    subst (λ (s : Asked). ReadsTouched g.row.D (has g.row.D s.edges) (crosses g.row.D s.edges) (viewed_parts (viewed c.args.view.now) c.args.self.now.set)
+    (g.F.Pages.reads c.args.folder.now) (g.F.Pages.reads c.find.new.folder))
     c.in_ok-shape.ensures c.find.ensures.reads
 
 pub returns-in_err-shape-clause-damage : goal.returns-in_err-shape-clause-damage

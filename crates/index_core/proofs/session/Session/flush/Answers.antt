@@ -20,7 +20,15 @@ pub returns-clause-applies : goal.returns-clause-applies
 unfolding step_on
 returns-clause-applies g c = applies_seen _ _ _ _ _ _ _ _ _ _ _ c.self.view_is
     (applies_done _ _ _ _ _ c.in_ok-flush.field-0 ok_text
-    (record { commit = refl; refused = refl; leaf = c.flush.ensures.stays.leaf; keeps = c.flush.ensures.kept; follows = c.flush.ensures.follows; brings = λ told. brings_written _ _ _ _ _ _ _ _ told c.flush.ensures.kept c.flush.ensures.follows (c.flush.ensures.canon told); faithful = c.flush.ensures.faithful })
+    (record {
+      commit = refl;
+      refused = refl;
+      leaf = c.flush.ensures.stays.leaf;
+      keeps = c.flush.ensures.kept;
+      follows = c.flush.ensures.follows;
+      brings = λ told. brings_written _ _ _ _ _ _ _ _ told c.flush.ensures.kept c.flush.ensures.follows (c.flush.ensures.canon told);
+      faithful = c.flush.ensures.faithful;
+    })
     (λ told i seen. does_done _ _ i i _ ok_text _ _ (c.flush.ensures.seen told i seen) c.in_ok-put_ok.ensures.ok)
     c.in_ok-put_ok.ensures.ok c.in_ok-flush.ensures.cause)
 
@@ -29,15 +37,32 @@ returns-in_err-flush-clause-applies g c =
     let p = err_from_is_err_and c.from_residual.result c.from_residual.ensures.1 in
     applies_seen _ _ _ _ _ _ _ _ _ _ _ c.self.view_is
     (applies_merging_fault _ _ _ _ _ _ c.in_err-flush.field-0.0
-    (record { commit = refl; refused = refl; leaf = c.flush.ensures.stays.leaf; keeps = c.flush.ensures.kept; follows = c.flush.ensures.follows; brings = λ told. brings_written _ _ _ _ _ _ _ _ told c.flush.ensures.kept c.flush.ensures.follows (c.flush.ensures.canon told); faithful = c.flush.ensures.faithful })
-    c.leaf-leaf.ensures.well.named (p.1 ∙ ap (λ (e : PageFault). Err e) p.2) c.flush.ensures.seen (begins_itself _) c.in_err-flush.ensures.cause c.in_err-flush.ensures.whole c.in_err-flush.ensures.evident)
+    (record {
+      commit = refl;
+      refused = refl;
+      leaf = c.flush.ensures.stays.leaf;
+      keeps = c.flush.ensures.kept;
+      follows = c.flush.ensures.follows;
+      brings = λ told. brings_written _ _ _ _ _ _ _ _ told c.flush.ensures.kept c.flush.ensures.follows (c.flush.ensures.canon told);
+      faithful = c.flush.ensures.faithful;
+    })
+    c.leaf-leaf.ensures.well.named (p.1 ∙ ap (λ (e : PageFault). Err e) p.2) c.flush.ensures.seen (begins_itself _) c.in_err-flush.ensures.cause
+    c.in_err-flush.ensures.whole c.in_err-flush.ensures.evident)
 
 pub returns-in_err-put_ok-clause-applies : goal.returns-in_err-put_ok-clause-applies
 returns-in_err-put_ok-clause-applies g c =
     let p = err_from_is_err_and c.from_residual-in_err-put_ok.result c.from_residual-in_err-put_ok.ensures.1 in
     applies_seen _ _ _ _ _ _ _ _ _ _ _ c.self.view_is
     (applies_unsaid _ _ _ _ _ _ c.in_ok-flush.field-0
-    (record { commit = refl; refused = refl; leaf = c.flush.ensures.stays.leaf; keeps = c.flush.ensures.kept; follows = c.flush.ensures.follows; brings = λ told. brings_written _ _ _ _ _ _ _ _ told c.flush.ensures.kept c.flush.ensures.follows (c.flush.ensures.canon told); faithful = c.flush.ensures.faithful })
+    (record {
+      commit = refl;
+      refused = refl;
+      leaf = c.flush.ensures.stays.leaf;
+      keeps = c.flush.ensures.kept;
+      follows = c.flush.ensures.follows;
+      brings = λ told. brings_written _ _ _ _ _ _ _ _ told c.flush.ensures.kept c.flush.ensures.follows (c.flush.ensures.canon told);
+      faithful = c.flush.ensures.faithful;
+    })
     (p.1 ∙ ap (λ (e : PageFault). Err e) p.2) c.flush.ensures.seen c.in_err-put_ok.ensures.memory c.in_ok-flush.ensures.cause)
 
 pub leaf-leaf-requires : goal.leaf-leaf-requires
@@ -55,8 +80,11 @@ returns-clause-leaves g c =
 pub returns-in_err-flush-clause-damage : goal.returns-in_err-flush-clause-damage
 returns-in_err-flush-clause-damage g c =
     let p = err_from_is_err_and c.from_residual.result c.from_residual.ensures.1 in
-    subst (λ (u : SessionData). ShowsMerge g.row.D (IsTrue g.F.Pages.told) (g.F.Pages.files c.args.folder.now) (g.F.Pages.files c.flush.new.folder) u.set c.from_residual.result) c.self.view_is
-    (merge_to {T = Unit {0}} _ _ _ _ _ _ c.in_err-flush.field-0.0 (p.1 ∙ ap (λ (e : PageFault). Err e) p.2) (record { shown = c.in_err-flush.ensures.shown; damage = c.in_err-flush.ensures.damage; doubled = c.in_err-flush.ensures.doubled }))
+    subst (λ (u : SessionData).
+    ShowsMerge g.row.D (IsTrue g.F.Pages.told) (g.F.Pages.files c.args.folder.now) (g.F.Pages.files c.flush.new.folder) u.set c.from_residual.result)
+    c.self.view_is
+    (merge_to {T = Unit {0}} _ _ _ _ _ _ c.in_err-flush.field-0.0 (p.1 ∙ ap (λ (e : PageFault). Err e) p.2)
+    (record { shown = c.in_err-flush.ensures.shown; damage = c.in_err-flush.ensures.damage; doubled = c.in_err-flush.ensures.doubled }))
 
 pub returns-in_err-put_ok-clause-damage : goal.returns-in_err-put_ok-clause-damage
 returns-in_err-put_ok-clause-damage g c =

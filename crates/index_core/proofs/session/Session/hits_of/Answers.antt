@@ -11,10 +11,12 @@ pub visit-requires : goal.visit-requires
 visit-requires g c = (set_fits g.row.D c.self.invariant.few, tt)
 
 pub returns-clause-found : goal.returns-clause-found
-returns-clause-found g c told i seen = c.visit.ensures.found told i (subst (λ (u : SessionData). Sees g.row.D (g.F.Pages.files c.args.folder.now) u.set i) (sym c.self.view_is) seen) i.docs refl
+returns-clause-found g c told i seen =
+    c.visit.ensures.found told i (subst (λ (u : SessionData). Sees g.row.D (g.F.Pages.files c.args.folder.now) u.set i) (sym c.self.view_is) seen) i.docs refl
 
 pub returns-clause-seen : goal.returns-clause-seen
-returns-clause-seen g c told i seen = c.visit.ensures.seen told i (subst (λ (u : SessionData). Sees g.row.D (g.F.Pages.files c.args.folder.now) u.set i) (sym c.self.view_is) seen)
+returns-clause-seen g c told i seen =
+    c.visit.ensures.seen told i (subst (λ (u : SessionData). Sees g.row.D (g.F.Pages.files c.args.folder.now) u.set i) (sym c.self.view_is) seen)
 
 pub returns-clause-guards : goal.returns-clause-guards
 returns-clause-guards g c told guards = guards_cache g.row.D _ _ _ _ _ _ c.self.view_is told c.visit.ensures.alone c.visit.ensures.files guards
@@ -23,7 +25,8 @@ pub returns-clause-parts : goal.returns-clause-parts
 returns-clause-parts g c = ap (λ (u : SetData). u.parts) c.visit.ensures.alone.is ∙ ap (λ (u : SessionData). u.set.parts) c.self.view_is
 
 pub returns-clause-whole : goal.returns-clause-whole
-returns-clause-whole g c told i seen = c.visit.ensures.whole told i (subst (λ (u : SessionData). Sees g.row.D (g.F.Pages.files c.args.folder.now) u.set i) (sym c.self.view_is) seen)
+returns-clause-whole g c told i seen =
+    c.visit.ensures.whole told i (subst (λ (u : SessionData). Sees g.row.D (g.F.Pages.files c.args.folder.now) u.set i) (sym c.self.view_is) seen)
 
 pub returns-clause-faithful : goal.returns-clause-faithful
 returns-clause-faithful g c told = faithful_seen g.row.D _ _ _ _ _ c.self.view_is (c.visit.ensures.faithful told)

@@ -19,7 +19,15 @@ pub returns-clause-applies : goal.returns-clause-applies
 unfolding step_on
 returns-clause-applies g c = applies_seen _ _ _ _ _ _ _ _ _ _ _ c.self.view_is
     (applies_done _ _ _ _ _ c.in_ok-merge_all.field-0 ok_text
-    (record { commit = refl; refused = refl; leaf = c.merge_all.ensures.stays.leaf; keeps = c.merge_all.ensures.kept; follows = c.merge_all.ensures.follows; brings = λ told. brings_written _ _ _ _ _ _ _ _ told c.merge_all.ensures.kept c.merge_all.ensures.follows (c.merge_all.ensures.canon told); faithful = c.merge_all.ensures.faithful })
+    (record {
+      commit = refl;
+      refused = refl;
+      leaf = c.merge_all.ensures.stays.leaf;
+      keeps = c.merge_all.ensures.kept;
+      follows = c.merge_all.ensures.follows;
+      brings = λ told. brings_written _ _ _ _ _ _ _ _ told c.merge_all.ensures.kept c.merge_all.ensures.follows (c.merge_all.ensures.canon told);
+      faithful = c.merge_all.ensures.faithful;
+    })
     (λ told i seen. does_done _ _ i i _ ok_text _ _ (c.merge_all.ensures.seen told i seen) c.in_ok-put_ok.ensures.ok)
     c.in_ok-put_ok.ensures.ok c.in_ok-merge_all.ensures.cause)
 
@@ -28,15 +36,32 @@ returns-in_err-merge_all-clause-applies g c =
     let p = err_from_is_err_and c.from_residual.result c.from_residual.ensures.1 in
     applies_seen _ _ _ _ _ _ _ _ _ _ _ c.self.view_is
     (applies_merging_fault _ _ _ _ _ _ c.in_err-merge_all.field-0.0
-    (record { commit = refl; refused = refl; leaf = c.merge_all.ensures.stays.leaf; keeps = c.merge_all.ensures.kept; follows = c.merge_all.ensures.follows; brings = λ told. brings_written _ _ _ _ _ _ _ _ told c.merge_all.ensures.kept c.merge_all.ensures.follows (c.merge_all.ensures.canon told); faithful = c.merge_all.ensures.faithful })
-    c.leaf-leaf.ensures.well.named (p.1 ∙ ap (λ (e : PageFault). Err e) p.2) c.merge_all.ensures.seen (begins_itself _) c.in_err-merge_all.ensures.cause c.in_err-merge_all.ensures.whole c.in_err-merge_all.ensures.evident)
+    (record {
+      commit = refl;
+      refused = refl;
+      leaf = c.merge_all.ensures.stays.leaf;
+      keeps = c.merge_all.ensures.kept;
+      follows = c.merge_all.ensures.follows;
+      brings = λ told. brings_written _ _ _ _ _ _ _ _ told c.merge_all.ensures.kept c.merge_all.ensures.follows (c.merge_all.ensures.canon told);
+      faithful = c.merge_all.ensures.faithful;
+    })
+    c.leaf-leaf.ensures.well.named (p.1 ∙ ap (λ (e : PageFault). Err e) p.2) c.merge_all.ensures.seen (begins_itself _) c.in_err-merge_all.ensures.cause
+    c.in_err-merge_all.ensures.whole c.in_err-merge_all.ensures.evident)
 
 pub returns-in_err-put_ok-clause-applies : goal.returns-in_err-put_ok-clause-applies
 returns-in_err-put_ok-clause-applies g c =
     let p = err_from_is_err_and c.from_residual-in_err-put_ok.result c.from_residual-in_err-put_ok.ensures.1 in
     applies_seen _ _ _ _ _ _ _ _ _ _ _ c.self.view_is
     (applies_unsaid _ _ _ _ _ _ c.in_ok-merge_all.field-0
-    (record { commit = refl; refused = refl; leaf = c.merge_all.ensures.stays.leaf; keeps = c.merge_all.ensures.kept; follows = c.merge_all.ensures.follows; brings = λ told. brings_written _ _ _ _ _ _ _ _ told c.merge_all.ensures.kept c.merge_all.ensures.follows (c.merge_all.ensures.canon told); faithful = c.merge_all.ensures.faithful })
+    (record {
+      commit = refl;
+      refused = refl;
+      leaf = c.merge_all.ensures.stays.leaf;
+      keeps = c.merge_all.ensures.kept;
+      follows = c.merge_all.ensures.follows;
+      brings = λ told. brings_written _ _ _ _ _ _ _ _ told c.merge_all.ensures.kept c.merge_all.ensures.follows (c.merge_all.ensures.canon told);
+      faithful = c.merge_all.ensures.faithful;
+    })
     (p.1 ∙ ap (λ (e : PageFault). Err e) p.2) c.merge_all.ensures.seen c.in_err-put_ok.ensures.memory c.in_ok-merge_all.ensures.cause)
 
 pub leaf-leaf-requires : goal.leaf-leaf-requires
@@ -48,14 +73,27 @@ merge_all-requires-after_bounds g c κs = λ _. set_fits g.row.D c.self.invarian
 pub returns-clause-leaves : goal.returns-clause-leaves
 returns-clause-leaves g c =
     let done = c.in_ok-merge_all.ensures in
-    subst (λ (s : SessionData). IsMergedAll g.row.D (IsTrue g.F.Pages.told) (g.F.Pages.files c.args.folder.now) (g.F.Pages.files c.merge_all.new.folder) s.set c.merge_all.new.self) c.self.view_is
-    (record { buffer = done.buffer; begun = done.begun; one = done.one; all_live = done.all_live; still = λ tidy. (done.still tidy).0; merged = done.merged; canon = done.canon })
+    subst (λ (s : SessionData).
+    IsMergedAll g.row.D (IsTrue g.F.Pages.told) (g.F.Pages.files c.args.folder.now) (g.F.Pages.files c.merge_all.new.folder) s.set c.merge_all.new.self)
+    c.self.view_is
+    (record {
+      buffer = done.buffer;
+      begun = done.begun;
+      one = done.one;
+      all_live = done.all_live;
+      still = λ tidy. (done.still tidy).0;
+      merged = done.merged;
+      canon = done.canon;
+    })
 
 pub returns-in_err-merge_all-clause-damage : goal.returns-in_err-merge_all-clause-damage
 returns-in_err-merge_all-clause-damage g c =
     let p = err_from_is_err_and c.from_residual.result c.from_residual.ensures.1 in
-    subst (λ (u : SessionData). ShowsMerge g.row.D (IsTrue g.F.Pages.told) (g.F.Pages.files c.args.folder.now) (g.F.Pages.files c.merge_all.new.folder) u.set c.from_residual.result) c.self.view_is
-    (merge_to {T = Unit {0}} _ _ _ _ _ _ c.in_err-merge_all.field-0.0 (p.1 ∙ ap (λ (e : PageFault). Err e) p.2) (record { shown = c.in_err-merge_all.ensures.shown; damage = c.in_err-merge_all.ensures.damage; doubled = c.in_err-merge_all.ensures.doubled }))
+    subst (λ (u : SessionData).
+    ShowsMerge g.row.D (IsTrue g.F.Pages.told) (g.F.Pages.files c.args.folder.now) (g.F.Pages.files c.merge_all.new.folder) u.set c.from_residual.result)
+    c.self.view_is
+    (merge_to {T = Unit {0}} _ _ _ _ _ _ c.in_err-merge_all.field-0.0 (p.1 ∙ ap (λ (e : PageFault). Err e) p.2)
+    (record { shown = c.in_err-merge_all.ensures.shown; damage = c.in_err-merge_all.ensures.damage; doubled = c.in_err-merge_all.ensures.doubled }))
 
 pub returns-in_err-put_ok-clause-damage : goal.returns-in_err-put_ok-clause-damage
 returns-in_err-put_ok-clause-damage g c =

@@ -7,7 +7,10 @@ use Rattle.std.proofs.lemmas.Bool.{both_ways}
 use Rattle.script_lang.specs.declared.faults.Refusal.TheVariants as why
 use Rattle.segment_set.specs.Sets.{SetData}
 use Rattle.segment_set.proofs.Carried.{follows_same}
-use Rattle.index_core.proofs.Answering.{applies_is, applies_memory, applies_merging_calm, applies_refused, applies_seen, begins_with, calm_like, cause_begin, whole_begin}
+use Rattle.index_core.proofs.Answering.{applies_is, applies_memory, applies_merging_calm, applies_refused}
+use Rattle.index_core.proofs.Answering.{applies_seen, begins_with}
+use Rattle.index_core.proofs.FaultCauses.{cause_begin, whole_begin}
+use Rattle.index_core.proofs.CalmCalls.{calm_like}
 use Rattle.index_core.proofs.Changing.{does_begin, does_begun}
 use Rattle.segment_set.proofs.Sizes.{set_fits}
 use Rattle.index_core.specs.Sessions.{SessionData}
@@ -24,7 +27,8 @@ use Rattle.index_core.proofs.session.Session.merge_begin.Goals as goal
 
 pub returns-then-is_merging-clause-applies : goal.returns-then-is_merging-clause-applies
 returns-then-is_merging-clause-applies g c = applies_refused _ _ _ _ _ _ _ why.Begun
-    (λ i seen. does_begun _ _ _ i _ _ seen (ap (λ (u : SessionData). is_some u.set.begun) (sym c.self.view_is) ∙ sym c.is_merging.ensures ∙ c.if-is_merging.true))
+    (λ i seen.
+    does_begun _ _ _ i _ _ seen (ap (λ (u : SessionData). is_some u.set.begun) (sym c.self.view_is) ∙ sym c.is_merging.ensures ∙ c.if-is_merging.true))
 
 pub returns-in_err-put_ok-clause-applies : goal.returns-in_err-put_ok-clause-applies
 returns-in_err-put_ok-clause-applies g c =
@@ -37,11 +41,14 @@ returns-clause-applies g c =
     applies_is _ _ _ _ _ _ _ _ c.begin_answer.ensures
     (applies_seen _ _ _ _ _ _ _ _ _ _ _ c.self.view_is
     (applies_merging_calm _ _ _ _ _ _
-    (calm_like _ _ _ _ _ _ _ _ _ _ _ _ (ap (λ (u : SetData). u.names) c.merge_begin.ensures.alone.is) (ap (λ (u : SetData). u.leaf) c.merge_begin.ensures.alone.is)
+    (calm_like _ _ _ _ _ _ _ _ _ _ _ _ (ap (λ (u : SetData). u.names) c.merge_begin.ensures.alone.is)
+    (ap (λ (u : SetData). u.leaf) c.merge_begin.ensures.alone.is)
     (follows_same _ _ _ (ap (λ (u : SetData). u.parts) c.merge_begin.ensures.alone.is)) c.merge_begin.ensures.files
-    (λ told. brings_same _ _ _ _ _ (c.merge_begin.ensures.files told) (ap (λ (u : SetData). u.parts) c.merge_begin.ensures.alone.is)) c.merge_begin.ensures.faithful)
+    (λ told. brings_same _ _ _ _ _ (c.merge_begin.ensures.files told) (ap (λ (u : SetData). u.parts) c.merge_begin.ensures.alone.is))
+    c.merge_begin.ensures.faithful)
     c.merge_begin.ensures.files
-    (λ told i seen. does_begin _ _ _ _ _ i _ c.merge_begin.result _ _ seen none (λ e. both_ways (is_some c.self.inside.set.begun) none (c.merge_begin.ensures.begun.0 e))
+    (λ told i seen.
+    does_begin _ _ _ _ _ i _ c.merge_begin.result _ _ seen none (λ e. both_ways (is_some c.self.inside.set.begun) none (c.merge_begin.ensures.begun.0 e))
     (c.merge_begin.ensures.seen told i seen) (c.merge_begin.ensures.refused told i seen) c.in_ok-put_ok.ensures.ok)
     (begins_with _ _ _ c.in_ok-put_ok.ensures.ok)
     (cause_begin _ _ c.merge_begin.result (λ e. both_ways (is_some c.self.inside.set.begun) none (c.merge_begin.ensures.begun.0 e)) c.merge_begin.ensures.cause)
@@ -70,8 +77,11 @@ returns-in_err-put_ok-clause-damage g c =
 
 pub returns-clause-damage : goal.returns-clause-damage
 returns-clause-damage g c =
-    subst (ShowsMerge g.row.D (IsTrue g.F.Pages.told) (g.F.Pages.files c.args.folder.now) (g.F.Pages.files c.merge_begin.new.folder) c.args.self.now.set) (sym c.begin_answer.ensures)
-    (subst (λ (u : SessionData). ShowsMerge g.row.D (IsTrue g.F.Pages.told) (g.F.Pages.files c.args.folder.now) (g.F.Pages.files c.merge_begin.new.folder) u.set (begin_answer c.merge_begin.result)) c.self.view_is
+    subst (ShowsMerge g.row.D (IsTrue g.F.Pages.told) (g.F.Pages.files c.args.folder.now) (g.F.Pages.files c.merge_begin.new.folder) c.args.self.now.set)
+    (sym c.begin_answer.ensures)
+    (subst (λ (u : SessionData).
+    ShowsMerge g.row.D (IsTrue g.F.Pages.told) (g.F.Pages.files c.args.folder.now) (g.F.Pages.files c.merge_begin.new.folder) u.set
+    (begin_answer c.merge_begin.result)) c.self.view_is
     (record {
       shown = begin_shows _ c.merge_begin.result c.merge_begin.ensures.shown;
       damage = λ told agrees. begin_shows _ c.merge_begin.result (c.merge_begin.ensures.damage told agrees);
@@ -89,7 +99,8 @@ returns-in_err-put_ok-clause-still g c =
 pub returns-clause-still : goal.returns-clause-still
 returns-clause-still g c =
     let none = sym c.is_merging.ensures ∙ c.if-is_merging.false in
-    answer_keeps _ _ _ c.begin_answer.ensures (begin_keeps _ c.merge_begin.result (λ e. both_ways (is_some c.self.inside.set.begun) none (c.merge_begin.ensures.begun.0 e)))
+    answer_keeps _ _ _ c.begin_answer.ensures
+    (begin_keeps _ c.merge_begin.result (λ e. both_ways (is_some c.self.inside.set.begun) none (c.merge_begin.ensures.begun.0 e)))
 
 pub returns-then-is_merging-clause-unread : goal.returns-then-is_merging-clause-unread
 returns-then-is_merging-clause-unread g c = refl
@@ -102,4 +113,5 @@ returns-in_err-put_ok-clause-unread g c =
 pub returns-clause-unread : goal.returns-clause-unread
 returns-clause-unread g c =
     let none = sym c.is_merging.ensures ∙ c.if-is_merging.false in
-    answer_keeps _ _ _ c.begin_answer.ensures (begin_keeps _ c.merge_begin.result (λ e. both_ways (is_some c.self.inside.set.begun) none (c.merge_begin.ensures.begun.0 e)))
+    answer_keeps _ _ _ c.begin_answer.ensures
+    (begin_keeps _ c.merge_begin.result (λ e. both_ways (is_some c.self.inside.set.begun) none (c.merge_begin.ensures.begun.0 e)))

@@ -5,7 +5,8 @@ use Rattle.page_cache.specs.declared.faults.PageFault.{PageFault}
 use Rattle.std.proofs.Common.{is_some}
 use Rattle.std.proofs.lemmas.Bool.{both_ways}
 use Rattle.script_lang.specs.declared.faults.Refusal.TheVariants as why
-use Rattle.index_core.proofs.Answering.{applies, applies_is, applies_memory, applies_refused, applies_seen, begins_with, cause_end, whole_end}
+use Rattle.index_core.proofs.Answering.{applies, applies_is, applies_memory, applies_refused, applies_seen, begins_with}
+use Rattle.index_core.proofs.FaultCauses.{cause_end, whole_end}
 use Rattle.index_core.proofs.Changing.{does_end, does_not_begun}
 use Rattle.segment_set.proofs.Sizes.{set_fits}
 use Rattle.index_core.specs.Sessions.{SessionData}
@@ -21,7 +22,8 @@ use Rattle.index_core.proofs.session.Session.merge_end.Goals as goal
 
 pub returns-then-not-is_merging-clause-applies : goal.returns-then-not-is_merging-clause-applies
 returns-then-not-is_merging-clause-applies g c = applies_refused _ _ _ _ _ _ _ why.NotBegun
-    (λ i seen. does_not_begun _ _ _ i _ seen (ap (λ (u : SessionData). is_some u.set.begun) (sym c.self.view_is) ∙ sym c.is_merging.ensures ∙ c.if-not-is_merging.true))
+    (λ i seen. does_not_begun _ _ _ i _ seen
+    (ap (λ (u : SessionData). is_some u.set.begun) (sym c.self.view_is) ∙ sym c.is_merging.ensures ∙ c.if-not-is_merging.true))
 
 pub returns-in_err-put_ok-clause-applies : goal.returns-in_err-put_ok-clause-applies
 returns-in_err-put_ok-clause-applies g c =
@@ -34,8 +36,17 @@ returns-clause-applies g c =
     applies_is _ _ _ _ _ _ _ _ c.end_answer.ensures
     (applies_seen _ _ _ _ _ _ _ _ _ _ _ c.self.view_is
     (applies _ _ _ _ _ _
-    (record { commit = refl; refused = refl; leaf = c.merge_end.ensures.stays.leaf; keeps = c.merge_end.ensures.kept; follows = c.merge_end.ensures.follows; brings = λ told. brings_written _ _ _ _ _ _ _ _ told c.merge_end.ensures.kept c.merge_end.ensures.follows (c.merge_end.ensures.canon told); faithful = c.merge_end.ensures.faithful })
-    (λ told i seen. does_end _ _ _ _ _ i c.merge_end.result _ _ seen some (λ e. both_ways (is_some c.self.inside.set.begun) (c.merge_end.ensures.not_begun.0 e) some)
+    (record {
+      commit = refl;
+      refused = refl;
+      leaf = c.merge_end.ensures.stays.leaf;
+      keeps = c.merge_end.ensures.kept;
+      follows = c.merge_end.ensures.follows;
+      brings = λ told. brings_written _ _ _ _ _ _ _ _ told c.merge_end.ensures.kept c.merge_end.ensures.follows (c.merge_end.ensures.canon told);
+      faithful = c.merge_end.ensures.faithful;
+    })
+    (λ told i seen.
+    does_end _ _ _ _ _ i c.merge_end.result _ _ seen some (λ e. both_ways (is_some c.self.inside.set.begun) (c.merge_end.ensures.not_begun.0 e) some)
     (c.merge_end.ensures.seen told i seen) (c.merge_end.ensures.refused told i seen) c.in_ok-put_ok.ensures.ok)
     (begins_with _ _ _ c.in_ok-put_ok.ensures.ok)
     (cause_end _ _ c.merge_end.result (λ e. both_ways (is_some c.self.inside.set.begun) (c.merge_end.ensures.not_begun.0 e) some) c.merge_end.ensures.cause)
@@ -53,7 +64,8 @@ returns-clause-leaves g c =
     let done = c.merge_end.ensures in
     let files = g.F.Pages.files c.merge_end.new.folder in
     subst (λ r. OnDone r (HasEnded g.row.D (IsTrue g.F.Pages.told) files c.args.self.now.set c.merge_end.new.self)) (sym c.end_answer.ensures)
-    (subst (λ (s : SessionData). OnDone (end_answer c.merge_end.result) (HasEnded g.row.D (IsTrue g.F.Pages.told) files s.set c.merge_end.new.self)) c.self.view_is
+    (subst (λ (s : SessionData). OnDone (end_answer c.merge_end.result) (HasEnded g.row.D (IsTrue g.F.Pages.told) files s.set c.merge_end.new.self))
+    c.self.view_is
     (end_leaves g.row.D (IsTrue g.F.Pages.told) files c.self.inside.set c.merge_end.new.self c.merge_end.result c.leaf-leaf.ensures.well
     done.ended done.parts done.replaced done.kept.more done.buffer done.canon))
 
@@ -79,7 +91,8 @@ returns-in_err-put_ok-clause-still g c =
 pub returns-clause-still : goal.returns-clause-still
 returns-clause-still g c =
     let some = sym c.is_merging.ensures ∙ c.if-not-is_merging.false in
-    answer_keeps _ _ _ c.end_answer.ensures (end_keeps _ c.merge_end.result (λ e. both_ways (is_some c.self.inside.set.begun) (c.merge_end.ensures.not_begun.0 e) some))
+    answer_keeps _ _ _ c.end_answer.ensures
+    (end_keeps _ c.merge_end.result (λ e. both_ways (is_some c.self.inside.set.begun) (c.merge_end.ensures.not_begun.0 e) some))
 
 pub returns-then-not-is_merging-clause-unread : goal.returns-then-not-is_merging-clause-unread
 returns-then-not-is_merging-clause-unread g c = refl
@@ -92,13 +105,18 @@ returns-in_err-put_ok-clause-unread g c =
 pub returns-clause-unread : goal.returns-clause-unread
 returns-clause-unread g c =
     let some = sym c.is_merging.ensures ∙ c.if-not-is_merging.false in
-    answer_keeps _ _ _ c.end_answer.ensures (end_keeps _ c.merge_end.result (λ e. both_ways (is_some c.self.inside.set.begun) (c.merge_end.ensures.not_begun.0 e) some))
+    answer_keeps _ _ _ c.end_answer.ensures
+    (end_keeps _ c.merge_end.result (λ e. both_ways (is_some c.self.inside.set.begun) (c.merge_end.ensures.not_begun.0 e) some))
 
 pub returns-then-not-is_merging-clause-barred : goal.returns-then-not-is_merging-clause-barred
 returns-then-not-is_merging-clause-barred g c none = refl
 
 pub returns-in_err-put_ok-clause-barred : goal.returns-in_err-put_ok-clause-barred
-returns-in_err-put_ok-clause-barred g c none = absurd (both_ways (is_some c.self.inside.set.begun) (ap (λ (u : SessionData). is_some u.set.begun) c.self.view_is ∙ ap is_some none) (sym c.is_merging.ensures ∙ c.if-not-is_merging.false))
+returns-in_err-put_ok-clause-barred g c none =
+    absurd (both_ways (is_some c.self.inside.set.begun) (ap (λ (u : SessionData). is_some u.set.begun) c.self.view_is ∙ ap is_some none)
+    (sym c.is_merging.ensures ∙ c.if-not-is_merging.false))
 
 pub returns-clause-barred : goal.returns-clause-barred
-returns-clause-barred g c none = absurd (both_ways (is_some c.self.inside.set.begun) (ap (λ (u : SessionData). is_some u.set.begun) c.self.view_is ∙ ap is_some none) (sym c.is_merging.ensures ∙ c.if-not-is_merging.false))
+returns-clause-barred g c none =
+    absurd (both_ways (is_some c.self.inside.set.begun) (ap (λ (u : SessionData). is_some u.set.begun) c.self.view_is ∙ ap is_some none)
+    (sym c.is_merging.ensures ∙ c.if-not-is_merging.false))

@@ -6,8 +6,9 @@ use Rattle.script_lang.specs.declared.faults.Refusal.TheVariants as why
 use Rattle.index_model.specs.declared.session.Applied.TheVariants as applied
 use Rattle.segment_set.specs.Sets.{SetData}
 use Rattle.segment_set.proofs.Carried.{follows_same}
-use Rattle.index_core.proofs.Answering.{applies, applies_memory, applies_refused, applies_seen, begins_with, calm_like, no_cause}
-use Rattle.index_core.proofs.Changing.{does_release, does_unnamed}
+use Rattle.index_core.proofs.Answering.{applies, applies_memory, applies_refused, applies_seen, begins_with, no_cause}
+use Rattle.index_core.proofs.CalmCalls.{calm_like}
+use Rattle.index_core.proofs.SnapshotChanges.{does_release, does_unnamed}
 use Rattle.segment_set.proofs.Sizes.{set_fits}
 use Rattle.index_core.specs.Sessions.{SessionData}
 use Rattle.segment_set.specs.Sets.{has_name}
@@ -20,7 +21,8 @@ use Rattle.index_core.proofs.session.Session.release.Goals as goal
 
 pub returns-then-not-has_snapshot-clause-applies : goal.returns-then-not-has_snapshot-clause-applies
 returns-then-not-has_snapshot-clause-applies g c files faults = applies_refused _ _ _ _ _ _ _ why.UnknownSnapshot
-    (λ i seen. does_unnamed _ _ _ i _ _ seen (ap (λ (u : SessionData). has_name c.args.name.now u.set.snapshots) (sym c.self.view_is) ∙ sym c.has_snapshot.ensures ∙ c.if-not-has_snapshot.true))
+    (λ i seen. does_unnamed _ _ _ i _ _ seen
+    (ap (λ (u : SessionData). has_name c.args.name.now u.set.snapshots) (sym c.self.view_is) ∙ sym c.has_snapshot.ensures ∙ c.if-not-has_snapshot.true))
 
 pub returns-in_err-put_ok-clause-applies : goal.returns-in_err-put_ok-clause-applies
 returns-in_err-put_ok-clause-applies g c files faults =
@@ -33,7 +35,8 @@ returns-clause-applies g c files faults = applies_seen _ _ _ _ _ _ _ _ _ _ _ c.s
     (calm_like _ _ _ _ _ _ _ _ _ _ _ _ (ap (λ (u : SetData). u.names) c.release.ensures.kept) (ap (λ (u : SetData). u.leaf) c.release.ensures.kept)
     (follows_same _ _ _ (ap (λ (u : SetData). u.parts) c.release.ensures.kept)) (λ told. refl)
     (λ told. brings_same _ _ _ _ _ refl (ap (λ (u : SetData). u.parts) c.release.ensures.kept)) (λ told. c.release.ensures.faithful files))
-    (λ told i seen. does_release _ _ _ _ i _ _ _ seen (sym c.has_snapshot.ensures ∙ c.if-not-has_snapshot.false) (c.release.ensures.seen files i seen) c.in_ok-put_ok.ensures.ok)
+    (λ told i seen. does_release _ _ _ _ i _ _ _ seen (sym c.has_snapshot.ensures ∙ c.if-not-has_snapshot.false) (c.release.ensures.seen files i seen)
+    c.in_ok-put_ok.ensures.ok)
     (begins_with _ _ _ c.in_ok-put_ok.ensures.ok) (no_cause faults applied.Done) (λ told i seen. tt) tt)
 
 pub has_snapshot-requires : goal.has_snapshot-requires

@@ -17,7 +17,10 @@ use Rattle.index_core.specs.Sessions.{AreTraced, Guards, IsCommitAnew, IsUnchang
 use Rattle.index_core.specs.Effects.{BringsCanonical}
 use Rattle.index_core.proofs.Bringing.{brings_anew, brings_then}
 use Rattle.index_core.specs.Steps.{SaysCommit}
-use Rattle.index_core.proofs.Answering.{applies_is, begins_itself, begins_same, begins_with, cause_then, does_done, does_fault, done_cause, fault_to, memory_cause}
+use Rattle.index_core.proofs.Answering.{applies_is, begins_itself, begins_same, begins_with}
+use Rattle.index_core.proofs.FaultCauses.{cause_then}
+use Rattle.index_core.proofs.Answering.{does_done, does_fault}
+use Rattle.index_core.proofs.FaultCauses.{done_cause, fault_to, memory_cause}
 use Rattle.segment_set.proofs.Sizes.{set_fits}
 use Rattle.index_core.proofs.Sizes.{session_fits}
 use Rattle.page_cache.specs.Evidence.{FaultShows}
@@ -60,43 +63,67 @@ pub returns-in_err-set-clause-applies : goal.returns-in_err-set-clause-applies
 returns-in_err-set-clause-applies g c =
     let p = err_from_is_err_and c.from_residual-in_err-set.result c.from_residual-in_err-set.ensures.1 in
     applies_is _ _ _ _ _ _ _ _ (p.1 ∙ ap (λ (e : PageFault). Err e) p.2) (record {
-      does = λ told i seen guards. does_fault _ _ _ i _ _ _ _ (subst (λ (f : Files). Sees g.row.D f c.commit.new.self.set i) (sym (c.attach_anew.ensures.files told)) (c.commit.ensures.seen told i seen));
+      does = λ told i seen guards.
+          does_fault _ _ _ i
+          _ _ _ _ (subst (λ (f : Files). Sees g.row.D f c.commit.new.self.set i) (sym (c.attach_anew.ensures.files told)) (c.commit.ensures.seen told i seen));
       begins = begins_itself _;
-      guards = λ told guards. subst (λ (f : Files). Guards g.row.D f c.commit.new.self) (sym (c.attach_anew.ensures.files told)) (c.commit.ensures.guards told guards);
-      kept = λ told guards. subst (λ (f : Files). SameKept (g.F.Pages.files c.args.folder.now) f ⊎ SaysCommit f c.commit.new.self.set.saved) (sym (c.attach_anew.ensures.files told)) (c.commit.ensures.flight told guards);
-      stored = λ told i seen guards e. inr (subst (λ (f : Files). IsStored f (Some (at_rest i))) (sym (c.attach_anew.ensures.files told)) (c.in_ok-commit.ensures.stored told i seen guards).0);
+      guards = λ told guards.
+          subst (λ (f : Files). Guards g.row.D f c.commit.new.self) (sym (c.attach_anew.ensures.files told)) (c.commit.ensures.guards told guards);
+      kept = λ told guards. subst (λ (f : Files). SameKept (g.F.Pages.files c.args.folder.now) f ⊎ SaysCommit f c.commit.new.self.set.saved)
+          (sym (c.attach_anew.ensures.files told)) (c.commit.ensures.flight told guards);
+      stored = λ told i seen guards e.
+          inr (subst (λ (f : Files). IsStored f (Some (at_rest i))) (sym (c.attach_anew.ensures.files told))
+          (c.in_ok-commit.ensures.stored told i seen guards).0);
       cause = fault_to _ _ c.in_err-set.field-0.0 (cause_then _ _ _ _ c.in_ok-commit.ensures.cause.fine c.in_err-set.ensures.cause);
-      whole = λ told i seen owed. let guards = owed refl in c.in_err-set.ensures.whole told c.in_ok-commit.ensures.committed.1 (c.commit.ensures.guards told guards) (Some (at_rest i)) (c.in_ok-commit.ensures.stored told i seen guards).0;
-      faithful = λ told faithful. subst (λ (f : Files). IsFaithful g.row.D f c.commit.new.self.set) (sym (c.attach_anew.ensures.files told)) (c.commit.ensures.faithful told faithful);
-      traced = λ told trusts. subst (λ (f : Files). AreTraced g.row.D f c.commit.new.self.set.parts) (sym (c.attach_anew.ensures.files told)) (c.commit.ensures.traced told trusts);
-      evident = on_evident_at {X = Unit {0}} IsTwice _ _ _ _ (Err c.in_err-set.field-0.0) (λ (told, trusts). (told, c.in_ok-commit.ensures.committed.1, c.commit.ensures.guards told trusts.guards))
+      whole = λ told i seen owed.
+          let guards = owed refl in
+          c.in_err-set.ensures.whole told c.in_ok-commit.ensures.committed.1 (c.commit.ensures.guards told guards) (Some (at_rest i))
+          (c.in_ok-commit.ensures.stored told i seen guards).0;
+      faithful = λ told faithful.
+          subst (λ (f : Files). IsFaithful g.row.D f c.commit.new.self.set) (sym (c.attach_anew.ensures.files told)) (c.commit.ensures.faithful told faithful);
+      traced = λ told trusts.
+          subst (λ (f : Files). AreTraced g.row.D f c.commit.new.self.set.parts) (sym (c.attach_anew.ensures.files told)) (c.commit.ensures.traced told trusts);
+      evident = on_evident_at {X = Unit {0}} IsTwice _ _ _ _ (Err c.in_err-set.field-0.0)
+          (λ (told, trusts). (told, c.in_ok-commit.ensures.committed.1, c.commit.ensures.guards told trusts.guards))
           (λ (told, trusts). c.attach_anew.ensures.files told) c.in_err-set.ensures.evident;
       idle = λ told e unchanged. c.attach_anew.ensures.files told ∙ (c.commit.ensures.idle unchanged).2;
       unchanged = λ e. tt;
       anew = λ e changed. tt;
       levels = λ e changed none. tt;
-      canon = λ told i seen guards. subst (λ (f : Files). BringsCanonical g.row.D (g.F.Pages.files c.args.folder.now) f c.args.self.now.set.parts c.commit.new.self.set.parts) (sym (c.attach_anew.ensures.files told)) (c.commit.ensures.canon told);
+      canon = λ told i seen guards.
+          subst (λ (f : Files). BringsCanonical g.row.D (g.F.Pages.files c.args.folder.now) f c.args.self.now.set.parts c.commit.new.self.set.parts)
+          (sym (c.attach_anew.ensures.files told)) (c.commit.ensures.canon told);
     })
 
 pub returns-in_err-put_ok-clause-applies : goal.returns-in_err-put_ok-clause-applies
 returns-in_err-put_ok-clause-applies g c =
     let p = err_from_is_err_and c.from_residual-in_err-put_ok.result c.from_residual-in_err-put_ok.ensures.1 in
     applies_is _ _ _ _ _ _ _ _ (p.1 ∙ ap (λ (e : PageFault). Err e) p.2) (record {
-      does = λ told i seen guards. does_fault _ _ _ i _ _ _ _ (subst (λ (f : Files). Sees g.row.D f c.commit.new.self.set i) (sym (c.attach_anew.ensures.files told)) (c.commit.ensures.seen told i seen));
+      does = λ told i seen guards.
+          does_fault _ _ _ i
+          _ _ _ _ (subst (λ (f : Files). Sees g.row.D f c.commit.new.self.set i) (sym (c.attach_anew.ensures.files told)) (c.commit.ensures.seen told i seen));
       begins = begins_same _ _ c.in_err-put_ok.ensures.memory;
-      guards = λ told guards. subst (λ (f : Files). Guards g.row.D f c.commit.new.self) (sym (c.attach_anew.ensures.files told)) (c.commit.ensures.guards told guards);
-      kept = λ told guards. subst (λ (f : Files). SameKept (g.F.Pages.files c.args.folder.now) f ⊎ SaysCommit f c.commit.new.self.set.saved) (sym (c.attach_anew.ensures.files told)) (c.commit.ensures.flight told guards);
-      stored = λ told i seen guards e. inr (subst (λ (f : Files). IsStored f (Some (at_rest i))) (sym (c.attach_anew.ensures.files told)) (c.in_ok-commit.ensures.stored told i seen guards).0);
+      guards = λ told guards.
+          subst (λ (f : Files). Guards g.row.D f c.commit.new.self) (sym (c.attach_anew.ensures.files told)) (c.commit.ensures.guards told guards);
+      kept = λ told guards. subst (λ (f : Files). SameKept (g.F.Pages.files c.args.folder.now) f ⊎ SaysCommit f c.commit.new.self.set.saved)
+          (sym (c.attach_anew.ensures.files told)) (c.commit.ensures.flight told guards);
+      stored = λ told i seen guards e.
+          inr (subst (λ (f : Files). IsStored f (Some (at_rest i))) (sym (c.attach_anew.ensures.files told))
+          (c.in_ok-commit.ensures.stored told i seen guards).0);
       cause = memory_cause _ _ (cause_then _ _ _ _ c.in_ok-commit.ensures.cause.fine c.attach_anew.ensures.cause).later;
       whole = λ told i seen guards. tt;
-      faithful = λ told faithful. subst (λ (f : Files). IsFaithful g.row.D f c.commit.new.self.set) (sym (c.attach_anew.ensures.files told)) (c.commit.ensures.faithful told faithful);
-      traced = λ told trusts. subst (λ (f : Files). AreTraced g.row.D f c.commit.new.self.set.parts) (sym (c.attach_anew.ensures.files told)) (c.commit.ensures.traced told trusts);
+      faithful = λ told faithful.
+          subst (λ (f : Files). IsFaithful g.row.D f c.commit.new.self.set) (sym (c.attach_anew.ensures.files told)) (c.commit.ensures.faithful told faithful);
+      traced = λ told trusts.
+          subst (λ (f : Files). AreTraced g.row.D f c.commit.new.self.set.parts) (sym (c.attach_anew.ensures.files told)) (c.commit.ensures.traced told trusts);
       evident = tt;
       idle = λ told e unchanged. c.attach_anew.ensures.files told ∙ (c.commit.ensures.idle unchanged).2;
       unchanged = λ e. tt;
       anew = λ e changed. tt;
       levels = λ e changed none. tt;
-      canon = λ told i seen guards. subst (λ (f : Files). BringsCanonical g.row.D (g.F.Pages.files c.args.folder.now) f c.args.self.now.set.parts c.commit.new.self.set.parts) (sym (c.attach_anew.ensures.files told)) (c.commit.ensures.canon told);
+      canon = λ told i seen guards.
+          subst (λ (f : Files). BringsCanonical g.row.D (g.F.Pages.files c.args.folder.now) f c.args.self.now.set.parts c.commit.new.self.set.parts)
+          (sym (c.attach_anew.ensures.files told)) (c.commit.ensures.canon told);
     })
 
 -- the set that took the place of the one of before
@@ -166,7 +193,8 @@ returns-clause-applies g c = record {
       c.args.self.now.set.parts u.parts) (sym (kept g c))
       (brings_then _ _ _ _ _ c.commit.new.self.set.parts _ (c.commit.ensures.canon told)
       (brings_anew _ _ c.commit.new.self.set c.in_ok-set.set i (at_rest i) (c.commit.ensures.seen told i seen)
-      (c.in_ok-set.ensures.seen told c.in_ok-commit.ensures.committed.1 (c.commit.ensures.guards told guards) (at_rest i) (c.in_ok-commit.ensures.stored told i seen guards).0)
+      (c.in_ok-set.ensures.seen told c.in_ok-commit.ensures.committed.1 (c.commit.ensures.guards told guards) (at_rest i)
+      (c.in_ok-commit.ensures.stored told i seen guards).0)
       ((c.in_ok-set.ensures.unchanged last.commit last.is).ids ∙ sym last.same.ids))));
 }
 
@@ -179,8 +207,10 @@ pub returns-in_err-set-clause-damage : goal.returns-in_err-set-clause-damage
 returns-in_err-set-clause-damage g c =
     let p = err_from_is_err_and c.from_residual-in_err-set.result c.from_residual-in_err-set.ensures.1 in
     let last = c.in_ok-commit.ensures.unchanged in
-    anew_attached _ _ _ _ _ _ last.commit _ c.in_err-set.field-0.0 (p.1 ∙ ap (λ (e : PageFault). Err e) p.2) last.is (c.in_err-set.ensures.shown last.commit last.is)
-    (λ told. subst (λ (f : Files). FaultShows (IsAttachDamageOf f last.commit) c.in_err-set.field-0.0) (sym (c.attach_anew.ensures.files told)) (c.in_err-set.ensures.damage told last.commit last.is))
+    anew_attached _ _ _ _ _ _ last.commit _ c.in_err-set.field-0.0 (p.1 ∙ ap (λ (e : PageFault). Err e) p.2) last.is
+    (c.in_err-set.ensures.shown last.commit last.is)
+    (λ told. subst (λ (f : Files). FaultShows (IsAttachDamageOf f last.commit) c.in_err-set.field-0.0) (sym (c.attach_anew.ensures.files told))
+    (c.in_err-set.ensures.damage told last.commit last.is))
 
 pub returns-in_err-put_ok-clause-damage : goal.returns-in_err-put_ok-clause-damage
 returns-in_err-put_ok-clause-damage g c =

@@ -6,8 +6,9 @@ use Rattle.std.proofs.Common.{◌≡◌, Result}
 use Rattle.script_lang.specs.Replies.{ok_text}
 use Rattle.index_model.specs.declared.session.Applied.{Applied}
 use Rattle.index_core.specs.Replies.{snap_answer, text_after}
-use Rattle.index_core.proofs.Answering.{applies, applies_is, applies_memory, applies_seen, begins_after, calm_snap, cause_snap, whole_snap}
-use Rattle.index_core.proofs.Changing.{does_snapshot}
+use Rattle.index_core.proofs.Answering.{applies, applies_is, applies_memory, applies_seen}
+use Rattle.index_core.proofs.CalmCalls.{begins_after, calm_snap, cause_snap, whole_snap}
+use Rattle.index_core.proofs.SnapshotChanges.{does_snapshot}
 use Rattle.segment_set.proofs.Sizes.{set_fits}
 use Rattle.std.proofs.Common.{sym, subst}
 use Rattle.page_cache.specs.Evidence.{NotDamaged}
@@ -31,9 +32,12 @@ returns-clause-applies g c files faults =
     ∙ ap (text_after (snap_answer c.snapshot.result) (length c.args.out.now.items)) c.in_ok-put_ok.ensures.ok in
     applies_is _ _ _ _ _ _ _ _ c.snap_answer-answer.ensures
     (applies_seen _ _ _ _ _ _ _ _ _ _ _ c.self.view_is
-    (applies _ _ _ _ _ _ (calm_snap _ _ _ _ _ _ c.snapshot.result _ _ _ _ _ c.snapshot.ensures.kept c.snapshot.ensures.refused (c.snapshot.ensures.faithful files))
-    (λ told i seen. does_snapshot _ _ _ _ i _ c.snapshot.result _ _ seen (c.snapshot.ensures.seen files i seen) c.snapshot.ensures.refused c.snapshot.ensures.taken c.snapshot.ensures.too_many grew)
-    (begins_after (snap_answer c.snapshot.result) _ ok_text _ grew) (cause_snap faults c.snapshot.result) (λ told i seen. whole_snap c.snapshot.result) (damage_none _ _ (whole_snap c.snapshot.result))))
+    (applies _ _ _ _ _ _ (calm_snap _ _ _ _ _ _ c.snapshot.result _ _ _ _ _ c.snapshot.ensures.kept c.snapshot.ensures.refused
+    (c.snapshot.ensures.faithful files))
+    (λ told i seen. does_snapshot _ _ _ _ i _ c.snapshot.result _ _ seen (c.snapshot.ensures.seen files i seen) c.snapshot.ensures.refused
+    c.snapshot.ensures.taken c.snapshot.ensures.too_many grew)
+    (begins_after (snap_answer c.snapshot.result) _ ok_text _ grew) (cause_snap faults c.snapshot.result) (λ told i seen. whole_snap c.snapshot.result)
+    (damage_none _ _ (whole_snap c.snapshot.result))))
 
 pub snapshot-requires : goal.snapshot-requires
 snapshot-requires g c = set_fits g.row.D c.self.invariant.few
@@ -53,7 +57,8 @@ returns-in_err-put_ok-clause-still g c files =
 
 pub returns-clause-still : goal.returns-clause-still
 returns-clause-still g c files = answer_keeps _ _ _ c.snap_answer-answer.ensures (snap_keeps _ c.snapshot.result
-    (err_each (λ same. still_seen _ _ _ _ _ _ c.self.view_is (record { set = still_set _ _ same; commit = refl; refused = refl; files = λ told. refl })) c.snapshot.result c.snapshot.ensures.refused))
+    (err_each (λ same. still_seen _ _ _ _ _ _ c.self.view_is (record { set = still_set _ _ same; commit = refl; refused = refl; files = λ told. refl }))
+    c.snapshot.result c.snapshot.ensures.refused))
 
 pub returns-in_err-put_ok-clause-light : goal.returns-in_err-put_ok-clause-light
 returns-in_err-put_ok-clause-light g c files = light_same _ _ _ _

@@ -37,7 +37,8 @@ done : (g : given.Over) (c : goal.Joined-sweep g) → c.self.inside.refused ≡ 
 done g c = ap (λ (u : SessionData). u.refused) c.self.view_is ∙ c.requires.written
 
 pub returns-clause-seen : goal.returns-clause-seen
-returns-clause-seen g c told i seen = c.sweep.ensures.seen told i (subst (λ (u : SessionData). Sees g.row.D (g.F.Pages.files c.args.folder.now) u.set i) (sym c.self.view_is) seen)
+returns-clause-seen g c told i seen =
+    c.sweep.ensures.seen told i (subst (λ (u : SessionData). Sees g.row.D (g.F.Pages.files c.args.folder.now) u.set i) (sym c.self.view_is) seen)
 
 pub returns-clause-alone : goal.returns-clause-alone
 returns-clause-alone g c = subst (λ (u : SessionData). StaysButFiles u.set c.sweep.new.self) c.self.view_is c.sweep.ensures.alone
@@ -65,7 +66,8 @@ pub returns-clause-unread : goal.returns-clause-unread
 returns-clause-unread g c = c.sweep.ensures.unread
 
 pub returns-clause-faithful : goal.returns-clause-faithful
-returns-clause-faithful g c told faithful = c.sweep.ensures.faithful told (subst (λ (u : SessionData). IsFaithful g.row.D (g.F.Pages.files c.args.folder.now) u.set) (sym c.self.view_is) faithful)
+returns-clause-faithful g c told faithful =
+    c.sweep.ensures.faithful told (subst (λ (u : SessionData). IsFaithful g.row.D (g.F.Pages.files c.args.folder.now) u.set) (sym c.self.view_is) faithful)
 
 pub returns-clause-traced : goal.returns-clause-traced
 returns-clause-traced g c told guards traced = session_traced _ _ _ (old g c) c.sweep.new.self c.in-Some.commit c.in-Some.is (done g c) (swept g c told)

@@ -3,7 +3,8 @@ use Rattle.std.proofs.Common.{refl, ap, ◌∙◌, inr}
 use Rattle.index_core.specs.Sessions.{SessionData}
 use Rattle.index_core.proofs.Guarding.{guards_done, guards_undone}
 use Rattle.index_core.proofs.Tracing.{traced_done}
-use Rattle.index_core.proofs.Committing.{faithful_done, kept_undone, seen_done, stores_done, stores_undone, which_says}
+use Rattle.index_core.proofs.Committing.{kept_undone, which_says}
+use Rattle.index_core.proofs.WrittenCommit.{faithful_done, seen_done, stores_done, stores_undone}
 use Rattle.segment_set.proofs.Sizes.{set_fits}
 use Rattle.index_core.proofs.session.Session.write.Goals as goal
 
@@ -11,7 +12,8 @@ pub returns-in-Ok-clause-seen : goal.returns-in-Ok-clause-seen
 returns-in-Ok-clause-seen g c told i seen = seen_done _ _ _ _ _ i c.self.view_is c.leaf-leaf.ensures.well (c.write_commit.ensures.others told) seen
 
 pub returns-in-Ok-clause-guards : goal.returns-in-Ok-clause-guards
-returns-in-Ok-clause-guards g c told guards lives = guards_done _ _ _ _ _ c.args.commit c.self.view_is c.requires.listed lives (c.write_commit.ensures.others told) (c.in-Ok.ensures.commit told)
+returns-in-Ok-clause-guards g c told guards lives =
+    guards_done _ _ _ _ _ c.args.commit c.self.view_is c.requires.listed lives (c.write_commit.ensures.others told) (c.in-Ok.ensures.commit told)
 
 pub returns-in-Ok-clause-kept : goal.returns-in-Ok-clause-kept
 returns-in-Ok-clause-kept g c told = (c.args.commit, refl, c.in-Ok.ensures.commit told)
@@ -24,15 +26,20 @@ pub returns-in-Err-clause-seen : goal.returns-in-Err-clause-seen
 returns-in-Err-clause-seen g c told i seen = seen_done _ _ _ _ _ i c.self.view_is c.leaf-leaf.ensures.well (c.write_commit.ensures.others told) seen
 
 pub returns-in-Err-clause-guards : goal.returns-in-Err-clause-guards
-returns-in-Err-clause-guards g c told guards lives = guards_undone _ (g.F.Pages.files c.args.folder.now) (g.F.Pages.files c.write_commit.new.folder) _ _ c.args.commit c.self.view_is c.requires.listed guards (which_says (g.F.Pages.files c.args.folder.now) (g.F.Pages.files c.write_commit.new.folder) c.args.commit (c.in-Err.ensures.kept told))
+returns-in-Err-clause-guards g c told guards lives =
+    guards_undone _ (g.F.Pages.files c.args.folder.now) (g.F.Pages.files c.write_commit.new.folder) _ _ c.args.commit c.self.view_is c.requires.listed guards
+    (which_says (g.F.Pages.files c.args.folder.now) (g.F.Pages.files c.write_commit.new.folder) c.args.commit (c.in-Err.ensures.kept told))
 
 pub returns-in-Err-clause-kept : goal.returns-in-Err-clause-kept
 returns-in-Err-clause-kept g c told =
-    kept_undone (g.F.Pages.files c.args.folder.now) (g.F.Pages.files c.write_commit.new.folder) c.args.commit _ (ap (λ (u : SessionData). u.set.saved) c.self.view_is ∙ c.requires.saved) (c.write_commit.ensures.others told) (which_says (g.F.Pages.files c.args.folder.now) (g.F.Pages.files c.write_commit.new.folder) c.args.commit (c.in-Err.ensures.kept told))
+    kept_undone (g.F.Pages.files c.args.folder.now) (g.F.Pages.files c.write_commit.new.folder) c.args.commit
+    _ (ap (λ (u : SessionData). u.set.saved) c.self.view_is ∙ c.requires.saved) (c.write_commit.ensures.others told)
+    (which_says (g.F.Pages.files c.args.folder.now) (g.F.Pages.files c.write_commit.new.folder) c.args.commit (c.in-Err.ensures.kept told))
 
 pub returns-in-Err-clause-stored : goal.returns-in-Err-clause-stored
 returns-in-Err-clause-stored g c told i promise =
-    stores_undone (g.F.Pages.files c.args.folder.now) (g.F.Pages.files c.write_commit.new.folder) c.args.commit i promise (c.write_commit.ensures.others told) (which_says (g.F.Pages.files c.args.folder.now) (g.F.Pages.files c.write_commit.new.folder) c.args.commit (c.in-Err.ensures.kept told))
+    stores_undone (g.F.Pages.files c.args.folder.now) (g.F.Pages.files c.write_commit.new.folder) c.args.commit i promise (c.write_commit.ensures.others told)
+    (which_says (g.F.Pages.files c.args.folder.now) (g.F.Pages.files c.write_commit.new.folder) c.args.commit (c.in-Err.ensures.kept told))
 
 pub returns-in-Ok-clause-others : goal.returns-in-Ok-clause-others
 returns-in-Ok-clause-others g c = c.write_commit.ensures.others
@@ -56,8 +63,11 @@ pub returns-in-Err-clause-faithful : goal.returns-in-Err-clause-faithful
 returns-in-Err-clause-faithful g c told faithful = faithful_done _ _ _ _ _ c.self.view_is (c.write_commit.ensures.others told) faithful
 
 pub returns-in-Ok-clause-traced : goal.returns-in-Ok-clause-traced
-returns-in-Ok-clause-traced g c told lives traced = traced_done _ _ _ _ _ c.args.commit c.self.view_is c.requires.listed lives (c.write_commit.ensures.others told) (inr (c.in-Ok.ensures.commit told)) traced
+returns-in-Ok-clause-traced g c told lives traced =
+    traced_done _ _ _ _ _ c.args.commit c.self.view_is c.requires.listed lives (c.write_commit.ensures.others told) (inr (c.in-Ok.ensures.commit told)) traced
 
 pub returns-in-Err-clause-traced : goal.returns-in-Err-clause-traced
-returns-in-Err-clause-traced g c told lives traced = traced_done _ (g.F.Pages.files c.args.folder.now) (g.F.Pages.files c.write_commit.new.folder) _ _ c.args.commit c.self.view_is c.requires.listed lives (c.write_commit.ensures.others told)
+returns-in-Err-clause-traced g c told lives traced =
+    traced_done _ (g.F.Pages.files c.args.folder.now) (g.F.Pages.files c.write_commit.new.folder) _ _ c.args.commit c.self.view_is c.requires.listed lives
+    (c.write_commit.ensures.others told)
     (which_says (g.F.Pages.files c.args.folder.now) (g.F.Pages.files c.write_commit.new.folder) c.args.commit (c.in-Err.ensures.kept told)) traced
