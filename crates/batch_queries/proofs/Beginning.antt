@@ -115,9 +115,9 @@ module _ (D : ℕ) (told : Type 0) (r : Resident D) where
     begins_done x y first begins leaves = record {
       begun = λ t o i h.
           let does = begun_is D b.files i b.session.set a.text b.text positions x (ap (λ (j : Index). j.begun) h.is)
-              (begins.does t i (o.seen i h) o.trusts.guards) in
+          (begins.does t i (o.seen i h) o.trusts.guards) in
           let has : HasBegun positions a.session.set b.session.set =
-              subst (λ (z : Applied). OnDone (Ok z) (HasBegun positions a.session.set b.session.set)) does.0 leaves in
+          subst (λ (z : Applied). OnDone (Ok z) (HasBegun positions a.session.set b.session.set)) does.0 leaves in
           record {
             seen = does.1;
             trusts = record {

@@ -270,7 +270,8 @@ none_told told out lines a b text refused r same is sent rose how =
 
 -- ---- what was sent
 
-pub sent_part : (text reply old new : List ℕ) (e : Stop) → reply ≡ text → IsErrOf {T = ℕ} (Err e) stop.SinkFault → IsCut reply old new e → WritesPart old new text
+pub sent_part : (text reply old new : List ℕ) (e : Stop) → reply ≡ text → IsErrOf {T = ℕ} (Err e) stop.SinkFault → IsCut reply old new e
+    → WritesPart old new text
 sent_part text reply old new e same only cut =
     let is : e ≡ stop.SinkFault = cc in
     subst (λ (w : List ℕ). WritesPart old new w) same (subst (IsCut reply old new) is cut)

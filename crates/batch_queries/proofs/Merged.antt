@@ -85,7 +85,7 @@ module _ (D : ℕ) (told out : Type 0) (r : Resident D) (lines : List (List ℕ)
       → MergesBatch told out trusts lines from (record { files = b.files; faults = b.faults; written = new; sink = now }) (status_of q)
   beside_cut y text refused q is begins texts part rises =
       subst (λ (w : Result ℕ Stop). MergesBatch told out trusts lines from (record { files = b.files; faults = b.faults; written = new; sink = now })
-          (status_of w)) (sym is) (record {
+      (status_of w)) (sym is) (record {
         done = λ d. d;
         ends = λ t o state h. an_index a.files o.index state o.stored h (λ s. CutsAll out (TellsBatch s) lines old new)
             (λ i stored. ends_cut out (Some i) lines text refused old new (texts o i stored) part);
@@ -189,7 +189,7 @@ module _ (D : ℕ) (told out : Type 0) (r : Resident D) (lines : List (List ℕ)
         ap (λ (ns : List ℕ). take merged_count ns) (o.unchanged.same.ids ∙ ap (λ (d : CommitData). map (λ (m : Listed). m.segment) d.listed) same)
         ∙ take-map (λ (m : Listed). m.segment) merged_count k.listed in
         among_from ids l.segment
-            (subst (λ (ns : List ℕ). Contains ns l.segment) (sym first) (in_map (λ (m : Listed). m.segment) (take merged_count k.listed) l inside))
+        (subst (λ (ns : List ℕ). Contains ns l.segment) (sym first) (in_map (λ (m : Listed). m.segment) (take merged_count k.listed) l inside))
 
     -- and the commit of now lists none of these
     none_listed : (i : Index) → IsMerged D ids i b c → (d : CommitData) → c.session.commit ≡ Some d → (id : ℕ) → ListsFile d (Segment id)

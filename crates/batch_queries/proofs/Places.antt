@@ -66,7 +66,7 @@ first_chosen n ids id few there =
     let left : List ℕ = filter p (each_once (below n)) in
     let inside : Contains left i =
     in_filter p (each_once (below n)) i (subst (λ (ns : List ℕ). Contains ns i) (sym (once_below n)) (in_below n i there_at.1))
-        (lt-ltb i (length ids) there_at.2) in
+    (lt-ltb i (length ids) there_at.2) in
     let short : length left ≤ 64 = omega (arith, fewer p (each_once (below n)), ap length (once_below n), length_below n, few) in
     among_from (chosen_ids (below n) ids) id
     (subst (λ m. Contains (chosen_ids (below n) ids) m) there_at.3

@@ -66,7 +66,7 @@ inputs_named : (D : ℕ) (s : SetData) → IsWell D s → (b : BegunMerge) → s
     → is_named s.names.names (Segment id) ≡ true
 inputs_named D s well b is id there =
     let among = All-contains (λ n. is_among (ids_of s.parts) n ≡ true) b.inputs id
-        (subst (λ o. All (λ n. is_among (ids_of s.parts) n ≡ true) (inputs_of o)) is well.inputs) there in
+    (subst (λ o. All (λ n. is_among (ids_of s.parts) n ≡ true) (inputs_of o)) is well.inputs) there in
     ids_named s.names s.parts well.named id (among_to (ids_of s.parts) id among)
 
 pub end_leaves : {T : Type 0} (D : ℕ) (told : Type 0) (files : Files) (s t : SetData) (r : Result T EndFault) → IsWell D s → OnOk r (t.begun ≡ None)

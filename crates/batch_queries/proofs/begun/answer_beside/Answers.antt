@@ -15,9 +15,16 @@ use Rattle.batch_queries.proofs.Sizes.{query_fits}
 use Rattle.batch_queries.proofs.begun.answer_beside.Goals as goal
 
 pub beside-replies-requires-after_bounds : goal.beside-replies-requires-after_bounds
-beside-replies-requires-after_bounds g c κs = λ _.
-    (lit< tt, (query_fits g.row.D c.requires.few, (session_fits g.row.D c.requires.few,
-    (c.requires.few, subst (λ (qs : List (Query g.row.D)). All (IsInRange g.row.D) qs) (sym c.as_slice.ensures.value) c.in_ok-queries.ensures.range))))
+beside-replies-requires-after_bounds g c κs = λ _. (
+  lit< tt,
+  (
+    query_fits g.row.D c.requires.few,
+    (
+      session_fits g.row.D c.requires.few,
+      (c.requires.few, subst (λ (qs : List (Query g.row.D)). All (IsInRange g.row.D) qs) (sym c.as_slice.ensures.value) c.in_ok-queries.ensures.range),
+    ),
+  ),
+)
 
 pub drop-queries-requires-room-T-Destruct : goal.drop-queries-requires-room-T-Destruct
 drop-queries-requires-room-T-Destruct g c κs = query_fits g.row.D c.requires.few
@@ -47,7 +54,8 @@ returns-in_err-which-clause-begins g c =
 pub returns-in_err-begun-clause-begins : goal.returns-in_err-begun-clause-begins
 returns-in_err-begun-clause-begins g c =
     let p = err_from_is_err_and c.from_residual-in_err-begun.result c.from_residual-in_err-begun.ensures.1 in
-    begins_fault g.row.D _ c.args.resident.now _ _ _ c.in_err-begun.field-0.0 _ (p.1 ∙ ap (λ (e : PageFault). Err e) p.2) (rw c.in_err-begun.was at c.beside-replies.ensures.begins)
+    begins_fault g.row.D _ c.args.resident.now _ _ _ c.in_err-begun.field-0.0 _ (p.1 ∙ ap (λ (e : PageFault). Err e) p.2)
+    (rw c.in_err-begun.was at c.beside-replies.ensures.begins)
 
 pub returns-in_err-replies-clause-begins : goal.returns-in_err-replies-clause-begins
 returns-in_err-replies-clause-begins g c =
@@ -61,7 +69,8 @@ returns-in_err-tell_all-clause-begins g c =
 
 pub tell_all-requires : goal.tell_all-requires
 tell_all-requires g c =
-    let said : AreReplies c.args.resident.now c.as_slice.result.now c.in_ok-replies.replies.items = rw c.in_ok-replies.was at c.beside-replies.ensures.replies in
+    let said : AreReplies c.args.resident.now c.as_slice.result.now c.in_ok-replies.replies.items =
+    rw c.in_ok-replies.was at c.beside-replies.ensures.replies in
     record {
       some = c.requires.some;
       few = c.requires.few;
@@ -73,7 +82,8 @@ tell_all-requires g c =
 pub returns-clause-text : goal.returns-clause-text
 returns-clause-text g c = λ o i h.
     let D = g.row.D in
-    let said : AreReplies c.args.resident.now c.as_slice.result.now c.in_ok-replies.replies.items = rw c.in_ok-replies.was at c.beside-replies.ensures.replies in
+    let said : AreReplies c.args.resident.now c.as_slice.result.now c.in_ok-replies.replies.items =
+    rw c.in_ok-replies.was at c.beside-replies.ensures.replies in
     c.in_ok-tell_all.ensures i (o.seen i h).dims
     (replies_told D i c.in_ok-queries.queries.items c.as_slice-2.result.now (flat_map (asked_in D) (lines_of c.args.lines.now)) (o.seen i h).dims
     (c.as_slice-2.ensures.value

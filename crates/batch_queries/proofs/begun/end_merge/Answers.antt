@@ -24,7 +24,8 @@ returns g c = λ ids i.
     (record {
       seen = c.commit.ensures.seen;
       guards = c.commit.ensures.guards;
-      says = λ told guards. says_done (g.F.Pages.files c.apply.new.folder) (g.F.Pages.files c.commit.new.folder) c.commit.new.self c.commit.result (c.commit.ensures.kept told guards);
+      says = λ told guards. says_done (g.F.Pages.files c.apply.new.folder) (g.F.Pages.files c.commit.new.folder) c.commit.new.self c.commit.result
+          (c.commit.ensures.kept told guards);
       stored = c.commit.ensures.stored;
       unchanged = c.commit.ensures.unchanged;
       few = c.commit.ensures.few;

@@ -29,7 +29,7 @@ returns-in_err-resident g c =
     let e = c.in_err-resident.ensures in
     stopped (IsTrue g.F.Pages.told) _ (IsCommitIn old c.args.commit) _ _ _ c.in_err-resident.field-0.0 _ (p.1 ∙ ap (λ (s : Stop). Err s) p.2)
     (λ told says. kept_equal _ _ (e.files told))
-        (λ told says state stored. none_undefined {T = ℕ} old (Err c.in_err-resident.field-0.0) state stored (e.undefined told says)) e.cause
+    (λ told says state stored. none_undefined {T = ℕ} old (Err c.in_err-resident.field-0.0) state stored (e.undefined told says)) e.cause
     (on_evident_at {X = ℕ} IsTwice _ _ old _ (Err c.in_err-resident.field-0.0) (λ h. h) (λ h. e.files h.0) e.evident) refl
 
 pub returns-in_err-session : goal.returns-in_err-session

@@ -20,7 +20,8 @@ returns-in_err-read_commit g c =
     let e = c.in_err-read_commit.ensures in
     stopped (IsTrue g.F.Pages.told) _ _ _ _ _ c.in_err-read_commit.field-0.0 _ (p.1 ∙ ap (λ (s : Stop). Err s) p.2)
     (λ told h. kept_equal old new (e.files told)) (λ told h state stored. state_undamaged old state stored (e.absent told) (e.whole told)) e.cause
-    (on_evident_at {X = ℕ} IsTwice (IsTrue g.F.Pages.told) (IsTrue g.F.Pages.told × Unit {0}) old new (Err c.in_err-read_commit.field-0.0) (λ h. h.0) (λ h. e.files h.0)
+    (on_evident_at {X = ℕ} IsTwice (IsTrue g.F.Pages.told) (IsTrue g.F.Pages.told × Unit {0}) old new (Err c.in_err-read_commit.field-0.0) (λ h. h.0)
+    (λ h. e.files h.0)
     (on_commit_evident {X = ℕ} (IsTrue g.F.Pages.told) old (Err c.in_err-read_commit.field-0.0) e.damage e.shown)) refl
 
 pub returns-in-None : goal.returns-in-None
@@ -33,5 +34,5 @@ pub returns-in-Some : goal.returns-in-Some
 returns-in-Some g c =
     merges_after (IsTrue g.F.Pages.told) _ (Unit {0}) _ _ _ _ _ _ _ c.in_ok-read_commit.ensures.files refl refl c.in_ok-read_commit.ensures.cause
     (λ told h. subst (λ (f : Files). IsCommitIn f c.in-Some.commit) (sym (c.in_ok-read_commit.ensures.files told))
-        (rw c.in-Some.is at (c.in_ok-read_commit.ensures.found told)))
+    (rw c.in-Some.is at (c.in_ok-read_commit.ensures.found told)))
     c.merge_listed.ensures

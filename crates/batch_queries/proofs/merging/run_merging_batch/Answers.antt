@@ -8,7 +8,8 @@ use Rattle.batch_queries.proofs.MergeCalls.{all_evident, status_is}
 use Rattle.batch_queries.proofs.merging.run_merging_batch.Goals as goal
 
 pub returns-in-Ok-clause-never_usage : goal.returns-in-Ok-clause-never_usage
-returns-in-Ok-clause-never_usage g c = λ e. (status_is _ _ _ _ _ _ c.merge_stored.result _ c.status_of.ensures c.merge_stored.ensures).done (subst DoesNothing (sym e) tt)
+returns-in-Ok-clause-never_usage g c =
+    λ e. (status_is _ _ _ _ _ _ c.merge_stored.result _ c.status_of.ensures c.merge_stored.ensures).done (subst DoesNothing (sym e) tt)
 
 pub returns-in-Ok-clause-ends : goal.returns-in-Ok-clause-ends
 returns-in-Ok-clause-ends g c = λ source told state h.
@@ -22,7 +23,8 @@ pub returns-in-Ok-clause-untouched : goal.returns-in-Ok-clause-untouched
 returns-in-Ok-clause-untouched g c = λ d. absurd ((status_is _ _ _ _ _ _ c.merge_stored.result _ c.status_of.ensures c.merge_stored.ensures).done d)
 
 pub returns-in-Ok-clause-whole : goal.returns-in-Ok-clause-whole
-returns-in-Ok-clause-whole g c = λ told state h. (status_is _ _ _ _ _ _ c.merge_stored.result _ c.status_of.ensures c.merge_stored.ensures).whole told tt state h
+returns-in-Ok-clause-whole g c =
+    λ told state h. (status_is _ _ _ _ _ _ c.merge_stored.result _ c.status_of.ensures c.merge_stored.ensures).whole told tt state h
 
 pub returns-in-Ok-clause-evident : goal.returns-in-Ok-clause-evident
 returns-in-Ok-clause-evident g c = all_evident _ _ _ (status_is _ _ _ _ _ _ c.merge_stored.result _ c.status_of.ensures c.merge_stored.ensures).evident

@@ -12,7 +12,7 @@ pub returns-in_err-text : goal.returns-in_err-text
 returns-in_err-text g c = λ told files faults.
     let p = err_from_is_err_and c.from_residual.result c.from_residual.ensures.1 in
     stopped {T = Unit {0}} (IsTrue told) _ _ _ _ _ page.Memory _ (p.1 ∙ ap (λ (e : Stop). Err e) p.2) (λ t none. kept_itself files) (λ t none state h. tt)
-        (page_memory faults) tt refl
+    (page_memory faults) tt refl
 
 pub returns : goal.returns
 returns g c = λ told files faults.
