@@ -10,7 +10,7 @@ returns-in-Some c =
     let found = found_of c.args.matches.now in
     let first : first_of c.args.name.now (rows_of found) ≡ Some c.in-Some.text.now =
     sym (first_value-rows found c.args.name.now) ∙ (sym c.get_str.ensures ∙ ap (option_map (λ s. s.now)) c.in-Some.is) in
-    sym (ap is_true first)
+    c.eq.ensures ∙ sym (ap is_true first)
 
 pub returns-in-None : goal.returns-in-None
 returns-in-None c =
