@@ -24,7 +24,8 @@ use std::thread::Threads;
 use std::{env, io};
 
 /// What there is to do.
-const COMMANDS: &str = "csv, rings, leaves, pages, build, partition, walk or near, with their words";
+const COMMANDS: &str =
+    "csv, rings, leaves, pages, build, partition, walk or near, with their words";
 
 fn main(rt: HostRuntime) -> io::Result<()> {
     let mut words = Vec::new(rt.alloc());
