@@ -21,7 +21,7 @@ sys.dont_write_bytecode = True
 from wrap import imports
 
 ROOT = os.path.join(os.path.dirname(os.path.abspath(__file__)), "..")
-RATTLE = os.environ.get("RATTLE", "/opt/rattle/bin/rattle")
+RATTLE = os.environ.get("RATTLE", "rattle")
 COLUMNS, FILE_LINES, PASSES = 160, 300, 60
 CLOSED_BY = {"(": ")", "[": "]", "{": "}"}
 # signs by how loosely they bind
