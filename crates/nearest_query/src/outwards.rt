@@ -30,7 +30,7 @@ pub fn offer_above<const D: usize>(
         → OnOk result (AreAdded seen (nears_of at.now.c (live_items live.now (drop place view.now))) found.new) }
 {
     for i in place..view.count() {
-        if is_beyond(view, at, d, i, found) {
+        if is_beyond(view, live, at, d, i, found) {
             return Ok(());
         }
         offer_entry(view, live, at, i, found)?;
@@ -53,7 +53,7 @@ pub fn offer_below<const D: usize>(
         → OnOk result (AreAdded seen (nears_of at.now.c (live_items live.now (take place view.now))) found.new) }
 {
     for i in (0..place).rev() {
-        if is_beyond(view, at, d, i, found) {
+        if is_beyond(view, live, at, d, i, found) {
             return Ok(());
         }
         offer_entry(view, live, at, i, found)?;
@@ -61,9 +61,11 @@ pub fn offer_below<const D: usize>(
     Ok(())
 }
 
-/// Whether the places are taken by what is nearer than entry `i` is in dimension `d` alone.
+/// Whether the places are taken by what is nearer than entry `i` is in dimension `d` alone. A dead entry isn't asked how
+/// far it is.
 fn is_beyond<const D: usize>(
     view: &LeafView<'_, D>,
+    live: &LiveBits,
     at: &Point<D>,
     d: usize,
     i: u16,
@@ -74,6 +76,9 @@ fn is_beyond<const D: usize>(
     ensures { IsTrue result → (x : Item) → slice_get view.now i ≡ Some x → (seen : List Near) → AreBest seen found.now
         → AreNearer (gap2 d at.now.c x) found.now }
 {
+    if !live.is_live(view.doc(i)) {
+        return false;
+    }
     let gap = squared_gap(&view.coordinate(i, d), &at.c[d]);
     found.ends_before(u128::from(gap))
 }
