@@ -46,9 +46,10 @@ LeavesNoText (status.SomeRefused count) = ⊥
 abbrev pub StoresSome : Files → Type 0
 StoresSome files = (state : State) × IsStored files state
 
--- unless the files store a state nothing goes out
-abbrev pub WritesStored : Files → (old new : List ℕ) → Type 0
-WritesStored files old new = StoresSome files ⊎ (new ≡ old)
+-- unless the files store a state nothing goes out, and no list of queries is answered
+pub record TellsStored (files : Files) (old new : List ℕ) (s : Status) : Type 0 where
+  pub unwritten : StoresSome files ⊎ (new ≡ old)
+  pub answered : (LeavesNoText s → ⊥) → StoresSome files
 
 -- the pages of the Commit file and of the files that it lists were read once at most
 abbrev pub ReadsOnce : Files → (before now : ℕ) → Type 0

@@ -60,10 +60,10 @@ pub returns-in-Err-Memory-clause-ends : goal.returns-in-Err-Memory-clause-ends
 returns-in-Err-Memory-clause-ends g c = λ source told state h. inl (λ out. refl)
 
 pub returns-in-Err-Failed-clause-stored : goal.returns-in-Err-Failed-clause-stored
-returns-in-Err-Failed-clause-stored g c = λ told. inr refl
+returns-in-Err-Failed-clause-stored g c = λ told. record { unwritten = inr refl; answered = λ tells. absurd (tells tt) }
 
 pub returns-in-Err-TooLarge-clause-stored : goal.returns-in-Err-TooLarge-clause-stored
-returns-in-Err-TooLarge-clause-stored g c = λ told. inr refl
+returns-in-Err-TooLarge-clause-stored g c = λ told. record { unwritten = inr refl; answered = λ tells. absurd (tells tt) }
 
 pub returns-in-Err-Memory-clause-stored : goal.returns-in-Err-Memory-clause-stored
-returns-in-Err-Memory-clause-stored g c = λ told. inr refl
+returns-in-Err-Memory-clause-stored g c = λ told. record { unwritten = inr refl; answered = λ tells. absurd (tells tt) }
