@@ -5,7 +5,9 @@ use Rattle.std.specs.Prelude.{All, IsSomeAnd, slice_get, FitsSigned}
 use Rattle.std.specs.Int.{w32}
 use mir.Val.{to_z, of_z}
 use Rattle.std.specs.List.Sorted.{IsStrictlySortedBy}
+use Rattle.std.specs.Ordering.{ord_min, nat_cmp}
 use Rattle.std.specs.declared.cmp.Ordering.TheVariants.{Less}
+use Rattle.std.proofs.lemmas.Bool.Decides.{nat_tests}
 use Rattle.std.proofs.lemmas.Int.{ints, to_z-of_z}
 use Rattle.std.proofs.lemmas.List.{get_or-map, get_or-take, get_or-drop, length-take-le, length-drop}
 use Rattle.std.proofs.lemmas.List.Elements.{All-from_recursion}
@@ -102,3 +104,7 @@ all_fit D n d numbers r items h lt is k e under =
     ap (coordinate d) (ap (λ (t : List Item). get_or t k e) (sym is) ∙ get_or-raw_items D n k numbers r e here ∙ raw_item_is D k numbers r)
     ∙ get_or-point_at D k d r (pos 0) lt in
     subst (FitsSigned w32) (sym same) (coordinate-fits (key_at D r k d) (length-key_at D n r k d h here lt) (AreBytes-key_at D n r k d h here))
+
+-- the lesser of two numbers
+pub min_within : (a b : ℕ) → ord_min nat_cmp a b ≤ b
+min_within a b = grind (arith, nat_tests)

@@ -7,6 +7,7 @@
 mod byte_set;
 mod dimensions;
 mod encode;
+mod guess;
 mod in_order;
 mod keys;
 mod laws;

@@ -17,6 +17,7 @@ ghost use Rattle.leaf_codec.specs.Views.{raw_numbers_of, raw_keys_of};
 
 use crate::byte_set::ByteSet;
 use crate::dimensions::narrowest;
+use crate::guess::guess;
 use crate::in_order::{are_in_order, leading};
 use crate::read_numbers::Numbers;
 use crate::read_parts::{Parts, Slots};
@@ -132,8 +133,8 @@ impl<'a, const D: usize> LeafView<'a, D> {
         self.slots.coordinate(&self.parts, i as usize, d)
     }
 
-    /// How many entries have a coordinate below `x` in dimension `d`, along which the coordinates ascend. It looks by
-    /// halves, so at few of them.
+    /// How many entries have a coordinate below `x` in dimension `d`, along which the coordinates ascend. It looks near
+    /// a guess, and then by halves, so at few of them.
     pub fn count_below(&self, d: usize, x: &i32) -> u16
         requires dimension { d < D }
         requires ascends { AscendIn d self.now }
@@ -143,6 +144,17 @@ impl<'a, const D: usize> LeafView<'a, D> {
     {
         let mut from = 0;
         let mut end = self.count();
+        let mut at = guess(&self.parts, &self.slots, d, x);
+        let mut step = 8;
+        while at < end {
+            if self.coordinate(at, d) < *x {
+                from = at + 1;
+                at = from + step.min(end - from);
+                step = 256.min(2 * step);
+            } else {
+                end = at;
+            }
+        }
         while from < end {
             let half = from + (end - from) / 2;
             if self.coordinate(half, d) < *x {
