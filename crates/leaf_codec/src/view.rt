@@ -196,7 +196,7 @@ fn has_these_dimensions<const D: usize>(parts: &Parts) -> bool
     if parts.sorted == D {
         return true;
     }
-    let least = count_rising(&parts.table[..parts.count]);
+    let least = count_rising(&parts.table[..parts.count]) as usize;
     if least < 2 {
         return false;
     }
@@ -251,15 +251,16 @@ fn takes_values(bytes: &[u8], start: usize, stride: usize, count: usize, need: u
 }
 
 /// How many different values bytes take that never fall: each that isn't the one before is one more.
-fn count_rising(bytes: &[u8]) -> usize
+fn count_rising(bytes: &[u8]) -> u16
     requires some { 1 ≤ length bytes.now }
+    requires few { length bytes.now ≤ 500 }
     requires rises { NeverFall bytes.now }
     ensures value { result ≡ count_values (λ v. list_any (λ b. b == v) bytes.now) }
     ensures few { result ≤ length bytes.now }
 {
-    let mut count = 1;
+    let mut count = 1u16;
     for i in 1..bytes.len() {
-        count += usize::from(bytes[i] != bytes[i - 1]);
+        count += u16::from(bytes[i] != bytes[i - 1]);
     }
     count
 }

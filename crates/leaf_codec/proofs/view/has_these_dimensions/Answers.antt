@@ -15,6 +15,7 @@ count_rising-least-requires g c =
     let h = c.requires.parts in
     record {
       some = omega (arith, h.raw.counted, c.requires.some);
+      few = omega (arith, h.raw.counted, h.few);
       rises = c.requires.rises (sorted_lt g.row.D c.args.parts.now h c.if-parts.false);
     }
 
