@@ -1,5 +1,5 @@
 -- The sorted bytes of entries in leaf order never fall.
-use Rattle.std.proofs.Common.{◌≡◌, ◌<◌, ◌≤◌, ◌+◌, ◌-◌, ◌*◌, ◌^◌, ℕ, Bool, List, length, get_or, take, drop, refl, sym, ap, subst, ◌∙◌, arith}
+use Rattle.std.proofs.Common.{◌≡◌, ◌<◌, ◌≤◌, ◌+◌, ◌-◌, ◌*◌, ◌^◌, ℕ, Bool, List, get_or, take, drop, refl, ap, subst, ◌∙◌, arith}
 use Rattle.std.proofs.Common.{cond, eqb, ltb, inl, inr, mul-le-mul_right}
 use Rattle.std.proofs.lemmas.Bool.{cases_lt, eq-eqb, lt-ltb, cond-true}
 use Rattle.std.proofs.lemmas.List.Elements.{All-take, All-drop}

@@ -1,4 +1,4 @@
-use Rattle.std.proofs.Common.{◌≡◌, ◌≢◌, ◌<◌, ◌≤◌, ◌+◌, ◌*◌, ℕ, refl, sym, subst, ◌∙◌, arith, rules, inl, inr, true≢false}
+use Rattle.std.proofs.Common.{◌≢◌, ◌<◌, ℕ, refl, sym, subst, ◌∙◌, arith, inl, inr, true≢false}
 use Rattle.std.proofs.lemmas.Bool.{cases_eq}
 use Rattle.leaf_codec.specs.declared.read_parts.Parts.{Parts}
 use Rattle.leaf_codec.specs.Raw.{raw_items, gap_of}

@@ -1,8 +1,6 @@
 use Rattle.std.proofs.Common.{◌≡◌, ◌<◌, ◌≤◌, ◌+◌, ◌*◌, ℕ, cond, ltb, sym, ap, ◌∙◌, arith, get_or, eqb, refl}
 use Rattle.std.specs.List.{range_with_len, list_any}
-use Rattle.leaf_codec.specs.Dimensions.{count_values, different}
-use Rattle.leaf_codec.specs.Raw.{raw_items}
-use Rattle.leaf_codec.specs.Views.{raw_keys_of}
+use Rattle.leaf_codec.specs.Dimensions.{count_values}
 use Rattle.leaf_codec.proofs.NewValues.{flag_is}
 use Rattle.leaf_codec.proofs.SpreadLemmas.{spread_other, place_within}
 use Rattle.leaf_codec.proofs.view.is_wide.Goals as goal

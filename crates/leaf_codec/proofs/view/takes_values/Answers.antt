@@ -1,6 +1,5 @@
-use Rattle.std.proofs.Common.{◌≡◌, ◌<◌, ◌+◌, ◌*◌, ℕ, Bool, not, cond, get_or, map, false, refl, sym, ap, ◌∙◌, arith, rules, true≢false}
+use Rattle.std.proofs.Common.{◌≡◌, ◌<◌, ◌+◌, ◌*◌, ℕ, Bool, not, cond, get_or, refl, sym, ap, ◌∙◌, arith, rules, true≢false}
 use Rattle.std.specs.List.{range_with_len}
-use Rattle.leaf_codec.specs.Dimensions.{count_values}
 use Rattle.leaf_codec.proofs.CanonicalNumbers.{AreBytes-from as small}
 use Rattle.leaf_codec.proofs.NewValues.{flag_le, firsts, firsts_more, firsts_values, values_of, values_none, values_grow}
 use Rattle.leaf_codec.proofs.SeenBytes.{seen_none, seen_more, has_value, values-map}
