@@ -24,11 +24,11 @@ pub values_agree : (p q : ℕ → Bool) → ((i : ℕ) → i < 256 → p i ≡ q
 unfolding count_values
 values_agree p q h = count_agree p q 0 256 (λ i low high. h i high)
 
-count-cons : (p : ℕ → Bool) (a n : ℕ) → count_by p (range_with_len a (suc n)) ≡ cond (p a) 1 0 + count_by p (range_with_len (a + 1) n)
+pub count-cons : (p : ℕ → Bool) (a n : ℕ) → count_by p (range_with_len a (suc n)) ≡ cond (p a) 1 0 + count_by p (range_with_len (a + 1) n)
 count-cons p a n = sum_by-cons (λ i. cond (p i) 1 0) a (range_with_len (a + 1) n)
 
 -- nothing passes
-count_none : (p : ℕ → Bool) (a n : ℕ) → ((i : ℕ) → a ≤ i → i < a + n → p i ≡ false) → count_by p (range_with_len a n) ≡ 0
+pub count_none : (p : ℕ → Bool) (a n : ℕ) → ((i : ℕ) → a ≤ i → i < a + n → p i ≡ false) → count_by p (range_with_len a n) ≡ 0
 count_none p a zero h = refl
 count_none p a (suc n) h =
     count-cons p a n

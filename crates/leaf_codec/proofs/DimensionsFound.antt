@@ -58,14 +58,15 @@ lengths_found D n numbers r h wide =
     get_or_default (lengths_of D items) d e 0 low ∙ get_or-lengths D d items under ∙ prefix_found D n d numbers r h under (wide d under)
     ∙ get_or_default r.lengths d 0 e (omega (arith, under, h.dims)))
 
-pub sorted_found_in : (D n : ℕ) (numbers : RawNumbers) (r : RawKeys) (spreads : List ℕ) → AreRawKeys D n r → lengths_of D (raw_items D n numbers r) ≡ r.lengths
-    → ((d : ℕ) → d < D → get_or r.lengths d 0 < 4 → get_or spreads d 0 ≡ different d (get_or r.lengths d 0) (raw_items D n numbers r))
-    → unwrap_or (narrowest D (λ d. ltb (get_or r.lengths d 0) 4) (λ d. get_or spreads d 0)) D ≡ unwrap_or (sorted_dimension D (raw_items D n numbers r)) D
+-- the sorted dimension, by the spreads behind the prefixes that are said
+pub sorted_found_in : (D n : ℕ) (numbers : RawNumbers) (r : RawKeys) → lengths_of D (raw_items D n numbers r) ≡ r.lengths
+    → unwrap_or (narrowest D (λ d. ltb (get_or r.lengths d 0) 4) (λ d. different d (get_or r.lengths d 0) (raw_items D n numbers r))) D
+    ≡ unwrap_or (sorted_dimension D (raw_items D n numbers r)) D
 unfolding sorted_dimension
-sorted_found_in D n numbers r spreads h lengths same =
+sorted_found_in D n numbers r lengths =
     let items = raw_items D n numbers r in
     let length_is : (d : ℕ) → d < D → get_or r.lengths d 0 ≡ shared_prefix d items = λ d lt.
     ap (λ (t : List ℕ). get_or t d 0) (sym lengths) ∙ get_or-lengths D d items lt in
-    ap (λ (o : Option ℕ). unwrap_or o D) (narrowest_agree D (λ d. ltb (get_or r.lengths d 0) 4) (varies items) (λ d. get_or spreads d 0) (spread items)
-    (λ d lt. ap (λ m. ltb m 4) (length_is d lt))
-    (λ d lt moves. same d lt (ltb-true (get_or r.lengths d 0) 4 moves) ∙ ap (λ m. different d m items) (length_is d lt)))
+    ap (λ (o : Option ℕ). unwrap_or o D)
+    (narrowest_agree D (λ d. ltb (get_or r.lengths d 0) 4) (varies items) (λ d. different d (get_or r.lengths d 0) items) (spread items)
+    (λ d lt. ap (λ m. ltb m 4) (length_is d lt)) (λ d lt moves. ap (λ m. different d m items) (length_is d lt)))

@@ -28,7 +28,11 @@ pub mod ItemsDecoded
 pub mod ViewLemmas
 pub mod SpreadLemmas
 pub mod DimensionsFound
+pub mod WideDimensions
 pub mod ReadLeaf
 pub mod OrderedKeys
 pub mod Apart
+pub mod NewValues
+pub mod SortedRise
+pub mod NarrowestOf
 pub mod Ascending

@@ -16,7 +16,7 @@ pub count_values-le : (p : ℕ → Bool) → count_values p ≤ 256
 unfolding count_values
 count_values-le p = omega (arith, count_by-le-length p (range_with_len 0 256), length-range_with_len 0 256)
 
-ends : (D : ℕ) (v : ℕ → Bool) (s : ℕ → ℕ) → ((e : ℕ) → s e ≤ 256) → (n : ℕ) → n ≤ D → (best : ℕ) × (least : ℕ) × IsNarrowestBelow n D v s best least
+pub ends : (D : ℕ) (v : ℕ → Bool) (s : ℕ → ℕ) → ((e : ℕ) → s e ≤ 256) → (n : ℕ) → n ≤ D → (best : ℕ) × (least : ℕ) × IsNarrowestBelow n D v s best least
 ends D v s small zero le = (D, 257, narrowest_none D 257 v s (omega arith))
 ends D v s small (suc n) le =
     let before = ends D v s small n (omega arith) in

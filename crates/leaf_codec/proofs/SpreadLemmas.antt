@@ -1,6 +1,6 @@
 -- How many values a byte of the keys takes, as it is read from the fields.
 use Rattle.std.proofs.Common.{◌≡◌, ◌≢◌, ◌<◌, ◌+◌, ◌*◌, ℕ, zero, suc, Bool, List, [], ◌∷◌, ◌++◌, map}
-use Rattle.std.proofs.Common.{length, get_or, drop, refl, sym, ap, ◌∙◌, arith, cond, eqb, length-drop}
+use Rattle.std.proofs.Common.{length, get_or, take, drop, refl, sym, ap, ◌∙◌, arith, cond, eqb, length-drop}
 use Rattle.std.specs.List.{range_with_len, list_any}
 use Rattle.std.proofs.lemmas.Bool.{eq-eqb, ne_eqb}
 use Rattle.std.proofs.lemmas.List.{same_lists, get_or-map, length-map, get_or-take}
@@ -10,6 +10,7 @@ use Rattle.leaf_codec.specs.declared.read_parts.Parts.{Parts}
 use Rattle.leaf_codec.specs.Dimensions.{key_byte, count_values, different}
 use Rattle.leaf_codec.specs.Raw.{RawNumbers, RawKeys, gap_of, place_of, raw_item, raw_items}
 use Rattle.leaf_codec.specs.Views.{IsParts, raw_keys_of}
+use Rattle.leaf_codec.proofs.Lists.{as_range}
 use Rattle.leaf_codec.proofs.KeysAgain.{front_of, middle_of, back_of, key_at_is, byte_at}
 use Rattle.leaf_codec.proofs.KeysLemmas.{get_or-raw_items, length-raw_items, key_of-raw}
 use Rattle.leaf_codec.proofs.ReadKeys.{key_parts}
@@ -48,15 +49,13 @@ byte_of D n p i d h here lt =
     ap (λ (t : List ℕ). get_or t (get_or p.lengths.now d 0) 0) (key_of-raw D p.count i d n (raw_keys_of p) h.raw here lt ∙ key_at_is D (raw_keys_of p) i d)
 
 byte_sorted : (D : ℕ) (n : RawNumbers) (p : Parts) (i d : ℕ) → IsParts D p → i < p.count → d < D → d ≡ p.sorted
-    → key_byte d (get_or p.lengths.now d 0) (raw_item D n (raw_keys_of p) i) ≡ get_or p.table (0 + i * 1) 0
+    → key_byte d (get_or p.lengths.now d 0) (raw_item D n (raw_keys_of p) i) ≡ get_or (take p.count p.table) i 0
 byte_sorted D n p i d h here lt same =
     let r = raw_keys_of p in
     let k = key_parts D p.count r i d h.raw here lt in
     byte_of D n p i d h here lt
     ∙ ap (λ (b : Bool). get_or (front_of r d ++ (cond b (get_or r.bytes i 0 ∷ []) [] ++ back_of D r i d)) (get_or p.lengths.now d 0) 0) (eq-eqb d p.sorted same)
     ∙ byte_at (front_of r d) (back_of D r i d) (get_or r.bytes i 0) (get_or p.lengths.now d 0) k.front
-    ∙ get_or-take p.count p.table i 0 here
-    ∙ ap (λ m. get_or p.table m 0) (omega arith)
 
 byte_other : (D : ℕ) (n : RawNumbers) (p : Parts) (i d : ℕ) → IsParts D p → i < p.count → d < D → get_or p.lengths.now d 0 < 4 → d ≢ p.sorted
     → key_byte d (get_or p.lengths.now d 0) (raw_item D n (raw_keys_of p) i) ≡ byte_read p d i
@@ -96,10 +95,13 @@ values_read D d len n numbers r byte is =
     items = raw_items D n numbers r
 
 pub spread_sorted : (D d : ℕ) (n : RawNumbers) (p : Parts) → IsParts D p → d < D → d ≡ p.sorted
-    → count_values (λ b. list_any (λ i. eqb (get_or p.table (0 + i * 1) 0) b) (range_with_len 0 p.count))
-    ≡ different d (get_or p.lengths.now d 0) (raw_items D p.count n (raw_keys_of p))
+    → count_values (has_value (take p.count p.table)) ≡ different d (get_or p.lengths.now d 0) (raw_items D p.count n (raw_keys_of p))
 spread_sorted D d n p h lt same =
-    values_read D d (get_or p.lengths.now d 0) p.count n (raw_keys_of p) (λ i. get_or p.table (0 + i * 1) 0) (λ i here. byte_sorted D n p i d h here lt same)
+    let bytes = take p.count p.table in
+    ap (λ (t : List ℕ). count_values (has_value t)) (as_range bytes 0)
+    ∙ values-map (λ i. get_or bytes i 0) (range_with_len 0 (length bytes))
+    ∙ ap (λ m. count_values (λ b. list_any (λ i. eqb (get_or bytes i 0) b) (range_with_len 0 m))) h.raw.counted
+    ∙ values_read D d (get_or p.lengths.now d 0) p.count n (raw_keys_of p) (λ i. get_or bytes i 0) (λ i here. byte_sorted D n p i d h here lt same)
 
 pub spread_other : (D d : ℕ) (n : RawNumbers) (p : Parts) → IsParts D p → d < D → get_or p.lengths.now d 0 < 4 → d ≢ p.sorted
     → count_values (λ b. list_any (λ i. eqb (byte_read p d i) b) (range_with_len 0 p.count))

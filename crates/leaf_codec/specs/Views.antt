@@ -1,11 +1,11 @@
 -- What contracts see of the parts of a leaf that is read in place.
 use Rattle.std.specs.Prelude.{ℕ, ◌≡◌, ◌≢◌, ◌⊎◌, Bool, true, false, unwrap_or, map, ◌+◌, ◌-◌, ◌*◌, ◌^◌, ◌<◌, ◌≤◌, List}
-use Rattle.std.specs.Prelude.{◌++◌, length, take, drop, slice_index, All, if◌then◌else◌, ◌==◌}
+use Rattle.std.specs.Prelude.{◌++◌, length, take, drop, slice_index, All, if◌then◌else◌, ◌==◌, nat_lt}
 use Rattle.std.specs.Int.{w16, to_be_bytes}
 use Rattle.std.specs.List.{range_with_len}
 use Rattle.std.specs.List.Sorted.{IsStrictlySortedBy}
 use Rattle.point_codec.specs.Points.{Item, Region, in_box}
-use Rattle.leaf_codec.specs.Dimensions.{shared_prefix, sorted_dimension}
+use Rattle.leaf_codec.specs.Dimensions.{different, shared_prefix, sorted_dimension}
 use Rattle.leaf_codec.specs.LeafOrder.{leaf_cmp}
 use Rattle.leaf_codec.specs.declared.read_numbers.Numbers.{Numbers}
 use Rattle.leaf_codec.specs.declared.read_parts.Parts.{Parts}
@@ -116,6 +116,15 @@ items_said D n p = raw_items D n.count (raw_numbers_of n) (raw_keys_of p)
 pub record AreDimensionsOf (D : ℕ) (items : List Item) (lengths : List ℕ) (s : ℕ) : Type 0 where
   pub lengths_are : map (λ d. shared_prefix d items) (range_with_len 0 D) ≡ lengths
   pub sorted_is : unwrap_or (sorted_dimension D items) D ≡ s
+
+-- from each byte to the next none falls
+abbrev pub NeverFall : List ℕ → Type 0
+NeverFall bytes = (k : ℕ) → k + 1 < length bytes → slice_index bytes k ≤ slice_index bytes (k + 1)
+
+-- dimension d, where it varies and isn't the sorted one s, is no narrower than that one's spread, and wider before it
+abbrev pub IsWide : List Item → List ℕ → ℕ → ℕ → ℕ → Type 0
+IsWide items lengths s spread d = d ≢ s → slice_index lengths d < 4
+    → spread + (if nat_lt d s then 1 else 0) ≤ different d (slice_index lengths d) items
 
 -- the items ascend by dimension d, and lie in the cell
 pub record AscendInside (d : ℕ) (cell : Region) (items : List Item) : Type 0 where

@@ -1,6 +1,6 @@
 //! A set of byte values.
 
-ghost use Rattle.std.specs.Prelude.{◌≡◌, ◌≤◌, ℕ, false, true, slice_set, slice_index_or};
+ghost use Rattle.std.specs.Prelude.{◌≡◌, ◌≤◌, ℕ, false, true, not, if◌then◌else◌, slice_set, slice_index_or};
 ghost use Rattle.leaf_codec.specs.Dimensions.{count_values};
 
 /// Which of the 256 byte values were seen.
@@ -22,6 +22,16 @@ impl ByteSet {
         ensures { self.new.seen ≡ slice_set self.old.seen value true }
     {
         self.seen[value as usize] = true;
+    }
+
+    /// One more value was seen: 1 where it is the first time, else 0.
+    pub fn add(&mut self, value: u8) -> usize
+        ensures seen { self.new.seen ≡ slice_set self.old.seen value true }
+        ensures more { result ≡ (if not (slice_index_or self.old.seen value false) then 1 else 0) }
+    {
+        let before = self.seen[value as usize];
+        self.seen[value as usize] = true;
+        usize::from(!before)
     }
 
     /// How many values were seen.

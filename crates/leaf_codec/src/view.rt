@@ -8,15 +8,14 @@ ghost use Rattle.std.specs.List.{list_any, range_with_len};
 ghost use Rattle.point_codec.specs.Points.{Item};
 ghost use Rattle.point_codec.specs.Seen.{region_of};
 ghost use Rattle.leaf_codec.specs.Ascending.{AscendIn, coordinate};
-ghost use Rattle.leaf_codec.specs.Dimensions.{count_values, different};
+ghost use Rattle.leaf_codec.specs.Dimensions.{count_values};
 ghost use Rattle.leaf_codec.specs.LeafOrder.{item_of};
 ghost use Rattle.leaf_codec.specs.Leaves.{SpellsLeafIn, SpellsSomeIn};
 ghost use Rattle.leaf_codec.specs.Raw.{RawNumbers, place_of, raw_item, raw_items};
 ghost use Rattle.leaf_codec.specs.Views.{IsParts, IsReadable, AreDimensionsOf, AscendInside, items_said};
-ghost use Rattle.leaf_codec.specs.Views.{raw_numbers_of, raw_keys_of};
+ghost use Rattle.leaf_codec.specs.Views.{raw_numbers_of, raw_keys_of, IsWide, NeverFall};
 
 use crate::byte_set::ByteSet;
-use crate::dimensions::narrowest;
 use crate::guess::guess;
 use crate::in_order::{are_in_order, leading};
 use crate::read_numbers::Numbers;
@@ -60,10 +59,10 @@ impl<'a, const D: usize> LeafView<'a, D> {
         if !numbers.are_canonical() {
             return None;
         }
-        if !has_these_dimensions::<D>(&parts) {
+        if !are_in_order(&numbers, &parts, &slots, cell) {
             return None;
         }
-        if !are_in_order(&numbers, &parts, &slots, cell) {
+        if !has_these_dimensions::<D>(&parts) {
             return None;
         }
         Some(LeafView {
@@ -195,59 +194,85 @@ impl<'a, const D: usize> LeafView<'a, D> {
     }
 }
 
-/// Whether the prefixes are as long as they can be, and the sorted dimension is the narrowest.
+/// Whether the prefixes are as long as they can be, and the sorted dimension is the narrowest. The sorted bytes never
+/// fall, so they tell how many there are; the other dimensions are looked at until they show as many.
 fn has_these_dimensions<const D: usize>(parts: &Parts) -> bool
     requires dims { (1 ≤ D) × (D ≤ 8) }
     requires parts { IsParts D parts.now }
     requires some { 1 ≤ parts.now.count }
+    requires rises { parts.now.sorted < D → NeverFall (raw_keys_of parts.now).bytes }
     ensures { (n : RawNumbers)
         → IsTrue result ↔ AreDimensionsOf D
         (raw_items D parts.now.count n (raw_keys_of parts.now)) parts.now.lengths.now parts.now.sorted }
 {
-    let mut spreads = [0; D];
+    if parts.sorted == D {
+        return true;
+    }
+    let least = count_rising(&parts.table[..parts.count]) as usize;
+    if least < 2 {
+        return false;
+    }
     let mut place = 4;
     for d in 0..D {
-        if parts.lengths[d] < 4 {
-            let spread = spread::<D>(parts, d, place);
-            if spread < 2 {
-                return false;
-            }
-            spreads[d] = spread;
+        if !is_wide::<D>(parts, d, place, least) {
+            return false;
         }
         place += parts.gap(d);
     }
-    narrowest(parts.lengths, &spreads) == parts.sorted
+    true
 }
 
-/// How many different values the first byte behind the shared prefix takes in dimension `d`, whose rests begin at
-/// `place`.
-fn spread<const D: usize>(parts: &Parts, d: usize, place: usize) -> usize
+/// Whether dimension `d`, whose rests begin at `place`, is no narrower than the sorted one, in which `least` values
+/// are, and wider where it comes before that one. Nothing is asked of the sorted one, and of one that doesn't vary.
+fn is_wide<const D: usize>(parts: &Parts, d: usize, place: usize, least: usize) -> bool
     requires parts { IsParts D parts.now }
     requires within { d < D }
-    requires moves { slice_index parts.now.lengths.now d < 4 }
+    requires some { (1 ≤ least) × (least ≤ 500) }
     requires place { place ≡ 4 + place_of parts.now.lengths.now parts.now.sorted d }
-    ensures value { (n : RawNumbers)
-        → result ≡ different d (slice_index parts.now.lengths.now d)
-        (raw_items D parts.now.count n (raw_keys_of parts.now)) }
-    ensures few { result ≤ 256 }
+    ensures { (n : RawNumbers)
+        → IsTrue result ↔ IsWide (raw_items D parts.now.count n (raw_keys_of parts.now))
+        parts.now.lengths.now parts.now.sorted least d }
 {
     if d == parts.sorted {
-        different(&parts.table, 0, 1, parts.count)
-    } else {
-        different(parts.words, place, parts.stride, parts.count)
+        return true;
     }
+    if parts.lengths[d] >= 4 {
+        return true;
+    }
+    let need = least + usize::from(d < parts.sorted);
+    takes_values(parts.words, place, parts.stride, parts.count, need)
 }
 
-/// How many different values the bytes at `start`, `start + stride` and so on take, `count` of them.
-fn different(bytes: &[u8], start: usize, stride: usize, count: usize) -> usize
+/// Whether the bytes at `start`, `start + stride` and so on, `count` of them, take `need` different values or more.
+fn takes_values(bytes: &[u8], start: usize, stride: usize, count: usize, need: usize) -> bool
     requires within { (i : ℕ) → i < count → start + i * stride < length bytes.now }
-    ensures value { result ≡ count_values
-        (λ b. list_any (λ i. slice_index bytes.now (start + i * stride) == b) (range_with_len 0 count)) }
-    ensures few { result ≤ 256 }
+    requires some { 1 ≤ need }
+    ensures { IsTrue result ↔ (need ≤ count_values
+        (λ b. list_any (λ i. slice_index bytes.now (start + i * stride) == b) (range_with_len 0 count))) }
 {
     let mut seen = ByteSet::new();
+    let mut found = 0;
     for i in 0..count {
-        seen.insert(bytes[start + i * stride]);
+        let more = seen.add(bytes[start + i * stride]);
+        found += more;
+        if found == need {
+            return true;
+        }
     }
-    seen.count()
+    false
+}
+
+/// How many different values bytes take that never fall: each that isn't the one before is one more.
+fn count_rising(bytes: &[u8]) -> u16
+    requires some { 1 ≤ length bytes.now }
+    requires few { length bytes.now ≤ 500 }
+    requires rises { NeverFall bytes.now }
+    ensures value { result ≡ count_values (λ v. list_any (λ b. b == v) bytes.now) }
+    ensures few { result ≤ length bytes.now }
+{
+    let mut count = 1u16;
+    for i in 1..bytes.len() {
+        count += u16::from(bytes[i] != bytes[i - 1]);
+    }
+    count
 }

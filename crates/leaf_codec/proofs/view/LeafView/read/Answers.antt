@@ -5,6 +5,7 @@ use Rattle.leaf_codec.proofs.Ascending.{ascend_in}
 use Rattle.leaf_codec.proofs.ItemsDecoded.{docs}
 use Rattle.leaf_codec.proofs.KeysOf.{raw_keys}
 use Rattle.leaf_codec.proofs.RawNumbersLemmas.{raw_numbers}
+use Rattle.leaf_codec.proofs.SortedRise.{sorted_rise}
 use Rattle.leaf_codec.specs.Raw.{keys_bytes}
 use Rattle.leaf_codec.proofs.ReadLeaf.{if_none, spelled_fields, after_numbers, canonical_of, dimensions_of, order_of, spelled_from}
 use Rattle.leaf_codec.proofs.view.LeafView.read.Goals as goal
@@ -51,6 +52,18 @@ returns-then-not-are_in_order-clause-none g c items h =
     absurd (true≢false (sym (c.are_in_order.ensures.1
     (order_of g.row.D c.args.count c.in_ok-numbers.at c.args.b.now (region_of c.args.cell.now) items c.in_ok-numbers.numbers c.in_ok-parts.parts h
     c.in_ok-numbers.ensures.found c.in_ok-parts.ensures.found)) ∙ c.if-not-are_in_order.true))
+
+pub has_these_dimensions-requires : goal.has_these_dimensions-requires
+has_these_dimensions-requires g c =
+    let n = c.in_ok-numbers.ensures.found in
+    let p = c.in_ok-parts.ensures.found in
+    record {
+      dims = (c.args.cell.now.lo.low, c.args.cell.now.lo.high);
+      parts = p.keys;
+      some = omega (arith, p.counted, c.if-count-eq0.false);
+      rises = λ lt. sorted_rise g.row.D c.in_ok-numbers.numbers c.in_ok-parts.parts (region_of c.args.cell.now) p.keys
+          (p.counted ∙ sym n.counted) (c.are_in_order.ensures.0 c.if-not-are_in_order.false) lt;
+    }
 
 pub invariant_of-result : goal.invariant_of-result
 invariant_of-result g c = (
