@@ -7,3 +7,4 @@ pub mod Rising
 pub mod Moved
 pub mod Again
 pub mod WithEntries
+pub mod Alone

@@ -10,7 +10,7 @@ use Rattle.point_codec.specs.Seen.{items_of}
 use Rattle.point_codec.specs.declared.entries.Entry.{Entry}
 use Rattle.documents.specs.Entries.{has_entry}
 
-abbrev has : {D : ℕ} → List (Entry D) → ℕ → Bool
+abbrev pub has : {D : ℕ} → List (Entry D) → ℕ → Bool
 has es n = list_any (λ e. eqb e.doc n) es
 
 -- the numbers without an entry

@@ -10,7 +10,7 @@ mod placing;
 mod told;
 
 pub use doubles::doubled;
-pub use found::live_with_entries;
+pub use found::tally;
 pub use laws::{fits_docs, none_twice};
 pub use placing::misplaced;
 use std::alloc::AllocError;

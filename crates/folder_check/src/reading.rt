@@ -15,7 +15,7 @@ ghost use Rattle.folder_check.specs.First.{IsFirstLeaf};
 ghost use Rattle.folder_check.specs.Found.{HasSegment, IsFinding};
 
 use crate::findings::Finding;
-use document_checks::{doubled, live_with_entries};
+use document_checks::tally;
 use live_bits::LiveBits;
 use outer_io::Pages;
 use page_cache::{PageCache, PageFault};
@@ -79,11 +79,10 @@ fn read_segment<const D: usize, F: Pages>(
 {
     head.index().is_spelled();
     let entries = read_entries(alloc, folder, cache, head, live)?;
-    let found = live_with_entries(alloc, live, entries.as_slice())?;
-    let crowded = doubled(alloc, entries.as_slice())?;
+    let told = tally(alloc, live, entries.as_slice())?;
     Ok(Finding {
-        found,
-        crowded,
+        found: told.0,
+        crowded: told.1,
         entries: entries.len() as u64,
     })
 }

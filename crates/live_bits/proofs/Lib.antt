@@ -1,3 +1,4 @@
+pub mod AllLive
 pub mod SingleBits
 pub mod LiveNumbers
 pub mod Tally

@@ -136,6 +136,8 @@ impl LiveBits {
         match doc.checked_sub(self.base) {
             None => false,
             Some(i) if i >= self.span => false,
+            // where all of them are live, the bits are left alone
+            Some(_) if self.count == self.span => true,
             Some(i) => bit_at(self.bits.as_slice(), i),
         }
     }

@@ -4,7 +4,7 @@ ghost use Rattle.std.specs.Prelude.{◌<◌, ◌^◌, All};
 
 use crate::asserts::{same, same_at};
 use byte_cursor::Memory;
-use document_checks::{Misplaced, doubled, live_with_entries, misplaced};
+use document_checks::{Misplaced, doubled, misplaced, tally};
 use live_bits::LiveBits;
 use point_codec::{Entry, Point};
 use std::alloc::Global;
@@ -139,24 +139,41 @@ fn counts_to_sixteen(rt: HostRuntime) -> Result<(), Fail> {
     Ok(())
 }
 
-/// Live numbers, entries, and how many of the numbers have one.
-const FOUND: [(&[u32], &[(u32, i32)], u32); 6] = [
-    (&[], &[], 0),
-    (&[1, 2, 3], &[], 0),
-    (&[], &[(1, 0), (2, 0)], 0),
-    (&[1, 2, 300], &[(300, 0), (1, 0), (1, 5), (4, 0)], 2),
-    (&[63, 64, 128], &[(64, 0), (128, 0), (63, 0), (129, 0)], 3),
-    (&[0, 16_777_215], &[(16_777_215, 0), (5, 0)], 1),
+/// Live numbers, entries, how many of the numbers have one, and the least number that is crowded.
+const TALLIES: [(&[u32], &[(u32, i32)], (u32, Option<u32>)); 11] = [
+    (&[], &[], (0, None)),
+    (&[1, 2, 3], &[], (0, None)),
+    (&[], &[(1, 0), (2, 0)], (0, None)),
+    (
+        &[1, 2, 300],
+        &[(300, 0), (1, 0), (1, 5), (4, 0)],
+        (2, None),
+    ),
+    (
+        &[63, 64, 128],
+        &[(64, 0), (128, 0), (63, 0), (129, 0)],
+        (3, None),
+    ),
+    (&[0, 16_777_215], &[(16_777_215, 0), (5, 0)], (1, None)),
+    // all live and different
+    (&[1, 2, 3], &[(3, 0), (1, 0), (2, 0)], (3, None)),
+    // as many entries as numbers, of which one lacks and one stands twice
+    (&[1, 2, 3], &[(3, 0), (1, 0), (3, 0)], (2, Some(3))),
+    // the last one only
+    (&[1, 2], &[(2, 0), (1, 0), (2, 7), (2, 7)], (2, Some(2))),
+    // of numbers that aren't live
+    (&[1], &[(9, 0), (1, 0), (9, 0)], (1, Some(9))),
+    (&[5], &[(9, 0), (9, 0), (4, 0), (4, 0)], (0, Some(4))),
 ];
 
 #[test]
-fn counts_numbers_with_entries(rt: HostRuntime) -> Result<(), Fail> {
-    for (numbers, pairs, answer) in FOUND {
+fn tallies_entries(rt: HostRuntime) -> Result<(), Fail> {
+    for (numbers, pairs, answer) in TALLIES {
         let live = set_of(rt.alloc(), numbers)?;
         let entries = entries_of(rt.alloc(), pairs)?;
         same_at(
             &rt,
-            live_with_entries(rt.alloc(), &live, entries.as_slice())?,
+            tally(rt.alloc(), &live, entries.as_slice())?,
             answer,
             &numbers,
         );

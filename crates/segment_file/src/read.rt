@@ -71,7 +71,9 @@ pub fn read_entries<const D: usize, F: Pages>(
         → IsSegment D (bytes_of (F.files folder.old (Segment head.now.id))) head.now items
         → NotDamaged result }
 {
-    let mut entries = Vec::new(alloc);
+    // where each live number has one entry, the list is never moved
+    let room = live.live_count().saturating_add(u32::from(head.leaf_size()));
+    let mut entries = Vec::with_capacity(alloc, room.min(head.entries()) as usize)?;
     let root = head.index().walk();
     gather(alloc, folder, cache, head, live, &root, &mut entries)?;
     Ok(entries)

@@ -22,12 +22,8 @@ pub returns-in_err-entries-clause-reads : goal.returns-in_err-entries-clause-rea
 returns-in_err-entries-clause-reads g c = λ told own.
     leaves_read g.row.D (g.F.Pages.files c.args.folder.now) c.args.head.now _ _ own c.in_err-entries.ensures.pages
 
-pub returns-in_err-found-clause-reads : goal.returns-in_err-found-clause-reads
-returns-in_err-found-clause-reads g c = λ told own.
-    leaves_read g.row.D (g.F.Pages.files c.args.folder.now) c.args.head.now _ _ own c.in_ok-entries.ensures.pages
-
-pub returns-in_err-crowded-clause-reads : goal.returns-in_err-crowded-clause-reads
-returns-in_err-crowded-clause-reads g c = λ told own.
+pub returns-in_err-told-clause-reads : goal.returns-in_err-told-clause-reads
+returns-in_err-told-clause-reads g c = λ told own.
     leaves_read g.row.D (g.F.Pages.files c.args.folder.now) c.args.head.now _ _ own c.in_ok-entries.ensures.pages
 
 pub returns-clause-reads : goal.returns-clause-reads
@@ -38,7 +34,7 @@ pub returns-clause-found : goal.returns-clause-found
 returns-clause-found g c = λ told agrees own.
     let read = c.in_ok-entries.ensures.spelled told agrees own in
     found_of g.row.D (g.F.Pages.files c.args.folder.now) c.args.head.now c.args.live.now read.0 c.in_ok-entries.entries.items _ read.1 read.2
-    (c.in_ok-found.ensures ∙ ap (λ es. count_by (λ number. has_entry number (items_of es)) c.args.live.now.live) c.as_slice.ensures.value)
-    (subst (λ es. IfNone c.in_ok-crowded.crowded (NoneTwice (items_of es) × AreFew (items_of es))) c.as_slice-2.ensures.value c.in_ok-crowded.ensures.none)
-    (subst (λ es. IfSome c.in_ok-crowded.crowded (λ number. IsLeastCrowded number (items_of es))) c.as_slice-2.ensures.value c.in_ok-crowded.ensures.some)
+    (c.in_ok-told.ensures.found ∙ ap (λ es. count_by (λ number. has_entry number (items_of es)) c.args.live.now.live) c.as_slice.ensures.value)
+    (subst (λ es. IfNone c.in_ok-told.told.1 (NoneTwice (items_of es) × AreFew (items_of es))) c.as_slice.ensures.value c.in_ok-told.ensures.none)
+    (subst (λ es. IfSome c.in_ok-told.told.1 (λ number. IsLeastCrowded number (items_of es))) c.as_slice.ensures.value c.in_ok-told.ensures.some)
     (c.len.ensures ∙ c.in_ok-entries.entries.ok.0)

@@ -40,14 +40,14 @@ returns-clause-reads g c = λ root t has.
 pub returns-in_err-gather-clause-shown : goal.returns-in_err-gather-clause-shown
 returns-in_err-gather-clause-shown g c = λ root t has.
     let here : HasTree g.row.D c.index.result.now root t = rw c.index.ensures.value has in
-    let e = err_from_is_err_and c.from_residual.result c.from_residual.ensures.1 in
+    let e = err_from_is_err_and c.from_residual-in_err-gather.result c.from_residual-in_err-gather.ensures.1 in
     rw (e.1, e.2) (c.in_err-gather.ensures.shown 0 front root t (c.walk-root.ensures root t here))
 
 pub returns-in_err-gather-clause-whole : goal.returns-in_err-gather-clause-whole
 unfolding IsSegment
 returns-in_err-gather-clause-whole g c = λ told agrees items p.
     let here : HasTree g.row.D c.index.result.now p.root p.tree = rw c.index.ensures.value p.has in
-    let e = err_from_is_err_and c.from_residual.result c.from_residual.ensures.1 in
+    let e = err_from_is_err_and c.from_residual-in_err-gather.result c.from_residual-in_err-gather.ensures.1 in
     rw (e.1, e.2) (c.in_err-gather.ensures.whole told agrees 0 front p.root p.tree (c.walk-root.ensures p.root p.tree here) items p.holds)
 
 pub returns-clause-gathers : goal.returns-clause-gathers
@@ -58,7 +58,7 @@ returns-clause-gathers g c = λ told agrees root t has.
       items = got.items;
       holds = got.holds;
       grew = got.grew ∙ ap (λ (l : List Item). l ++ filter (λ (x : Item). is_live c.args.live.now x.doc)
-          got.items) (ap (λ l. items_of l) c.new-entries.ensures.items);
+          got.items) (ap (λ l. items_of l) c.in_ok-entries.ensures.items);
     }
 
 pub returns-clause-spelled : goal.returns-clause-spelled
@@ -69,7 +69,7 @@ returns-clause-spelled g c = λ told agrees p.
     let got = c.in_ok-gather.ensures.gathers told agrees 0 front p.root p.tree (c.walk-root.ensures p.root p.tree here) in (
       got.items,
       record { head_is = p; root = p.root; tree = p.tree; has = has; holds = got.holds },
-      got.grew ∙ ap (λ (l : List Item). l ++ filter (λ (x : Item). is_live c.args.live.now x.doc) got.items) (ap (λ l. items_of l) c.new-entries.ensures.items),
+      got.grew ∙ ap (λ (l : List Item). l ++ filter (λ (x : Item). is_live c.args.live.now x.doc) got.items) (ap (λ l. items_of l) c.in_ok-entries.ensures.items),
     )
 
 pub returns-clause-entries : goal.returns-clause-entries
@@ -79,5 +79,5 @@ returns-clause-entries g c = λ told agrees items p.
     let got = c.in_ok-gather.ensures.gathers told agrees 0 front p.root p.tree (c.walk-root.ensures p.root p.tree here) in
     let same = tree_once g.row.D (bytes_of (g.F.Pages.files c.args.folder.now (Segment c.args.head.now.id))) c.args.head.now 0 front p.tree got.items items
     got.holds p.holds in
-    got.grew ∙ ap (λ (l : List Item). l ++ filter (λ (x : Item). is_live c.args.live.now x.doc) got.items) (ap (λ l. items_of l) c.new-entries.ensures.items)
+    got.grew ∙ ap (λ (l : List Item). l ++ filter (λ (x : Item). is_live c.args.live.now x.doc) got.items) (ap (λ l. items_of l) c.in_ok-entries.ensures.items)
     ∙ ap (λ (l : List Item). filter (λ (x : Item). is_live c.args.live.now x.doc) l) same
