@@ -10,6 +10,7 @@ mod encode;
 mod in_order;
 mod keys;
 mod laws;
+mod numbers_out;
 mod order;
 mod read_numbers;
 mod read_parts;
