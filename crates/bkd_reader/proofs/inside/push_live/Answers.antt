@@ -1,4 +1,4 @@
-use Rattle.std.proofs.Common.{◌≡◌, ◌++◌, [], ◌∙◌, ℕ, List, length, map, sym, ap, true, arith}
+use Rattle.std.proofs.Common.{[], ◌∙◌, ℕ, List, length, map, sym, ap, true, arith}
 use Rattle.std.proofs.lemmas.List.{append-nil, length-append}
 use Rattle.point_codec.specs.Points.{Item}
 use Rattle.bkd_reader.specs.Hits.{hits_in}

@@ -10,8 +10,8 @@ use Rattle.nearest_query.proofs.Roots.{root_nodes, root_totals, root_most, passe
 use Rattle.nearest_query.proofs.Parts.{parts_put}
 use Rattle.nearest_query.proofs.query.put_roots.Goals as goal
 
-pub loop-i-preserved-then-lives-i-eq0 : goal.loop-i-preserved-then-lives-i-eq0
-loop-i-preserved-then-lives-i-eq0 g c = record {
+pub loop-i-preserved-then-live_count-eq0 : goal.loop-i-preserved-then-live_count-eq0
+loop-i-preserved-then-live_count-eq0 g c = record {
   inside = c.loop-i.invariant.inside;
   parts = c.loop-i.invariant.parts;
   nodes = c.loop-i.invariant.nodes;

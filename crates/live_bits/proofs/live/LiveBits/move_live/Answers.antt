@@ -1,4 +1,4 @@
-use Rattle.std.proofs.Common.{◌<◌, length, get_or, refl, sym, ◌∙◌, arith}
+use Rattle.std.proofs.Common.{get_or, refl, sym, ◌∙◌, arith}
 use Rattle.live_bits.specs.LiveSet.{is_live}
 use Rattle.live_bits.proofs.KeptLive.{kept_none, kept_not, kept_more, kept_all}
 use Rattle.live_bits.proofs.live.LiveBits.move_live.Goals as goal
