@@ -1,7 +1,7 @@
 -- The hits of a list of entries, one more entry at a time, and those of a cell that lies in the shape.
 use Rattle.std.proofs.Common.{◌≡◌, ℕ, ◌+◌, ◌<◌, Bool, true, false, ◌&&◌, cond, List, [], ◌∷◌, ◌++◌}
-use Rattle.std.proofs.Common.{length, map, take, filter, get_or, ℤ, refl, sym, ap, subst, ◌∙◌}
-use Rattle.std.proofs.lemmas.List.{map-append, append_assoc, append-nil}
+use Rattle.std.proofs.Common.{length, map, take, drop, filter, get_or, ℤ, refl, sym, ap, subst, ◌∙◌}
+use Rattle.std.proofs.lemmas.List.{map-append, append_assoc, append-nil, take_at, drop_at}
 use Rattle.std.proofs.lemmas.List.Elements.{filter-append, filter_more, All-head, All-tail}
 use Rattle.std.proofs.lemmas.Option.{slice_get-get_or}
 use Rattle.std.specs.Prelude.{IsSomeAnd}
@@ -87,3 +87,24 @@ hits_join has live xs ys =
 -- what begins with what begins with a list begins with it
 pub begins_on : (a b c : List ℕ) → Begins a b → Begins b c → Begins a c
 begins_on a b c p q = (p.0 ++ q.0, q.1 ∙ ap (λ z. z ++ q.0) p.1 ∙ append_assoc a p.0 q.0)
+
+-- the live ones among the numbers of entries are the hits of a shape that has all points
+pub live_numbers : (live : LiveSet) (xs : List Item) → filter (is_live live) (map (λ x. x.doc) xs) ≡ hits_in (λ _. true) live xs
+unfolding hits_in
+live_numbers live [] = refl
+live_numbers live (x ∷ xs) = one (is_live live x.doc) (live_numbers live xs)
+  where
+    one : (b : Bool) → filter (is_live live) (map (λ y. y.doc) xs) ≡ map (λ y. y.doc) (filter (is_hit (λ _. true) live) xs)
+        → cond b (x.doc ∷ filter (is_live live) (map (λ y. y.doc) xs)) (filter (is_live live) (map (λ y. y.doc) xs))
+        ≡ map (λ y. y.doc) (cond (b && true) (x ∷ filter (is_hit (λ _. true) live) xs) (filter (is_hit (λ _. true) live) xs))
+    one true rest = ap (λ ns. x.doc ∷ ns) rest
+    one false rest = rest
+
+-- of numbers that were appended the live ones stay
+pub appended_live : (live : LiveSet) (old mid new : List ℕ) (n : ℕ) (xs : List Item) → n ≡ length old → mid ≡ old ++ map (λ x. x.doc) xs
+    → new ≡ take n mid ++ filter (is_live live) (drop n mid) → new ≡ old ++ hits_in (λ _. true) live xs
+appended_live live old mid new n xs long grew kept =
+    kept
+    ∙ ap (λ t. take n t ++ filter (is_live live) (drop n t)) grew
+    ∙ (λ i. take_at old (map (λ x. x.doc) xs) n (sym long) i ++ filter (is_live live) (drop_at old (map (λ x. x.doc) xs) n (sym long) i))
+    ∙ ap (λ t. old ++ t) (live_numbers live xs)

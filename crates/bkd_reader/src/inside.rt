@@ -63,7 +63,7 @@ pub fn take_leaf<const D: usize, F: Pages>(
     Ok(())
 }
 
-/// Appends the numbers of the leaf's live entries.
+/// Appends the numbers of the leaf's live entries: the numbers of all, and of those the live ones stay.
 fn push_live<const D: usize>(
     leaf: &LeafView<'_, D>,
     live: &LiveBits,
@@ -72,12 +72,8 @@ fn push_live<const D: usize>(
     ensures begins { Begins hits.old.items hits.new.items }
     ensures hits { OnOk result (hits.new.items ≡ hits.old.items ++ hits_in (λ _. true) live.now leaf.now) }
 {
-    for i in 0..leaf.count() {
-        let doc = leaf.doc(i);
-        if !live.is_live(doc) {
-            continue;
-        }
-        hits.push(doc)?;
-    }
+    let before = hits.len();
+    leaf.push_numbers(hits)?;
+    live.keep_live(hits, before);
     Ok(())
 }

@@ -127,6 +127,35 @@ fn read_in_cells(rt: HostRuntime) -> Result<(), Fail> {
     Ok(())
 }
 
+/// Leaves of two entries at 5 and 7, and their numbers: in a row, and in one, two and three bytes each.
+const NUMBERS: [(&[u8], [u32; 2]); 4] = [
+    (&FIRST, [0, 1]),
+    (&[0, 2, 1, 4, 5, 0, 3, 0x80, 0, 0, 0, 0, 5, 7], [9, 4]),
+    (
+        &[0, 2, 2, 4, 1, 44, 0, 0, 3, 0x80, 0, 0, 0, 0, 5, 7],
+        [304, 4],
+    ),
+    (
+        &[
+            0, 2, 3, 4, 0, 0, 0, 1, 0x11, 0x70, 3, 0x80, 0, 0, 0, 0, 5, 7,
+        ],
+        [4, 70_004],
+    ),
+];
+
+#[test]
+fn numbers_of_each_width(rt: HostRuntime) -> Result<(), Fail> {
+    let cell = Cell::new(Point { c: [0] }, Point { c: [9] }).ok_or("no cell")?;
+    for (bytes, numbers) in NUMBERS {
+        let view = LeafView::<1>::read(bytes, &cell, 2).ok_or("no leaf")?;
+        let mut out = vec![in rt.alloc(); 77u32]?;
+        view.push_numbers(&mut out)?;
+        let expected = [77, numbers[0], numbers[1]];
+        same(&rt, out.as_slice(), expected.as_slice());
+    }
+    Ok(())
+}
+
 #[test]
 fn no_front_is_read(rt: HostRuntime) -> Result<(), Fail> {
     for n in 0..FIRST.len() {

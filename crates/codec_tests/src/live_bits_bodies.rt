@@ -107,6 +107,47 @@ fn cleared_numbers(rt: HostRuntime) -> Result<(), Fail> {
     spells(&rt, &before)
 }
 
+/// The numbers that a set is made of, one that is then cleared, how many numbers are passed over, and those of the seven
+/// numbers that stay.
+type Kept = (&'static [u32], Option<u32>, usize, &'static [u32]);
+
+/// What is asked for.
+const ASKED: [u32; 7] = [5, 3, 8, 3, 4, 6, 7];
+
+const KEPT: [Kept; 10] = [
+    // all of a span, which has all of them
+    (&[3, 4, 5, 6, 7, 8], None, 0, &ASKED),
+    (&[3, 4, 5, 6, 7, 8], None, 7, &ASKED),
+    // all of a span, beyond which some lie
+    (&[4, 5, 6, 7, 8], None, 0, &[5, 8, 4, 6, 7]),
+    (&[3, 4, 5, 6, 7], None, 1, &[5, 3, 3, 4, 6, 7]),
+    (&[5], None, 0, &[5]),
+    // one is dead: the first, the last, one in the middle
+    (&[3, 4, 5, 6, 7, 8], Some(5), 0, &[3, 8, 3, 4, 6, 7]),
+    (&[3, 4, 5, 6, 7, 8], Some(7), 2, &[5, 3, 8, 3, 4, 6]),
+    (&[3, 4, 5, 6, 7, 8], Some(3), 2, &[5, 3, 8, 4, 6, 7]),
+    // none is live
+    (&[], None, 0, &[]),
+    (&[5], Some(5), 3, &[5, 3, 8]),
+];
+
+#[test]
+fn kept_numbers(rt: HostRuntime) -> Result<(), Fail> {
+    for (docs, dead, from, stay) in KEPT {
+        if from > ASKED.len() || docs.iter().any(|d| *d >= 1 << 24) {
+            return Err("not what a set is asked for".into());
+        }
+        let mut set = LiveBits::of_docs(rt.alloc(), docs)?;
+        if let Some(doc) = dead {
+            set.clear(doc);
+        }
+        let mut numbers = ASKED.to_vec(rt.alloc())?;
+        set.keep_live(&mut numbers, from);
+        same_at(&rt, numbers.as_slice(), stay, &(docs, dead, from));
+    }
+    Ok(())
+}
+
 #[test]
 fn no_numbers(rt: HostRuntime) -> Result<(), Fail> {
     let none = LiveBits::of_docs(rt.alloc(), &[])?;

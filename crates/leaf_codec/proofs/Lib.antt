@@ -14,6 +14,7 @@ pub mod Lengths
 pub mod Bytes
 pub mod Chunks
 pub mod RawNumbersLemmas
+pub mod NumbersOut
 pub mod ReadNumbers
 pub mod CanonicalNumbers
 pub mod SortedBytes

@@ -11,6 +11,7 @@ mod guess;
 mod in_order;
 mod keys;
 mod laws;
+mod numbers_out;
 mod order;
 mod read_numbers;
 mod read_parts;

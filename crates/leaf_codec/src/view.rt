@@ -2,7 +2,7 @@
 
 ghost use Rattle.std.specs.Prelude.{◌≡◌, ◌≤◌, ◌<◌, ◌^◌, ◌+◌, ◌*◌, ◌↔◌, ℕ, List, length, All, IfSome, IfNone, IsSomeAnd};
 ghost use Rattle.std.specs.Prelude.{IsTrue, slice_get, slice_index, nat_lt, if◌then◌else◌, ◌==◌, true, take, drop};
-ghost use Rattle.std.specs.Prelude.{int_lt, int_le, FitsSigned};
+ghost use Rattle.std.specs.Prelude.{int_lt, int_le, FitsSigned, ◌++◌, map, OnOk, OnErr};
 ghost use Rattle.std.specs.Int.{w32};
 ghost use Rattle.std.specs.List.{list_any, range_with_len};
 ghost use Rattle.point_codec.specs.Points.{Item};
@@ -18,10 +18,12 @@ ghost use Rattle.leaf_codec.specs.Views.{raw_numbers_of, raw_keys_of, IsWide, Ne
 use crate::byte_set::ByteSet;
 use crate::guess::guess;
 use crate::in_order::{are_in_order, leading};
+use crate::numbers_out::push_all;
 use crate::read_numbers::Numbers;
 use crate::read_parts::{Parts, Slots};
 use crate::size::greatest_leaf;
 use point_codec::{Cell, Point};
+use std::alloc::AllocError;
 use std::marker::Model;
 
 /// The entries of a leaf, read in its bytes. Contracts see the list of them.
@@ -104,6 +106,14 @@ impl<'a, const D: usize> LeafView<'a, D> {
         ensures { IsSomeAnd (slice_get self.now i) (λ x. result ≡ x.doc) }
     {
         self.numbers.number(i as usize)
+    }
+
+    /// Appends the numbers of all entries, in their order. For want of memory none is appended.
+    pub fn push_numbers(&self, out: &mut Vec<u32>) -> Result<(), AllocError>
+        ensures ok { OnOk result (out.new.items ≡ out.old.items ++ map (λ x. x.doc) self.now) }
+        ensures err { OnErr result (out.new.items ≡ out.old.items) }
+    {
+        push_all(&self.numbers, out)
     }
 
     /// The point of entry `i`.

@@ -9,3 +9,4 @@ pub mod Bodies
 pub mod Made
 pub mod Fronts
 pub mod WordBits
+pub mod KeptLive

@@ -21,7 +21,7 @@ pub numbers_from-length : (first count : ℕ) → length (numbers_from first cou
 numbers_from-length first zero = refl
 numbers_from-length first (suc n) = let e = numbers_from-length (first + 1) n in omega (arith, e)
 
-numbers_from-at : (first count k d : ℕ) → k < count → get_or (numbers_from first count) k d ≡ first + k
+pub numbers_from-at : (first count k d : ℕ) → k < count → get_or (numbers_from first count) k d ≡ first + k
 numbers_from-at first zero k d lt = absurd (omega arith)
 numbers_from-at first (suc n) zero d lt = omega arith
 numbers_from-at first (suc n) (suc k) d lt = let e = numbers_from-at (first + 1) n k d (omega arith) in omega (arith, e)

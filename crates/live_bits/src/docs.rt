@@ -1,6 +1,6 @@
 //! The bits of a list of document numbers.
 
-ghost use Rattle.std.specs.Prelude.{◌≡◌, ◌<◌, ◌≤◌, ◌-◌, ◌/◌, ◌||◌, ℕ, nat_eq, length, All};
+ghost use Rattle.std.specs.Prelude.{◌≡◌, ◌<◌, ◌≤◌, ◌-◌, ◌/◌, ◌||◌, ℕ, nat_eq, length, All, IsTrue};
 ghost use Rattle.std.specs.List.{list_any};
 ghost use Rattle.live_bits.specs.LiveSet.{Spans};
 ghost use Rattle.live_bits.specs.LiveBody.{is_set};
@@ -22,6 +22,18 @@ pub(crate) fn reach(docs: &[u32]) -> (u32, u32)
         greatest = greatest.max(*doc);
     }
     (least, greatest - least + 1)
+}
+
+/// Whether all of the numbers are from `low` on and below `end`.
+pub(crate) fn lie_between(numbers: &[u32], low: u32, end: u32) -> bool
+    ensures { IsTrue result → All (λ n. (low ≤ n) × (n < end)) numbers.now }
+{
+    for number in numbers {
+        if *number < low || *number >= end {
+            return false;
+        }
+    }
+    true
 }
 
 /// Sets the bit of each of the numbers.

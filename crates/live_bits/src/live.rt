@@ -1,6 +1,7 @@
 //! The set of live numbers.
 
-ghost use Rattle.std.specs.Prelude.{◌≡◌, ◌<◌, ◌+◌, ℕ, All, IfOk, IfErr, length, nat_eq};
+ghost use Rattle.std.specs.Prelude.{◌≡◌, ◌≤◌, ◌<◌, ◌+◌, ◌++◌, ℕ, All, IfOk, IfErr, length, nat_eq, IsTrue, true};
+ghost use Rattle.std.specs.Prelude.{take, drop, filter};
 ghost use Rattle.std.specs.List.{list_any};
 ghost use Rattle.live_bits.specs.LiveSet.{is_live, without, IsLiveSet, Spans};
 ghost use Rattle.live_bits.specs.LiveBody.{IsLiveBody, has_bit};
@@ -8,7 +9,7 @@ ghost use Rattle.live_bits.specs.Refusal.{Refuses};
 
 use crate::bits::{bit_at, clear_bit, count_set};
 use crate::body::{Sizes, parse, spell};
-use crate::docs::{reach, set_docs};
+use crate::docs::{lie_between, reach, set_docs};
 use crate::fault::{BitsFault, Memory};
 use crate::words::{word_after, word_from};
 use byte_cursor::Bytes;
@@ -140,6 +141,47 @@ impl LiveBits {
             Some(_) if self.count == self.span => true,
             Some(i) => bit_at(self.bits.as_slice(), i),
         }
+    }
+
+    /// Of the numbers from place `from` on keeps the live ones, in their order.
+    pub fn keep_live(&self, numbers: &mut Vec<u32>, from: usize)
+        requires { from ≤ length numbers.old.items }
+        ensures { numbers.new.items
+            ≡ take from numbers.old.items ++ filter (is_live self.now) (drop from numbers.old.items) }
+    {
+        if self.has_all(&numbers.as_slice()[from..]) {
+            return;
+        }
+        let end = self.move_live(numbers.as_mut_slice(), from);
+        numbers.truncate(end);
+    }
+
+    /// Moves those of the numbers from place `from` on that are live up to that place, in their order, and answers where
+    /// they end.
+    fn move_live(&self, numbers: &mut [u32], from: usize) -> usize
+        requires { from ≤ length numbers.old }
+        ensures { take result numbers.new ≡ take from numbers.old ++ filter (is_live self.now) (drop from numbers.old) }
+    {
+        let mut kept = from;
+        for i in from..numbers.len() {
+            let number = numbers[i];
+            if !self.is_live(number) {
+                continue;
+            }
+            numbers[kept] = number;
+            kept += 1;
+        }
+        kept
+    }
+
+    /// Whether it is seen at once that all of the numbers are live: they lie in the span, of which each number is.
+    fn has_all(&self, numbers: &[u32]) -> bool
+        ensures { IsTrue result → All (λ n. is_live self.now n ≡ true) numbers.now }
+    {
+        if self.count != self.span {
+            return false;
+        }
+        lie_between(numbers, self.base, self.base + self.span)
     }
 
     /// Which of the 64 numbers from `first` on are live: bit `k` of the answer is that of `first + k`.

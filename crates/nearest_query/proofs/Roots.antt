@@ -1,11 +1,11 @@
 -- The roots of the segments, and what they cover.
-use Rattle.std.proofs.Common.{◌≡◌, ℕ, ◌+◌, ◌-◌, ◌/◌, ◌≤◌, ◌<◌, zero, suc, true, false, cond, List}
+use Rattle.std.proofs.Common.{◌≡◌, ℕ, ◌+◌, ◌-◌, ◌/◌, ◌≤◌, ◌<◌, zero, suc, Bool, true, false, cond, List}
 use Rattle.std.proofs.Common.{[], ◌∷◌, length, get_or, ℤ, Option, refl, sym, ap, subst, ◌∙◌, arith}
 use Rattle.std.proofs.lemmas.List.{map-append}
 use Rattle.std.proofs.lemmas.List.Sums.{sum_by-cons, sum_by-append}
 use Rattle.std.proofs.lemmas.List.Elements.{filter-append}
-use Rattle.std.specs.Prelude.{nat_lt}
-use Rattle.std.specs.List.{sum_by, All, range_with_len}
+use Rattle.std.specs.Prelude.{nat_lt, nat_eq}
+use Rattle.std.specs.List.{sum_by, All, range_with_len, list_any}
 use Rattle.std.proofs.lemmas.Bool.Decides.{nat_tests}
 use Rattle.outer_io.specs.Files.{bytes_of}
 use Rattle.outer_io.specs.declared.file_name.FileName.TheVariants.{Segment}
@@ -19,6 +19,7 @@ use Rattle.inner_pack.specs.Nodes.{IsAt}
 use Rattle.inner_pack.specs.declared.node.NodeAt.{NodeAt}
 use Rattle.segment_file.specs.Heads.{Head}
 use Rattle.segment_file.specs.Segments.{HoldsTree, HoldsLeaf}
+use Rattle.nearest_query.specs.declared.frontier.Waiting.{Waiting}
 use Rattle.documents.specs.NearestEntries.{near_of, nears_of}
 use Rattle.nearest_query.specs.Segments.{live_items, live_in, least_dist2, is_within, near_leaves, AreNearLeaves}
 use Rattle.nearest_query.specs.Fronts.{Front, IsWaiting, span, spread}
@@ -41,23 +42,85 @@ root_nodes w at i node old new roots at_is lt walk put all =
     nodes_put w at i node old new 0 front r.root r.tree put at_is lt (walk r.root r.tree r.has) r.has.tree.root_cell.hi_dims r.has.tree.root_cell.lo_dims
     r.has.tree.cells r.leaves all
 
+-- what the segments have up to one, and with it
+one_segment : (w : World) (g : ℕ → ℕ → ℕ) (i : ℕ)
+    → sum_by (λ j. span g j 0 (head_at w j).index.leaves) (range_with_len 0 (i + 1))
+    ≡ sum_by (λ j. span g j 0 (head_at w j).index.leaves) (range_with_len 0 i) + span g i 0 (head_at w i).index.leaves
+one_segment w g i =
+    let q = span_split (λ j. span g j 0 (head_at w j).index.leaves) 0 i 1 in
+    let z : zero + i ≡ i = omega arith in
+    let c = sum_by-cons (λ j. span g j 0 (head_at w j).index.leaves) (zero + i) [] in
+    let e : span g (zero + i) 0 (head_at w (zero + i)).index.leaves ≡ span g i 0 (head_at w i).index.leaves =
+    ap (λ k. span g k 0 (head_at w k).index.leaves) z in
+    omega (arith, q, c, e)
+
+-- a root that waits adds what its segment has
+root_adds : {D : ℕ} (w : World) (at : List ℤ) (i : ℕ) (node : NodeAt D) (old new : Front D) → HasRoots D w → i < length w.heads
+    → ((root : Region) (t : IndexTree) → HasTree D (head_at w i).index root t → IsAt node 0 front root t)
+    → IsWaiting at i node old new → (g : ℕ → ℕ → ℕ)
+    → sum_by (spread g) new.turns ≡ span g i 0 (head_at w i).index.leaves + sum_by (spread g) old.turns
+root_adds w at i node old new roots lt walk put g =
+    let r = roots i lt in
+    let facts = put.is 0 front r.root r.tree (walk r.root r.tree r.has) in
+    let count : node.leaves ≡ (head_at w i).index.leaves = facts.2 ∙ sym (shaped_count (head_at w i).index.leaves r.tree r.has.tree.shaped) in
+    let s = waiting_sum at i node old new put g in
+    let p : span g i node.first node.leaves ≡ span g i 0 (head_at w i).index.leaves = ap (λ k. span g i k node.leaves) facts.1 ∙ ap (λ k. span g i 0 k) count in
+    omega (arith, s, p)
+
 pub root_totals : {D : ℕ} (w : World) (at : List ℤ) (i : ℕ) (node : NodeAt D) (old new : Front D) → HasRoots D w → i < length w.heads
     → ((root : Region) (t : IndexTree) → HasTree D (head_at w i).index root t → IsAt node 0 front root t)
     → IsWaiting at i node old new → (g : ℕ → ℕ → ℕ)
     → sum_by (spread g) old.turns ≡ sum_by (λ j. span g j 0 (head_at w j).index.leaves) (range_with_len 0 i)
     → sum_by (spread g) new.turns ≡ sum_by (λ j. span g j 0 (head_at w j).index.leaves) (range_with_len 0 (i + 1))
 root_totals w at i node old new roots lt walk put g was =
-    let r = roots i lt in
-    let facts = put.is 0 front r.root r.tree (walk r.root r.tree r.has) in
-    let count : node.leaves ≡ (head_at w i).index.leaves = facts.2 ∙ sym (shaped_count (head_at w i).index.leaves r.tree r.has.tree.shaped) in
-    let s = waiting_sum at i node old new put g in
-    let p : span g i node.first node.leaves ≡ span g i 0 (head_at w i).index.leaves = ap (λ k. span g i k node.leaves) facts.1 ∙ ap (λ k. span g i 0 k) count in
-    let q = span_split (λ j. span g j 0 (head_at w j).index.leaves) 0 i 1 in
-    let z : zero + i ≡ i = omega arith in
-    let c = sum_by-cons (λ j. span g j 0 (head_at w j).index.leaves) (zero + i) [] in
-    let e : span g (zero + i) 0 (head_at w (zero + i)).index.leaves ≡ span g i 0 (head_at w i).index.leaves =
-    ap (λ k. span g k 0 (head_at w k).index.leaves) z in
-    omega (arith, s, p, q, c, e, was)
+    let a = root_adds w at i node old new roots lt walk put g in
+    let b = one_segment w g i in
+    omega (arith, a, b, was)
+
+pub root_most : {D : ℕ} (w : World) (at : List ℤ) (i : ℕ) (node : NodeAt D) (old new : Front D) → HasRoots D w → i < length w.heads
+    → ((root : Region) (t : IndexTree) → HasTree D (head_at w i).index root t → IsAt node 0 front root t)
+    → IsWaiting at i node old new → (g : ℕ → ℕ → ℕ)
+    → sum_by (spread g) old.turns ≤ sum_by (λ j. span g j 0 (head_at w j).index.leaves) (range_with_len 0 i)
+    → sum_by (spread g) new.turns ≤ sum_by (λ j. span g j 0 (head_at w j).index.leaves) (range_with_len 0 (i + 1))
+root_most w at i node old new roots lt walk put g was =
+    let a = root_adds w at i node old new roots lt walk put g in
+    let b = one_segment w g i in
+    omega (arith, a, b, was)
+
+-- a segment that has nothing of it may be passed over
+span_none : (h : ℕ → ℕ) (first count : ℕ) → ((n : ℕ) → h n ≡ 0) → sum_by h (range_with_len first count) ≡ 0
+span_none h first zero none = refl
+span_none h first (suc n) none =
+    let a = sum_by-cons h first (range_with_len (first + 1) n) in
+    let b = none first in
+    let c = span_none h (first + 1) n none in
+    omega (arith, a, b, c)
+
+pub passed_totals : (w : World) (i : ℕ) (turns : List Waiting) (g : ℕ → ℕ → ℕ) → ((n : ℕ) → g i n ≡ 0)
+    → sum_by (spread g) turns ≡ sum_by (λ j. span g j 0 (head_at w j).index.leaves) (range_with_len 0 i)
+    → sum_by (spread g) turns ≡ sum_by (λ j. span g j 0 (head_at w j).index.leaves) (range_with_len 0 (i + 1))
+passed_totals w i turns g none was =
+    let a = span_none (g i) 0 (head_at w i).index.leaves none in
+    let b = one_segment w g i in
+    omega (arith, a, b, was)
+
+pub passed_most : (w : World) (i : ℕ) (turns : List Waiting) (g : ℕ → ℕ → ℕ)
+    → sum_by (spread g) turns ≤ sum_by (λ j. span g j 0 (head_at w j).index.leaves) (range_with_len 0 i)
+    → sum_by (spread g) turns ≤ sum_by (λ j. span g j 0 (head_at w j).index.leaves) (range_with_len 0 (i + 1))
+passed_most w i turns g was = let b = one_segment w g i in omega (arith, b, was)
+
+-- where no number is live there is no live entry
+never_live : (live : LiveSet) (n : ℕ) → live.live ≡ [] → is_live live n ≡ false
+unfolding is_live
+never_live live n none = ap (λ (ns : List ℕ). list_any (λ d. nat_eq d n) ns) none
+
+no_live_items : (live : LiveSet) (xs : List Item) → live.live ≡ [] → live_items live xs ≡ []
+no_live_items live [] none = refl
+no_live_items live (x ∷ xs) none =
+    ap (λ (b : Bool). cond b (x ∷ live_items live xs) (live_items live xs)) (never_live live x.doc none) ∙ no_live_items live xs none
+
+pub no_nears : (w : World) (f : Near → ℕ) (i n : ℕ) → (live_at w i).live ≡ [] → sum_by f (nears_at w i n) ≡ 0
+no_nears w f i n none = ap (λ xs. sum_by f (nears_of w.at xs)) (no_live_items (live_at w i) (w.table i n) none)
 
 -- ---- the leaves of a segment, told by their numbers
 

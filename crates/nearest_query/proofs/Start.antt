@@ -24,7 +24,7 @@ use Rattle.nearest_query.specs.Segments.{live_items, live_in, AreSegments, AreNe
 use Rattle.nearest_query.specs.Fronts.{span, spread}
 use Rattle.nearest_query.specs.Search.{World, IsNode, IsSought, HasRoot, HasRoots, head_at, live_at, nears_at, one_within}
 use Rattle.nearest_query.specs.Segments.{no_head}
-use Rattle.nearest_query.proofs.Roots.{shaped_count, leaves_of, least_of, has_leaves, leaf_totals, near_totals, sum_in, near_in, HasNear}
+use Rattle.nearest_query.proofs.Roots.{shaped_count, leaves_of, least_of, has_leaves, leaf_totals, near_totals, sum_in, near_in, HasNear, no_nears}
 
 -- a segment's tree with its leaves
 pub record Opened (D : ℕ) (bytes : List ℕ) (head : Head) (items : List Item) : Type 0 where
@@ -106,7 +106,8 @@ module _ (D : ℕ) (at : List ℤ) (heads : List Head) (lives : List LiveSet) (f
   pub start : (buffer : List Item) (turns : List Waiting) (nodes : List (NodeAt D)) (found : Candidates) → length lives ≡ length heads
       → AreAdded [] (nears_of at buffer) found
       → All (IsNode D world nodes) turns
-      → ((g : ℕ → ℕ → ℕ) → sum_by (spread g) turns ≡ sum_by (λ i. span g i 0 (head_at world i).index.leaves) (range_with_len 0 (length heads)))
+      → ((g : ℕ → ℕ → ℕ) → ((i n : ℕ) → (live_at world i).live ≡ [] → g i n ≡ 0)
+      → sum_by (spread g) turns ≡ sum_by (λ i. span g i 0 (head_at world i).index.leaves) (range_with_len 0 (length heads)))
       → IsSought D world (nears_of at (live_in contents heads lives ++ buffer)) turns nodes found
   start buffer turns nodes found same added all totals = record {
     seen = added.after;
@@ -116,7 +117,7 @@ module _ (D : ℕ) (at : List ℤ) (heads : List Head) (lives : List LiveSet) (f
         let g : ℕ → ℕ → ℕ = λ i n. sum_by f (nears_at world i n) in
         let a = added.totals f in
         let z : sum_by f [] ≡ 0 = refl in
-        let t = totals g in
+        let t = totals g (no_nears world f) in
         let i = sum_in f at contents heads lives 0 (λ i. span g i 0 (head_at world i).index.leaves) same
         (λ i lt. let e : zero + i ≡ i = omega arith in ap (λ k. span g k 0 (head_at world k).index.leaves) e ∙ (root_at i lt).totals f) in
         let j = ap (sum_by f) (map-append (near_of at) (live_in contents heads lives) buffer)
@@ -125,11 +126,12 @@ module _ (D : ℕ) (at : List ℤ) (heads : List Head) (lives : List LiveSet) (f
   }
 
   pub start_near : (bound : Option ℕ) (turns : List Waiting) (n : ℕ) → AreNearLeaves D at bound heads n
-      → ((g : ℕ → ℕ → ℕ) → sum_by (spread g) turns ≡ sum_by (λ i. span g i 0 (head_at world i).index.leaves) (range_with_len 0 (length heads)))
-      → sum_by (spread (one_within world bound)) turns ≡ n
-  start_near bound turns n all totals =
-      totals (one_within world bound)
-      ∙ near_in D at bound heads 0 (λ i. span (one_within world bound) i 0 (head_at world i).index.leaves) n all
+      → ((g : ℕ → ℕ → ℕ) → sum_by (spread g) turns ≤ sum_by (λ i. span g i 0 (head_at world i).index.leaves) (range_with_len 0 (length heads)))
+      → sum_by (spread (one_within world bound)) turns ≤ n
+  start_near bound turns n all most =
+      let a = most (one_within world bound) in
+      let b = near_in D at bound heads 0 (λ i. span (one_within world bound) i 0 (head_at world i).index.leaves) n all
       (λ i lt.
       let e : zero + i ≡ i = omega arith in
-      subst (λ k. HasNear D at bound (head_of i) (span (one_within world bound) k 0 (head_at world k).index.leaves)) (sym e) ((root_at i lt).near bound))
+      subst (λ k. HasNear D at bound (head_of i) (span (one_within world bound) k 0 (head_at world k).index.leaves)) (sym e) ((root_at i lt).near bound)) in
+      omega (arith, a, b)

@@ -186,6 +186,34 @@ fn only_leaves_that_may_count_are_read(rt: HostRuntime) -> Result<(), Fail> {
     Ok(())
 }
 
+#[test]
+fn nothing_is_read_where_no_number_is_live(rt: HostRuntime) -> Result<(), Fail> {
+    let (mut folder, heads) = three_stored(rt.alloc())?;
+    let lives = [
+        LiveBits::of_docs(rt.alloc(), &[])?,
+        LiveBits::of_docs(rt.alloc(), &[])?,
+        LiveBits::of_docs(rt.alloc(), &[])?,
+    ];
+    let mut cache = PageCache::new(rt.alloc(), 4)?;
+    folder.plan(vec![in rt.alloc(); 0]?, None);
+    let found = nearest(
+        rt.alloc(),
+        &heads,
+        &lives,
+        &BUFFER,
+        &mut cache,
+        &mut folder,
+        &Point { c: [0] },
+        3,
+    )?;
+    same(
+        &rt,
+        found.as_slice(),
+        [Near { doc: 3, dist2: 100 }].as_slice(),
+    );
+    Ok(())
+}
+
 /// The two nearest to 6 among the three leaves, and the one that is nearest to 9 of two points.
 const TWO_FOUND: [Near; 2] = [Near { doc: 0, dist2: 1 }, Near { doc: 1, dist2: 1 }];
 

@@ -2,6 +2,8 @@
 
 use crate::asserts::{same, same_at};
 use crate::stored::{Stored, open_alone};
+use crate::walks::walked;
+use cell_relate::BoxShape;
 use live_bits::LiveBits;
 use nearest_query::nearest;
 use page_cache::PageCache;
@@ -147,5 +149,37 @@ fn ties_with_what_was_found_before(rt: HostRuntime) -> Result<(), Fail> {
     same(&rt, found.as_slice(), &ALL[..1]);
     let found = nearest_in_leaf(rt.alloc(), &[3], &BUFFER, [10, 5], 1)?;
     same(&rt, found.as_slice(), &ALL[1..2]);
+    Ok(())
+}
+
+/// The live numbers, and the hits of a box round the leaf: in the order of the leaf, whose numbers are in no row.
+const TAKEN: [(&[u32], &[u32]); 6] = [
+    (EACH, &[1, 0, 4, 2, 3, 5]),
+    // the first entry is dead, the last one, or those of the least and the greatest number
+    (&[0, 2, 3, 4, 5], &[0, 4, 2, 3, 5]),
+    (&[0, 1, 2, 3, 4], &[1, 0, 4, 2, 3]),
+    (&[1, 2, 3, 4], &[1, 4, 2, 3]),
+    (&[4], &[4]),
+    (&[], &[]),
+];
+
+#[test]
+fn taken_whole(rt: HostRuntime) -> Result<(), Fail> {
+    let stored = Stored {
+        id: 7,
+        fields: &FIELDS,
+        index: &INDEX,
+        leaves: &LEAF,
+    };
+    let (mut folder, head) = open_alone::<2>(rt.alloc(), &stored)?;
+    for (live, hits) in TAKEN {
+        let bits = LiveBits::of_docs(rt.alloc(), live)?;
+        let mut shape = BoxShape::new(Point { c: [6, 2] }, Point { c: [14, 8] });
+        let found = walked(rt.alloc(), &mut folder, &head, &bits, &mut shape)?
+            .ok()
+            .ok_or("no walk")?;
+        same_at(&rt, found.as_slice(), hits, &live);
+        same_at(&rt, shape.tests(), 0, &live);
+    }
     Ok(())
 }
