@@ -72,7 +72,9 @@ pub fn read_entries<const D: usize, F: Pages>(
         → NotDamaged result }
 {
     // where each live number has one entry, the list is never moved
-    let room = live.live_count().saturating_add(u32::from(head.leaf_size()));
+    let room = live
+        .live_count()
+        .saturating_add(u32::from(head.leaf_size()));
     let mut entries = Vec::with_capacity(alloc, room.min(head.entries()) as usize)?;
     let root = head.index().walk();
     gather(alloc, folder, cache, head, live, &root, &mut entries)?;
