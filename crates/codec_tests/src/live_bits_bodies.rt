@@ -107,8 +107,8 @@ fn cleared_numbers(rt: HostRuntime) -> Result<(), Fail> {
     spells(&rt, &before)
 }
 
-/// The numbers that a set is made of, one that is then cleared, how many numbers are passed over, and those of the seven
-/// numbers that stay.
+/// The numbers that a set is made of, one that is then cleared, how many numbers are passed over, and those of the
+/// seven numbers that stay.
 type Kept = (&'static [u32], Option<u32>, usize, &'static [u32]);
 
 /// What is asked for.

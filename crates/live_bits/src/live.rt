@@ -156,8 +156,8 @@ impl LiveBits {
         numbers.truncate(end);
     }
 
-    /// Moves those of the numbers from place `from` on that are live up to that place, in their order, and answers where
-    /// they end.
+    /// Moves those of the numbers from place `from` on that are live up to that place, in their order, and answers
+    /// where they end.
     fn move_live(&self, numbers: &mut [u32], from: usize) -> usize
         requires { from ≤ length numbers.old }
         ensures { take result numbers.new ≡ take from numbers.old ++ filter (is_live self.now) (drop from numbers.old) }

@@ -34,9 +34,8 @@ use std::alloc::{AllocError, Global};
 /// Of equally near ones the smaller comes first. `k` is 1 to 10,000.
 ///
 /// Leaves are read by way of the cache, and only those whose cell is as near as the last number found, of segments that
-/// have a live number. It answers a
-/// damage of a leaf that it had to read, Failed and Memory; a cache keeps nothing new then but pages of these
-/// segments.
+/// have a live number. It answers a damage of a leaf that it had to read, Failed and Memory; a cache keeps nothing new
+/// then but pages of these segments.
 pub fn nearest<const D: usize, F: Pages>(
     alloc: Global,
     heads: &[SegmentHead<D>],

@@ -20,7 +20,8 @@ loop-at-preserved-then-coordinate-x g c =
 
 pub overflow_add-at : goal.overflow_add-at
 overflow_add-at g c =
-    let ahead : c.min.result ≤ c.loop-at.end - (c.loop-at.at + 1) = subst (λ n. n ≤ c.loop-at.end - (c.loop-at.at + 1)) (sym c.min.ensures) (min_within c.loop-at.step (c.loop-at.end - (c.loop-at.at + 1))) in
+    let ahead : c.min.result ≤ c.loop-at.end - (c.loop-at.at + 1) =
+    subst (λ n. n ≤ c.loop-at.end - (c.loop-at.at + 1)) (sym c.min.ensures) (min_within c.loop-at.step (c.loop-at.end - (c.loop-at.at + 1))) in
     omega (arith, ahead, c.loop-at-test.true, c.loop-at.auto.end-fits)
 
 pub loop-at-preserved : goal.loop-at-preserved
