@@ -215,13 +215,13 @@ none_lasts None files = tt
 none_lasts (Some (Run cache forks)) files = commit_itself files
 none_lasts (Some (Session cache forks)) files = commit_itself files
 none_lasts (Some (Ranges cache forks)) files = commit_itself files
-none_lasts (Some (Explain cache)) files = tt
-none_lasts (Some (Count cache)) files = tt
-none_lasts (Some (Batch forks)) files = tt
+none_lasts (Some (Explain cache)) files = commit_itself files
+none_lasts (Some (Count cache)) files = commit_itself files
+none_lasts (Some (Batch forks)) files = commit_itself files
 none_lasts (Some (MergingBatch forks)) files = tt
-none_lasts (Some (Load columns forks)) files = tt
-none_lasts (Some (Generate docs seed forks)) files = tt
-none_lasts (Some Check) files = tt
+none_lasts (Some (Load columns forks)) files = commit_itself files
+none_lasts (Some (Generate docs seed forks)) files = commit_itself files
+none_lasts (Some Check) files = commit_itself files
 
 no_whole : (files : Files) → WholeLeaves files files status.Memory
 no_whole files = record { levels = λ state h a. absurd a; undone = inl (kept_itself files) }

@@ -50,13 +50,11 @@ TakesInput (Generate docs seed forks) left now s = Unit {0}
 
 -- ---- what lasts
 
--- Whatever a script ends with: what was kept is kept, or a commit has taken its place of which each listed file is
--- whole.
+-- Whatever a command but `batch --merge` ends with: what was kept is kept, or a commit has taken its place of which each
+-- listed file is whole.
 abbrev pub LastsAsked : Asked → (old new : Files) → Type 0
-LastsAsked (Run cache forks) old new = KeepsCommit old new
-LastsAsked (Session cache forks) old new = KeepsCommit old new
-LastsAsked (Ranges cache forks) old new = KeepsCommit old new
-LastsAsked _ old new = Unit {0}
+LastsAsked (MergingBatch forks) old new = Unit {0}
+LastsAsked _ old new = KeepsCommit old new
 
 -- ---- damage
 

@@ -90,7 +90,7 @@ pub fn run<S: Source, F: Folder, K: Sink, R: Threads + Sync, G: Gate>(
           before = F.reads folder.old;
           now = F.reads folder.new;
         }) result) (asked (map string_bytes words.now)) }
-    // what a script has committed lasts, whatever it ends with
+    // whatever it ends with, what was kept is, or a commit of which each listed file is whole
     ensures lasting { IsTrue F.told → OnAsked (λ a. LastsAsked a (F.files folder.old) (F.files folder.new))
         (asked (map string_bytes words.now)) }
     // why it ended otherwise

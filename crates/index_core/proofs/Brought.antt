@@ -17,10 +17,10 @@ use Rattle.segment_set.specs.Sets.{SetData}
 use Rattle.segment_set.specs.Kept.{HasCanonical, IsCommitOf}
 use Rattle.segment_set.proofs.Carried.{canon_file}
 use Rattle.index_core.specs.Brought.{BringsCommit, IsBuilt, IsWhole, KeepsCommit, WasListed}
-use Rattle.index_core.specs.Sessions.{AreTraced, IsListedWith}
+use Rattle.index_core.specs.Sessions.{AreTraced, GuardsSet, IsListedWith, ListsOnlyNamed}
 use Rattle.index_core.specs.Steps.{SaysCommit}
 use Rattle.index_core.proofs.Committing.{some_same}
-use Rattle.index_core.proofs.Guarding.{IsListedAs, zip_both}
+use Rattle.index_core.proofs.Guarding.{IsListedAs, says_some, zip_both}
 
 -- ---- a commit that was written
 
@@ -41,7 +41,6 @@ whole_of D f g parts others traced l p there is = record {
       (λ (h : IsListedWith D f p). inl (record {
         commit = h.commit;
         says = h.says;
-        dims = h.dims;
         was = h.listed;
         there = h.there;
         segment = h.is ∙ sym is.segment;
@@ -63,10 +62,16 @@ whole_of D f g parts others traced l p there is = record {
 -- the Commit file says the one that the set saved
 pub brings_commit : (D : ℕ) (f g : Files) (s : SetData) (c : CommitData) → IsCommitOf D s c
     → AllZip (λ (l : Listed) (p : Part). IsLiveFile l.segment l.generation (bytes_of (f (Live l.segment l.generation))) p.live) c.listed s.parts
-    → SameButTwo CommitNew Commit f g → IsCommitFile (bytes_of (g Commit)) c → AreTraced D f s.parts → BringsCommit f g
-brings_commit D f g s c of lives others says traced = record {
+    → SameButTwo CommitNew Commit f g → IsCommitFile (bytes_of (g Commit)) c → GuardsSet D f s → AreTraced D f s.parts → BringsCommit f g
+brings_commit D f g s c of lives others says guards traced = record {
   commit = c;
   says = says;
+  same = λ b before. ⊎_elim
+      (λ none. absurd (says_some f b none before))
+      (λ (h : ListsOnlyNamed D f s).
+      let is = one_file (bytes_of (f Commit)) b h.commit before h.says in
+      (ap (λ (d : CommitData). d.dims) is ∙ h.dims ∙ sym of.dims, ap (λ (d : CommitData). d.leaf) is ∙ h.leaf ∙ sym of.leaf))
+      guards;
   whole = λ l inside.
       let (p, there, is) = partner_for (IsListedAs g) c.listed s.parts all l inside in
       subst (λ (n : ℕ). IsWhole n f g l) (sym of.dims) (whole_of D f g s.parts others traced l p there is);
@@ -88,10 +93,10 @@ brings_commit D f g s c of lives others says traced = record {
 -- it says that one, or all is kept
 pub keeps_flight : (D : ℕ) (f g : Files) (s : SetData) (c : CommitData) (saved : Option CommitData) → saved ≡ Some c → IsCommitOf D s c
     → AllZip (λ (l : Listed) (p : Part). IsLiveFile l.segment l.generation (bytes_of (f (Live l.segment l.generation))) p.live) c.listed s.parts
-    → SameButTwo CommitNew Commit f g → AreTraced D f s.parts → SameKept f g ⊎ SaysCommit g saved → KeepsCommit f g
-keeps_flight D f g s c saved is of lives others traced which = ⊎_elim inl
+    → SameButTwo CommitNew Commit f g → GuardsSet D f s → AreTraced D f s.parts → SameKept f g ⊎ SaysCommit g saved → KeepsCommit f g
+keeps_flight D f g s c saved is of lives others guards traced which = ⊎_elim inl
     (λ (d, same, says). inr (brings_commit D f g s c of lives others
-    (subst (λ (e : CommitData). IsCommitFile (bytes_of (g Commit)) e) (some_same d c (sym same ∙ is)) says) traced))
+    (subst (λ (e : CommitData). IsCommitFile (bytes_of (g Commit)) e) (some_same d c (sym same ∙ is)) says) guards traced))
     which
 
 -- ---- one call after another
@@ -101,10 +106,9 @@ still_whole : (D : ℕ) (f g h : Files) (l : Listed) → h (Segment l.segment) �
     → h (Live l.segment l.generation) ≡ g (Live l.segment l.generation) → IsWhole D f g l → IsWhole D f h l
 still_whole D f g h l segment live whole = record {
   segment = ⊎_elim
-      (λ (w : WasListed D f g l). inl (record {
+      (λ (w : WasListed f g l). inl (record {
         commit = w.commit;
         says = w.says;
-        dims = w.dims;
         was = w.was;
         there = w.there;
         segment = w.segment;
@@ -127,20 +131,21 @@ brings_then_kept : (f g h : Files) → BringsCommit f g → SameKept g h → Bri
 brings_then_kept f g h first then = record {
   commit = first.commit;
   says = still_says g h first.commit then first.says;
+  same = first.same;
   whole = λ l inside.
       still_whole first.commit.dims f g h l (then.listed first.commit first.says (Segment l.segment) (l, inside, refl))
       (then.listed first.commit first.says (Live l.segment l.generation) (l, inside, refl, refl)) (first.whole l inside);
 }
 
 -- a segment that was listed in between was listed before, or built since
-was_before : (D : ℕ) (f g h : Files) (l : Listed) → KeepsCommit f g → WasListed D g h l → WasListed D f h l ⊎ IsBuilt D h l
-was_before D f g h l first w = ⊎_elim
+was_before : (D : ℕ) (f g h : Files) (l : Listed) → KeepsCommit f g
+    → ((c : CommitData) → IsCommitFile (bytes_of (g Commit)) c → c.dims ≡ D) → WasListed g h l → WasListed f h l ⊎ IsBuilt D h l
+was_before D f g h l first dims w = ⊎_elim
     (λ (kept : SameKept f g).
     let says = said_before f g w.commit kept w.says in
     inl (record {
       commit = w.commit;
       says = says;
-      dims = w.dims;
       was = w.was;
       there = w.there;
       segment = w.segment;
@@ -150,15 +155,14 @@ was_before D f g h l first w = ⊎_elim
     (λ (brings : BringsCommit f g).
     let same : brings.commit ≡ w.commit = one_file (bytes_of (g Commit)) brings.commit w.commit brings.says w.says in
     let whole = brings.whole w.was (subst (λ (c : CommitData). Contains c.listed w.was) (sym same) w.there) in
-    from_whole (subst (λ (n : ℕ). IsWhole n f g w.was) (ap (λ (c : CommitData). c.dims) same ∙ w.dims) whole))
+    from_whole (subst (λ (n : ℕ). IsWhole n f g w.was) (dims brings.commit brings.says) whole))
     first
   where
-    from_whole : IsWhole D f g w.was → WasListed D f h l ⊎ IsBuilt D h l
+    from_whole : IsWhole D f g w.was → WasListed f h l ⊎ IsBuilt D h l
     from_whole whole = ⊎_elim
-        (λ (v : WasListed D f g w.was). inl (record {
+        (λ (v : WasListed f g w.was). inl (record {
           commit = v.commit;
           says = v.says;
-          dims = v.dims;
           was = v.was;
           there = v.there;
           segment = v.segment ∙ w.segment;
@@ -178,10 +182,17 @@ keeps_then_brings : (f g h : Files) → KeepsCommit f g → BringsCommit g h →
 keeps_then_brings f g h first then = record {
   commit = then.commit;
   says = then.says;
+  same = λ c says. ⊎_elim
+      (λ (kept : SameKept f g). then.same c (still_says f g c kept says))
+      (λ (brings : BringsCommit f g).
+      let one = brings.same c says in
+      let two = then.same brings.commit brings.says in
+      (one.0 ∙ two.0, one.1 ∙ two.1))
+      first;
   whole = λ l inside.
       let whole = then.whole l inside in
       record {
-        segment = ⊎_elim (was_before then.commit.dims f g h l first) inr whole.segment;
+        segment = ⊎_elim (was_before then.commit.dims f g h l first (λ c says. (then.same c says).0)) inr whole.segment;
         live = whole.live;
         file = whole.file;
         count = whole.count;

@@ -12,10 +12,9 @@ use Rattle.stored_index.specs.Kept.{SameKept}
 use Rattle.segment_set.specs.Kept.{HasCanonical}
 
 -- the commit of before listed the segment too, and its file is as it was
-pub record WasListed (D : ℕ) (old new : Files) (l : Listed) : Type 0 where
+pub record WasListed (old new : Files) (l : Listed) : Type 0 where
   pub commit : CommitData
   pub says : IsCommitFile (bytes_of (old Commit)) commit
-  pub dims : commit.dims ≡ D
   pub was : Listed
   pub there : Contains commit.listed was
   pub segment : was.segment ≡ l.segment
@@ -31,15 +30,17 @@ pub record IsBuilt (D : ℕ) (files : Files) (l : Listed) : Type 0 where
 
 -- both files of a listed segment are there, and as many of its numbers are live as the commit says
 pub record IsWhole (D : ℕ) (old new : Files) (l : Listed) : Type 0 where
-  pub segment : WasListed D old new l ⊎ IsBuilt D new l
+  pub segment : WasListed old new l ⊎ IsBuilt D new l
   pub live : LiveSet
   pub file : IsLiveFile l.segment l.generation (bytes_of (new (Live l.segment l.generation))) live
   pub count : length live.live ≡ l.live
 
--- the Commit file says a commit, and each segment that it lists is whole
+-- The Commit file says a commit, of the dimensions and leaf size of the one that it said before, if it said one. Each
+-- segment that it lists is whole.
 pub record BringsCommit (old new : Files) : Type 0 where
   pub commit : CommitData
   pub says : IsCommitFile (bytes_of (new Commit)) commit
+  pub same : (c : CommitData) → IsCommitFile (bytes_of (old Commit)) c → (c.dims ≡ commit.dims) × (c.leaf ≡ commit.leaf)
   pub whole : (l : Listed) → Contains commit.listed l → IsWhole commit.dims old new l
 
 -- what is kept is the same, or a whole commit has taken its place

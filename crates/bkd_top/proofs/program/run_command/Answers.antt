@@ -5,6 +5,7 @@ use Rattle.bkd_top.specs.Commands.{is_session, reads_input, reads_whole}
 use Rattle.run_status.specs.Ends.{DoesNothing}
 use Rattle.bkd_top.proofs.Commanding.{batch_ends, called, check_ends, count_ends, explain_ends, generate_ends, is_so, left_by, load_ends, ranges_ends, run_ends}
 use Rattle.bkd_top.proofs.Commanding.{lasts_by, merging_ends, session_asked, taken_by}
+use Rattle.index_core.proofs.Brought.{commit_equal}
 use Rattle.script_run.proofs.Starting.{canonical_still}
 use Rattle.bkd_top.proofs.program.run_command.Goals as goal
 
@@ -48,7 +49,7 @@ returns-in-Generate-clause-leaves g c = λ told.
 
 pub returns-in-Generate-clause-lasting : goal.returns-in-Generate-clause-lasting
 returns-in-Generate-clause-lasting g c = λ told.
-    lasts_by c.args.words _ (g.F.Pages.files c.args.folder.now) (g.F.Pages.files c.run_generate.new.folder) (ap said c.in-Generate.is) tt
+    lasts_by c.args.words _ (g.F.Pages.files c.args.folder.now) (g.F.Pages.files c.run_generate.new.folder) (ap said c.in-Generate.is) (c.run_generate.ensures.lasting told)
 
 pub returns-in-Check-clause-leaves : goal.returns-in-Check-clause-leaves
 returns-in-Check-clause-leaves g c = λ told.
@@ -59,7 +60,8 @@ returns-in-Check-clause-leaves g c = λ told.
 
 pub returns-in-Check-clause-lasting : goal.returns-in-Check-clause-lasting
 returns-in-Check-clause-lasting g c = λ told.
-    lasts_by c.args.words _ (g.F.Pages.files c.args.folder.now) (g.F.Pages.files c.run_check.new.folder) (ap said c.in-Check.is) tt
+    lasts_by c.args.words _ (g.F.Pages.files c.args.folder.now) (g.F.Pages.files c.run_check.new.folder) (ap said c.in-Check.is)
+    (commit_equal _ _ (c.run_check.ensures.checks told).files)
 
 pub returns-in-Check-clause-ends : goal.returns-in-Check-clause-ends
 returns-in-Check-clause-ends g c = λ told state h source.
@@ -132,7 +134,7 @@ returns-in-Load g c =
       leaves = λ told. left_by c.args.words _
           (called g.S.Source.told g.K.Sink.told input old new before after (g.F.Pages.reads c.args.folder.now) (g.F.Pages.reads c.run_load.new.folder))
           c.run_load.result is (e.whole told);
-      lasting = λ told. lasts_by c.args.words _ old new is tt;
+      lasting = λ told. lasts_by c.args.words _ old new is (e.lasting told);
       damage = e.damage;
       causes = e.causes;
     }
@@ -158,7 +160,7 @@ returns-in-Explain g c =
       leaves = λ told. left_by c.args.words _
           (called g.S.Source.told g.K.Sink.told input old new before after (g.F.Pages.reads c.args.folder.now) (g.F.Pages.reads c.run_explain.new.folder))
           c.run_explain.result is (record { files = e.files told; reads = λ source. e.reads source told });
-      lasting = λ told. lasts_by c.args.words _ old new is tt;
+      lasting = λ told. lasts_by c.args.words _ old new is (commit_equal old new (e.files told));
       damage = e.damage;
       causes = e.causes;
     }
@@ -210,7 +212,7 @@ returns-in-Count g c =
       leaves = λ told. left_by c.args.words _
           (called g.S.Source.told g.K.Sink.told input old new before after (g.F.Pages.reads c.args.folder.now) (g.F.Pages.reads c.run_count.new.folder))
           c.run_count.result is (record { files = e.files told; reads = λ source. e.reads source told });
-      lasting = λ told. lasts_by c.args.words _ old new is tt;
+      lasting = λ told. lasts_by c.args.words _ old new is (commit_equal old new (e.files told));
       damage = record { never = e.whole; evident = e.evident };
       causes = e.causes;
     }
@@ -263,7 +265,7 @@ returns-in-Batch g c =
           (called g.S.Source.told g.K.Sink.told input old new before after (g.F.Pages.reads c.args.folder.now) (g.F.Pages.reads c.run_batch.new.folder))
           c.run_batch.result is
           (record { files = e.files told; reads = e.reads told; stored = e.stored told; unwritten = λ none. ap g.K.Sink.written (e.unwritten none) });
-      lasting = λ told. lasts_by c.args.words _ old new is tt;
+      lasting = λ told. lasts_by c.args.words _ old new is (commit_equal old new (e.files told));
       damage = record { never = e.whole; evident = e.evident };
       causes = e.causes;
     }

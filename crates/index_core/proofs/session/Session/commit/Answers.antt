@@ -261,6 +261,7 @@ returns-in_err-write-clause-lasting g c told trusts =
     (keeps_flight g.row.D saved written c.save.new.self c.in_ok-commit.commit c.write.new.self.set.saved
     (ap (λ (u : SetData). u.saved) c.write.ensures.set ∙ c.in_ok-commit.ensures.saved) c.in_ok-commit.ensures.commit
     (c.in_ok-commit.ensures.live told) (c.write.ensures.others told)
+    (set_after _ _ _ _ _ _ told c.save.ensures.kept c.save.ensures.stays.leaf before.guards.set)
     (traced_by _ _ _ _ _ c.save.new.self told c.save.ensures.kept c.save.ensures.follows (c.save.ensures.canon told) before)
     (c.in_err-write.ensures.kept told))
 
@@ -269,15 +270,14 @@ returns-clause-lasting g c told trusts =
     let before = subst (Trusts g.row.D (g.F.Pages.files c.args.folder.now)) (sym c.self.view_is) trusts in
     let saved = g.F.Pages.files c.save.new.folder in
     let written = g.F.Pages.files c.write.new.folder in
+    let guards = set_after _ _ _ _ _ _ told c.save.ensures.kept c.save.ensures.stays.leaf before.guards.set in
     commit_swept (g.F.Pages.files c.args.folder.now) written (g.F.Pages.files c.sweep.new.folder)
     (commit_after (g.F.Pages.files c.args.folder.now) saved written (kept_after_calls _ _ _ _ _ _ told c.save.ensures.kept before.guards.set)
     (keeps_flight g.row.D saved written c.save.new.self c.in_ok-commit.commit c.write.new.self.commit c.in_ok-write.ensures.written.0
-    c.in_ok-commit.ensures.commit (c.in_ok-commit.ensures.live told) (c.write.ensures.others told)
+    c.in_ok-commit.ensures.commit (c.in_ok-commit.ensures.live told) (c.write.ensures.others told) guards
     (traced_by _ _ _ _ _ c.save.new.self told c.save.ensures.kept c.save.ensures.follows (c.save.ensures.canon told) before)
     (inr (c.in_ok-write.ensures.kept told))))
-    (c.sweep.ensures.kept told
-    (c.write.ensures.guards told (set_after _ _ _ _ _ _ told c.save.ensures.kept c.save.ensures.stays.leaf before.guards.set)
-    (c.in_ok-commit.ensures.live told)))
+    (c.sweep.ensures.kept told (c.write.ensures.guards told guards (c.in_ok-commit.ensures.live told)))
 
 pub returns-in_err-write-clause-evident : goal.returns-in_err-write-clause-evident
 returns-in_err-write-clause-evident g c =
