@@ -14,7 +14,7 @@ use Rattle.count_queries.specs.Counted as counts
 use Rattle.batch_queries.specs.Batched.{TellsBatch}
 use Rattle.batch_queries.specs.Ends.{EndsBatch}
 use Rattle.batch_queries.specs.Merging.{EndsMerging, MergeLeaves}
-use Rattle.bkd_top.specs.Calls.{Call, LastsAsked, LeavesAsked, OnAsked, TakesInput, WholeLeaves}
+use Rattle.bkd_top.specs.Calls.{Call, LeavesAsked, OnAsked, TakesInput, WholeLeaves}
 use Rattle.bkd_top.specs.Checking.{EndsCheck}
 use Rattle.bkd_top.specs.Commands.{Before, EndsAsked, EndsExplain, EndsWhole, reads_input, reads_whole}
 use Rattle.run_status.specs.Causes.{ReadsInput}
@@ -205,29 +205,11 @@ called source sink input old new written written_now before now = record {
 pub left_by : (w : Words) (a : Asked) (c : Call) (s : Status) → said w ≡ a → LeavesAsked a c s → LeavesAsked (said w) c s
 left_by w a c s is leaves = subst (λ (b : Asked). LeavesAsked b c s) (sym is) leaves
 
--- and of which so much lasts
-pub lasts_by : (w : Words) (a : Asked) (old new : Files) → said w ≡ a → LastsAsked a old new → LastsAsked (said w) old new
-lasts_by w a old new is lasts = subst (λ (b : Asked). LastsAsked b old new) (sym is) lasts
-
--- where nothing was done all lasts
-pub none_lasts : (o : Option Asked) (files : Files) → OnAsked (λ a. LastsAsked a files files) o
-none_lasts None files = tt
-none_lasts (Some (Run cache forks)) files = commit_itself files
-none_lasts (Some (Session cache forks)) files = commit_itself files
-none_lasts (Some (Ranges cache forks)) files = commit_itself files
-none_lasts (Some (Explain cache)) files = commit_itself files
-none_lasts (Some (Count cache)) files = commit_itself files
-none_lasts (Some (Batch forks)) files = commit_itself files
-none_lasts (Some (MergingBatch forks)) files = tt
-none_lasts (Some (Load columns forks)) files = commit_itself files
-none_lasts (Some (Generate docs seed forks)) files = commit_itself files
-none_lasts (Some Check) files = commit_itself files
-
 no_whole : (files : Files) → WholeLeaves files files status.Memory
 no_whole files = record { levels = λ state h a. absurd a; undone = inl (kept_itself files) }
 
 no_merge : (files : Files) → MergeLeaves files files status.Memory
-no_merge files = record { stored = λ state h. h; kept = inl (kept_itself files); merged = λ a. absurd a; levels = λ a. absurd a; canon = λ a. absurd a }
+no_merge files = record { stored = λ state h. h; kept = inl (kept_itself files); lasting = inl (kept_itself files); merged = λ a. absurd a; levels = λ a. absurd a; canon = λ a. absurd a }
 
 -- where memory was wanting before anything was done each command has left what was there
 none_left_of : (a : Asked) (source sink : Bool) (input written : List ℕ) (files : Files) (reads : ℕ)

@@ -8,7 +8,6 @@ use Rattle.command_words.specs.Commands.{MergingBatch}
 use Rattle.index_model.specs.State.{State}
 use Rattle.stored_index.specs.Stored.{IsStored}
 use Rattle.index_opening.specs.Evidence.{IsEvident}
-use Rattle.index_core.specs.Brought.{KeepsCommit}
 use Rattle.index_core.specs.Light.{KeepsLevels}
 use Rattle.run_status.specs.Ends.{IsAnswer, IsDamaged, OnStatusDamage}
 use Rattle.run_status.specs.declared.status.Status.{Status}
@@ -47,14 +46,6 @@ TakesInput (Batch forks) left now s = ReadsInput left now s
 TakesInput (MergingBatch forks) left now s = ReadsInput left now s
 TakesInput Check left now s = Unit {0}
 TakesInput (Generate docs seed forks) left now s = Unit {0}
-
--- ---- what lasts
-
--- Whatever a command but `batch --merge` ends with: what was kept is kept, or a commit has taken its place of which each
--- listed file is whole.
-abbrev pub LastsAsked : Asked → (old new : Files) → Type 0
-LastsAsked (MergingBatch forks) old new = Unit {0}
-LastsAsked _ old new = KeepsCommit old new
 
 -- ---- damage
 

@@ -5,9 +5,10 @@ ghost use Rattle.index_model.specs.State.{State};
 ghost use Rattle.stored_index.specs.Stored.{IsStored};
 ghost use Rattle.run_status.specs.Ends.{DoesNothing};
 ghost use Rattle.command_words.specs.Commands.{Asked, IsWithin, asked, said};
+ghost use Rattle.index_core.specs.Brought.{KeepsCommit};
 ghost use Rattle.index_core.specs.Whole.{HasNewCanonical};
 ghost use Rattle.run_status.specs.Causes.{HasCauses, NoneRose, ReadsInput};
-ghost use Rattle.bkd_top.specs.Calls.{LastsAsked, LeavesAsked, OnAsked, TakesInput, TellsDamage, TellsUsage};
+ghost use Rattle.bkd_top.specs.Calls.{LeavesAsked, OnAsked, TakesInput, TellsDamage, TellsUsage};
 ghost use Rattle.run_status.specs.Ends.{IsAnswer};
 ghost use Rattle.bkd_top.specs.Commands.{EndsAsked, does, is_session, reads_input, reads_whole};
 
@@ -91,8 +92,7 @@ pub fn run<S: Source, F: Folder, K: Sink, R: Threads + Sync, G: Gate>(
           now = F.reads folder.new;
         }) result) (asked (map string_bytes words.now)) }
     // whatever it ends with, what was kept is, or a commit of which each listed file is whole
-    ensures lasting { IsTrue F.told → OnAsked (λ a. LastsAsked a (F.files folder.old) (F.files folder.new))
-        (asked (map string_bytes words.now)) }
+    ensures lasting { IsTrue F.told → KeepsCommit (F.files folder.old) (F.files folder.new) }
     // why it ended otherwise
     ensures damage { TellsDamage (IsTrue F.told) (F.files folder.old) (F.files folder.new) result }
     ensures causes { HasCauses
@@ -142,7 +142,7 @@ fn run_command<S: Source, F: Folder, K: Sink, R: Threads + Sync, G: Gate>(
           before = F.reads folder.old;
           now = F.reads folder.new;
         }) result }
-    ensures lasting { IsTrue F.told → LastsAsked (said words) (F.files folder.old) (F.files folder.new) }
+    ensures lasting { IsTrue F.told → KeepsCommit (F.files folder.old) (F.files folder.new) }
     ensures damage { TellsDamage (IsTrue F.told) (F.files folder.old) (F.files folder.new) result }
     ensures causes { HasCauses
         (record { source = S.faults input.old; folder = F.faults folder.old; sink = K.faults out.old })

@@ -2,10 +2,11 @@
 use Rattle.std.proofs.Common.{arith, ◌∙◌, ◌≡◌, true, false, Option, Err, IsTrue, refl, sym, ap, subst, inl, inr}
 use Rattle.command_words.specs.Commands.{Asked}
 use Rattle.command_words.specs.declared.WordsFault.{WordsFault}
-use Rattle.bkd_top.specs.Calls.{LastsAsked, LeavesAsked, OnAsked, TakesInput}
+use Rattle.bkd_top.specs.Calls.{LeavesAsked, OnAsked, TakesInput}
 use Rattle.bkd_top.specs.Commands.{EndsAsked, does, is_session, reads_input, reads_whole}
 use Rattle.run_status.specs.declared.status.Status.TheVariants as status
-use Rattle.bkd_top.proofs.Commanding.{asked_is, completes, is_none_and, no_memory_ends, none_lasts, none_left, none_taken, taken_whole, whole_reads}
+use Rattle.index_core.proofs.Brought.{commit_itself}
+use Rattle.bkd_top.proofs.Commanding.{asked_is, completes, is_none_and, no_memory_ends, none_left, none_taken, taken_whole, whole_reads}
 use Rattle.bkd_top.proofs.program.run.Goals as goal
 
 pub returns-in-Ok-clause-canon : goal.returns-in-Ok-clause-canon
@@ -117,12 +118,10 @@ returns-in-Err-Memory-clause-leaves g c = λ told.
     (g.F.Pages.reads c.args.folder.now)
 
 pub returns-in-Ok-clause-lasting : goal.returns-in-Ok-clause-lasting
-returns-in-Ok-clause-lasting g c = λ told.
-    subst (λ (o : Option Asked). OnAsked (λ a. LastsAsked a (g.F.Pages.files c.args.folder.now) (g.F.Pages.files c.run_command.new.folder)) o)
-    (sym c.in-Ok.ensures.words) (c.run_command.ensures.lasting told)
+returns-in-Ok-clause-lasting g c = c.run_command.ensures.lasting
 
 pub returns-in-Err-Usage-clause-lasting : goal.returns-in-Err-Usage-clause-lasting
-returns-in-Err-Usage-clause-lasting g c = λ told. none_lasts _ (g.F.Pages.files c.args.folder.now)
+returns-in-Err-Usage-clause-lasting g c = λ told. commit_itself (g.F.Pages.files c.args.folder.now)
 
 pub returns-in-Err-Memory-clause-lasting : goal.returns-in-Err-Memory-clause-lasting
-returns-in-Err-Memory-clause-lasting g c = λ told. none_lasts _ (g.F.Pages.files c.args.folder.now)
+returns-in-Err-Memory-clause-lasting g c = λ told. commit_itself (g.F.Pages.files c.args.folder.now)

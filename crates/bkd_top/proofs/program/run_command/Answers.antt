@@ -4,7 +4,7 @@ use Rattle.command_words.specs.Commands.{Asked, said}
 use Rattle.bkd_top.specs.Commands.{is_session, reads_input, reads_whole}
 use Rattle.run_status.specs.Ends.{DoesNothing}
 use Rattle.bkd_top.proofs.Commanding.{batch_ends, called, check_ends, count_ends, explain_ends, generate_ends, is_so, left_by, load_ends, ranges_ends, run_ends}
-use Rattle.bkd_top.proofs.Commanding.{lasts_by, merging_ends, session_asked, taken_by}
+use Rattle.bkd_top.proofs.Commanding.{merging_ends, session_asked, taken_by}
 use Rattle.index_core.proofs.Brought.{commit_equal}
 use Rattle.script_run.proofs.Starting.{canonical_still}
 use Rattle.bkd_top.proofs.program.run_command.Goals as goal
@@ -48,8 +48,7 @@ returns-in-Generate-clause-leaves g c = λ told.
     c.run_generate.result (ap said c.in-Generate.is) (c.run_generate.ensures.whole told)
 
 pub returns-in-Generate-clause-lasting : goal.returns-in-Generate-clause-lasting
-returns-in-Generate-clause-lasting g c = λ told.
-    lasts_by c.args.words _ (g.F.Pages.files c.args.folder.now) (g.F.Pages.files c.run_generate.new.folder) (ap said c.in-Generate.is) (c.run_generate.ensures.lasting told)
+returns-in-Generate-clause-lasting g c = c.run_generate.ensures.lasting
 
 pub returns-in-Check-clause-leaves : goal.returns-in-Check-clause-leaves
 returns-in-Check-clause-leaves g c = λ told.
@@ -60,8 +59,7 @@ returns-in-Check-clause-leaves g c = λ told.
 
 pub returns-in-Check-clause-lasting : goal.returns-in-Check-clause-lasting
 returns-in-Check-clause-lasting g c = λ told.
-    lasts_by c.args.words _ (g.F.Pages.files c.args.folder.now) (g.F.Pages.files c.run_check.new.folder) (ap said c.in-Check.is)
-    (commit_equal _ _ (c.run_check.ensures.checks told).files)
+    commit_equal (g.F.Pages.files c.args.folder.now) (g.F.Pages.files c.run_check.new.folder) (c.run_check.ensures.files told)
 
 pub returns-in-Check-clause-ends : goal.returns-in-Check-clause-ends
 returns-in-Check-clause-ends g c = λ told state h source.
@@ -107,7 +105,7 @@ returns-in-Run g c =
       leaves = λ told. left_by c.args.words _
           (called g.S.Source.told g.K.Sink.told input old new before after (g.F.Pages.reads c.args.folder.now) (g.F.Pages.reads c.run_script.new.folder))
           c.run_script.result is (λ source. e.costs source told);
-      lasting = λ told. lasts_by c.args.words _ old new is (e.lasting told);
+      lasting = λ told. e.lasting told;
       damage = e.damage;
       causes = e.causes;
     }
@@ -134,7 +132,7 @@ returns-in-Load g c =
       leaves = λ told. left_by c.args.words _
           (called g.S.Source.told g.K.Sink.told input old new before after (g.F.Pages.reads c.args.folder.now) (g.F.Pages.reads c.run_load.new.folder))
           c.run_load.result is (e.whole told);
-      lasting = λ told. lasts_by c.args.words _ old new is (e.lasting told);
+      lasting = λ told. e.lasting told;
       damage = e.damage;
       causes = e.causes;
     }
@@ -160,7 +158,7 @@ returns-in-Explain g c =
       leaves = λ told. left_by c.args.words _
           (called g.S.Source.told g.K.Sink.told input old new before after (g.F.Pages.reads c.args.folder.now) (g.F.Pages.reads c.run_explain.new.folder))
           c.run_explain.result is (record { files = e.files told; reads = λ source. e.reads source told });
-      lasting = λ told. lasts_by c.args.words _ old new is (commit_equal old new (e.files told));
+      lasting = λ told. commit_equal old new (e.files told);
       damage = e.damage;
       causes = e.causes;
     }
@@ -186,7 +184,7 @@ returns-in-Session g c =
       leaves = λ told. left_by c.args.words _
           (called g.S.Source.told g.K.Sink.told input old new before after (g.F.Pages.reads c.args.folder.now) (g.F.Pages.reads c.run_session.new.folder))
           c.run_session.result is (λ source. e.costs source told);
-      lasting = λ told. lasts_by c.args.words _ old new is (e.lasting told);
+      lasting = λ told. e.lasting told;
       damage = e.damage;
       causes = e.causes;
     }
@@ -212,7 +210,7 @@ returns-in-Count g c =
       leaves = λ told. left_by c.args.words _
           (called g.S.Source.told g.K.Sink.told input old new before after (g.F.Pages.reads c.args.folder.now) (g.F.Pages.reads c.run_count.new.folder))
           c.run_count.result is (record { files = e.files told; reads = λ source. e.reads source told });
-      lasting = λ told. lasts_by c.args.words _ old new is (commit_equal old new (e.files told));
+      lasting = λ told. commit_equal old new (e.files told);
       damage = record { never = e.whole; evident = e.evident };
       causes = e.causes;
     }
@@ -238,7 +236,7 @@ returns-in-Ranges g c =
       leaves = λ told. left_by c.args.words _
           (called g.S.Source.told g.K.Sink.told input old new before after (g.F.Pages.reads c.args.folder.now) (g.F.Pages.reads c.run_ranges.new.folder))
           c.run_ranges.result is (λ source. e.costs source told);
-      lasting = λ told. lasts_by c.args.words _ old new is (e.lasting told);
+      lasting = λ told. e.lasting told;
       damage = e.damage;
       causes = e.causes;
     }
@@ -265,7 +263,7 @@ returns-in-Batch g c =
           (called g.S.Source.told g.K.Sink.told input old new before after (g.F.Pages.reads c.args.folder.now) (g.F.Pages.reads c.run_batch.new.folder))
           c.run_batch.result is
           (record { files = e.files told; reads = e.reads told; stored = e.stored told; unwritten = λ none. ap g.K.Sink.written (e.unwritten none) });
-      lasting = λ told. lasts_by c.args.words _ old new is (commit_equal old new (e.files told));
+      lasting = λ told. commit_equal old new (e.files told);
       damage = record { never = e.whole; evident = e.evident };
       causes = e.causes;
     }
@@ -292,7 +290,7 @@ returns-in-MergingBatch g c =
       leaves = λ told. left_by c.args.words _
           (called g.S.Source.told g.K.Sink.told input old new before after (g.F.Pages.reads c.args.folder.now) (g.F.Pages.reads c.run_merging_batch.new.folder))
           c.run_merging_batch.result is (record { leaves = e.leaves told; stored = e.stored told });
-      lasting = λ told. lasts_by c.args.words _ old new is tt;
+      lasting = λ told. (e.leaves told).lasting;
       damage = record { never = e.whole; evident = e.evident };
       causes = e.causes;
     }
