@@ -59,7 +59,7 @@ returns-in-Check-clause-leaves g c = λ told.
 
 pub returns-in-Check-clause-lasting : goal.returns-in-Check-clause-lasting
 returns-in-Check-clause-lasting g c = λ told.
-    commit_equal (g.F.Pages.files c.args.folder.now) (g.F.Pages.files c.run_check.new.folder) (c.run_check.ensures.files told)
+    commit_equal (g.F.Pages.files c.args.folder.now) (g.F.Pages.files c.run_check.new.folder) (c.run_check.ensures.checks told).files
 
 pub returns-in-Check-clause-ends : goal.returns-in-Check-clause-ends
 returns-in-Check-clause-ends g c = λ told state h source.
