@@ -50,8 +50,8 @@ TakesInput (Generate docs seed forks) left now s = Unit {0}
 
 -- ---- what lasts
 
--- Whatever a command but `batch --merge` ends with: what was kept is kept, or a commit has taken its place of which each
--- listed file is whole.
+-- Whatever a command but `batch --merge` ends with: what was kept is kept, or a commit has taken its place of which
+-- each listed file is whole.
 abbrev pub LastsAsked : Asked → (old new : Files) → Type 0
 LastsAsked (MergingBatch forks) old new = Unit {0}
 LastsAsked _ old new = KeepsCommit old new
