@@ -7,11 +7,11 @@ room=$(mktemp -d)
 trap 'rm -rf "$room"' EXIT
 failed=0
 
-# a checkout of two crates, with the launcher and the release's scripts
-mkdir -p "$room/at/crates/bkd/src" "$room/at/crates/low/src" "$room/at/crates/low/specs" "$room/at/release" "$room/tools" "$room/index"
+# a checkout of three crates, one of them large, with the launcher and the release's scripts
+mkdir -p "$room/at/crates/"{bkd/src,low/src,low/specs,index_core/src} "$room/at/release" "$room/tools" "$room/index"
 cp "$top/bkd" "$room/at/bkd"
 cp "$top/release/checksum" "$top/release/make" "$top/release/compare" "$room/at/release/"
-printf '# crates\nlow: clap\nbkd: low   # the program\n' > "$room/at/crates.txt"
+printf '# crates\nlow: clap\nindex_core: low\nbkd: index_core low   # the program\n' > "$room/at/crates.txt"
 echo 'fn main() {}' > "$room/at/crates/bkd/src/main.rt"
 echo 'fn low() {}' > "$room/at/crates/low/src/lib.rt"
 if [ $# -gt 0 ]; then
@@ -28,7 +28,8 @@ fi
 cat > "$room/tools/rt" <<RT
 #!/usr/bin/env bash
 case \$1 in
-    all) for it in low bkd; do echo "== \$it"; echo "logic=proved"; done; echo "== summary"; [ -z "\${BROKEN-}" ] ;;
+    check) echo "\${PWD##*/} proved"; [ -z "\${BROKEN-}" ] ;;
+    all) for it in low index_core bkd; do echo "== \$it"; echo "logic=proved"; done; echo "== summary"; [ -z "\${BROKEN-}" ] ;;
     run) mkdir -p out; cp "$room/program" out/bkd; echo "usage: bkd FOLDER"; exit 1 ;;
 esac
 RT
@@ -62,7 +63,8 @@ call() {
 
 call at/bkd index run --cache 3
 holds "with no release it builds" 0 'program index run --cache 3'
-holds "it tells of each crate" 0 '2 of 2 crates, bkd'
+holds "it tells of a large crate" 0 '1 of 3 crates, index_core'
+holds "it tells of each crate" 0 '3 of 3 crates, bkd'
 call at/bkd index run
 lacks "a second call builds nothing" building
 call at/release/make

@@ -1,10 +1,11 @@
 #!/usr/bin/env python3
-"""Draws the tables of docs/BENCHMARKS.md as bars into docs/images/benchmarks.png; wants matplotlib.
+"""Draws the tables of docs/BENCHMARKS.md as bars into docs/images/benchmarks.png, and those of docs/SCALE.md as curves
+into docs/images/scale.png; wants matplotlib.
 
-usage: bench/plots.py [FILE.png]
+usage: bench/plots.py [FOLDER]     where the two images go, if not there
 
-Each table is a panel and each of its rows a group of bars, one for each column that has times; where they differ much
-the scale is in powers of ten.
+Each table is a panel. Of bars each row is a group, one bar for each column that has times; where they differ much the
+scale is in powers of ten. Of curves each column that has times is one, over the numbers of the first column.
 """
 import os
 import re
@@ -13,8 +14,7 @@ import sys
 from matplotlib.figure import Figure
 
 HERE = os.path.dirname(os.path.abspath(__file__))
-TABLES = os.path.join(HERE, "..", "docs", "BENCHMARKS.md")
-IMAGE = os.path.join(HERE, "..", "docs", "images", "benchmarks.png")
+DOCS = os.path.join(HERE, "..", "docs")
 UNITS = {"ns": 1e-9, "µs": 1e-6, "ms": 1e-3, "s": 1.0}
 TIME = re.compile(r"([0-9][0-9,.]*) (ns|µs|ms|s)\b")
 FAR = 30
@@ -70,21 +70,57 @@ def panel(axes, heading, names, columns):
         axes.spines[side].set_visible(False)
 
 
-def main(path):
-    with open(TABLES) as file:
-        found = [(heading, *timed(names, rows)) for heading, names, rows in tables(file.read())]
-    found = [(heading, names, columns) for heading, names, columns in found if columns]
-    if not found:
-        sys.exit("no tables with times in docs/BENCHMARKS.md")
-    heights = [0.9 + 0.28 * len(names) * max(1, len(columns) * 0.7) for _, names, columns in found]
+def curves(axes, heading, first, numbers, columns):
+    for at, (name, times) in enumerate(columns):
+        axes.plot(numbers, times, marker="o", label=name.replace("`", ""), linestyle="-" if at < 4 else "--",
+                  color=COLOURS[at % len(COLOURS)])
+    axes.set_yscale("log")
+    if max(numbers) > FAR * min(numbers):
+        axes.set_xscale("log")
+    else:
+        axes.set_xticks(numbers)
+    axes.set_title(heading, loc="left", fontsize=10)
+    axes.set_xlabel(first, fontsize=8)
+    axes.set_ylabel("seconds", fontsize=8)
+    axes.tick_params(labelsize=8)
+    axes.legend(fontsize=7, frameon=False, loc="center left", bbox_to_anchor=(1, 0.5))
+    for side in ("top", "right"):
+        axes.spines[side].set_visible(False)
+
+
+def found_in(page):
+    """The tables of a page that have times, as (heading, name of the first column, its cells, columns of times)."""
+    with open(os.path.join(DOCS, page)) as file:
+        found = [(heading, names[0], *timed(names, rows)) for heading, names, rows in tables(file.read())]
+    found = [one for one in found if one[3]]
+    return found or sys.exit("no tables with times in docs/%s" % page)
+
+
+def draw_bars(path):
+    found = found_in("BENCHMARKS.md")
+    heights = [0.9 + 0.28 * len(names) * max(1, len(columns) * 0.7) for _, _, names, columns in found]
     figure = Figure(figsize=(10, sum(heights)), layout="constrained")
     for axes, one in zip(figure.subplots(len(found), height_ratios=heights, squeeze=False)[:, 0], found):
-        panel(axes, *one)
-    os.makedirs(os.path.dirname(os.path.abspath(path)), exist_ok=True)
+        heading, _, names, columns = one
+        panel(axes, heading, names, columns)
     figure.savefig(path, dpi=110)
+
+
+def draw_curves(path):
+    found = found_in("SCALE.md")
+    figure = Figure(figsize=(10, 3.6 * len(found)), layout="constrained")
+    for axes, (heading, first, names, columns) in zip(figure.subplots(len(found), squeeze=False)[:, 0], found):
+        curves(axes, heading, first, [int(name.replace(",", "")) for name in names], columns)
+    figure.savefig(path, dpi=110)
+
+
+def main(folder):
+    os.makedirs(folder, exist_ok=True)
+    draw_bars(os.path.join(folder, "benchmarks.png"))
+    draw_curves(os.path.join(folder, "scale.png"))
 
 
 if __name__ == "__main__":
     if len(sys.argv) > 2 or sys.argv[1:] in (["-h"], ["--help"]):
         sys.exit(__doc__)
-    main(sys.argv[1] if len(sys.argv) == 2 else IMAGE)
+    main(sys.argv[1] if len(sys.argv) == 2 else os.path.join(DOCS, "images"))

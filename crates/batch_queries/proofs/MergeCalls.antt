@@ -47,7 +47,7 @@ use Rattle.run_status.proofs.Ending.{counted, does_lines}
 use Rattle.batch_run.specs.declared.resident.Resident.{Resident}
 use Rattle.batch_run.specs.Copies.{IsCommitIn}
 use Rattle.batch_queries.specs.Batched.{IsBatchText, TellsBatch}
-use Rattle.batch_queries.specs.Ends.{CutsAll, EndsBatch}
+use Rattle.batch_queries.specs.Ends.{CutsAll, EndsBatch, StoresSome}
 use Rattle.batch_queries.specs.Merging.{EndsMerging, MergeKeeps, MergeLeaves, MergesFirst, WholeOrNone, merged_count}
 use Rattle.batch_queries.specs.MergeRuns.{BeginsMerge, EndsMerge, IsBegun, IsMerged, IsOpened, MergesBatch, Place, first_ids}
 
@@ -77,6 +77,7 @@ stopped {T} told out trusts lines a b fault r is kept whole cause evident same =
       done = λ d. d;
       ends = λ t h state s. inl (λ o. same);
       leaves = λ t h. leaves_fault a.files b.files page.Failed (kept t h);
+      stored = λ t h. record { unwritten = inr same; answered = λ more. absurd (more tt) };
       whole = λ t h state s d. d;
       evident = tt;
       folder = λ e. cause.failed refl;
@@ -86,6 +87,7 @@ stopped {T} told out trusts lines a b fault r is kept whole cause evident same =
       done = λ d. d;
       ends = λ t h state s. inl (λ o. same);
       leaves = λ t h. leaves_fault a.files b.files page.Memory (kept t h);
+      stored = λ t h. record { unwritten = inr same; answered = λ more. absurd (more tt) };
       whole = λ t h state s d. d;
       evident = tt;
       folder = λ e. absurd cc;
@@ -95,6 +97,7 @@ stopped {T} told out trusts lines a b fault r is kept whole cause evident same =
       done = λ d. d;
       ends = λ t h state s. whole t h state s;
       leaves = λ t h. leaves_fault a.files b.files (page.Damaged d) (kept t h);
+      stored = λ t h. record { unwritten = inr same; answered = λ more. absurd (more tt) };
       whole = λ t h state s d. whole t h state s;
       evident = evident;
       folder = λ e. absurd cc;
@@ -133,6 +136,10 @@ merges_after told out trusted trusts lines a b c x s files written sink cause mo
   ends = λ t h state stored. subst (λ (w : List ℕ). EndsMerging out (TellsBatch state) lines w c.written s) written
       (merges.ends t (more t h) state (subst (λ (f : Files). IsStored f state) (sym (files t)) stored));
   leaves = λ t h. subst (λ (f : Files). MergeLeaves f c.files s) (files t) (merges.leaves t (more t h));
+  stored = λ t h. record {
+    unwritten = ⊎_elim (λ there. inl (subst StoresSome (files t) there)) (λ same. inr (same ∙ written)) (merges.stored t (more t h)).unwritten;
+    answered = λ tells. subst StoresSome (files t) ((merges.stored t (more t h)).answered tells);
+  };
   whole = λ t h state stored. merges.whole t (more t h) state (subst (λ (f : Files). IsStored f state) (sym (files t)) stored);
   evident = status_less (told × trusts) (told × trusted) c.files s (λ h. (h.0, more h.0 h.1)) merges.evident;
   folder = λ e. subst (λ n. Rose n c.faults) cause.fine (merges.folder e);
@@ -248,6 +255,7 @@ none_told told out lines a b text refused r same is sent rose how =
           (ends_whole out None lines a.written b.written refused (text_whole out None lines text refused a.written b.written is sent));
       leaves = λ t none. subst (λ (f : Files). MergeLeaves a.files f (status_of (Ok refused))) (sym same)
           (none_leaves a.files (status_of (Ok refused)) none (counted_kept a.files a.files refused));
+      stored = λ t none. record { unwritten = inl (None, none); answered = λ tells. (None, none) };
       whole = λ t none state h. counted_whole refused;
       evident = counted_shows (told × (a.files Commit ≡ None)) b.files refused;
       folder = λ e. counted_folder refused e;
@@ -262,6 +270,7 @@ none_told told out lines a b text refused r same is sent rose how =
           (ends_cut out None lines text refused a.written b.written is part);
       leaves = λ t none. subst (λ (f : Files). MergeLeaves a.files f status.SinkFault) (sym same)
           (none_leaves a.files status.SinkFault none (kept_itself a.files));
+      stored = λ t none. record { unwritten = inl (None, none); answered = λ tells. (None, none) };
       whole = λ t none state h d. d;
       evident = tt;
       folder = λ e. absurd cc;

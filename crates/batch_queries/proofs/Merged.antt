@@ -96,6 +96,7 @@ module _ (D : ℕ) (told out : Type 0) (r : Resident D) (lines : List (List ℕ)
           levels = λ w. absurd w;
           canon = λ w. absurd w;
         };
+        stored = λ t o. record { unwritten = inl (Some o.index, o.stored); answered = λ tells. (Some o.index, o.stored) };
         whole = λ t o state h d. d;
         evident = tt;
         folder = λ e. absurd cc;
@@ -148,6 +149,7 @@ module _ (D : ℕ) (told out : Type 0) (r : Resident D) (lines : List (List ℕ)
           ends = λ t o state h. all_or_none state t o h;
           leaves = λ t o. record
               { stored = still t o; kept = kept_by page.Failed is t o; merged = λ w. absurd w; levels = λ w. absurd w; canon = λ w. absurd w };
+          stored = λ t o. record { unwritten = inl (Some o.index, o.stored); answered = λ tells. (Some o.index, o.stored) };
           whole = λ t o state h d. d;
           evident = tt;
           folder = λ same. subst (λ n. Rose n c.faults) begins.cause.fine ((ends ids (new_index D 2)).cause.failed is);
@@ -158,6 +160,7 @@ module _ (D : ℕ) (told out : Type 0) (r : Resident D) (lines : List (List ℕ)
           ends = λ t o state h. all_or_none state t o h;
           leaves = λ t o. record
               { stored = still t o; kept = kept_by page.Memory is t o; merged = λ w. absurd w; levels = λ w. absurd w; canon = λ w. absurd w };
+          stored = λ t o. record { unwritten = inl (Some o.index, o.stored); answered = λ tells. (Some o.index, o.stored) };
           whole = λ t o state h d. d;
           evident = tt;
           folder = λ w. absurd cc;
@@ -168,6 +171,7 @@ module _ (D : ℕ) (told out : Type 0) (r : Resident D) (lines : List (List ℕ)
           ends = λ t o state h. whole_by (page.Damaged d) is t o;
           leaves = λ t o. record
               { stored = still t o; kept = kept_by (page.Damaged d) is t o; merged = λ w. absurd w; levels = λ w. absurd w; canon = λ w. absurd w };
+          stored = λ t o. record { unwritten = inl (Some o.index, o.stored); answered = λ tells. (Some o.index, o.stored) };
           whole = λ t o state h ends. whole_by (page.Damaged d) is t o;
           evident = on_evident_less {X = U} (told × Trusts D b.files b.session) (told × trusts) c.files (Err (page.Damaged d))
               (λ h. (h.0, (is_begun h.0 h.1 h.1.index h.1.stored).trusts))
@@ -226,6 +230,7 @@ module _ (D : ℕ) (told out : Type 0) (r : Resident D) (lines : List (List ℕ)
         levels = λ w. levels_after a.files b.files c.files (begins.kept t o) (merged z ok t o).levels;
         canon = λ w. all_canonical t o (merged z ok t o);
       };
+      stored = λ t o. record { unwritten = inl (Some o.index, o.stored); answered = λ tells. (Some o.index, o.stored) };
       whole = λ t o state h. counted_whole refused;
       evident = counted_shows (told × trusts) c.files refused;
       folder = λ w. counted_folder refused w;

@@ -1,6 +1,6 @@
 -- How a batch ends over a folder that stores a state: its text goes out whole, or a prefix of it where the sink fails,
 -- or nothing.
-use Rattle.std.specs.Prelude.{ℕ, ◌≡◌, ◌≤◌, ◌+◌, ◌/◌, List, length, sum_by}
+use Rattle.std.specs.Prelude.{ℕ, ◌≡◌, ◌⊎◌, ◌≤◌, ◌+◌, ◌/◌, List, length, sum_by}
 use Rattle.outer_io.specs.declared.file_name.FileName.TheVariants.{Commit}
 use Rattle.outer_io.specs.Files.{Files, bytes_of}
 use Rattle.commit_list.specs.Commits.{CommitData}
@@ -45,6 +45,11 @@ LeavesNoText (status.SomeRefused count) = ⊥
 -- the files store a state
 abbrev pub StoresSome : Files → Type 0
 StoresSome files = (state : State) × IsStored files state
+
+-- unless the files store a state nothing goes out, and no list of queries is answered
+pub record TellsStored (files : Files) (old new : List ℕ) (s : Status) : Type 0 where
+  pub unwritten : StoresSome files ⊎ (new ≡ old)
+  pub answered : (LeavesNoText s → ⊥) → StoresSome files
 
 -- the pages of the Commit file and of the files that it lists were read once at most
 abbrev pub ReadsOnce : Files → (before now : ℕ) → Type 0

@@ -27,6 +27,7 @@ use Rattle.run_status.specs.declared.status.Status.TheVariants as status
 use Rattle.batch_run.specs.declared.resident.Resident.{Resident}
 use Rattle.batch_run.specs.Residents.{IsCopyOf}
 use Rattle.batch_queries.specs.Batched.{TellsBatch}
+use Rattle.batch_queries.specs.Ends.{TellsStored}
 use Rattle.batch_queries.specs.Merging.{EndsMerging, MergeLeaves, merged_count}
 
 -- the folder's files with its faults, and what went out with the faults of the sink
@@ -43,6 +44,7 @@ pub record MergesBatch (told out trusts : Type 0) (lines : List (List ℕ)) (old
   pub ends : told → trusts → (state : State) → IsStored old.files state
       → EndsMerging out (TellsBatch state) lines old.written new.written s
   pub leaves : told → trusts → MergeLeaves old.files new.files s
+  pub stored : told → trusts → TellsStored old.files old.written new.written s
   pub whole : told → trusts → (state : State) → IsStored old.files state → IsDamaged s → ⊥
   pub evident : OnStatusDamage s (IsEvident (told × trusts) new.files)
   pub folder : s ≡ status.FolderFault → Rose old.faults new.faults

@@ -12,6 +12,7 @@ ghost use Rattle.run_status.specs.Ends.{DoesNothing, IsDamaged, OnStatusDamage};
 ghost use Rattle.run_status.specs.Stops.{status_of};
 ghost use Rattle.batch_run.specs.Copies.{IsCommitIn};
 ghost use Rattle.batch_queries.specs.Batched.{TellsBatch};
+ghost use Rattle.batch_queries.specs.Ends.{TellsStored};
 ghost use Rattle.batch_queries.specs.Merging.{EndsMerging, MergeLeaves};
 ghost use Rattle.batch_queries.specs.MergeRuns.{IsOpened, MergesBatch};
 
@@ -32,7 +33,8 @@ const CACHE_PAGES: u32 = 1024;
 
 /// The command `batch` with `--merge`: answers a list of queries as `run_batch` does, and merges the segments that the
 /// commit lists, the first 64 of them. The merge is built beside the batch. Then the text goes out, and then the merge
-/// is ended and committed: a fault before leaves no text, and where the text doesn't go out nothing is merged.
+/// is ended and committed: a fault before leaves no text, and where the text doesn't go out nothing is merged. Nothing
+/// goes out unless the folder stores a state.
 pub fn run_merging_batch<S: Source, F: Folder, K: Sink, R: Threads + Sync, G: Gate>(
     rt: &R,
     alloc: Global,
@@ -48,6 +50,8 @@ pub fn run_merging_batch<S: Source, F: Folder, K: Sink, R: Threads + Sync, G: Ga
         → EndsMerging (IsTrue K.told) (TellsBatch state) (lines_of (S.left input.old))
         (K.written out.old) (K.written out.new) result }
     ensures leaves { IsTrue F.told → MergeLeaves (F.files folder.old) (F.files folder.new) result }
+    ensures stored { IsTrue F.told
+        → TellsStored (F.files folder.old) (K.written out.old) (K.written out.new) result }
     ensures input { IsTrue S.told → ReadsInput (S.left input.old) (S.left input.new) result }
     ensures untouched { DoesNothing result → (folder.new ≡ folder.old) × (out.new ≡ out.old) }
     ensures whole { IsTrue F.told → (state : State) → IsStored (F.files folder.old) state → IsDamaged result → ⊥ }

@@ -17,7 +17,7 @@ use Rattle.script_run.specs.Kept.{RunCosts, StatusKeeps}
 use Rattle.script_run.specs.declared.language.Language.TheVariants as language
 use Rattle.run_status.specs.Causes.{ReadsInput}
 use Rattle.count_queries.specs.Counts as counts
-use Rattle.batch_queries.specs.Ends.{LeavesNoText, ReadsOnce, StoresSome}
+use Rattle.batch_queries.specs.Ends.{LeavesNoText, ReadsOnce, StoresSome, TellsStored}
 use Rattle.batch_queries.specs.Merging.{MergeLeaves}
 use Rattle.bkd_top.specs.Checking.{Checks}
 use Rattle.bkd_top.specs.Commands.{ReadsFew}
@@ -95,6 +95,12 @@ pub record Call : Type 0 where
   pub before : ℕ
   pub now : ℕ
 
+-- With a merge beside it what is stored stays, and few are listed where all is answered. Only files that store a state
+-- are answered from.
+pub record MergingLeaves (c : Call) (s : Status) : Type 0 where
+  pub leaves : MergeLeaves c.old c.new s
+  pub stored : TellsStored c.old c.written c.written_now s
+
 -- Answering a batch changes no file, and where it is done each page was read once at most. Something is written only
 -- over files that store a state, and nothing where it ends before all is answered.
 pub record BatchLeaves (c : Call) (s : Status) : Type 0 where
@@ -115,5 +121,5 @@ LeavesAsked (Load columns forks) c s = WholeLeaves c.old c.new s
 LeavesAsked (Generate docs seed forks) c s = WholeLeaves c.old c.new s
 LeavesAsked (Count cache) c s = CountCosts (IsTrue c.source) (lines_of c.input) c.old c.new c.before c.now
 LeavesAsked (Batch forks) c s = BatchLeaves c s
-LeavesAsked (MergingBatch forks) c s = MergeLeaves c.old c.new s
+LeavesAsked (MergingBatch forks) c s = MergingLeaves c s
 LeavesAsked Check c s = Checks (IsTrue c.sink) c.old c.new c.written c.written_now c.before c.now s

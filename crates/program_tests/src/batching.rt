@@ -184,8 +184,10 @@ fn damage_comes_before_the_text(rt: HostRuntime) -> Result<(), Fail> {
     assert_eq!(rt; bytes.len(), 3 * 4096);
     bytes[2 * 4096 + 100] ^= 1;
     folder.put(name, bytes)?;
-    let (status, text) = called(&rt, alloc, &[".", "batch"], "box 9 9 9 9\n", &mut folder)?;
-    holds(&rt, code(&status) == 6 && text.is_empty());
+    for words in FORKS.iter().chain(MERGING.iter()) {
+        let (status, text) = called(&rt, alloc, words, "box 9 9 9 9\n", &mut folder)?;
+        holds_at(&rt, code(&status) == 6 && text.is_empty(), words);
+    }
     Ok(())
 }
 

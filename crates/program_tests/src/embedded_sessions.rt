@@ -5,6 +5,7 @@ use crate::asserts::same_at;
 use crate::runs::empty_folder;
 use crate::stories::check_there;
 use bkd_build::OpenGate;
+use embed::Places;
 use index_core::{Applied, Session, Settings};
 use outer_io::{FileName, MemFolder};
 use page_cache::PageFault;
@@ -145,4 +146,35 @@ fn a_save_that_fails(rt: HostRuntime) -> Result<(), Fail> {
     let mut folder = empty_folder(rt.alloc());
     check_rows(&rt, rt.alloc(), &mut folder, SAVES)?;
     check_there(&rt, &folder, SAVED, NOT_SAVED)
+}
+
+/// What is asked of the worked example, the reply, and whether it is done.
+const PLACES: &[(&str, &str, bool)] = &[
+    ("add 13404954 52520008", "doc 0\n", true),
+    ("add 2352222 48856613", "doc 1\n", true),
+    ("nearest 1 2000000 49000000", "near 1\n1 144620169053\n", true),
+    ("nearest 1 2000000", "", false),
+    ("nearest @before 1 2000000 49000000", "", false),
+    ("commit", "ok\n", true),
+    ("box 0 50000000 15000000 55000000", "hits 1\n0\n", true),
+];
+
+#[test]
+fn the_worked_example(rt: HostRuntime) -> Result<(), Fail> {
+    let mut folder = empty_folder(rt.alloc());
+    let Ok(mut places) = Places::new(rt.alloc()) else {
+        return Err("no places".into());
+    };
+    let mut reply = Vec::new(rt.alloc());
+    for (line, answer, is_done) in PLACES {
+        reply.clear();
+        let done = places.ask(&rt, rt.alloc(), &mut folder, line, &mut reply).is_ok();
+        same_at(
+            &rt,
+            (done, std::str::from_utf8(reply.as_slice())),
+            (*is_done, Ok(*answer)),
+            line,
+        );
+    }
+    check_there(&rt, &folder, &[FileName::Commit, FileName::Segment(0)], &[])
 }

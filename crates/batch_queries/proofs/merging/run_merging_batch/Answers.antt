@@ -1,5 +1,5 @@
 -- The file that was read is the source's bytes, and its lines end as one record says.
-use Rattle.std.proofs.Common.{◌≡◌, ◌∙◌, ◌≤◌, ◌^◌, ℕ, IsTrue, List, length, inl, refl, sym, subst}
+use Rattle.std.proofs.Common.{◌≡◌, ◌∙◌, ◌≤◌, ◌^◌, ℕ, IsTrue, List, length, inl, inr, refl, sym, subst}
 use Rattle.script_lang.specs.Lines.{lines_of}
 use Rattle.stored_index.proofs.KeptFiles.{kept_itself}
 use Rattle.run_status.specs.Ends.{DoesNothing}
@@ -18,6 +18,9 @@ returns-in-Ok-clause-ends g c = λ source told state h.
 
 pub returns-in-Ok-clause-leaves : goal.returns-in-Ok-clause-leaves
 returns-in-Ok-clause-leaves g c = λ told. (status_is _ _ _ _ _ _ c.merge_stored.result _ c.status_of.ensures c.merge_stored.ensures).leaves told tt
+
+pub returns-in-Ok-clause-stored : goal.returns-in-Ok-clause-stored
+returns-in-Ok-clause-stored g c = λ told. (status_is _ _ _ _ _ _ c.merge_stored.result _ c.status_of.ensures c.merge_stored.ensures).stored told tt
 
 pub returns-in-Ok-clause-untouched : goal.returns-in-Ok-clause-untouched
 returns-in-Ok-clause-untouched g c = λ d. absurd ((status_is _ _ _ _ _ _ c.merge_stored.result _ c.status_of.ensures c.merge_stored.ensures).done d)
@@ -55,3 +58,12 @@ returns-in-Err-Memory-clause-leaves g c = λ told.
 
 pub returns-in-Err-Memory-clause-ends : goal.returns-in-Err-Memory-clause-ends
 returns-in-Err-Memory-clause-ends g c = λ source told state h. inl (λ out. refl)
+
+pub returns-in-Err-Failed-clause-stored : goal.returns-in-Err-Failed-clause-stored
+returns-in-Err-Failed-clause-stored g c = λ told. record { unwritten = inr refl; answered = λ tells. absurd (tells tt) }
+
+pub returns-in-Err-TooLarge-clause-stored : goal.returns-in-Err-TooLarge-clause-stored
+returns-in-Err-TooLarge-clause-stored g c = λ told. record { unwritten = inr refl; answered = λ tells. absurd (tells tt) }
+
+pub returns-in-Err-Memory-clause-stored : goal.returns-in-Err-Memory-clause-stored
+returns-in-Err-Memory-clause-stored g c = λ told. record { unwritten = inr refl; answered = λ tells. absurd (tells tt) }

@@ -291,8 +291,12 @@ returns-in-MergingBatch g c =
       canon = λ told state h a. (e.leaves told).canon a;
       leaves = λ told. left_by c.args.words _
           (called g.S.Source.told g.K.Sink.told input old new before after (g.F.Pages.reads c.args.folder.now) (g.F.Pages.reads c.run_merging_batch.new.folder))
+<<<<<<< HEAD
           c.run_merging_batch.result is (e.leaves told);
       lasting = λ told. lasts_by c.args.words _ old new is tt;
+=======
+          c.run_merging_batch.result is (record { leaves = e.leaves told; stored = e.stored told });
+>>>>>>> 8f28abadad7729f5376158a6b5302e286b80869c
       damage = record { never = e.whole; evident = e.evident };
       causes = e.causes;
     }
