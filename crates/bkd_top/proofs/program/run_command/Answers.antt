@@ -45,7 +45,8 @@ returns-in-Generate-clause-leaves g c = λ told.
 
 pub returns-in-Generate-clause-lasting : goal.returns-in-Generate-clause-lasting
 returns-in-Generate-clause-lasting g c = λ told.
-    lasts_by c.args.words _ (g.F.Pages.files c.args.folder.now) (g.F.Pages.files c.run_generate.new.folder) (ap said c.in-Generate.is) (c.run_generate.ensures.lasting told)
+    lasts_by c.args.words _ (g.F.Pages.files c.args.folder.now) (g.F.Pages.files c.run_generate.new.folder) (ap said c.in-Generate.is)
+    (c.run_generate.ensures.lasting told)
 
 pub returns-in-Run : goal.returns-in-Run
 returns-in-Run g c =
