@@ -11,7 +11,7 @@ use Rattle.commit_list.proofs.CommitPages.{one_file}
 use Rattle.segment_file.specs.Heads.{Head}
 use Rattle.segment_file.specs.LiveFiles.{IsLiveFile}
 use Rattle.stored_index.specs.Kept.{SameKept}
-use Rattle.stored_index.proofs.KeptFiles.{kept_after, kept_itself, said_before, still_says}
+use Rattle.stored_index.proofs.KeptFiles.{kept_after, kept_itself, still_says}
 use Rattle.segment_view.specs.Parts.{Part}
 use Rattle.segment_set.specs.Sets.{SetData}
 use Rattle.segment_set.specs.Kept.{HasCanonical, IsCommitOf}
@@ -136,6 +136,10 @@ brings_then_kept f g h first then = record {
       still_whole first.commit.dims f g h l (then.listed first.commit first.says (Segment l.segment) (l, inside, refl))
       (then.listed first.commit first.says (Live l.segment l.generation) (l, inside, refl, refl)) (first.whole l inside);
 }
+
+-- what the Commit file says it said before
+said_before : (f g : Files) (c : CommitData) → SameKept f g → IsCommitFile (bytes_of (g Commit)) c → IsCommitFile (bytes_of (f Commit)) c
+said_before f g c same says = subst (λ (b : Option (List ℕ)). IsCommitFile (bytes_of b) c) same.commit says
 
 -- a segment that was listed in between was listed before, or built since
 was_before : (D : ℕ) (f g h : Files) (l : Listed) → KeepsCommit f g

@@ -28,7 +28,8 @@ pub record Place : Type 0 where
 
 -- From the one place to the other a load that starts so is answered so. A refused one changes no file, each segment
 -- that is listed anew is canonical, few of each level are listed, what isn't done loses nothing that is kept by files
--- that are trusted, a commit in their place is whole, and a damage is shown by what it carries, and is true of such files.
+-- that are trusted, a commit that takes its place is whole, and a damage is shown by what it carries, and is true of
+-- such files.
 pub record Loads (told trusts : Type 0) (Starts : State → Type 0) (answer : State → Answer) (old new : Place)
     (result : Result Bool PageFault) : Type 0 where
   pub does : told → (stored : State) → Starts stored

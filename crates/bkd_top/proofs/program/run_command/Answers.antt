@@ -36,10 +36,6 @@ pub returns-in-Generate-clause-input : goal.returns-in-Generate-clause-input
 returns-in-Generate-clause-input g c = λ told.
     taken_by c.args.words _ (g.S.Source.left c.args.input.now) (g.S.Source.left c.args.input.now) c.run_generate.result (ap said c.in-Generate.is) tt
 
-pub returns-in-Check-clause-input : goal.returns-in-Check-clause-input
-returns-in-Check-clause-input g c = λ told.
-    taken_by c.args.words _ (g.S.Source.left c.args.input.now) (g.S.Source.left c.args.input.now) c.run_check.result (ap said c.in-Check.is) tt
-
 pub returns-in-Generate-clause-leaves : goal.returns-in-Generate-clause-leaves
 returns-in-Generate-clause-leaves g c = λ told.
     left_by c.args.words _
@@ -49,40 +45,6 @@ returns-in-Generate-clause-leaves g c = λ told.
 
 pub returns-in-Generate-clause-lasting : goal.returns-in-Generate-clause-lasting
 returns-in-Generate-clause-lasting g c = c.run_generate.ensures.lasting
-
-pub returns-in-Check-clause-leaves : goal.returns-in-Check-clause-leaves
-returns-in-Check-clause-leaves g c = λ told.
-    left_by c.args.words _
-    (called g.S.Source.told g.K.Sink.told (g.S.Source.left c.args.input.now) (g.F.Pages.files c.args.folder.now) (g.F.Pages.files c.run_check.new.folder)
-    (g.K.Sink.written c.args.out.now) (g.K.Sink.written c.run_check.new.out) (g.F.Pages.reads c.args.folder.now) (g.F.Pages.reads c.run_check.new.folder))
-    c.run_check.result (ap said c.in-Check.is) (c.run_check.ensures.checks told)
-
-pub returns-in-Check-clause-lasting : goal.returns-in-Check-clause-lasting
-returns-in-Check-clause-lasting g c = λ told.
-    commit_equal (g.F.Pages.files c.args.folder.now) (g.F.Pages.files c.run_check.new.folder) (c.run_check.ensures.checks told).files
-
-pub returns-in-Check-clause-ends : goal.returns-in-Check-clause-ends
-returns-in-Check-clause-ends g c = λ told state h source.
-    check_ends (IsTrue g.K.Sink.told) c.args.words
-    (record { state = state; files = g.F.Pages.files c.args.folder.now; input = g.S.Source.left c.args.input.now; written = g.K.Sink.written c.args.out.now })
-    (g.F.Pages.files c.run_check.new.folder) (g.K.Sink.written c.run_check.new.out) c.run_check.result
-    (ap said c.in-Check.is) ((c.run_check.ensures.checks told).files, (c.run_check.ensures.checks told).ends)
-
-pub returns-in-Check-clause-canon : goal.returns-in-Check-clause-canon
-returns-in-Check-clause-canon g c = λ told state h a. canonical_still _ _ (c.run_check.ensures.checks told).files
-
-pub returns-in-Check-clause-large : goal.returns-in-Check-clause-large
-returns-in-Check-clause-large g c = λ e. absurd (c.run_check.ensures.done (subst DoesNothing (sym e) tt))
-
-pub returns-in-Check-clause-untouched : goal.returns-in-Check-clause-untouched
-returns-in-Check-clause-untouched g c = λ other d. absurd (c.run_check.ensures.done d)
-
-pub returns-in-Check-clause-causes : goal.returns-in-Check-clause-causes
-returns-in-Check-clause-causes g c = record {
-  source = λ e. absurd (c.run_check.ensures.done (subst DoesNothing (sym e) tt));
-  folder = c.run_check.ensures.folder_fault;
-  sink = c.run_check.ensures.sink_fault;
-}
 
 pub returns-in-Run : goal.returns-in-Run
 returns-in-Run g c =
@@ -187,6 +149,32 @@ returns-in-Session g c =
       lasting = λ told. e.lasting told;
       damage = e.damage;
       causes = e.causes;
+    }
+
+pub returns-in-Check : goal.returns-in-Check
+returns-in-Check g c =
+    let is = ap said c.in-Check.is in
+    let e = c.run_check.ensures in
+    let input = g.S.Source.left c.args.input.now in
+    let old = g.F.Pages.files c.args.folder.now in
+    let new = g.F.Pages.files c.run_check.new.folder in
+    let before = g.K.Sink.written c.args.out.now in let after = g.K.Sink.written c.run_check.new.out in
+    record {
+      never_usage = λ u. e.done (subst DoesNothing (sym u) tt);
+      ends = λ told state h source. check_ends (IsTrue g.K.Sink.told) c.args.words
+          (record { state = state; files = old; input = input; written = before }) new after c.run_check.result is
+          ((e.checks told).files, (e.checks told).ends);
+      input = λ told. taken_by c.args.words _ input input c.run_check.result is tt;
+      unread = λ quiet. refl;
+      large = λ w. absurd (e.done (subst DoesNothing (sym w) tt));
+      untouched = λ other d. absurd (e.done d);
+      canon = λ told state h a. canonical_still _ _ (e.checks told).files;
+      leaves = λ told. left_by c.args.words _
+          (called g.S.Source.told g.K.Sink.told input old new before after (g.F.Pages.reads c.args.folder.now) (g.F.Pages.reads c.run_check.new.folder))
+          c.run_check.result is (e.checks told);
+      lasting = λ told. commit_equal old new (e.checks told).files;
+      damage = e.damage;
+      causes = record { source = λ w. absurd (e.done (subst DoesNothing (sym w) tt)); folder = e.folder_fault; sink = e.sink_fault };
     }
 
 pub returns-in-Count : goal.returns-in-Count
