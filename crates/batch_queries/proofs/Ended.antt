@@ -22,12 +22,14 @@ use Rattle.file_names.specs.Names.{is_named}
 use Rattle.segment_set.specs.Kept.{Follows, IsWithin}
 use Rattle.segment_set.specs.Seen.{Sees}
 use Rattle.segment_set.specs.Sets.{SetData}
+use Rattle.index_core.specs.Brought.{KeepsCommit}
 use Rattle.index_core.specs.Effects.{HasEnded, OnDone}
 use Rattle.index_core.specs.Sessions.{SessionData, Trusts}
 use Rattle.index_core.specs.Steps.{Applies, DoesOver, KeepsOver, Place, SaysCommit, Stores}
 use Rattle.index_core.specs.Whole.{Moment}
 use Rattle.index_core.proofs.FaultCauses.{cause_then, fault_to}
 use Rattle.index_core.proofs.Bringing.{brings_then}
+use Rattle.index_core.proofs.Brought.{commit_after}
 use Rattle.index_core.proofs.Undone.{fault_kept, levels_after, undone_after}
 use Rattle.index_core.proofs.Wholes.{IsCommitted}
 use Rattle.batch_queries.specs.MergeRuns.{EndsMerge, IsBegun, IsMerged}
@@ -64,6 +66,7 @@ module _ (D : ℕ) (told : Type 0) (ids : List ℕ) (i : Index) (a b : Place) wh
     keeps = λ t g. inl (ends.kept t g.trusts.guards);
     done = λ t g. tt;
     undone = λ t g. fault_kept a.files b.files (ends.kept t g.trusts.guards) fault;
+    lasting = λ t g. inl (ends.kept t g.trusts.guards);
     whole = λ t g. ends.whole t (merging i) g.seen (λ e. g.trusts.guards);
     cause = fault_to a.faults b.faults fault ends.cause;
     evident = ends.evident;
@@ -79,6 +82,7 @@ module _ (D : ℕ) (told : Type 0) (ids : List ℕ) (i : Index) (a b : Place) wh
 
     module _ {T : Type 0} (c : Moment) (r : Result T PageFault) (leaves : OnDone (Ok x) (HasEnded D told b.files a.session.set b.session.set))
         (commits : IsCommitted D told (moment_of b) c r) (follows : Follows b.session.set.names b.session.set.parts c.session.set.parts)
+        (lasting : told → Trusts D b.files b.session → KeepsCommit b.files c.files)
         (evident : OnDamage r (IsEvident (told × Trusts D b.files b.session) c.files)) where
       has_ended : told → IsBegun D a.files a.session ids i → HasEnded D told b.files a.session.set b.session.set
       has_ended t g = subst (λ (y : Applied). OnDone (Ok y) (HasEnded D told b.files a.session.set b.session.set)) (seen_on t g).0 leaves
@@ -128,6 +132,7 @@ module _ (D : ℕ) (told : Type 0) (ids : List ℕ) (i : Index) (a b : Place) wh
         keeps = λ t g. keeps_on r (ends.kept t g.trusts.guards) (commits.stored t (record i { begun = false }) (seen_on t g).1 (trusts_on t g.trusts).guards);
         done = merged_on r commits;
         undone = λ t g. undone_after a.files b.files c.files r (ends.kept t g.trusts.guards) (commits.undone t (trusts_on t g.trusts).guards);
+        lasting = λ t g. commit_after a.files b.files c.files (ends.kept t g.trusts.guards) (lasting t (trusts_on t g.trusts));
         whole = λ t g. commits.whole t (record i { begun = false }) (seen_on t g).1;
         cause = cause_then a.faults b.faults c.faults r ends.cause.fine commits.cause;
         evident = on_evident_less (told × Trusts D b.files b.session) (told × Trusts D a.files a.session) c.files r (λ h. (h.0, trusts_on h.0 h.1)) evident;

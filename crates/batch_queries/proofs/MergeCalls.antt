@@ -56,11 +56,11 @@ use Rattle.batch_queries.specs.MergeRuns.{BeginsMerge, EndsMerge, IsBegun, IsMer
 -- what stays where nothing went out: all that is kept
 leaves_fault : (old new : Files) (fault : PageFault) → SameKept old new → MergeLeaves old new (status_of (Err (stop_of fault)))
 leaves_fault old new page.Failed same =
-    record { stored = λ state h. stored_still old new state same h; kept = inl same; merged = λ a. absurd a; levels = λ a. absurd a; canon = λ a. absurd a }
+    record { stored = λ state h. stored_still old new state same h; kept = inl same; lasting = inl same; merged = λ a. absurd a; levels = λ a. absurd a; canon = λ a. absurd a }
 leaves_fault old new page.Memory same =
-    record { stored = λ state h. stored_still old new state same h; kept = inl same; merged = λ a. absurd a; levels = λ a. absurd a; canon = λ a. absurd a }
+    record { stored = λ state h. stored_still old new state same h; kept = inl same; lasting = inl same; merged = λ a. absurd a; levels = λ a. absurd a; canon = λ a. absurd a }
 leaves_fault old new (page.Damaged d) same =
-    record { stored = λ state h. stored_still old new state same h; kept = same; merged = λ a. absurd a; levels = λ a. absurd a; canon = λ a. absurd a }
+    record { stored = λ state h. stored_still old new state same h; kept = same; lasting = inl same; merged = λ a. absurd a; levels = λ a. absurd a; canon = λ a. absurd a }
 
 -- a fault before the text goes out
 pub stopped : {T : Type 0} (told out trusts : Type 0) (lines : List (List ℕ)) (a b : Place) (fault : PageFault) (r : Result ℕ Stop) → r ≡ Err (stop_of fault)
@@ -221,6 +221,7 @@ none_leaves : (files : Files) (s : Status) → files Commit ≡ None → MergeKe
 none_leaves files s none kept = record {
   stored = λ state h. h;
   kept = kept;
+  lasting = inl (kept_itself files);
   merged = λ a c says. absurd (says_some files c none says);
   levels = λ a. inl refl;
   canon = λ a c says l inside apart head has. absurd (says_some files c none says);

@@ -27,11 +27,13 @@ use Rattle.stored_index.proofs.Whole.{held_for}
 use Rattle.index_opening.specs.Evidence.{IsEvident}
 use Rattle.index_opening.proofs.Evident.{on_evident_less}
 use Rattle.segment_view.specs.Parts.{Part, ids_of}
+use Rattle.index_core.specs.Brought.{KeepsCommit}
 use Rattle.index_core.specs.Light.{KeepsLevels}
 use Rattle.index_core.specs.Sessions.{IsLast, SessionData, Trusts}
 use Rattle.index_core.specs.Steps.{FaultKeeps, HasCommit, KeepsUndone}
 use Rattle.index_core.specs.Whole.{HasNewCanonical, Moment}
 use Rattle.index_core.proofs.Bringing.{brings_then}
+use Rattle.index_core.proofs.Brought.{commit_after}
 use Rattle.index_core.proofs.Guarding.{says_some}
 use Rattle.index_core.proofs.Listed.{attached_listed, new_canonical}
 use Rattle.index_core.proofs.Undone.{kept_equal, levels_after, undone_after}
@@ -92,6 +94,7 @@ module _ (D : ℕ) (told out : Type 0) (r : Resident D) (lines : List (List ℕ)
         leaves = λ t o. record {
           stored = λ state h. stored_still a.files b.files state (begins.kept t o) h;
           kept = begins.kept t o;
+          lasting = inl (begins.kept t o);
           merged = λ w. absurd w;
           levels = λ w. absurd w;
           canon = λ w. absurd w;
@@ -125,6 +128,9 @@ module _ (D : ℕ) (told out : Type 0) (r : Resident D) (lines : List (List ℕ)
     undone : told → trusts → KeepsUndone a.files c.files e
     undone t o = undone_after a.files b.files c.files e (begins.kept t o) ((ends ids o.index).undone t (is_begun t o o.index o.stored))
 
+    lasting : told → trusts → KeepsCommit a.files c.files
+    lasting t o = commit_after a.files b.files c.files (begins.kept t o) ((ends ids o.index).lasting t (is_begun t o o.index o.stored))
+
     told_whole : trusts → (i : Index) → IsStored a.files (Some i) → TellsAll out (TellsBatch (Some i)) 1 lines old new refused
     told_whole o i stored = text_whole out (Some i) lines text refused old new (texts o i stored) sent
 
@@ -148,7 +154,7 @@ module _ (D : ℕ) (told out : Type 0) (r : Resident D) (lines : List (List ℕ)
           done = λ d. d;
           ends = λ t o state h. all_or_none state t o h;
           leaves = λ t o. record
-              { stored = still t o; kept = kept_by page.Failed is t o; merged = λ w. absurd w; levels = λ w. absurd w; canon = λ w. absurd w };
+              { stored = still t o; kept = kept_by page.Failed is t o; lasting = lasting t o; merged = λ w. absurd w; levels = λ w. absurd w; canon = λ w. absurd w };
           stored = λ t o. record { unwritten = inl (Some o.index, o.stored); answered = λ tells. (Some o.index, o.stored) };
           whole = λ t o state h d. d;
           evident = tt;
@@ -159,7 +165,7 @@ module _ (D : ℕ) (told out : Type 0) (r : Resident D) (lines : List (List ℕ)
           done = λ d. d;
           ends = λ t o state h. all_or_none state t o h;
           leaves = λ t o. record
-              { stored = still t o; kept = kept_by page.Memory is t o; merged = λ w. absurd w; levels = λ w. absurd w; canon = λ w. absurd w };
+              { stored = still t o; kept = kept_by page.Memory is t o; lasting = lasting t o; merged = λ w. absurd w; levels = λ w. absurd w; canon = λ w. absurd w };
           stored = λ t o. record { unwritten = inl (Some o.index, o.stored); answered = λ tells. (Some o.index, o.stored) };
           whole = λ t o state h d. d;
           evident = tt;
@@ -170,7 +176,7 @@ module _ (D : ℕ) (told out : Type 0) (r : Resident D) (lines : List (List ℕ)
           done = λ d. d;
           ends = λ t o state h. whole_by (page.Damaged d) is t o;
           leaves = λ t o. record
-              { stored = still t o; kept = kept_by (page.Damaged d) is t o; merged = λ w. absurd w; levels = λ w. absurd w; canon = λ w. absurd w };
+              { stored = still t o; kept = kept_by (page.Damaged d) is t o; lasting = lasting t o; merged = λ w. absurd w; levels = λ w. absurd w; canon = λ w. absurd w };
           stored = λ t o. record { unwritten = inl (Some o.index, o.stored); answered = λ tells. (Some o.index, o.stored) };
           whole = λ t o state h ends. whole_by (page.Damaged d) is t o;
           evident = on_evident_less {X = U} (told × Trusts D b.files b.session) (told × trusts) c.files (Err (page.Damaged d))
@@ -226,6 +232,7 @@ module _ (D : ℕ) (told out : Type 0) (r : Resident D) (lines : List (List ℕ)
       leaves = λ t o. record {
         stored = still t o;
         kept = counted_kept a.files c.files refused;
+        lasting = lasting t o;
         merged = λ w. merges_first o (merged z ok t o);
         levels = λ w. levels_after a.files b.files c.files (begins.kept t o) (merged z ok t o).levels;
         canon = λ w. all_canonical t o (merged z ok t o);

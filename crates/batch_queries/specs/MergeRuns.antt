@@ -16,6 +16,7 @@ use Rattle.segment_view.specs.Parts.{Part, ids_of}
 use Rattle.file_names.specs.Names.{is_named}
 use Rattle.segment_set.specs.Sets.{BegunMerge}
 use Rattle.segment_set.specs.Seen.{Sees}
+use Rattle.index_core.specs.Brought.{KeepsCommit}
 use Rattle.index_core.specs.Effects.{BringsCanonical}
 use Rattle.index_core.specs.Light.{KeepsLevels}
 use Rattle.index_core.specs.Sessions.{Guards, IsUnchanged, SessionData, Trusts}
@@ -104,6 +105,7 @@ pub record EndsMerge {T : Type 0} (D : ℕ) (told : Type 0) (ids : List ℕ) (i 
       → SameKept old.files new.files ⊎ IsStored new.files (Some (at_rest i))
   pub done : told → IsBegun D old.files old.session ids i → OnOk result (IsMerged D ids i old new)
   pub undone : told → IsBegun D old.files old.session ids i → KeepsUndone old.files new.files result
+  pub lasting : told → IsBegun D old.files old.session ids i → KeepsCommit old.files new.files
   pub whole : told → IsBegun D old.files old.session ids i → NotDamaged result
   pub cause : HasPageCause old.faults new.faults result
   pub evident : OnDamage result (IsEvident (told × Trusts D old.files old.session) new.files)

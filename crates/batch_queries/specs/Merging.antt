@@ -7,6 +7,7 @@ use Rattle.commit_list.specs.Commits.{CommitData}
 use Rattle.index_model.specs.State.{State}
 use Rattle.stored_index.specs.Kept.{ListsFile, SameKept}
 use Rattle.stored_index.specs.Stored.{IsStored}
+use Rattle.index_core.specs.Brought.{KeepsCommit}
 use Rattle.index_core.specs.Light.{KeepsLevels}
 use Rattle.index_core.specs.Steps.{HasCommit}
 use Rattle.index_core.specs.Whole.{HasNewCanonical}
@@ -64,11 +65,12 @@ MergeKeeps old new status.FolderFault = SameKept old new ⊎ HasCommit new
 MergeKeeps old new status.Memory = SameKept old new ⊎ HasCommit new
 MergeKeeps old new _ = SameKept old new
 
--- Whatever the status, what was stored is stored still, and nothing that is kept is lost. Where all is answered the
+-- Whatever the status, what was stored is stored still, and nothing that is kept is lost but to a whole commit. Where all is answered the
 -- first segments are merged, few of each level are listed, and each that is listed anew is canonical.
 pub record MergeLeaves (old new : Files) (s : Status) : Type 0 where
   pub stored : (state : State) → IsStored old state → IsStored new state
   pub kept : MergeKeeps old new s
+  pub lasting : KeepsCommit old new
   pub merged : IsAnswer s → MergesFirst old new
   pub levels : IsAnswer s → KeepsLevels old new
   pub canon : IsAnswer s → HasNewCanonical old new

@@ -18,6 +18,7 @@ use Rattle.bkd_top.specs.Calls.{Call, LeavesAsked, OnAsked, TakesInput, WholeLea
 use Rattle.bkd_top.specs.Checking.{EndsCheck}
 use Rattle.bkd_top.specs.Commands.{Before, EndsAsked, EndsExplain, EndsWhole, reads_input, reads_whole}
 use Rattle.run_status.specs.Causes.{ReadsInput}
+use Rattle.index_core.proofs.Brought.{commit_itself}
 use Rattle.script_run.proofs.Calling.{nothing_costs}
 use Rattle.stored_index.proofs.KeptFiles.{kept_itself}
 use Rattle.script_run.specs.Languages.{meaning}
@@ -208,7 +209,7 @@ no_whole : (files : Files) → WholeLeaves files files status.Memory
 no_whole files = record { levels = λ state h a. absurd a; undone = inl (kept_itself files) }
 
 no_merge : (files : Files) → MergeLeaves files files status.Memory
-no_merge files = record { stored = λ state h. h; kept = inl (kept_itself files); merged = λ a. absurd a; levels = λ a. absurd a; canon = λ a. absurd a }
+no_merge files = record { stored = λ state h. h; kept = inl (kept_itself files); lasting = inl (kept_itself files); merged = λ a. absurd a; levels = λ a. absurd a; canon = λ a. absurd a }
 
 -- where memory was wanting before anything was done each command has left what was there
 none_left_of : (a : Asked) (source sink : Bool) (input written : List ℕ) (files : Files) (reads : ℕ)

@@ -5,6 +5,7 @@ ghost use Rattle.index_model.specs.State.{State};
 ghost use Rattle.stored_index.specs.Stored.{IsStored};
 ghost use Rattle.run_status.specs.Ends.{DoesNothing};
 ghost use Rattle.command_words.specs.Commands.{Asked, IsWithin, asked, said};
+ghost use Rattle.index_core.specs.Brought.{KeepsCommit};
 ghost use Rattle.index_core.specs.Whole.{HasNewCanonical};
 ghost use Rattle.run_status.specs.Causes.{HasCauses, NoneRose, ReadsInput};
 ghost use Rattle.bkd_top.specs.Calls.{LeavesAsked, OnAsked, TakesInput, TellsDamage, TellsUsage};
@@ -90,6 +91,8 @@ pub fn run<S: Source, F: Folder, K: Sink, R: Threads + Sync, G: Gate>(
           before = F.reads folder.old;
           now = F.reads folder.new;
         }) result) (asked (map string_bytes words.now)) }
+    // whatever it ends with, what was kept is, or a commit of which each listed file is whole
+    ensures lasting { IsTrue F.told → KeepsCommit (F.files folder.old) (F.files folder.new) }
     // why it ended otherwise
     ensures damage { TellsDamage (IsTrue F.told) (F.files folder.old) (F.files folder.new) result }
     ensures causes { HasCauses
@@ -139,6 +142,7 @@ fn run_command<S: Source, F: Folder, K: Sink, R: Threads + Sync, G: Gate>(
           before = F.reads folder.old;
           now = F.reads folder.new;
         }) result }
+    ensures lasting { IsTrue F.told → KeepsCommit (F.files folder.old) (F.files folder.new) }
     ensures damage { TellsDamage (IsTrue F.told) (F.files folder.old) (F.files folder.new) result }
     ensures causes { HasCauses
         (record { source = S.faults input.old; folder = F.faults folder.old; sink = K.faults out.old })

@@ -5,6 +5,7 @@ ghost use Rattle.outer_io.specs.Faults.{Rose};
 ghost use Rattle.script_lang.specs.Lines.{lines_of};
 ghost use Rattle.index_model.specs.State.{State};
 ghost use Rattle.stored_index.specs.Stored.{IsStored};
+ghost use Rattle.index_core.specs.Brought.{KeepsCommit};
 ghost use Rattle.index_core.specs.Whole.{HasNewCanonical};
 ghost use Rattle.run_status.specs.Causes.{HasCauses, ReadsInput};
 ghost use Rattle.run_status.specs.Ends.{DoesNothing, IsAnswer};
@@ -47,6 +48,7 @@ pub fn run_script<S: Source, F: Folder, K: Sink, R: Threads + Sync, G: Gate>(
     ensures costs { IsTrue S.told → IsTrue F.told
         → RunCosts Points (lines_of (S.left input.old)) (F.files folder.old) (F.files folder.new) (F.reads folder.old)
         (F.reads folder.new) result }
+    ensures lasting { IsTrue F.told → KeepsCommit (F.files folder.old) (F.files folder.new) }
     ensures damage { TellsDamage (IsTrue F.told) (F.files folder.old) (F.files folder.new) result }
     ensures causes { HasCauses
         (record { source = S.faults input.old; folder = F.faults folder.old; sink = K.faults out.old })
@@ -87,6 +89,7 @@ pub fn run_ranges<S: Source, F: Folder, K: Sink, R: Threads + Sync, G: Gate>(
     ensures costs { IsTrue S.told → IsTrue F.told
         → RunCosts Ranges (lines_of (S.left input.old)) (F.files folder.old) (F.files folder.new) (F.reads folder.old)
         (F.reads folder.new) result }
+    ensures lasting { IsTrue F.told → KeepsCommit (F.files folder.old) (F.files folder.new) }
     ensures damage { TellsDamage (IsTrue F.told) (F.files folder.old) (F.files folder.new) result }
     ensures causes { HasCauses
         (record { source = S.faults input.old; folder = F.faults folder.old; sink = K.faults out.old })
@@ -124,6 +127,7 @@ pub fn run_session<S: Source, F: Folder, K: Sink, R: Threads + Sync, G: Gate>(
     ensures costs { IsTrue S.told → IsTrue F.told
         → RunCosts Points (lines_of (S.left input.old)) (F.files folder.old) (F.files folder.new) (F.reads folder.old)
         (F.reads folder.new) result }
+    ensures lasting { IsTrue F.told → KeepsCommit (F.files folder.old) (F.files folder.new) }
     ensures damage { TellsDamage (IsTrue F.told) (F.files folder.old) (F.files folder.new) result }
     ensures causes { HasCauses
         (record { source = S.faults input.old; folder = F.faults folder.old; sink = K.faults out.old })
@@ -158,6 +162,7 @@ fn run_whole<S: Source, F: Folder, K: Sink, R: Threads + Sync, G: Gate>(
     ensures costs { IsTrue S.told → IsTrue F.told
         → RunCosts work.now.language (lines_of (S.left input.old)) (F.files folder.old) (F.files folder.new)
         (F.reads folder.old) (F.reads folder.new) result }
+    ensures lasting { IsTrue F.told → KeepsCommit (F.files folder.old) (F.files folder.new) }
     ensures damage { TellsDamage (IsTrue F.told) (F.files folder.old) (F.files folder.new) result }
     ensures causes { HasCauses
         (record { source = S.faults input.old; folder = F.faults folder.old; sink = K.faults out.old })
@@ -188,6 +193,7 @@ fn run_text<F: Folder, K: Sink, R: Threads + Sync, G: Gate>(
     ensures costs { IsTrue F.told
         → RunCosts work.now.language (lines_of script.now) (F.files folder.old) (F.files folder.new)
         (F.reads folder.old) (F.reads folder.new) result }
+    ensures lasting { IsTrue F.told → KeepsCommit (F.files folder.old) (F.files folder.new) }
     ensures damage { TellsDamage (IsTrue F.told) (F.files folder.old) (F.files folder.new) result }
     ensures folder_fault { result ≡ Status.FolderFault → Rose (F.faults folder.old) (F.faults folder.new) }
     ensures sink_fault { result ≡ Status.SinkFault → Rose (K.faults out.old) (K.faults out.new) }
@@ -214,6 +220,7 @@ fn run_source<S: Source, F: Folder, K: Sink, R: Threads + Sync, G: Gate>(
     ensures costs { IsTrue S.told → IsTrue F.told
         → RunCosts work.now.language (lines_of (S.left input.old)) (F.files folder.old) (F.files folder.new)
         (F.reads folder.old) (F.reads folder.new) result }
+    ensures lasting { IsTrue F.told → KeepsCommit (F.files folder.old) (F.files folder.new) }
     ensures damage { TellsDamage (IsTrue F.told) (F.files folder.old) (F.files folder.new) result }
     ensures causes { HasCauses
         (record { source = S.faults input.old; folder = F.faults folder.old; sink = K.faults out.old })

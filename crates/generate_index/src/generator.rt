@@ -11,6 +11,7 @@ ghost use Rattle.index_model.specs.State.{State};
 ghost use Rattle.stored_index.specs.Stored.{IsStored};
 ghost use Rattle.index_opening.specs.Evidence.{IsEvident};
 ghost use Rattle.segment_set.specs.Faithful.{IsFaithful};
+ghost use Rattle.index_core.specs.Brought.{KeepsCommit};
 ghost use Rattle.index_core.specs.Sessions.{AreTraced, Guards};
 ghost use Rattle.index_core.specs.Effects.{BringsCanonical};
 ghost use Rattle.index_core.specs.Light.{KeepsLevels};
@@ -74,6 +75,7 @@ pub fn generate<R: Threads + Sync, F: Folder, G: Gate>(
         → OnOk result (KeepsLevels (F.files folder.old) (F.files folder.new)) }
     // whatever the folder holds
     ensures undone { IsTrue F.told → KeepsUndone (F.files folder.old) (F.files folder.new) result }
+    ensures lasting { IsTrue F.told → KeepsCommit (F.files folder.old) (F.files folder.new) }
     ensures cause { HasPageCause (F.faults folder.old) (F.faults folder.new) result }
     ensures evident { OnDamage result (IsEvident (IsTrue F.told) (F.files folder.new)) }
 {
@@ -105,6 +107,8 @@ fn generate_first<R: Threads + Sync, F: Folder, G: Gate>(
         → OnOk result (KeepsLevels (F.files folder.old) (F.files folder.new)) }
     ensures undone { IsTrue F.told → F.files folder.old CommitName ≡ None
         → KeepsUndone (F.files folder.old) (F.files folder.new) result }
+    ensures lasting { IsTrue F.told → F.files folder.old CommitName ≡ None
+        → KeepsCommit (F.files folder.old) (F.files folder.new) }
     ensures cause { HasPageCause (F.faults folder.old) (F.faults folder.new) result }
     ensures evident { OnDamage result
         (IsEvident (IsTrue F.told × (F.files folder.old CommitName ≡ None)) (F.files folder.new)) }

@@ -1,5 +1,5 @@
 -- What becomes of a command, by what the call on the set answered.
-use Rattle.std.proofs.Common.{◌≡◌, ℕ, All, Bool, false, List, [], ◌++◌, Some, Result, Ok, Err, refl, sym, subst, ◌∙◌, arith}
+use Rattle.std.proofs.Common.{◌≡◌, ℕ, All, Bool, false, List, [], ◌++◌, Some, Result, Ok, Err, inl, refl, sym, subst, ◌∙◌, arith}
 use Rattle.std.proofs.lemmas.List.{append-nil}
 use Rattle.outer_io.specs.Files.{Files}
 use Rattle.page_cache.specs.declared.faults.PageFault.{PageFault}
@@ -88,6 +88,8 @@ applies_with D told outcome old new r calm does begins cause whole evident = rec
   traced = λ is_told trusts.
       traced_after D told old.files new.files old.session.set new.session.set is_told calm.keeps calm.follows (calm.brings is_told) trusts.guards.set
       trusts.traced;
+  lasting = λ is_told trusts.
+      inl (kept_after_calls D told old.files new.files old.session.set new.session.set.names is_told calm.keeps trusts.guards.set);
   evident = evident;
   idle = λ is_told e unchanged. absurd cc;
   unchanged = λ e. absurd cc;
@@ -139,6 +141,7 @@ applies_still D told outcome files session before after faults r does begins cau
   whole = λ is_told i seen guards. whole;
   faithful = λ is_told faithful. faithful;
   traced = λ is_told trusts. trusts.traced;
+  lasting = λ is_told trusts. inl (kept_itself files);
   evident = none_evident (told × Trusts D files session) files r whole;
   idle = λ is_told e unchanged. refl;
   unchanged = λ e. absurd cc;
@@ -235,6 +238,7 @@ applies_told D told outcome committing old new r is = record {
   whole = λ is_told. is.whole tt;
   faithful = λ is_told. is.faithful tt;
   traced = λ is_told. is.traced tt;
+  lasting = λ is_told. is.lasting tt;
   evident = on_evident_less (Unit {0} × Trusts D old.files old.session) (told × Trusts D old.files old.session) new.files r (λ (is_told, trusts). (tt, trusts))
       is.evident;
   idle = λ is_told. is.idle tt;
@@ -263,6 +267,7 @@ applies_as D told o p committing old new r same is = record {
   whole = is.whole;
   faithful = is.faithful;
   traced = is.traced;
+  lasting = is.lasting;
   evident = is.evident;
   idle = is.idle;
   unchanged = is.unchanged;

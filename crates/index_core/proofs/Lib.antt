@@ -20,3 +20,4 @@ pub mod Wholes
 pub mod Lightly
 pub mod Undone
 pub mod Closing
+pub mod Brought

@@ -7,3 +7,4 @@ pub mod Costs
 pub mod Damages
 pub mod Light
 pub mod Closed
+pub mod Brought

@@ -21,6 +21,7 @@ use Rattle.segment_set.specs.Sets.{SetData}
 use Rattle.segment_set.specs.Seen.{Sees}
 use Rattle.index_opening.specs.Evidence.{IsEvident}
 use Rattle.segment_set.specs.Faithful.{IsFaithful}
+use Rattle.index_core.specs.Brought.{KeepsCommit}
 use Rattle.index_core.specs.Sessions.{AreTraced, Guards, IsCommitAnew, IsUnchanged, SessionData, Trusts}
 use Rattle.index_core.specs.Effects.{BringsCanonical, OnDone}
 use Rattle.index_core.specs.Light.{CommitsFewOfLevels}
@@ -113,6 +114,7 @@ pub record Applies (D : ℕ) (told : Type 0) (outcome : Index → Outcome) (comm
       → NotDamaged result
   pub faithful : told → IsFaithful D old.files old.session.set → IsFaithful D new.files new.session.set
   pub traced : told → Trusts D old.files old.session → AreTraced D new.files new.session.set.parts
+  pub lasting : told → Trusts D old.files old.session → KeepsCommit old.files new.files
   pub evident : OnDamage result (IsEvident (told × Trusts D old.files old.session) new.files)
   pub idle : told → committing ≡ true → IsUnchanged old.session → new.files ≡ old.files
   pub unchanged : committing ≡ true → OnDone result (IsUnchanged new.session)

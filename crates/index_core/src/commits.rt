@@ -25,6 +25,7 @@ ghost use Rattle.segment_set.specs.Sets.{IsNamed, IsSettled};
 ghost use Rattle.file_names.specs.Names.{is_named};
 ghost use Rattle.segment_set.specs.Kept.{Follows, IsCommitOf, IsNeeded, StaysButFiles};
 ghost use Rattle.index_core.specs.Sessions.{AreTraced, Guards, GuardsSet, IsCommitAnew, IsSound, IsUnchanged, Trusts};
+ghost use Rattle.index_core.specs.Brought.{KeepsCommit};
 ghost use Rattle.index_core.specs.Closed.{IsClosed, IsIdle, IsTracked, NamesOnlyListed};
 ghost use Rattle.index_core.specs.Costs.{ReadsAtMost};
 ghost use Rattle.index_core.specs.Damages.{ShowsDamage, ShowsMerge};
@@ -96,6 +97,9 @@ impl<const D: usize> Session<D> {
             → IsFaithful D (F.files folder.new) self.new.set }
         ensures traced { IsTrue F.told → Trusts D (F.files folder.old) self.old
             → AreTraced D (F.files folder.new) self.new.set.parts }
+        // whatever is answered, all that is kept is the same, or a commit is there of which each listed file is whole
+        ensures lasting { IsTrue F.told → Trusts D (F.files folder.old) self.old
+            → KeepsCommit (F.files folder.old) (F.files folder.new) }
         ensures evident { OnDamage result
             (IsEvident (IsTrue F.told × Trusts D (F.files folder.old) self.old) (F.files folder.new)) }
         // no file is there that the list of names doesn't have, but those that were
@@ -128,6 +132,8 @@ impl<const D: usize> Session<D> {
             → KeepsOver true (F.files folder.old) (F.files folder.new) self.new result }
         ensures undone { IsTrue F.told → Guards D (F.files folder.old) self.old
             → KeepsUndone (F.files folder.old) (F.files folder.new) result }
+        ensures lasting { IsTrue F.told → Trusts D (F.files folder.old) self.old
+            → KeepsCommit (F.files folder.old) (F.files folder.new) }
         // where nothing changed and nothing is to be removed no file is changed
         ensures idle { IsTrue F.told → IsIdle self.old → F.files folder.new ≡ F.files folder.old }
         ensures reads { IsUnchanged self.old ⊎ IsSettled self.old.set → F.reads folder.new ≡ F.reads folder.old }

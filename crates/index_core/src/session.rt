@@ -55,6 +55,7 @@ impl<const D: usize> Model for Session<D> {
 
 impl<const D: usize> Session<D> {
     ghost use Rattle.index_core.specs.Sessions.{AreTraced, Guards, IsCommitAnew, IsUnchanged, Trusts};
+    ghost use Rattle.index_core.specs.Brought.{KeepsCommit};
     ghost use Rattle.index_core.specs.Closed.{NamesOnlyListed};
     ghost use Rattle.index_core.specs.Steps.{Applies, DoesOver, KeepsOver, Stores, is_committing};
     ghost use Rattle.index_core.specs.Costs.{ReadsAtMost};
@@ -188,6 +189,9 @@ impl<const D: usize> Session<D> {
             → IsFaithful D (F.files folder.new) self.new.set }
         ensures traced { IsTrue F.told → Trusts D (F.files folder.old) self.old
             → AreTraced D (F.files folder.new) self.new.set.parts }
+        // what is kept is as before, or a commit has taken its place of which each listed file is whole
+        ensures lasting { IsTrue F.told → Trusts D (F.files folder.old) self.old
+            → KeepsCommit (F.files folder.old) (F.files folder.new) }
         ensures evident { OnDamage result
             (IsEvident (IsTrue F.told × Trusts D (F.files folder.old) self.old) (F.files folder.new)) }
         // blank lines, queries and what is refused leave all but the kept pages

@@ -23,6 +23,7 @@ use Rattle.csv_load.specs.declared.CsvFault.{CsvFault}
 use Rattle.load_points.specs.Loaded.{dims_text, load_answer, loaded_by, loaded_text, matched, refusal}
 use Rattle.load_points.specs.Loads.{HasDims, IsLoading, Loads, Place, StartsFrom, StartsNone}
 use Rattle.load_points.proofs.Counted.{loaded_fault, loaded_points, matched_not}
+use Rattle.index_core.proofs.Brought.{commit_equal}
 use Rattle.index_core.proofs.Undone.{fault_kept, kept_equal}
 use Rattle.load_points.proofs.Loading.{Starting, loads_fault, loads_as, loads_told}
 
@@ -56,7 +57,7 @@ unread_commit {T = T} told answer old new fault r is same whole cause damage sho
     (λ t stored h. inl (subst (λ (f : Files). IsStored f stored) (sym (same t)) h)) whole cause
     (on_evident_at {X = T} IsTwice told (told × Unit {0}) old.files new.files (Err fault) (λ h. h.0) (λ h. same h.0)
     (on_commit_evident {X = T} told old.files (Err fault) damage shown))
-    (λ t h. fault_kept old.files new.files (kept_equal old.files new.files (same t)) fault)
+    (λ t h. fault_kept old.files new.files (kept_equal old.files new.files (same t)) fault) (λ t h. commit_equal old.files new.files (same t))
 
 -- a damage of files that are the same
 pub evident_still : (told trusts : Type 0) (old new : Files) (fault : PageFault) → (told → new ≡ old) → FaultShows (IsEvident (told × trusts) old) fault

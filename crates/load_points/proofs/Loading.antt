@@ -24,6 +24,7 @@ use Rattle.segment_view.specs.Parts.{Part}
 use Rattle.segment_set.specs.Seen.{Sees}
 use Rattle.index_opening.specs.Evidence.{IsEvident}
 use Rattle.index_opening.proofs.Evident.{on_evident_less}
+use Rattle.index_core.specs.Brought.{KeepsCommit}
 use Rattle.index_core.specs.Sessions.{Guards, IsUnchanged, SessionData, Trusts}
 use Rattle.index_core.specs.Light.{KeepsLevels}
 use Rattle.index_core.specs.Steps.{FaultKeeps, KeepsUndone}
@@ -34,6 +35,7 @@ use Rattle.load_points.specs.Loaded.{full_text, loaded_text, matched, opened, re
 use Rattle.load_points.specs.Loads.{IsLoading, Loads, Place, StartsFrom, StartsNone}
 use Rattle.load_points.proofs.Counted.{added_is, done_answer, full_is, matched_is, rest_done}
 use Rattle.index_core.proofs.Bringing.{brings_then}
+use Rattle.index_core.proofs.Brought.{commit_after, commit_itself}
 use Rattle.index_core.proofs.Listed.{attached_listed, new_canonical}
 use Rattle.index_core.proofs.Undone.{begins_none, fault_kept, levels_after, undone_after}
 use Rattle.index_core.proofs.Wholes.{IsCommitted, does_fault}
@@ -49,14 +51,16 @@ pub loads_fault : {T : Type 0} (told trusts : Type 0) (Starts : Starting) (answe
     → (told → (stored : State) → Starts stored → IsStored new.files stored ⊎ IsStored new.files (answer stored).state)
     → (told → (stored : State) → Starts stored → NotDamaged {T = T} (Err fault))
     → HasPageCause {T = T} old.faults new.faults (Err fault) → OnDamage {T = T} (Err fault) (IsEvident (told × trusts) new.files)
-    → (told → trusts → FaultKeeps old.files new.files fault) → Loads told trusts Starts answer old new r
-loads_fault {T = T} told trusts Starts answer old new fault r is stored whole cause evident undone =
+    → (told → trusts → FaultKeeps old.files new.files fault) → (told → trusts → KeepsCommit old.files new.files)
+    → Loads told trusts Starts answer old new r
+loads_fault {T = T} told trusts Starts answer old new fault r is stored whole cause evident undone lasting =
     subst (Loads told trusts Starts answer old new) (sym is) (record {
       does = λ t state h. does_fault new.files state (answer state) old.text new.text fault (other fault (whole t state h)) (stored t state h);
       unchanged = λ t. tt;
       canon = λ t state h. tt;
       levels = λ t state h. tt;
       undone = undone;
+      lasting = lasting;
       cause = fault_to old.faults new.faults fault cause;
       evident = evident;
     })
@@ -73,7 +77,7 @@ pub loads_no_memory : (told trusts : Type 0) (Starts : Starting) (answer : State
     → Loads told trusts Starts answer (record { files = files; faults = faults; text = before }) (record { files = files; faults = faults; text = after }) r
 loads_no_memory told trusts Starts answer files faults before after r is keeps =
     loads_fault {T = Bool} told trusts Starts answer _ _ page.Memory r is (λ t state h. inl (keeps state h)) (λ t state h. tt)
-    (memory_cause faults faults (omega arith)) tt (λ t h. inl (kept_itself files))
+    (memory_cause faults faults (omega arith)) tt (λ t h. inl (kept_itself files)) (λ t h. commit_itself files)
 
 -- ---- refusals
 
@@ -88,6 +92,7 @@ loads_refused told trusts Starts answer files faults before after cause grew kee
   canon = λ t state h c says l inside apart head has. absurd (old_is_new files c says l inside apart);
   levels = λ t state h. inl refl;
   undone = λ t h. tt;
+  lasting = λ t h. commit_itself files;
   cause = no_cause faults true;
   evident = tt;
 }
@@ -109,6 +114,7 @@ loads_as told trusted trusts From Starts other answer old new r more starts same
   canon = λ t state h. loads.canon t state (starts state h);
   levels = λ t state h. loads.levels t state (starts state h);
   undone = λ t h. loads.undone t (more h);
+  lasting = λ t h. loads.lasting t (more h);
   cause = loads.cause;
   evident = on_evident_less (told × trusts) (told × trusted) new.files r (λ h. (h.0, more h.1)) loads.evident;
 }
@@ -122,6 +128,7 @@ loads_told told trusts Starts answer old new r loads = record {
   canon = λ t. loads.canon tt;
   levels = λ t. loads.levels tt;
   undone = λ t h. loads.undone tt h;
+  lasting = λ t h. loads.lasting tt h;
   cause = loads.cause;
   evident = on_evident_less (Unit {0} × trusts) (told × trusts) new.files r (λ h. (tt, h.1)) loads.evident;
 }
@@ -138,6 +145,7 @@ loads_after told trusted trusts From Starts answer old middle new x r same text 
   canon = λ t state h. subst (λ (f : Files). OnOk r (HasNewCanonical f new.files)) (same t) (loads.canon t state (starts t state h));
   levels = λ t state h. subst (λ (f : Files). OnOk r (KeepsLevels f new.files)) (same t) (loads.levels t state (starts t state h));
   undone = λ t h. subst (λ (f : Files). KeepsUndone f new.files r) (same t) (loads.undone t (more t h));
+  lasting = λ t h. subst (λ (f : Files). KeepsCommit f new.files) (same t) (loads.lasting t (more t h));
   cause = cause_then old.faults middle.faults new.faults r cause.fine loads.cause;
   evident = on_evident_less (told × trusts) (told × trusted) new.files r (λ h. (h.0, more h.0 h.1)) loads.evident;
 }
@@ -214,6 +222,12 @@ fitting D files s stored points l fits =
     matched_is D stored l.index points l.is l.seen.dims
     ∙ added_is D stored l.index points l.is (subst (λ n. n + length points ≤ 2 ^ 24) (sym l.seen.given) fits)
 
+-- the files are trusted then as they were
+adds_trusts : {T : Type 0} (D : ℕ) (told : Type 0) (points : List (List ℤ)) (a b : Moment) (r : Result T PageFault) → Adds D told points a b r → told
+    → Trusts D a.files a.session → Trusts D b.files b.session
+adds_trusts D told points a b r adds t trusts =
+    record { guards = adds.guards t trusts.guards; faithful = adds.faithful t trusts.faithful; traced = adds.traced t trusts }
+
 -- a fault while they are added: what was stored is
 pub adding_stopped : {T : Type 0} (D : ℕ) (told : Type 0) (answer : State → Answer) (points : List (List ℤ)) (a b : Moment) (before after : List ℕ)
     (fault : PageFault) (r : Result Bool PageFault) → r ≡ Err fault
@@ -224,15 +238,16 @@ adding_stopped {T = T} D told answer points a b before after fault r is adds =
     loads_fault told (Trusts D a.files a.session) (IsLoading D a.files a.session) answer _ _ fault r is
     (λ t stored l. inl (stored_still a.files b.files stored (adds.kept t l.guards) l.keeps))
     (λ t stored l. adds.whole t l.index l.seen) adds.cause adds.evident (λ t h. fault_kept a.files b.files (adds.kept t h.guards) fault)
+    (λ t h. inl (adds.kept t h.guards))
 
 -- a fault of the commit after them: what was stored is, or all of it
 pub commit_stopped : {T U : Type 0} (D : ℕ) (told : Type 0) (points : List (List ℤ)) (a b c : Moment) (x : U) (before after : List ℕ) (fault : PageFault)
     (r : Result Bool PageFault) → r ≡ Err fault
     → a.session.set.given + length points ≤ 2 ^ 24 → Adds D told points a b (Ok x) → IsCommitted {T = T} D told b c (Err fault)
-    → OnDamage {T = T} (Err fault) (IsEvident (told × Trusts D b.files b.session) c.files)
+    → OnDamage {T = T} (Err fault) (IsEvident (told × Trusts D b.files b.session) c.files) → (told → Trusts D b.files b.session → KeepsCommit b.files c.files)
     → Loads told (Trusts D a.files a.session) (IsLoading D a.files a.session) (λ stored. matched D stored points)
     (record { files = a.files; faults = a.faults; text = before }) (record { files = c.files; faults = c.faults; text = after }) r
-commit_stopped {T = T} D told points a b c x before after fault r is fits adds commits evident =
+commit_stopped {T = T} D told points a b c x before after fault r is fits adds commits evident lasting =
     loads_fault told (Trusts D a.files a.session) (IsLoading D a.files a.session) _ _ _ fault r is
     (λ t stored l. ⊎_elim
     (λ same. inl (stored_still b.files c.files stored same (stored_still a.files b.files stored (adds.kept t l.guards) l.keeps)))
@@ -242,16 +257,17 @@ commit_stopped {T = T} D told points a b c x before after fault r is fits adds c
     (λ t stored l. commits.whole t (with_points l.index points) (adds.seen t l.index l.seen))
     (cause_then a.faults b.faults c.faults (Err fault) adds.cause.fine commits.cause)
     (on_evident_less {X = T} (told × Trusts D b.files b.session) (told × Trusts D a.files a.session) c.files (Err fault)
-    (λ h. (h.0, record { guards = adds.guards h.0 h.1.guards; faithful = adds.faithful h.0 h.1.faithful; traced = adds.traced h.0 h.1 })) evident)
+    (λ h. (h.0, adds_trusts D told points a b (Ok x) adds h.0 h.1)) evident)
     (λ t h. undone_after {T = T} a.files b.files c.files (Err fault) (adds.kept t h.guards) (commits.undone t (adds.guards t h.guards)))
+    (λ t h. commit_after a.files b.files c.files (adds.kept t h.guards) (lasting t (adds_trusts D told points a b (Ok x) adds t h)))
 
 -- all came, and are stored
 pub all_loaded : {T U : Type 0} (D : ℕ) (told : Type 0) (points : List (List ℤ)) (a b c : Moment) (x : U) (y : T) (next : ℕ) (before after : List ℕ)
     → a.session.set.given + length points ≤ 2 ^ 24 → next ≡ a.session.set.next → after ≡ before ++ loaded_text (length points) (next + length points)
-    → Adds D told points a b (Ok x) → IsCommitted D told b c (Ok y)
+    → Adds D told points a b (Ok x) → IsCommitted D told b c (Ok y) → (told → Trusts D b.files b.session → KeepsCommit b.files c.files)
     → Loads told (Trusts D a.files a.session) (IsLoading D a.files a.session) (λ stored. matched D stored points)
     (record { files = a.files; faults = a.faults; text = before }) (record { files = c.files; faults = c.faults; text = after }) (Ok false)
-all_loaded D told points a b c x y next before after fits first grew adds commits = record {
+all_loaded D told points a b c x y next before after fits first grew adds commits lasting = record {
   does = λ t stored l.
       let at = adds.seen t l.index l.seen in
       subst (λ (n : Answer). DoesWhole c.files stored n before after (Ok false)) (sym (fitting D a.files a.session stored points l fits)) (
@@ -273,6 +289,7 @@ all_loaded D told points a b c x y next before after fits first grew adds commit
       (points_begun l.index points ∙ ap (λ (i : Index). i.begun) (sym (loading_rests D a.files a.session stored l))) in
       levels_after a.files b.files c.files (adds.kept t l.guards) (commits.few t (adds.guards t l.guards) begun);
   undone = λ t h. tt;
+  lasting = λ t h. commit_after a.files b.files c.files (adds.kept t h.guards) (lasting t (adds_trusts D told points a b (Ok x) adds t h));
   cause = let one = adds.cause.fine in let two = commits.cause.fine in let late = adds.cause.later in let more = commits.cause.later in
       record { later = omega arith; fine = two ∙ one; failed = λ e. absurd cc };
   evident = tt;

@@ -13,6 +13,7 @@ use Rattle.stored_index.specs.Stored.{IsStored}
 use Rattle.segment_view.specs.Parts.{Part}
 use Rattle.segment_set.specs.Seen.{Sees}
 use Rattle.index_opening.specs.Evidence.{IsEvident}
+use Rattle.index_core.specs.Brought.{KeepsCommit}
 use Rattle.index_core.specs.Sessions.{SessionData, Guards}
 use Rattle.index_core.specs.Light.{KeepsLevels}
 use Rattle.index_core.specs.Steps.{KeepsUndone}
@@ -27,7 +28,8 @@ pub record Place : Type 0 where
 
 -- From the one place to the other a load that starts so is answered so. A refused one changes no file, each segment
 -- that is listed anew is canonical, few of each level are listed, what isn't done loses nothing that is kept by files
--- that are trusted, and a damage is shown by what it carries, and is true of such files.
+-- that are trusted, a commit that takes its place is whole, and a damage is shown by what it carries, and is true of
+-- such files.
 pub record Loads (told trusts : Type 0) (Starts : State → Type 0) (answer : State → Answer) (old new : Place)
     (result : Result Bool PageFault) : Type 0 where
   pub does : told → (stored : State) → Starts stored
@@ -36,6 +38,7 @@ pub record Loads (told trusts : Type 0) (Starts : State → Type 0) (answer : St
   pub canon : told → (stored : State) → Starts stored → OnOk result (HasNewCanonical old.files new.files)
   pub levels : told → (stored : State) → Starts stored → OnOk result (KeepsLevels old.files new.files)
   pub undone : told → trusts → KeepsUndone old.files new.files result
+  pub lasting : told → trusts → KeepsCommit old.files new.files
   pub cause : HasPageCause old.faults new.faults result
   pub evident : OnDamage result (IsEvident (told × trusts) new.files)
 

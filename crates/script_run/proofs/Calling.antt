@@ -1,10 +1,6 @@
 -- What holds of every command, from the ends of its parts.
-use Rattle.std.proofs.Common.{◌≡◌, ◌==◌, ◌⊎◌, ℕ, Bool, true, false, List, None, Result, Ok, Err, OnErr, IsErrOf, refl, subst, inl, inr, ⊎_elim, arith}
-use Rattle.outer_io.specs.declared.file_name.FileName.TheVariants.{Commit}
-use Rattle.outer_io.specs.Files.{Files, bytes_of}
-use Rattle.commit_list.specs.Commits.{CommitData}
-use Rattle.commit_list.specs.CommitFiles.{IsCommitFile}
-use Rattle.commit_list.proofs.CommitPages.{file_there, one_file}
+use Rattle.std.proofs.Common.{◌≡◌, ◌==◌, ◌⊎◌, ℕ, Bool, true, false, List, Result, Ok, Err, OnErr, IsErrOf, refl, inl, inr, ⊎_elim, arith}
+use Rattle.outer_io.specs.Files.{Files}
 use Rattle.stored_index.specs.Kept.{SameKept}
 use Rattle.stored_index.proofs.KeptFiles.{kept_after, kept_itself}
 use Rattle.index_core.specs.Sessions.{SessionData}
@@ -13,7 +9,6 @@ use Rattle.page_cache.specs.declared.faults.PageFault.TheVariants as page
 use Rattle.index_core.specs.Steps.{FaultKeeps, HasCommit, KeepsOver}
 use Rattle.script_run.specs.Kept.{RunCosts, StatusKeeps, StopKeeps}
 use Rattle.run_status.specs.Ends.{IsAnswer}
-use Rattle.script_run.specs.Costs.{NoneCommits}
 use Rattle.run_status.specs.Stops.{status_of, stop_of}
 use Rattle.run_status.specs.declared.stop.Stop.{Stop}
 use Rattle.run_status.specs.declared.stop.Stop.TheVariants as stop
@@ -40,7 +35,7 @@ nothing_costs lang lines files reads s other = record {
   levels = λ state h asks a. absurd (other a);
   still = λ state h asks. refl;
   reads = λ s scope pages opening which n touches. omega arith;
-  undone = λ c says quiet. same_status files s;
+  undone = λ quiet. (same_status files s, λ e. kept_itself files);
 }
 
 keeps_counted : (old new : Files) (b : Bool) (count : ℕ) → StatusKeeps old new (counted b count)
@@ -94,13 +89,3 @@ stop_status old new (Err stop.FolderFault) h = h
 stop_status old new (Err stop.Memory) h = h
 stop_status old new (Err stop.SinkFault) h = tt
 stop_status old new (Err (stop.Damaged d)) h = h
-
--- a folder without a Commit file has no commit
-pub no_commit : (files : Files) (c : CommitData) → IsCommitFile (bytes_of (files Commit)) c → files Commit ≡ None → ⊥
-no_commit files c says none = let there = (file_there (files Commit) c says).0 in cc
-
--- the commit that was read is the one that the file says
-pub quiet_for : (lang : Language) → (files : Files) (c read : CommitData) (lines : List (List ℕ)) → IsCommitFile (bytes_of (files Commit)) c
-    → IsCommitFile (bytes_of (files Commit)) read → NoneCommits lang c.dims lines → NoneCommits lang read.dims lines
-quiet_for lang files c read lines says found quiet =
-    subst (λ (d : CommitData). NoneCommits lang d.dims lines) (one_file (bytes_of (files Commit)) c read says found) quiet

@@ -8,8 +8,9 @@ use Rattle.run_status.specs.declared.status.Status.{Status}
 use Rattle.run_status.specs.declared.status.Status.TheVariants as status
 use Rattle.run_status.specs.declared.stop.Stop.TheVariants as stop
 use Rattle.script_lang.specs.Lines.{lines_of}
+use Rattle.stored_index.specs.Kept.{SameKept}
 use Rattle.script_run.specs.Halted.{HasHaltCause, OfSource, OnHaltDamage, status_of_lines}
-use Rattle.script_run.specs.Kept.{HaltKeeps, StatusKeeps}
+use Rattle.script_run.specs.Kept.{HaltKeeps, ScriptKeeps, StatusKeeps}
 use Rattle.script_run.specs.Progress.{Place}
 use Rattle.script_run.specs.Runs.{Ends, EndsRead, EndsSession}
 use Rattle.script_run.specs.declared.halt.Halt.{Halt}
@@ -60,10 +61,22 @@ when_read (Ok count) a p = p
 when_read (Err halt.Source) a p = absurd a
 when_read {P} (Err (halt.Stopped s)) a p = when_answered {P = P} (Err s) a tt
 
-pub read_keeps : (old new : Files) (done : Result ℕ Halt) → HaltKeeps old new done → StatusKeeps old new (status_of_lines done)
+read_keeps : (old new : Files) (done : Result ℕ Halt) → HaltKeeps old new done → StatusKeeps old new (status_of_lines done)
 read_keeps old new (Ok count) h = stop_status old new (Ok count) h
 read_keeps old new (Err halt.Source) h = h
 read_keeps old new (Err (halt.Stopped s)) h = stop_status old new (Err s) h
+
+-- and so do those of a script
+pub read_script : (old new : Files) (done : Result ℕ Halt) → HaltKeeps old new done → ScriptKeeps old new (status_of_lines done)
+read_script old new done h = (read_keeps old new done h, λ e. by_sink done h e)
+  where
+    by_sink : (done : Result ℕ Halt) → HaltKeeps old new done → status_of_lines done ≡ status.SinkFault → SameKept old new
+    by_sink (Ok count) h e = absurd (let stopped = sink_stopped (Ok count) e in cc)
+    by_sink (Err halt.Source) h e = cc
+    by_sink (Err (halt.Stopped stop.FolderFault)) h e = cc
+    by_sink (Err (halt.Stopped stop.Memory)) h e = cc
+    by_sink (Err (halt.Stopped stop.SinkFault)) h e = h
+    by_sink (Err (halt.Stopped (stop.Damaged damage))) h e = cc
 
 pub read_shows : (P : Damage → Type 0) (done : Result ℕ Halt) → OnHaltDamage done P → OnStatusDamage (status_of_lines done) P
 read_shows P (Ok count) h = status_shows P (Ok count) h

@@ -1,5 +1,5 @@
 -- What lines that stop keep of what the folder held, and what a script costs besides its answers.
-use Rattle.std.specs.Prelude.{ℕ, ◌≡◌, ◌⊎◌, List, Result, Ok, Err}
+use Rattle.std.specs.Prelude.{ℕ, ◌≡◌, ◌≢◌, ◌⊎◌, List, None, Result, Ok, Err}
 use Rattle.outer_io.specs.declared.file_name.FileName.TheVariants.{Commit}
 use Rattle.outer_io.specs.Files.{Files, bytes_of}
 use Rattle.commit_list.specs.Commits.{CommitData}
@@ -40,6 +40,15 @@ StopKeeps old new (Err (stop.Damaged damage)) = SameKept old new
 abbrev pub HaltKeeps : {T : Type 0} → Files → Files → Result T Halt → Type 0
 HaltKeeps old new result = OnLines (StopKeeps old new) (SameKept old new) result
 
+-- The same of a script. The sink fails while lines are done, before the commit at their end
+abbrev pub ScriptKeeps : Files → Files → Status → Type 0
+ScriptKeeps old new s = StatusKeeps old new s × (s ≡ status.SinkFault → SameKept old new)
+
+-- there is a Commit file, and none of the lines asks for a commit, where it says one
+pub record AsksNoCommit (lang : Language) (files : Files) (lines : List (List ℕ)) : Type 0 where
+  pub there : files Commit ≢ None
+  pub none : (c : CommitData) → IsCommitFile (bytes_of (files Commit)) c → NoneCommits lang c.dims lines
+
 -- a script that begins no merge leaves few segments of each level; one of queries changes no file; it, or one that
 -- needs no segment to be merged, reads little.
 -- One that asks for no commit before its end loses nothing that is kept where it isn't done, whatever the folder of the
@@ -50,5 +59,4 @@ pub record RunCosts (lang : Language) (lines : List (List ℕ)) (old new : Files
       → KeepsLevels old new
   pub still : (state : State) → IsStored old state → AllAsk lang is_query 1 state lines → new ≡ old
   pub reads : RunReadsFew lang old lines before now
-  pub undone : (c : CommitData) → IsCommitFile (bytes_of (old Commit)) c → NoneCommits lang c.dims lines
-      → StatusKeeps old new s
+  pub undone : AsksNoCommit lang old lines → ScriptKeeps old new s

@@ -6,6 +6,7 @@ ghost use Rattle.outer_io.specs.Faults.{Rose};
 ghost use Rattle.page_cache.specs.Causes.{HasPageCause};
 ghost use Rattle.page_cache.specs.Evidence.{OnDamage};
 ghost use Rattle.index_opening.specs.Evidence.{IsEvident};
+ghost use Rattle.index_core.specs.Brought.{KeepsCommit};
 ghost use Rattle.index_core.specs.Sessions.{Trusts};
 ghost use Rattle.index_core.specs.Steps.{is_committing};
 ghost use Rattle.script_lang.specs.Replies.{refused_text};
@@ -73,6 +74,8 @@ pub fn answer_line<const D: usize, R: Threads + Sync, F: Folder, K: Sink, G: Gat
     ensures kept { IsTrue F.told → Trusts D (F.files folder.old) session.old
         → asks_commit (heard work.now.language (Some D) line.now) ≡ false
         → SameKept (F.files folder.old) (F.files folder.new) }
+    ensures lasting { IsTrue F.told → Trusts D (F.files folder.old) session.old
+        → KeepsCommit (F.files folder.old) (F.files folder.new) }
     ensures evident { OnStopDamage result
         (IsEvident (IsTrue F.told × Trusts D (F.files folder.old) session.old) (F.files folder.new)) }
 {
@@ -110,6 +113,8 @@ fn reply_to<const D: usize, R: Threads + Sync, F: Folder, G: Gate>(
     ensures kept { IsTrue F.told → Trusts D (F.files folder.old) session.old
         → asks_commit (heard work.now.language (Some D) line.now) ≡ false
         → SameKept (F.files folder.old) (F.files folder.new) }
+    ensures lasting { IsTrue F.told → Trusts D (F.files folder.old) session.old
+        → KeepsCommit (F.files folder.old) (F.files folder.new) }
     ensures evident { OnDamage result
         (IsEvident (IsTrue F.told × Trusts D (F.files folder.old) session.old) (F.files folder.new)) }
 {
@@ -145,6 +150,8 @@ fn obey<const D: usize, R: Threads + Sync, F: Folder, G: Gate>(
         → Trusts D (F.files folder.new) session.new }
     ensures kept { IsTrue F.told → Trusts D (F.files folder.old) session.old
         → is_committing (request_of command.now) ≡ false → SameKept (F.files folder.old) (F.files folder.new) }
+    ensures lasting { IsTrue F.told → Trusts D (F.files folder.old) session.old
+        → KeepsCommit (F.files folder.old) (F.files folder.new) }
     ensures evident { OnDamage result
         (IsEvident (IsTrue F.told × Trusts D (F.files folder.old) session.old) (F.files folder.new)) }
 {

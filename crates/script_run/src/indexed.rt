@@ -2,6 +2,7 @@
 
 ghost use Rattle.std.specs.Prelude.{◌≡◌, ◌≤◌, Some, [], IsTrue, OnOk, ℕ};
 ghost use Rattle.index_opening.specs.Evidence.{IsEvident};
+ghost use Rattle.index_core.specs.Brought.{KeepsCommit};
 ghost use Rattle.index_core.specs.Sessions.{Trusts};
 ghost use Rattle.index_model.specs.State.{Index, State};
 ghost use Rattle.line_source.specs.Reader.{KnowsEnd};
@@ -64,6 +65,8 @@ pub(crate) fn run_over<const D: usize, S: Source, R: Threads + Sync, F: Folder, 
         → OfLines (IsTrue S.told) reader.old (S.left input.old)
         (λ lines. IsThere (F.files folder.old) origin → NoneCommits work.now.language (dims_of origin) lines
         → HaltKeeps (F.files folder.old) (F.files folder.new) result) }
+    ensures lasting { IsTrue F.told → IsThere (F.files folder.old) origin
+        → KeepsCommit (F.files folder.old) (F.files folder.new) }
     ensures evident { OnHaltDamage result
         (IsEvident (IsTrue F.told × IsThere (F.files folder.old) origin) (F.files folder.new)) }
 {
@@ -109,6 +112,8 @@ fn run_made<const D: usize, S: Source, R: Threads + Sync, F: Folder, K: Sink, G:
         → OfLines (IsTrue S.told) reader.old (S.left input.old)
         (λ lines. Trusts D (F.files folder.old) session.old → NoneCommits work.now.language D lines
         → HaltKeeps (F.files folder.old) (F.files folder.new) result) }
+    ensures lasting { IsTrue F.told → Trusts D (F.files folder.old) session.old
+        → KeepsCommit (F.files folder.old) (F.files folder.new) }
     ensures evident { OnHaltDamage result
         (IsEvident (IsTrue F.told × Trusts D (F.files folder.old) session.old) (F.files folder.new)) }
 {
@@ -153,6 +158,8 @@ fn finish<const D: usize, R: Threads + Sync, F: Folder, G: Gate>(
     ensures cause { (sink : ℕ) → HasStopCause (F.faults folder.old) (F.faults folder.new) sink sink result }
     ensures undone { IsTrue F.told → Trusts D (F.files folder.old) session.old
         → StopKeeps (F.files folder.old) (F.files folder.new) result }
+    ensures lasting { IsTrue F.told → Trusts D (F.files folder.old) session.old
+        → KeepsCommit (F.files folder.old) (F.files folder.new) }
     ensures evident { OnStopDamage result
         (IsEvident (IsTrue F.told × Trusts D (F.files folder.old) session.old) (F.files folder.new)) }
 {

@@ -2,16 +2,14 @@
 
 ghost use Rattle.std.specs.Prelude.{◌≡◌, ◌≤◌, Some, None, [], IsTrue, OnOk};
 ghost use Rattle.outer_io.specs.declared.file_name.FileName.TheVariants.{Commit as CommitName};
-ghost use Rattle.outer_io.specs.Files.{bytes_of};
-ghost use Rattle.commit_list.specs.Commits.{CommitData};
-ghost use Rattle.commit_list.specs.CommitFiles.{IsCommitFile};
 ghost use Rattle.index_opening.specs.Evidence.{IsEvident};
+ghost use Rattle.index_core.specs.Brought.{KeepsCommit};
 ghost use Rattle.index_model.specs.State.{Index, State};
 ghost use Rattle.stored_index.specs.Stored.{IsStored};
 ghost use Rattle.line_source.specs.Reader.{KnowsEnd};
 ghost use Rattle.script_run.specs.Costs.{NoneCommits};
 ghost use Rattle.script_run.specs.Halted.{HasHaltCause, HasSourceCause, OfLines, OfSource, OnHaltDamage};
-ghost use Rattle.script_run.specs.Kept.{HaltKeeps};
+ghost use Rattle.script_run.specs.Kept.{AsksNoCommit, HaltKeeps};
 ghost use Rattle.script_run.specs.Languages.{meaning};
 ghost use Rattle.script_run.specs.Leads.{LeadsAll, LeadsFrom};
 ghost use Rattle.script_run.specs.Origins.{dims_of, IsFrom, IsMade, IsThere};
@@ -71,9 +69,10 @@ pub fn run_lines<S: Source, R: Threads + Sync, F: Folder, K: Sink, G: Gate>(
     ensures source { HasSourceCause (S.faults input.old) (S.faults input.new) result }
     ensures undone { IsTrue F.told
         → OfSource (IsTrue S.told) (S.left input.old)
-        (λ lines. (c : CommitData) → IsCommitFile (bytes_of (F.files folder.old CommitName)) c
-        → NoneCommits work.now.language c.dims lines
+        (λ lines. AsksNoCommit work.now.language (F.files folder.old) lines
         → HaltKeeps (F.files folder.old) (F.files folder.new) result) }
+    // whatever it ends with, what was kept is, or a commit has taken its place of which each listed file is whole
+    ensures lasting { IsTrue F.told → KeepsCommit (F.files folder.old) (F.files folder.new) }
     ensures evident { OnHaltDamage result (IsEvident (IsTrue F.told) (F.files folder.new)) }
 {
     match LineReader::new(work.alloc) {
@@ -103,9 +102,9 @@ fn run_read<S: Source, R: Threads + Sync, F: Folder, K: Sink, G: Gate>(
     ensures source { HasSourceCause (S.faults input.old) (S.faults input.new) result }
     ensures undone { IsTrue F.told
         → OfLines (IsTrue S.told) reader.old (S.left input.old)
-        (λ lines. (c : CommitData) → IsCommitFile (bytes_of (F.files folder.old CommitName)) c
-        → NoneCommits work.now.language c.dims lines
+        (λ lines. AsksNoCommit work.now.language (F.files folder.old) lines
         → HaltKeeps (F.files folder.old) (F.files folder.new) result) }
+    ensures lasting { IsTrue F.told → KeepsCommit (F.files folder.old) (F.files folder.new) }
     ensures evident { OnHaltDamage result (IsEvident (IsTrue F.told) (F.files folder.new)) }
 {
     match read_commit(work.alloc, folder) {
@@ -147,6 +146,8 @@ fn run_first<S: Source, R: Threads + Sync, F: Folder, K: Sink, G: Gate>(
     ensures cause { HasHaltCause (F.faults folder.old) (F.faults folder.new) (K.faults out.old)
         (K.faults out.new) result }
     ensures source { HasSourceCause (S.faults input.old) (S.faults input.new) result }
+    ensures lasting { IsTrue F.told → F.files folder.old CommitName ≡ None
+        → KeepsCommit (F.files folder.old) (F.files folder.new) }
     ensures evident { OnHaltDamage result
         (IsEvident (IsTrue F.told × (F.files folder.old CommitName ≡ None)) (F.files folder.new)) }
 {
@@ -221,6 +222,8 @@ fn run_from<S: Source, R: Threads + Sync, F: Folder, K: Sink, G: Gate>(
         → OfLines (IsTrue S.told) reader.old (S.left input.old)
         (λ lines. IsThere (F.files folder.old) origin → NoneCommits work.now.language (dims_of origin) lines
         → HaltKeeps (F.files folder.old) (F.files folder.new) result) }
+    ensures lasting { IsTrue F.told → IsThere (F.files folder.old) origin
+        → KeepsCommit (F.files folder.old) (F.files folder.new) }
     ensures evident { OnHaltDamage result
         (IsEvident (IsTrue F.told × IsThere (F.files folder.old) origin) (F.files folder.new)) }
 {

@@ -33,4 +33,4 @@ returns g c = λ ids i.
       brings = c.commit.ensures.canon;
       cause = c.commit.ensures.cause;
       whole = c.commit.ensures.whole;
-    }) c.commit.ensures.follows c.commit.ensures.evident
+    }) c.commit.ensures.follows c.commit.ensures.lasting c.commit.ensures.evident

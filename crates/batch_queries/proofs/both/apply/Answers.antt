@@ -18,5 +18,6 @@ returns-clause-applies g c = applies_calm g.row.D _ _ _ _ _ _ c.requires.calm (r
   unchanged = c.apply.ensures.unchanged;
   anew = c.apply.ensures.anew;
   levels = c.apply.ensures.levels;
+  lasting = c.apply.ensures.lasting;
   canon = c.apply.ensures.canon;
 })

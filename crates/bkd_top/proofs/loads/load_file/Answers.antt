@@ -29,3 +29,6 @@ returns-clause-whole g c = λ told. record {
   levels = λ state h answer. of_done c.load-done.result (c.tell.ensures.answer answer) (c.load-done.ensures.levels told state h);
   undone = c.tell.ensures.undone _ _ (c.load-done.ensures.undone told);
 }
+
+pub returns-clause-lasting : goal.returns-clause-lasting
+returns-clause-lasting g c = c.load-done.ensures.lasting

@@ -29,3 +29,6 @@ returns-clause-whole g c = λ told. record {
   levels = λ state h answer. of_done c.generate-done.result (c.tell.ensures.answer answer) (c.generate-done.ensures.levels told state h);
   undone = c.tell.ensures.undone _ _ (c.generate-done.ensures.undone told);
 }
+
+pub returns-clause-lasting : goal.returns-clause-lasting
+returns-clause-lasting g c = c.generate-done.ensures.lasting

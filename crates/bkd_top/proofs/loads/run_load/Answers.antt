@@ -1,5 +1,6 @@
 -- The file that was read is the source's bytes.
 use Rattle.std.proofs.Common.{inl, refl, sym, subst, ◌∙◌, ◌≤◌, ◌^◌, ℕ, List, length}
+use Rattle.index_core.proofs.Brought.{commit_itself}
 use Rattle.stored_index.proofs.KeptFiles.{kept_itself}
 use Rattle.run_status.specs.Ends.{DoesNothing}
 use Rattle.bkd_top.proofs.loads.run_load.Goals as goal
@@ -44,3 +45,15 @@ returns-in-Err-TooLarge-clause-whole g c = λ told. record { levels = λ state h
 
 pub returns-in-Err-Memory-clause-whole : goal.returns-in-Err-Memory-clause-whole
 returns-in-Err-Memory-clause-whole g c = λ told. record { levels = λ state h a. absurd a; undone = inl (kept_itself _) }
+
+pub returns-in-Ok-clause-lasting : goal.returns-in-Ok-clause-lasting
+returns-in-Ok-clause-lasting g c = c.load_file.ensures.lasting
+
+pub returns-in-Err-Failed-clause-lasting : goal.returns-in-Err-Failed-clause-lasting
+returns-in-Err-Failed-clause-lasting g c = λ told. commit_itself _
+
+pub returns-in-Err-TooLarge-clause-lasting : goal.returns-in-Err-TooLarge-clause-lasting
+returns-in-Err-TooLarge-clause-lasting g c = λ told. commit_itself _
+
+pub returns-in-Err-Memory-clause-lasting : goal.returns-in-Err-Memory-clause-lasting
+returns-in-Err-Memory-clause-lasting g c = λ told. commit_itself _

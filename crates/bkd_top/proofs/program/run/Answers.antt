@@ -5,6 +5,7 @@ use Rattle.command_words.specs.declared.WordsFault.{WordsFault}
 use Rattle.bkd_top.specs.Calls.{LeavesAsked, OnAsked, TakesInput}
 use Rattle.bkd_top.specs.Commands.{EndsAsked, does, is_session, reads_input, reads_whole}
 use Rattle.run_status.specs.declared.status.Status.TheVariants as status
+use Rattle.index_core.proofs.Brought.{commit_itself}
 use Rattle.bkd_top.proofs.Commanding.{asked_is, completes, is_none_and, no_memory_ends, none_left, none_taken, taken_whole, whole_reads}
 use Rattle.bkd_top.proofs.program.run.Goals as goal
 
@@ -115,3 +116,12 @@ pub returns-in-Err-Memory-clause-leaves : goal.returns-in-Err-Memory-clause-leav
 returns-in-Err-Memory-clause-leaves g c = λ told.
     none_left _ g.S.Source.told g.K.Sink.told (g.S.Source.left c.args.input.now) (g.K.Sink.written c.args.out.now) (g.F.Pages.files c.args.folder.now)
     (g.F.Pages.reads c.args.folder.now)
+
+pub returns-in-Ok-clause-lasting : goal.returns-in-Ok-clause-lasting
+returns-in-Ok-clause-lasting g c = c.run_command.ensures.lasting
+
+pub returns-in-Err-Usage-clause-lasting : goal.returns-in-Err-Usage-clause-lasting
+returns-in-Err-Usage-clause-lasting g c = λ told. commit_itself (g.F.Pages.files c.args.folder.now)
+
+pub returns-in-Err-Memory-clause-lasting : goal.returns-in-Err-Memory-clause-lasting
+returns-in-Err-Memory-clause-lasting g c = λ told. commit_itself (g.F.Pages.files c.args.folder.now)

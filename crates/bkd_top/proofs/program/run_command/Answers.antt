@@ -5,32 +5,9 @@ use Rattle.bkd_top.specs.Commands.{is_session, reads_input, reads_whole}
 use Rattle.run_status.specs.Ends.{DoesNothing}
 use Rattle.bkd_top.proofs.Commanding.{batch_ends, called, check_ends, count_ends, explain_ends, generate_ends, is_so, left_by, load_ends, ranges_ends, run_ends}
 use Rattle.bkd_top.proofs.Commanding.{merging_ends, session_asked, taken_by}
+use Rattle.index_core.proofs.Brought.{commit_equal}
 use Rattle.script_run.proofs.Starting.{canonical_still}
 use Rattle.bkd_top.proofs.program.run_command.Goals as goal
-
-pub returns-in-Run-clause-ends : goal.returns-in-Run-clause-ends
-returns-in-Run-clause-ends g c = λ told state h source.
-    run_ends (IsTrue g.K.Sink.told) c.args.words
-    (record { state = state; files = g.F.Pages.files c.args.folder.now; input = g.S.Source.left c.args.input.now; written = g.K.Sink.written c.args.out.now })
-    (g.F.Pages.files c.run_script.new.folder) (g.K.Sink.written c.run_script.new.out) c.run_script.result
-    _ _ (ap said c.in-Run.is) (c.run_script.ensures.ends (source (ap (λ (a : Asked). reads_input a) (ap said c.in-Run.is))) told state h)
-
-pub returns-in-Load-clause-ends : goal.returns-in-Load-clause-ends
-returns-in-Load-clause-ends g c = λ told state h source.
-    load_ends (IsTrue g.K.Sink.told) c.args.words
-    (record { state = state; files = g.F.Pages.files c.args.folder.now; input = g.S.Source.left c.args.input.now; written = g.K.Sink.written c.args.out.now })
-    (g.F.Pages.files c.run_load.new.folder) (g.K.Sink.written c.run_load.new.out) c.run_load.result
-    _ _ (ap said c.in-Load.is) (rw c.as_slice.ensures.value at (c.run_load.ensures.ends (source (ap (λ (a : Asked). reads_input a) (ap said c.in-Load.is))) told state h))
-
-pub returns-in-Load-clause-canon : goal.returns-in-Load-clause-canon
-returns-in-Load-clause-canon g c = c.run_load.ensures.canon
-
-pub returns-in-Explain-clause-ends : goal.returns-in-Explain-clause-ends
-returns-in-Explain-clause-ends g c = λ told state h source.
-    explain_ends (IsTrue g.K.Sink.told) c.args.words
-    (record { state = state; files = g.F.Pages.files c.args.folder.now; input = g.S.Source.left c.args.input.now; written = g.K.Sink.written c.args.out.now })
-    (g.F.Pages.files c.run_explain.new.folder) (g.K.Sink.written c.run_explain.new.out) c.run_explain.result
-    _ (ap said c.in-Explain.is) (c.run_explain.ensures.ends (source (ap (λ (a : Asked). reads_input a) (ap said c.in-Explain.is))) told)
 
 pub returns-in-Generate-clause-ends : goal.returns-in-Generate-clause-ends
 returns-in-Generate-clause-ends g c = λ told state h source.
@@ -42,21 +19,6 @@ returns-in-Generate-clause-ends g c = λ told state h source.
 pub returns-in-Generate-clause-canon : goal.returns-in-Generate-clause-canon
 returns-in-Generate-clause-canon g c = c.run_generate.ensures.canon
 
-pub returns-in-Run-clause-canon : goal.returns-in-Run-clause-canon
-returns-in-Run-clause-canon g c = c.run_script.ensures.canon
-
-pub returns-in-Explain-clause-canon : goal.returns-in-Explain-clause-canon
-returns-in-Explain-clause-canon g c = λ told state h a. canonical_still _ _ (c.run_explain.ensures.files told)
-
-pub returns-in-Run-clause-unread : goal.returns-in-Run-clause-unread
-returns-in-Run-clause-unread g c = is_so (λ a. reads_input a) c.args.words _ (ap said c.in-Run.is) refl
-
-pub returns-in-Load-clause-unread : goal.returns-in-Load-clause-unread
-returns-in-Load-clause-unread g c = is_so (λ a. reads_input a) c.args.words _ (ap said c.in-Load.is) refl
-
-pub returns-in-Explain-clause-unread : goal.returns-in-Explain-clause-unread
-returns-in-Explain-clause-unread g c = is_so (λ a. reads_input a) c.args.words _ (ap said c.in-Explain.is) refl
-
 pub returns-in-Generate-clause-causes : goal.returns-in-Generate-clause-causes
 returns-in-Generate-clause-causes g c = record {
   source = λ e. absurd (c.run_generate.ensures.done (subst DoesNothing (sym e) tt));
@@ -64,100 +26,15 @@ returns-in-Generate-clause-causes g c = record {
   sink = c.run_generate.ensures.sink_fault;
 }
 
-pub returns-in-Run-clause-large : goal.returns-in-Run-clause-large
-returns-in-Run-clause-large g c = λ e. ap (λ (a : Asked). reads_whole a) (ap said c.in-Run.is)
-
-pub returns-in-Load-clause-large : goal.returns-in-Load-clause-large
-returns-in-Load-clause-large g c = λ e. ap (λ (a : Asked). reads_whole a) (ap said c.in-Load.is)
-
-pub returns-in-Explain-clause-large : goal.returns-in-Explain-clause-large
-returns-in-Explain-clause-large g c = λ e. ap (λ (a : Asked). reads_whole a) (ap said c.in-Explain.is)
-
 pub returns-in-Generate-clause-large : goal.returns-in-Generate-clause-large
 returns-in-Generate-clause-large g c = λ e. absurd (c.run_generate.ensures.done (subst DoesNothing (sym e) tt))
-
-pub returns-in-Run-clause-untouched : goal.returns-in-Run-clause-untouched
-returns-in-Run-clause-untouched g c = λ other. c.run_script.ensures.untouched
-
-pub returns-in-Load-clause-untouched : goal.returns-in-Load-clause-untouched
-returns-in-Load-clause-untouched g c = λ other. c.run_load.ensures.untouched
-
-pub returns-in-Explain-clause-untouched : goal.returns-in-Explain-clause-untouched
-returns-in-Explain-clause-untouched g c = λ other. c.run_explain.ensures.untouched
 
 pub returns-in-Generate-clause-untouched : goal.returns-in-Generate-clause-untouched
 returns-in-Generate-clause-untouched g c = λ other d. absurd (c.run_generate.ensures.done d)
 
-pub returns-in-Session-clause-ends : goal.returns-in-Session-clause-ends
-returns-in-Session-clause-ends g c = λ told state h source.
-    session_asked (IsTrue g.K.Sink.told) c.args.words
-    (record { state = state; files = g.F.Pages.files c.args.folder.now; input = g.S.Source.left c.args.input.now; written = g.K.Sink.written c.args.out.now })
-    (g.F.Pages.files c.run_session.new.folder) (g.K.Sink.written c.run_session.new.out) c.run_session.result
-    _ _ (ap said c.in-Session.is) (c.run_session.ensures.ends (source (ap (λ (a : Asked). reads_input a) (ap said c.in-Session.is))) told state h)
-
-pub returns-in-Session-clause-canon : goal.returns-in-Session-clause-canon
-returns-in-Session-clause-canon g c = c.run_session.ensures.canon
-
-pub returns-in-Session-clause-unread : goal.returns-in-Session-clause-unread
-returns-in-Session-clause-unread g c = is_so (λ a. reads_input a) c.args.words _ (ap said c.in-Session.is) refl
-
-pub returns-in-Session-clause-large : goal.returns-in-Session-clause-large
-returns-in-Session-clause-large g c = λ e. absurd (c.run_session.ensures.never (inr e))
-
-pub returns-in-Session-clause-untouched : goal.returns-in-Session-clause-untouched
-returns-in-Session-clause-untouched g c = is_so is_session c.args.words _ (ap said c.in-Session.is) refl
-
-pub returns-in-Run-clause-input : goal.returns-in-Run-clause-input
-returns-in-Run-clause-input g c = λ told.
-    taken_by c.args.words _ (g.S.Source.left c.args.input.now) (g.S.Source.left c.run_script.new.input) c.run_script.result (ap said c.in-Run.is) (c.run_script.ensures.input told)
-
-pub returns-in-Load-clause-input : goal.returns-in-Load-clause-input
-returns-in-Load-clause-input g c = λ told.
-    taken_by c.args.words _ (g.S.Source.left c.args.input.now) (g.S.Source.left c.run_load.new.input) c.run_load.result (ap said c.in-Load.is) (c.run_load.ensures.input told)
-
-pub returns-in-Explain-clause-input : goal.returns-in-Explain-clause-input
-returns-in-Explain-clause-input g c = λ told.
-    taken_by c.args.words _ (g.S.Source.left c.args.input.now) (g.S.Source.left c.run_explain.new.input) c.run_explain.result (ap said c.in-Explain.is) (c.run_explain.ensures.input told)
-
-pub returns-in-Session-clause-input : goal.returns-in-Session-clause-input
-returns-in-Session-clause-input g c = λ told.
-    taken_by c.args.words _ (g.S.Source.left c.args.input.now) (g.S.Source.left c.run_session.new.input) c.run_session.result (ap said c.in-Session.is) (c.run_session.ensures.lines told)
-
 pub returns-in-Generate-clause-input : goal.returns-in-Generate-clause-input
 returns-in-Generate-clause-input g c = λ told.
     taken_by c.args.words _ (g.S.Source.left c.args.input.now) (g.S.Source.left c.args.input.now) c.run_generate.result (ap said c.in-Generate.is) tt
-
-pub returns-in-Check-clause-input : goal.returns-in-Check-clause-input
-returns-in-Check-clause-input g c = λ told.
-    taken_by c.args.words _ (g.S.Source.left c.args.input.now) (g.S.Source.left c.args.input.now) c.run_check.result (ap said c.in-Check.is) tt
-
-pub returns-in-Run-clause-leaves : goal.returns-in-Run-clause-leaves
-returns-in-Run-clause-leaves g c = λ told.
-    left_by c.args.words _
-    (called g.S.Source.told g.K.Sink.told (g.S.Source.left c.args.input.now) (g.F.Pages.files c.args.folder.now) (g.F.Pages.files c.run_script.new.folder)
-    (g.K.Sink.written c.args.out.now) (g.K.Sink.written c.run_script.new.out) (g.F.Pages.reads c.args.folder.now) (g.F.Pages.reads c.run_script.new.folder))
-    c.run_script.result (ap said c.in-Run.is) (λ source. c.run_script.ensures.costs source told)
-
-pub returns-in-Session-clause-leaves : goal.returns-in-Session-clause-leaves
-returns-in-Session-clause-leaves g c = λ told.
-    left_by c.args.words _
-    (called g.S.Source.told g.K.Sink.told (g.S.Source.left c.args.input.now) (g.F.Pages.files c.args.folder.now) (g.F.Pages.files c.run_session.new.folder)
-    (g.K.Sink.written c.args.out.now) (g.K.Sink.written c.run_session.new.out) (g.F.Pages.reads c.args.folder.now) (g.F.Pages.reads c.run_session.new.folder))
-    c.run_session.result (ap said c.in-Session.is) (λ source. c.run_session.ensures.costs source told)
-
-pub returns-in-Explain-clause-leaves : goal.returns-in-Explain-clause-leaves
-returns-in-Explain-clause-leaves g c = λ told.
-    left_by c.args.words _
-    (called g.S.Source.told g.K.Sink.told (g.S.Source.left c.args.input.now) (g.F.Pages.files c.args.folder.now) (g.F.Pages.files c.run_explain.new.folder)
-    (g.K.Sink.written c.args.out.now) (g.K.Sink.written c.run_explain.new.out) (g.F.Pages.reads c.args.folder.now) (g.F.Pages.reads c.run_explain.new.folder))
-    c.run_explain.result (ap said c.in-Explain.is) (record { files = c.run_explain.ensures.files told; reads = λ source. c.run_explain.ensures.reads source told })
-
-pub returns-in-Load-clause-leaves : goal.returns-in-Load-clause-leaves
-returns-in-Load-clause-leaves g c = λ told.
-    left_by c.args.words _
-    (called g.S.Source.told g.K.Sink.told (g.S.Source.left c.args.input.now) (g.F.Pages.files c.args.folder.now) (g.F.Pages.files c.run_load.new.folder)
-    (g.K.Sink.written c.args.out.now) (g.K.Sink.written c.run_load.new.out) (g.F.Pages.reads c.args.folder.now) (g.F.Pages.reads c.run_load.new.folder))
-    c.run_load.result (ap said c.in-Load.is) (c.run_load.ensures.whole told)
 
 pub returns-in-Generate-clause-leaves : goal.returns-in-Generate-clause-leaves
 returns-in-Generate-clause-leaves g c = λ told.
@@ -166,35 +43,139 @@ returns-in-Generate-clause-leaves g c = λ told.
     (g.K.Sink.written c.args.out.now) (g.K.Sink.written c.run_generate.new.out) (g.F.Pages.reads c.args.folder.now) (g.F.Pages.reads c.run_generate.new.folder))
     c.run_generate.result (ap said c.in-Generate.is) (c.run_generate.ensures.whole told)
 
-pub returns-in-Check-clause-leaves : goal.returns-in-Check-clause-leaves
-returns-in-Check-clause-leaves g c = λ told.
-    left_by c.args.words _
-    (called g.S.Source.told g.K.Sink.told (g.S.Source.left c.args.input.now) (g.F.Pages.files c.args.folder.now) (g.F.Pages.files c.run_check.new.folder)
-    (g.K.Sink.written c.args.out.now) (g.K.Sink.written c.run_check.new.out) (g.F.Pages.reads c.args.folder.now) (g.F.Pages.reads c.run_check.new.folder))
-    c.run_check.result (ap said c.in-Check.is) (c.run_check.ensures.checks told)
+pub returns-in-Generate-clause-lasting : goal.returns-in-Generate-clause-lasting
+returns-in-Generate-clause-lasting g c = c.run_generate.ensures.lasting
 
-pub returns-in-Check-clause-ends : goal.returns-in-Check-clause-ends
-returns-in-Check-clause-ends g c = λ told state h source.
-    check_ends (IsTrue g.K.Sink.told) c.args.words
-    (record { state = state; files = g.F.Pages.files c.args.folder.now; input = g.S.Source.left c.args.input.now; written = g.K.Sink.written c.args.out.now })
-    (g.F.Pages.files c.run_check.new.folder) (g.K.Sink.written c.run_check.new.out) c.run_check.result
-    (ap said c.in-Check.is) ((c.run_check.ensures.checks told).files, (c.run_check.ensures.checks told).ends)
+pub returns-in-Run : goal.returns-in-Run
+returns-in-Run g c =
+    let is = ap said c.in-Run.is in
+    let reads = ap (λ (a : Asked). reads_input a) is in
+    let e = c.run_script.ensures in
+    let input = g.S.Source.left c.args.input.now in
+    let old = g.F.Pages.files c.args.folder.now in
+    let new = g.F.Pages.files c.run_script.new.folder in
+    let before = g.K.Sink.written c.args.out.now in let after = g.K.Sink.written c.run_script.new.out in
+    record {
+      never_usage = e.never_usage;
+      ends = λ told state h source. run_ends (IsTrue g.K.Sink.told) c.args.words
+          (record { state = state; files = old; input = input; written = before }) new after c.run_script.result _ _ is (e.ends (source reads) told state h);
+      input = λ told. taken_by c.args.words _ input (g.S.Source.left c.run_script.new.input) c.run_script.result is (e.input told);
+      unread = is_so (λ a. reads_input a) c.args.words _ is refl;
+      large = λ w. ap (λ (a : Asked). reads_whole a) is;
+      untouched = λ other. e.untouched;
+      canon = e.canon;
+      leaves = λ told. left_by c.args.words _
+          (called g.S.Source.told g.K.Sink.told input old new before after (g.F.Pages.reads c.args.folder.now) (g.F.Pages.reads c.run_script.new.folder))
+          c.run_script.result is (λ source. e.costs source told);
+      lasting = λ told. e.lasting told;
+      damage = e.damage;
+      causes = e.causes;
+    }
 
-pub returns-in-Check-clause-canon : goal.returns-in-Check-clause-canon
-returns-in-Check-clause-canon g c = λ told state h a. canonical_still _ _ (c.run_check.ensures.checks told).files
+pub returns-in-Load : goal.returns-in-Load
+returns-in-Load g c =
+    let is = ap said c.in-Load.is in
+    let reads = ap (λ (a : Asked). reads_input a) is in
+    let e = c.run_load.ensures in
+    let input = g.S.Source.left c.args.input.now in
+    let old = g.F.Pages.files c.args.folder.now in
+    let new = g.F.Pages.files c.run_load.new.folder in
+    let before = g.K.Sink.written c.args.out.now in let after = g.K.Sink.written c.run_load.new.out in
+    record {
+      never_usage = e.never_usage;
+      ends = λ told state h source. load_ends (IsTrue g.K.Sink.told) c.args.words
+          (record { state = state; files = old; input = input; written = before }) new after c.run_load.result _ _ is
+          (rw c.as_slice.ensures.value at (e.ends (source reads) told state h));
+      input = λ told. taken_by c.args.words _ input (g.S.Source.left c.run_load.new.input) c.run_load.result is (e.input told);
+      unread = is_so (λ a. reads_input a) c.args.words _ is refl;
+      large = λ w. ap (λ (a : Asked). reads_whole a) is;
+      untouched = λ other. e.untouched;
+      canon = e.canon;
+      leaves = λ told. left_by c.args.words _
+          (called g.S.Source.told g.K.Sink.told input old new before after (g.F.Pages.reads c.args.folder.now) (g.F.Pages.reads c.run_load.new.folder))
+          c.run_load.result is (e.whole told);
+      lasting = λ told. e.lasting told;
+      damage = e.damage;
+      causes = e.causes;
+    }
 
-pub returns-in-Check-clause-large : goal.returns-in-Check-clause-large
-returns-in-Check-clause-large g c = λ e. absurd (c.run_check.ensures.done (subst DoesNothing (sym e) tt))
+pub returns-in-Explain : goal.returns-in-Explain
+returns-in-Explain g c =
+    let is = ap said c.in-Explain.is in
+    let reads = ap (λ (a : Asked). reads_input a) is in
+    let e = c.run_explain.ensures in
+    let input = g.S.Source.left c.args.input.now in
+    let old = g.F.Pages.files c.args.folder.now in
+    let new = g.F.Pages.files c.run_explain.new.folder in
+    let before = g.K.Sink.written c.args.out.now in let after = g.K.Sink.written c.run_explain.new.out in
+    record {
+      never_usage = e.never_usage;
+      ends = λ told state h source. explain_ends (IsTrue g.K.Sink.told) c.args.words
+          (record { state = state; files = old; input = input; written = before }) new after c.run_explain.result _ is (e.ends (source reads) told);
+      input = λ told. taken_by c.args.words _ input (g.S.Source.left c.run_explain.new.input) c.run_explain.result is (e.input told);
+      unread = is_so (λ a. reads_input a) c.args.words _ is refl;
+      large = λ w. ap (λ (a : Asked). reads_whole a) is;
+      untouched = λ other. e.untouched;
+      canon = λ told state h a. canonical_still _ _ (e.files told);
+      leaves = λ told. left_by c.args.words _
+          (called g.S.Source.told g.K.Sink.told input old new before after (g.F.Pages.reads c.args.folder.now) (g.F.Pages.reads c.run_explain.new.folder))
+          c.run_explain.result is (record { files = e.files told; reads = λ source. e.reads source told });
+      lasting = λ told. commit_equal old new (e.files told);
+      damage = e.damage;
+      causes = e.causes;
+    }
 
-pub returns-in-Check-clause-untouched : goal.returns-in-Check-clause-untouched
-returns-in-Check-clause-untouched g c = λ other d. absurd (c.run_check.ensures.done d)
+pub returns-in-Session : goal.returns-in-Session
+returns-in-Session g c =
+    let is = ap said c.in-Session.is in
+    let reads = ap (λ (a : Asked). reads_input a) is in
+    let e = c.run_session.ensures in
+    let input = g.S.Source.left c.args.input.now in
+    let old = g.F.Pages.files c.args.folder.now in
+    let new = g.F.Pages.files c.run_session.new.folder in
+    let before = g.K.Sink.written c.args.out.now in let after = g.K.Sink.written c.run_session.new.out in
+    record {
+      never_usage = λ u. e.never (inl u);
+      ends = λ told state h source. session_asked (IsTrue g.K.Sink.told) c.args.words
+          (record { state = state; files = old; input = input; written = before }) new after c.run_session.result _ _ is (e.ends (source reads) told state h);
+      input = λ told. taken_by c.args.words _ input (g.S.Source.left c.run_session.new.input) c.run_session.result is (e.lines told);
+      unread = is_so (λ a. reads_input a) c.args.words _ is refl;
+      large = λ w. absurd (e.never (inr w));
+      untouched = is_so is_session c.args.words _ is refl;
+      canon = e.canon;
+      leaves = λ told. left_by c.args.words _
+          (called g.S.Source.told g.K.Sink.told input old new before after (g.F.Pages.reads c.args.folder.now) (g.F.Pages.reads c.run_session.new.folder))
+          c.run_session.result is (λ source. e.costs source told);
+      lasting = λ told. e.lasting told;
+      damage = e.damage;
+      causes = e.causes;
+    }
 
-pub returns-in-Check-clause-causes : goal.returns-in-Check-clause-causes
-returns-in-Check-clause-causes g c = record {
-  source = λ e. absurd (c.run_check.ensures.done (subst DoesNothing (sym e) tt));
-  folder = c.run_check.ensures.folder_fault;
-  sink = c.run_check.ensures.sink_fault;
-}
+pub returns-in-Check : goal.returns-in-Check
+returns-in-Check g c =
+    let is = ap said c.in-Check.is in
+    let e = c.run_check.ensures in
+    let input = g.S.Source.left c.args.input.now in
+    let old = g.F.Pages.files c.args.folder.now in
+    let new = g.F.Pages.files c.run_check.new.folder in
+    let before = g.K.Sink.written c.args.out.now in let after = g.K.Sink.written c.run_check.new.out in
+    record {
+      never_usage = λ u. e.done (subst DoesNothing (sym u) tt);
+      ends = λ told state h source. check_ends (IsTrue g.K.Sink.told) c.args.words
+          (record { state = state; files = old; input = input; written = before }) new after c.run_check.result is
+          ((e.checks told).files, (e.checks told).ends);
+      input = λ told. taken_by c.args.words _ input input c.run_check.result is tt;
+      unread = λ quiet. refl;
+      large = λ w. absurd (e.done (subst DoesNothing (sym w) tt));
+      untouched = λ other d. absurd (e.done d);
+      canon = λ told state h a. canonical_still _ _ (e.checks told).files;
+      leaves = λ told. left_by c.args.words _
+          (called g.S.Source.told g.K.Sink.told input old new before after (g.F.Pages.reads c.args.folder.now) (g.F.Pages.reads c.run_check.new.folder))
+          c.run_check.result is (e.checks told);
+      lasting = λ told. commit_equal old new (e.checks told).files;
+      damage = e.damage;
+      causes = record { source = λ w. absurd (e.done (subst DoesNothing (sym w) tt)); folder = e.folder_fault; sink = e.sink_fault };
+    }
 
 pub returns-in-Count : goal.returns-in-Count
 returns-in-Count g c =
@@ -217,6 +198,7 @@ returns-in-Count g c =
       leaves = λ told. left_by c.args.words _
           (called g.S.Source.told g.K.Sink.told input old new before after (g.F.Pages.reads c.args.folder.now) (g.F.Pages.reads c.run_count.new.folder))
           c.run_count.result is (record { files = e.files told; reads = λ source. e.reads source told });
+      lasting = λ told. commit_equal old new (e.files told);
       damage = record { never = e.whole; evident = e.evident };
       causes = e.causes;
     }
@@ -242,6 +224,7 @@ returns-in-Ranges g c =
       leaves = λ told. left_by c.args.words _
           (called g.S.Source.told g.K.Sink.told input old new before after (g.F.Pages.reads c.args.folder.now) (g.F.Pages.reads c.run_ranges.new.folder))
           c.run_ranges.result is (λ source. e.costs source told);
+      lasting = λ told. e.lasting told;
       damage = e.damage;
       causes = e.causes;
     }
@@ -268,6 +251,7 @@ returns-in-Batch g c =
           (called g.S.Source.told g.K.Sink.told input old new before after (g.F.Pages.reads c.args.folder.now) (g.F.Pages.reads c.run_batch.new.folder))
           c.run_batch.result is
           (record { files = e.files told; reads = e.reads told; stored = e.stored told; unwritten = λ none. ap g.K.Sink.written (e.unwritten none) });
+      lasting = λ told. commit_equal old new (e.files told);
       damage = record { never = e.whole; evident = e.evident };
       causes = e.causes;
     }
@@ -294,6 +278,7 @@ returns-in-MergingBatch g c =
       leaves = λ told. left_by c.args.words _
           (called g.S.Source.told g.K.Sink.told input old new before after (g.F.Pages.reads c.args.folder.now) (g.F.Pages.reads c.run_merging_batch.new.folder))
           c.run_merging_batch.result is (record { leaves = e.leaves told; stored = e.stored told });
+      lasting = λ told. (e.leaves told).lasting;
       damage = record { never = e.whole; evident = e.evident };
       causes = e.causes;
     }

@@ -4,3 +4,6 @@ use Rattle.bkd_top.proofs.scripts.run_ranges.Goals as goal
 
 pub returns-clause-ends : goal.returns-clause-ends
 returns-clause-ends g c = λ source told state h ranges. ends_ranges _ state _ _ _ _ c.run_whole.result ranges (c.run_whole.ensures.ends source told state h)
+
+pub returns-clause-lasting : goal.returns-clause-lasting
+returns-clause-lasting g c = c.run_whole.ensures.lasting

@@ -2,7 +2,7 @@
 use Rattle.std.proofs.Common.{refl, sym, subst, ◌∙◌}
 use Rattle.run_status.specs.Ends.{DoesNothing, IsAnswer, IsDamaged}
 use Rattle.run_status.specs.declared.status.Status.TheVariants as status
-use Rattle.script_run.proofs.Statuses.{never_refuses, read_folder, read_keeps, read_shows, read_sink, read_source, session_ends, session_undamaged, when_read}
+use Rattle.script_run.proofs.Statuses.{never_refuses, read_folder, read_script, read_shows, read_sink, read_source, session_ends, session_undamaged, when_read}
 use Rattle.script_run.proofs.Statuses.{with_lines}
 use Rattle.script_run.specs.Languages.{meaning}
 use Rattle.bkd_top.proofs.scripts.run_source.Goals as goal
@@ -30,8 +30,8 @@ returns-clause-costs g c = λ source told.
           ((with_lines _ _ _ source (c.run_lines.ensures.does told) state h).1.levels asks);
       still = λ state h asks. (with_lines _ _ _ source (c.run_lines.ensures.does told) state h).1.still asks;
       reads = λ s scope. (with_lines _ _ _ source (c.run_lines.ensures.does told) s.state scope.stored).1.reads s scope;
-      undone = λ commit says quiet.
-          rw c.status_of_lines.ensures (read_keeps _ _ c.run_lines.result (with_lines _ _ _ source (c.run_lines.ensures.undone told) commit says quiet));
+      undone = λ quiet.
+          rw c.status_of_lines.ensures (read_script _ _ c.run_lines.result (with_lines _ _ _ source (c.run_lines.ensures.undone told) quiet));
     }
 
 pub returns-clause-damage : goal.returns-clause-damage
@@ -48,3 +48,6 @@ returns-clause-causes g c = record {
   folder = λ e. read_folder _ _ _ _ c.run_lines.result c.run_lines.ensures.cause (sym c.status_of_lines.ensures ∙ e);
   sink = λ e. read_sink _ _ _ _ c.run_lines.result c.run_lines.ensures.cause (sym c.status_of_lines.ensures ∙ e);
 }
+
+pub returns-clause-lasting : goal.returns-clause-lasting
+returns-clause-lasting g c = c.run_lines.ensures.lasting

@@ -30,3 +30,6 @@ returns-clause-folder_fault g c = c.run_source.ensures.causes.folder
 
 pub returns-clause-sink_fault : goal.returns-clause-sink_fault
 returns-clause-sink_fault g c = c.run_source.ensures.causes.sink
+
+pub returns-clause-lasting : goal.returns-clause-lasting
+returns-clause-lasting g c = c.run_source.ensures.lasting

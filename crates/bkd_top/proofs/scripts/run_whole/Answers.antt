@@ -1,5 +1,6 @@
 -- The script that was read is the source's text.
 use Rattle.std.proofs.Common.{refl, sym, subst, ◌∙◌, inl, ◌≤◌, ◌^◌, ℕ, List, length}
+use Rattle.index_core.proofs.Brought.{commit_itself}
 use Rattle.run_status.specs.Ends.{DoesNothing}
 use Rattle.script_run.proofs.Calling.{nothing_costs}
 use Rattle.script_run.proofs.Going.{stops_here}
@@ -61,3 +62,15 @@ returns-in-Err-TooLarge-clause-costs g c = λ source told. nothing_costs c.args.
 
 pub returns-in-Err-Memory-clause-costs : goal.returns-in-Err-Memory-clause-costs
 returns-in-Err-Memory-clause-costs g c = λ source told. nothing_costs c.args.work.now.language _ _ _ _ (λ a. a)
+
+pub returns-in-Ok-clause-lasting : goal.returns-in-Ok-clause-lasting
+returns-in-Ok-clause-lasting g c = c.run_text.ensures.lasting
+
+pub returns-in-Err-Failed-clause-lasting : goal.returns-in-Err-Failed-clause-lasting
+returns-in-Err-Failed-clause-lasting g c = λ told. commit_itself _
+
+pub returns-in-Err-TooLarge-clause-lasting : goal.returns-in-Err-TooLarge-clause-lasting
+returns-in-Err-TooLarge-clause-lasting g c = λ told. commit_itself _
+
+pub returns-in-Err-Memory-clause-lasting : goal.returns-in-Err-Memory-clause-lasting
+returns-in-Err-Memory-clause-lasting g c = λ told. commit_itself _

@@ -8,6 +8,7 @@ use Rattle.index_opening.proofs.Evident.{on_evident_less}
 use Rattle.index_core.specs.Light.{KeepsLevels}
 use Rattle.index_core.specs.Steps.{KeepsUndone}
 use Rattle.index_core.specs.Whole.{DoesWhole, HasNewCanonical}
+use Rattle.index_core.proofs.Brought.{commit_equal, commit_then}
 use Rattle.index_core.proofs.Undone.{fault_kept, kept_equal, undone_kept}
 use Rattle.index_core.proofs.FaultCauses.{cause_then, done_cause, fault_to, memory_cause}
 use Rattle.index_core.proofs.Wholes.{state_undamaged}
@@ -110,3 +111,19 @@ returns-in_err-put_exists-in-Ok-Some-clause-undone g c = λ told.
     let p = err_from_is_err_and c.from_residual.result c.from_residual.ensures.1 in
     undone_kept (g.F.Pages.files c.args.folder.now) (g.F.Pages.files c.read_commit.new.folder) _ _ (p.1 ∙ ap (λ (e : PageFault). Err e) p.2)
     (kept_equal _ _ (c.in-Ok-Some.ensures.files told))
+
+pub returns-in-Ok-None-clause-lasting : goal.returns-in-Ok-None-clause-lasting
+returns-in-Ok-None-clause-lasting g c = λ told.
+    let same = c.in-Ok-None.ensures.files told in
+    commit_then (g.F.Pages.files c.args.folder.now) (g.F.Pages.files c.read_commit.new.folder) (g.F.Pages.files c.generate_first.new.folder)
+    (commit_equal _ _ same)
+    (c.generate_first.ensures.lasting told (ap (λ (f : Files). f Commit) same ∙ rw c.in-Ok-None.field-0-is at (c.in-Ok-None.ensures.found told)))
+
+pub returns-clause-lasting : goal.returns-clause-lasting
+returns-clause-lasting g c = λ told. commit_equal _ _ (c.in-Err.ensures.files told)
+
+pub returns-in-Ok-Some-clause-lasting : goal.returns-in-Ok-Some-clause-lasting
+returns-in-Ok-Some-clause-lasting g c = λ told. commit_equal _ _ (c.in-Ok-Some.ensures.files told)
+
+pub returns-in_err-put_exists-in-Ok-Some-clause-lasting : goal.returns-in_err-put_exists-in-Ok-Some-clause-lasting
+returns-in_err-put_exists-in-Ok-Some-clause-lasting g c = λ told. commit_equal _ _ (c.in-Ok-Some.ensures.files told)

@@ -1,9 +1,10 @@
 -- A session is created and filled, and what it makes is said and committed.
-use Rattle.std.proofs.Common.{◌≡◌, Bool, Err, IsTrue, None, false, refl, ap, ◌∙◌, lit<, sym, arith}
+use Rattle.std.proofs.Common.{◌≡◌, Bool, Err, IsTrue, None, false, inl, refl, ap, ◌∙◌, lit<, sym, arith}
 use Rattle.std.proofs.lemmas.Result.{err_from_is_err_and}
 use Rattle.outer_io.specs.declared.file_name.FileName.TheVariants.{Commit}
 use Rattle.page_cache.specs.declared.faults.PageFault.{PageFault}
 use Rattle.index_core.specs.Sessions.{Trusts}
+use Rattle.index_core.proofs.Brought.{commit_after, commit_itself}
 use Rattle.index_core.proofs.FaultCauses.{cause_then, fault_to, memory_cause}
 use Rattle.index_core.proofs.Undone.{begins_none, levels_after, undone_after, undone_kept}
 use Rattle.stored_index.proofs.KeptFiles.{kept_itself}
@@ -217,3 +218,30 @@ returns-clause-levels g c told none =
     (c.in_ok-summary.ensures.makes.kept told guards)
     (c.in_ok-commit.ensures.few told (c.in_ok-summary.ensures.makes.guards told guards)
     (begins_none 2 (g.F.Pages.files c.fill.new.folder) c.fill.new.session.set (drawn_index c.args.seed c.args.docs c.args.docs) seen refl))
+
+pub returns-in_err-session-clause-lasting : goal.returns-in_err-session-clause-lasting
+returns-in_err-session-clause-lasting g c told none = commit_itself (g.F.Pages.files c.args.folder.now)
+
+pub returns-in_err-summary-clause-lasting : goal.returns-in_err-summary-clause-lasting
+returns-in_err-summary-clause-lasting g c told none =
+    inl (c.in_err-summary.ensures.makes.kept told (c.in_ok-session.ensures.guards (g.F.Pages.files c.args.folder.now) none))
+
+pub returns-in_err-put_summary-clause-lasting : goal.returns-in_err-put_summary-clause-lasting
+returns-in_err-put_summary-clause-lasting g c told none =
+    inl (c.in_ok-summary.ensures.makes.kept told (c.in_ok-session.ensures.guards (g.F.Pages.files c.args.folder.now) none))
+
+pub returns-in_err-commit-clause-lasting : goal.returns-in_err-commit-clause-lasting
+returns-in_err-commit-clause-lasting g c told none =
+    commit_after (g.F.Pages.files c.args.folder.now) (g.F.Pages.files c.fill.new.folder) (g.F.Pages.files c.commit.new.folder)
+    (c.in_ok-summary.ensures.makes.kept told (c.in_ok-session.ensures.guards (g.F.Pages.files c.args.folder.now) none))
+    (c.in_err-commit.ensures.lasting told (makes_trusts _ _ _ _ _ _ c.in_ok-summary.ensures.makes told
+    (created_trusts (g.F.Pages.files c.args.folder.now) c.in_ok-session.session (c.in_ok-session.ensures.guards (g.F.Pages.files c.args.folder.now) none)
+    (c.in_ok-session.ensures.faithful (g.F.Pages.files c.args.folder.now)) c.in_ok-session.ensures.bare)))
+
+pub returns-clause-lasting : goal.returns-clause-lasting
+returns-clause-lasting g c told none =
+    commit_after (g.F.Pages.files c.args.folder.now) (g.F.Pages.files c.fill.new.folder) (g.F.Pages.files c.commit.new.folder)
+    (c.in_ok-summary.ensures.makes.kept told (c.in_ok-session.ensures.guards (g.F.Pages.files c.args.folder.now) none))
+    (c.in_ok-commit.ensures.lasting told (makes_trusts _ _ _ _ _ _ c.in_ok-summary.ensures.makes told
+    (created_trusts (g.F.Pages.files c.args.folder.now) c.in_ok-session.session (c.in_ok-session.ensures.guards (g.F.Pages.files c.args.folder.now) none)
+    (c.in_ok-session.ensures.faithful (g.F.Pages.files c.args.folder.now)) c.in_ok-session.ensures.bare)))

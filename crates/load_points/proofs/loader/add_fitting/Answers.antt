@@ -48,7 +48,7 @@ returns-in_err-commit g c =
       brings = c.in_err-commit.ensures.canon;
       cause = c.in_err-commit.ensures.cause;
       whole = c.in_err-commit.ensures.whole;
-    }) c.in_err-commit.ensures.evident
+    }) c.in_err-commit.ensures.evident c.in_err-commit.ensures.lasting
 
 pub returns : goal.returns
 returns g c =
@@ -66,4 +66,4 @@ returns g c =
       brings = c.in_ok-commit.ensures.canon;
       cause = c.in_ok-commit.ensures.cause;
       whole = c.in_ok-commit.ensures.whole;
-    })
+    }) c.in_ok-commit.ensures.lasting

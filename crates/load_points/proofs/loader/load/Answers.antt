@@ -27,6 +27,7 @@ returns-in-Ok-Some g c =
       canon = whole.canon;
       levels = whole.levels;
       undone = λ told. whole.undone told tt;
+      lasting = λ told. whole.lasting told tt;
       cause = whole.cause;
       evident = evident_all (IsTrue g.F.Pages.told) (g.F.Pages.files c.load_stored.new.folder) c.load_stored.result whole.evident;
     }
@@ -45,6 +46,7 @@ returns-in-Ok-None g c =
       canon = whole.canon;
       levels = whole.levels;
       undone = λ told. whole.undone told tt;
+      lasting = λ told. whole.lasting told tt;
       cause = whole.cause;
       evident = evident_all (IsTrue g.F.Pages.told) (g.F.Pages.files c.load_first.new.folder) c.load_first.result whole.evident;
     }
@@ -63,6 +65,7 @@ returns-in-Err g c =
       canon = whole.canon;
       levels = whole.levels;
       undone = λ told. whole.undone told tt;
+      lasting = λ told. whole.lasting told tt;
       cause = whole.cause;
       evident = evident_all (IsTrue g.F.Pages.told) (g.F.Pages.files c.read_commit.new.folder) (Err c.in-Err.fault) whole.evident;
     }

@@ -1,5 +1,6 @@
 -- The index is opened, and the file loaded into it.
 use Rattle.std.proofs.Common.{Some, refl, inl}
+use Rattle.index_core.proofs.Brought.{commit_equal}
 use Rattle.index_core.proofs.Sizes.{session_fits}
 use Rattle.index_core.proofs.Undone.{fault_kept, kept_equal}
 use Rattle.load_points.proofs.Loading.{attached_loading, loads_after, loads_fault}
@@ -30,3 +31,4 @@ returns-in-Err g c =
     (evident_still _ _ (g.F.Pages.files c.args.folder.now) (g.F.Pages.files c.attach.new.folder) c.in-Err.fault c.in-Err.ensures.files c.in-Err.ensures.evident)
     (λ told says.
     fault_kept (g.F.Pages.files c.args.folder.now) (g.F.Pages.files c.attach.new.folder) (kept_equal _ _ (c.in-Err.ensures.files told)) c.in-Err.fault)
+    (λ told says. commit_equal _ _ (c.in-Err.ensures.files told))

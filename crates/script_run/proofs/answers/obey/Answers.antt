@@ -122,3 +122,12 @@ returns-in-Ok-Refused-clause-kept g c = λ told h quiet. kept_quiet _ _ _ _ (Ok 
 
 pub returns-in-Err-clause-kept : goal.returns-in-Err-clause-kept
 returns-in-Err-clause-kept g c = λ told h quiet. kept_quiet {T = Applied} _ _ _ _ (Err c.in-Err.fault) quiet (c.in-Err.ensures.kept told h.guards)
+
+pub returns-in-Ok-Done-clause-lasting : goal.returns-in-Ok-Done-clause-lasting
+returns-in-Ok-Done-clause-lasting g c = c.in-Ok-Done.ensures.lasting
+
+pub returns-in-Ok-Refused-clause-lasting : goal.returns-in-Ok-Refused-clause-lasting
+returns-in-Ok-Refused-clause-lasting g c = c.in-Ok-Refused.ensures.lasting
+
+pub returns-in-Err-clause-lasting : goal.returns-in-Err-clause-lasting
+returns-in-Err-clause-lasting g c = c.in-Err.ensures.lasting

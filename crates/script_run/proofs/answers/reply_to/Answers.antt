@@ -4,6 +4,7 @@ use Rattle.index_core.proofs.Sizes.{session_fits}
 use Rattle.script_lang.specs.Seen.{request_of}
 use Rattle.range_docs.specs.declared.faults.RangeFault.TheVariants as range
 use Rattle.stored_index.proofs.KeptFiles.{kept_itself}
+use Rattle.index_core.proofs.Brought.{commit_itself}
 use Rattle.script_run.specs.Costs.{asks_commit}
 use Rattle.script_run.proofs.Answered.{unread_replies, fault_read}
 use Rattle.script_run.proofs.Lined.{page_memory, page_still}
@@ -69,3 +70,12 @@ returns-in-Err-Memory-clause-kept g c = λ told h quiet. kept_itself _
 
 pub returns-in-Err-clause-kept : goal.returns-in-Err-clause-kept
 returns-in-Err-clause-kept g c = λ told h quiet. kept_itself _
+
+pub returns-in-Ok-clause-lasting : goal.returns-in-Ok-clause-lasting
+returns-in-Ok-clause-lasting g c = c.obey.ensures.lasting
+
+pub returns-in-Err-Memory-clause-lasting : goal.returns-in-Err-Memory-clause-lasting
+returns-in-Err-Memory-clause-lasting g c = λ told h. commit_itself _
+
+pub returns-in-Err-clause-lasting : goal.returns-in-Err-clause-lasting
+returns-in-Err-clause-lasting g c = λ told h. commit_itself _

@@ -55,3 +55,9 @@ returns-in-Ok-clause-undone g c = λ told h. tt
 pub returns-in-Err-clause-undone : goal.returns-in-Err-clause-undone
 returns-in-Err-clause-undone g c = λ told h. rw c.stopped.ensures
     (fault_stops ℕ (g.F.Pages.files c.args.folder.now) (g.F.Pages.files c.close.new.folder) c.in-Err.fault (c.in-Err.ensures.undone told h.guards))
+
+pub returns-in-Ok-clause-lasting : goal.returns-in-Ok-clause-lasting
+returns-in-Ok-clause-lasting g c = c.in-Ok.ensures.lasting
+
+pub returns-in-Err-clause-lasting : goal.returns-in-Err-clause-lasting
+returns-in-Err-clause-lasting g c = c.in-Err.ensures.lasting

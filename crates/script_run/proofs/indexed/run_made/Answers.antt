@@ -1,6 +1,7 @@
 -- Each line goes on from those before it; after the last one what they leave is committed.
 use Rattle.std.proofs.Common.{◌≡◌, Bool, ℕ, [], ◌∷◌, arith, rules, true, false, refl, sym, ap, ◌∙◌, IsTrue, Err, Some, inl, append_assoc}
 use Rattle.index_core.specs.Sessions.{Trusts}
+use Rattle.index_core.proofs.Brought.{commit_itself, commit_then}
 use Rattle.index_core.proofs.Sizes.{session_fits}
 use Rattle.line_source.specs.Reader.{lines_left}
 use Rattle.stored_index.proofs.KeptFiles.{kept_after}
@@ -32,6 +33,7 @@ lines-init g c = record {
     none_read _ c.args.reader.now _,
     λ told i stored h more. going_first c.args.work.now.language _ g.row.D _ _ i stored _ _ more h,
     λ told h. quiet_first c.args.work.now.language g.row.D _,
+    λ told h. commit_itself _,
   );
   trusts = λ told h. h;
   counted = c.requires.refused;
@@ -60,6 +62,8 @@ lines-preserved g c =
             (c.in-Ok.ensures.passes told going.goes.index going.goes.stored going.goes.stands gives.line alike)),
         λ told h. quiet_on c.args.work.now.language g.row.D so_far.0.lines gives.line _ _ _ (so_far.2 told h)
             (λ quiet. c.in-Ok.ensures.kept told (c.lines.invariant.trusts told h) (ap asks_commit (sym alike) ∙ quiet)),
+        λ told h. commit_then (g.F.Pages.files c.args.folder.now) (g.F.Pages.files c.lines.folder) (g.F.Pages.files c.answer_line.new.folder)
+            (so_far.3 told h) (c.in-Ok.ensures.lasting told (c.lines.invariant.trusts told h)),
       );
       trusts = λ told h. c.in-Ok.ensures.trusts told (c.lines.invariant.trusts told h);
       counted = omega (arith, c.lines.invariant.counted, at_most_one _ _ c.from-refused.ensures);
@@ -213,3 +217,22 @@ pub returns-clause-undone : goal.returns-clause-undone
 returns-clause-undone g c =
     let so_far = c.lines.invariant.so_far in
     λ told. of_left _ _ _ c.lines.reader _ so_far.0 _ (λ h quiet. inl ((so_far.2 told h).kept _ quiet).0)
+
+pub returns-in-Err-clause-lasting : goal.returns-in-Err-clause-lasting
+returns-in-Err-clause-lasting g c = λ told h.
+    commit_then (g.F.Pages.files c.args.folder.now) (g.F.Pages.files c.lines.folder) (g.F.Pages.files c.answer_line.new.folder)
+    (c.lines.invariant.so_far.3 told h) (c.in-Err.ensures.lasting told (c.lines.invariant.trusts told h))
+
+pub returns-in-Ok-false-clause-lasting : goal.returns-in-Ok-false-clause-lasting
+returns-in-Ok-false-clause-lasting g c = λ told h.
+    commit_then (g.F.Pages.files c.args.folder.now) (g.F.Pages.files c.lines.folder) (g.F.Pages.files c.finish.new.folder)
+    (c.lines.invariant.so_far.3 told h) (c.finish.ensures.lasting told (c.lines.invariant.trusts told h))
+
+pub returns-in-Err-Failed-clause-lasting : goal.returns-in-Err-Failed-clause-lasting
+returns-in-Err-Failed-clause-lasting g c = c.lines.invariant.so_far.3
+
+pub returns-in-Err-Memory-clause-lasting : goal.returns-in-Err-Memory-clause-lasting
+returns-in-Err-Memory-clause-lasting g c = c.lines.invariant.so_far.3
+
+pub returns-clause-lasting : goal.returns-clause-lasting
+returns-clause-lasting g c = c.lines.invariant.so_far.3

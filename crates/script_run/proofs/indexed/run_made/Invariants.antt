@@ -1,11 +1,13 @@
 use Rattle.std.proofs.Common.{◌≤◌, ◌++◌, ℕ, List, IsTrue}
+use Rattle.index_core.specs.Brought.{KeepsCommit}
 use Rattle.index_core.specs.Sessions.{Trusts}
 use Rattle.index_model.specs.State.{Index, State}
 use Rattle.script_run.specs.LineAnswers.{Stands}
 use Rattle.script_run.proofs.Reading.{Going, HasRead, Quiet}
 use Rattle.script_run.proofs.indexed.run_made.Given as goal
 
--- the lines so far were done as the script says, and the session is trusted with the files as before them
+-- the lines so far were done as the script says, what was kept is or a whole commit took its place, and the session is
+-- trusted with the files as before them
 abbrev pub invariant-lines : goal.invariant-lines
 invariant-lines g l = record {
   so_far : (has : HasRead (IsTrue g.S.Source.told) l.initial.reader (g.S.Source.left l.initial.input) l.reader (g.S.Source.left l.input))
@@ -15,7 +17,9 @@ invariant-lines g l = record {
       (record { files = g.F.Pages.files l.initial.folder; session = l.initial.session; reads = g.F.Pages.reads l.initial.folder }) (has.lines ++ more)
       (record { files = g.F.Pages.files l.folder; session = l.session; reads = g.F.Pages.reads l.folder }) l.line l.refused more (g.K.Sink.written l.out))
       × (IsTrue g.F.Pages.told → Trusts g.row.D (g.F.Pages.files l.initial.folder) l.initial.session
-      → Quiet l.fn.work.language g.row.D has.lines (g.F.Pages.files l.initial.folder) (g.F.Pages.files l.folder));
+      → Quiet l.fn.work.language g.row.D has.lines (g.F.Pages.files l.initial.folder) (g.F.Pages.files l.folder))
+      × (IsTrue g.F.Pages.told → Trusts g.row.D (g.F.Pages.files l.initial.folder) l.initial.session
+      → KeepsCommit (g.F.Pages.files l.initial.folder) (g.F.Pages.files l.folder));
   trusts : IsTrue g.F.Pages.told → Trusts g.row.D (g.F.Pages.files l.initial.folder) l.initial.session → Trusts g.row.D (g.F.Pages.files l.folder) l.session;
   counted : l.refused ≤ l.line;
   folder_later : g.F.Pages.faults l.initial.folder ≤ g.F.Pages.faults l.folder;

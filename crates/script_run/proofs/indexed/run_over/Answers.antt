@@ -1,6 +1,7 @@
 -- The lines are done in a session on the index, or none is opened.
 use Rattle.std.proofs.Common.{ℕ, IsTrue, arith, refl, subst, ap, ◌∙◌}
 use Rattle.outer_io.specs.Files.{Files}
+use Rattle.index_core.proofs.Brought.{commit_equal, commit_then}
 use Rattle.index_core.proofs.Sizes.{session_fits}
 use Rattle.index_core.proofs.Undone.{fault_kept, kept_equal}
 use Rattle.script_run.specs.Costs.{NoneCommits}
@@ -77,3 +78,11 @@ returns-in-Err-clause-undone g c = λ told. of_any _ c.args.reader.now (g.S.Sour
     (rw c.stopped.ensures
     (fault_stops ℕ (g.F.Pages.files c.args.folder.now) (g.F.Pages.files c.open.new.folder) c.in-Err.fault
     (fault_kept _ _ (kept_equal _ _ (c.in-Err.ensures.files told)) c.in-Err.fault))))
+
+pub returns-in-Ok-clause-lasting : goal.returns-in-Ok-clause-lasting
+returns-in-Ok-clause-lasting g c = λ told there.
+    commit_then (g.F.Pages.files c.args.folder.now) (g.F.Pages.files c.open.new.folder) (g.F.Pages.files c.run_made.new.folder)
+    (commit_equal _ _ (c.in-Ok.ensures.files told)) (c.run_made.ensures.lasting told (c.in-Ok.ensures.trusts told there))
+
+pub returns-in-Err-clause-lasting : goal.returns-in-Err-clause-lasting
+returns-in-Err-clause-lasting g c = λ told there. commit_equal _ _ (c.in-Err.ensures.files told)

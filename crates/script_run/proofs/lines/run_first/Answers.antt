@@ -1,6 +1,7 @@
 -- Each line goes on from those before it; the one that makes an index hands the rest on, and else the last one ends the script.
 use Rattle.std.proofs.Common.{◌≡◌, ◌+◌, ◌++◌, ◌∷◌, [], ℕ, arith, rules, true, false, refl, sym, ap, ◌∙◌, subst, IsTrue, None, append_assoc}
 use Rattle.outer_io.specs.declared.file_name.FileName.TheVariants.{Commit}
+use Rattle.index_core.proofs.Brought.{commit_equal, commit_then}
 use Rattle.index_model.specs.State.{new_index}
 use Rattle.index_model.specs.Script.{Answer}
 use Rattle.line_source.specs.Reader.{lines_left}
@@ -221,3 +222,25 @@ returns-clause-cause g c = memory_cause _ _ _ _ (omega (arith, ap (λ f. g.F.Pag
 
 pub returns-clause-source : goal.returns-clause-source
 returns-clause-source g c = no_source _ _ _ c.lines.invariant.source_later (λ e. cc)
+
+pub returns-in-Ok-Made-clause-lasting : goal.returns-in-Ok-Made-clause-lasting
+returns-in-Ok-Made-clause-lasting g c = λ told none.
+    let same = ap (λ f. g.F.Pages.files f) c.lines.invariant.folder in
+    let still : g.F.Pages.files c.lines.folder Commit ≡ None = rw same none in
+    commit_then (g.F.Pages.files c.args.folder.now) (g.F.Pages.files c.lines.folder) (g.F.Pages.files c.run_from.new.folder)
+    (commit_equal _ _ same) (c.run_from.ensures.lasting told still)
+
+pub returns-in-Err-clause-lasting : goal.returns-in-Err-clause-lasting
+returns-in-Err-clause-lasting g c = λ told none. commit_equal _ _ (ap (λ f. g.F.Pages.files f) c.lines.invariant.folder)
+
+pub returns-in-Ok-false-clause-lasting : goal.returns-in-Ok-false-clause-lasting
+returns-in-Ok-false-clause-lasting g c = λ told none. commit_equal _ _ (ap (λ f. g.F.Pages.files f) c.lines.invariant.folder)
+
+pub returns-in-Err-Failed-clause-lasting : goal.returns-in-Err-Failed-clause-lasting
+returns-in-Err-Failed-clause-lasting g c = λ told none. commit_equal _ _ (ap (λ f. g.F.Pages.files f) c.lines.invariant.folder)
+
+pub returns-in-Err-Memory-clause-lasting : goal.returns-in-Err-Memory-clause-lasting
+returns-in-Err-Memory-clause-lasting g c = λ told none. commit_equal _ _ (ap (λ f. g.F.Pages.files f) c.lines.invariant.folder)
+
+pub returns-clause-lasting : goal.returns-clause-lasting
+returns-clause-lasting g c = λ told none. commit_equal _ _ (ap (λ f. g.F.Pages.files f) c.lines.invariant.folder)

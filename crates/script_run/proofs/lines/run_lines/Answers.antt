@@ -2,6 +2,7 @@
 use Rattle.std.proofs.Common.{IsTrue, inl, refl, arith}
 use Rattle.script_lang.specs.Lines.{lines_of}
 use Rattle.stored_index.proofs.KeptFiles.{kept_itself}
+use Rattle.index_core.proofs.Brought.{commit_itself}
 use Rattle.script_run.specs.Progress.{start}
 use Rattle.script_run.proofs.Going.{stops_here}
 use Rattle.script_run.proofs.Halting.{memory_cause, no_source}
@@ -37,4 +38,10 @@ pub returns-in-Err-clause-source : goal.returns-in-Err-clause-source
 returns-in-Err-clause-source g c = no_source _ _ _ (omega arith) (λ e. cc)
 
 pub returns-in-Err-clause-undone : goal.returns-in-Err-clause-undone
-returns-in-Err-clause-undone g c = λ told. (lines_of (g.S.Source.left c.args.input.now), λ source. refl, λ listed says quiet. inl (kept_itself _))
+returns-in-Err-clause-undone g c = λ told. (lines_of (g.S.Source.left c.args.input.now), λ source. refl, λ quiet. inl (kept_itself _))
+
+pub returns-in-Ok-clause-lasting : goal.returns-in-Ok-clause-lasting
+returns-in-Ok-clause-lasting g c = c.run_read.ensures.lasting
+
+pub returns-in-Err-clause-lasting : goal.returns-in-Err-clause-lasting
+returns-in-Err-clause-lasting g c = λ told. commit_itself _

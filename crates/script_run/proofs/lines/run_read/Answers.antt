@@ -1,5 +1,6 @@
 -- The lines are done on what the folder stores: no index, or the one whose commit was read.
 use Rattle.std.proofs.Common.{ℕ, IsTrue, refl, arith, Option, Err, ap, subst, ◌∙◌}
+use Rattle.index_core.proofs.Brought.{commit_equal, commit_then}
 use Rattle.index_core.proofs.Undone.{fault_kept, kept_equal}
 use Rattle.outer_io.specs.declared.file_name.FileName.TheVariants.{Commit}
 use Rattle.outer_io.specs.Files.{Files}
@@ -8,7 +9,7 @@ use Rattle.index_opening.proofs.Evident.{on_commit_evident}
 use Rattle.script_run.specs.Halted.{halted}
 use Rattle.script_run.specs.Kept.{HaltKeeps}
 use Rattle.script_run.specs.Progress.{start}
-use Rattle.script_run.proofs.Calling.{fault_stops, no_commit, quiet_for}
+use Rattle.script_run.proofs.Calling.{fault_stops}
 use Rattle.script_run.proofs.Halting.{halt_cause_from, halt_less, halted_no_source, no_source, halted_cause, halted_ends, halted_keeps, halted_shows}
 use Rattle.script_run.proofs.Lined.{unopened, fault_cause, from_none, from_some, not_damaged}
 use Rattle.script_run.proofs.Reading.{of_any, of_same}
@@ -89,22 +90,37 @@ returns-in-Err-clause-evident g c =
 pub returns-in-Ok-None-clause-undone : goal.returns-in-Ok-None-clause-undone
 returns-in-Ok-None-clause-undone g c = λ told.
     of_any _ c.args.reader.now (g.S.Source.left c.args.input.now)
-    _ (λ lines listed says quiet.
-    absurd (no_commit (g.F.Pages.files c.args.folder.now) listed says (rw c.in-Ok-None.field-0-is at (c.in-Ok-None.ensures.found told))))
+    _ (λ lines quiet. absurd (quiet.there (rw c.in-Ok-None.field-0-is at (c.in-Ok-None.ensures.found told))))
 
 pub returns-in-Ok-Some-clause-undone : goal.returns-in-Ok-Some-clause-undone
 returns-in-Ok-Some-clause-undone g c = λ told.
     let found = rw c.in-Ok-Some.field-0-is at (c.in-Ok-Some.ensures.found told) in
-    of_same _ c.args.reader.now (g.S.Source.left c.args.input.now) _ _ (λ lines undone listed says quiet.
+    of_same _ c.args.reader.now (g.S.Source.left c.args.input.now) _ _ (λ lines undone quiet.
     subst (λ (f : Files). HaltKeeps f (g.F.Pages.files c.run_from.new.folder) c.run_from.result) (c.in-Ok-Some.ensures.files told)
-    (undone (says_after _ _ c.in-Ok-Some.commit (c.in-Ok-Some.ensures.files told) found)
-    (quiet_for c.args.work.now.language (g.F.Pages.files c.args.folder.now) listed c.in-Ok-Some.commit _ says found quiet)))
+    (undone (says_after _ _ c.in-Ok-Some.commit (c.in-Ok-Some.ensures.files told) found) (quiet.none c.in-Ok-Some.commit found)))
     (c.run_from.ensures.undone told)
 
 pub returns-in-Err-clause-undone : goal.returns-in-Err-clause-undone
 returns-in-Err-clause-undone g c = λ told.
-    of_any _ c.args.reader.now (g.S.Source.left c.args.input.now) _ (λ lines listed says quiet.
+    of_any _ c.args.reader.now (g.S.Source.left c.args.input.now) _ (λ lines quiet.
     halted_keeps (g.F.Pages.files c.args.folder.now) (g.F.Pages.files c.read_commit.new.folder) c.stopped.result c.halted.result c.halted.ensures
     (rw c.stopped.ensures
     (fault_stops ℕ (g.F.Pages.files c.args.folder.now) (g.F.Pages.files c.read_commit.new.folder) c.in-Err.fault
     (fault_kept _ _ (kept_equal _ _ (c.in-Err.ensures.files told)) c.in-Err.fault))))
+
+pub returns-in-Ok-None-clause-lasting : goal.returns-in-Ok-None-clause-lasting
+returns-in-Ok-None-clause-lasting g c = λ told.
+    commit_then (g.F.Pages.files c.args.folder.now) (g.F.Pages.files c.read_commit.new.folder) (g.F.Pages.files c.run_first.new.folder)
+    (commit_equal _ _ (c.in-Ok-None.ensures.files told))
+    (c.run_first.ensures.lasting told
+    (ap (λ (f : Files). f Commit) (c.in-Ok-None.ensures.files told) ∙ rw c.in-Ok-None.field-0-is at (c.in-Ok-None.ensures.found told)))
+
+pub returns-in-Ok-Some-clause-lasting : goal.returns-in-Ok-Some-clause-lasting
+returns-in-Ok-Some-clause-lasting g c = λ told.
+    commit_then (g.F.Pages.files c.args.folder.now) (g.F.Pages.files c.read_commit.new.folder) (g.F.Pages.files c.run_from.new.folder)
+    (commit_equal _ _ (c.in-Ok-Some.ensures.files told))
+    (c.run_from.ensures.lasting told
+    (says_after _ _ c.in-Ok-Some.commit (c.in-Ok-Some.ensures.files told) (rw c.in-Ok-Some.field-0-is at (c.in-Ok-Some.ensures.found told))))
+
+pub returns-in-Err-clause-lasting : goal.returns-in-Err-clause-lasting
+returns-in-Err-clause-lasting g c = λ told. commit_equal _ _ (c.in-Err.ensures.files told)

@@ -16,6 +16,7 @@ use Rattle.index_core.specs.Sessions.{Guards, SessionData}
 use Rattle.index_core.specs.Steps.{SaysCommit}
 use Rattle.index_core.proofs.FaultCauses.{cause_then, fault_cause}
 use Rattle.index_core.proofs.Bringing.{brings_still, brings_then}
+use Rattle.index_core.proofs.Brought.{commit_swept}
 use Rattle.index_core.proofs.Closing.{at_ease, flight_then, guards_eased, keeps_either, levels_then}
 use Rattle.index_core.proofs.Closing.{names_eased, on_ok_then, only_listed, tracked_then, unchanged_closed}
 use Rattle.index_core.proofs.Committing.{keeps_fault, on_ok_any, on_ok_none, says_still, stores_any, stores_fault}
@@ -102,6 +103,10 @@ pub returns-clause-undone : goal.returns-clause-undone
 returns-clause-undone g c told guards = undone_written _ (g.F.Pages.files c.sweep.new.folder) c.sweep.new.self.commit c.sweep.result c.sweep.ensures.whole
     (says g c told guards)
 
+pub returns-clause-lasting : goal.returns-clause-lasting
+returns-clause-lasting g c told trusts = commit_swept (g.F.Pages.files c.args.folder.now) (g.F.Pages.files c.commit.new.folder)
+    (g.F.Pages.files c.sweep.new.folder) (c.commit.ensures.lasting told trusts) (kept g c told trusts.guards)
+
 pub returns-clause-idle : goal.returns-clause-idle
 returns-clause-idle g c told idle =
     let still = c.commit.ensures.idle idle.unchanged in
@@ -158,6 +163,9 @@ pub returns-in_err-commit-clause-undone : goal.returns-in_err-commit-clause-undo
 returns-in_err-commit-clause-undone g c told guards =
     let p = err_from_is_err_and c.from_residual.result c.from_residual.ensures.1 in
     rw (p.1, p.2) (c.in_err-commit.ensures.undone told guards)
+
+pub returns-in_err-commit-clause-lasting : goal.returns-in_err-commit-clause-lasting
+returns-in_err-commit-clause-lasting g c told trusts = c.commit.ensures.lasting told trusts
 
 pub returns-in_err-commit-clause-idle : goal.returns-in_err-commit-clause-idle
 returns-in_err-commit-clause-idle g c told idle = (c.commit.ensures.idle idle.unchanged).2

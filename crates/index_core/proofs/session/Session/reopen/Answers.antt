@@ -14,6 +14,7 @@ use Rattle.index_opening.specs.Evidence.{IsTwice}
 use Rattle.segment_set.specs.Faithful.{IsFaithful}
 use Rattle.index_opening.proofs.Evident.{on_evident_at}
 use Rattle.index_core.specs.Sessions.{AreTraced, Guards, IsCommitAnew, IsUnchanged, SessionData}
+use Rattle.index_core.specs.Brought.{KeepsCommit}
 use Rattle.index_core.specs.Effects.{BringsCanonical}
 use Rattle.index_core.proofs.Bringing.{brings_anew, brings_then}
 use Rattle.index_core.specs.Steps.{SaysCommit}
@@ -51,6 +52,7 @@ returns-in_err-commit-clause-applies g c =
       whole = λ told i seen guards. c.in_err-commit.ensures.whole told i seen;
       faithful = c.commit.ensures.faithful;
       traced = c.commit.ensures.traced;
+      lasting = c.commit.ensures.lasting;
       evident = c.in_err-commit.ensures.evident;
       idle = λ told e unchanged. (c.commit.ensures.idle unchanged).2;
       unchanged = λ e. tt;
@@ -83,6 +85,8 @@ returns-in_err-set-clause-applies g c =
           subst (λ (f : Files). IsFaithful g.row.D f c.commit.new.self.set) (sym (c.attach_anew.ensures.files told)) (c.commit.ensures.faithful told faithful);
       traced = λ told trusts.
           subst (λ (f : Files). AreTraced g.row.D f c.commit.new.self.set.parts) (sym (c.attach_anew.ensures.files told)) (c.commit.ensures.traced told trusts);
+      lasting = λ told trusts.
+          subst (KeepsCommit (g.F.Pages.files c.args.folder.now)) (sym (c.attach_anew.ensures.files told)) (c.commit.ensures.lasting told trusts);
       evident = on_evident_at {X = Unit {0}} IsTwice _ _ _ _ (Err c.in_err-set.field-0.0)
           (λ (told, trusts). (told, c.in_ok-commit.ensures.committed.1, c.commit.ensures.guards told trusts.guards))
           (λ (told, trusts). c.attach_anew.ensures.files told) c.in_err-set.ensures.evident;
@@ -116,6 +120,8 @@ returns-in_err-put_ok-clause-applies g c =
           subst (λ (f : Files). IsFaithful g.row.D f c.commit.new.self.set) (sym (c.attach_anew.ensures.files told)) (c.commit.ensures.faithful told faithful);
       traced = λ told trusts.
           subst (λ (f : Files). AreTraced g.row.D f c.commit.new.self.set.parts) (sym (c.attach_anew.ensures.files told)) (c.commit.ensures.traced told trusts);
+      lasting = λ told trusts.
+          subst (KeepsCommit (g.F.Pages.files c.args.folder.now)) (sym (c.attach_anew.ensures.files told)) (c.commit.ensures.lasting told trusts);
       evident = tt;
       idle = λ told e unchanged. c.attach_anew.ensures.files told ∙ (c.commit.ensures.idle unchanged).2;
       unchanged = λ e. tt;
@@ -170,6 +176,8 @@ returns-clause-applies g c = record {
   traced = λ told trusts. subst (λ (f : Files). AreTraced g.row.D f c.renew.new.self.parts) (sym (c.attach_anew.ensures.files told))
       (subst (λ (u : SetData). AreTraced g.row.D (g.F.Pages.files c.commit.new.folder) u.parts) (sym (kept g c))
       (c.in_ok-set.ensures.traced told c.in_ok-commit.ensures.committed.1 (c.commit.ensures.guards told trusts.guards)));
+  lasting = λ told trusts.
+      subst (KeepsCommit (g.F.Pages.files c.args.folder.now)) (sym (c.attach_anew.ensures.files told)) (c.commit.ensures.lasting told trusts);
   evident = tt;
   idle = λ told e unchanged. c.attach_anew.ensures.files told ∙ (c.commit.ensures.idle unchanged).2;
   unchanged = λ e. let last = c.in_ok-commit.ensures.unchanged in let same = kept g c in

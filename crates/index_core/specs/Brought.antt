@@ -1,0 +1,48 @@
+-- What a commit leaves in the place of what was kept.
+use Rattle.std.specs.Prelude.{ℕ, ◌≡◌, ◌⊎◌, length, Contains}
+use Rattle.outer_io.specs.declared.file_name.FileName.TheVariants.{Commit, Live, Segment}
+use Rattle.outer_io.specs.Files.{Files, bytes_of}
+use Rattle.live_bits.specs.LiveSet.{LiveSet}
+use Rattle.commit_list.specs.declared.listed.Listed.{Listed}
+use Rattle.commit_list.specs.Commits.{CommitData}
+use Rattle.commit_list.specs.CommitFiles.{IsCommitFile}
+use Rattle.segment_file.specs.Heads.{Head}
+use Rattle.segment_file.specs.LiveFiles.{IsLiveFile}
+use Rattle.stored_index.specs.Kept.{SameKept}
+use Rattle.segment_set.specs.Kept.{HasCanonical}
+
+-- the commit of before listed the segment too, and its file is as it was
+pub record WasListed (old new : Files) (l : Listed) : Type 0 where
+  pub commit : CommitData
+  pub says : IsCommitFile (bytes_of (old Commit)) commit
+  pub was : Listed
+  pub there : Contains commit.listed was
+  pub segment : was.segment ≡ l.segment
+  pub entries : was.entries ≡ l.entries
+  pub file : new (Segment l.segment) ≡ old (Segment l.segment)
+
+-- its file is the canonical tree of as many entries as the commit says
+pub record IsBuilt (D : ℕ) (files : Files) (l : Listed) : Type 0 where
+  pub head : Head
+  pub segment : head.id ≡ l.segment
+  pub entries : head.entries ≡ l.entries
+  pub canon : HasCanonical D files head
+
+-- both files of a listed segment are there, and as many of its numbers are live as the commit says
+pub record IsWhole (D : ℕ) (old new : Files) (l : Listed) : Type 0 where
+  pub segment : WasListed old new l ⊎ IsBuilt D new l
+  pub live : LiveSet
+  pub file : IsLiveFile l.segment l.generation (bytes_of (new (Live l.segment l.generation))) live
+  pub count : length live.live ≡ l.live
+
+-- The Commit file says a commit, of the dimensions and leaf size of the one that it said before, if it said one. Each
+-- segment that it lists is whole.
+pub record BringsCommit (old new : Files) : Type 0 where
+  pub commit : CommitData
+  pub says : IsCommitFile (bytes_of (new Commit)) commit
+  pub same : (c : CommitData) → IsCommitFile (bytes_of (old Commit)) c → (c.dims ≡ commit.dims) × (c.leaf ≡ commit.leaf)
+  pub whole : (l : Listed) → Contains commit.listed l → IsWhole commit.dims old new l
+
+-- what is kept is the same, or a whole commit has taken its place
+abbrev pub KeepsCommit : Files → Files → Type 0
+KeepsCommit old new = SameKept old new ⊎ BringsCommit old new
