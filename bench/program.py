@@ -1,9 +1,11 @@
 #!/usr/bin/env python3
 """Times the program bkd from outside, which has to be built (rt run in crates/bkd), and prints ratios of one run.
 
-usage: bench/program.py add | lines | tree | open | load | memory | sqlite | lucene | limits | all [COUNT]
+usage: bench/program.py add | window | lines | tree | open | load | memory | sqlite | lucene | limits | all [COUNT]
 
 add      a script adds COUNT documents (a million where it is left out) of two dimensions, and merges them
+window   a script that deletes a document with each that it adds, so that 16,000 wait in the buffer: the newest, one in
+         the middle, the oldest; and a script that deletes them all by a box whenever they are so many
 lines    small boxes and queries for the ten nearest over those documents, on pages that are kept, a line
 tree     the same queries, and boxes that hold 10 to 100,000 documents, beside a plain k-d tree in flat arrays
          (bench/tree.rs, which wants rustc): the same lines in, the same text out, which is compared
@@ -39,6 +41,33 @@ def add(data):
         print("  forks %s added and committed %s, processor %s, ratio %4.2f; with merge %s" % (
             forks, milliseconds(spent.wall), milliseconds(spent.processor), spent.wall / alone,
             milliseconds(both.wall)))
+
+
+HELD = 16_000
+
+
+def window(data):
+    print("window: a script adds %d documents, none of which leaves the buffer but by a deletion" % data.count)
+    least = None
+    for name, back in (("the newest", 0), ("one in the middle", HELD // 2), ("the oldest", HELD)):
+        lines = ["create 2"]
+        for number, point in enumerate(data.points):
+            lines.append("add %d %d" % point)
+            if number >= HELD:
+                lines.append("delete %d" % (number - back))
+        source = write(data.path("window"), lines)
+        spent = best(lambda: bkd(data.empty("window_folder"), "run", source=source), 3)
+        least = least or spent.wall
+        print("  %-18s %s, ratio %5.2f" % (name, milliseconds(spent.wall), spent.wall / least))
+    low, high = (f(c for point in data.points for c in point) for f in (min, max))
+    lines = ["create 2"]
+    for number, point in enumerate(data.points, 1):
+        lines.append("add %d %d" % point)
+        if number % HELD == 0:
+            lines.append("delete box %d %d %d %d" % (low, low, high, high))
+    source = write(data.path("window"), lines)
+    spent = best(lambda: bkd(data.empty("window_folder"), "run", source=source), 3)
+    print("  all by a box        %s, ratio %5.2f" % (milliseconds(spent.wall), spent.wall / least))
 
 
 def each_line(data, write_lines):
@@ -222,8 +251,8 @@ def limits(data):
                 sys.exit("wanted status %d and an empty folder" % status)
 
 
-KINDS = {"add": add, "lines": lines, "tree": tree, "open": opening, "load": load, "memory": memory, "sqlite": sqlite,
-         "lucene": lucene, "limits": limits}
+KINDS = {"add": add, "window": window, "lines": lines, "tree": tree, "open": opening, "load": load, "memory": memory,
+         "sqlite": sqlite, "lucene": lucene, "limits": limits}
 
 
 if __name__ == "__main__":

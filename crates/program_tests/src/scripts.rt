@@ -98,7 +98,7 @@ fn check_look<R: Threads + Sync + Abort>(
 
 /// A script answers over a folder what it answers over a list. The folder that it leaves answers another run as the
 /// list does after a reopening.
-fn agree<R: Threads + Sync + Abort>(rt: &R, alloc: Global, script: &[u8]) -> Result<(), Fail> {
+pub fn agree<R: Threads + Sync + Abort>(rt: &R, alloc: Global, script: &[u8]) -> Result<(), Fail> {
     let mut folder = empty_folder(alloc);
     agree_once(rt, alloc, &mut folder, script)?;
     let mut again = script.to_vec(alloc)?;

@@ -164,10 +164,10 @@ parts_with s t u points room put =
 -- ---- the set from its fields
 
 -- the parts that a deletion changes
-pub set_but_is : (number : ℕ) (s : SetData) (parts : List Part) (buffer : List Item) (begun : Option BegunMerge) → parts ≡ cleared number s.parts
-    → buffer ≡ entries_but number s.buffer → begun ≡ begun_but number s.begun
-    → record s { parts = parts; buffer = buffer; begun = begun } ≡ set_but number s
-set_but_is number s parts buffer begun p b m = λ i. record s { parts = p i; buffer = b i; begun = m i }
+pub set_but_is : (number : ℕ) (s : SetData) (next : ℕ) (parts : List Part) (buffer : List Item) (begun : Option BegunMerge) → next ≡ s.next
+    → parts ≡ cleared number s.parts → buffer ≡ entries_but number s.buffer → begun ≡ begun_but number s.begun
+    → record s { next = next; parts = parts; buffer = buffer; begun = begun } ≡ set_but number s
+set_but_is number s next parts buffer begun n p b m = λ i. record s { next = n i; parts = p i; buffer = b i; begun = m i }
 
 -- a number is live in the segments or in the buffer
 pub live_either : (number : ℕ) (s : SetData) (a b : Bool) → a ≡ has_live number s.parts → b ≡ has_entry number s.buffer → (a || b) ≡ is_live_in s number

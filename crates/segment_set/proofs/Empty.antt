@@ -30,10 +30,11 @@ empty_set leaf names cache = record {
 }
 
 -- its fields
-pub empty_is : (leaf : ℕ) (names : NameList) (cache : PageCache) (parts : List Part) (buffer : List Item) (snapshots : List NamedView) → parts ≡ []
-    → buffer ≡ [] → snapshots ≡ []
-    → record (empty_set leaf names cache) { parts = parts; buffer = buffer; snapshots = snapshots } ≡ empty_set leaf names cache
-empty_is leaf names cache parts buffer snapshots p b s = λ i. record (empty_set leaf names cache) { parts = p i; buffer = b i; snapshots = s i }
+pub empty_is : (leaf next : ℕ) (names : NameList) (cache : PageCache) (parts : List Part) (buffer : List Item) (snapshots : List NamedView) → next ≡ 0
+    → parts ≡ [] → buffer ≡ [] → snapshots ≡ []
+    → record (empty_set leaf names cache) { next = next; parts = parts; buffer = buffer; snapshots = snapshots } ≡ empty_set leaf names cache
+empty_is leaf next names cache parts buffer snapshots n p b s =
+    λ i. record (empty_set leaf names cache) { next = n i; parts = p i; buffer = b i; snapshots = s i }
 
 none_twice_empty : NoneTwice []
 unfolding NoneTwice

@@ -3,6 +3,8 @@ pub mod Standing
 pub mod Counted
 pub mod Well
 pub mod Buffered
+pub mod Held
+pub mod Marked
 pub mod Changed
 pub mod DocumentEntries
 pub mod Snapped

@@ -1,6 +1,6 @@
 -- One merge or flush after another.
 use Rattle.std.proofs.Common.{◌≡◌, ℕ, ◌≤◌, ◌<◌, eqb, cond, ltb, List, [], ◌∷◌, length, Result}
-use Rattle.std.proofs.Common.{Ok, Err, ◌^◌, refl, sym, subst, ◌∙◌, ◌⊎◌, inl, inr, ⊎_elim, arith}
+use Rattle.std.proofs.Common.{Ok, Err, ◌^◌, refl, subst, ◌∙◌, ◌⊎◌, inl, inr, ⊎_elim, arith}
 use Rattle.std.specs.List.{All, Contains, sum_by}
 use Rattle.std.specs.Result.{OnOk, OnErr}
 use Rattle.std.proofs.lemmas.Bool.{cases_Bool, ltb-false, ltb-true}
@@ -147,10 +147,8 @@ doubt_same given xs ys same d h = doubt_more given xs ys (omega (arith, totals_l
 -- ---- what waits in the buffer
 
 -- each number that waits is below 2 ^ 24
-pub waiting_below : {D : ℕ} (s : SetData) (well : IsWell D s) (es : List (Entry D)) → items_of es ≡ s.buffer → All (λ e. e.doc < 2 ^ 24) es
-waiting_below {D} s well es is =
-    all es (subst (All (λ (x : Item). x.doc < 2 ^ 24)) (sym is)
-    (All-weaker (Contains s.buffer) (λ (x : Item). x.doc < 2 ^ 24) below s.buffer (All-contains_itself s.buffer)))
+pub waiting_below : {D : ℕ} (s : SetData) → IsWell D s → All (λ x. x.doc < 2 ^ 24) s.buffer
+waiting_below s well = All-weaker (Contains s.buffer) (λ (x : Item). x.doc < 2 ^ 24) below s.buffer (All-contains_itself s.buffer)
   where
     below : (x : Item) → Contains s.buffer x → x.doc < 2 ^ 24
     below x there = elim (cases_Bool (ltb x.doc s.next)) [
@@ -158,11 +156,12 @@ waiting_below {D} s well es is =
       | inr le ↦ let none = (well.spread.below x.doc (ltb-false x.doc s.next le)).1 in let some = entry_there s.buffer x there in cc
     ]
 
-    all : (xs : List (Entry D)) → All (λ (x : Item). x.doc < 2 ^ 24) (items_of xs) → All (λ (e : Entry D). e.doc < 2 ^ 24) xs
-    all [] h = All-nil (λ (e : Entry D). e.doc < 2 ^ 24)
-    all (e ∷ xs) h =
-        All-cons (λ (d : Entry D). d.doc < 2 ^ 24) e xs (All-head (λ (x : Item). x.doc < 2 ^ 24) (item_of e) (items_of xs) h)
-        (all xs (All-tail (λ (x : Item). x.doc < 2 ^ 24) (item_of e) (items_of xs) h))
+-- and so of entries of which these are seen
+pub entries_below : {D : ℕ} (es : List (Entry D)) → All (λ x. x.doc < 2 ^ 24) (items_of es) → All (λ e. e.doc < 2 ^ 24) es
+entries_below {D} [] h = All-nil (λ (e : Entry D). e.doc < 2 ^ 24)
+entries_below {D} (e ∷ es) h =
+    All-cons (λ (d : Entry D). d.doc < 2 ^ 24) e es (All-head (λ (x : Item). x.doc < 2 ^ 24) (item_of e) (items_of es) h)
+    (entries_below es (All-tail (λ (x : Item). x.doc < 2 ^ 24) (item_of e) (items_of es) h))
 
 pub empty_list : {X : Type 0} (xs : List X) → length xs ≡ 0 → xs ≡ []
 empty_list [] none = refl

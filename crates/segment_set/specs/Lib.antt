@@ -8,6 +8,7 @@ pub mod Damages
 pub mod Merges
 pub mod Settles
 pub mod Runs
+pub mod Waiting
 pub mod Saved
 pub mod Swept
 pub mod Faithful

@@ -18,6 +18,7 @@ ghost use Rattle.index_model.specs.State.{Index, State};
 ghost use Rattle.segment_view.specs.Parts.{lives_of};
 ghost use Rattle.file_names.specs.Names.{is_named};
 
+use crate::buffer::Buffer;
 use crate::set::SegmentSet;
 use crate::settings::Settings;
 use commit_list::Commit;
@@ -77,11 +78,10 @@ impl<const D: usize> SegmentSet<D> {
         Ok(SegmentSet {
             leaf: c.leaf(),
             forks: settings.forks,
-            next: c.next(),
             given: c.given(),
             names,
             segments,
-            buffer: Vec::new(alloc),
+            buffer: Buffer::new(alloc, c.next()),
             snapshots: Vec::new(alloc),
             begun: None,
             cache,
@@ -99,7 +99,6 @@ impl<const D: usize> SegmentSet<D> {
     {
         self.leaf = set.leaf;
         self.forks = set.forks;
-        self.next = set.next;
         self.given = set.given;
         self.segments = set.segments;
         self.buffer = set.buffer;

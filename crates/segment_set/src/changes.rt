@@ -9,7 +9,6 @@ ghost use Rattle.page_cache.specs.Evidence.{OnDamage, NotDamaged};
 ghost use Rattle.index_model.specs.State.{Index};
 ghost use Rattle.segment_view.specs.Parts.{Contents, AreRead, live_in_parts};
 
-use crate::buffer::put_document;
 use crate::faults::AddFault;
 use crate::set::SegmentSet;
 use bkd_build::Gate;
@@ -124,9 +123,7 @@ impl<const D: usize> SegmentSet<D> {
         ensures points { ArePoints points.now }
     {
         let count = points.as_slice().len() as u32;
-        let number = self.next;
-        put_document(&mut self.buffer, number, points)?;
-        self.next += 1;
+        let number = self.buffer.put(points)?;
         self.given += count;
         Ok(number)
     }

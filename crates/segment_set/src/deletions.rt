@@ -17,7 +17,6 @@ ghost use Rattle.segment_view.specs.Costs.{AreTouched};
 ghost use Rattle.segment_view.specs.Damages.{IsPartDamage};
 ghost use Rattle.segment_set.specs.Sets.{begun_but};
 
-use crate::buffer::take_document;
 use crate::set::{Begun, SegmentSet};
 use cell_relate::BoxShape;
 use outer_io::Folder;
@@ -45,7 +44,7 @@ impl<const D: usize> SegmentSet<D> {
     {
         let in_segment = self.segments.clear(doc);
         clear_begun(&mut self.begun, doc);
-        let in_buffer = take_document(&mut self.buffer, doc);
+        let in_buffer = self.buffer.take(doc);
         in_segment | in_buffer
     }
 

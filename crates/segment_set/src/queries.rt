@@ -1,6 +1,6 @@
 //! What queries find.
 
-ghost use Rattle.std.specs.Prelude.{◌≡◌, ◌≤◌, ◌+◌, ◌*◌, ℕ, List, Some, length, IsTrue, IfOk};
+ghost use Rattle.std.specs.Prelude.{◌≡◌, ◌≤◌, ◌+◌, ◌*◌, ℕ, List, None, Some, length, IsTrue, IfOk};
 ghost use Rattle.point_codec.specs.Seen.{items_of};
 ghost use Rattle.point_codec.specs.declared.entries.Near.{Near};
 ghost use Rattle.page_cache.specs.Cache.{Agrees};
@@ -17,6 +17,7 @@ ghost use Rattle.segment_view.specs.Parts.{Contents, heads_of};
 ghost use Rattle.segment_view.specs.Costs.{AreTested, AreTouched, leaves_in};
 ghost use Rattle.segment_view.specs.Damages.{IsPartDamage};
 
+use crate::buffer::Buffer;
 use crate::set::SegmentSet;
 use crate::snapshots::{Snapshot, snapshot_named};
 use bkd_reader::Tally;
@@ -74,9 +75,10 @@ impl<const D: usize> SegmentSet<D> {
         ensures evident { OnDamage result
             (IsEvident (IsTrue F.told × IsFaithful D (F.files folder.old) self.old) (F.files folder.new)) }
     {
+        settle_for(&mut self.buffer, view);
         let (segments, buffer) = view_of(
             &self.segments,
-            self.buffer.as_slice(),
+            &self.buffer,
             self.snapshots.as_slice(),
             view,
         );
@@ -126,9 +128,10 @@ impl<const D: usize> SegmentSet<D> {
         ensures evident { OnDamage result
             (IsEvident (IsTrue F.told × IsFaithful D (F.files folder.old) self.old) (F.files folder.new)) }
     {
+        settle_for(&mut self.buffer, view);
         let (segments, buffer) = view_of(
             &self.segments,
-            self.buffer.as_slice(),
+            &self.buffer,
             self.snapshots.as_slice(),
             view,
         );
@@ -149,12 +152,7 @@ impl<const D: usize> SegmentSet<D> {
         ensures has { S.has shape.new ≡ S.has shape.old }
         ensures crosses { S.crosses shape.new ≡ S.crosses shape.old }
     {
-        let (segments, _) = view_of(
-            &self.segments,
-            self.buffer.as_slice(),
-            self.snapshots.as_slice(),
-            view,
-        );
+        let segments = segments_of(&self.segments, self.snapshots.as_slice(), view);
         segment_view::survey(segments, shape)
     }
 
@@ -165,31 +163,57 @@ impl<const D: usize> SegmentSet<D> {
         requires { HasView (viewed view.now) self.now }
         ensures { AreNearLeaves D at.now.c bound (heads_of (viewed_parts (viewed view.now) self.now)) result }
     {
-        let (segments, _) = view_of(
-            &self.segments,
-            self.buffer.as_slice(),
-            self.snapshots.as_slice(),
-            view,
-        );
+        let segments = segments_of(&self.segments, self.snapshots.as_slice(), view);
         segment_view::survey_near(segments, at, bound)
     }
 }
 
 ghost use Rattle.segment_set.specs.Sets.{IsThere, parts_at, buffer_at};
 
-/// The segments and the buffer of a view: those of now, or those of a snapshot.
+/// The segments of a view: those of now, or those of a snapshot.
+fn segments_of<'a, const D: usize>(
+    segments: &'a Segments<D>,
+    snapshots: &'a [Snapshot<D>],
+    view: &View,
+) -> &'a Segments<D>
+    requires { IsThere (viewed view.now) snapshots.now }
+    ensures { result.now ≡ parts_at (viewed view.now) segments.now snapshots.now }
+{
+    match view {
+        View::Now => segments,
+        View::Named(name) => {
+            let snapshot = snapshot_named(snapshots, name);
+            &snapshot.segments
+        }
+    }
+}
+
+/// Settles the buffer, where the view looks at it.
+fn settle_for<const D: usize>(buffer: &mut Buffer<D>, view: &View)
+    requires dims { D ≤ 8 }
+    ensures items { buffer.new.items ≡ buffer.old.items }
+    ensures next { buffer.new.next ≡ buffer.old.next }
+    ensures settled { viewed view.now ≡ None → buffer.new.gone ≡ 0 }
+{
+    if let View::Now = view {
+        buffer.settle();
+    }
+}
+
+/// The segments of a view, and what waits in it: in the buffer, which is settled then, or in a snapshot.
 fn view_of<'a, const D: usize>(
     segments: &'a Segments<D>,
-    buffer: &'a [Entry<D>],
+    buffer: &'a Buffer<D>,
     snapshots: &'a [Snapshot<D>],
     view: &View,
 ) -> (&'a Segments<D>, &'a [Entry<D>])
-    requires { IsThere (viewed view.now) snapshots.now }
+    requires there { IsThere (viewed view.now) snapshots.now }
+    requires settled { viewed view.now ≡ None → buffer.now.gone ≡ 0 }
     ensures segments { result.0.now ≡ parts_at (viewed view.now) segments.now snapshots.now }
-    ensures buffer { items_of result.1.now ≡ buffer_at (viewed view.now) (items_of buffer.now) snapshots.now }
+    ensures buffer { items_of result.1.now ≡ buffer_at (viewed view.now) buffer.now.items snapshots.now }
 {
     match view {
-        View::Now => (segments, buffer),
+        View::Now => (segments, buffer.as_slice()),
         View::Named(name) => {
             let snapshot = snapshot_named(snapshots, name);
             (&snapshot.segments, snapshot.buffer.as_slice())

@@ -27,6 +27,7 @@ ghost use Rattle.segment_set.specs.Damages.{IsDoubt, IsMergeDamage, IsMergeDamag
 ghost use Rattle.index_opening.specs.Evidence.{IsEvidentIn};
 ghost use Rattle.segment_set.specs.Faithful.{HasFileHead};
 
+use crate::buffer::Buffer;
 use bkd_build::Gate;
 use document_checks::{doubled, fits_docs};
 use file_names::FileNames;
@@ -263,7 +264,7 @@ pub(crate) fn write_buffer<const D: usize, R: Threads + Sync, F: Folder, G: Gate
     folder: &mut F,
     names: &mut FileNames,
     segments: &mut Segments<D>,
-    buffer: &mut Vec<Entry<D>>,
+    buffer: &mut Buffer<D>,
     plan: &BuildPlan<D>,
     gate: &G,
 ) -> Result<(), PageFault>
@@ -271,19 +272,21 @@ pub(crate) fn write_buffer<const D: usize, R: Threads + Sync, F: Folder, G: Gate
     requires named { All (IsNamed names.old) segments.old }
     requires some { 1 ≤ length buffer.old.items }
     requires few { length buffer.old.items ≤ 16384 }
-    requires numbers { All (λ e. e.doc < 2 ^ 24) buffer.old.items }
-    requires once { NoneTwice (items_of buffer.old.items) }
-    requires sixteen { AreFew (items_of buffer.old.items) }
+    requires numbers { All (λ x. x.doc < 2 ^ 24) buffer.old.items }
+    requires once { NoneTwice buffer.old.items }
+    requires sixteen { AreFew buffer.old.items }
     ensures spilled { OnOk result
         (IsSpilled D (IsTrue F.told) plan.now.leaf names.old names.new (F.files folder.new)
-        (items_of buffer.old.items) segments.old segments.new) }
+        buffer.old.items segments.old segments.new) }
     ensures emptied { OnOk result (buffer.new.items ≡ []) }
+    ensures next { buffer.new.next ≡ buffer.old.next }
     ensures refused { OnErr result ((segments.new ≡ segments.old) × (buffer.new.items ≡ buffer.old.items)) }
     ensures kept { KeepsNamed (IsTrue F.told) names.old names.new (F.files folder.old) (F.files folder.new) }
     ensures reads { F.reads folder.new ≡ F.reads folder.old }
     ensures cause { HasPageCause (F.faults folder.old) (F.faults folder.new) result }
     ensures whole { NotDamaged result }
 {
+    buffer.settle();
     // a build leaves its entries in another order
     let mut entries = Vec::from_slice(alloc, buffer.as_slice())?;
     let new = build_segment(

@@ -130,23 +130,10 @@ impl<const D: usize> SegmentSet<D> {
         let listed = write_lives(alloc, folder, &mut self.names, &self.segments)?;
         let again = Vec::from_slice(alloc, listed.as_slice())?;
         let next_segment = self.names.next_segment();
-        let kept = Commit::new(
-            D as u8,
-            self.leaf,
-            self.next,
-            self.given,
-            next_segment,
-            again,
-        );
+        let next = self.buffer.next();
+        let kept = Commit::new(D as u8, self.leaf, next, self.given, next_segment, again);
         self.saved = Some(kept);
-        Ok(Commit::new(
-            D as u8,
-            self.leaf,
-            self.next,
-            self.given,
-            next_segment,
-            listed,
-        ))
+        Ok(Commit::new(D as u8, self.leaf, next, self.given, next_segment, listed))
     }
 }
 

@@ -6,13 +6,13 @@ ghost use Rattle.leaf_codec.specs.Leaves.{leaf_limit};
 ghost use Rattle.page_cache.specs.Cache.{room_of};
 ghost use Rattle.index_model.specs.State.{new_index};
 
+use crate::buffer::Buffer;
 use crate::settings::Settings;
 use crate::snapshots::Snapshot;
 use commit_list::{Commit, Listed};
 use file_names::FileNames;
 use live_bits::LiveBits;
 use page_cache::{Memory, PageCache};
-use point_codec::Entry;
 use segment_build::NewSegment;
 use segment_file::SegmentHead;
 use segment_view::Segments;
@@ -40,12 +40,11 @@ impl<const D: usize> Model for Begun<D> {
 pub struct SegmentSet<const D: usize> {
     pub(crate) leaf: u16,
     pub(crate) forks: u8,
-    pub(crate) next: u32,
     pub(crate) given: u32,
     pub(crate) names: FileNames,
     pub(crate) segments: Segments<D>,
-    // ascending by number, the entries of a document together
-    pub(crate) buffer: Vec<Entry<D>>,
+    // and the next number
+    pub(crate) buffer: Buffer<D>,
     pub(crate) snapshots: Vec<Snapshot<D>>,
     pub(crate) begun: Option<Begun<D>>,
     pub(crate) cache: PageCache,
@@ -53,18 +52,17 @@ pub struct SegmentSet<const D: usize> {
 }
 
 impl<const D: usize> Model for SegmentSet<D> {
-    ghost use Rattle.point_codec.specs.Seen.{items_of};
     ghost use Rattle.segment_set.specs.Sets.{SetData, IsWell};
 
     ghost Value = { SetData };
 
     ghost view = { λ s. record {
       leaf = s.leaf;
-      next = s.next;
+      next = s.buffer.next;
       given = s.given;
       names = s.names;
       parts = s.segments;
-      buffer = items_of s.buffer.items;
+      buffer = s.buffer.items;
       snapshots = s.snapshots.items;
       begun = s.begun;
       cache = s.cache;
@@ -73,11 +71,11 @@ impl<const D: usize> Model for SegmentSet<D> {
 
     ghost invariant = { λ s. IsWell D (record {
       leaf = s.leaf;
-      next = s.next;
+      next = s.buffer.next;
       given = s.given;
       names = s.names;
       parts = s.segments;
-      buffer = items_of s.buffer.items;
+      buffer = s.buffer.items;
       snapshots = s.snapshots.items;
       begun = s.begun;
       cache = s.cache;
@@ -106,11 +104,10 @@ impl<const D: usize> SegmentSet<D> {
         Ok(SegmentSet {
             leaf,
             forks: settings.forks,
-            next: 0,
             given: 0,
             names: FileNames::new(alloc),
             segments: Segments::new(alloc),
-            buffer: Vec::new(alloc),
+            buffer: Buffer::new(alloc, 0),
             snapshots: Vec::new(alloc),
             begun: None,
             cache: PageCache::new(alloc, settings.cache_pages)?,
@@ -122,7 +119,7 @@ impl<const D: usize> SegmentSet<D> {
     pub fn next(&self) -> u32
         ensures { result ≡ self.now.next }
     {
-        self.next
+        self.buffer.next()
     }
 
     /// How many points were ever given.
@@ -153,7 +150,7 @@ impl<const D: usize> SegmentSet<D> {
         ensures same { (result ≡ false) ↔ IsAsCommitted self.now c.now }
         ensures sets { result ≡ false → All (λ p. IsLiveSet p.live) self.now.parts }
     {
-        if self.next != c.next() || self.given != c.given() || !self.buffer.is_empty() {
+        if self.buffer.next() != c.next() || self.given != c.given() || !self.buffer.is_empty() {
             return true;
         }
         !are_listed(self.segments.heads(), self.segments.lives(), c.listed())

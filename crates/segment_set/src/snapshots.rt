@@ -77,6 +77,7 @@ impl<const D: usize> SegmentSet<D> {
             return Err(SnapFault::TooMany);
         }
         let segments = self.segments.copy(alloc)?;
+        self.buffer.settle();
         let buffer = Vec::from_slice(alloc, self.buffer.as_slice())?;
         self.snapshots.reserve(1)?;
         self.snapshots.push_reserved(Snapshot {

@@ -5,6 +5,6 @@ use Rattle.segment_set.proofs.buffer.put_document.Given as goal
 
 abbrev pub invariant-loop-point : goal.invariant-loop-point
 invariant-loop-point g l = record {
-  items : items_of l.buffer.items ≡ items_of l.initial.buffer.items ++ map (entry_of l.number) (coordinates_of (take l.point-index l.points));
-  room : vec_len l.buffer + (length l.points - l.point-index) ≤ vec_capacity l.buffer;
+  items : items_of l.entries.items ≡ items_of l.initial.entries.items ++ map (entry_of l.number) (coordinates_of (take l.point-index l.points));
+  room : vec_len l.entries + (length l.points - l.point-index) ≤ vec_capacity l.entries;
 }

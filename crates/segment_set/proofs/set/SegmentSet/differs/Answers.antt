@@ -2,7 +2,6 @@
 use Rattle.std.proofs.Common.{◌≡◌, Bool, true, false, not, List, [], ◌∷◌, length, refl, sym, ap, subst, ◌∙◌, arith}
 use Rattle.std.proofs.lemmas.Bool.{eqb-true}
 use Rattle.std.specs.List.{All}
-use Rattle.point_codec.specs.Seen.{items_of}
 use Rattle.live_bits.specs.LiveSet.{IsLiveSet}
 use Rattle.segment_view.specs.Parts.{Part}
 use Rattle.segment_set.specs.Sets.{SetData}
@@ -15,11 +14,11 @@ use Rattle.segment_set.proofs.set.SegmentSet.differs.Goals as goal
 abbrev here : (g : given.Over) (c : goal.After-are_listed g) → SetData
 here g c = record {
   leaf = c.self.inside.leaf;
-  next = c.self.inside.next;
+  next = c.self.inside.buffer.next;
   given = c.self.inside.given;
   names = c.self.inside.names;
   parts = c.self.inside.segments;
-  buffer = items_of c.self.inside.buffer.items;
+  buffer = c.self.inside.buffer.items;
   snapshots = c.self.inside.snapshots.items;
   begun = c.self.inside.begun;
   cache = c.self.inside.cache;
@@ -40,8 +39,8 @@ returns-clause-same g c = (
       subst (λ (s : SetData). IsAsCommitted s c.args.c.now) c.self.view_is
       (as_committed (here g c) c.args.c.now c.heads.result.now c.lives.result.now c.listed.result.now c.heads.ensures.value c.lives.ensures
       c.listed.ensures.value
-      (c.if-self-next.false ∙ c.next.ensures.value) (c.if-self-given.false ∙ c.given.ensures.value)
-      (ap items_of (none c.self.inside.buffer.items (sym c.self.inside.buffer.ok.0 ∙ eqb-true _ _ (sym c.if-not-is_empty.ensures))))
+      (sym c.next.ensures ∙ c.if-next.false ∙ c.next-2.ensures.value) (c.if-self-given.false ∙ c.given.ensures.value)
+      (none c.self.inside.buffer.items (eqb-true (length c.self.inside.buffer.items) 0 (sym c.is_empty.ensures ∙ c.if-not-is_empty.false)))
       (c.are_listed.ensures.same.0 (listed c.are_listed.result e))),
   λ is.
       ap not

@@ -2,7 +2,7 @@ use Rattle.std.proofs.Common.{◌∙◌, List, Some, refl, sym, ap, subst}
 use Rattle.std.specs.Prelude.{IsTrue}
 use Rattle.std.specs.List.{AllZip}
 use Rattle.commit_list.specs.declared.listed.Listed.{Listed}
-use Rattle.commit_list.specs.Commits.{CommitData}
+use Rattle.commit_list.specs.Commits.{CommitData, IsCommit}
 use Rattle.segment_set.specs.Sets.{IsWell, SetData}
 use Rattle.segment_set.specs.Kept.{IsCommitOf, KeepsNamed}
 use Rattle.segment_set.specs.Saved.{IsSaved}
@@ -53,19 +53,37 @@ returns-in_err-again-clause-well g c = subst (IsWell g.row.D) c.self.view_is c.s
 
 pub new-kept-requires : goal.new-kept-requires
 new-kept-requires g c =
-    is_commit g.row.D _ c.next_segment-next_segment.result c.in_ok-again.again.items c.self.invariant c.heads.ensures.ascend
+    subst (λ n.
+    IsCommit (record {
+      dims = g.row.D;
+      leaf = c.self.inside.leaf;
+      next = n;
+      given = c.self.inside.given;
+      next_segment = c.next_segment-next_segment.result;
+      listed = c.in_ok-again.again.items;
+    })) (sym c.next-next.ensures)
+    (is_commit g.row.D _ c.next_segment-next_segment.result c.in_ok-again.again.items c.self.invariant c.heads.ensures.ascend
     (subst (λ (ls : List Listed). AllZip (IsLine c.next_segment-next_segment.result) ls c.self.inside.segments)
     (sym (c.in_ok-again.ensures.items ∙ c.as_slice.ensures.value))
     (saved_lines (IsTrue g.F.Pages.told) c.self.inside.names c.write_lives.new.names (g.F.Pages.files c.write_lives.new.folder)
     c.next_segment-next_segment.result c.in_ok-listed.listed.items c.self.inside.segments
-    c.next_segment-next_segment.ensures.value c.in_ok-listed.ensures.listed))
+    c.next_segment-next_segment.ensures.value c.in_ok-listed.ensures.listed)))
 
 pub new-requires : goal.new-requires
 new-requires g c =
-    is_commit g.row.D _ c.next_segment-next_segment.result c.in_ok-listed.listed.items c.self.invariant c.heads.ensures.ascend
+    subst (λ n.
+    IsCommit (record {
+      dims = g.row.D;
+      leaf = c.self.inside.leaf;
+      next = n;
+      given = c.self.inside.given;
+      next_segment = c.next_segment-next_segment.result;
+      listed = c.in_ok-listed.listed.items;
+    })) (sym c.next-next.ensures)
+    (is_commit g.row.D _ c.next_segment-next_segment.result c.in_ok-listed.listed.items c.self.invariant c.heads.ensures.ascend
     (saved_lines (IsTrue g.F.Pages.told) c.self.inside.names c.write_lives.new.names (g.F.Pages.files c.write_lives.new.folder)
     c.next_segment-next_segment.result c.in_ok-listed.listed.items c.self.inside.segments
-    c.next_segment-next_segment.ensures.value c.in_ok-listed.ensures.listed)
+    c.next_segment-next_segment.ensures.value c.in_ok-listed.ensures.listed))
 
 pub returns-clause-alone : goal.returns-clause-alone
 returns-clause-alone g c = but_saved c.args.self.now _ c.self.view_is c.write_lives.new.names (Some c.new-kept.result)
@@ -87,7 +105,7 @@ returns-clause-saved g c =
     record {
       dims = g.row.D;
       leaf = c.self.inside.leaf;
-      next = c.self.inside.next;
+      next = c.next-next.result;
       given = c.self.inside.given;
       next_segment = c.next_segment-next_segment.result;
       listed = ls;
@@ -96,7 +114,17 @@ returns-clause-saved g c =
 
 pub returns-clause-commit : goal.returns-clause-commit
 returns-clause-commit g c =
-    subst (IsCommitOf g.row.D _) (sym c.new.ensures)
+    subst (IsCommitOf g.row.D _)
+    (sym (c.new.ensures
+    ∙ ap (λ n.
+    record {
+      dims = g.row.D;
+      leaf = c.self.inside.leaf;
+      next = n;
+      given = c.self.inside.given;
+      next_segment = c.next_segment-next_segment.result;
+      listed = c.in_ok-listed.listed.items;
+    }) c.next-next.ensures))
     (commit_of_set g.row.D (IsTrue g.F.Pages.told) c.self.inside.names (g.F.Pages.files c.write_lives.new.folder) _ c.next_segment-next_segment.result
     c.in_ok-listed.listed.items c.next_segment-next_segment.ensures.value
     (well_names g.row.D (IsTrue g.F.Pages.told) (g.F.Pages.files c.args.folder.now) (g.F.Pages.files c.write_lives.new.folder) _ c.write_lives.new.names

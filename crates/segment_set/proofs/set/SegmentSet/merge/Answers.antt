@@ -1,7 +1,6 @@
 use Rattle.std.proofs.Common.{◌≡◌, ◌≤◌, length, lit<, IsTrue, refl, sym, ap, subst, ◌∙◌}
 use Rattle.std.specs.Result.{OnOk}
 use Rattle.std.proofs.lemmas.Result.{on_err_weaker, on_ok_weaker}
-use Rattle.point_codec.specs.Seen.{items_of}
 use Rattle.documents.proofs.Kept.{among_to}
 use Rattle.page_cache.specs.Cache.{Agrees}
 use Rattle.page_cache.specs.Evidence.{OnDamage}
@@ -29,11 +28,11 @@ use Rattle.segment_set.proofs.set.SegmentSet.merge.Goals as goal
 abbrev was : (g : given.Over) (c : goal.After-merge g) → SetData
 was g c = record {
   leaf = c.self.inside.leaf;
-  next = c.self.inside.next;
+  next = c.self.inside.buffer.next;
   given = c.self.inside.given;
   names = c.self.inside.names;
   parts = c.self.inside.segments;
-  buffer = items_of c.self.inside.buffer.items;
+  buffer = c.self.inside.buffer.items;
   snapshots = c.self.inside.snapshots.items;
   begun = c.self.inside.begun;
   cache = c.self.inside.cache;
@@ -42,7 +41,7 @@ was g c = record {
 
 -- and as it is
 abbrev is : (g : given.Over) (c : goal.After-merge g) → SetData
-is g c = moved (was g c) c.merge.new.names c.merge.new.segments (items_of c.self.inside.buffer.items) c.self.inside.begun c.merge.new.cache
+is g c = moved (was g c) c.merge.new.names c.merge.new.segments c.self.inside.buffer.items c.self.inside.begun c.merge.new.cache
 
 apart : (g : given.Over) (c : goal.After-merge g) → IsApart c.args.ids.now (inputs_of c.self.inside.begun) c.self.inside.segments
 apart g c = subst (λ (s : SetData). IsApart c.args.ids.now (inputs_of s.begun) s.parts) (sym c.self.view_is) c.requires
@@ -94,7 +93,7 @@ moves : (g : given.Over) (c : goal.After-merge g)
     → Rearranges g.row.D (IsTrue g.F.Pages.told) (g.F.Pages.files c.args.folder.now) (g.F.Pages.files c.merge.new.folder) (was g c) (is g c)
 moves g c =
     rearranges_after g.row.D (IsTrue g.F.Pages.told) (g.F.Pages.files c.args.folder.now) (g.F.Pages.files c.merge.new.folder) {s = was g c} c.merge.new.names
-    c.merge.new.segments (items_of c.self.inside.buffer.items) c.merge.new.cache
+    c.merge.new.segments c.self.inside.buffer.items c.merge.new.cache
     c.merge.ensures.kept (after g c)
 
 entries : (g : given.Over) (c : goal.After-merge g)
@@ -176,5 +175,5 @@ returns-clause-alone g c = but_parts c.args.self.now (was g c) c.self.view_is c.
 
 pub returns-clause-refused : goal.returns-clause-refused
 returns-clause-refused g c = on_err_weaker c.merge.result
-    (λ same. before_moved c.args.self.now (was g c) c.self.view_is c.merge.new.names c.merge.new.segments (items_of c.self.inside.buffer.items)
+    (λ same. before_moved c.args.self.now (was g c) c.self.view_is c.merge.new.names c.merge.new.segments c.self.inside.buffer.items
     c.merge.new.cache same refl) c.merge.ensures.refused

@@ -1,7 +1,6 @@
 use Rattle.std.proofs.Common.{◌≡◌, ◌≤◌, ◌<◌, ℕ, true, List, length, take, ltb, Some, Err, refl, sym, ap, subst, ◌∙◌, lit<}
 use Rattle.std.specs.List.{All, filter}
 use Rattle.std.proofs.lemmas.Result.{err_from_is_err_and}
-use Rattle.point_codec.specs.Seen.{items_of}
 use Rattle.outer_io.specs.Files.{Files}
 use Rattle.documents.specs.Entries.{is_among}
 use Rattle.page_cache.specs.Cache.{Agrees}
@@ -31,11 +30,11 @@ use Rattle.segment_set.proofs.set.SegmentSet.merge_begin.Goals as goal
 abbrev set_of : {D : ℕ} → Inside D → SetData
 set_of s = record {
   leaf = s.leaf;
-  next = s.next;
+  next = s.buffer.next;
   given = s.given;
   names = s.names;
   parts = s.segments;
-  buffer = items_of s.buffer.items;
+  buffer = s.buffer.items;
   snapshots = s.snapshots.items;
   begun = s.begun;
   cache = s.cache;
@@ -157,7 +156,7 @@ returns-clause-seen g c = λ told i seen.
     let h = subst (λ (u : SetData). Sees g.row.D (g.F.Pages.files c.args.folder.now) u i) (sym c.self.view_is) seen in
     let calm = c.gathered.ensures.calm in
     subst (λ (f : Files). Sees g.row.D f
-    (moved (set_of c.self.inside) c.self.inside.names c.self.inside.segments (items_of c.self.inside.buffer.items) (Some (merge_of g c)) c.gathered.new.cache)
+    (moved (set_of c.self.inside) c.self.inside.names c.self.inside.segments c.self.inside.buffer.items (Some (merge_of g c)) c.gathered.new.cache)
     (record i { begun = true }))
     (sym (calm.files told))
     (begun_seen g.row.D (g.F.Pages.files c.args.folder.now) (set_of c.self.inside) i h (merge_of g c) c.gathered.new.cache

@@ -1,7 +1,6 @@
 use Rattle.std.proofs.Common.{◌≡◌, ℕ, true, IsTrue, List, Option, sym, ap, subst, ◌∙◌, lit<, None, refl}
 use Rattle.std.proofs.lemmas.List.Elements.{All-contains}
 use Rattle.std.proofs.lemmas.Result.{err_from_is_err_and}
-use Rattle.point_codec.specs.Seen.{items_of}
 use Rattle.documents.specs.Entries.{is_among}
 use Rattle.documents.proofs.Kept.{among_to}
 use Rattle.segment_view.specs.Parts.{Part, ids_of}
@@ -31,11 +30,11 @@ use Rattle.segment_set.proofs.set.SegmentSet.merge_end.Goals as goal
 abbrev set_of : {D : ℕ} → Inside D → SetData
 set_of s = record {
   leaf = s.leaf;
-  next = s.next;
+  next = s.buffer.next;
   given = s.given;
   names = s.names;
   parts = s.segments;
-  buffer = items_of s.buffer.items;
+  buffer = s.buffer.items;
   snapshots = s.snapshots.items;
   begun = s.begun;
   cache = s.cache;
@@ -50,7 +49,7 @@ WasReplaced g c o ids =
 -- a refusal leaves the set
 refused : (g : given.Over) (c : goal.After-from_residual g)
     → IsAfter g.row.D (IsTrue g.F.Pages.told) (g.F.Pages.files c.args.folder.now) (g.F.Pages.files c.replace.new.folder) (set_of c.self.inside)
-    (moved (set_of c.self.inside) c.replace.new.names c.self.inside.segments (items_of c.self.inside.buffer.items) c.self.inside.begun c.self.inside.cache)
+    (moved (set_of c.self.inside) c.replace.new.names c.self.inside.segments c.self.inside.buffer.items c.self.inside.begun c.self.inside.cache)
 refused g c =
     refused_after g.row.D (IsTrue g.F.Pages.told) (g.F.Pages.files c.args.folder.now) (g.F.Pages.files c.replace.new.folder) {s = set_of c.self.inside}
     c.self.invariant c.replace.new.names c.in_err-replace.ensures.kept
@@ -81,7 +80,7 @@ replace-requires g c =
 pub invariant_of-self : goal.invariant_of-self
 invariant_of-self g c =
     subst (λ (ps : List Part).
-    IsWell g.row.D (moved (set_of c.self.inside) c.replace.new.names ps (items_of c.self.inside.buffer.items) c.self.inside.begun c.self.inside.cache))
+    IsWell g.row.D (moved (set_of c.self.inside) c.replace.new.names ps c.self.inside.buffer.items c.self.inside.begun c.self.inside.cache))
     (sym c.in_err-replace.ensures.refused) (refused g c).well
 
 pub returns-in_err-replace-clause-refused : goal.returns-in_err-replace-clause-refused
@@ -90,17 +89,17 @@ returns-in_err-replace-clause-refused g c = λ told i seen.
     rw p.1
     (subst (λ (ps : List Part).
     Sees g.row.D (g.F.Pages.files c.replace.new.folder)
-    (moved (set_of c.self.inside) c.replace.new.names ps (items_of c.self.inside.buffer.items) c.self.inside.begun c.self.inside.cache) i)
+    (moved (set_of c.self.inside) c.replace.new.names ps c.self.inside.buffer.items c.self.inside.begun c.self.inside.cache) i)
     (sym c.in_err-replace.ensures.refused)
     ((refused g c).seen told i (subst (λ (s : SetData). Sees g.row.D (g.F.Pages.files c.args.folder.now) s i) (sym c.self.view_is) seen)))
 
 pub returns-in_err-replace-clause-stays : goal.returns-in_err-replace-clause-stays
 returns-in_err-replace-clause-stays g c =
     subst (λ (s : SetData). StaysAlone s
-    (moved (set_of c.self.inside) c.replace.new.names c.replace.new.segments (items_of c.self.inside.buffer.items) s.begun c.self.inside.cache)) c.self.view_is
+    (moved (set_of c.self.inside) c.replace.new.names c.replace.new.segments c.self.inside.buffer.items s.begun c.self.inside.cache)) c.self.view_is
     (subst (λ (ps : List Part).
     StaysAlone (set_of c.self.inside)
-    (moved (set_of c.self.inside) c.replace.new.names ps (items_of c.self.inside.buffer.items) c.self.inside.begun c.self.inside.cache))
+    (moved (set_of c.self.inside) c.replace.new.names ps c.self.inside.buffer.items c.self.inside.begun c.self.inside.cache))
     (sym c.in_err-replace.ensures.refused) (refused g c).stays)
 
 pub returns-in_err-replace-clause-follows : goal.returns-in_err-replace-clause-follows
@@ -146,7 +145,7 @@ returns-clause-parts g c = λ b is.
 pub returns-clause-stays : goal.returns-clause-stays
 returns-clause-stays g c =
     subst (λ (s : SetData). StaysAlone s
-    (moved (set_of c.self.inside) c.replace.new.names c.replace.new.segments (items_of c.self.inside.buffer.items) s.begun c.self.inside.cache)) c.self.view_is
+    (moved (set_of c.self.inside) c.replace.new.names c.replace.new.segments c.self.inside.buffer.items s.begun c.self.inside.cache)) c.self.view_is
     (end_stays g.row.D (IsTrue g.F.Pages.told) (g.F.Pages.files c.args.folder.now) (g.F.Pages.files c.replace.new.folder) {s = set_of c.self.inside}
     c.replace.new.names c.replace.new.segments c.in_ok-replace.ensures.kept c.in-Some.begun c.in-Some.is (replaced g c)
     c.self.invariant)
@@ -168,14 +167,14 @@ returns-clause-canon g c = λ told.
 pub returns-in_err-replace-clause-faithful : goal.returns-in_err-replace-clause-faithful
 returns-in_err-replace-clause-faithful g c = λ told faithful.
     faithful_named g.row.D (g.F.Pages.files c.args.folder.now) (g.F.Pages.files c.replace.new.folder) (set_of c.self.inside)
-    (moved (set_of c.self.inside) c.replace.new.names c.replace.new.segments (items_of c.self.inside.buffer.items) c.self.inside.begun c.self.inside.cache)
+    (moved (set_of c.self.inside) c.replace.new.names c.replace.new.segments c.self.inside.buffer.items c.self.inside.begun c.self.inside.cache)
     c.self.invariant (c.in_err-replace.ensures.kept.files told) c.in_err-replace.ensures.refused refl refl
     (subst (IsFaithful g.row.D (g.F.Pages.files c.args.folder.now)) (sym c.self.view_is) faithful)
 
 pub returns-clause-faithful : goal.returns-clause-faithful
 returns-clause-faithful g c = λ told faithful.
     faithful_replaced g.row.D (IsTrue g.F.Pages.told) (g.F.Pages.files c.args.folder.now) (g.F.Pages.files c.replace.new.folder) (set_of c.self.inside)
-    (moved (set_of c.self.inside) c.replace.new.names c.replace.new.segments (items_of c.self.inside.buffer.items) None c.self.inside.cache) c.self.invariant
+    (moved (set_of c.self.inside) c.replace.new.names c.replace.new.segments c.self.inside.buffer.items None c.self.inside.cache) c.self.invariant
     c.in_ok-replace.ensures.kept
     (end_follows g.row.D (IsTrue g.F.Pages.told) (g.F.Pages.files c.args.folder.now) (g.F.Pages.files c.replace.new.folder) {s = set_of c.self.inside}
     c.replace.new.names c.replace.new.segments c.in_ok-replace.ensures.kept c.in-Some.begun c.in-Some.is (replaced g c)
@@ -187,7 +186,7 @@ returns-clause-faithful g c = λ told faithful.
 
 pub returns-in_err-replace-clause-alone : goal.returns-in_err-replace-clause-alone
 returns-in_err-replace-clause-alone g c = at_error _ c.from_residual.result c.from_residual.ensures.1 _
-    (before_moved c.args.self.now (set_of c.self.inside) c.self.view_is c.replace.new.names c.replace.new.segments (items_of c.self.inside.buffer.items)
+    (before_moved c.args.self.now (set_of c.self.inside) c.self.view_is c.replace.new.names c.replace.new.segments c.self.inside.buffer.items
     c.self.inside.cache c.in_err-replace.ensures.refused refl)
 
 pub returns-in_err-replace-clause-replaced : goal.returns-in_err-replace-clause-replaced

@@ -1,7 +1,6 @@
 -- A set without documents keeps to its rules, and is seen as a new index.
 use Rattle.std.proofs.Common.{◌≡◌, sym, ap, subst, ◌∙◌}
 use Rattle.outer_io.specs.declared.file_name.FileName.TheVariants.{Commit}
-use Rattle.point_codec.specs.Seen.{items_of}
 use Rattle.index_model.specs.State.{new_index}
 use Rattle.file_names.specs.Names.{NameList, is_named}
 use Rattle.file_names.proofs.Listed.{is_named-none}
@@ -15,9 +14,9 @@ use Rattle.segment_set.proofs.set.SegmentSet.new.Goals as goal
 
 fields : (g : given.Over) (c : goal.In_ok-new g)
     → record (empty_set c.args.leaf c.new.result c.in_ok-new.field-0)
-    { parts = c.new-2.result; buffer = items_of c.new-3.result.items; snapshots = c.new-4.result.items }
+    { next = c.new-3.result.next; parts = c.new-2.result; buffer = c.new-3.result.items; snapshots = c.new-4.result.items }
     ≡ empty_set c.args.leaf c.new.result c.in_ok-new.field-0
-fields g c = empty_is _ _ _ _ _ _ c.new-2.ensures (ap items_of c.new-3.ensures.items) c.new-4.ensures.items
+fields g c = empty_is _ _ _ _ _ _ _ c.new-3.ensures.next c.new-2.ensures c.new-3.ensures.items c.new-4.ensures.items
 
 pub invariant_of-result : goal.invariant_of-result
 invariant_of-result g c =

@@ -2,7 +2,6 @@
 use Rattle.std.proofs.Common.{◌≡◌, not, sym, ap, subst, ◌∙◌}
 use Rattle.std.specs.List.{filter}
 use Rattle.std.specs.Str.{bytes_eq}
-use Rattle.point_codec.specs.Seen.{items_of}
 use Rattle.index_model.specs.State.{Snapshot}
 use Rattle.segment_set.specs.Sets.{IsWell, SetData}
 use Rattle.segment_set.specs.Seen.{Sees}
@@ -16,11 +15,11 @@ use Rattle.segment_set.proofs.set.SegmentSet.release.Goals as goal
 abbrev old : (g : given.Over) (c : goal.After-let_go g) → SetData
 old g c = record {
   leaf = c.self.inside.leaf;
-  next = c.self.inside.next;
+  next = c.self.inside.buffer.next;
   given = c.self.inside.given;
   names = c.self.inside.names;
   parts = c.self.inside.segments;
-  buffer = items_of c.self.inside.buffer.items;
+  buffer = c.self.inside.buffer.items;
   snapshots = c.self.inside.snapshots.items;
   begun = c.self.inside.begun;
   cache = c.self.inside.cache;

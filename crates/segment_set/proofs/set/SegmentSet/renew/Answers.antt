@@ -1,7 +1,6 @@
 -- The other set, with this one's list of names.
 use Rattle.std.proofs.Common.{◌≡◌, ℕ, true, refl, sym, ap, subst, ◌∙◌}
 use Rattle.outer_io.specs.declared.file_name.FileName.TheVariants.{Segment}
-use Rattle.point_codec.specs.Seen.{items_of}
 use Rattle.file_names.specs.Names.{is_named}
 use Rattle.segment_set.specs.Sets.{IsWell, SetData}
 use Rattle.segment_set.specs.Seen.{Sees}
@@ -16,11 +15,11 @@ use Rattle.segment_set.proofs.set.SegmentSet.renew.Goals.{After-drop-set-inside}
 abbrev other : (g : given.Over) (c : After-drop-set-inside g) → SetData
 other g c = record {
   leaf = c.set.inside.leaf;
-  next = c.set.inside.next;
+  next = c.set.inside.buffer.next;
   given = c.set.inside.given;
   names = c.set.inside.names;
   parts = c.set.inside.segments;
-  buffer = items_of c.set.inside.buffer.items;
+  buffer = c.set.inside.buffer.items;
   snapshots = c.set.inside.snapshots.items;
   begun = c.set.inside.begun;
   cache = c.set.inside.cache;

@@ -1,7 +1,6 @@
 -- No snapshot stays, and no begun merge.
 use Rattle.std.proofs.Common.{◌≡◌, [], None, sym, ap, subst, ◌∙◌}
 use Rattle.index_model.specs.State.{at_rest}
-use Rattle.point_codec.specs.Seen.{items_of}
 use Rattle.segment_set.specs.Sets.{IsWell, SetData}
 use Rattle.segment_set.specs.Seen.{Sees}
 use Rattle.segment_set.specs.Faithful.{IsFaithful}
@@ -13,11 +12,11 @@ use Rattle.segment_set.proofs.set.SegmentSet.rest.Goals as goal
 abbrev old : (g : given.Over) (c : goal.Joined-self g) → SetData
 old g c = record {
   leaf = c.self.inside.leaf;
-  next = c.self.inside.next;
+  next = c.self.inside.buffer.next;
   given = c.self.inside.given;
   names = c.self.inside.names;
   parts = c.self.inside.segments;
-  buffer = items_of c.self.inside.buffer.items;
+  buffer = c.self.inside.buffer.items;
   snapshots = c.self.inside.snapshots.items;
   begun = c.self.inside.begun;
   cache = c.self.inside.cache;

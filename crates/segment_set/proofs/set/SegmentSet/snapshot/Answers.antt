@@ -13,21 +13,28 @@ use Rattle.segment_set.proofs.set.SegmentSet.snapshot.Goals as goal
 abbrev old : (g : given.Over) (c : goal.After-push_reserved g) → SetData
 old g c = record {
   leaf = c.self.inside.leaf;
-  next = c.self.inside.next;
+  next = c.self.inside.buffer.next;
   given = c.self.inside.given;
   names = c.self.inside.names;
   parts = c.self.inside.segments;
-  buffer = items_of c.self.inside.buffer.items;
+  buffer = c.self.inside.buffer.items;
   snapshots = c.self.inside.snapshots.items;
   begun = c.self.inside.begun;
   cache = c.self.inside.cache;
   saved = c.self.inside.saved;
 }
 
-fields : (g : given.Over) (c : goal.After-push_reserved g) → record (old g c) { snapshots = c.push_reserved.new.self.items } ≡ set_snapped c.args.name (old g c)
+-- the buffer has the same still
+settled : (g : given.Over) (c : goal.After-push_reserved g) → record (old g c) { next = c.settle.new.self.next; buffer = c.settle.new.self.items } ≡ old g c
+settled g c = λ i. record (old g c) { next = c.settle.ensures.next i; buffer = c.settle.ensures.items i }
+
+fields : (g : given.Over) (c : goal.After-push_reserved g)
+    → record (old g c) { next = c.settle.new.self.next; buffer = c.settle.new.self.items; snapshots = c.push_reserved.new.self.items }
+    ≡ set_snapped c.args.name (old g c)
 fields g c =
-    snapped_is (old g c) c.args.name c.reserve.new.self.items c.push_reserved.new.self.items c.in_ok-segments.segments (items_of c.in_ok-buffer.buffer.items)
-    c.reserve.ensures.items c.in_ok-segments.ensures (ap items_of (c.in_ok-buffer.ensures.items ∙ c.as_slice-2.ensures.value)) c.push_reserved.ensures.items
+    (λ i. record (settled g c i) { snapshots = c.push_reserved.new.self.items })
+    ∙ snapped_is (old g c) c.args.name c.reserve.new.self.items c.push_reserved.new.self.items c.in_ok-segments.segments (items_of c.in_ok-buffer.buffer.items)
+    c.reserve.ensures.items c.in_ok-segments.ensures (ap items_of c.in_ok-buffer.ensures.items ∙ c.as_slice-2.ensures ∙ c.settle.ensures.items) c.push_reserved.ensures.items
 
 pub invariant_of-self-2 : goal.invariant_of-self-2
 invariant_of-self-2 g c =

@@ -8,10 +8,10 @@ use Rattle.segment_set.proofs.Viewed.{looked_parts}
 use Rattle.segment_set.proofs.set.SegmentSet.survey.Given as given
 use Rattle.segment_set.proofs.set.SegmentSet.survey.Goals as goal
 
-parts_are : (g : given.Over) (c : goal.After-survey g) → c.view_of.result.0.now ≡ viewed_parts (viewed c.args.view.now) c.args.self.now
+parts_are : (g : given.Over) (c : goal.After-survey g) → c.segments_of-segments.result.now ≡ viewed_parts (viewed c.args.view.now) c.args.self.now
 parts_are g c =
     looked_parts _ _ (viewed c.args.view.now) _ c.self.view_is
-    (c.view_of.ensures.segments ∙ ap (parts_at (viewed c.args.view.now) c.self.inside.segments) c.as_slice-2.ensures.value)
+    (c.segments_of-segments.ensures ∙ ap (parts_at (viewed c.args.view.now) c.self.inside.segments) c.as_slice.ensures.value)
 
 pub returns-clause-tested : goal.returns-clause-tested
 returns-clause-tested g c =

@@ -9,33 +9,62 @@ use Rattle.segment_view.specs.Parts.{Part, heads_of}
 use Rattle.segment_view.specs.Costs.{AreTested, AreTouched, leaves_in}
 use Rattle.segment_view.specs.Damages.{IsPartDamage}
 use Rattle.index_model.specs.State.{Index}
-use Rattle.segment_set.specs.Sets.{SetData, buffer_at, parts_at, viewed_buffer, viewed_parts}
+use Rattle.segment_set.specs.Sets.{IsWell, SetData, buffer_at, parts_at, viewed_buffer, viewed_parts}
 use Rattle.segment_set.specs.Seen.{Sees}
+use Rattle.segment_set.specs.Faithful.{IsFaithful}
 use Rattle.segment_set.proofs.Viewed.{looked_buffer, looked_found, looked_parts, looked_read, looked_sees, looked_well}
 use Rattle.segment_set.proofs.Viewing.{looked_evident, looked_faithful}
 use Rattle.segment_set.proofs.set.SegmentSet.visit.Given as given
 use Rattle.segment_set.proofs.set.SegmentSet.visit.Goals as goal
 
+-- the set as it was, by its fields
+abbrev was : (g : given.Over) (c : goal.After-visit g) → SetData
+was g c = record {
+  leaf = c.self.inside.leaf;
+  next = c.self.inside.buffer.next;
+  given = c.self.inside.given;
+  names = c.self.inside.names;
+  parts = c.self.inside.segments;
+  buffer = c.self.inside.buffer.items;
+  snapshots = c.self.inside.snapshots.items;
+  begun = c.self.inside.begun;
+  cache = c.self.inside.cache;
+  saved = c.self.inside.saved;
+}
+
+-- and as it is, which but for its cache is the same
+abbrev is : (g : given.Over) (c : goal.After-visit g) → SetData
+is g c = record (was g c) { next = c.settle_for.new.buffer.next; buffer = c.settle_for.new.buffer.items; cache = c.visit.new.cache }
+
+same : (g : given.Over) (c : goal.After-visit g) → is g c ≡ record (was g c) { cache = c.visit.new.cache }
+same g c = λ i. record (was g c) {
+  next = c.settle_for.ensures.next i;
+  buffer = c.settle_for.ensures.items i;
+  cache = c.visit.new.cache;
+}
+
 here : (g : given.Over) (c : goal.After-visit g)
     → c.view_of.result.0.now ≡ parts_at (viewed c.args.view.now) c.self.inside.segments c.self.inside.snapshots.items
-here g c = c.view_of.ensures.segments ∙ ap (parts_at (viewed c.args.view.now) c.self.inside.segments) c.as_slice-2.ensures.value
+here g c = c.view_of.ensures.segments ∙ ap (parts_at (viewed c.args.view.now) c.self.inside.segments) c.as_slice.ensures.value
 
 parts_are : (g : given.Over) (c : goal.After-visit g) → c.view_of.result.0.now ≡ viewed_parts (viewed c.args.view.now) c.args.self.now
-parts_are g c = looked_parts _ _ (viewed c.args.view.now) _ c.self.view_is (here g c)
+parts_are g c = looked_parts (was g c) _ (viewed c.args.view.now) _ c.self.view_is (here g c)
 
 buffer_is : (g : given.Over) (c : goal.After-visit g) → items_of c.view_of.result.1.now ≡ viewed_buffer (viewed c.args.view.now) c.args.self.now
 buffer_is g c =
-    looked_buffer _ _ (viewed c.args.view.now) _ c.self.view_is
+    looked_buffer (was g c) _ (viewed c.args.view.now) _ c.self.view_is
     (c.view_of.ensures.buffer
-    ∙ ap (λ xs. buffer_at (viewed c.args.view.now) (items_of xs) c.as_slice-2.result.now) c.as_slice.ensures.value
-    ∙ ap (buffer_at (viewed c.args.view.now) (items_of c.self.inside.buffer.items)) c.as_slice-2.ensures.value)
+    ∙ ap (λ xs. buffer_at (viewed c.args.view.now) xs c.as_slice.result.now) c.settle_for.ensures.items
+    ∙ ap (buffer_at (viewed c.args.view.now) c.self.inside.buffer.items) c.as_slice.ensures.value)
 
 agreed : (g : given.Over) (c : goal.After-visit g) (i : Index) → Sees g.row.D (g.F.Pages.files c.args.folder.now) c.args.self.now i
     → Agrees (g.F.Pages.files c.args.folder.now) c.self.inside.cache
 agreed g c i seen = subst (λ (u : SetData). Agrees (g.F.Pages.files c.args.folder.now) u.cache) (sym c.self.view_is) seen.stands.agrees
 
 pub invariant_of-self : goal.invariant_of-self
-invariant_of-self g c = looked_well _ _ _ _ _ (viewed c.args.view.now) _ _ c.self.invariant (here g c) c.visit.ensures.calm
+invariant_of-self g c =
+    subst (IsWell g.row.D) (sym (same g c))
+    (looked_well _ _ _ _ (was g c) (viewed c.args.view.now) _ _ c.self.invariant (here g c) c.visit.ensures.calm)
 
 pub returns-clause-found : goal.returns-clause-found
 returns-clause-found g c told i seen docs is =
@@ -43,7 +72,12 @@ returns-clause-found g c told i seen docs is =
     (c.visit.ensures.found told (agreed g c i seen) seen.contents (looked_read _ _ _ i _ _ (parts_are g c) seen))
 
 pub returns-clause-seen : goal.returns-clause-seen
-returns-clause-seen g c told i seen = looked_sees _ _ _ _ _ _ _ _ c.self.view_is c.visit.ensures.calm told i seen
+returns-clause-seen g c told i seen =
+    subst (λ (s : SetData). Sees g.row.D (g.F.Pages.files c.visit.new.folder) s i) (sym (same g c))
+    (looked_sees _ _ _ _ (was g c) _ _ _ c.self.view_is c.visit.ensures.calm told i seen)
+
+pub returns-clause-alone : goal.returns-clause-alone
+returns-clause-alone g c = record { is = same g c ∙ (λ i. record (c.self.view_is i) { cache = c.visit.new.cache }) }
 
 pub returns-clause-tests : goal.returns-clause-tests
 returns-clause-tests g c n are =
@@ -69,7 +103,9 @@ returns-clause-whole g c told i seen =
     c.visit.ensures.whole told (agreed g c i seen) seen.contents (looked_read _ _ _ i _ _ (parts_are g c) seen)
 
 pub returns-clause-faithful : goal.returns-clause-faithful
-returns-clause-faithful g c told keeps = looked_faithful g.row.D _ _ _ _ _ _ _ c.self.view_is c.visit.ensures.calm told keeps
+returns-clause-faithful g c told keeps =
+    subst (IsFaithful g.row.D (g.F.Pages.files c.visit.new.folder)) (sym (same g c))
+    (looked_faithful g.row.D _ _ _ (was g c) _ _ _ c.self.view_is c.visit.ensures.calm told keeps)
 
 pub returns-clause-shown : goal.returns-clause-shown
 returns-clause-shown g c = subst (λ (ps : List Part). OnDamage c.visit.result (IsPartDamage g.row.D ps)) (parts_are g c) c.visit.ensures.shown

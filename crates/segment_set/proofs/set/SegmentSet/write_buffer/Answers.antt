@@ -4,21 +4,21 @@ use Rattle.std.specs.List.{All}
 use Rattle.std.proofs.lemmas.Bool.Decides.{nat_tests}
 use Rattle.std.proofs.lemmas.Result.{on_err_weaker, on_ok_weaker}
 use Rattle.outer_io.specs.declared.file_name.FileName.TheVariants.{Segment}
-use Rattle.point_codec.specs.Seen.{items_of}
 use Rattle.page_cache.proofs.Agreement.{agrees_other}
 use Rattle.segment_view.specs.Parts.{Part}
 use Rattle.merge_policy.specs.Choice.{free_count}
 use Rattle.segment_set.specs.Sets.{IsNamed, IsWell, SetData, inputs_of, pins_of, sizes_of}
+use Rattle.segment_set.specs.Kept.{IsAsBefore}
 use Rattle.segment_set.specs.Merged.{Rearranges}
 use Rattle.segment_set.specs.Merges.{IsSpilled, part_at}
+use Rattle.segment_set.specs.Settles.{WritesBuffer, moment}
 use Rattle.segment_set.specs.Faithful.{IsFaithful}
 use Rattle.segment_set.proofs.Faithful.{faithful_rearranged}
-use Rattle.segment_set.proofs.Fresh.{items_length}
 use Rattle.segment_set.proofs.Leveled.{free_placed, pinned}
 use Rattle.segment_set.proofs.Moved.{moved}
 use Rattle.segment_set.proofs.Rearranged.{both_ok, empty_list, rearranges_after, rearranges_none, waiting_below}
 use Rattle.segment_set.proofs.Settled.{before_moved, spills_moved}
-use Rattle.segment_set.proofs.Sizes.{entry_fits, set_fits}
+use Rattle.segment_set.proofs.Sizes.{set_fits}
 use Rattle.segment_set.proofs.Spilled.{spill_after}
 use Rattle.segment_set.proofs.Steps.{IsAfter, ok_or_err}
 use Rattle.segment_set.proofs.set.SegmentSet.write_buffer.Given as given
@@ -28,11 +28,11 @@ use Rattle.segment_set.proofs.set.SegmentSet.write_buffer.Goals as goal
 abbrev was : (g : given.Over) (c : goal.After-write_buffer g) → SetData
 was g c = record {
   leaf = c.self.inside.leaf;
-  next = c.self.inside.next;
+  next = c.self.inside.buffer.next;
   given = c.self.inside.given;
   names = c.self.inside.names;
   parts = c.self.inside.segments;
-  buffer = items_of c.self.inside.buffer.items;
+  buffer = c.self.inside.buffer.items;
   snapshots = c.self.inside.snapshots.items;
   begun = c.self.inside.begun;
   cache = c.self.inside.cache;
@@ -41,7 +41,11 @@ was g c = record {
 
 -- and as it is
 abbrev is : (g : given.Over) (c : goal.After-write_buffer g) → SetData
-is g c = moved (was g c) c.write_buffer.new.names c.write_buffer.new.segments (items_of c.write_buffer.new.buffer.items) c.self.inside.begun c.self.inside.cache
+is g c = moved (was g c) c.write_buffer.new.names c.write_buffer.new.segments c.write_buffer.new.buffer.items c.self.inside.begun c.self.inside.cache
+
+-- by its fields
+now : (g : given.Over) (c : goal.After-write_buffer g) → record (is g c) { next = c.write_buffer.new.buffer.next } ≡ is g c
+now g c = λ i. record (is g c) { next = c.write_buffer.ensures.next i }
 
 few : (g : given.Over) (c : goal.After-write_buffer g) → length c.self.inside.segments < 200
 few g c = subst (λ (s : SetData). length s.parts < 200) (sym c.self.view_is) c.requires
@@ -49,12 +53,12 @@ few g c = subst (λ (s : SetData). length s.parts < 200) (sym c.self.view_is) c.
 spilled : (g : given.Over) (c : goal.After-write_buffer g)
     → OnOk c.write_buffer.result
     (IsSpilled g.row.D (IsTrue g.F.Pages.told) c.self.inside.leaf c.self.inside.names c.write_buffer.new.names (g.F.Pages.files c.write_buffer.new.folder)
-    (items_of c.self.inside.buffer.items)
+    c.self.inside.buffer.items
     c.self.inside.segments c.write_buffer.new.segments)
 spilled g c =
     subst (λ n. OnOk c.write_buffer.result
     (IsSpilled g.row.D (IsTrue g.F.Pages.told) n c.self.inside.names c.write_buffer.new.names (g.F.Pages.files c.write_buffer.new.folder)
-    (items_of c.self.inside.buffer.items)
+    c.self.inside.buffer.items
     c.self.inside.segments c.write_buffer.new.segments))
     (c.plan-plan.ensures.leaf ∙ sym (ap (λ (s : SetData). s.leaf) c.self.view_is)) c.write_buffer.ensures.spilled
 
@@ -62,14 +66,14 @@ after : (g : given.Over) (c : goal.After-write_buffer g)
     → IsAfter g.row.D (IsTrue g.F.Pages.told) (g.F.Pages.files c.args.folder.now) (g.F.Pages.files c.write_buffer.new.folder) (was g c) (is g c)
 after g c =
     spill_after g.row.D (IsTrue g.F.Pages.told) (g.F.Pages.files c.args.folder.now) (g.F.Pages.files c.write_buffer.new.folder) {s = was g c} c.self.invariant
-    c.write_buffer.new.names c.write_buffer.new.segments (items_of c.write_buffer.new.buffer.items) (few g c)
+    c.write_buffer.new.names c.write_buffer.new.segments c.write_buffer.new.buffer.items (few g c)
     c.write_buffer.ensures.kept c.write_buffer.result
     (both_ok
     (IsSpilled g.row.D (IsTrue g.F.Pages.told) c.self.inside.leaf c.self.inside.names c.write_buffer.new.names (g.F.Pages.files c.write_buffer.new.folder)
-    (items_of c.self.inside.buffer.items) c.self.inside.segments c.write_buffer.new.segments)
-    (items_of c.write_buffer.new.buffer.items ≡ [])
-    c.write_buffer.result (spilled g c) (on_ok_weaker c.write_buffer.result (λ none. ap items_of none) c.write_buffer.ensures.emptied))
-    (on_err_weaker c.write_buffer.result (λ r. (r.0, ap items_of r.1)) c.write_buffer.ensures.refused)
+    c.self.inside.buffer.items c.self.inside.segments c.write_buffer.new.segments)
+    (c.write_buffer.new.buffer.items ≡ [])
+    c.write_buffer.result (spilled g c) c.write_buffer.ensures.emptied)
+    c.write_buffer.ensures.refused
 
 pub plan-plan-requires : goal.plan-plan-requires
 plan-plan-requires g c = (set_fits g.row.D c.self.invariant.few_dims, lit< tt)
@@ -78,29 +82,29 @@ pub write_buffer-requires-after_bounds : goal.write_buffer-requires-after_bounds
 write_buffer-requires-after_bounds g c = λ lifetimes outlive.
     let entries = c.self.inside.buffer.items in
     let dims = c.self.invariant.few_dims in
-    let some : 1 ≤ length entries = grind (arith, nat_tests, c.self.inside.buffer.ok.0, c.is_empty.ensures, c.if-is_empty.false) in
+    let some : 1 ≤ length entries = grind (arith, nat_tests, c.is_empty.ensures, c.if-is_empty.false) in
     let below = waiting_below (record {
       leaf = c.self.inside.leaf;
-      next = c.self.inside.next;
+      next = c.self.inside.buffer.next;
       given = c.self.inside.given;
       names = c.self.inside.names;
       parts = c.self.inside.segments;
-      buffer = items_of c.self.inside.buffer.items;
+      buffer = c.self.inside.buffer.items;
       snapshots = c.self.inside.snapshots.items;
       begun = c.self.inside.begun;
       cache = c.self.inside.cache;
       saved = c.self.inside.saved;
-    }) c.self.invariant entries refl in (
+    }) c.self.invariant in (
       lit< tt,
       (
-        entry_fits g.row.D dims,
+        lit< tt,
         (
           lit< tt,
           (
             dims,
             (
               c.self.invariant.named,
-              (some, (omega (arith, c.self.invariant.room, items_length entries), (below, (c.self.invariant.once, c.self.invariant.sixteen)))),
+              (some, (c.self.invariant.room, (below, (c.self.invariant.once, c.self.invariant.sixteen)))),
             ),
           ),
         ),
@@ -118,22 +122,24 @@ returns-then-is_empty-clause-moves g c =
 pub returns-then-is_empty-clause-emptied : goal.returns-then-is_empty-clause-emptied
 returns-then-is_empty-clause-emptied g c =
     sym (ap (λ (s : SetData). s.buffer) c.self.view_is)
-    ∙ ap items_of (empty_list c.self.inside.buffer.items (grind (arith, nat_tests, c.self.inside.buffer.ok.0, c.is_empty.ensures, c.if-is_empty.true)))
+    ∙ empty_list c.self.inside.buffer.items (grind (arith, nat_tests, c.is_empty.ensures, c.if-is_empty.true))
 
 pub invariant_of-self : goal.invariant_of-self
-invariant_of-self g c = (after g c).well
+invariant_of-self g c = subst (IsWell g.row.D) (sym (now g c)) (after g c).well
 
 moves : (g : given.Over) (c : goal.After-write_buffer g)
     → Rearranges g.row.D (IsTrue g.F.Pages.told) (g.F.Pages.files c.args.folder.now) (g.F.Pages.files c.write_buffer.new.folder) (was g c) (is g c)
 moves g c =
     rearranges_after g.row.D (IsTrue g.F.Pages.told) (g.F.Pages.files c.args.folder.now) (g.F.Pages.files c.write_buffer.new.folder) {s = was g c}
-    c.write_buffer.new.names c.write_buffer.new.segments (items_of c.write_buffer.new.buffer.items) c.self.inside.cache
+    c.write_buffer.new.names c.write_buffer.new.segments c.write_buffer.new.buffer.items c.self.inside.cache
     c.write_buffer.ensures.kept (after g c)
 
 pub returns-clause-moves : goal.returns-clause-moves
 returns-clause-moves g c =
     subst (λ (s : SetData). Rearranges g.row.D (IsTrue g.F.Pages.told) (g.F.Pages.files c.args.folder.now) (g.F.Pages.files c.write_buffer.new.folder) s
-    (is g c)) c.self.view_is (moves g c)
+    (record (is g c) { next = c.write_buffer.new.buffer.next })) c.self.view_is
+    (subst (Rearranges g.row.D (IsTrue g.F.Pages.told) (g.F.Pages.files c.args.folder.now) (g.F.Pages.files c.write_buffer.new.folder) (was g c))
+    (sym (now g c)) (moves g c))
 
 pub returns-then-is_empty-clause-faithful : goal.returns-then-is_empty-clause-faithful
 returns-then-is_empty-clause-faithful g c = λ told faithful. faithful
@@ -141,11 +147,12 @@ returns-then-is_empty-clause-faithful g c = λ told faithful. faithful
 -- the cache stays, and the files of which it keeps pages are named
 pub returns-clause-faithful : goal.returns-clause-faithful
 returns-clause-faithful g c = λ told faithful.
-    faithful_rearranged g.row.D (IsTrue g.F.Pages.told) (g.F.Pages.files c.args.folder.now) (g.F.Pages.files c.write_buffer.new.folder) (was g c) (is g c)
+    subst (IsFaithful g.row.D (g.F.Pages.files c.write_buffer.new.folder)) (sym (now g c))
+    (faithful_rearranged g.row.D (IsTrue g.F.Pages.told) (g.F.Pages.files c.args.folder.now) (g.F.Pages.files c.write_buffer.new.folder) (was g c) (is g c)
     c.self.invariant (moves g c) told
     (agrees_other (g.F.Pages.files c.args.folder.now) (g.F.Pages.files c.write_buffer.new.folder) c.self.inside.cache
     (λ id kept. c.write_buffer.ensures.kept.files told (Segment id) (c.self.invariant.cached id kept)))
-    (subst (IsFaithful g.row.D (g.F.Pages.files c.args.folder.now)) (sym c.self.view_is) faithful)
+    (subst (IsFaithful g.row.D (g.F.Pages.files c.args.folder.now)) (sym c.self.view_is) faithful))
 
 pub returns-clause-one_more : goal.returns-clause-one_more
 returns-clause-one_more g c = λ level.
@@ -168,15 +175,19 @@ returns-then-is_empty-clause-spills g c = inl refl
 
 pub returns-clause-spills : goal.returns-clause-spills
 returns-clause-spills g c = on_ok_weaker c.write_buffer.result
-    (λ h. inr (spills_moved g.row.D (IsTrue g.F.Pages.told) (g.F.Pages.files c.args.folder.now) (g.F.Pages.files c.write_buffer.new.folder) c.args.self.now
-    (was g c) c.self.view_is c.write_buffer.new.names c.write_buffer.new.segments (items_of c.write_buffer.new.buffer.items) h.0 h.1))
+    (λ h. inr
+    (subst (λ (s : SetData). WritesBuffer g.row.D (IsTrue g.F.Pages.told) (moment (g.F.Pages.files c.args.folder.now) c.args.self.now)
+    (moment (g.F.Pages.files c.write_buffer.new.folder) s)) (sym (now g c))
+    (spills_moved g.row.D (IsTrue g.F.Pages.told) (g.F.Pages.files c.args.folder.now) (g.F.Pages.files c.write_buffer.new.folder) c.args.self.now
+    (was g c) c.self.view_is c.write_buffer.new.names c.write_buffer.new.segments c.write_buffer.new.buffer.items h.0 h.1)))
     (both_ok
     (IsSpilled g.row.D (IsTrue g.F.Pages.told) c.self.inside.leaf c.self.inside.names c.write_buffer.new.names (g.F.Pages.files c.write_buffer.new.folder)
-    (items_of c.self.inside.buffer.items) c.self.inside.segments c.write_buffer.new.segments)
-    (items_of c.write_buffer.new.buffer.items ≡ [])
-    c.write_buffer.result (spilled g c) (on_ok_weaker c.write_buffer.result (λ none. ap items_of none) c.write_buffer.ensures.emptied))
+    c.self.inside.buffer.items c.self.inside.segments c.write_buffer.new.segments)
+    (c.write_buffer.new.buffer.items ≡ [])
+    c.write_buffer.result (spilled g c) c.write_buffer.ensures.emptied)
 
 pub returns-clause-refused : goal.returns-clause-refused
 returns-clause-refused g c = on_err_weaker c.write_buffer.result
-    (λ r. before_moved c.args.self.now (was g c) c.self.view_is c.write_buffer.new.names c.write_buffer.new.segments (items_of c.write_buffer.new.buffer.items)
-    c.self.inside.cache r.0 (ap items_of r.1)) c.write_buffer.ensures.refused
+    (λ r. subst (IsAsBefore c.args.self.now) (sym (now g c))
+    (before_moved c.args.self.now (was g c) c.self.view_is c.write_buffer.new.names c.write_buffer.new.segments c.write_buffer.new.buffer.items
+    c.self.inside.cache r.0 r.1)) c.write_buffer.ensures.refused
