@@ -90,7 +90,8 @@ firsts_more byte n =
     let same : 0 + n ≡ n = omega arith in
     ap (map byte) (range_more 0 n ∙ ap (λ m. range_with_len 0 n ++ m ∷ []) same) ∙ map_push byte (range_with_len 0 n) n
 
-pub firsts_values : (byte : ℕ → ℕ) (n : ℕ) → byte n < 256 → values_of byte (n + 1) ≡ values_of byte n + cond {A = ℕ} (not (has_value (firsts byte n) (byte n))) 1 0
+pub firsts_values : (byte : ℕ → ℕ) (n : ℕ) → byte n < 256
+    → values_of byte (n + 1) ≡ values_of byte n + cond {A = ℕ} (not (has_value (firsts byte n) (byte n))) 1 0
 firsts_values byte n small = ap (λ (t : List ℕ). count_values (has_value t)) (firsts_more byte n) ∙ values_more (firsts byte n) (byte n) small
 
 pub values_grow : (byte : ℕ → ℕ) (m n : ℕ) → m ≤ n → ((i : ℕ) → i < n → byte i < 256) → values_of byte m ≤ values_of byte n

@@ -97,8 +97,8 @@ fn filled(pieces: &[u8], count: usize) -> Option<Table>
     if at == count { Some(table) } else { None }
 }
 
-/// Writes the byte to the places from `at` up to `end`, and perhaps behind it: mostly a piece is short, and eight places
-/// at once take less time than a loop to an end that is never the same.
+/// Writes the byte to the places from `at` up to `end`, and perhaps behind it: mostly a piece is short, and eight
+/// places at once take less time than a loop to an end that is never the same.
 fn fill_piece(table: &mut Table, at: usize, end: usize, byte: u8)
     requires { (at ≤ end) × (end ≤ 500) }
     ensures { take end table.new ≡ take at table.old ++ replicate (end - at) byte }
