@@ -5,7 +5,6 @@ use Rattle.std.specs.List.{range_with_len, count_by}
 use Rattle.std.proofs.lemmas.Bool.{cases_Bool, cases_eq, eq-eqb, ne_eqb, or_right}
 use Rattle.std.proofs.lemmas.List.{map_push}
 use Rattle.std.proofs.lemmas.List.Folds.{list_any-append}
-use mir.Val.{bool_byte}
 use Rattle.leaf_codec.specs.Dimensions.{count_values}
 use Rattle.leaf_codec.proofs.Counts.{count_agree, count-cons, count_none, values_agree}
 use Rattle.leaf_codec.proofs.Lists.{range_more, as_range}
@@ -73,10 +72,6 @@ values_more bytes b byte = elim (cases_Bool (has_value bytes b)) [
 pub flag_le : (b : Bool) → cond {A = ℕ} b 1 0 ≤ 1
 flag_le true = omega arith
 flag_le false = omega arith
-
-pub flag_is : (b : Bool) → bool_byte b ≡ cond {A = ℕ} b 1 0
-flag_is true = refl
-flag_is false = refl
 
 pub values_none : count_values (has_value []) ≡ 0
 unfolding count_values

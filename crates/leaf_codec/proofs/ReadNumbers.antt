@@ -47,6 +47,13 @@ offset_read count r words step mask i h lt =
     stepped (eqb r.width 0) i j + word_masked words (r.width * (i + 1)) r.width (omega arith) (word_within count r.width i words sized h.long lt) h.bytes j)
     ∙ ap (λ (t : List ℕ). cond (eqb r.width 0) i 0 + number_of (take r.width t)) chunk
 
+-- the numbers of a row are their places
+pub offset_row : (r : RawNumbers) (i : ℕ) → r.width ≡ 0 → offset_at r i ≡ i
+offset_row r i none =
+    let row : cond (eqb r.width 0) i 0 ≡ i = ap (λ (b : Bool). cond b i 0) (eq-eqb r.width 0 none) in
+    let empty : number_of (take r.width (drop (i * r.width) r.offsets)) ≡ 0 = ap (λ w. number_of (take w (drop (i * r.width) r.offsets))) none in
+    omega (arith, row, empty)
+
 pub offset_at-lt : (count : ℕ) (r : RawNumbers) (i : ℕ) → AreRawNumbers count r → count ≤ 500 → i < count → offset_at r i < 2 ^ 24
 offset_at-lt count r i h few lt =
     let chunk = take r.width (drop (i * r.width) r.offsets) in

@@ -24,7 +24,6 @@ pub record IsNumbers (n : Numbers) : Type 0 where
   pub long : 4 ≤ length n.words.now
   pub bytes : AreBytes n.words.now
   pub raw : AreRawNumbers n.count (raw_numbers_of n)
-  pub step : n.step ≡ (if n.width == 0 then 1 else 0)
   pub mask : n.mask ≡ 256 ^ n.width - 1
 
 -- the fields are those of the numbers that they say, which are document numbers

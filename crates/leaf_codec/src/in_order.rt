@@ -258,7 +258,8 @@ fn rests_between<const D: usize>(
 }
 
 /// Whether the words at `start`, `start + stride` and so on, `count` of them, lie between two numbers in the bits of
-/// the mask.
+/// the mask. Not inlined: within `read` its loop would keep its place in memory.
+#[inline(never)]
 fn words_between(
     bytes: &[u8],
     start: usize,

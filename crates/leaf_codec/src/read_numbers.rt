@@ -22,8 +22,6 @@ pub struct Numbers<'a> {
     pub width: usize,
     /// Four bytes, and these bytes.
     pub words: &'a [u8],
-    /// How much is added from place to place: 1 in a row, else 0.
-    pub step: u32,
     /// The bits of a word that are the number's.
     pub mask: u32,
 }
@@ -47,7 +45,10 @@ impl<'a> Numbers<'a> {
         ensures value { result ≡ offset_at (raw_numbers_of self.now) i }
         ensures fits { result < 2 ^ 24 }
     {
-        i as u32 * self.step + (word(self.words, self.width * (i + 1)) & self.mask)
+        if self.width == 0 {
+            return i as u32;
+        }
+        self.wide_offset(i)
     }
 
     /// Number `i`.
@@ -153,7 +154,6 @@ impl<'a> Numbers<'a> {
             least,
             width,
             words: &leaf[start - 4..end],
-            step: u32::from(width == 0),
             mask: mask(width),
         };
         Some((numbers, end))

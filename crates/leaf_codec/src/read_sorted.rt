@@ -74,7 +74,9 @@ fn table_of(bytes: &[u8]) -> Table
     table
 }
 
-/// The bytes of the pieces at the front of a table, or None where they aren't `count` bytes.
+/// The bytes of the pieces at the front of a table, or None where they aren't `count` bytes. Not inlined: within `read`
+/// its loop would keep its place in memory.
+#[inline(never)]
 fn filled(pieces: &[u8], count: usize) -> Option<Table>
     requires { count ≤ 500 }
     ensures found { IfSome result (λ table. take count table ≡ pairs_expanded pieces.now) }

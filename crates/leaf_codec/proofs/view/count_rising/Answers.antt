@@ -1,6 +1,7 @@
 use Rattle.std.proofs.Common.{◌≡◌, ◌-◌, ℕ, not, eqb, cond, get_or, length, sym, ap, ◌∙◌, arith}
 use Rattle.leaf_codec.proofs.CanonicalNumbers.{AreBytes-from as small}
-use Rattle.leaf_codec.proofs.NewValues.{flag_is, flag_le, values_of, values_all, rising_more, rising_first}
+use Rattle.leaf_codec.proofs.NewValues.{flag_le, values_of, values_all, rising_more, rising_first}
+use Rattle.leaf_codec.proofs.Written.{flag_is}
 use Rattle.leaf_codec.proofs.view.count_rising.Goals as goal
 
 pub loop-i-init : goal.loop-i-init

@@ -1,8 +1,8 @@
 use Rattle.std.proofs.Common.{◌≡◌, ◌<◌, ◌≤◌, ◌+◌, ◌*◌, ℕ, cond, ltb, sym, ap, ◌∙◌, arith, get_or, eqb, refl}
 use Rattle.std.specs.List.{range_with_len, list_any}
 use Rattle.leaf_codec.specs.Dimensions.{count_values}
-use Rattle.leaf_codec.proofs.NewValues.{flag_is}
 use Rattle.leaf_codec.proofs.SpreadLemmas.{spread_other, place_within}
+use Rattle.leaf_codec.proofs.Written.{flag_is}
 use Rattle.leaf_codec.proofs.view.is_wide.Goals as goal
 
 wanted : {m n a b : ℕ} → m ≡ n → a ≡ b → m ≤ a → n ≤ b

@@ -1,23 +1,18 @@
-use Rattle.std.proofs.Common.{◌≡◌, ◌+◌, ◌*◌, ◌∙◌, ap, refl}
-use Rattle.std.specs.Prelude.{bit_and}
-use Rattle.leaf_codec.specs.Raw.{offset_at}
+use Rattle.std.proofs.Common.{sym, arith}
 use Rattle.leaf_codec.specs.Views.{raw_numbers_of}
-use Rattle.leaf_codec.proofs.ReadNumbers.{offset_read, offset_at-lt}
+use Rattle.leaf_codec.proofs.ReadNumbers.{offset_row, offset_at-lt}
 use Rattle.leaf_codec.proofs.read_numbers.Numbers.offset.Goals as goal
 
-value : (c : goal.After-word)
-    → c.args.i * c.args.self.now.step + bit_and c.word.result c.args.self.now.mask ≡ offset_at (raw_numbers_of c.args.self.now) c.args.i
-value c =
-    let n = c.args.self.now in
-    let h = c.requires.numbers in
-    ap (λ w. c.args.i * n.step + bit_and w n.mask) c.word.ensures
-    ∙ offset_read n.count (raw_numbers_of n) n.words.now n.step n.mask c.args.i
-    (record { raw = h.raw; long = h.long; bytes = h.bytes; is = refl; steps = h.step; masks = h.mask }) c.requires.within
+pub returns-then-self-eq0-clause-value : goal.returns-then-self-eq0-clause-value
+returns-then-self-eq0-clause-value c = sym (offset_row (raw_numbers_of c.args.self.now) c.args.i c.if-self-eq0.true)
+
+pub returns-then-self-eq0-clause-fits : goal.returns-then-self-eq0-clause-fits
+returns-then-self-eq0-clause-fits c = omega (arith, c.requires.within, c.requires.numbers.few)
 
 pub returns-clause-value : goal.returns-clause-value
-returns-clause-value c = value c
+returns-clause-value c = c.wide_offset.ensures
 
 pub returns-clause-fits : goal.returns-clause-fits
 returns-clause-fits c =
     let h = c.requires.numbers in
-    rw (value c) (offset_at-lt c.args.self.now.count (raw_numbers_of c.args.self.now) c.args.i h.raw h.few c.requires.within)
+    omega (arith, c.wide_offset.ensures, offset_at-lt c.args.self.now.count (raw_numbers_of c.args.self.now) c.args.i h.raw h.few c.requires.within)

@@ -1,11 +1,10 @@
 use Rattle.std.proofs.Common.{◌≡◌, ◌<◌, ◌+◌, ◌-◌, ◌*◌, ◌/◌, ◌%◌, ℕ, List, ◌∷◌, ◌++◌, length, take, drop, sym}
-use Rattle.std.proofs.Common.{ap, ◌∙◌, arith, append_assoc, length-append, refl, eqb, true≢false, length-take}
+use Rattle.std.proofs.Common.{ap, ◌∙◌, arith, append_assoc, length-append, refl, true≢false, length-take}
 use Rattle.std.proofs.lemmas.List.Elements.{All-take, All-drop}
 use Rattle.leaf_codec.specs.Raw.{RawNumbers}
 use Rattle.byte_cursor.specs.Vint.{vint}
 use Rattle.leaf_codec.proofs.CanonicalNumbers.{HasWords, has_words, AreBytes-from}
 use Rattle.byte_cursor.proofs.SpelledVints.{vint_front, length-vint}
-use Rattle.leaf_codec.proofs.Written.{flag_is}
 use Rattle.leaf_codec.proofs.read_numbers.Numbers.take.Goals as goal
 use Rattle.leaf_codec.proofs.read_numbers.Numbers.take.Goals.{Else-rest-count}
 
@@ -73,7 +72,6 @@ returns-clause-found c =
           sized = ap length w.words ∙ omega (arith, length-take m c.in_ok-width.rest.now, c.if-rest-count.false);
           bytes = All-drop (λ (x : ℕ). x < 256) 4 (take (s + m - (s - 4)) (drop (s - 4) leaf)) bytes;
         };
-        step = c.from.ensures ∙ flag_is (eqb c.in_ok-width.width 0);
         mask = c.mask.ensures;
       };
       counted = refl;
