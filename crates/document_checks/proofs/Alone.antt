@@ -50,7 +50,8 @@ unfolding is_live
 live_among s n = refl
 
 -- a number that is left has no entry among those passed
-left_has_none : {D : ℕ} (numbers : List ℕ) (es : List (Entry D)) (left : LiveSet) (n : ℕ) → left.live ≡ bare es numbers → is_live left n ≡ true → has es n ≡ false
+left_has_none : {D : ℕ} (numbers : List ℕ) (es : List (Entry D)) (left : LiveSet) (n : ℕ) → left.live ≡ bare es numbers → is_live left n ≡ true
+    → has es n ≡ false
 left_has_none numbers es left n is live =
     no_from (has es n)
     (passes (λ m. not (has es m)) n numbers (ap (λ (ns : List ℕ). list_any (λ d. eqb d n) ns) (sym is) ∙ sym (live_among left n) ∙ live))
