@@ -31,7 +31,8 @@ use point_codec::Entry;
 use std::alloc::Global;
 
 /// The entries of a segment whose numbers are live, in the order of the leaves. Each leaf page is read once at
-/// most. Ok only where each leaf of this head is spelled in its page, whether or not the file has this head.
+/// most. Ok only where each leaf of this head is spelled in its page, whether or not the file has this head. Before the
+/// first leaf there is room for as many entries as there are live numbers, and for a leaf of them more.
 pub fn read_entries<const D: usize, F: Pages>(
     alloc: Global,
     folder: &mut F,

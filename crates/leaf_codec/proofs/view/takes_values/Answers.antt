@@ -17,7 +17,7 @@ pub loop-i-preserved : goal.loop-i-preserved
 loop-i-preserved c =
     let byte : ℕ → ℕ = λ k. get_or c.args.bytes.now (c.args.start + k * c.args.stride) 0 in
     let l = c.loop-i in
-    let is_byte = small c.args.bytes.now (Î» k. omega (arith, c.type_inv.bytes k)) (c.args.start + l.i * c.args.stride) 0
+    let is_byte = small c.args.bytes.now (λ k. omega (arith, c.type_inv.bytes k)) (c.args.start + l.i * c.args.stride) 0
     (c.requires.within l.i c.loop-i-test.true) in
     let more : c.add-more.result ≡ cond {A = ℕ} (not (has_value (firsts byte l.i) (byte l.i))) 1 0 =
     c.add-more.ensures.more ∙ ap (λ (t : Bool). cond {A = ℕ} (not t) 1 0) (l.invariant.seen.at (byte l.i) is_byte) in

@@ -80,5 +80,7 @@ returns-clause-entries g c = λ told agrees items p.
     let got = c.in_ok-gather.ensures.gathers told agrees 0 front p.root p.tree (c.walk-root.ensures p.root p.tree here) in
     let same = tree_once g.row.D (bytes_of (g.F.Pages.files c.args.folder.now (Segment c.args.head.now.id))) c.args.head.now 0 front p.tree got.items items
     got.holds p.holds in
-    got.grew ∙ ap (λ (l : List Item). l ++ filter (λ (x : Item). is_live c.args.live.now x.doc) got.items) (ap (λ l. items_of l) c.in_ok-entries.ensures.items)
+    got.grew
+    ∙ ap (λ (l : List Item). l ++ filter (λ (x : Item). is_live c.args.live.now x.doc) got.items)
+    (ap (λ l. items_of l) c.in_ok-entries.ensures.items)
     ∙ ap (λ (l : List Item). filter (λ (x : Item). is_live c.args.live.now x.doc) l) same
