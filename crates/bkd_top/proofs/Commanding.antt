@@ -225,7 +225,7 @@ none_left_of (Explain cache) source sink input written files reads = record { fi
 none_left_of (Count cache) source sink input written files reads = record { files = refl; reads = λ told pages opening scope is t tells. omega arith }
 none_left_of (Batch forks) source sink input written files reads =
     record { files = refl; reads = λ answer. absurd answer; stored = λ some. absurd (some tt); unwritten = λ none. refl }
-none_left_of (MergingBatch forks) source sink input written files reads = 
+none_left_of (MergingBatch forks) source sink input written files reads =
     record { leaves = no_merge files; stored = record { unwritten = inr refl; answered = λ tells. absurd (tells tt) } }
 none_left_of (Load columns forks) source sink input written files reads = no_whole files
 none_left_of (Generate docs seed forks) source sink input written files reads = no_whole files

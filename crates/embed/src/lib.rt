@@ -67,7 +67,10 @@ impl Places {
         reply: &mut Vec<u8>,
     ) -> Result<(), PlacesFault> {
         let command = read_line(alloc, line.as_bytes())?;
-        match self.session.apply(rt, alloc, folder, &command, reply, &OpenGate)? {
+        match self
+            .session
+            .apply(rt, alloc, folder, &command, reply, &OpenGate)?
+        {
             Applied::Done => Ok(()),
             Applied::Refused(_) => Err(PlacesFault::Refused),
         }

@@ -152,7 +152,11 @@ fn a_save_that_fails(rt: HostRuntime) -> Result<(), Fail> {
 const PLACES: &[(&str, &str, bool)] = &[
     ("add 13404954 52520008", "doc 0\n", true),
     ("add 2352222 48856613", "doc 1\n", true),
-    ("nearest 1 2000000 49000000", "near 1\n1 144620169053\n", true),
+    (
+        "nearest 1 2000000 49000000",
+        "near 1\n1 144620169053\n",
+        true,
+    ),
     ("nearest 1 2000000", "", false),
     ("nearest @before 1 2000000 49000000", "", false),
     ("commit", "ok\n", true),
@@ -168,7 +172,9 @@ fn the_worked_example(rt: HostRuntime) -> Result<(), Fail> {
     let mut reply = Vec::new(rt.alloc());
     for (line, answer, is_done) in PLACES {
         reply.clear();
-        let done = places.ask(&rt, rt.alloc(), &mut folder, line, &mut reply).is_ok();
+        let done = places
+            .ask(&rt, rt.alloc(), &mut folder, line, &mut reply)
+            .is_ok();
         same_at(
             &rt,
             (done, std::str::from_utf8(reply.as_slice())),
