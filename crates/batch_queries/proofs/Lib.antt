@@ -7,5 +7,6 @@ mod Places
 mod Ended
 mod Beginning
 mod MergeCalls
+mod NoIndex
 mod Merged
 mod Opened

@@ -1,66 +1,64 @@
 -- A batch with a merge beside it goes from one place to another, by what each call of it answered.
-use Rattle.std.proofs.Common.{◌≡◌, ◌≤◌, ◌+◌, ◌==◌, ◌++◌, ℕ, zero, suc, Bool, true, false, List, [], ◌∷◌, length, map, take, Option, Some, None, Result, Ok, Err}
-use Rattle.std.proofs.Common.{IfOk, OnErr, OnOk, IsErrOf}
-use Rattle.std.proofs.Common.{refl, sym, ap, subst, ◌∙◌, ◌⊎◌, inl, inr, ⊎_elim, arith}
-use Rattle.std.specs.List.{Contains}
+use Rattle.std.proofs.Common.{◌≡◌, ◌≤◌, ◌==◌, ◌++◌, ℕ, Bool, true, false, List, Result, Ok, Err, IsErrOf, refl, sym, ap, subst, ◌∙◌, inl, inr, ⊎_elim, arith}
 use Rattle.std.proofs.lemmas.Bool.Decides.{nat_tests}
-use Rattle.std.proofs.lemmas.List.{take-map}
 use Rattle.outer_io.specs.Counts.{Rose}
-use Rattle.outer_io.specs.declared.file_name.FileName.TheVariants.{Commit, Segment}
-use Rattle.outer_io.specs.Files.{Files, bytes_of}
+use Rattle.outer_io.specs.Files.{Files}
 use Rattle.outer_io.specs.Parts.{WritesPart}
-use Rattle.documents.specs.Entries.{is_among}
-use Rattle.documents.proofs.Kept.{among_from}
-use Rattle.documents.proofs.Lists.{in_map, of_map}
 use Rattle.page_cache.specs.declared.faults.PageFault.{PageFault}
 use Rattle.page_cache.specs.declared.faults.PageFault.TheVariants as page
 use Rattle.page_cache.specs.Causes.{HasPageCause}
-use Rattle.page_cache.specs.Evidence.{FaultShows, NotDamaged, OnDamage}
-use Rattle.commit_list.specs.declared.listed.Listed.{Listed}
-use Rattle.commit_list.specs.Commits.{CommitData}
-use Rattle.commit_list.proofs.CommitPages.{one_file}
-use Rattle.index_model.specs.State.{Index, State, at_rest, new_index}
-use Rattle.stored_index.specs.Kept.{ListsFile, SameKept}
-use Rattle.stored_index.specs.Stored.{IsStored, index_of}
-use Rattle.stored_index.proofs.KeptFiles.{kept_after, kept_itself, stored_still}
-use Rattle.stored_index.proofs.Whole.{held_for}
+use Rattle.page_cache.specs.Evidence.{NotDamaged, OnDamage}
+use Rattle.index_model.specs.State.{State}
+use Rattle.stored_index.specs.Kept.{SameKept}
+use Rattle.stored_index.specs.Stored.{IsStored}
+use Rattle.stored_index.proofs.KeptFiles.{stored_still}
 use Rattle.index_opening.specs.Evidence.{IsEvident}
 use Rattle.index_opening.proofs.Evident.{on_evident_less}
-use Rattle.segment_view.specs.Parts.{Part, ids_of}
-use Rattle.index_core.specs.Light.{KeepsLevels}
-use Rattle.index_core.specs.Sessions.{IsLast, SessionData, Trusts}
-use Rattle.index_core.specs.Steps.{FaultKeeps, HasCommit, KeepsUndone}
-use Rattle.index_core.specs.Whole.{HasNewCanonical, Moment}
-use Rattle.index_core.proofs.Bringing.{brings_then}
-use Rattle.index_core.proofs.Guarding.{says_some}
-use Rattle.index_core.proofs.Listed.{attached_listed, new_canonical}
-use Rattle.index_core.proofs.Undone.{kept_equal, levels_after, undone_after}
-use Rattle.run_status.specs.Ends.{DoesNothing, IsAnswer, IsDamaged, OnStatusDamage}
-use Rattle.run_status.specs.Sent.{IsCut, IsSent}
+use Rattle.run_status.specs.Ends.{IsDamaged, OnStatusDamage}
+use Rattle.run_status.specs.Sent.{IsCut}
 use Rattle.run_status.specs.Stops.{status_of, stop_of}
 use Rattle.run_status.specs.Told.{TellsAll}
 use Rattle.run_status.specs.declared.status.Status.{Status}
 use Rattle.run_status.specs.declared.status.Status.TheVariants as status
 use Rattle.run_status.specs.declared.stop.Stop.{Stop}
 use Rattle.run_status.specs.declared.stop.Stop.TheVariants as stop
-use Rattle.run_status.proofs.Ending.{counted, does_lines}
-use Rattle.batch_run.specs.declared.resident.Resident.{Resident}
-use Rattle.batch_run.specs.Copies.{IsCommitIn}
+use Rattle.run_status.proofs.Ending.{counted}
 use Rattle.batch_queries.specs.Batched.{IsBatchText, TellsBatch}
-use Rattle.batch_queries.specs.Ends.{CutsAll, EndsBatch, StoresSome}
-use Rattle.batch_queries.specs.Merging.{EndsMerging, MergeKeeps, MergeLeaves, MergesFirst, WholeOrNone, merged_count}
-use Rattle.batch_queries.specs.MergeRuns.{BeginsMerge, EndsMerge, IsBegun, IsMerged, IsOpened, MergesBatch, Place, first_ids}
+use Rattle.batch_queries.specs.Ends.{CutsAll, StoresSome}
+use Rattle.batch_queries.specs.Merging.{EndsMerging, MergeKeeps, MergeLeaves}
+use Rattle.batch_queries.specs.MergeRuns.{MergesBatch, Place}
 
 -- ---- faults
 
 -- what stays where nothing went out: all that is kept
 leaves_fault : (old new : Files) (fault : PageFault) → SameKept old new → MergeLeaves old new (status_of (Err (stop_of fault)))
 leaves_fault old new page.Failed same =
-    record { stored = λ state h. stored_still old new state same h; kept = inl same; lasting = inl same; merged = λ a. absurd a; levels = λ a. absurd a; canon = λ a. absurd a }
+    record {
+      stored = λ state h. stored_still old new state same h;
+      kept = inl same;
+      lasting = inl same;
+      merged = λ a. absurd a;
+      levels = λ a. absurd a;
+      canon = λ a. absurd a;
+    }
 leaves_fault old new page.Memory same =
-    record { stored = λ state h. stored_still old new state same h; kept = inl same; lasting = inl same; merged = λ a. absurd a; levels = λ a. absurd a; canon = λ a. absurd a }
+    record {
+      stored = λ state h. stored_still old new state same h;
+      kept = inl same;
+      lasting = inl same;
+      merged = λ a. absurd a;
+      levels = λ a. absurd a;
+      canon = λ a. absurd a;
+    }
 leaves_fault old new (page.Damaged d) same =
-    record { stored = λ state h. stored_still old new state same h; kept = same; lasting = inl same; merged = λ a. absurd a; levels = λ a. absurd a; canon = λ a. absurd a }
+    record {
+      stored = λ state h. stored_still old new state same h;
+      kept = same;
+      lasting = inl same;
+      merged = λ a. absurd a;
+      levels = λ a. absurd a;
+      canon = λ a. absurd a;
+    }
 
 -- a fault before the text goes out
 pub stopped : {T : Type 0} (told out trusts : Type 0) (lines : List (List ℕ)) (a b : Place) (fault : PageFault) (r : Result ℕ Stop) → r ≡ Err (stop_of fault)
@@ -209,74 +207,6 @@ sink_by false count e = cc
 
 pub counted_sink : (count : ℕ) {P : Type 0} → status_of (Ok count) ≡ status.SinkFault → P
 counted_sink count e = sink_by (count == 0) count e
-
--- ---- where no index is there
-
--- nothing is stored, and nothing is asked of the folder
-none_stored : (files : Files) (state : State) → files Commit ≡ None → IsStored files state → None ≡ state
-none_stored files None none h = refl
-none_stored files (Some i) none h = absurd (says_some files h.commit none h.holds.commit)
-
-none_leaves : (files : Files) (s : Status) → files Commit ≡ None → MergeKeeps files files s → MergeLeaves files files s
-none_leaves files s none kept = record {
-  stored = λ state h. h;
-  kept = kept;
-  lasting = inl (kept_itself files);
-  merged = λ a c says. absurd (says_some files c none says);
-  levels = λ a. inl refl;
-  canon = λ a c says l inside apart head has. absurd (says_some files c none says);
-}
-
--- what was sent went out whole, or the sink failed
-pub sent_how : {T : Type 0} (known : T) (r : Result T Stop) → IfOk r (λ x. x ≡ known) → OnErr r (IsErrOf r stop.SinkFault) → (r ≡ Ok known)
-    ⊎ (r ≡ Err stop.SinkFault)
-sent_how known (Ok x) same only = inl (ap Ok same)
-sent_how known (Err e) same only = inr only
-
-pub none_told : (told out : Type 0) (lines : List (List ℕ)) (a b : Place) (text : List ℕ) (refused : ℕ) (r : Result ℕ Stop) → b.files ≡ a.files
-    → IsBatchText None lines text refused
-    → (out → IsSent text a.written b.written r) → (IsErrOf r stop.SinkFault → Rose a.sink b.sink) → (r ≡ Ok refused) ⊎ (r ≡ Err stop.SinkFault)
-    → MergesBatch told out (a.files Commit ≡ None) lines a b (status_of r)
-none_told told out lines a b text refused r same is sent rose how =
-    ⊎_elim
-    (λ ok. subst (λ (q : Result ℕ Stop). MergesBatch told out (a.files Commit ≡ None) lines a b (status_of q)) (sym ok)
-    (done (subst (λ (q : Result ℕ Stop). out → IsSent text a.written b.written q) ok sent)))
-    (λ cut. subst (λ (q : Result ℕ Stop). MergesBatch told out (a.files Commit ≡ None) lines a b (status_of q)) (sym cut)
-    (failed (subst (λ (q : Result ℕ Stop). out → IsSent text a.written b.written q) cut sent) (rose cut)))
-    how
-  where
-    same_kept : SameKept a.files b.files
-    same_kept = kept_equal a.files b.files same
-
-    done : (out → b.written ≡ a.written ++ text) → MergesBatch told out (a.files Commit ≡ None) lines a b (status_of (Ok refused))
-    done sent = record {
-      done = does_lines (Ok refused);
-      ends = λ t none state h. subst (λ (s : State). EndsMerging out (TellsBatch s) lines a.written b.written (status_of (Ok refused)))
-          (none_stored a.files state none h)
-          (ends_whole out None lines a.written b.written refused (text_whole out None lines text refused a.written b.written is sent));
-      leaves = λ t none. subst (λ (f : Files). MergeLeaves a.files f (status_of (Ok refused))) (sym same)
-          (none_leaves a.files (status_of (Ok refused)) none (counted_kept a.files a.files refused));
-      stored = λ t none. record { unwritten = inl (None, none); answered = λ tells. (None, none) };
-      whole = λ t none state h. counted_whole refused;
-      evident = counted_shows (told × (a.files Commit ≡ None)) b.files refused;
-      folder = λ e. counted_folder refused e;
-      sink = λ e. counted_sink refused e;
-    }
-
-    failed : (out → WritesPart a.written b.written text) → Rose a.sink b.sink
-        → MergesBatch told out (a.files Commit ≡ None) lines a b (status_of (Err stop.SinkFault))
-    failed part rises = record {
-      done = λ d. d;
-      ends = λ t none state h. subst (λ (s : State). CutsAll out (TellsBatch s) lines a.written b.written) (none_stored a.files state none h)
-          (ends_cut out None lines text refused a.written b.written is part);
-      leaves = λ t none. subst (λ (f : Files). MergeLeaves a.files f status.SinkFault) (sym same)
-          (none_leaves a.files status.SinkFault none (kept_itself a.files));
-      stored = λ t none. record { unwritten = inl (None, none); answered = λ tells. (None, none) };
-      whole = λ t none state h d. d;
-      evident = tt;
-      folder = λ e. absurd cc;
-      sink = λ e. rises;
-    }
 
 -- ---- what was sent
 

@@ -153,8 +153,14 @@ module _ (D : ℕ) (told out : Type 0) (r : Resident D) (lines : List (List ℕ)
         by page.Failed is = record {
           done = λ d. d;
           ends = λ t o state h. all_or_none state t o h;
-          leaves = λ t o. record
-              { stored = still t o; kept = kept_by page.Failed is t o; lasting = lasting t o; merged = λ w. absurd w; levels = λ w. absurd w; canon = λ w. absurd w };
+          leaves = λ t o. record {
+            stored = still t o;
+            kept = kept_by page.Failed is t o;
+            lasting = lasting t o;
+            merged = λ w. absurd w;
+            levels = λ w. absurd w;
+            canon = λ w. absurd w;
+          };
           stored = λ t o. record { unwritten = inl (Some o.index, o.stored); answered = λ tells. (Some o.index, o.stored) };
           whole = λ t o state h d. d;
           evident = tt;
@@ -164,8 +170,14 @@ module _ (D : ℕ) (told out : Type 0) (r : Resident D) (lines : List (List ℕ)
         by page.Memory is = record {
           done = λ d. d;
           ends = λ t o state h. all_or_none state t o h;
-          leaves = λ t o. record
-              { stored = still t o; kept = kept_by page.Memory is t o; lasting = lasting t o; merged = λ w. absurd w; levels = λ w. absurd w; canon = λ w. absurd w };
+          leaves = λ t o. record {
+            stored = still t o;
+            kept = kept_by page.Memory is t o;
+            lasting = lasting t o;
+            merged = λ w. absurd w;
+            levels = λ w. absurd w;
+            canon = λ w. absurd w;
+          };
           stored = λ t o. record { unwritten = inl (Some o.index, o.stored); answered = λ tells. (Some o.index, o.stored) };
           whole = λ t o state h d. d;
           evident = tt;
@@ -175,8 +187,14 @@ module _ (D : ℕ) (told out : Type 0) (r : Resident D) (lines : List (List ℕ)
         by (page.Damaged d) is = record {
           done = λ d. d;
           ends = λ t o state h. whole_by (page.Damaged d) is t o;
-          leaves = λ t o. record
-              { stored = still t o; kept = kept_by (page.Damaged d) is t o; lasting = lasting t o; merged = λ w. absurd w; levels = λ w. absurd w; canon = λ w. absurd w };
+          leaves = λ t o. record {
+            stored = still t o;
+            kept = kept_by (page.Damaged d) is t o;
+            lasting = lasting t o;
+            merged = λ w. absurd w;
+            levels = λ w. absurd w;
+            canon = λ w. absurd w;
+          };
           stored = λ t o. record { unwritten = inl (Some o.index, o.stored); answered = λ tells. (Some o.index, o.stored) };
           whole = λ t o state h ends. whole_by (page.Damaged d) is t o;
           evident = on_evident_less {X = U} (told × Trusts D b.files b.session) (told × trusts) c.files (Err (page.Damaged d))

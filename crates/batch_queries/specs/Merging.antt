@@ -65,8 +65,9 @@ MergeKeeps old new status.FolderFault = SameKept old new ⊎ HasCommit new
 MergeKeeps old new status.Memory = SameKept old new ⊎ HasCommit new
 MergeKeeps old new _ = SameKept old new
 
--- Whatever the status, what was stored is stored still, and nothing that is kept is lost but to a whole commit. Where all is answered the
--- first segments are merged, few of each level are listed, and each that is listed anew is canonical.
+-- Whatever the status, what was stored is stored still, and nothing that is kept is lost but to a whole commit. Where
+-- all is answered the first segments are merged, few of each level are listed, and each that is listed anew is
+-- canonical.
 pub record MergeLeaves (old new : Files) (s : Status) : Type 0 where
   pub stored : (state : State) → IsStored old state → IsStored new state
   pub kept : MergeKeeps old new s

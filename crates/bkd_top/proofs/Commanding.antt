@@ -209,7 +209,14 @@ no_whole : (files : Files) → WholeLeaves files files status.Memory
 no_whole files = record { levels = λ state h a. absurd a; undone = inl (kept_itself files) }
 
 no_merge : (files : Files) → MergeLeaves files files status.Memory
-no_merge files = record { stored = λ state h. h; kept = inl (kept_itself files); lasting = inl (kept_itself files); merged = λ a. absurd a; levels = λ a. absurd a; canon = λ a. absurd a }
+no_merge files = record {
+  stored = λ state h. h;
+  kept = inl (kept_itself files);
+  lasting = inl (kept_itself files);
+  merged = λ a. absurd a;
+  levels = λ a. absurd a;
+  canon = λ a. absurd a;
+}
 
 -- where memory was wanting before anything was done each command has left what was there
 none_left_of : (a : Asked) (source sink : Bool) (input written : List ℕ) (files : Files) (reads : ℕ)

@@ -9,6 +9,7 @@
 
 mod attach;
 mod buffer;
+mod build_plan;
 mod changes;
 mod choosing;
 mod deletions;

@@ -10,9 +10,10 @@ ghost use Rattle.index_model.specs.State.{Index};
 ghost use Rattle.segment_build.specs.NewSegments.{NewSegmentData};
 ghost use Rattle.segment_view.specs.Parts.{Contents, AreRead, ids_of, live_in_parts, parts_among};
 
+use crate::build_plan::BuildPlan;
 use crate::choosing::{first_places, ids_at, inputs_of, is_settled, unpinned};
 use crate::faults::{BeginFault, EndFault};
-use crate::rewriting::{BuildPlan, gathered, merge, replace};
+use crate::rewriting::{gathered, merge, replace};
 use crate::set::{Begun, SegmentSet};
 use bkd_build::Gate;
 use outer_io::Folder;

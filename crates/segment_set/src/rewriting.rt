@@ -28,6 +28,7 @@ ghost use Rattle.index_opening.specs.Evidence.{IsEvidentIn};
 ghost use Rattle.segment_set.specs.Faithful.{HasFileHead};
 
 use crate::buffer::Buffer;
+use crate::build_plan::BuildPlan;
 use bkd_build::Gate;
 use document_checks::{doubled, fits_docs};
 use file_names::FileNames;
@@ -39,20 +40,6 @@ use segment_view::{Segments, gather};
 use std::alloc::Global;
 use std::marker::Sync;
 use std::thread::Threads;
-
-/// How the segments of a set are built: how many entries a leaf has, in how many levels a build forks, and how many
-/// points were given, than which there are no more entries.
-#[derive(Clone, Copy)]
-pub(crate) struct BuildPlan<const D: usize> {
-    pub(crate) leaf: u16,
-    pub(crate) forks: u8,
-    pub(crate) given: u32,
-    ghost some_dims: { 1 ≤ D },
-    ghost few_dims: { D ≤ 8 },
-    ghost least_leaf: { 2 ≤ leaf },
-    ghost greatest_leaf: { leaf ≤ leaf_limit D },
-    ghost most_given: { given ≤ 2 ^ 24 },
-}
 
 /// Looks for more entries than points were given, and for a number with more than 16 or one twice: a damage.
 fn check_entries<const D: usize>(

@@ -54,7 +54,14 @@ returns-in-Err-TooLarge-clause-leaves g c = λ told.
 
 pub returns-in-Err-Memory-clause-leaves : goal.returns-in-Err-Memory-clause-leaves
 returns-in-Err-Memory-clause-leaves g c = λ told.
-    record { stored = λ state h. h; kept = inl (kept_itself _); lasting = inl (kept_itself _); merged = λ a. absurd a; levels = λ a. absurd a; canon = λ a. absurd a }
+    record {
+      stored = λ state h. h;
+      kept = inl (kept_itself _);
+      lasting = inl (kept_itself _);
+      merged = λ a. absurd a;
+      levels = λ a. absurd a;
+      canon = λ a. absurd a;
+    }
 
 pub returns-in-Err-Memory-clause-ends : goal.returns-in-Err-Memory-clause-ends
 returns-in-Err-Memory-clause-ends g c = λ source told state h. inl (λ out. refl)

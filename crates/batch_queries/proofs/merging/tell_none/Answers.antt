@@ -5,7 +5,8 @@ use Rattle.page_cache.specs.declared.faults.PageFault.TheVariants as page
 use Rattle.stored_index.proofs.KeptFiles.{kept_itself}
 use Rattle.run_status.specs.declared.stop.Stop.{Stop}
 use Rattle.run_status.proofs.Ending.{page_memory, sent_as}
-use Rattle.batch_queries.proofs.MergeCalls.{none_told, sent_how, stopped}
+use Rattle.batch_queries.proofs.MergeCalls.{stopped}
+use Rattle.batch_queries.proofs.NoIndex.{none_told, sent_how}
 use Rattle.batch_queries.proofs.merging.tell_none.Goals as goal
 
 pub returns-in_err-text : goal.returns-in_err-text

@@ -1,0 +1,18 @@
+//! How segments are built.
+
+ghost use Rattle.std.specs.Prelude.{◌≤◌, ◌^◌};
+ghost use Rattle.leaf_codec.specs.Leaves.{leaf_limit};
+
+/// How the segments of a set are built: how many entries a leaf has, in how many levels a build forks, and how many
+/// points were given, than which there are no more entries.
+#[derive(Clone, Copy)]
+pub(crate) struct BuildPlan<const D: usize> {
+    pub(crate) leaf: u16,
+    pub(crate) forks: u8,
+    pub(crate) given: u32,
+    ghost some_dims: { 1 ≤ D },
+    ghost few_dims: { D ≤ 8 },
+    ghost least_leaf: { 2 ≤ leaf },
+    ghost greatest_leaf: { leaf ≤ leaf_limit D },
+    ghost most_given: { given ≤ 2 ^ 24 },
+}
