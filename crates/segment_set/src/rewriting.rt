@@ -8,7 +8,6 @@ ghost use Rattle.outer_io.specs.declared.file_name.FileName.TheVariants.{Segment
 ghost use Rattle.point_codec.specs.Points.{Item};
 ghost use Rattle.point_codec.specs.Seen.{items_of};
 ghost use Rattle.leaf_codec.specs.LeafOrder.{NoneTwice};
-ghost use Rattle.leaf_codec.specs.Leaves.{leaf_limit};
 ghost use Rattle.live_bits.specs.LiveSet.{IsLiveSet, is_live};
 ghost use Rattle.documents.specs.Entries.{MakeDocs, has_entry, is_among};
 ghost use Rattle.page_cache.specs.Cache.{Agrees, KeepsFile};
