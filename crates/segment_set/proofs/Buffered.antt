@@ -235,7 +235,8 @@ waiting_out number (x ∷ xs) = by (waiting_out number xs) (waits x.doc) (eqb (c
     stays : eqb (came_as x.doc) number ≡ false → out_of number x ≡ x
     stays e = ap (λ b. cond b (record x { doc = gone_as x.doc }) x) e
 
-    gone : waiting (map (out_of number) xs) ≡ entries_but number (waiting xs) → eqb (came_as x.doc) number ≡ true → waiting (map (out_of number) (x ∷ xs)) ≡ entries_but number (waiting xs)
+    gone : waiting (map (out_of number) xs) ≡ entries_but number (waiting xs) → eqb (came_as x.doc) number ≡ true
+        → waiting (map (out_of number) (x ∷ xs)) ≡ entries_but number (waiting xs)
     gone more e =
         ap (λ (y : Item). waiting (y ∷ map (out_of number) xs)) (goes e)
         ∙ filter_no (λ (y : Item). waits y.doc) (record x { doc = gone_as x.doc }) (map (out_of number) xs) (gone_waits_not x.doc)

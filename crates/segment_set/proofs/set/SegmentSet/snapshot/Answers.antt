@@ -34,7 +34,8 @@ fields : (g : given.Over) (c : goal.After-push_reserved g)
 fields g c =
     (λ i. record (settled g c i) { snapshots = c.push_reserved.new.self.items })
     ∙ snapped_is (old g c) c.args.name c.reserve.new.self.items c.push_reserved.new.self.items c.in_ok-segments.segments (items_of c.in_ok-buffer.buffer.items)
-    c.reserve.ensures.items c.in_ok-segments.ensures (ap items_of c.in_ok-buffer.ensures.items ∙ c.as_slice-2.ensures ∙ c.settle.ensures.items) c.push_reserved.ensures.items
+    c.reserve.ensures.items c.in_ok-segments.ensures (ap items_of c.in_ok-buffer.ensures.items ∙ c.as_slice-2.ensures ∙ c.settle.ensures.items)
+    c.push_reserved.ensures.items
 
 pub invariant_of-self-2 : goal.invariant_of-self-2
 invariant_of-self-2 g c =
