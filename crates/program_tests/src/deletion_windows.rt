@@ -15,7 +15,7 @@ struct Window {
     back: u32,
 }
 
-const WINDOWS: [Window; 5] = [
+const WINDOWS: &[Window] = &[
     // the newest
     Window { adds: 60, back: 0 },
     // the oldest of two, of seven, of thirty and of all but one
@@ -54,7 +54,7 @@ fn script_of(alloc: Global, window: &Window) -> Result<String, Fail> {
 
 /// Each window agrees.
 fn agree_all<R: Threads + Sync + Abort>(rt: &R, alloc: Global) -> Result<(), Fail> {
-    for window in &WINDOWS {
+    for window in WINDOWS {
         agree(rt, alloc, script_of(alloc, window)?.as_bytes())?;
     }
     Ok(())

@@ -116,5 +116,8 @@ held_dropped next live held now dropped is =
 
 pub held_none : (next : ℕ) (held : List Item) → held ≡ [] → IsHeld next 0 held
 held_none next held none =
-    subst (IsHeld next 0) (sym none)
-    (record { ordered = λ i j d le lt. absurd (omega (arith, lt)); below = λ k d lt. absurd (omega (arith, lt)); counted = refl })
+    subst (IsHeld next 0) (sym none) (record {
+      ordered = λ i j d le lt. absurd (omega (arith, lt));
+      below = λ k d lt. absurd (omega (arith, lt));
+      counted = refl;
+    })

@@ -274,15 +274,8 @@ pub(crate) fn write_buffer<const D: usize, R: Threads + Sync, F: Folder, G: Gate
 {
     buffer.settle();
     // a build leaves its entries in another order
-    let mut entries = Vec::from_slice(alloc, buffer.as_slice())?;
-    let new = build_segment(
-        rt,
-        alloc,
-        entries.as_mut_slice(),
-        plan.leaf,
-        plan.forks,
-        gate,
-    )?;
+    let mut copy = Vec::from_slice(alloc, buffer.as_slice())?;
+    let new = build_segment(rt, alloc, copy.as_mut_slice(), plan.leaf, plan.forks, gate)?;
     put(alloc, folder, names, segments, &new, &[])?;
     buffer.clear();
     Ok(())

@@ -38,8 +38,8 @@ overflow_add-count g c =
 pub loop-i-preserved : goal.loop-i-preserved
 loop-i-preserved g c =
     let xs = c.args.entries.now.items in
-    let run =
-    subst (λ (zs : List (Entry g.row.D)). IsRun (λ (e : Entry g.row.D). came_as e.doc) c.args.number zs c.run_of-first.result.0 c.run_of-first.result.1)
+    let run = subst
+    (λ (zs : List (Entry g.row.D)). IsRun (λ (e : Entry g.row.D). came_as e.doc) c.args.number zs c.run_of-first.result.0 c.run_of-first.result.1)
     c.as_slice.ensures.value c.run_of-first.ensures.run in
     let long = ap length c.as_slice.ensures.value in
     let same = same_length (entry_out c.args.number) xs c.loop-i.entries.items c.loop-i.i c.loop-i.invariant.marked in
@@ -58,8 +58,8 @@ loop-i-preserved g c =
 pub returns-clause-marked : goal.returns-clause-marked
 returns-clause-marked g c =
     let xs = c.args.entries.now.items in
-    let run =
-    subst (λ (zs : List (Entry g.row.D)). IsRun (λ (e : Entry g.row.D). came_as e.doc) c.args.number zs c.run_of-first.result.0 c.run_of-first.result.1)
+    let run = subst
+    (λ (zs : List (Entry g.row.D)). IsRun (λ (e : Entry g.row.D). came_as e.doc) c.args.number zs c.run_of-first.result.0 c.run_of-first.result.1)
     c.as_slice.ensures.value c.run_of-first.ensures.run in
     let done : c.loop-i.i ≡ c.run_of-first.result.1 = omega (arith, c.loop-i-test.false, c.loop-i.auto.i-end run.ordered) in
     ap items_of

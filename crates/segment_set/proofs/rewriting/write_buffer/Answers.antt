@@ -17,7 +17,7 @@ use Rattle.segment_set.proofs.rewriting.write_buffer.Goals as goal
 pub build_segment-requires-after_bounds : goal.build_segment-requires-after_bounds
 build_segment-requires-after_bounds g c κs = λ _.
     let same : items_of c.as_mut_slice.result.now ≡ c.args.buffer.now.items =
-    ap items_of (c.as_mut_slice.ensures.value ∙ c.in_ok-entries.ensures.items) ∙ c.as_slice.ensures ∙ c.settle.ensures.items in
+    ap items_of (c.as_mut_slice.ensures.value ∙ c.in_ok-copy.ensures.items) ∙ c.as_slice.ensures ∙ c.settle.ensures.items in
     let long : length c.as_mut_slice.result.now ≡ length c.args.buffer.now.items = sym (items_length c.as_mut_slice.result.now) ∙ ap length same in
     let plan = c.args.plan.now in (
       entry_fits g.row.D c.requires.dims,
@@ -42,7 +42,7 @@ build_segment-requires-after_bounds g c κs = λ _.
 pub returns-clause-spilled : goal.returns-clause-spilled
 returns-clause-spilled g c =
     let same : items_of c.as_mut_slice.result.now ≡ c.args.buffer.now.items =
-    ap items_of (c.as_mut_slice.ensures.value ∙ c.in_ok-entries.ensures.items) ∙ c.as_slice.ensures ∙ c.settle.ensures.items in
+    ap items_of (c.as_mut_slice.ensures.value ∙ c.in_ok-copy.ensures.items) ∙ c.as_slice.ensures ∙ c.settle.ensures.items in
     let has = c.in_ok-new.ensures.has in
     let live = c.in_ok-new.ensures.live in
     record {

@@ -1,5 +1,5 @@
 -- The set is the commit's, and what an error says of the files is so.
-use Rattle.std.proofs.Common.{◌≡◌, ◌≤◌, ℕ, List, sym, ap, subst, ◌∙◌}
+use Rattle.std.proofs.Common.{◌≡◌, ◌≤◌, ℕ, List, sym, subst, ◌∙◌}
 use Rattle.std.specs.Prelude.{Contains, IsTrue}
 use Rattle.std.proofs.lemmas.Result.{err_from_is_err_and}
 use Rattle.outer_io.specs.declared.file_name.FileName.TheVariants.{Commit}
@@ -117,8 +117,7 @@ pub invariant_of-result : goal.invariant_of-result
 invariant_of-result g c =
     subst (IsWell g.row.D)
     (sym (attached_is c.args.c.now c.in_ok-names.names c.in_ok-segments.segments c.in_ok-cache.cache _ _ _ _ _ c.leaf.ensures.value
-    (c.new-2.ensures.next ∙ c.next-2.ensures.value)
-    c.given.ensures.value c.new-2.ensures.items c.new-3.ensures.items))
+    (c.new-2.ensures.next ∙ c.next-2.ensures.value) c.given.ensures.value c.new-2.ensures.items c.new-3.ensures.items))
     (well_attached g.row.D (IsTrue g.F.Pages.told) (g.F.Pages.files c.args.folder.now) c.args.c.now c.in_ok-names.names c.in_ok-segments.segments
     c.in_ok-cache.cache c.requires c.leaf.ensures.commit c.in_ok-segments.ensures.opened
     (λ number.
@@ -132,9 +131,8 @@ returns-clause-seen g c = λ told says i stored.
     let files = g.F.Pages.files c.args.folder.now in
     let parts = c.in_ok-segments.segments in
     subst (λ (s : SetData). Sees g.row.D files s i)
-    (sym (attached_is c.args.c.now c.in_ok-names.names parts c.in_ok-cache.cache _ _ _ _ _ c.leaf.ensures.value (c.new-2.ensures.next ∙ c.next-2.ensures.value)
-    c.given.ensures.value
-    c.new-2.ensures.items c.new-3.ensures.items))
+    (sym (attached_is c.args.c.now c.in_ok-names.names parts c.in_ok-cache.cache _ _ _ _ _ c.leaf.ensures.value
+    (c.new-2.ensures.next ∙ c.next-2.ensures.value) c.given.ensures.value c.new-2.ensures.items c.new-3.ensures.items))
     (sees_attached g.row.D files c.args.c.now c.in_ok-names.names parts c.in_ok-cache.cache i c.requires says stored
     (opened_heads (IsTrue g.F.Pages.told) files c.args.c.now parts told c.in_ok-segments.ensures.opened)
     (opened_lives (IsTrue g.F.Pages.told) files c.args.c.now parts told c.in_ok-segments.ensures.opened) (c.in_ok-cache.ensures.agrees files))
@@ -143,8 +141,7 @@ pub returns-clause-commit : goal.returns-clause-commit
 returns-clause-commit g c =
     subst (λ (s : SetData). IsAtRest s c.args.c.now)
     (sym (attached_is c.args.c.now c.in_ok-names.names c.in_ok-segments.segments c.in_ok-cache.cache _ _ _ _ _ c.leaf.ensures.value
-    (c.new-2.ensures.next ∙ c.next-2.ensures.value)
-    c.given.ensures.value c.new-2.ensures.items c.new-3.ensures.items))
+    (c.new-2.ensures.next ∙ c.next-2.ensures.value) c.given.ensures.value c.new-2.ensures.items c.new-3.ensures.items))
     (at_rest_attached (IsTrue g.F.Pages.told) (g.F.Pages.files c.args.folder.now) c.args.c.now c.in_ok-names.names c.in_ok-segments.segments c.in_ok-cache.cache
     c.in_ok-segments.ensures.opened c.in_ok-names.ensures.next)
 
@@ -157,8 +154,7 @@ returns-clause-faithful g c = λ told.
     let files = g.F.Pages.files c.args.folder.now in
     subst (IsFaithful g.row.D files)
     (sym (attached_is c.args.c.now c.in_ok-names.names c.in_ok-segments.segments c.in_ok-cache.cache _ _ _ _ _ c.leaf.ensures.value
-    (c.new-2.ensures.next ∙ c.next-2.ensures.value)
-    c.given.ensures.value c.new-2.ensures.items c.new-3.ensures.items))
+    (c.new-2.ensures.next ∙ c.next-2.ensures.value) c.given.ensures.value c.new-2.ensures.items c.new-3.ensures.items))
     (faithful_attached g.row.D (IsTrue g.F.Pages.told) files c.args.c.now c.in_ok-names.names c.in_ok-segments.segments c.in_ok-cache.cache c.requires told
     c.in_ok-segments.ensures.opened (c.in_ok-cache.ensures.agrees files))
 

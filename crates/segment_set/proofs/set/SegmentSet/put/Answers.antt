@@ -1,7 +1,7 @@
 -- The set afterwards is the one before with a document more.
-use Rattle.std.proofs.Common.{◌≡◌, ◌+◌, ◌≤◌, ◌^◌, List, length, lit<, sym, ap, subst, ◌∙◌}
+use Rattle.std.proofs.Common.{◌≡◌, ◌+◌, ◌≤◌, ◌^◌, length, lit<, sym, ap, subst, ◌∙◌}
 use Rattle.std.proofs.lemmas.List.{length-map}
-use Rattle.segment_set.specs.Sets.{IsWell, SetData, set_with}
+use Rattle.segment_set.specs.Sets.{IsWell, SetData}
 use Rattle.segment_set.proofs.Changed.{set_with_is}
 use Rattle.segment_set.proofs.DocumentEntries.{well_with}
 use Rattle.segment_set.proofs.Held.{few_numbers}
