@@ -21,6 +21,7 @@ const SETTINGS: Settings = Settings {
 const LEAF: u16 = 333;
 
 /// Why places can't be kept or found.
+#[derive(Drop)]
 pub enum PlacesFault {
     /// A line can't be read: it is none of the language's requests.
     Line(LineFault),
@@ -43,6 +44,7 @@ impl From<PageFault> for PlacesFault {
 }
 
 /// Places of two coordinates in a folder that holds no index yet.
+#[derive(Drop)]
 pub struct Places {
     session: Session<2>,
 }
